@@ -1,0 +1,6 @@
+pub mod Bits
+pub mod Stuffing
+pub mod Check
+pub mod Stream
+pub mod Sent
+pub mod Vectors

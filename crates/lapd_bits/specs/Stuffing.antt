@@ -9,9 +9,9 @@ stuffed (true ∷ true ∷ true ∷ true ∷ true ∷ b) = true ∷ true ∷ tru
 stuffed (x ∷ b) = x ∷ stuffed b
 stuffed [] = []
 
--- What a receiver makes of a text: the bit after every five contiguous 1s is taken out.
+-- What a receiver makes of a text: each 0 that directly follows five contiguous 1s is taken out.
 abbrev pub unstuffed : List Bool → List Bool
-unstuffed (true ∷ true ∷ true ∷ true ∷ true ∷ _ ∷ b) = true ∷ true ∷ true ∷ true ∷ true ∷ unstuffed b
+unstuffed (true ∷ true ∷ true ∷ true ∷ true ∷ false ∷ b) = true ∷ true ∷ true ∷ true ∷ true ∷ unstuffed b
 unstuffed (x ∷ b) = x ∷ unstuffed b
 unstuffed [] = []
 

@@ -4,3 +4,4 @@ pub mod Check
 pub mod Stream
 pub mod Sent
 pub mod Vectors
+pub mod Ended

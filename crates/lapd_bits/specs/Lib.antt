@@ -5,3 +5,7 @@ pub mod Stream
 pub mod Sent
 pub mod Vectors
 pub mod Ended
+pub mod Deframer
+pub mod Heard
+pub mod StuffingLaws
+pub mod CheckLaws

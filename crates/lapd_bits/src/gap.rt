@@ -1,4 +1,6 @@
-ghost use Rattle.std.specs.Prelude.{◌≡◌, ℕ, ◌<◌, ◌≤◌, ◌-◌, ◌+◌, length, vec_len, IsFalse};
+ghost use Rattle.std.specs.Prelude.{◌≡◌, ℕ, ◌<◌, ◌≤◌, ◌-◌, ◌+◌, ◌^◌, Bool, List, [], ◌∷◌, ◌++◌, length, min, All, vec_len, IsTrue, IsFalse, Some, take};
+ghost use Rattle.lapd_bits.specs.Bits.{low_bits};
+ghost use Rattle.lapd_bits.specs.Stream.{is_short};
 
 use crate::check::{PRESET, divided, shows_no_error};
 use crate::heard::Cause;
@@ -23,10 +25,13 @@ pub(crate) struct Gap {
     /// More octets have come than there is room for.
     overlong: bool,
     register: u16,
+    /// The octet that is being put together, and how many bits of it have come.
     partial: u8,
     filled: u8,
     ghost since_counted: { since ≤ 8 },
     ghost no_octet: { filled < 8 },
+    ghost filled_since: { filled ≤ since },
+    ghost partial_filled: { partial < 2 ^ filled },
 }
 
 /// What a bit or an octet of a line has ended. The octets themselves lie in the deframer's room.
@@ -39,11 +44,15 @@ pub(crate) enum Ended {
 }
 
 impl Gap {
+    ghost use Rattle.lapd_bits.specs.Deframer.{AssemblesIn, KeepsIn};
     ghost use Rattle.lapd_bits.specs.Ended.{FitsIn};
+    ghost use Rattle.lapd_bits.specs.Heard.{event_in, closing_event};
 
     /// The gap that a flag opens.
     pub(crate) fn new() -> Gap
-        ensures { result.count ≡ 0 }
+        ensures count { result.count ≡ 0 }
+        ensures since { result.since ≡ 0 }
+        ensures stands { (octets : List ℕ) → AssemblesIn octets result [] }
     {
         Gap {
             since: 0,
@@ -72,6 +81,11 @@ impl Gap {
     /// Counts a stuffed 0, which is no bit of an octet.
     pub(crate) fn skip(&mut self)
         ensures count { self.new.count ≡ self.old.count }
+        ensures since { self.new.since ≡ min 8 (self.old.since + 1) }
+        ensures overlong { self.new.overlong ≡ self.old.overlong }
+        ensures register { self.new.register ≡ self.old.register }
+        ensures partial { self.new.partial ≡ self.old.partial }
+        ensures filled { self.new.filled ≡ self.old.filled }
     {
         if self.since < 8 {
             self.since += 1;
@@ -84,29 +98,37 @@ impl Gap {
         requires fits { self.old.count ≤ vec_len octets.old }
         ensures room { vec_len octets.new ≡ vec_len octets.old }
         ensures fits { self.new.count ≤ vec_len octets.new }
+        ensures since { self.new.since ≡ min 8 (self.old.since + 1) }
+        ensures untouched { self.old.since < 7 → octets.new.items ≡ octets.old.items }
+        ensures stands { (text : List Bool) → AssemblesIn octets.old.items self.old text
+            → AssemblesIn octets.new.items self.new (text ++ bit ∷ []) }
     {
+        let filled = self.filled;
+        let partial = with_bit(self.partial, filled, bit);
         self.skip();
-        if bit {
-            self.partial |= 1 << self.filled;
+        if filled < 7 {
+            self.filled = filled + 1;
+            self.partial = partial;
+        } else {
+            self.partial = 0;
+            self.filled = 0;
+            self.keep(octets, partial);
         }
-        if self.filled < 7 {
-            self.filled += 1;
-            return;
-        }
-        self.keep(octets);
     }
 
-    /// Keeps the octet that is whole now, as far as there is room.
-    fn keep(&mut self, octets: &mut Vec<u8>)
+    /// Keeps a whole octet as far as there is room.
+    fn keep(&mut self, octets: &mut Vec<u8>, octet: u8)
         requires room { 6 ≤ vec_len octets.old }
         requires fits { self.old.count ≤ vec_len octets.old }
         ensures room { vec_len octets.new ≡ vec_len octets.old }
         ensures fits { self.new.count ≤ vec_len octets.new }
+        ensures since { self.new.since ≡ self.old.since }
+        ensures partial { self.new.partial ≡ self.old.partial }
+        ensures filled { self.new.filled ≡ self.old.filled }
+        ensures kept { (whole : List ℕ) → KeepsIn octets.old.items self.old whole
+            → KeepsIn octets.new.items self.new (whole ++ octet ∷ []) }
     {
-        let octet = self.partial;
         self.register = divided(self.register, octet);
-        self.partial = 0;
-        self.filled = 0;
         if self.overlong {
             return;
         }
@@ -121,8 +143,12 @@ impl Gap {
 
     /// What a flag ends that closes this gap, its first seven bits among the gap's.
     pub(crate) fn closed(&self, octets: &Vec<u8>) -> Ended
+        requires room { 6 ≤ vec_len octets.now }
         requires fits { self.now.count ≤ vec_len octets.now }
         ensures fits { FitsIn (vec_len octets.now) result }
+        ensures told { (whole : List ℕ) → KeepsIn octets.now.items self.now whole
+            → event_in octets.now.items result ≡ Some (closing_event (length octets.now.items) whole
+                (low_bits self.now.filled self.now.partial)) }
     {
         if self.filled != FLAG_BEGUN_BITS || self.partial != FLAG_BEGUN {
             return Ended::Dropped(Cause::Ragged);
@@ -141,8 +167,19 @@ impl Gap {
 
     fn is_short(&self, octets: &Vec<u8>) -> bool
         requires fits { self.now.count ≤ vec_len octets.now }
-        ensures { IsFalse result → 5 ≤ self.now.count }
+        ensures short { result ≡ is_short (take self.now.count octets.now.items) }
+        ensures five { IsFalse result → 5 ≤ self.now.count }
     {
         self.count < 5 || self.count == 5 && octets[2] % 4 != 3
     }
+}
+
+/// The number with one bit more, above its `place` low ones.
+fn with_bit(number: u8, place: u8, bit: bool) -> u8
+    requires place { place < 8 }
+    requires below { number < 2 ^ place }
+    ensures bits { low_bits (place + 1) result ≡ low_bits place number ++ bit ∷ [] }
+    ensures below { result < 2 ^ (place + 1) }
+{
+    if bit { number + (1 << place) } else { number }
 }

@@ -7,7 +7,7 @@ mod gap;
 mod heard;
 mod start_fault;
 
-pub use check::fcs;
+pub use check::{fcs, only_check};
 pub use deframer::Deframer;
 pub use heard::{Cause, Heard};
 pub use start_fault::StartFault;

@@ -1,0 +1,271 @@
+-- How a deframer's fields follow the bits of an open gap: octets are put together, kept and divided.
+use Rattle.std.proofs.Common.{◌≡◌, ◌≢◌, ℕ, suc, ◌+◌, ◌-◌, ◌*◌, ◌/◌, ◌%◌, ◌^◌, ◌<◌, ◌≤◌, Bool, true, false, List, [], ◌∷◌, ◌++◌, length, take, set, min, All, Some, nat_eq, nat_lt, cond, refl, ap, sym, ◌∙◌, subst, arith, ⊎_elim, length-append, append_assoc, add-one}
+use Rattle.std.proofs.lemmas.Bool.{lt-ltb, le-ltb, ltb-true, ltb-false, ne_eqb, false_from_ne_true, cases_Bool, true≢false}
+use Rattle.std.proofs.lemmas.List.{take-append-le, take-take, take_more_set, append-nil}
+use Rattle.std.proofs.lemmas.List.Elements.{All-nil, All-cons, All-append}
+use Rattle.std.proofs.lemmas.Nat.{pow_pos, pow_below}
+use Rattle.std.proofs.Math.ListN.{length-set}
+use Rattle.std.proofs.Math.Seq.{take-length}
+use Rattle.std.proofs.Math.Nat.{add-mul-mod_self_left, add-mul-div_left, mod-eq_of_lt, div-eq_of_lt, mul-one, one-mul, zero-add}
+use Rattle.lapd_bits.specs.Bits.{bits, low_bits}
+use Rattle.lapd_bits.specs.Stuffing.{same_bits}
+use Rattle.lapd_bits.specs.Check.{is_good}
+use Rattle.lapd_bits.specs.CheckLaws.{HoldsDivision}
+use Rattle.lapd_bits.specs.Stream.{Event, frame, overlong, dropped, is_short, judged}
+use Rattle.lapd_bits.specs.Heard.{flag_front, closing_event}
+use Rattle.lapd_bits.specs.Deframer.{kept_count, Keeps, Assembles}
+use Rattle.lapd_bits.specs.declared.heard.Cause.TheVariants.{Ragged, Short, Fcs}
+use Rattle.lapd_bits.proofs.BitLemmas.{low_bits-add, low_bits-mod, length-low_bits, bits-push, same_from_low_bits}
+use Rattle.lapd_bits.proofs.Division.Holds.{HoldsDivision-preset}
+use Rattle.lapd_bits.proofs.StuffingOctets.{same-same_bits}
+
+-- ---- one bit more above the low bits of a number
+
+-- a bit above them, as a digit of the number
+low_bits-digit : (number place digit : ℕ) → number < 2 ^ place → digit < 2 → low_bits (place + 1) (number + 2 ^ place * digit) ≡ low_bits place number ++ nat_eq digit 1 ∷ []
+unfolding low_bits
+low_bits-digit number place digit below small =
+    let sum = number + 2 ^ place * digit in
+    let positive = pow_pos place in
+    let rest : sum % 2 ^ place ≡ number = add-mul-mod_self_left number (2 ^ place) digit ∙ mod-eq_of_lt below in
+    let above : sum / 2 ^ place ≡ digit = add-mul-div_left number digit positive ∙ ap (λ k. k + digit) (div-eq_of_lt below) ∙ zero-add digit in
+    low_bits-add place 1 sum
+    ∙ ap (λ l. l ++ low_bits 1 (sum / 2 ^ place)) (sym (low_bits-mod place sum) ∙ ap (low_bits place) rest)
+    ∙ ap (λ k. low_bits place number ++ nat_eq (k % 2) 1 ∷ []) above
+    ∙ ap (λ k. low_bits place number ++ nat_eq k 1 ∷ []) (mod-eq_of_lt small)
+
+pub low_bits-with_one : (number place : ℕ) → number < 2 ^ place → low_bits (place + 1) (number + 2 ^ place) ≡ low_bits place number ++ true ∷ []
+low_bits-with_one number place below =
+    ap (λ k. low_bits (place + 1) (number + k)) (sym (mul-one (2 ^ place))) ∙ low_bits-digit number place 1 below (omega arith)
+
+pub low_bits-with_zero : (number place : ℕ) → number < 2 ^ place → low_bits (place + 1) number ≡ low_bits place number ++ false ∷ []
+low_bits-with_zero number place below =
+    ap (low_bits (place + 1)) (omega arith) ∙ low_bits-digit number place 0 below (omega arith)
+
+-- the weight of a bit of an octet fits the octet
+pub bit_weight : (place : ℕ) → place < 8 → 1 * 2 ^ place % 256 ≡ 2 ^ place
+bit_weight place h =
+    let below : 2 ^ place < 2 ^ 8 = pow_below place 8 h in
+    ap (λ w. w % 256) (one-mul (2 ^ place)) ∙ mod-eq_of_lt below
+
+-- ---- octets that are kept
+
+-- of no octets none are kept
+pub Keeps-none : (octets : List ℕ) (register : ℕ) → HoldsDivision register [] → Keeps octets 0 false register []
+Keeps-none octets register d =
+    record {
+      counted = rw (le-ltb (length octets) 0 (omega arith)) refl;
+      too_many = sym (le-ltb (length octets) 0 (omega arith));
+      kept = refl;
+      divided = d;
+    }
+
+-- and no bits make no octets
+pub Assembles-none : (octets : List ℕ) → Assembles octets 0 false 65535 0 0 []
+unfolding low_bits
+Assembles-none octets =
+    record {
+      whole = [];
+      are_octets = All-nil (λ x. x < 256);
+      keeps = Keeps-none octets 65535 HoldsDivision-preset;
+      assembled = refl;
+    }
+
+-- an octet more than there is room for: the first four stay
+pub Keeps-more_overlong : (octets whole : List ℕ) (count register later o : ℕ) → 6 ≤ length octets → Keeps octets count true register whole → HoldsDivision later (bits (whole ++ o ∷ [])) → Keeps octets count true later (whole ++ o ∷ [])
+Keeps-more_overlong octets whole count register later o room k d =
+    let many : length octets < length whole = ltb-true (length octets) (length whole) (sym k.too_many) in
+    let longer : nat_lt (length octets) (length (whole ++ o ∷ [])) ≡ true =
+      lt-ltb (length octets) (length (whole ++ o ∷ [])) (omega (arith, length-append whole (o ∷ []))) in
+    let four : count ≡ 4 = k.counted ∙ (rw (← k.too_many) refl) in
+    record {
+      counted = four ∙ sym (rw longer refl);
+      too_many = sym longer;
+      kept = k.kept ∙ sym (take-append-le count whole (o ∷ []) (omega arith));
+      divided = d;
+    }
+
+-- the first octet that there is no room for
+pub Keeps-first_overlong : (octets whole : List ℕ) (count register later o : ℕ) → 6 ≤ length octets → count ≡ length octets → Keeps octets count false register whole → HoldsDivision later (bits (whole ++ o ∷ [])) → Keeps octets 4 true later (whole ++ o ∷ [])
+Keeps-first_overlong octets whole count register later o room full k d =
+    let all : count ≡ length whole = k.counted ∙ (rw (← k.too_many) refl) in
+    let longer : nat_lt (length octets) (length (whole ++ o ∷ [])) ≡ true =
+      lt-ltb (length octets) (length (whole ++ o ∷ [])) (omega (arith, length-append whole (o ∷ []))) in
+    record {
+      counted = sym (rw longer refl);
+      too_many = sym longer;
+      kept =
+          sym (take-take 4 count octets (omega arith)) ∙ ap (take 4) k.kept ∙ take-take 4 count whole (omega arith)
+          ∙ sym (take-append-le 4 whole (o ∷ []) (omega arith));
+      divided = d;
+    }
+
+-- an octet more that there is room for
+pub Keeps-more : (octets whole : List ℕ) (count register later o : ℕ) → count < length octets → Keeps octets count false register whole → HoldsDivision later (bits (whole ++ o ∷ [])) → Keeps (set octets count o) (count + 1) false later (whole ++ o ∷ [])
+Keeps-more octets whole count register later o room k d =
+    let all : count ≡ length whole = k.counted ∙ (rw (← k.too_many) refl) in
+    let one : length (whole ++ o ∷ []) ≡ count + 1 = length-append whole (o ∷ []) ∙ omega arith in
+    let same : length (set octets count o) ≡ length octets = length-set octets count o in
+    let fits : nat_lt (length (set octets count o)) (length (whole ++ o ∷ [])) ≡ false =
+      le-ltb (length (set octets count o)) (length (whole ++ o ∷ [])) (omega arith) in
+    let before : take count octets ≡ whole = k.kept ∙ ap (λ n. take n whole) all ∙ take-length whole in
+    record {
+      counted = sym one ∙ sym (rw fits refl);
+      too_many = sym fits;
+      kept =
+          take_more_set octets count o room ∙ ap (λ l. l ++ o ∷ []) before
+          ∙ sym (ap (λ n. take n (whole ++ o ∷ [])) (sym one) ∙ take-length (whole ++ o ∷ []));
+      divided = d;
+    }
+
+-- room by the length of a `Vec` is room by its elements
+pub room_of : (octets : List ℕ) (len : ℕ) → len ≡ length octets → 6 ≤ len → 6 ≤ length octets
+room_of octets len e h = omega arith
+
+-- ---- what a closing flag ends
+
+-- what is over is no flag's front where it is not seven bits, or not those
+pub over_by_count : (filled partial : ℕ) → filled ≢ 7 → same_bits (low_bits filled partial) flag_front ≡ false
+over_by_count filled partial h =
+    false_from_ne_true (same_bits (low_bits filled partial) flag_front)
+    (λ same. h (sym (length-low_bits filled partial) ∙ ap length (same-same_bits (low_bits filled partial) flag_front same)))
+
+pub over_by_value : (filled partial : ℕ) → partial < 2 ^ filled → filled ≡ 7 → partial ≢ 126 → same_bits (low_bits filled partial) flag_front ≡ false
+unfolding low_bits
+over_by_value filled partial below seven h =
+    false_from_ne_true (same_bits (low_bits filled partial) flag_front)
+    (λ same.
+        let bits_are : low_bits 7 partial ≡ low_bits 7 126 =
+          ap (λ n. low_bits n partial) (sym seven) ∙ same-same_bits (low_bits filled partial) flag_front same in
+        let small : partial < 2 ^ 7 = subst (λ n. partial < 2 ^ n) seven below in
+        h (same_from_low_bits 7 partial 126 small (omega arith) bits_are))
+
+-- and it is where it is the seven bits of 7E
+pub over_flag_front : (filled partial : ℕ) → filled ≡ 7 → partial ≡ 126 → same_bits (low_bits filled partial) flag_front ≡ true
+unfolding low_bits
+over_flag_front filled partial seven value = rw (seven, value) refl
+
+pub closing-ragged : (room : ℕ) (whole : List ℕ) (over : List Bool) → same_bits over flag_front ≡ false → closing_event room whole over ≡ dropped Ragged
+closing-ragged room whole over h = rw h refl
+
+pub closing-judged : (room : ℕ) (whole : List ℕ) (over : List Bool) → same_bits over flag_front ≡ true → closing_event room whole over ≡ judged room whole
+closing-judged room whole over h = rw h refl
+
+-- a frame of seven octets or more is not short
+long_enough : (whole : List ℕ) → 5 < length whole → is_short whole ≡ false
+long_enough whole h = rw (le-ltb (length whole) 5 (omega arith), ne_eqb (length whole) 5 (omega arith)) refl
+
+-- the judgement in the order of its tests
+pub judged-short : (room : ℕ) (whole : List ℕ) → is_short whole ≡ true → judged room whole ≡ dropped Short
+judged-short room whole h = rw h refl
+
+pub judged-wrong : (room : ℕ) (whole : List ℕ) → is_short whole ≡ false → is_good (bits whole) ≡ false → judged room whole ≡ dropped Fcs
+judged-wrong room whole h g = rw (h, g) refl
+
+pub judged-overlong : (room : ℕ) (whole : List ℕ) → is_short whole ≡ false → is_good (bits whole) ≡ true → nat_lt room (length whole) ≡ true → judged room whole ≡ overlong (take 4 whole)
+judged-overlong room whole h g l = rw (h, g, l) refl
+
+pub judged-frame : (room : ℕ) (whole : List ℕ) → is_short whole ≡ false → is_good (bits whole) ≡ true → nat_lt room (length whole) ≡ false → judged room whole ≡ frame (take (length whole - 2) whole)
+judged-frame room whole h g l = rw (h, g, l) refl
+
+-- all that is kept of octets that are not too many are these octets
+pub Keeps-all : (octets whole : List ℕ) (count register : ℕ) → Keeps octets count false register whole → (take count octets ≡ whole) × (count ≡ length whole)
+Keeps-all octets whole count register k =
+    let all : count ≡ length whole = k.counted ∙ (rw (← k.too_many) refl) in
+    (k.kept ∙ ap (λ n. take n whole) all ∙ take-length whole, all)
+
+-- octets that are too many are not short, and their first four are kept
+pub Keeps-four : (octets whole : List ℕ) (count register : ℕ) → 6 ≤ length octets → Keeps octets count true register whole → (take 4 octets ≡ take 4 whole) × (is_short whole ≡ false)
+Keeps-four octets whole count register room k =
+    let many : length octets < length whole = ltb-true (length octets) (length whole) (sym k.too_many) in
+    let four : count ≡ 4 = k.counted ∙ (rw (← k.too_many) refl) in
+    (ap (λ n. take n octets) (sym four) ∙ k.kept ∙ ap (λ n. take n whole) four, long_enough whole (omega arith))
+
+-- ---- the same for a flag that is known by an equation
+
+-- an octet more, in each of the three cases
+pub KeepsMore-overlong : (octets whole : List ℕ) (count register later o : ℕ) (many : Bool) → many ≡ true → 6 ≤ length octets → Keeps octets count many register whole → HoldsDivision later (bits whole ++ low_bits 8 o) → Keeps octets count many later (whole ++ o ∷ [])
+KeepsMore-overlong octets whole count register later o many e room k d =
+    subst (λ b. Keeps octets count b later (whole ++ o ∷ [])) (sym e)
+    (Keeps-more_overlong octets whole count register later o room (subst (λ b. Keeps octets count b register whole) e k)
+      (subst (HoldsDivision later) (sym (bits-push whole o)) d))
+
+pub KeepsMore-first : (octets whole : List ℕ) (count register later o : ℕ) (many : Bool) → many ≡ false → 6 ≤ length octets → count ≡ length octets → Keeps octets count many register whole → HoldsDivision later (bits whole ++ low_bits 8 o) → Keeps octets 4 true later (whole ++ o ∷ [])
+KeepsMore-first octets whole count register later o many e room full k d =
+    Keeps-first_overlong octets whole count register later o room full (subst (λ b. Keeps octets count b register whole) e k)
+    (subst (HoldsDivision later) (sym (bits-push whole o)) d)
+
+pub KeepsMore : (octets whole : List ℕ) (count register later o : ℕ) (many : Bool) → many ≡ false → count < length octets → Keeps octets count many register whole → HoldsDivision later (bits whole ++ low_bits 8 o) → Keeps (set octets count o) (count + 1) many later (whole ++ o ∷ [])
+KeepsMore octets whole count register later o many e room k d =
+    subst (λ b. Keeps (set octets count o) (count + 1) b later (whole ++ o ∷ [])) (sym e)
+    (Keeps-more octets whole count register later o room (subst (λ b. Keeps octets count b register whole) e k)
+      (subst (HoldsDivision later) (sym (bits-push whole o)) d))
+
+-- a frame that is kept whole: what is short, wrong or whole of it is told
+pub told-short : (octets whole : List ℕ) (count register : ℕ) (many : Bool) → many ≡ false → Keeps octets count many register whole → true ≡ is_short (take count octets) → judged (length octets) whole ≡ dropped Short
+told-short octets whole count register many e k h =
+    let all = Keeps-all octets whole count register (subst (λ b. Keeps octets count b register whole) e k) in
+    judged-short (length octets) whole (ap is_short (sym all.0) ∙ sym h)
+
+-- one that is not short is not so by its octets either
+pub not_short : (octets whole : List ℕ) (count register : ℕ) (many : Bool) → many ≡ false → Keeps octets count many register whole → false ≡ is_short (take count octets) → is_short whole ≡ false
+not_short octets whole count register many e k h =
+    let all = Keeps-all octets whole count register (subst (λ b. Keeps octets count b register whole) e k) in
+    ap is_short (sym all.0) ∙ sym h
+
+pub not_short_overlong : (octets whole : List ℕ) (count register : ℕ) (many : Bool) → many ≡ true → 6 ≤ length octets → Keeps octets count many register whole → is_short whole ≡ false
+not_short_overlong octets whole count register many e room k =
+    (Keeps-four octets whole count register room (subst (λ b. Keeps octets count b register whole) e k)).1
+
+pub told-overlong : (octets whole : List ℕ) (count register : ℕ) (many : Bool) → many ≡ true → 6 ≤ length octets → Keeps octets count many register whole → is_good (bits whole) ≡ true → judged (length octets) whole ≡ overlong (take 4 octets)
+told-overlong octets whole count register many e room k g =
+    let here = subst (λ b. Keeps octets count b register whole) e k in
+    let four = Keeps-four octets whole count register room here in
+    judged-overlong (length octets) whole four.1 g (sym here.too_many) ∙ ap overlong (sym four.0)
+
+pub told-frame : (octets whole : List ℕ) (count register : ℕ) (many : Bool) → many ≡ false → Keeps octets count many register whole → is_short whole ≡ false → is_good (bits whole) ≡ true → judged (length octets) whole ≡ frame (take (count - 2) octets)
+told-frame octets whole count register many e k h g =
+    let here = subst (λ b. Keeps octets count b register whole) e k in
+    let all = Keeps-all octets whole count register here in
+    judged-frame (length octets) whole h g (sym here.too_many)
+    ∙ ap frame (ap (λ n. take (n - 2) whole) (sym all.1) ∙ ap (take (count - 2)) (sym all.0) ∙ take-take (count - 2) count octets (omega arith))
+
+-- ---- one bit more of a gap
+
+-- what holds of fields holds of fields that equal them
+pub Keeps_same : (octets whole : List ℕ) (count count' : ℕ) (many many' : Bool) (register register' : ℕ) → count' ≡ count → many' ≡ many → register' ≡ register → Keeps octets count many register whole → Keeps octets count' many' register' whole
+Keeps_same octets whole count count' many many' register register' p q r k =
+    record {
+      counted = p ∙ k.counted;
+      too_many = q ∙ k.too_many;
+      kept = subst (λ n. take n octets ≡ take n whole) (sym p) k.kept;
+      divided = subst (λ n. HoldsDivision n (bits whole)) (sym r) k.divided;
+    }
+
+-- a bit that fills no octet
+pub Assembles-bit : (octets : List ℕ) (count count' : ℕ) (many many' : Bool) (register register' partial filled later : ℕ) (text : List Bool) (b : Bool) → count' ≡ count → many' ≡ many → register' ≡ register → Assembles octets count many register partial filled text → low_bits (filled + 1) later ≡ low_bits filled partial ++ b ∷ [] → Assembles octets count' many' register' later (filled + 1) (text ++ b ∷ [])
+Assembles-bit octets count count' many many' register register' partial filled later text b p q r a e =
+    record {
+      whole = a.whole;
+      are_octets = a.are_octets;
+      keeps = Keeps_same octets a.whole count count' many many' register register' p q r a.keeps;
+      assembled =
+          ap (λ t. t ++ b ∷ []) a.assembled ∙ append_assoc (bits a.whole) (low_bits filled partial) (b ∷ [])
+          ∙ ap (λ t. bits a.whole ++ t) (sym e);
+    }
+
+-- a bit that fills one, which is kept
+pub Assembles-octet : (octets later_octets : List ℕ) (count later_count : ℕ) (many later_many : Bool) (register later_register partial filled octet partial' filled' : ℕ) (text : List Bool) (b : Bool) → (a : Assembles octets count many register partial filled text) → filled ≡ 7 → low_bits (filled + 1) octet ≡ low_bits filled partial ++ b ∷ [] → octet < 2 ^ (filled + 1) → partial' ≡ 0 → filled' ≡ 0 → Keeps later_octets later_count later_many later_register (a.whole ++ octet ∷ []) → Assembles later_octets later_count later_many later_register partial' filled' (text ++ b ∷ [])
+unfolding low_bits
+Assembles-octet octets later_octets count later_count many later_many register later_register partial filled octet partial' filled' text b a seven e small p q k =
+    let eight : low_bits 8 octet ≡ low_bits filled partial ++ b ∷ [] = ap (λ n. low_bits (n + 1) octet) (sym seven) ∙ e in
+    let below : octet < 256 = subst (λ n. octet < 2 ^ (n + 1)) seven small in
+    record {
+      whole = a.whole ++ octet ∷ [];
+      are_octets = All-append (λ x. x < 256) a.whole (octet ∷ []) a.are_octets (All-cons (λ x. x < 256) octet [] below (All-nil (λ x. x < 256)));
+      keeps = k;
+      assembled =
+          ap (λ t. t ++ b ∷ []) a.assembled ∙ append_assoc (bits a.whole) (low_bits filled partial) (b ∷ [])
+          ∙ ap (λ t. bits a.whole ++ t) (sym eight) ∙ sym (bits-push a.whole octet) ∙ sym (append-nil (bits (a.whole ++ octet ∷ [])))
+          ∙ ap (λ n. bits (a.whole ++ octet ∷ []) ++ low_bits n partial') (sym q);
+    }

@@ -1,0 +1,63 @@
+-- A register as a number: its bits, the lowest first, against sums and shifts of polynomials.
+use Rattle.std.proofs.Common.{◌≡◌, ℕ, suc, zero, ◌-◌, ◌/◌, ◌%◌, ◌^◌, ◌<◌, false, not, nat_eq, [], ◌∷◌, ◌++◌, map, refl, ap, ◌∙◌, arith}
+use Rattle.std.specs.Prelude.{bit_xor}
+use Rattle.std.specs.Bool.{beq}
+use Rattle.std.proofs.Math.Nat.{pow-suc}
+use Rattle.std.proofs.lemmas.Nat.{xor_shr, xor_mod}
+use Rattle.lapd_bits.specs.Bits.{low_bits}
+use Rattle.lapd_bits.specs.Check.{plus}
+use Rattle.lapd_bits.proofs.BitLemmas.{low_bits-add}
+
+-- ---- sums
+
+differ-bits : (a b : ℕ) → a < 2 → b < 2 → nat_eq (bit_xor a b) 1 ≡ not (beq (nat_eq a 1) (nat_eq b 1))
+differ-bits zero zero a_small b_small = refl
+differ-bits zero (suc zero) a_small b_small = refl
+differ-bits (suc zero) zero a_small b_small = refl
+differ-bits (suc zero) (suc zero) a_small b_small = refl
+differ-bits zero (suc (suc b)) a_small b_small = absurd (omega arith)
+differ-bits (suc zero) (suc (suc b)) a_small b_small = absurd (omega arith)
+differ-bits (suc (suc a)) b a_small b_small = absurd (omega arith)
+
+pub low_bits-xor : (n x y : ℕ) → low_bits n (bit_xor x y) ≡ plus (low_bits n x) (low_bits n y)
+unfolding low_bits
+low_bits-xor zero x y = refl
+low_bits-xor (suc n) x y =
+    let lowest : bit_xor x y % 2 ≡ bit_xor (x % 2) (y % 2) = xor_mod x y 1 in
+    let above : bit_xor x y / 2 ≡ bit_xor (x / 2) (y / 2) = xor_shr x y 1 in
+    rw (lowest, above, differ-bits (x % 2) (y % 2) (omega arith) (omega arith), low_bits-xor n (x / 2) (y / 2)) refl
+
+-- ---- complements
+
+nat_eq-not : (a : ℕ) → a < 2 → nat_eq (1 - a) 1 ≡ not (nat_eq a 1)
+nat_eq-not zero small = refl
+nat_eq-not (suc zero) small = refl
+nat_eq-not (suc (suc a)) small = absurd (omega arith)
+
+pub low_bits-not : (n x : ℕ) → x < 2 ^ n → low_bits n (2 ^ n - 1 - x) ≡ map not (low_bits n x)
+unfolding low_bits
+low_bits-not zero x small = refl
+low_bits-not (suc n) x small =
+    let power = pow-suc 2 n in
+    let lowest : (2 ^ suc n - 1 - x) % 2 ≡ 1 - x % 2 = omega arith in
+    let above : (2 ^ suc n - 1 - x) / 2 ≡ 2 ^ n - 1 - x / 2 = omega arith in
+    rw (lowest, above, nat_eq-not (x % 2) (omega arith), low_bits-not n (x / 2) (omega arith)) refl
+
+-- ---- shifts
+
+-- one bit more at the low end
+pub low_bits-suc : (n x : ℕ) → low_bits (suc n) x ≡ nat_eq (x % 2) 1 ∷ low_bits n (x / 2)
+unfolding low_bits
+low_bits-suc n x = refl
+
+low_bits-one : low_bits 1 0 ≡ false ∷ []
+unfolding low_bits
+low_bits-one = refl
+
+-- a register shifted down by one
+pub low_bits-shifted : (x : ℕ) → x < 2 ^ 16 → low_bits 16 (x / 2) ≡ low_bits 15 (x / 2) ++ false ∷ []
+low_bits-shifted x small =
+    let none_above : x / 2 / 2 ^ 15 ≡ 0 = omega arith in
+    low_bits-add 15 1 (x / 2)
+    ∙ ap (λ y. low_bits 15 (x / 2) ++ low_bits 1 y) none_above
+    ∙ ap (λ l. low_bits 15 (x / 2) ++ l) low_bits-one

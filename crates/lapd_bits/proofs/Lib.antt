@@ -1,0 +1,9 @@
+pub mod BitLemmas
+pub mod Division
+pub mod Hearing
+pub mod Places
+pub mod StuffingClosed
+pub mod StuffingCounted
+pub mod StuffingOctets
+pub mod StuffingShape
+pub mod Assembly

@@ -1,0 +1,74 @@
+-- What a deframer holds of the octets that a line has brought so far.
+use Rattle.std.specs.Prelude.{◌≡◌, ℕ, ◌+◌, ◌*◌, ◌^◌, ◌<◌, ◌/◌, Bool, true, false, List, [], ◌∷◌, ◌++◌, length, take, reverse, min, All, Option, Some, None, option_and_then, nat_lt, if◌then◌else◌}
+use Rattle.std.specs.Option.{option_map_or}
+use Rattle.lapd_bits.specs.Bits.{low_bits, bits}
+use Rattle.lapd_bits.specs.Stuffing.{unstuffed, octets_of}
+use Rattle.lapd_bits.specs.CheckLaws.{HoldsDivision}
+use Rattle.lapd_bits.specs.Stream.{since_flag, has_abort, room_for}
+use Rattle.lapd_bits.specs.declared.gap.Gap.{Gap}
+use Rattle.lapd_bits.specs.declared.deframer.Deframer.{Deframer}
+
+-- The contiguous 1s up to a place, 7 for more. Before any 0 there is no flag to come, so they count as 7.
+abbrev pub run_of : List Bool → ℕ
+run_of [] = 7
+run_of (false ∷ past) = 0
+run_of (true ∷ past) = min 7 (run_of past + 1)
+
+-- The gap that is open at a place: the bits since the latest flag, the latest first, where there was a flag
+-- and no abort since.
+abbrev pub open_gap : List Bool → Option (List Bool)
+open_gap past = option_and_then (λ g. if has_abort g then None else Some g) (since_flag past)
+
+-- How many of a gap's octets are kept: all, where there is room, and else the first four.
+abbrev pub kept_count : ℕ → ℕ → ℕ
+kept_count room n = if nat_lt room n then 4 else n
+
+-- A gap's whole octets are kept in `octets`, and divided by the generator as they come.
+pub record Keeps (octets : List ℕ) (count : ℕ) (overlong : Bool) (register : ℕ) (whole : List ℕ) : Type 0 where
+  pub counted : count ≡ kept_count (length octets) (length whole)
+  pub too_many : overlong ≡ nat_lt (length octets) (length whole)
+  pub kept : take count octets ≡ take count whole
+  pub divided : HoldsDivision register (bits whole)
+
+abbrev pub KeepsIn : List ℕ → Gap → List ℕ → Type 0
+KeepsIn octets gap whole = Keeps octets gap.count gap.overlong gap.register whole
+
+-- A gap's bits, stuffed 0s taken out, are its whole octets and fewer than eight bits more.
+pub record Assembles (octets : List ℕ) (count : ℕ) (overlong : Bool) (register partial filled : ℕ) (text : List Bool) : Type 0 where
+  pub whole : List ℕ
+  pub are_octets : All (λ octet. octet < 256) whole
+  pub keeps : Keeps octets count overlong register whole
+  pub assembled : text ≡ bits whole ++ low_bits filled partial
+
+abbrev pub AssemblesIn : List ℕ → Gap → List Bool → Type 0
+AssemblesIn octets gap text = Assembles octets gap.count gap.overlong gap.register gap.partial gap.filled text
+
+-- A gap stands for bits, the latest first.
+pub record HoldsBits (octets : List ℕ) (since count : ℕ) (overlong : Bool) (register partial filled : ℕ) (g : List Bool) : Type 0 where
+  pub counted : since ≡ min 8 (length g)
+  pub assembles : Assembles octets count overlong register partial filled (unstuffed (reverse g))
+
+-- Open or not, what is held of the gap is that of the gap that is open.
+abbrev pub HoldsGap : List ℕ → Option Gap → Option (List Bool) → Type 0
+HoldsGap octets None None = Unit {0}
+HoldsGap octets (Some gap) (Some g) =
+    HoldsBits octets gap.since gap.count gap.overlong gap.register gap.partial gap.filled g
+HoldsGap octets None (Some g) = ⊥
+HoldsGap octets (Some gap) None = ⊥
+
+-- A deframer's fields stand for the bits of a line so far, the latest first.
+pub record HoldsPast (octets : List ℕ) (ones : ℕ) (gap : Option Gap) (past : List Bool) : Type 0 where
+  pub run : ones ≡ run_of past
+  pub open_is : HoldsGap octets gap (open_gap past)
+
+-- A deframer for information fields of `n201` octets stands for the octets that a line has brought so far.
+pub record Stands (n201 : ℕ) (deframer : Deframer) (octets : List ℕ) : Type 0 where
+  pub room : length deframer.octets.items ≡ room_for n201
+  pub holds : HoldsPast deframer.octets.items deframer.ones deframer.gap (reverse (bits octets))
+
+-- How many of a line's octets a deframer holds after them: the whole octets of the open gap, or the first
+-- four where they are more than there is room for; none where no gap is open. The bits of a flag that has
+-- begun are among the gap's until its last.
+abbrev pub octets_held : ℕ → List ℕ → ℕ
+octets_held n201 octets =
+    option_map_or (λ g. kept_count (room_for n201) (length (unstuffed (reverse g)) / 8)) (open_gap (reverse (bits octets))) 0

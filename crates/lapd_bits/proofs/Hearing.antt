@@ -4,11 +4,8 @@ use Rattle.std.proofs.lemmas.Bool.{cases_Bool, or_left, or_right, or_from, ne_eq
 use Rattle.lapd_bits.specs.Stream.{Event, dropped, ends_flag, ends_abort, since_flag, has_abort, gap_event, heard_at}
 use Rattle.lapd_bits.specs.Deframer.{run_of, open_gap}
 use Rattle.lapd_bits.specs.declared.heard.Cause.TheVariants.{Abort}
+use Rattle.lapd_bits.specs.Steps.{one_more, given_up_event, closed_event}
 use Rattle.lapd_bits.proofs.Places.{latest_ones, no_abort_at, abort_at, ends_flag-run, run_of-gap}
-
--- bits with one more in front
-abbrev pub one_more : Bool → Option (List Bool) → Option (List Bool)
-one_more b = option_map (λ g. b ∷ g)
 
 -- a gap with an abort is not open, and one without is
 closed_gap : (past g : List Bool) → since_flag past ≡ Some g → has_abort g ≡ true → open_gap past ≡ None
@@ -55,11 +52,6 @@ open_gap-one past h = go (since_flag past) refl
         (cases_Bool (has_abort g))
 
 -- ---- a 1 after six or more gives the open gap up
-
--- what is told then
-abbrev pub given_up_event : Option (List Bool) → Option Event
-given_up_event None = None
-given_up_event (Some g) = if nat_lt 7 (suc (length g)) then Some (dropped Abort) else None
 
 pub heard_at-abort : (room : ℕ) (past : List Bool) → 6 ≤ run_of past → heard_at room (true ∷ past) ≡ given_up_event (open_gap past)
 heard_at-abort room past h = go (since_flag past) refl
@@ -115,11 +107,6 @@ open_gap-zero past h =
         (cases_Bool (has_abort g))
 
 -- ---- a 0 after six 1s ends a flag, which closes the open gap and opens the next
-
--- what is told then
-abbrev pub closed_event : ℕ → Option (List Bool) → Option Event
-closed_event room None = None
-closed_event room (Some g) = if nat_lt (length g) 8 then None else Some (gap_event room (reverse (drop 7 g)))
 
 pub heard_at-flag : (room : ℕ) (past : List Bool) → run_of past ≡ 6 → heard_at room (false ∷ past) ≡ closed_event room (open_gap past)
 heard_at-flag room past h =

@@ -7,3 +7,4 @@ pub mod StuffingCounted
 pub mod StuffingOctets
 pub mod StuffingShape
 pub mod Assembly
+pub mod BitSteps

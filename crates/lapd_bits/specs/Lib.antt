@@ -9,3 +9,4 @@ pub mod Deframer
 pub mod Heard
 pub mod StuffingLaws
 pub mod CheckLaws
+pub mod Steps

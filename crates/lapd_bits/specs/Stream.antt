@@ -49,9 +49,14 @@ judged room octets =
     else if nat_lt room (length octets) then overlong (take 4 octets)
     else frame (take (length octets - 2) octets)
 
--- How a gap, the bits between two flags, is judged: it is what a sender makes of octets, or it is ragged.
+-- How a gap, the bits between two flags, is judged: by the octets of which a sender makes it, and where there
+-- are none, it is ragged.
+abbrev pub text_event : ℕ → Option (List ℕ) → Event
+text_event room None = dropped Ragged
+text_event room (Some octets) = judged room octets
+
 abbrev pub gap_event : ℕ → List Bool → Event
-gap_event room gap = elim (octets_sent gap) [ None ↦ dropped Ragged | Some octets ↦ judged room octets ]
+gap_event room gap = text_event room (octets_sent gap)
 
 -- What a flag that ends here closes, where `g` are the bits since the flag before it, up to its own last
 -- bit. Its first seven bits are among them. No gap is no event, nor is one that was given up at an abort.

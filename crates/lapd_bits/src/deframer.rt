@@ -1,5 +1,7 @@
-ghost use Rattle.std.specs.Prelude.{◌≡◌, ℕ, ◌<◌, ◌≤◌, ◌-◌, ◌+◌, length, vec_len, IfOk};
+ghost use Rattle.std.specs.Prelude.{◌≡◌, ◌≢◌, ◌⊎◌, ℕ, ◌<◌, ◌≤◌, ◌-◌, ◌+◌, Bool, true, false, List, [], ◌∷◌, ◌++◌, length, vec_len, IfOk, IfSome, Option, Some, None, option_to_list, take};
 ghost use Rattle.std.specs.Option.{ForSome};
+ghost use Rattle.lapd_bits.specs.Bits.{low_bits};
+ghost use Rattle.lapd_bits.specs.Stream.{heard_in, heard_until, heard_at};
 
 use std::alloc::Global;
 
@@ -24,11 +26,22 @@ pub struct Deframer {
 }
 
 impl Deframer {
+    ghost use Rattle.std.specs.Borrow.{sem};
+    ghost use Rattle.std.specs.Io.BufRead.{Rests};
+    ghost use Rattle.lapd_bits.specs.contracts.deframer.Deframer.{the_row};
+    ghost use Rattle.lapd_bits.specs.Deframer.{Stands, HoldsPast, HoldsGap, run_of, open_gap, octets_held};
     ghost use Rattle.lapd_bits.specs.Ended.{FitsIn};
+    ghost use Rattle.lapd_bits.specs.Heard.{heard_of, event_in};
+    ghost use Rattle.lapd_bits.specs.Steps.{one_more, IsKept, IsStuffed, IsYoung, given_up_event, closed_event, with_bits};
 
-    /// A deframer for frames with information fields of `n201` octets at most (at most 1,024).
+    /// A deframer for frames with information fields of `n201` octets at most, which is 1,024 at most. Its line
+    /// has brought no octet yet.
+    ///
+    /// # Errors
+    /// [`StartFault::OutOfMemory`] where the memory for the longest frame can't be had.
     pub fn start(alloc: Global, n201: u16) -> Result<Deframer, StartFault>
         requires { n201 ≤ 1024 }
+        ensures fresh { IfOk result (λ deframer. Stands n201 deframer []) }
     {
         let octets = vec![in alloc; 0u8; n201 as usize + 6].map_err(|_| StartFault::OutOfMemory)?;
         Ok(Deframer {
@@ -38,36 +51,33 @@ impl Deframer {
         })
     }
 
-    /// Takes the next octet of the line, low bit first, and tells what it has ended: at most one event.
-    pub fn octet(&mut self, octet: u8) -> Heard<'_> {
+    /// Takes the next octet of the line, low bit first, and tells what it has ended: one event at most.
+    /// A frame is lent until the next octet.
+    pub fn octet(&mut self, octet: u8) -> Heard<'_>
+        // What is heard in all the octets so far has gained exactly this event.
+        ensures heard { (n201 : ℕ) (past : List ℕ) → Stands n201 self.old past
+            → heard_in n201 (past ++ octet ∷ []) ≡ heard_in n201 past ++ option_to_list (heard_of result) }
+        // The deframer stands for the octets with this one, once the loan is over.
+        ensures* after { sem 𝓛 (Rests the_row self.entry
+            (λ v. (n201 : ℕ) (past : List ℕ) → Stands n201 self.old past → Stands n201 v (past ++ octet ∷ []))) }
+    {
         let ended = self.step(octet);
         self.lent(ended)
     }
 
     /// How many whole octets of the open gap are kept; 0 where none is open.
-    pub fn held(&self) -> u32 {
+    pub fn held(&self) -> u32
+        ensures held { (n201 : ℕ) (past : List ℕ) → Stands n201 self.now past → result ≡ octets_held n201 past }
+    {
         match self.gap {
             Some(gap) => gap.count() as u32,
             None => 0,
         }
     }
 
-    fn step(&mut self, octet: u8) -> Ended
-        ensures fits { FitsIn (vec_len self.new.octets) result }
-        ensures room { vec_len self.new.octets ≡ vec_len self.old.octets }
-    {
-        let mut ended = Ended::Nothing;
-        for place in 0..8u8 {
-            match self.bit(octet >> place & 1 == 1) {
-                Ended::Nothing => {}
-                event => ended = event,
-            }
-        }
-        ended
-    }
-
     fn lent(&self, ended: Ended) -> Heard<'_>
         requires fits { FitsIn (vec_len self.now.octets) ended }
+        ensures { heard_of result ≡ event_in self.now.octets.items ended }
     {
         match ended {
             Ended::Nothing => Heard::Nothing,
@@ -80,9 +90,37 @@ impl Deframer {
         }
     }
 
+    fn step(&mut self, octet: u8) -> Ended
+        ensures fits { FitsIn (vec_len self.new.octets) result }
+        ensures room { length self.new.octets.items ≡ length self.old.octets.items }
+        ensures stands { (past : List Bool) → HoldsPast self.old.octets.items self.old.ones self.old.gap past
+            → HoldsPast self.new.octets.items self.new.ones self.new.gap (with_bits 8 octet past) }
+        ensures told { (past : List Bool) → HoldsPast self.old.octets.items self.old.ones self.old.gap past
+            → heard_until (length self.old.octets.items) (with_bits 8 octet past)
+                ≡ heard_until (length self.old.octets.items) past
+                    ++ option_to_list (event_in self.new.octets.items result) }
+    {
+        let mut ended = Ended::Nothing;
+        for place in 0..8u8 {
+            match self.bit((octet >> place) & 1 == 1) {
+                Ended::Nothing => {}
+                event => ended = event,
+            }
+        }
+        ended
+    }
+
     fn bit(&mut self, bit: bool) -> Ended
         ensures fits { FitsIn (vec_len self.new.octets) result }
         ensures room { vec_len self.new.octets ≡ vec_len self.old.octets }
+        ensures stands { (past : List Bool) → HoldsPast self.old.octets.items self.old.ones self.old.gap past
+            → HoldsPast self.new.octets.items self.new.ones self.new.gap (bit ∷ past) }
+        ensures told { (past : List Bool) → HoldsPast self.old.octets.items self.old.ones self.old.gap past
+            → event_in self.new.octets.items result ≡ heard_at (length self.old.octets.items) (bit ∷ past) }
+        ensures quiet { IsYoung 7 self.old.gap → result ≡ Ended.Nothing }
+        ensures untouched { IsYoung 7 self.old.gap → self.new.octets.items ≡ self.old.octets.items }
+        ensures grows { (n : ℕ) → IsYoung n self.old.gap → IsYoung (n + 1) self.new.gap }
+        ensures anew { result ≢ Ended.Nothing → IsYoung 1 self.new.gap }
     {
         if bit { self.one() } else { self.zero() }
     }
@@ -90,13 +128,20 @@ impl Deframer {
     fn one(&mut self) -> Ended
         ensures fits { FitsIn (vec_len self.new.octets) result }
         ensures room { vec_len self.new.octets ≡ vec_len self.old.octets }
+        ensures stands { (past : List Bool) → HoldsPast self.old.octets.items self.old.ones self.old.gap past
+            → HoldsPast self.new.octets.items self.new.ones self.new.gap (true ∷ past) }
+        ensures told { (past : List Bool) → HoldsPast self.old.octets.items self.old.ones self.old.gap past
+            → event_in self.new.octets.items result ≡ heard_at (length self.old.octets.items) (true ∷ past) }
+        ensures quiet { IsYoung 7 self.old.gap → result ≡ Ended.Nothing }
+        ensures untouched { IsYoung 7 self.old.gap → self.new.octets.items ≡ self.old.octets.items }
+        ensures grows { (n : ℕ) → IsYoung n self.old.gap → IsYoung (n + 1) self.new.gap }
+        ensures anew { result ≢ Ended.Nothing → IsYoung 1 self.new.gap }
     {
-        if self.ones < 7 {
-            self.ones += 1;
-        }
-        if self.ones == 7 {
+        if self.ones >= 6 {
+            self.ones = 7;
             return self.given_up();
         }
+        self.ones += 1;
         self.take(true);
         Ended::Nothing
     }
@@ -104,6 +149,14 @@ impl Deframer {
     fn zero(&mut self) -> Ended
         ensures fits { FitsIn (vec_len self.new.octets) result }
         ensures room { vec_len self.new.octets ≡ vec_len self.old.octets }
+        ensures stands { (past : List Bool) → HoldsPast self.old.octets.items self.old.ones self.old.gap past
+            → HoldsPast self.new.octets.items self.new.ones self.new.gap (false ∷ past) }
+        ensures told { (past : List Bool) → HoldsPast self.old.octets.items self.old.ones self.old.gap past
+            → event_in self.new.octets.items result ≡ heard_at (length self.old.octets.items) (false ∷ past) }
+        ensures quiet { IsYoung 7 self.old.gap → result ≡ Ended.Nothing }
+        ensures untouched { IsYoung 7 self.old.gap → self.new.octets.items ≡ self.old.octets.items }
+        ensures grows { (n : ℕ) → IsYoung n self.old.gap → IsYoung (n + 1) self.new.gap }
+        ensures anew { result ≢ Ended.Nothing → IsYoung 1 self.new.gap }
     {
         let ones = self.ones;
         self.ones = 0;
@@ -118,8 +171,15 @@ impl Deframer {
         Ended::Nothing
     }
 
+    /// Takes a bit of the open gap's octets, if a gap is open.
     fn take(&mut self, bit: bool)
         ensures room { vec_len self.new.octets ≡ vec_len self.old.octets }
+        ensures ones { self.new.ones ≡ self.old.ones }
+        ensures untouched { IsYoung 7 self.old.gap → self.new.octets.items ≡ self.old.octets.items }
+        ensures grows { (n : ℕ) → IsYoung n self.old.gap → IsYoung (n + 1) self.new.gap }
+        ensures stands { (gap : Option (List Bool)) → IsKept bit gap
+            → HoldsGap self.old.octets.items self.old.gap gap
+            → HoldsGap self.new.octets.items self.new.gap (one_more bit gap) }
     {
         if let Some(mut gap) = self.gap {
             gap.take(&mut self.octets, bit);
@@ -127,8 +187,14 @@ impl Deframer {
         }
     }
 
+    /// Takes a stuffed 0, if a gap is open.
     fn skip(&mut self)
-        ensures room { vec_len self.new.octets ≡ vec_len self.old.octets }
+        ensures octets { self.new.octets ≡ self.old.octets }
+        ensures ones { self.new.ones ≡ self.old.ones }
+        ensures grows { (n : ℕ) → IsYoung n self.old.gap → IsYoung (n + 1) self.new.gap }
+        ensures stands { (gap : Option (List Bool)) → IsStuffed gap
+            → HoldsGap self.old.octets.items self.old.gap gap
+            → HoldsGap self.new.octets.items self.new.gap (one_more false gap) }
     {
         if let Some(mut gap) = self.gap {
             gap.skip();
@@ -136,9 +202,15 @@ impl Deframer {
         }
     }
 
+    /// Gives the open gap up, at the seventh contiguous 1.
     fn given_up(&mut self) -> Ended
         ensures fits { FitsIn (vec_len self.new.octets) result }
-        ensures room { vec_len self.new.octets ≡ vec_len self.old.octets }
+        ensures octets { self.new.octets ≡ self.old.octets }
+        ensures ones { self.new.ones ≡ self.old.ones }
+        ensures gap { self.new.gap ≡ None }
+        ensures quiet { IsYoung 7 self.old.gap → result ≡ Ended.Nothing }
+        ensures told { (gap : Option (List Bool)) → HoldsGap self.old.octets.items self.old.gap gap
+            → event_in self.old.octets.items result ≡ given_up_event gap }
     {
         let Some(gap) = self.gap else {
             return Ended::Nothing;
@@ -153,6 +225,10 @@ impl Deframer {
     /// What a flag that ends here closes.
     fn closed(&self) -> Ended
         ensures fits { FitsIn (vec_len self.now.octets) result }
+        ensures quiet { IsYoung 7 self.now.gap → result ≡ Ended.Nothing }
+        ensures told { (past : List Bool) → run_of past ≡ 6
+            → HoldsGap self.now.octets.items self.now.gap (open_gap past)
+            → event_in self.now.octets.items result ≡ closed_event (length self.now.octets.items) (open_gap past) }
     {
         let Some(gap) = self.gap else {
             return Ended::Nothing;
@@ -163,9 +239,17 @@ impl Deframer {
         gap.closed(&self.octets)
     }
 
+    /// Closes the open gap and opens the next, at a flag's last bit.
     fn flag(&mut self) -> Ended
         ensures fits { FitsIn (vec_len self.new.octets) result }
-        ensures room { vec_len self.new.octets ≡ vec_len self.old.octets }
+        ensures octets { self.new.octets ≡ self.old.octets }
+        ensures ones { self.new.ones ≡ self.old.ones }
+        ensures young { IsYoung 1 self.new.gap }
+        ensures opened { HoldsGap self.new.octets.items self.new.gap (Some []) }
+        ensures quiet { IsYoung 7 self.old.gap → result ≡ Ended.Nothing }
+        ensures told { (past : List Bool) → run_of past ≡ 6
+            → HoldsGap self.old.octets.items self.old.gap (open_gap past)
+            → event_in self.old.octets.items result ≡ closed_event (length self.old.octets.items) (open_gap past) }
     {
         let ended = self.closed();
         self.gap = Some(Gap::new());

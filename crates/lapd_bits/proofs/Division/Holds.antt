@@ -1,5 +1,5 @@
 -- What a register holds, as bits are fed to it.
-use Rattle.std.proofs.Common.{◌≡◌, ℕ, ◌+◌, ◌-◌, ◌/◌, ◌%◌, ◌^◌, ◌<◌, Bool, true, false, not, nat_eq, List, [], ◌∷◌, ◌++◌, length, take, get_or, map, refl, sym, ap, subst, ◌∙◌, arith}
+use Rattle.std.proofs.Common.{◌≡◌, ℕ, ◌+◌, ◌-◌, ◌/◌, ◌^◌, ◌<◌, Bool, true, false, not, nat_eq, List, [], ◌∷◌, ◌++◌, length, take, get_or, map, refl, sym, ap, subst, ◌∙◌, arith}
 use Rattle.std.specs.Prelude.{bit_and, bit_xor}
 use Rattle.std.specs.Bool.{beq}
 use Rattle.std.proofs.lemmas.List.{take_more}
@@ -10,16 +10,17 @@ use Rattle.lapd_bits.specs.Check.{plus, generator, brought_down, remainder, divi
 use Rattle.lapd_bits.specs.CheckLaws.{HoldsDivision}
 use Rattle.lapd_bits.proofs.BitLemmas.{low_bits-add, bits-push, same_bits-low_bits}
 use Rattle.lapd_bits.proofs.Division.Register.{with_bit, remainder-dividend-append}
-use Rattle.lapd_bits.proofs.Division.Word.{low_bits-xor, low_bits-not, low_bits-suc, low_bits-shifted}
+use Rattle.lapd_bits.proofs.Division.Word.{low_bits-xor, low_bits-not, low_bits-suc, low_bits-one, low_bits-shifted}
 
 -- the preset stands for no bits
-pub HoldsDivision-preset : HoldsDivision 65535 []
+pub HoldsDivision-preset : HoldsDivision 0xFFFF []
 unfolding low_bits
 HoldsDivision-preset = refl
 
 -- ---- one bit more
 
-low_bits-generator : low_bits 16 33800 ≡ generator
+-- the constant of the code is the generator
+low_bits-generator : low_bits 16 0x8408 ≡ generator
 unfolding low_bits
 low_bits-generator = refl
 
@@ -47,9 +48,9 @@ HoldsDivision-same register bit d small same holds =
 pub HoldsDivision-other :
     (register : ℕ) (bit : Bool) (d : List Bool) → register < 2 ^ 16
     → beq (nat_eq (bit_and register 1) 1) bit ≡ false → HoldsDivision register d
-    → HoldsDivision (bit_xor (register / 2) 33800) (d ++ bit ∷ [])
+    → HoldsDivision (bit_xor (register / 2) 0x8408) (d ++ bit ∷ [])
 HoldsDivision-other register bit d small other holds =
-    low_bits-xor 16 (register / 2) 33800
+    low_bits-xor 16 (register / 2) 0x8408
     ∙ ap (λ l. plus (low_bits 16 (register / 2)) l) low_bits-generator
     ∙ ap (λ l. plus l generator) (low_bits-shifted register small)
     ∙ ap (λ t. brought_down (not t ∷ low_bits 15 (register / 2)) false) (sym other)
@@ -57,17 +58,13 @@ HoldsDivision-other register bit d small other holds =
 
 -- ---- the bits of an octet
 
-low_bits-one_bit : (x : ℕ) → low_bits 1 x ≡ nat_eq (x % 2) 1 ∷ []
-unfolding low_bits
-low_bits-one_bit x = refl
-
 -- the low bits of an octet, and the next one as the code reads it
 pub low_bits-next :
     (place x : ℕ) → low_bits (place + 1) x ≡ low_bits place x ++ nat_eq (bit_and (x / 2 ^ place) 1) 1 ∷ []
 low_bits-next place x =
     low_bits-add place 1 x
     ∙ ap (λ l. low_bits place x ++ l)
-    (low_bits-one_bit (x / 2 ^ place)
+    (low_bits-one (x / 2 ^ place)
     ∙ ap (λ y. nat_eq y 1 ∷ []) (sym (and_mask (x / 2 ^ place) 1)))
 
 -- one octet more of a text
@@ -85,18 +82,19 @@ HoldsDivision-octet register i octets within holds =
 -- the complement of the register is the check
 pub HoldsDivision-check :
     (register : ℕ) (d : List Bool) → register < 2 ^ 16 → HoldsDivision register d
-    → low_bits 16 (65535 - register) ≡ check d
+    → low_bits 16 (0xFFFF - register) ≡ check d
 HoldsDivision-check register d small holds = low_bits-not 16 register small ∙ ap (map not) holds
 
-low_bits-residue : low_bits 16 61624 ≡ residue
+-- the constant of the code is the residue
+low_bits-residue : low_bits 16 0xF0B8 ≡ residue
 unfolding low_bits
 low_bits-residue = refl
 
 -- a register of this value tells of no error, and no other does
 pub HoldsDivision-good :
     (register : ℕ) (d : List Bool) → register < 2 ^ 16 → HoldsDivision register d
-    → nat_eq register 61624 ≡ is_good d
+    → nat_eq register 0xF0B8 ≡ is_good d
 HoldsDivision-good register d small holds =
-    sym (same_bits-low_bits 16 register 61624 small (omega arith))
+    sym (same_bits-low_bits 16 register 0xF0B8 small (omega arith))
     ∙ ap (λ l. same_bits (low_bits 16 register) l) low_bits-residue
     ∙ ap (λ l. same_bits l residue) holds

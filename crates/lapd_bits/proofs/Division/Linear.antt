@@ -8,6 +8,7 @@ use Rattle.lapd_bits.proofs.Division.Sums.{plus-assoc, plus_last_two, plus-swap,
 
 -- ---- one step
 
+-- a step keeps the 16 coefficients
 pub length-brought_down : (s : List Bool) (b : Bool) → length s ≡ 16 → length (brought_down s b) ≡ 16
 length-brought_down [] b size = absurd (omega arith)
 length-brought_down (false ∷ r) b size = omega (arith, length-append r (b ∷ []))
@@ -15,11 +16,13 @@ length-brought_down (true ∷ r) b size =
     let shifted : length (r ++ b ∷ []) ≡ 16 = omega (arith, length-append r (b ∷ [])) in
     length-plus (r ++ b ∷ []) generator shifted ∙ shifted
 
+-- a sum of two that are each one coefficient longer
 pushed-plus :
     (r q : List Bool) (a b : Bool) → length r ≡ length q
     → plus (r ++ a ∷ []) (q ++ b ∷ []) ≡ plus r q ++ not (beq a b) ∷ []
 pushed-plus r q a b same = plus-append r q (a ∷ []) (b ∷ []) same
 
+-- a step of a sum is the sum of the steps
 pub brought_down-plus :
     (s t : List Bool) (a b : Bool) → length s ≡ 16 → length t ≡ 16
     → brought_down (plus s t) (not (beq a b)) ≡ plus (brought_down s a) (brought_down t b)
@@ -42,13 +45,16 @@ brought_down-plus (true ∷ r) (true ∷ q) a b s_size t_size =
 
 -- ---- the whole division
 
+-- the division keeps the 16 coefficients
 pub length-divided : (p s : List Bool) → length s ≡ 16 → length (fold brought_down s p) ≡ 16
 length-divided [] s size = size
 length-divided (b ∷ p) s size = length-divided p (brought_down s b) (length-brought_down s b size)
 
+-- a remainder has 16 coefficients
 pub length-remainder : (p : List Bool) → length (remainder p) ≡ 16
 length-remainder p = length-divided p (replicate 16 false) refl
 
+-- the division of a sum is the sum of the divisions, from any two beginnings
 divided-plus :
     (p q s t : List Bool) → length p ≡ length q → length s ≡ 16 → length t ≡ 16
     → fold brought_down (plus s t) (plus p q) ≡ plus (fold brought_down s p) (fold brought_down t q)
@@ -61,12 +67,13 @@ divided-plus (a ∷ p) (b ∷ q) s t same s_size t_size =
     ∙ divided-plus p q (brought_down s a) (brought_down t b) rest
     (length-brought_down s a s_size) (length-brought_down t b t_size)
 
+-- the remainder of a sum is the sum of the remainders
 pub remainder-plus : (p q : List Bool) → length p ≡ length q → remainder (plus p q) ≡ plus (remainder p) (remainder q)
 remainder-plus p q same = divided-plus p q (replicate 16 false) (replicate 16 false) same refl refl
 
 -- ---- what divides itself
 
--- fewer than 17 coefficients are their own remainder
+-- coefficients that find as many zeros before them only move up
 divided_few : (v u : List Bool) → fold brought_down (replicate (length v) false ++ u) v ≡ u ++ v
 divided_few [] u = sym (append-nil u)
 divided_few (b ∷ v) u =
@@ -74,6 +81,7 @@ divided_few (b ∷ v) u =
     ∙ divided_few v (u ++ b ∷ [])
     ∙ append_assoc u (b ∷ []) v
 
+-- sixteen coefficients are their own remainder
 pub remainder_few : (v : List Bool) → length v ≡ 16 → remainder v ≡ v
 remainder_few v size =
     ap (λ n. fold brought_down (replicate n false) v) (sym size)

@@ -13,6 +13,7 @@ abbrev pub with_bit : List Bool → Bool → List Bool
 with_bit (a ∷ r) b = brought_down (not (beq a b) ∷ r) false
 with_bit [] b = []
 
+-- it still holds 16 coefficients
 pub length-with_bit : (s : List Bool) (b : Bool) → length s ≡ 16 → length (with_bit s b) ≡ 16
 length-with_bit [] b size = size
 length-with_bit (a ∷ r) b size = length-brought_down (not (beq a b) ∷ r) false size
@@ -44,7 +45,7 @@ remainder-below_power true r d size =
     ∙ ap (λ l. plus text (plus l (generator ++ zeros))) (sym (append_assoc r (false ∷ []) zeros))
     ∙ ap (λ l. plus text l) with_generator)
 
--- one bit of the text
+-- the first bit of a text goes into the register
 remainder-with_bit :
     (d s : List Bool) (b : Bool) → length s ≡ 16
     → remainder (text_below s (b ∷ d)) ≡ remainder (text_below (with_bit s b) d)
@@ -53,7 +54,7 @@ remainder-with_bit d (a ∷ r) b size =
     ap (λ x. remainder (x ∷ plus (d ++ replicate 16 false) (r ++ false ∷ replicate (length d) false))) (differ-comm b a)
     ∙ remainder-below_power (not (beq a b)) r d (omega arith)
 
--- the whole text
+-- and so do all of them, in turn
 pub remainder-text_below : (d s : List Bool) → length s ≡ 16 → remainder (text_below s d) ≡ fold with_bit s d
 remainder-text_below [] s size =
     ap remainder (ap (λ l. plus (replicate 16 false) l) (append-nil s) ∙ plus-comm (replicate 16 false) s ∙ plus_zeros_of s 16 size)
@@ -65,7 +66,7 @@ remainder-text_below (b ∷ d) s size =
 pub remainder-dividend : (d : List Bool) → remainder (dividend d) ≡ fold with_bit (replicate 16 true) d
 remainder-dividend d = remainder-text_below d (replicate 16 true) refl
 
--- a text that goes on
+-- the division of a text that goes on begins with what the register holds
 pub remainder-dividend-append :
     (d e : List Bool) → remainder (dividend (d ++ e)) ≡ fold with_bit (remainder (dividend d)) e
 remainder-dividend-append d e =

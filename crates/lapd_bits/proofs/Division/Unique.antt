@@ -7,7 +7,7 @@ use Rattle.lapd_bits.specs.Stuffing.{same_bits}
 use Rattle.lapd_bits.specs.Check.{plus, generator, brought_down, remainder, dividend, check, residue, is_good}
 use Rattle.lapd_bits.specs.CheckLaws.{OnlyCheck}
 use Rattle.lapd_bits.proofs.BitLemmas.{same_from_test}
-use Rattle.lapd_bits.proofs.Division.Sums.{plus-append, plus_twice, length-plus, plus-ones, plus-not}
+use Rattle.lapd_bits.proofs.Division.Sums.{plus-append, plus_twice, plus-injective, length-plus, plus-ones, plus-not}
 use Rattle.lapd_bits.proofs.Division.Linear.{length-brought_down, length-remainder, remainder_few}
 use Rattle.lapd_bits.proofs.Division.Register.{with_bit, remainder-text_below, remainder-dividend-append}
 
@@ -19,19 +19,16 @@ generator_front =
     false ∷ false ∷ false ∷ true ∷ false ∷ false ∷ false ∷ false
     ∷ false ∷ false ∷ true ∷ false ∷ false ∷ false ∷ false ∷ []
 
+-- with the generator taken off the lowest coefficient is 1
 pushed-generator :
     (r : List Bool) → length r ≡ 15 → plus (r ++ false ∷ []) generator ≡ plus r generator_front ++ true ∷ []
 unfolding generator_front
 pushed-generator r size = plus-append r generator_front (false ∷ []) (true ∷ []) size
 
-plus_front-injective :
-    (r q : List Bool) → length r ≡ 15 → length q ≡ 15 → plus r generator_front ≡ plus q generator_front → r ≡ q
-unfolding generator_front
-plus_front-injective r q r_size q_size same =
-    sym (plus_twice r generator_front r_size) ∙ ap (λ l. plus l generator_front) same ∙ plus_twice q generator_front q_size
-
+-- a step with a 0 brought down determines what it began with: the lowest coefficient tells the highest
 brought_down-injective :
     (s t : List Bool) → length s ≡ 16 → length t ≡ 16 → brought_down s false ≡ brought_down t false → s ≡ t
+unfolding generator_front
 brought_down-injective [] t s_size t_size same = absurd (omega arith)
 brought_down-injective (x ∷ r) [] s_size t_size same = absurd (omega arith)
 brought_down-injective (false ∷ r) (false ∷ q) s_size t_size same =
@@ -39,7 +36,7 @@ brought_down-injective (false ∷ r) (false ∷ q) s_size t_size same =
 brought_down-injective (true ∷ r) (true ∷ q) s_size t_size same =
     let fronts = same_from_push (plus r generator_front) (plus q generator_front) true true
     (sym (pushed-generator r (omega arith)) ∙ same ∙ pushed-generator q (omega arith)) in
-    ap (λ l. true ∷ l) (plus_front-injective r q (omega arith) (omega arith) fronts.0)
+    ap (λ l. true ∷ l) (plus-injective r q generator_front (omega arith) (omega arith) fronts.0)
 brought_down-injective (true ∷ r) (false ∷ q) s_size t_size same =
     let last : true ≡ false = (same_from_push (plus r generator_front) q true false (sym (pushed-generator r (omega arith)) ∙ same)).1 in
     cc
@@ -47,6 +44,7 @@ brought_down-injective (false ∷ r) (true ∷ q) s_size t_size same =
     let last : false ≡ true = (same_from_push r (plus q generator_front) false true (same ∙ pushed-generator q (omega arith))).1 in
     cc
 
+-- and so do many such steps
 zeros_down-injective :
     (n : ℕ) (s t : List Bool) → length s ≡ 16 → length t ≡ 16
     → fold brought_down s (replicate n false) ≡ fold brought_down t (replicate n false) → s ≡ t
@@ -76,6 +74,7 @@ with_complement s size =
     with_word s (map not s) size (length-map s not ∙ size)
     ∙ ap (λ l. fold brought_down l (replicate 16 false)) (plus-not s ∙ ap (λ n. replicate n true) size)
 
+-- and nothing else leaves it
 only_complement : (s x : List Bool) → length s ≡ 16 → length x ≡ 16 → fold with_bit s x ≡ residue → x ≡ map not s
 only_complement s x s_size x_size good =
     let ones : plus x s ≡ replicate 16 true =
@@ -87,15 +86,18 @@ only_complement s x s_size x_size good =
 
 -- ---- the laws
 
+-- a check has 16 bits
 pub length-check : (text : List Bool) → length (check text) ≡ 16
 length-check text = length-map (remainder (dividend text)) not ∙ length-remainder (dividend text)
 
+-- the check of a text is good after it
 pub is_good-check : (text : List Bool) → is_good (text ++ check text) ≡ true
 is_good-check text =
     ap (λ r. same_bits r residue)
     (remainder-dividend-append text (check text)
     ∙ with_complement (remainder (dividend text)) (length-remainder (dividend text)))
 
+-- no other 16 bits are
 pub only_check_lem : OnlyCheck
 only_check_lem text fcs size = (
   λ good.

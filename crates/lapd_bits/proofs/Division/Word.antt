@@ -10,6 +10,7 @@ use Rattle.lapd_bits.proofs.BitLemmas.{low_bits-add}
 
 -- ---- sums
 
+-- `^` on single bits
 differ-bits : (a b : ℕ) → a < 2 → b < 2 → nat_eq (bit_xor a b) 1 ≡ not (beq (nat_eq a 1) (nat_eq b 1))
 differ-bits zero zero a_small b_small = refl
 differ-bits zero (suc zero) a_small b_small = refl
@@ -19,6 +20,7 @@ differ-bits zero (suc (suc b)) a_small b_small = absurd (omega arith)
 differ-bits (suc zero) (suc (suc b)) a_small b_small = absurd (omega arith)
 differ-bits (suc (suc a)) b a_small b_small = absurd (omega arith)
 
+-- `^` is the sum of polynomials
 pub low_bits-xor : (n x y : ℕ) → low_bits n (bit_xor x y) ≡ plus (low_bits n x) (low_bits n y)
 unfolding low_bits
 low_bits-xor zero x y = refl
@@ -29,11 +31,13 @@ low_bits-xor (suc n) x y =
 
 -- ---- complements
 
+-- the complement of a single bit
 nat_eq-not : (a : ℕ) → a < 2 → nat_eq (1 - a) 1 ≡ not (nat_eq a 1)
 nat_eq-not zero small = refl
 nat_eq-not (suc zero) small = refl
 nat_eq-not (suc (suc a)) small = absurd (omega arith)
 
+-- `!` turns every bit round
 pub low_bits-not : (n x : ℕ) → x < 2 ^ n → low_bits n (2 ^ n - 1 - x) ≡ map not (low_bits n x)
 unfolding low_bits
 low_bits-not zero x small = refl
@@ -50,9 +54,10 @@ pub low_bits-suc : (n x : ℕ) → low_bits (suc n) x ≡ nat_eq (x % 2) 1 ∷ l
 unfolding low_bits
 low_bits-suc n x = refl
 
-low_bits-one : low_bits 1 0 ≡ false ∷ []
+-- one low bit
+pub low_bits-one : (x : ℕ) → low_bits 1 x ≡ nat_eq (x % 2) 1 ∷ []
 unfolding low_bits
-low_bits-one = refl
+low_bits-one x = refl
 
 -- a register shifted down by one
 pub low_bits-shifted : (x : ℕ) → x < 2 ^ 16 → low_bits 16 (x / 2) ≡ low_bits 15 (x / 2) ++ false ∷ []
@@ -60,4 +65,4 @@ low_bits-shifted x small =
     let none_above : x / 2 / 2 ^ 15 ≡ 0 = omega arith in
     low_bits-add 15 1 (x / 2)
     ∙ ap (λ y. low_bits 15 (x / 2) ++ low_bits 1 y) none_above
-    ∙ ap (λ l. low_bits 15 (x / 2) ++ l) low_bits-one
+    ∙ ap (λ l. low_bits 15 (x / 2) ++ l) (low_bits-one 0)

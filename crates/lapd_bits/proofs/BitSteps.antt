@@ -1,0 +1,228 @@
+-- One bit more of a line: what a deframer's fields then stand for, and what the bit ends.
+use Rattle.std.proofs.Common.{◌≡◌, ◌≢◌, ℕ, suc, ◌+◌, ◌*◌, ◌/◌, ◌%◌, ◌^◌, ◌<◌, ◌≤◌, Bool, true, false, List, [], ◌∷◌, ◌++◌, length, take, drop, reverse, min, Option, Some, None, option_and_then, IfSome, option_to_list, nat_lt, nat_eq, cond, refl, ap, sym, ◌∙◌, subst, arith, ⊎_elim, length-append, append_assoc, ◌⊎◌, inl, inr, bit_and}
+use Rattle.std.specs.Option.{option_map_or}
+use Rattle.std.proofs.lemmas.Bool.{cases_Bool, le-ltb}
+use Rattle.std.proofs.lemmas.List.{reverse-append, append-nil}
+use Rattle.lapd_bits.specs.Bits.{bits, low_bits}
+use Rattle.lapd_bits.specs.Stuffing.{unstuffed, octets_sent, same_bits}
+use Rattle.lapd_bits.specs.Stream.{Event, dropped, judged, since_flag, has_abort, text_event, gap_event, room_for, heard_at, heard_until}
+use Rattle.lapd_bits.specs.Heard.{flag_front, closing_event, event_in}
+use Rattle.lapd_bits.specs.Steps.{one_more, IsKept, IsStuffed, closed_event, IsYoung, with_bits}
+use Rattle.lapd_bits.specs.Deframer.{run_of, open_gap, kept_count, KeepsIn, HoldsBits, HoldsGap, HoldsPast, Stands, octets_held}
+use Rattle.lapd_bits.specs.declared.gap.Gap.{Gap}
+use Rattle.lapd_bits.specs.declared.gap.Ended.{Ended}
+use Rattle.lapd_bits.specs.declared.gap.Ended.TheVariants as ended
+use Rattle.lapd_bits.specs.declared.heard.Cause.TheVariants.{Ragged}
+use Rattle.lapd_bits.proofs.BitLemmas.{length-bits, length-low_bits, bits-push}
+use Rattle.lapd_bits.proofs.Division.Holds.{low_bits-next}
+use Rattle.lapd_bits.proofs.Places.{reverse-cons, latest_ones, latest_ones-below, ones_after-reverse, run_of-gap, gap_has_no_flag, NoFlag, NoSix-reverse, front_of_flag}
+use Rattle.lapd_bits.proofs.Hearing.{open_gap-one, open_gap-abort, open_gap-zero, open_gap-flag}
+use Rattle.lapd_bits.proofs.StuffingCounted.{NoSix}
+use Rattle.lapd_bits.proofs.StuffingClosed.{unstuffed-push_one, unstuffed-push_zero, unstuffed-push_stuffed, octets_sent-assembled}
+
+-- ---- the open gap
+
+-- an open gap has no abort
+still_open : (g h : List Bool) → (if_closed : Bool) → cond if_closed None (Some g) ≡ Some h → (if_closed ≡ false) × (g ≡ h)
+still_open g h true e = cc
+still_open g h false e = (refl, cc)
+
+opened_since : (o : Option (List Bool)) (g : List Bool) → option_and_then (λ h. cond (has_abort h) None (Some h)) o ≡ Some g → (o ≡ Some g) × (has_abort g ≡ false)
+opened_since None g e = cc
+opened_since (Some h) g e =
+    let s = still_open h g (has_abort h) e in
+    (ap Some s.1, ap has_abort (sym s.1) ∙ s.0)
+
+pub open_gap-since : (past g : List Bool) → open_gap past ≡ Some g → (since_flag past ≡ Some g) × (has_abort g ≡ false)
+open_gap-since past g e = opened_since (since_flag past) g e
+
+-- the run of 1s up to a place is that of the open gap, which is below 7
+pub open_run : (past g : List Bool) → open_gap past ≡ Some g → (run_of past ≡ latest_ones g) × (latest_ones g < 7)
+open_run past g e =
+    let s = open_gap-since past g e in
+    let run = run_of-gap past g s.0 in
+    let below = latest_ones-below g s.1 in
+    (omega arith, below)
+
+-- what holds of any open gap there is
+for_open : (past : List Bool) (P : List Bool → Type 0) → ((g : List Bool) → open_gap past ≡ Some g → P g) → IfSome (open_gap past) P
+for_open past P h = go (open_gap past) h
+  where
+    go : (o : Option (List Bool)) → ((g : List Bool) → o ≡ Some g → P g) → IfSome o P
+    go None f = tt
+    go (Some g) f = f g refl
+
+-- ---- which bits are kept
+
+-- a 1 is
+pub kept_one : (gap : Option (List Bool)) → IsKept true gap
+kept_one None = tt
+kept_one (Some g) = ap unstuffed (reverse-cons true g) ∙ unstuffed-push_one (reverse g)
+
+-- a 0 is, but after five 1s
+pub kept_zero : (past : List Bool) → run_of past ≢ 5 → run_of past ≢ 6 → IsKept false (open_gap past)
+kept_zero past not_five not_six =
+    for_open past (λ g. unstuffed (reverse (false ∷ g)) ≡ unstuffed (reverse g) ++ false ∷ [])
+    (λ g e.
+        let run = open_run past g e in
+        ap unstuffed (reverse-cons false g) ∙ unstuffed-push_zero (reverse g) (omega (arith, ones_after-reverse g)))
+
+pub stuffed_zero : (past : List Bool) → run_of past ≡ 5 → IsStuffed (open_gap past)
+stuffed_zero past five =
+    for_open past (λ g. unstuffed (reverse (false ∷ g)) ≡ unstuffed (reverse g))
+    (λ g e.
+        let run = open_run past g e in
+        ap unstuffed (reverse-cons false g) ∙ unstuffed-push_stuffed (reverse g) (omega (arith, ones_after-reverse g)))
+
+-- ---- what the fields stand for after the bit
+
+module _ (octets octets' : List ℕ) (ones ones' : ℕ) (gap gap' : Option Gap) (past : List Bool) (h : HoldsPast octets ones gap past) where
+  pub HoldsPast-one : ones < 6 → ones' ≡ ones + 1 → HoldsGap octets' gap' (one_more true (open_gap past)) → HoldsPast octets' ones' gap' (true ∷ past)
+  HoldsPast-one few e taken =
+      let run = h.run in
+      record {
+        run = omega arith;
+        open_is = subst (HoldsGap octets' gap') (sym (open_gap-one past (omega arith))) taken;
+      }
+
+  pub HoldsPast-abort : 6 ≤ ones → ones' ≡ 7 → gap' ≡ None → HoldsPast octets' ones' gap' (true ∷ past)
+  HoldsPast-abort many e none =
+      let run = h.run in
+      let closed : open_gap (true ∷ past) ≡ None = open_gap-abort past (omega arith) in
+      record {
+        run = omega arith;
+        open_is = subst (HoldsGap octets' gap') (sym closed) (subst (λ g. HoldsGap octets' g None) (sym none) tt);
+      }
+
+  pub HoldsPast-zero : ones ≢ 6 → ones' ≡ 0 → HoldsGap octets' gap' (one_more false (open_gap past)) → HoldsPast octets' ones' gap' (false ∷ past)
+  HoldsPast-zero other e taken =
+      record {
+        run = e;
+        open_is = subst (HoldsGap octets' gap') (sym (open_gap-zero past (λ six. other (h.run ∙ six)))) taken;
+      }
+
+  pub HoldsPast-flag : ones ≡ 6 → ones' ≡ 0 → HoldsGap octets' gap' (Some []) → HoldsPast octets' ones' gap' (false ∷ past)
+  HoldsPast-flag six e opened =
+      record {
+        run = e;
+        open_is = subst (HoldsGap octets' gap') (sym (open_gap-flag past (sym h.run ∙ six))) opened;
+      }
+
+-- ---- what a flag's last bit ends
+
+-- the bits of a gap with the front of a flag, in order of time
+front_last : (g : List Bool) → latest_ones g ≡ 6 → 7 ≤ length g → reverse g ≡ reverse (drop 7 g) ++ flag_front
+front_last g six long =
+    ap reverse (front_of_flag g six long)
+    ∙ reverse-append (true ∷ true ∷ true ∷ true ∷ true ∷ true ∷ false ∷ []) (drop 7 g)
+
+-- and the gap before the front of a flag holds no six contiguous 1s
+no_six_before : (g : List Bool) → latest_ones g ≡ 6 → 7 ≤ length g → NoFlag g → NoSix 0 (reverse (drop 7 g))
+no_six_before g six long none =
+    let parts = subst NoFlag (front_of_flag g six long) none in
+    NoSix-reverse (drop 7 g) parts.1 parts.0
+
+-- the event of a gap by the octets of which a sender makes it
+event_of_octets : (room : ℕ) (gap : List Bool) (whole : List ℕ) (over : List Bool) → octets_sent gap ≡ cond (same_bits over flag_front) (Some whole) None → gap_event room gap ≡ closing_event room whole over
+event_of_octets room gap whole over e = ap (text_event room) e ∙ by_choice (same_bits over flag_front)
+  where
+    by_choice : (same : Bool) → text_event room (cond same (Some whole) None) ≡ cond same (judged room whole) (dropped Ragged)
+    by_choice true = refl
+    by_choice false = refl
+
+-- a gap that is closed is told as what its octets are
+pub closed_told : (octets : List ℕ) (gap : Gap) (past : List Bool) (event : Option Event) → run_of past ≡ 6 → HoldsGap octets (Some gap) (open_gap past) → 8 ≤ gap.since → ((whole : List ℕ) → KeepsIn octets gap whole → event ≡ Some (closing_event (length octets) whole (low_bits gap.filled gap.partial))) → event ≡ closed_event (length octets) (open_gap past)
+closed_told octets gap past event six h long told = go (open_gap past) refl h
+  where
+    go : (o : Option (List Bool)) → open_gap past ≡ o → HoldsGap octets (Some gap) o → event ≡ closed_event (length octets) o
+    go None e held = absurd held
+    go (Some g) e held =
+        let run = open_run past g e in
+        let count = held.counted in
+        let latest : latest_ones g ≡ 6 = sym run.0 ∙ six in
+        let bits_long : 7 ≤ length g = omega arith in
+        let s = open_gap-since past g e in
+        let a = held.assembles in
+        let front = front_last g latest bits_long in
+        let over = low_bits gap.filled gap.partial in
+        let short : length over < 8 = omega (arith, length-low_bits gap.filled gap.partial, gap.no_octet) in
+        let text : unstuffed (reverse (drop 7 g) ++ flag_front) ≡ bits a.whole ++ over = ap unstuffed (sym front) ∙ a.assembled in
+        let found = octets_sent-assembled (reverse (drop 7 g)) a.whole over (no_six_before g latest bits_long (gap_has_no_flag past g s.0 s.1)) a.are_octets short text in
+        let full : nat_lt (length g) 8 ≡ false = le-ltb (length g) 8 (omega arith) in
+        told a.whole a.keeps
+        ∙ ap Some (sym (event_of_octets (length octets) (reverse (drop 7 g)) a.whole over found))
+        ∙ sym (rw full refl)
+
+-- ---- the octets that are held
+
+whole_octets : (n filled : ℕ) → filled < 8 → (8 * n + filled) / 8 ≡ n
+whole_octets n filled h = omega arith
+
+pub held_of_gap : (n201 : ℕ) (octets : List ℕ) (gap : Gap) (past : List ℕ) → length octets ≡ room_for n201 → HoldsGap octets (Some gap) (open_gap (reverse (bits past))) → gap.count ≡ octets_held n201 past
+held_of_gap n201 octets gap past room h = go (open_gap (reverse (bits past))) h
+  where
+    go : (o : Option (List Bool)) → HoldsGap octets (Some gap) o → gap.count ≡ option_map_or (λ g. kept_count (room_for n201) (length (unstuffed (reverse g)) / 8)) o 0
+    go None held = absurd held
+    go (Some g) held =
+        let a = held.assembles in
+        let size : length (unstuffed (reverse g)) ≡ 8 * length a.whole + gap.filled =
+          ap length a.assembled ∙ length-append (bits a.whole) (low_bits gap.filled gap.partial)
+          ∙ omega (arith, length-bits a.whole, length-low_bits gap.filled gap.partial) in
+        let eighths : length (unstuffed (reverse g)) / 8 ≡ length a.whole =
+          ap (λ n. n / 8) size ∙ whole_octets (length a.whole) gap.filled gap.no_octet in
+        a.keeps.counted ∙ ap (λ r. kept_count r (length a.whole)) room ∙ ap (kept_count (room_for n201)) (sym eighths)
+
+-- ---- the eight bits of an octet, one after the other
+
+-- no bit more
+pub with_bits-none : (octet : ℕ) (past : List Bool) → with_bits 0 octet past ≡ past
+unfolding low_bits
+with_bits-none octet past = refl
+
+-- one bit more, as the code reads it
+pub with_bits-more : (place octet : ℕ) (past : List Bool) → with_bits (place + 1) octet past ≡ nat_eq (bit_and (octet / 2 ^ place) 1) 1 ∷ with_bits place octet past
+with_bits-more place octet past =
+    ap (λ t. reverse t ++ past) (low_bits-next place octet)
+    ∙ ap (λ t. t ++ past) (reverse-append (low_bits place octet) (nat_eq (bit_and (octet / 2 ^ place) 1) 1 ∷ []))
+
+-- the bits of the octets of a line with one octet more
+pub with_bits-octet : (past : List ℕ) (octet : ℕ) → reverse (bits (past ++ octet ∷ [])) ≡ with_bits 8 octet (reverse (bits past))
+with_bits-octet past octet = ap reverse (bits-push past octet) ∙ reverse-append (bits past) (low_bits 8 octet)
+
+-- a bit that brings nothing leaves what was heard
+pub told_nothing_more : (room : ℕ) (past so_far : List Bool) (b : Bool) (before after : Option Event) → heard_until room so_far ≡ heard_until room past ++ option_to_list before → None ≡ heard_at room (b ∷ so_far) → before ≡ after → heard_until room (b ∷ so_far) ≡ heard_until room past ++ option_to_list after
+told_nothing_more room past so_far b before after heard none same =
+    ap (λ o. heard_until room so_far ++ option_to_list o) (sym none)
+    ∙ append-nil (heard_until room so_far)
+    ∙ heard ∙ ap (λ o. heard_until room past ++ option_to_list o) same
+
+-- and one that brings an event after nothing adds it
+pub told_event_more : (room : ℕ) (past so_far : List Bool) (b : Bool) (event : Option Event) → heard_until room so_far ≡ heard_until room past ++ [] → event ≡ heard_at room (b ∷ so_far) → heard_until room (b ∷ so_far) ≡ heard_until room past ++ option_to_list event
+told_event_more room past so_far b event heard e =
+    ap (λ o. heard_until room so_far ++ option_to_list o) (sym e)
+    ∙ ap (λ h. h ++ option_to_list event) (heard ∙ append-nil (heard_until room past))
+
+-- a young gap stays young for longer
+pub IsYoung-le : (m n : ℕ) (gap : Option Gap) → m ≤ n → IsYoung m gap → IsYoung n gap
+IsYoung-le m n None h y = tt
+IsYoung-le m n (Some g) h y = omega arith
+
+-- nothing has ended, or what has ended lies in octets that stay while the gap is young
+abbrev pub EndedEarlier : ℕ → Ended → Option Gap → Type 0
+EndedEarlier place last gap = (last ≡ ended.Nothing) ⊎ IsYoung place gap
+
+pub event_stays : (octets octets' : List ℕ) (last : Ended) (gap : Option Gap) (place : ℕ) → place < 8 → EndedEarlier place last gap → (IsYoung 7 gap → octets' ≡ octets) → event_in octets last ≡ event_in octets' last
+event_stays octets octets' last gap place h (inl nothing) stay =
+    ap (event_in octets) nothing ∙ sym (ap (event_in octets') nothing)
+event_stays octets octets' last gap place h (inr young) stay =
+    ap (λ o. event_in o last) (sym (stay (IsYoung-le place 7 gap (omega arith) young)))
+
+-- what has ended earlier stays so
+pub ended_still : (place : ℕ) (last : Ended) (gap gap' : Option Gap) → EndedEarlier place last gap → (IsYoung place gap → IsYoung (place + 1) gap') → EndedEarlier (place + 1) last gap'
+ended_still place last gap gap' (inl nothing) grows = inl nothing
+ended_still place last gap gap' (inr young) grows = inr (grows young)
+
+-- a second event in one octet cannot be
+pub nothing_before : (place : ℕ) (last next : Ended) (gap : Option Gap) → place < 8 → EndedEarlier place last gap → (IsYoung 7 gap → next ≡ ended.Nothing) → (next ≡ ended.Nothing → ⊥) → last ≡ ended.Nothing
+nothing_before place last next gap h (inl nothing) quiet some = nothing
+nothing_before place last next gap h (inr young) quiet some = absurd (some (quiet (IsYoung-le place 7 gap (omega arith) young)))

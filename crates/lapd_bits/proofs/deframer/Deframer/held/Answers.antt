@@ -1,0 +1,15 @@
+use Rattle.std.proofs.Common.{subst, sym, ◌∙◌}
+use Rattle.std.proofs.Common.{reverse}
+use Rattle.lapd_bits.specs.Bits.{bits}
+use Rattle.lapd_bits.specs.Deframer.{HoldsGap, open_gap}
+use Rattle.lapd_bits.proofs.BitSteps.{held_of_gap}
+use Rattle.lapd_bits.proofs.deframer.Deframer.held.Goals as goal
+
+pub returns-in-Some : goal.returns-in-Some
+returns-in-Some c =
+    record {
+      held = λ n201 past h.
+        let octets = c.args.self.now.octets.items in
+        let here = subst (λ g. HoldsGap octets g (open_gap (reverse (bits past)))) c.in-Some.is h.holds.open_is in
+        c.count.ensures ∙ held_of_gap n201 octets c.in-Some.gap past h.room here;
+    }

@@ -1,0 +1,28 @@
+use Rattle.std.proofs.Common.{sym, ◌∙◌, ap, true, arith, length, ◌≤◌, ◌<◌}
+use Rattle.lapd_bits.specs.Heard.{event_in}
+use Rattle.lapd_bits.specs.Deframer.{open_gap, run_of}
+use Rattle.lapd_bits.proofs.Hearing.{heard_at-one, heard_at-abort}
+use Rattle.lapd_bits.proofs.BitSteps.{kept_one, HoldsPast-one, HoldsPast-abort}
+use Rattle.lapd_bits.proofs.deframer.Deframer.one.Goals as goal
+
+pub returns-then-self-ge6-clause-stands : goal.returns-then-self-ge6-clause-stands
+returns-then-self-ge6-clause-stands c past h =
+    HoldsPast-abort c.args.self.now.octets.items c.given_up.new.self.octets.items c.args.self.now.ones c.given_up.new.self.ones c.args.self.now.gap c.given_up.new.self.gap past h
+    c.if-self-ge6.true c.given_up.ensures.ones c.given_up.ensures.gap
+
+pub returns-then-self-ge6-clause-told : goal.returns-then-self-ge6-clause-told
+returns-then-self-ge6-clause-told c past h =
+    let run = h.run in
+    ap (λ o. event_in o.items c.given_up.result) c.given_up.ensures.octets
+    ∙ c.given_up.ensures.told (open_gap past) h.open_is
+    ∙ sym (heard_at-abort (length c.args.self.now.octets.items) past (omega (arith, c.if-self-ge6.true)))
+
+pub returns-clause-stands : goal.returns-clause-stands
+returns-clause-stands c past h =
+    HoldsPast-one c.args.self.now.octets.items c.take.new.self.octets.items c.args.self.now.ones c.take.new.self.ones c.args.self.now.gap c.take.new.self.gap past h
+    c.if-self-ge6.false c.take.ensures.ones (c.take.ensures.stands (open_gap past) (kept_one (open_gap past)) h.open_is)
+
+pub returns-clause-told : goal.returns-clause-told
+returns-clause-told c past h =
+    let run = h.run in
+    sym (heard_at-one (length c.args.self.now.octets.items) past (omega (arith, c.if-self-ge6.false)))

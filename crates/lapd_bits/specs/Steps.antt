@@ -1,0 +1,36 @@
+-- What a deframer's private calls say of one bit more: what it makes of the open gap, and what it ends.
+use Rattle.std.specs.Prelude.{◌≡◌, ℕ, suc, ◌+◌, ◌<◌, Bool, true, false, List, [], ◌∷◌, ◌++◌, length, drop, reverse, Option, Some, None, option_map, IfSome, nat_lt, if◌then◌else◌}
+use Rattle.lapd_bits.specs.Bits.{low_bits}
+use Rattle.lapd_bits.specs.Stuffing.{unstuffed}
+use Rattle.lapd_bits.specs.Stream.{Event, dropped, gap_event}
+use Rattle.lapd_bits.specs.declared.heard.Cause.TheVariants.{Abort}
+use Rattle.lapd_bits.specs.declared.gap.Gap.{Gap}
+
+-- an open gap's bits, the latest first, with one more
+abbrev pub one_more : Bool → Option (List Bool) → Option (List Bool)
+one_more b = option_map (λ g. b ∷ g)
+
+-- a bit that stays among the gap's when stuffed 0s are taken out, and a 0 that does not
+abbrev pub IsKept : Bool → Option (List Bool) → Type 0
+IsKept b gap = IfSome gap (λ g. unstuffed (reverse (b ∷ g)) ≡ unstuffed (reverse g) ++ b ∷ [])
+
+abbrev pub IsStuffed : Option (List Bool) → Type 0
+IsStuffed gap = IfSome gap (λ g. unstuffed (reverse (false ∷ g)) ≡ unstuffed (reverse g))
+
+-- what the seventh contiguous 1 ends, of the gap that was open
+abbrev pub given_up_event : Option (List Bool) → Option Event
+given_up_event None = None
+given_up_event (Some g) = if nat_lt 7 (suc (length g)) then Some (dropped Abort) else None
+
+-- what a flag's last bit ends, of the gap that was open
+abbrev pub closed_event : ℕ → Option (List Bool) → Option Event
+closed_event room None = None
+closed_event room (Some g) = if nat_lt (length g) 8 then None else Some (gap_event room (reverse (drop 7 g)))
+
+-- the gap, if one is open, has had fewer than `n` bits
+abbrev pub IsYoung : ℕ → Option Gap → Type 0
+IsYoung n gap = IfSome gap (λ g. g.since < n)
+
+-- a stream with the `n` low bits of a number more, the latest first
+abbrev pub with_bits : ℕ → ℕ → List Bool → List Bool
+with_bits n octet past = reverse (low_bits n octet) ++ past

@@ -17,7 +17,7 @@ use Rattle.lapd_bits.specs.Deframer.{kept_count, Keeps, Assembles}
 use Rattle.lapd_bits.specs.declared.heard.Cause.TheVariants.{Ragged, Short, Fcs}
 use Rattle.lapd_bits.proofs.BitLemmas.{low_bits-add, low_bits-mod, length-low_bits, bits-push, same_from_low_bits}
 use Rattle.lapd_bits.proofs.Division.Holds.{HoldsDivision-preset}
-use Rattle.lapd_bits.proofs.StuffingOctets.{same-same_bits}
+use Rattle.lapd_bits.proofs.BitLemmas.{same_from_test}
 
 -- ---- one bit more above the low bits of a number
 
@@ -76,7 +76,7 @@ pub Keeps-more_overlong : (octets whole : List ℕ) (count register later o : �
 Keeps-more_overlong octets whole count register later o room k d =
     let many : length octets < length whole = ltb-true (length octets) (length whole) (sym k.too_many) in
     let longer : nat_lt (length octets) (length (whole ++ o ∷ [])) ≡ true =
-      lt-ltb (length octets) (length (whole ++ o ∷ [])) (omega (arith, length-append whole (o ∷ []))) in
+    lt-ltb (length octets) (length (whole ++ o ∷ [])) (omega (arith, length-append whole (o ∷ []))) in
     let four : count ≡ 4 = k.counted ∙ (rw (← k.too_many) refl) in
     record {
       counted = four ∙ sym (rw longer refl);
@@ -90,7 +90,7 @@ pub Keeps-first_overlong : (octets whole : List ℕ) (count register later o : �
 Keeps-first_overlong octets whole count register later o room full k d =
     let all : count ≡ length whole = k.counted ∙ (rw (← k.too_many) refl) in
     let longer : nat_lt (length octets) (length (whole ++ o ∷ [])) ≡ true =
-      lt-ltb (length octets) (length (whole ++ o ∷ [])) (omega (arith, length-append whole (o ∷ []))) in
+    lt-ltb (length octets) (length (whole ++ o ∷ [])) (omega (arith, length-append whole (o ∷ []))) in
     record {
       counted = sym (rw longer refl);
       too_many = sym longer;
@@ -107,7 +107,7 @@ Keeps-more octets whole count register later o room k d =
     let one : length (whole ++ o ∷ []) ≡ count + 1 = length-append whole (o ∷ []) ∙ omega arith in
     let same : length (set octets count o) ≡ length octets = length-set octets count o in
     let fits : nat_lt (length (set octets count o)) (length (whole ++ o ∷ [])) ≡ false =
-      le-ltb (length (set octets count o)) (length (whole ++ o ∷ [])) (omega arith) in
+    le-ltb (length (set octets count o)) (length (whole ++ o ∷ [])) (omega arith) in
     let before : take count octets ≡ whole = k.kept ∙ ap (λ n. take n whole) all ∙ take-length whole in
     record {
       counted = sym one ∙ sym (rw fits refl);
@@ -128,17 +128,17 @@ room_of octets len e h = omega arith
 pub over_by_count : (filled partial : ℕ) → filled ≢ 7 → same_bits (low_bits filled partial) flag_front ≡ false
 over_by_count filled partial h =
     false_from_ne_true (same_bits (low_bits filled partial) flag_front)
-    (λ same. h (sym (length-low_bits filled partial) ∙ ap length (same-same_bits (low_bits filled partial) flag_front same)))
+    (λ same. h (sym (length-low_bits filled partial) ∙ ap length (same_from_test (low_bits filled partial) flag_front same)))
 
 pub over_by_value : (filled partial : ℕ) → partial < 2 ^ filled → filled ≡ 7 → partial ≢ 126 → same_bits (low_bits filled partial) flag_front ≡ false
 unfolding low_bits
 over_by_value filled partial below seven h =
     false_from_ne_true (same_bits (low_bits filled partial) flag_front)
     (λ same.
-        let bits_are : low_bits 7 partial ≡ low_bits 7 126 =
-          ap (λ n. low_bits n partial) (sym seven) ∙ same-same_bits (low_bits filled partial) flag_front same in
-        let small : partial < 2 ^ 7 = subst (λ n. partial < 2 ^ n) seven below in
-        h (same_from_low_bits 7 partial 126 small (omega arith) bits_are))
+    let bits_are : low_bits 7 partial ≡ low_bits 7 126 =
+    ap (λ n. low_bits n partial) (sym seven) ∙ same_from_test (low_bits filled partial) flag_front same in
+    let small : partial < 2 ^ 7 = subst (λ n. partial < 2 ^ n) seven below in
+    h (same_from_low_bits 7 partial 126 small (omega arith) bits_are))
 
 -- and it is where it is the seven bits of 7E
 pub over_flag_front : (filled partial : ℕ) → filled ≡ 7 → partial ≡ 126 → same_bits (low_bits filled partial) flag_front ≡ true
@@ -188,7 +188,7 @@ pub KeepsMore-overlong : (octets whole : List ℕ) (count register later o : ℕ
 KeepsMore-overlong octets whole count register later o many e room k d =
     subst (λ b. Keeps octets count b later (whole ++ o ∷ [])) (sym e)
     (Keeps-more_overlong octets whole count register later o room (subst (λ b. Keeps octets count b register whole) e k)
-      (subst (HoldsDivision later) (sym (bits-push whole o)) d))
+    (subst (HoldsDivision later) (sym (bits-push whole o)) d))
 
 pub KeepsMore-first : (octets whole : List ℕ) (count register later o : ℕ) (many : Bool) → many ≡ false → 6 ≤ length octets → count ≡ length octets → Keeps octets count many register whole → HoldsDivision later (bits whole ++ low_bits 8 o) → Keeps octets 4 true later (whole ++ o ∷ [])
 KeepsMore-first octets whole count register later o many e room full k d =
@@ -199,7 +199,7 @@ pub KeepsMore : (octets whole : List ℕ) (count register later o : ℕ) (many :
 KeepsMore octets whole count register later o many e room k d =
     subst (λ b. Keeps (set octets count o) (count + 1) b later (whole ++ o ∷ [])) (sym e)
     (Keeps-more octets whole count register later o room (subst (λ b. Keeps octets count b register whole) e k)
-      (subst (HoldsDivision later) (sym (bits-push whole o)) d))
+    (subst (HoldsDivision later) (sym (bits-push whole o)) d))
 
 -- a frame that is kept whole: what is short, wrong or whole of it is told
 pub told-short : (octets whole : List ℕ) (count register : ℕ) (many : Bool) → many ≡ false → Keeps octets count many register whole → true ≡ is_short (take count octets) → judged (length octets) whole ≡ dropped Short

@@ -64,15 +64,15 @@ pub kept_zero : (past : List Bool) → run_of past ≢ 5 → run_of past ≢ 6 �
 kept_zero past not_five not_six =
     for_open past (λ g. unstuffed (reverse (false ∷ g)) ≡ unstuffed (reverse g) ++ false ∷ [])
     (λ g e.
-        let run = open_run past g e in
-        ap unstuffed (reverse-cons false g) ∙ unstuffed-push_zero (reverse g) (omega (arith, ones_after-reverse g)))
+    let run = open_run past g e in
+    ap unstuffed (reverse-cons false g) ∙ unstuffed-push_zero (reverse g) (omega (arith, ones_after-reverse g)))
 
 pub stuffed_zero : (past : List Bool) → run_of past ≡ 5 → IsStuffed (open_gap past)
 stuffed_zero past five =
     for_open past (λ g. unstuffed (reverse (false ∷ g)) ≡ unstuffed (reverse g))
     (λ g e.
-        let run = open_run past g e in
-        ap unstuffed (reverse-cons false g) ∙ unstuffed-push_stuffed (reverse g) (omega (arith, ones_after-reverse g)))
+    let run = open_run past g e in
+    ap unstuffed (reverse-cons false g) ∙ unstuffed-push_stuffed (reverse g) (omega (arith, ones_after-reverse g)))
 
 -- ---- what the fields stand for after the bit
 
@@ -166,10 +166,10 @@ held_of_gap n201 octets gap past room h = go (open_gap (reverse (bits past))) h
     go (Some g) held =
         let a = held.assembles in
         let size : length (unstuffed (reverse g)) ≡ 8 * length a.whole + gap.filled =
-          ap length a.assembled ∙ length-append (bits a.whole) (low_bits gap.filled gap.partial)
-          ∙ omega (arith, length-bits a.whole, length-low_bits gap.filled gap.partial) in
+        ap length a.assembled ∙ length-append (bits a.whole) (low_bits gap.filled gap.partial)
+        ∙ omega (arith, length-bits a.whole, length-low_bits gap.filled gap.partial) in
         let eighths : length (unstuffed (reverse g)) / 8 ≡ length a.whole =
-          ap (λ n. n / 8) size ∙ whole_octets (length a.whole) gap.filled gap.no_octet in
+        ap (λ n. n / 8) size ∙ whole_octets (length a.whole) gap.filled gap.no_octet in
         a.keeps.counted ∙ ap (λ r. kept_count r (length a.whole)) room ∙ ap (kept_count (room_for n201)) (sym eighths)
 
 -- ---- the eight bits of an octet, one after the other

@@ -61,7 +61,7 @@ heard_at-abort room past h = go (since_flag past) refl
     go (Some g) e =
         let run = run_of-gap past g e in
         let many : ends_abort (true ∷ g) ≡ true = abort_at (true ∷ g) (omega arith) in
-        ⊎_elim 
+        ⊎_elim
         (λ ended. told_nothing many ended ∙ ap given_up_event (sym (closed_gap past g e ended)))
         (λ going. told_abort many going ∙ ap given_up_event (sym (opened_gap past g e going)))
         (cases_Bool (has_abort g))

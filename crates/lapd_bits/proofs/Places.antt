@@ -106,8 +106,8 @@ run_of-gap (true ∷ past) g e =
     ⊎_elim
     (λ at. absurd (flag_ends_at_zero past at.0))
     (λ more. let again = run_of-gap past more.1.0 more.1.1 in
-      let same : latest_ones g ≡ suc (latest_ones more.1.0) = ap latest_ones more.1.2 in
-      omega arith)
+    let same : latest_ones g ≡ suc (latest_ones more.1.0) = ap latest_ones more.1.2 in
+    omega arith)
     (since_flag-cases true past g e)
 run_of-gap (false ∷ past) g e =
     ⊎_elim
@@ -127,18 +127,18 @@ gap_has_no_flag (true ∷ past) g e h =
     ⊎_elim
     (λ at. absurd (flag_ends_at_zero past at.0))
     (λ more. let none : has_abort (true ∷ more.1.0) ≡ false = sym (ap has_abort more.1.2) ∙ h in
-      let again = gap_has_no_flag past more.1.0 more.1.1 (or_parts (ends_abort (true ∷ more.1.0)) (has_abort more.1.0) none).1 in
-      subst NoFlag (sym more.1.2) again)
+    let again = gap_has_no_flag past more.1.0 more.1.1 (or_parts (ends_abort (true ∷ more.1.0)) (has_abort more.1.0) none).1 in
+    subst NoFlag (sym more.1.2) again)
     (since_flag-cases true past g e)
 gap_has_no_flag (false ∷ past) g e h =
     ⊎_elim
     (λ at. subst NoFlag (sym at.1) tt)
     (λ more. let none : has_abort more.1.0 ≡ false = sym (ap has_abort more.1.2) ∙ h in
-      let below = latest_ones-below more.1.0 none in
-      let run = run_of-gap past more.1.0 more.1.1 in
-      let other : run_of past ≡ 6 → ⊥ = eqb-false (run_of past) 6 (sym (ends_flag-run past) ∙ more.0) in
-      let fewer : latest_ones more.1.0 < 6 = omega arith in
-      subst NoFlag (sym more.1.2) (fewer, gap_has_no_flag past more.1.0 more.1.1 none))
+    let below = latest_ones-below more.1.0 none in
+    let run = run_of-gap past more.1.0 more.1.1 in
+    let other : run_of past ≡ 6 → ⊥ = eqb-false (run_of past) 6 (sym (ends_flag-run past) ∙ more.0) in
+    let fewer : latest_ones more.1.0 < 6 = omega arith in
+    subst NoFlag (sym more.1.2) (fewer, gap_has_no_flag past more.1.0 more.1.1 none))
     (since_flag-cases false past g e)
 
 -- such bits hold no six contiguous 1s, in order of time

@@ -8,8 +8,8 @@ use Rattle.lapd_bits.specs.Stuffing.{stuffed, unstuffed, same_bits, octets_sent}
 use Rattle.lapd_bits.specs.StuffingLaws.{AreOctets}
 use Rattle.lapd_bits.proofs.StuffingCounted.{ones_after, unstuffed_after, NoSix, unstuffed-counted, ones_after-append, unstuffed_after-append, ones_after-unstuffed_after}
 use Rattle.lapd_bits.proofs.StuffingShape.{ones_after-stuffed, stuffed-unstuffed, unstuffed-stuffed}
-use Rattle.lapd_bits.proofs.StuffingOctets.{octets_are_those_sent, none_where_none_sent, same-same_bits, same_bits-itself}
-use Rattle.lapd_bits.proofs.BitLemmas.{length-bits}
+use Rattle.lapd_bits.proofs.StuffingOctets.{octets_are_those_sent, none_where_none_sent}
+use Rattle.lapd_bits.proofs.BitLemmas.{length-bits, same_from_test, same_bits_self}
 
 -- a flag without its last bit
 abbrev pub flag_front : List Bool
@@ -102,7 +102,7 @@ pub octets_sent-assembled : (text : List Bool) (octets : List ℕ) (over : List 
 octets_sent-assembled text octets over p h short e =
     ⊎_elim
     (λ yes.
-    let left : over ≡ flag_front = same-same_bits over flag_front yes in
+    let left : over ≡ flag_front = same_from_test over flag_front yes in
     rw yes ((closed_where_sent text octets p h).0 (e ∙ ap (λ r. bits octets ++ r) left)))
     (λ no.
     rw no
@@ -110,5 +110,5 @@ octets_sent-assembled text octets over p h short e =
     (λ others are sent.
     let front = (closed_where_stuffed text (bits others) p).1 sent in
     let left : over ≡ flag_front = one_rest octets others over flag_front short (omega arith) (sym e ∙ front) in
-    false≢true (sym no ∙ ap (λ r. same_bits r flag_front) left ∙ same_bits-itself flag_front))))
+    false≢true (sym no ∙ ap (λ r. same_bits r flag_front) left ∙ same_bits_self flag_front))))
     (cases_Bool (same_bits over flag_front))

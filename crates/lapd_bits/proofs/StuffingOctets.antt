@@ -1,12 +1,10 @@
 -- Octets in a text: bits and numbers give each other back, and the octets found are those sent.
 use Rattle.std.proofs.Common.{◌≡◌, ℕ, ◌<◌, Bool, true, false, List, [], ◌∷◌, Some, None, refl, ap, sym, ◌∙◌, subst, cond}
-use Rattle.std.proofs.lemmas.Bool.{and_parts, false≢true}
 use Rattle.std.proofs.lemmas.List.Elements.{All-nil, All-cons, All-head, All-tail}
-use Rattle.std.specs.Bool.{beq}
 use Rattle.lapd_bits.specs.Bits.{bits, low_bits}
 use Rattle.lapd_bits.specs.Stuffing.{stuffed, unstuffed, octets_of, same_bits, octets_sent}
 use Rattle.lapd_bits.specs.StuffingLaws.{AreOctets, OctetsAreThoseSent, NoneWhereNoneSent}
-use Rattle.lapd_bits.proofs.BitLemmas.{number_of-lt, number_of-low_bits}
+use Rattle.lapd_bits.proofs.BitLemmas.{number_of-lt, number_of-low_bits, same_from_test, same_bits_self}
 use Rattle.lapd_bits.proofs.StuffingShape.{unstuffed-stuffed}
 
 -- the octets of the bits of octets are these octets
@@ -23,29 +21,6 @@ AreOctets-octets_of (a ∷ b ∷ c ∷ d ∷ e ∷ f ∷ g ∷ h ∷ bs) =
     All-cons (λ x. x < 256) _ _ (number_of-lt (a ∷ b ∷ c ∷ d ∷ e ∷ f ∷ g ∷ h ∷ [])) (AreOctets-octets_of bs)
 AreOctets-octets_of _ = All-nil (λ x. x < 256)
 
--- the test of sameness
-same-beq : (a b : Bool) → beq a b ≡ true → a ≡ b
-same-beq true true h = refl
-same-beq true false h = absurd (false≢true h)
-same-beq false true h = absurd (false≢true h)
-same-beq false false h = refl
-
-beq-itself : (a : Bool) → beq a a ≡ true
-beq-itself true = refl
-beq-itself false = refl
-
-pub same-same_bits : (a b : List Bool) → same_bits a b ≡ true → a ≡ b
-same-same_bits [] [] h = refl
-same-same_bits [] (y ∷ b) h = absurd (false≢true h)
-same-same_bits (x ∷ a) [] h = absurd (false≢true h)
-same-same_bits (x ∷ a) (y ∷ b) h =
-    let parts = and_parts (beq x y) (same_bits a b) h in
-    ap (λ z. z ∷ a) (same-beq x y parts.0) ∙ ap (λ l. y ∷ l) (same-same_bits a b parts.1)
-
-pub same_bits-itself : (a : List Bool) → same_bits a a ≡ true
-same_bits-itself [] = refl
-same_bits-itself (x ∷ a) = rw (beq-itself x, same_bits-itself a)
-
 -- a choice that gave octets
 chosen : (t : Bool) (xs ys : List ℕ) → cond t (Some xs) None ≡ Some ys → (t ≡ true) × (xs ≡ ys)
 chosen true xs ys h = (refl, cc)
@@ -56,14 +31,14 @@ octets_sent-stuffed octets h =
     let found : octets_of (unstuffed (stuffed (bits octets))) ≡ octets =
     ap octets_of (unstuffed-stuffed (bits octets)) ∙ octets_of-bits octets h in
     ap (λ l. cond (same_bits (stuffed (bits l)) (stuffed (bits octets))) (Some l) None) found
-    ∙ ap (λ t. cond t (Some octets) None) (same_bits-itself (stuffed (bits octets)))
+    ∙ ap (λ t. cond t (Some octets) None) (same_bits_self (stuffed (bits octets)))
 
 pub octets_are_those_sent : OctetsAreThoseSent
 octets_are_those_sent text octets = (
   λ e.
       let found = octets_of (unstuffed text) in
       let c = chosen (same_bits (stuffed (bits found)) text) found octets e in (
-        sym (same-same_bits (stuffed (bits found)) text c.0) ∙ ap (λ l. stuffed (bits l)) c.1,
+        sym (same_from_test (stuffed (bits found)) text c.0) ∙ ap (λ l. stuffed (bits l)) c.1,
         subst AreOctets c.1 (AreOctets-octets_of (unstuffed text)),
       ),
   λ s. ap octets_sent s.0 ∙ octets_sent-stuffed octets s.1,
@@ -83,5 +58,5 @@ none_where_none_sent text = (
   λ h.
       let found = octets_of (unstuffed text) in
       none_chosen (same_bits (stuffed (bits found)) text) found
-      (λ e. h found (AreOctets-octets_of (unstuffed text)) (sym (same-same_bits (stuffed (bits found)) text e))),
+      (λ e. h found (AreOctets-octets_of (unstuffed text)) (sym (same_from_test (stuffed (bits found)) text e))),
 )

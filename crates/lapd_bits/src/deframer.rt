@@ -3,11 +3,10 @@ ghost use Rattle.std.specs.Option.{ForSome};
 ghost use Rattle.lapd_bits.specs.Bits.{low_bits};
 ghost use Rattle.lapd_bits.specs.Stream.{heard_in, heard_until, heard_at};
 
-use std::alloc::Global;
-
 use crate::gap::{Ended, Gap};
 use crate::heard::{Cause, Heard};
 use crate::start_fault::StartFault;
+use std::alloc::Global;
 
 /// Hears the frames of a line in its octets: finds the flags, takes the stuffed 0s out, and checks what
 /// stands between (Q.921 clauses 2.2 to 2.10). Frames may begin and end at any bit of an octet.
@@ -97,8 +96,8 @@ impl Deframer {
             → HoldsPast self.new.octets.items self.new.ones self.new.gap (with_bits 8 octet past) }
         ensures told { (past : List Bool) → HoldsPast self.old.octets.items self.old.ones self.old.gap past
             → heard_until (length self.old.octets.items) (with_bits 8 octet past)
-                ≡ heard_until (length self.old.octets.items) past
-                    ++ option_to_list (event_in self.new.octets.items result) }
+            ≡ heard_until (length self.old.octets.items) past
+            ++ option_to_list (event_in self.new.octets.items result) }
     {
         let mut ended = Ended::Nothing;
         for place in 0..8u8 {

@@ -148,7 +148,7 @@ impl Gap {
         ensures fits { FitsIn (vec_len octets.now) result }
         ensures told { (whole : List ℕ) → KeepsIn octets.now.items self.now whole
             → event_in octets.now.items result ≡ Some (closing_event (length octets.now.items) whole
-                (low_bits self.now.filled self.now.partial)) }
+            (low_bits self.now.filled self.now.partial)) }
     {
         if self.filled != FLAG_BEGUN_BITS || self.partial != FLAG_BEGUN {
             return Ended::Dropped(Cause::Ragged);

@@ -1,13 +1,21 @@
 //! The bits of a line: flags, bit stuffing, aborts and the frame check of ITU-T Q.921 clause 2.
+//!
+//! A [`Deframer`] hears the frames in the octets of a line, and a [`Framer`] gives the octets for frames to be
+//! sent. Both take all their memory when they start.
 #![tactic(auto)]
 
 mod check;
 mod deframer;
+mod framer;
 mod gap;
 mod heard;
 mod start_fault;
+mod stuffer;
+mod stuffing;
 
 pub use check::{fcs, only_check};
 pub use deframer::Deframer;
+pub use framer::Framer;
 pub use heard::{Cause, Heard};
 pub use start_fault::StartFault;
+pub use stuffing::{octets_of_a_text, one_stuffed_text, stuffed_texts};

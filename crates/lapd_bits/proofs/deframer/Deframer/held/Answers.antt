@@ -9,7 +9,7 @@ pub returns-in-Some : goal.returns-in-Some
 returns-in-Some c =
     record {
       held = λ n201 past h.
-        let octets = c.args.self.now.octets.items in
-        let here = subst (λ g. HoldsGap octets g (open_gap (reverse (bits past)))) c.in-Some.is h.holds.open_is in
-        c.count.ensures ∙ held_of_gap n201 octets c.in-Some.gap past h.room here;
+          let octets = c.args.self.now.octets.items in
+          let here = subst (λ g. HoldsGap octets g (open_gap (reverse (bits past)))) c.in-Some.is h.holds.open_is in
+          c.count.ensures ∙ held_of_gap n201 octets c.in-Some.gap past h.room here;
     }

@@ -1,0 +1,62 @@
+-- What a framer stands for, one item or one octet more.
+use Rattle.std.proofs.Common.{◌≡◌, ℕ, ◌<◌, ◌≤◌, List, [], ◌∷◌, ◌++◌, length, refl, ap, sym, ◌∙◌, arith, ⊎_elim, append_assoc, length-append}
+use Rattle.std.proofs.lemmas.Bool.{lt-ltb, le-ltb, cases_lt}
+use Rattle.std.proofs.lemmas.List.{flat_map_more}
+use Rattle.lapd_bits.specs.Bits.{bits, flag, low_bits}
+use Rattle.lapd_bits.specs.Sent.{Item, idle, frame, frame_text, item_text, line_text}
+use Rattle.lapd_bits.specs.Framer.{Framing, Stands, refilled, with_idle, still_held, item_octets, last_octets}
+use Rattle.lapd_bits.proofs.BitLemmas.{length-low_bits, bits-push}
+
+pub line_text-push : (items : List Item) (item : Item) → line_text (items ++ item ∷ []) ≡ line_text items ++ item_text item
+line_text-push items item = sym (flat_map_more item_text flag items item)
+
+pub last_octets-push : (items : List Item) (item : Item) → last_octets (items ++ item ∷ []) ≡ item_octets item
+last_octets-push [] item = refl
+last_octets-push (x ∷ []) item = refl
+last_octets-push (x ∷ y ∷ items) item = last_octets-push (y ∷ items) item
+
+-- One octet more is given.
+pub Stands-octet : (old new : Framing) (octet : ℕ) (items : List Item) (given : List ℕ) → low_bits 8 octet ++ new.left ≡ refilled old.left → new.held ≡ still_held new.left old.held → Stands old items given → Stands new (with_idle old.left items) (given ++ octet ∷ [])
+Stands-octet old new octet items given bits_are held_is s =
+    let moved : bits given ++ (low_bits 8 octet ++ new.left) ≡ bits (given ++ octet ∷ []) ++ new.left =
+    sym (append_assoc (bits given) (low_bits 8 octet) new.left) ∙ ap (λ l. l ++ new.left) (sym (bits-push given octet)) in
+    ⊎_elim
+    (λ low.
+    let taken : low_bits 8 octet ++ new.left ≡ old.left ++ flag = rw (lt-ltb (length old.left) 8 low) at bits_are in
+    let size = ap length taken in
+    let fewer : length new.left < 8 =
+    omega (arith, length-append (low_bits 8 octet) new.left, length-append old.left flag, length-low_bits 8 octet, size) in
+    rw (lt-ltb (length old.left) 8 low)
+    record {
+      text =
+          line_text-push items idle
+          ∙ ap (λ l. l ++ flag) s.text
+          ∙ append_assoc (bits given) old.left flag
+          ∙ ap (λ l. bits given ++ l) (sym taken)
+          ∙ moved;
+      held = rw (lt-ltb (length new.left) 8 fewer) (rw (lt-ltb (length new.left) 8 fewer) at held_is);
+    })
+    (λ enough.
+    let taken : low_bits 8 octet ++ new.left ≡ old.left = rw (le-ltb (length old.left) 8 enough) at bits_are in
+    let same : old.held ≡ last_octets items = rw (le-ltb (length old.left) 8 enough) at s.held in
+    rw (le-ltb (length old.left) 8 enough)
+    record {
+      text = s.text ∙ ap (λ l. bits given ++ l) (sym taken) ∙ moved;
+      held = held_is ∙ ap (still_held new.left) same;
+    })
+    (cases_lt (length old.left) 8)
+
+-- One frame more is loaded.
+pub Stands-load : (old new : Framing) (octets : List ℕ) (latest : ℕ) (items : List Item) (given : List ℕ) → new.left ≡ old.left ++ item_text (frame octets) → new.held ≡ still_held new.left latest → latest ≡ length octets → Stands old items given → Stands new (items ++ frame octets ∷ []) given
+Stands-load old new octets latest items given left_is held_is latest_is s =
+    let text = item_text (frame octets) in
+    let many : 8 ≤ length new.left =
+    omega (arith, ap length left_is, length-append old.left text, length-append (frame_text octets) flag) in
+    record {
+      text =
+          line_text-push items (frame octets)
+          ∙ ap (λ l. l ++ text) s.text
+          ∙ append_assoc (bits given) old.left text
+          ∙ ap (λ l. bits given ++ l) (sym left_is);
+      held = rw (le-ltb (length new.left) 8 many) (rw (le-ltb (length new.left) 8 many) at held_is ∙ latest_is ∙ sym (last_octets-push items (frame octets)));
+    }

@@ -1,6 +1,6 @@
 -- How a deframer's fields follow the bits of an open gap: octets are put together, kept and divided.
-use Rattle.std.proofs.Common.{◌≡◌, ◌≢◌, ℕ, suc, ◌+◌, ◌-◌, ◌*◌, ◌/◌, ◌%◌, ◌^◌, ◌<◌, ◌≤◌, Bool, true, false, List, [], ◌∷◌, ◌++◌, length, take, set, min, All, Some, nat_eq, nat_lt, cond, refl, ap, sym, ◌∙◌, subst, arith, ⊎_elim, length-append, append_assoc, add-one}
-use Rattle.std.proofs.lemmas.Bool.{lt-ltb, le-ltb, ltb-true, ltb-false, ne_eqb, false_from_ne_true, cases_Bool, true≢false}
+use Rattle.std.proofs.Common.{◌≡◌, ◌≢◌, ℕ, ◌+◌, ◌-◌, ◌*◌, ◌/◌, ◌%◌, ◌^◌, ◌<◌, ◌≤◌, Bool, true, false, List, [], ◌∷◌, ◌++◌, length, take, set, nat_eq, nat_lt, refl, ap, sym, ◌∙◌, subst, arith, length-append, append_assoc}
+use Rattle.std.proofs.lemmas.Bool.{lt-ltb, le-ltb, ltb-true, ne_eqb, false_from_ne_true}
 use Rattle.std.proofs.lemmas.List.{take-append-le, take-take, take_more_set, append-nil}
 use Rattle.std.proofs.lemmas.List.Elements.{All-nil, All-cons, All-append}
 use Rattle.std.proofs.lemmas.Nat.{pow_pos, pow_below}
@@ -11,9 +11,9 @@ use Rattle.lapd_bits.specs.Bits.{bits, low_bits}
 use Rattle.lapd_bits.specs.Stuffing.{same_bits}
 use Rattle.lapd_bits.specs.Check.{is_good}
 use Rattle.lapd_bits.specs.CheckLaws.{HoldsDivision}
-use Rattle.lapd_bits.specs.Stream.{Event, frame, overlong, dropped, is_short, judged}
+use Rattle.lapd_bits.specs.Stream.{frame, overlong, dropped, is_short, judged}
 use Rattle.lapd_bits.specs.Heard.{flag_front, closing_event}
-use Rattle.lapd_bits.specs.Deframer.{kept_count, Keeps, Assembles}
+use Rattle.lapd_bits.specs.Deframer.{Keeps, Assembles}
 use Rattle.lapd_bits.specs.declared.heard.Cause.TheVariants.{Ragged, Short, Fcs}
 use Rattle.lapd_bits.proofs.BitLemmas.{low_bits-add, low_bits-mod, length-low_bits, bits-push, same_from_low_bits}
 use Rattle.lapd_bits.proofs.Division.Holds.{HoldsDivision-preset}

@@ -1,14 +1,14 @@
 -- One bit more of a line: what a deframer's fields then stand for, and what the bit ends.
-use Rattle.std.proofs.Common.{◌≡◌, ◌≢◌, ℕ, suc, ◌+◌, ◌*◌, ◌/◌, ◌%◌, ◌^◌, ◌<◌, ◌≤◌, Bool, true, false, List, [], ◌∷◌, ◌++◌, length, take, drop, reverse, min, Option, Some, None, option_and_then, IfSome, option_to_list, nat_lt, nat_eq, cond, refl, ap, sym, ◌∙◌, subst, arith, ⊎_elim, length-append, append_assoc, ◌⊎◌, inl, inr, bit_and}
+use Rattle.std.proofs.Common.{◌≡◌, ◌≢◌, ℕ, ◌+◌, ◌*◌, ◌/◌, ◌^◌, ◌<◌, ◌≤◌, Bool, true, false, List, [], ◌∷◌, ◌++◌, length, drop, reverse, Option, Some, None, option_and_then, IfSome, option_to_list, nat_lt, nat_eq, cond, refl, ap, sym, ◌∙◌, subst, arith, length-append, ◌⊎◌, inl, inr, bit_and}
 use Rattle.std.specs.Option.{option_map_or}
-use Rattle.std.proofs.lemmas.Bool.{cases_Bool, le-ltb}
+use Rattle.std.proofs.lemmas.Bool.{le-ltb}
 use Rattle.std.proofs.lemmas.List.{reverse-append, append-nil}
 use Rattle.lapd_bits.specs.Bits.{bits, low_bits}
 use Rattle.lapd_bits.specs.Stuffing.{unstuffed, octets_sent, same_bits}
 use Rattle.lapd_bits.specs.Stream.{Event, dropped, judged, since_flag, has_abort, text_event, gap_event, room_for, heard_at, heard_until}
 use Rattle.lapd_bits.specs.Heard.{flag_front, closing_event, event_in}
 use Rattle.lapd_bits.specs.Steps.{one_more, IsKept, IsStuffed, closed_event, IsYoung, with_bits}
-use Rattle.lapd_bits.specs.Deframer.{run_of, open_gap, kept_count, KeepsIn, HoldsBits, HoldsGap, HoldsPast, Stands, octets_held}
+use Rattle.lapd_bits.specs.Deframer.{run_of, open_gap, kept_count, KeepsIn, HoldsGap, HoldsPast, octets_held}
 use Rattle.lapd_bits.specs.declared.gap.Gap.{Gap}
 use Rattle.lapd_bits.specs.declared.gap.Ended.{Ended}
 use Rattle.lapd_bits.specs.declared.gap.Ended.TheVariants as ended

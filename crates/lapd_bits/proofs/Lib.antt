@@ -12,3 +12,5 @@ pub mod FramerBits
 pub mod FramerOctet
 pub mod FramerStands
 pub mod FramerLoad
+pub mod RoundTripPlaces
+pub mod RoundTripFrame

@@ -1,8 +1,8 @@
 -- What a deframer holds of the octets that a line has brought so far.
-use Rattle.std.specs.Prelude.{◌≡◌, ℕ, ◌+◌, ◌*◌, ◌^◌, ◌<◌, ◌/◌, Bool, true, false, List, [], ◌∷◌, ◌++◌, length, take, reverse, min, All, Option, Some, None, option_and_then, nat_lt, if◌then◌else◌}
+use Rattle.std.specs.Prelude.{◌≡◌, ℕ, ◌+◌, ◌<◌, ◌/◌, Bool, true, false, List, [], ◌∷◌, ◌++◌, length, take, reverse, min, All, Option, Some, None, option_and_then, nat_lt, if◌then◌else◌}
 use Rattle.std.specs.Option.{option_map_or}
 use Rattle.lapd_bits.specs.Bits.{low_bits, bits}
-use Rattle.lapd_bits.specs.Stuffing.{unstuffed, octets_of}
+use Rattle.lapd_bits.specs.Stuffing.{unstuffed}
 use Rattle.lapd_bits.specs.CheckLaws.{HoldsDivision}
 use Rattle.lapd_bits.specs.Stream.{since_flag, has_abort, room_for}
 use Rattle.lapd_bits.specs.declared.gap.Gap.{Gap}

@@ -13,3 +13,4 @@ pub mod Steps
 pub mod Framer
 pub mod FramerText
 pub mod FramerFields
+pub mod RoundTrip

@@ -1,5 +1,5 @@
 -- What a deframer's private calls say of one bit more: what it makes of the open gap, and what it ends.
-use Rattle.std.specs.Prelude.{◌≡◌, ℕ, suc, ◌+◌, ◌<◌, Bool, true, false, List, [], ◌∷◌, ◌++◌, length, drop, reverse, Option, Some, None, option_map, IfSome, nat_lt, if◌then◌else◌}
+use Rattle.std.specs.Prelude.{◌≡◌, ℕ, suc, ◌<◌, Bool, false, List, [], ◌∷◌, ◌++◌, length, drop, reverse, Option, Some, None, option_map, IfSome, nat_lt, if◌then◌else◌}
 use Rattle.lapd_bits.specs.Bits.{low_bits}
 use Rattle.lapd_bits.specs.Stuffing.{unstuffed}
 use Rattle.lapd_bits.specs.Stream.{Event, dropped, gap_event}

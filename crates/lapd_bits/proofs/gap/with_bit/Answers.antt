@@ -1,5 +1,4 @@
-use Rattle.std.proofs.Common.{◌≡◌, ℕ, ◌+◌, ◌*◌, ◌^◌, ◌%◌, ◌++◌, ◌∷◌, [], ap, sym, ◌∙◌, arith}
-use Rattle.std.proofs.Math.Nat.{mod-eq_of_lt, one-mul}
+use Rattle.std.proofs.Common.{◌+◌, ◌++◌, ◌∷◌, [], ap, sym, ◌∙◌}
 use Rattle.lapd_bits.specs.Bits.{low_bits}
 use Rattle.lapd_bits.proofs.Assembly.{low_bits-with_one, low_bits-with_zero, bit_weight}
 use Rattle.lapd_bits.proofs.gap.with_bit.Goals as goal

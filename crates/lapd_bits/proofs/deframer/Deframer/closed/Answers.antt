@@ -1,4 +1,4 @@
-use Rattle.std.proofs.Common.{subst, sym, ◌∙◌, ap, arith, ◌≤◌, length}
+use Rattle.std.proofs.Common.{subst, arith, ◌≤◌}
 use Rattle.lapd_bits.specs.Deframer.{HoldsGap, open_gap}
 use Rattle.lapd_bits.specs.Heard.{event_in}
 use Rattle.lapd_bits.proofs.BitSteps.{closed_told}

@@ -1,4 +1,4 @@
-use Rattle.std.proofs.Common.{subst, sym, ◌∙◌}
+use Rattle.std.proofs.Common.{subst, ◌∙◌}
 use Rattle.std.proofs.Common.{reverse}
 use Rattle.lapd_bits.specs.Bits.{bits}
 use Rattle.lapd_bits.specs.Deframer.{HoldsGap, open_gap}

@@ -1,6 +1,6 @@
-use Rattle.std.proofs.Common.{sym, ◌∙◌, ap, true, arith, length, ◌≤◌, ◌<◌}
+use Rattle.std.proofs.Common.{sym, ◌∙◌, ap, arith, length}
 use Rattle.lapd_bits.specs.Heard.{event_in}
-use Rattle.lapd_bits.specs.Deframer.{open_gap, run_of}
+use Rattle.lapd_bits.specs.Deframer.{open_gap}
 use Rattle.lapd_bits.proofs.Hearing.{heard_at-one, heard_at-abort}
 use Rattle.lapd_bits.proofs.BitSteps.{kept_one, HoldsPast-one, HoldsPast-abort}
 use Rattle.lapd_bits.proofs.deframer.Deframer.one.Goals as goal

@@ -1,8 +1,6 @@
-use Rattle.std.proofs.Common.{sym, ◌∙◌, ap, false, arith, length, ◌≢◌}
-use Rattle.lapd_bits.specs.Heard.{event_in}
-use Rattle.lapd_bits.specs.Deframer.{open_gap, run_of}
-use Rattle.lapd_bits.proofs.Hearing.{heard_at-zero, heard_at-flag}
-use Rattle.lapd_bits.proofs.BitSteps.{kept_zero, stuffed_zero, HoldsPast-zero, HoldsPast-flag}
+use Rattle.std.proofs.Common.{sym, ◌∙◌}
+use Rattle.lapd_bits.specs.Deframer.{open_gap}
+use Rattle.lapd_bits.proofs.BitSteps.{kept_zero, stuffed_zero, HoldsPast-zero}
 use Rattle.lapd_bits.proofs.deframer.Deframer.zero.Goals as goal
 
 pub returns-then-ones-eq5-clause-stands : goal.returns-then-ones-eq5-clause-stands

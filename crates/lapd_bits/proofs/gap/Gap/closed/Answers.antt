@@ -1,5 +1,5 @@
-use Rattle.std.proofs.Common.{ap, sym, ◌∙◌, Some, vec_len, length, true, false}
-use Rattle.lapd_bits.specs.Bits.{bits, low_bits}
+use Rattle.std.proofs.Common.{ap, sym, ◌∙◌, Some, vec_len, length}
+use Rattle.lapd_bits.specs.Bits.{bits}
 use Rattle.lapd_bits.proofs.Assembly.{over_by_count, over_by_value, over_flag_front, closing-ragged, closing-judged, judged-wrong, told-short, told-overlong, told-frame, not_short, not_short_overlong, room_of}
 use Rattle.lapd_bits.proofs.gap.Gap.closed.Goals as goal
 use Rattle.lapd_bits.proofs.gap.Gap.closed.Goals.{then-self-ne-FLAG_BEGUN_BITS-via-then-self-ne-FLAG_BEGUN_BITS, then-self-ne-FLAG_BEGUN_BITS-via-else-self-ne-FLAG_BEGUN_BITS+then-self-ne-FLAG_BEGUN, else-not-self-via-then-not-self+else-is_short, else-not-self-via-else-not-self}

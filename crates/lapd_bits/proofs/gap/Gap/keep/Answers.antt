@@ -1,4 +1,4 @@
-use Rattle.std.proofs.Common.{ap, sym, ◌∙◌, arith, ◌<◌, length, vec_len}
+use Rattle.std.proofs.Common.{◌∙◌, arith, vec_len}
 use Rattle.lapd_bits.specs.Bits.{bits}
 use Rattle.lapd_bits.proofs.Assembly.{KeepsMore-overlong, KeepsMore-first, KeepsMore, room_of}
 use Rattle.lapd_bits.proofs.gap.Gap.keep.Goals as goal

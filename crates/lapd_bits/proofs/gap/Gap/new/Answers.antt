@@ -1,4 +1,3 @@
-use Rattle.std.proofs.Common.{[], refl}
 use Rattle.lapd_bits.proofs.Assembly.{Assembles-none}
 use Rattle.lapd_bits.proofs.gap.Gap.new.Goals as goal
 

@@ -1,4 +1,4 @@
-use Rattle.std.proofs.Common.{◌≡◌, ◌∙◌, ℕ, arith}
+use Rattle.std.proofs.Common.{◌≡◌, arith}
 use Rattle.lapd_bits.proofs.Assembly.{Assembles-bit, Assembles-octet, Keeps_same}
 use Rattle.lapd_bits.proofs.gap.Gap.take.Goals as goal
 

@@ -1,0 +1,15 @@
+pub mod Config
+pub mod Notes
+pub mod Frames
+pub mod Answer
+pub mod Link
+pub mod Outcome
+pub mod Reply
+pub mod Sink
+pub mod Card
+pub mod Event
+pub mod Machine
+pub mod Run
+pub mod Stands
+pub mod Steps
+pub mod Counts

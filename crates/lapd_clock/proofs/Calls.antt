@@ -1,0 +1,116 @@
+-- What the calls of a clock do to the set that its lines stand for.
+use Rattle.std.proofs.Common.{◌≡◌, ℕ, zero, suc, ◌+◌, ◌<◌, ◌≤◌, Bool, true, false, cond, not, ◌==◌, nat_le, List, [], ◌∷◌, length, drop, get_or, set, Some, None, All, Contains, refl, sym, ap, ◌∙◌, subst, arith, length-set}
+use Rattle.std.specs.List.{AllByRecursion}
+use Rattle.std.proofs.lemmas.Bool.Decides.{nat_tests}
+use Rattle.std.proofs.lemmas.List.Elements.{All-from_recursion}
+use Rattle.std.proofs.lemmas.List.Sums.{length-filter, count_by-le-length}
+use Rattle.lapd_clock.specs.Order.{placed, IsInOrder}
+use Rattle.lapd_clock.specs.Timer.{Timer, Start, Stop, duration, is_same}
+use Rattle.lapd_clock.specs.Timers.{Expiry, Timers, is_before, without, finds_place, with_order, after_first_due, first_due}
+use Rattle.lapd_clock.specs.Sound.{IsSound, IsLeastDue}
+use Rattle.lapd_clock.specs.declared.line.Held.{Held}
+use Rattle.lapd_clock.specs.Places.{Line, held_before, all_but, from_line, in_order, timers_in, IsLineKept, IsKept}
+use Rattle.lapd_clock.proofs.Ordered.{IsInOrder-placed, IsInOrder-filter}
+use Rattle.lapd_clock.proofs.TimerOrder.{held_order}
+use Rattle.lapd_clock.proofs.StandsFor.{in_order-stopped, in_order-restarted, count_on-stopped}
+use Rattle.lapd_clock.proofs.Running.{finds_place-without, without-no_place}
+use Rattle.lapd_clock.proofs.First.{from_line-none, before_itself, no_earlier}
+
+-- ---- lines one by one
+
+pub All-at : (P : Line → Type 0) (lines : List Line) (k : ℕ) (u : Line) → k < length lines → u ≡ get_or lines k u → AllByRecursion P lines → P u
+All-at P [] k u within at h = absurd (omega arith)
+All-at P (l ∷ ls) zero u within at h = subst P (sym at) h.0
+All-at P (l ∷ ls) (suc k) u within at h = All-at P ls k u (omega arith) at h.1
+
+All-set : (P : Line → Type 0) (lines : List Line) (k : ℕ) (v : Line) → P v → AllByRecursion P lines → AllByRecursion P (set lines k v)
+All-set P [] k v p h = tt
+All-set P (l ∷ ls) zero v p h = (p, h.1)
+All-set P (l ∷ ls) (suc k) v p h = (h.0, All-set P ls k v p h.1)
+
+pub length-all_but : (t : Timer) (hs : List Held) → length (all_but t hs) ≤ length hs
+length-all_but t hs =
+    let p = λ (h : Held). not (is_same h.timer t) in omega (arith, length-filter p hs, count_by-le-length p hs)
+
+pub IsInOrder-restarted : (b : Bool) (h : Held) (t : Timer) (hs : List Held) → IsInOrder held_before hs → IsInOrder held_before (cond b (placed held_before h (all_but t hs)) (all_but t hs))
+IsInOrder-restarted true h t hs ordered = IsInOrder-placed held_before held_order h (all_but t hs) (IsInOrder-filter held_before held_order _ hs ordered)
+IsInOrder-restarted false h t hs ordered = IsInOrder-filter held_before held_order _ hs ordered
+
+pub IsInOrder-stopped : (t : Timer) (hs : List Held) → IsInOrder held_before hs → IsInOrder held_before (all_but t hs)
+IsInOrder-stopped t hs ordered = IsInOrder-filter held_before held_order _ hs ordered
+
+pub IsInOrder-drop_first : (hs : List Held) → IsInOrder held_before hs → IsInOrder held_before (drop 1 hs)
+IsInOrder-drop_first [] h = tt
+IsInOrder-drop_first (x ∷ xs) h = h.1
+
+-- ---- the clock as a whole
+
+pub same_timers : (lines m places : ℕ) (es fs : List Expiry) → lines ≡ m → es ≡ fs → ◌≡◌ {A = Timers} (record { lines = lines; places = places; running = es }) (record { lines = m; places = places; running = fs })
+same_timers lines m places es fs e f i = record { lines = e i; places = places; running = f i }
+
+pub timers_in-stopped : (places k : ℕ) (lines : List Line) (u v : Line) (t : Timer) (now : ℕ) → k < length lines → u ≡ get_or lines k u → v.items ≡ all_but t u.items → timers_in places (set lines k v) ≡ with_order (timers_in places lines) k (Stop t) now
+unfolding with_order
+timers_in-stopped places k lines u v t now within at new =
+    same_timers _ _ places _ _ (length-set lines k v) (in_order-stopped k lines u v t within at new)
+
+-- whether a timer of line k finds its place
+pub finds_place-restarted : (places k : ℕ) (lines : List Line) (u : Line) (t : Timer) → IsSound (timers_in places lines) → k < length lines → u ≡ get_or lines k u → finds_place (timers_in places lines) k (Start t) ≡ not (length (all_but t u.items) == places)
+finds_place-restarted places k lines u t sound within at =
+    finds_place-without (timers_in places lines) k t (sound.in_places k) ∙ ap (λ n. not (n == places)) (count_on-stopped k lines u t within at)
+
+pub timers_in-restarted : (b : Bool) (places k : ℕ) (lines : List Line) (u v : Line) (h : Held) (now : ℕ) → IsSound (timers_in places lines) → k < length lines → u ≡ get_or lines k u
+    → h.moment ≡ now + duration h.timer → b ≡ not (length (all_but h.timer u.items) == places) → v.items ≡ cond b (placed held_before h (all_but h.timer u.items)) (all_but h.timer u.items)
+    → timers_in places (set lines k v) ≡ with_order (timers_in places lines) k (Start h.timer) now
+unfolding with_order
+timers_in-restarted true places k lines u v h now sound within at moment placed_is new =
+    let found = finds_place-restarted places k lines u h.timer sound within at ∙ sym placed_is in
+    same_timers _ _ places _ _ (length-set lines k v) (in_order-restarted k lines u v h within at new)
+    ∙ ap (λ m. record { lines = length lines; places = places; running = placed is_before (record { moment = m; line = k; timer = h.timer }) (without k h.timer (in_order (from_line 0 lines))) }) moment
+    ∙ sym (ap (λ b. cond b (record { lines = length lines; places = places; running = placed is_before (record { moment = now + duration h.timer; line = k; timer = h.timer }) (without k h.timer (in_order (from_line 0 lines))) }) (timers_in places lines)) found)
+timers_in-restarted false places k lines u v h now sound within at moment placed_is new =
+    let found = finds_place-restarted places k lines u h.timer sound within at ∙ sym placed_is in
+    same_timers _ _ places _ _ (length-set lines k v) (in_order-stopped k lines u v h.timer within at new ∙ without-no_place (timers_in places lines) k h.timer found)
+    ∙ sym (ap (λ b. cond b (record { lines = length lines; places = places; running = placed is_before (record { moment = now + duration h.timer; line = k; timer = h.timer }) (without k h.timer (in_order (from_line 0 lines))) }) (timers_in places lines)) found)
+
+pub timers_in-none : (places : ℕ) (lines : List Line) → AllByRecursion (λ v. v.items ≡ []) lines → timers_in places lines ≡ record { lines = length lines; places = places; running = [] }
+unfolding in_order
+timers_in-none places lines h = same_timers _ _ places _ _ refl (ap in_order (from_line-none 0 lines h))
+
+-- one line changed: the clock keeps what it keeps
+pub kept_with : (places k : ℕ) (lines : List Line) (v : Line) → AllByRecursion (IsLineKept places) lines → IsLineKept places v → IsSound (timers_in places (set lines k v)) → IsKept places (set lines k v)
+kept_with places k lines v each one sound = record { each = All-set (IsLineKept places) lines k v one each; sound = sound }
+
+-- ---- what is due
+
+not_yet : (moment now : ℕ) → now < moment → nat_le moment now ≡ false
+not_yet moment now h = grind (arith, nat_tests)
+
+by_now : (moment now : ℕ) → moment ≤ now → nat_le moment now ≡ true
+by_now moment now h = grind (arith, nat_tests)
+
+pub none_due : (e : Expiry) (es : List Expiry) (now : ℕ) → now < e.moment → first_due (e ∷ es) now ≡ None
+none_due e es now h = ap (λ b. cond b (Some (e.line, e.timer)) None) (not_yet e.moment now h)
+
+pub none_taken : (e : Expiry) (es : List Expiry) (now : ℕ) → now < e.moment → after_first_due (e ∷ es) now ≡ e ∷ es
+none_taken e es now h = ap (λ b. cond b es (e ∷ es)) (not_yet e.moment now h)
+
+pub one_due : (e : Expiry) (es : List Expiry) (now : ℕ) → e.moment ≤ now → first_due (e ∷ es) now ≡ Some (e.line, e.timer)
+one_due e es now h = ap (λ b. cond b (Some (e.line, e.timer)) None) (by_now e.moment now h)
+
+pub one_taken : (e : Expiry) (es : List Expiry) (now : ℕ) → e.moment ≤ now → after_first_due (e ∷ es) now ≡ es
+one_taken e es now h = ap (λ b. cond b es (e ∷ es)) (by_now e.moment now h)
+
+pub all_later : (e : Expiry) (es : List Expiry) (now : ℕ) → IsInOrder is_before (e ∷ es) → now < e.moment → All (λ held. now < held.moment) (e ∷ es)
+all_later e es now h k = All-from_recursion (λ (held : Expiry). now < held.moment) (e ∷ es) (k, later es h.0)
+  where
+    later : (xs : List Expiry) → AllByRecursion (λ x. is_before x e ≡ false) xs → AllByRecursion (λ held. now < held.moment) xs
+    later [] h = tt
+    later (x ∷ xs) h = (omega (arith, no_earlier x e h.0), later xs h.1)
+
+pub first_is_least : (c : Timers) (e : Expiry) (es : List Expiry) (now : ℕ) → c.running ≡ e ∷ es → IsInOrder is_before (e ∷ es) → e.moment ≤ now → IsLeastDue c now e.line e.timer
+first_is_least c e es now is h k = record {
+  moment = e.moment;
+  held = subst (λ xs. Contains xs e) (sym is) (0, omega arith, refl);
+  due = k;
+  least = subst (All (λ other. is_before other e ≡ false)) (sym is) (All-from_recursion (λ other. is_before other e ≡ false) (e ∷ es) (before_itself e, h.0));
+}

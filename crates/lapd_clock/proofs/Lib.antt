@@ -1,0 +1,6 @@
+pub mod Ordered
+pub mod TimerOrder
+pub mod StandsFor
+pub mod Running
+pub mod First
+pub mod Calls

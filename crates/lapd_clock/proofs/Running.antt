@@ -1,0 +1,155 @@
+-- What the calls do to a set of running timers.
+use Rattle.std.proofs.Common.{◌≡◌, ℕ, ◌+◌, ◌<◌, ◌≤◌, Bool, true, false, cond, not, ◌&&◌, ◌||◌, ◌==◌, nat_lt, nat_le, List, [], ◌∷◌, filter, refl, sym, ap, ◌∙◌, subst, arith}
+use Rattle.std.specs.List.{AllByRecursion}
+use Rattle.std.proofs.lemmas.Bool.{false≢true}
+use Rattle.std.proofs.lemmas.Bool.Decides.{nat_tests}
+use Rattle.std.proofs.lemmas.List.Elements.{All-from_recursion, recursion_from_All}
+use Rattle.lapd_clock.specs.Order.{placed}
+use Rattle.lapd_clock.specs.Timer.{Timer, Order, Start, Stop, duration, is_same}
+use Rattle.lapd_clock.specs.Timers.{Expiry, Timers, is_before, is_of, is_held, without, count_on, finds_place, with_order, after_first_due}
+use Rattle.lapd_clock.specs.Sound.{IsSound, IsOneEach}
+use Rattle.lapd_clock.proofs.Ordered.{by_place, IsInOrder-placed, IsInOrder-filter, All-placed, All-filter, count_by-placed, count_by-cons}
+use Rattle.lapd_clock.proofs.TimerOrder.{before_order, is_same_both_ways}
+
+-- taking a timer out frees its place, if it has one
+count_on-without : (line : ℕ) (timer : Timer) (l : ℕ) (es : List Expiry) → count_on l (without line timer es) ≤ count_on l es
+count_on-without line timer l [] = omega arith
+count_on-without line timer l (e ∷ es) =
+    (elim (is_of line timer e) as (λ b. count_on l (cond (not b) (e ∷ without line timer es) (without line timer es)) ≤ count_on l (e ∷ es)) [
+      | true ↦ omega (arith, count_by-cons (λ x. x.line == l) e es, count_on-without line timer l es)
+      | false ↦ omega (arith, count_by-cons (λ x. x.line == l) e es, count_by-cons (λ x. x.line == l) e (without line timer es), count_on-without line timer l es)
+    ])
+
+count_on-held : (line : ℕ) (timer : Timer) (es : List Expiry) → is_held line timer es ≡ true → count_on line (without line timer es) < count_on line es
+count_on-held line timer [] = λ h. absurd (false≢true h)
+count_on-held line timer (e ∷ es) =
+    (elim (is_of line timer e) as (λ b. is_of line timer e ≡ b → (b || is_held line timer es) ≡ true → count_on line (cond (not b) (e ∷ without line timer es) (without line timer es)) < count_on line (e ∷ es)) [
+      | true ↦ λ of _. let on : (e.line == line) ≡ true = grind (arith, nat_tests) in
+          let counted : count_on line (e ∷ es) ≡ 1 + count_on line es = count_by-cons (λ x. x.line == line) e es ∙ ap (λ b. cond b 1 0 + count_on line es) on in
+          omega (arith, counted, count_on-without line timer line es)
+      | false ↦ λ _ h. omega (arith, count_by-cons (λ x. x.line == line) e es, count_by-cons (λ x. x.line == line) e (without line timer es), count_on-held line timer es h)
+    ]) refl
+
+pub without-not_held : (line : ℕ) (timer : Timer) (es : List Expiry) → is_held line timer es ≡ false → without line timer es ≡ es
+without-not_held line timer [] = λ _. refl
+without-not_held line timer (e ∷ es) =
+    (elim (is_of line timer e) as (λ b. (b || is_held line timer es) ≡ false → cond (not b) (e ∷ without line timer es) (without line timer es) ≡ e ∷ es) [
+      | true ↦ λ h. absurd (false≢true (sym h))
+      | false ↦ λ h. ap (λ l. e ∷ l) (without-not_held line timer es h)
+    ])
+
+-- a timer finds its place exactly where the line is not full without it
+pub finds_place-without : (c : Timers) (line : ℕ) (timer : Timer) → count_on line c.running ≤ c.places → finds_place c line (Start timer) ≡ not (count_on line (without line timer c.running) == c.places)
+unfolding finds_place
+finds_place-without c line timer fits =
+    (elim (is_held line timer c.running) as (λ b. is_held line timer c.running ≡ b → (b || nat_lt (count_on line c.running) c.places) ≡ not (count_on line (without line timer c.running) == c.places)) [
+      | true ↦ λ held. let less = count_on-held line timer c.running held in grind (arith, nat_tests)
+      | false ↦ λ held. rw (without-not_held line timer c.running held) (full (count_on line c.running) c.places fits)
+    ]) refl
+  where
+    full : (n places : ℕ) → n ≤ places → nat_lt n places ≡ not (n == places)
+    full n places h = grind (arith, nat_tests)
+
+-- where it finds none, it was not held
+pub without-no_place : (c : Timers) (line : ℕ) (timer : Timer) → finds_place c line (Start timer) ≡ false → without line timer c.running ≡ c.running
+unfolding finds_place
+without-no_place c line timer =
+    (elim (is_held line timer c.running) as (λ b. is_held line timer c.running ≡ b → (b || nat_lt (count_on line c.running) c.places) ≡ false → without line timer c.running ≡ c.running) [
+      | true ↦ λ _ h. absurd (false≢true (sym h))
+      | false ↦ λ held _. without-not_held line timer c.running held
+    ]) refl
+
+-- ---- what holds of every clock
+
+IsOneEach-filter : (p : Expiry → Bool) (es : List Expiry) → IsOneEach es → IsOneEach (filter p es)
+IsOneEach-filter p [] h = tt
+IsOneEach-filter p (e ∷ es) h =
+    elim (p e) as (λ b. IsOneEach (cond b (e ∷ filter p es) (filter p es))) [
+      | true ↦ (All-filter (λ other. is_of e.line e.timer other ≡ false) p es h.0, IsOneEach-filter p es h.1)
+      | false ↦ IsOneEach-filter p es h.1
+    ]
+
+same_line_both_ways : (m n : ℕ) → (m == n) ≡ (n == m)
+same_line_both_ways m n = grind (arith, nat_tests)
+
+other_way : (a b : Expiry) → is_of a.line a.timer b ≡ false → is_of b.line b.timer a ≡ false
+other_way a b h = ap (λ t. (a.line == b.line) && t) (is_same_both_ways a.timer b.timer) ∙ ap (λ t. t && is_same b.timer a.timer) (same_line_both_ways a.line b.line) ∙ h
+
+IsOneEach-placed : (e : Expiry) (es : List Expiry) → AllByRecursion (λ other. is_of e.line e.timer other ≡ false) es → IsOneEach es → IsOneEach (placed is_before e es)
+IsOneEach-placed e [] others h = (tt, tt)
+IsOneEach-placed e (x ∷ xs) others h =
+    by_place is_before e x xs IsOneEach
+    (λ _. (All-placed is_before (λ other. is_of x.line x.timer other ≡ false) e xs (other_way e x others.0) h.0, IsOneEach-placed e xs others.1 h.1))
+    (λ _. (others, h))
+
+none_of-without : (line : ℕ) (timer : Timer) (es : List Expiry) → AllByRecursion (λ other. is_of line timer other ≡ false) (without line timer es)
+none_of-without line timer [] = tt
+none_of-without line timer (e ∷ es) =
+    (elim (is_of line timer e) as (λ b. is_of line timer e ≡ b → AllByRecursion (λ other. is_of line timer other ≡ false) (cond (not b) (e ∷ without line timer es) (without line timer es))) [
+      | true ↦ λ _. none_of-without line timer es
+      | false ↦ λ h. (h, none_of-without line timer es)
+    ]) refl
+
+without_sound : (c : Timers) (line : ℕ) (timer : Timer) → IsSound c → IsSound (record c { running = without line timer c.running })
+without_sound c line timer h = record {
+  in_order = IsInOrder-filter is_before before_order _ c.running h.in_order;
+  one_each = IsOneEach-filter _ c.running h.one_each;
+  on_lines = All-from_recursion (λ e. e.line < c.lines) _ (All-filter (λ e. e.line < c.lines) _ c.running (recursion_from_All (λ e. e.line < c.lines) c.running h.on_lines));
+  in_places = λ l. omega (arith, count_on-without line timer l c.running, h.in_places l);
+}
+
+one_more_fits : (line l : ℕ) (f : ℕ → ℕ) (places : ℕ) → f line < places → f l ≤ places → cond (line == l) 1 0 + f l ≤ places
+one_more_fits line l f places less fits =
+    (elim (line == l) as (λ b. (line == l) ≡ b → cond b 1 0 + f l ≤ places) [
+      | true ↦ λ e. let same : line ≡ l = grind (arith, nat_tests) in let less_there : f l < places = subst (λ k. f k < places) same less in omega arith
+      | false ↦ λ _. omega arith
+    ]) refl
+
+room : (n places : ℕ) → n ≤ places → not (n == places) ≡ true → n < places
+room n places fits h = grind (arith, nat_tests)
+
+pub with_order_sound : (c : Timers) (line : ℕ) (order : Order) (now : ℕ) → line < c.lines → IsSound c → IsSound (with_order c line order now)
+unfolding with_order
+with_order_sound c line (Stop timer) now within h = without_sound c line timer h
+with_order_sound c line (Start timer) now within h =
+    let rest = without_sound c line timer h in
+    let e : Expiry = record { moment = now + duration timer; line = line; timer = timer } in
+    (elim (finds_place c line (Start timer)) as (λ b. finds_place c line (Start timer) ≡ b → IsSound (cond b (record c { running = placed is_before e (without line timer c.running) }) c)) [
+      | true ↦ λ found. record {
+        in_order = IsInOrder-placed is_before before_order e _ rest.in_order;
+        one_each = IsOneEach-placed e _ (none_of-without line timer c.running) rest.one_each;
+        on_lines = All-from_recursion (λ x. x.line < c.lines) _ (All-placed is_before (λ x. x.line < c.lines) e _ within (recursion_from_All (λ x. x.line < c.lines) _ rest.on_lines));
+        in_places = λ l. rw (count_by-placed is_before (λ x. x.line == l) e (without line timer c.running)) (one_more_fits line l (λ k. count_on k (without line timer c.running)) c.places (room (count_on line (without line timer c.running)) c.places (rest.in_places line) (sym (finds_place-without c line timer (h.in_places line)) ∙ found)) (rest.in_places l));
+      }
+      | false ↦ λ _. h
+    ]) refl
+
+pub none_sound : (lines places : ℕ) → IsSound (record { lines = lines; places = places; running = [] })
+none_sound lines places = record {
+  in_order = tt;
+  one_each = tt;
+  on_lines = All-from_recursion (λ x. x.line < lines) [] tt;
+  in_places = λ _. omega arith;
+}
+
+rest_sound : (lines places : ℕ) (e : Expiry) (es : List Expiry) → IsSound (record { lines = lines; places = places; running = e ∷ es }) → IsSound (record { lines = lines; places = places; running = es })
+rest_sound lines places e es h = record {
+  in_order = h.in_order.1;
+  one_each = h.one_each.1;
+  on_lines = All-from_recursion (λ x. x.line < lines) es (recursion_from_All (λ x. x.line < lines) (e ∷ es) h.on_lines).1;
+  in_places = λ l. omega (arith, h.in_places l, count_by-cons (λ x. x.line == l) e es);
+}
+
+pub after_due_sound : (lines places : ℕ) (es : List Expiry) (now : ℕ) → IsSound (record { lines = lines; places = places; running = es }) → IsSound (record { lines = lines; places = places; running = after_first_due es now })
+after_due_sound lines places [] now h = h
+after_due_sound lines places (e ∷ es) now h =
+    elim (nat_le e.moment now) as (λ b. IsSound (record { lines = lines; places = places; running = cond b es (e ∷ es) })) [
+      | true ↦ rest_sound lines places e es h
+      | false ↦ h
+    ]
+
+-- an order that finds no place changes nothing
+pub refused_unchanged : (c : Timers) (line : ℕ) (order : Order) (now : ℕ) → finds_place c line order ≡ false → with_order c line order now ≡ c
+unfolding with_order finds_place
+refused_unchanged c line (Start timer) now h = ap (λ b. cond b (record c { running = placed is_before (record { moment = now + duration timer; line = line; timer = timer }) (without line timer c.running) }) c) h
+refused_unchanged c line (Stop timer) now h = absurd (false≢true (sym h))

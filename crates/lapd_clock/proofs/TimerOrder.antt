@@ -1,0 +1,80 @@
+-- The order in which timers fall due is total, and only equal ones tie.
+use Rattle.std.proofs.Common.{◌≡◌, false, refl, sym, ap, ◌∙◌, arith}
+use Rattle.std.specs.declared.cmp.Ordering.{Ordering}
+use Rattle.std.specs.declared.cmp.Ordering.TheVariants.{Less, Equal, Greater}
+use Rattle.std.specs.Cmp.{IsTotalOrder, IsStrictWeakOrder}
+use Rattle.std.specs.Ordering.{nat_cmp, ordering_then, ordering_reverse, is_lt}
+use Rattle.std.proofs.lemmas.Bool.{false≢true}
+use Rattle.std.proofs.lemmas.Cmp.{nat_cmp_total, on_total, then_total, eq_by_cmp_equiv}
+use Rattle.std.proofs.lemmas.List.Sorted.{ranks_by}
+use Rattle.std.proofs.lemmas.Map.Lookups.{exact_unsigned}
+use Rattle.lapd_clock.specs.Timer.{Timer, T200, T203, T201, Service, Call, Packet, kind_rank, tei_rank, service_rank, rank_of_service, timer_cmp, is_same}
+use Rattle.lapd_clock.specs.Timers.{Expiry, expiry_cmp, is_before}
+use Rattle.lapd_clock.specs.declared.line.Held.{Held}
+use Rattle.lapd_clock.specs.Places.{held_before}
+
+-- the orders are total,
+pub timer_total : IsTotalOrder timer_cmp
+timer_total = then_total (on_total kind_rank nat_cmp_total) (then_total (on_total tei_rank nat_cmp_total) (on_total service_rank nat_cmp_total))
+
+pub expiry_total : IsTotalOrder expiry_cmp
+expiry_total = then_total (on_total (λ (e : Expiry). e.moment) nat_cmp_total) (then_total (on_total (λ (e : Expiry). e.line) nat_cmp_total) (on_total (λ (e : Expiry). e.timer) timer_total))
+
+held_total : IsTotalOrder (λ (a b : Held). ordering_then (nat_cmp a.moment b.moment) (timer_cmp a.timer b.timer))
+held_total = then_total (on_total (λ (h : Held). h.moment) nat_cmp_total) (on_total (λ (h : Held). h.timer) timer_total)
+
+-- so that going first is a strict weak order
+pub before_order : IsStrictWeakOrder is_before
+before_order = ranks_by expiry_total (λ (e : Expiry). e)
+
+pub held_order : IsStrictWeakOrder held_before
+held_order = ranks_by held_total (λ (h : Held). h)
+
+-- only equal ranks tie, and only equal timers have equal ranks
+then_equal : (r s : Ordering) → ordering_then r s ≡ Equal → (r ≡ Equal) × (s ≡ Equal)
+then_equal Less s e = cc
+then_equal Equal s e = (refl, e)
+then_equal Greater s e = cc
+
+same_service : (a b : Service) → rank_of_service a ≡ rank_of_service b → a ≡ b
+same_service Call Call e = refl
+same_service Call Packet e = absurd (omega arith)
+same_service Packet Call e = absurd (omega arith)
+same_service Packet Packet e = refl
+
+same_by_ranks : (a b : Timer) → kind_rank a ≡ kind_rank b → tei_rank a ≡ tei_rank b → service_rank a ≡ service_rank b → a ≡ b
+same_by_ranks (T200 s x) (T200 t y) k e f = let g = same_service s t f in cc
+same_by_ranks (T203 s x) (T203 t y) k e f = let g = same_service s t f in cc
+same_by_ranks T201 T201 k e f = refl
+same_by_ranks (T200 s x) (T203 t y) k e f = absurd (omega arith)
+same_by_ranks (T200 s x) T201 k e f = absurd (omega arith)
+same_by_ranks (T203 s x) (T200 t y) k e f = absurd (omega arith)
+same_by_ranks (T203 s x) T201 k e f = absurd (omega arith)
+same_by_ranks T201 (T200 t y) k e f = absurd (omega arith)
+same_by_ranks T201 (T203 t y) k e f = absurd (omega arith)
+
+pub same_timer : (a b : Timer) → timer_cmp a b ≡ Equal → a ≡ b
+same_timer a b e =
+    let kinds = then_equal _ _ e in
+    let others = then_equal _ _ kinds.1 in
+    same_by_ranks a b (exact_unsigned _ _ kinds.0) (exact_unsigned _ _ others.0) (exact_unsigned _ _ others.1)
+
+not_less : (r : Ordering) → is_lt r ≡ false → is_lt (ordering_reverse r) ≡ false → r ≡ Equal
+not_less Less a b = absurd (false≢true (sym a))
+not_less Equal a b = refl
+not_less Greater a b = absurd (false≢true (sym b))
+
+-- of two expiries one goes before the other, unless they are equal
+pub same_expiry : (a b : Expiry) → is_before a b ≡ false → is_before b a ≡ false → a ≡ b
+same_expiry a b ab ba =
+    let moments = then_equal (nat_cmp a.moment b.moment) (ordering_then (nat_cmp a.line b.line) (timer_cmp a.timer b.timer)) (not_less (expiry_cmp a b) ab (ap is_lt (sym (expiry_total.antisymm b a)) ∙ ba)) in
+    let lines = then_equal (nat_cmp a.line b.line) (timer_cmp a.timer b.timer) moments.1 in
+    λ i. record {
+      moment = exact_unsigned a.moment b.moment moments.0 i;
+      line = exact_unsigned a.line b.line lines.0 i;
+      timer = same_timer a.timer b.timer lines.1 i;
+    }
+
+-- being the same timer goes both ways
+pub is_same_both_ways : (a b : Timer) → is_same a b ≡ is_same b a
+is_same_both_ways = (eq_by_cmp_equiv timer_total).symm

@@ -1,0 +1,20 @@
+-- The first of the set is the first timer of the line that was found.
+use Rattle.std.proofs.Common.{◌≡◌, [], sym, ap, ◌∙◌, subst}
+use Rattle.std.specs.List.{AllByRecursion}
+use Rattle.lapd_clock.specs.Timers.{next_moment, first_moment}
+use Rattle.lapd_clock.specs.Places.{Line}
+use Rattle.lapd_clock.proofs.First.{found_leads}
+use Rattle.lapd_clock.proofs.Calls.{timers_in-none}
+use Rattle.lapd_clock.proofs.clock.Clock.next.Goals as goal
+
+pub returns-in_err-held-clause-next : goal.returns-in_err-held-clause-next
+returns-in_err-held-clause-next c =
+    let lines = c.self.inside.lines.items in
+    let none = subst (AllByRecursion (λ (v : Line). v.items ≡ [])) c.deref.ensures.value c.in_err-held.ensures in
+    c.from_residual.ensures ∙ sym (ap next_moment (sym c.self.view_is ∙ timers_in-none c.self.inside.places lines none))
+
+pub returns-clause-next : goal.returns-clause-next
+returns-clause-next c =
+    let lines = c.self.inside.lines.items in
+    let leads = found_leads c.self.inside.places c.in_ok-held.field-0-0 c.in_ok-held.held lines c.deref.result.now c.self.invariant.each c.deref.ensures.value c.in_ok-held.ensures in
+    sym (ap next_moment (sym c.self.view_is) ∙ ap first_moment leads.all)

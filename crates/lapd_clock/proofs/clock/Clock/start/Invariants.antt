@@ -1,0 +1,12 @@
+use Rattle.std.proofs.Common.{◌≡◌, [], vec_len}
+use Rattle.std.specs.List.{AllByRecursion}
+use Rattle.lapd_clock.specs.Places.{IsLineKept}
+use Rattle.lapd_clock.proofs.clock.Clock.start.Given as goal
+
+-- so many lines without a timer
+abbrev pub invariant-loop : goal.invariant-loop
+invariant-loop l = record {
+  count : vec_len l.all ≡ l.counter;
+  none : AllByRecursion (λ v. v.items ≡ []) l.all.items;
+  each : AllByRecursion (IsLineKept l.places) l.all.items;
+}

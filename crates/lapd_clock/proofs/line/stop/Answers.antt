@@ -1,0 +1,7 @@
+use Rattle.std.proofs.Common.{rules, not}
+use Rattle.std.proofs.lemmas.Fn.{filter_same}
+use Rattle.lapd_clock.specs.Timer.{is_same}
+use Rattle.lapd_clock.proofs.line.stop.Goals as goal
+
+pub returns-clause-items : goal.returns-clause-items
+returns-clause-items c = filter_same _ (λ h. not (is_same h.timer c.args.timer)) _ (λ x b q h. search rules) _ _ c.retain.ensures.filtered

@@ -1,0 +1,7 @@
+use Rattle.std.proofs.Common.{take}
+use Rattle.lapd_clock.specs.Places.{IsFirst}
+use Rattle.lapd_clock.proofs.lines.first_of.Given as goal
+
+-- what is first in the lines so far
+abbrev pub invariant-loop-line : goal.invariant-loop-line
+invariant-loop-line l = IsFirst (take l.line l.lines) l.first

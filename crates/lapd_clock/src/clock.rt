@@ -1,0 +1,133 @@
+//! The clock: which timers of which lines run, and until when.
+
+ghost use Rattle.std.specs.Prelude.{◌≡◌, ℕ, false, ◌^◌, ◌<◌, ◌≤◌, All, IfOk, IfSome, IfNone};
+ghost use Rattle.lapd_clock.specs.Timers.{idle, finds_place, with_order, due_at, after_due, next_moment};
+ghost use Rattle.lapd_clock.specs.Sound.{IsSound, IsLeastDue};
+
+use crate::fault::StartFault;
+use crate::line::{Held, start, stop};
+use crate::lines::first_of;
+use crate::timers::duration_of;
+use lapd_frame::{Order, Timer};
+use std::alloc::Global;
+use std::marker::Model;
+
+/// The running timers of all lines, each with the moment at which it falls due.
+///
+/// T200 and T201 run 1,000 ms and T203 10,000 ms: the values of Q.921, clauses 5.9.1, 5.9.6 and
+/// 5.9.8. No call but `start` takes memory.
+#[derive(Debug, Drop)]
+pub struct Clock {
+    places: usize,
+    lines: Vec<Vec<Held>>,
+}
+
+impl Model for Clock {
+    ghost use Rattle.lapd_clock.specs.Timers.{Timers};
+
+    ghost Value = { Timers };
+
+    ghost use Rattle.lapd_clock.specs.Places.{timers_in, IsKept};
+
+    ghost view = { λ a. timers_in a.places a.lines.items };
+
+    ghost invariant = { λ a. IsKept a.places a.lines.items };
+}
+
+impl Clock {
+    /// A clock on which no timer runs, for 1 to 64 lines of 1 to 8 terminals.
+    ///
+    /// Each line has `4 * terminals + 1` places for running timers: T200 and T203 of two links for
+    /// each terminal, and T201.
+    ///
+    /// # Errors
+    ///
+    /// `OutOfMemory` where there is no memory for the places.
+    pub fn start(alloc: Global, lines: usize, terminals: usize) -> Result<Clock, StartFault>
+        requires lines { 1 ≤ lines × lines ≤ 64 }
+        requires terminals { 1 ≤ terminals × terminals ≤ 8 }
+        ensures idle { IfOk result (λ clock. clock ≡ idle lines terminals) }
+        ensures sound { IfOk result IsSound }
+    {
+        let places = 4 * terminals + 1;
+        let mut all = Vec::with_capacity(alloc, lines).map_err(|_| StartFault::OutOfMemory)?;
+        for _ in 0..lines {
+            let line = Vec::with_capacity(alloc, places).map_err(|_| StartFault::OutOfMemory)?;
+            all.push(line).map_err(|_| StartFault::OutOfMemory)?;
+        }
+        Ok(Clock { places, lines: all })
+    }
+
+    /// The number of lines.
+    pub fn lines(&self) -> usize
+        ensures { result ≡ self.now.lines }
+    {
+        self.lines.len()
+    }
+
+    /// Does at the moment `now`, at most `2^63` ms, what is ordered of a timer of a line.
+    ///
+    /// A timer that is started falls due as much later as it runs. Where it runs already, it has
+    /// the new moment only. To stop a timer that does not run changes nothing.
+    ///
+    /// The answer is false exactly where a timer is to be started that does not run, and all
+    /// places of its line are taken. Then nothing changes.
+    pub fn apply(&mut self, line: usize, order: Order, now: u64) -> bool
+        requires line { line < self.old.lines }
+        requires now { now ≤ 2 ^ 63 }
+
+        ensures placed { result ≡ finds_place self.old line order }
+        ensures after { self.new ≡ with_order self.old line order now }
+        ensures refused { result ≡ false → self.new ≡ self.old }
+
+        ensures lines { self.new.lines ≡ self.old.lines }
+        ensures sound { IsSound self.new }
+    {
+        match order {
+            Order::Start(timer) => {
+                let moment = now + duration_of(timer);
+                start(&mut self.lines[line], self.places, Held { moment, timer })
+            }
+            Order::Stop(timer) => {
+                stop(&mut self.lines[line], timer);
+                true
+            }
+        }
+    }
+
+    /// Takes out the timer that falls due first, and answers it with its line, if its moment is
+    /// not later than `now`, in milliseconds. Else the answer is `None`, and nothing changes.
+    ///
+    /// The first is the one with the least moment. At one moment it is that of the lowest line, and
+    /// there T200 goes before T203, and T203 before T201; T200 and T203 go by TEI, and at one TEI
+    /// that of the call link goes first (profile).
+    pub fn due(&mut self, now: u64) -> Option<(usize, Timer)>
+        ensures due { result ≡ due_at self.old now }
+        ensures after { self.new ≡ after_due self.old now }
+
+        // It is the least of the set, and where there is none, all are later.
+        ensures least { IfSome result (λ due. IsLeastDue self.old now due.0 due.1) }
+        ensures none { IfNone result (All (λ held. now < held.moment) self.old.running) }
+
+        ensures line { IfSome result (λ due. due.0 < self.old.lines) }
+        ensures lines { self.new.lines ≡ self.old.lines }
+        ensures sound { IsSound self.new }
+    {
+        let (line, held) = first_of(&self.lines)?;
+        if now < held.moment {
+            return None;
+        }
+        self.lines[line].remove(0);
+        Some((line, held.timer))
+    }
+
+    /// The moment, in milliseconds, of the timer that falls due first, due or not, and `None` where
+    /// no timer runs.
+    pub fn next(&self) -> Option<u64>
+        ensures next { result ≡ next_moment self.now }
+        ensures sound { IsSound self.now }
+    {
+        let (_, held) = first_of(&self.lines)?;
+        Some(held.moment)
+    }
+}

@@ -1,0 +1,34 @@
+//! The timers of an exchange's lines: which of them run, and which falls due first.
+//!
+//! A line of the network side of LAPD has T200 and T203 for each link, so two of each for each
+//! terminal (one link for each service), and one T201 (Q.921 clause 5.9). Its events order timers
+//! started and stopped. A `Clock` keeps the moment at which each running timer falls due, and
+//! gives the timers back one after the other as their moments come. It reads no clock of its own:
+//! moments are numbers that its caller hands in, in milliseconds.
+//!
+//! - `clock`: `Clock`, the running timers of all lines.
+//! - `lines`, `line`: which line's timer falls due first, and the timers of one line.
+//! - `timers`: how long each timer runs, and which goes first at one moment.
+//! - `fault`: `StartFault`, why there is no clock.
+//!
+//! What each call answers and does is defined in `specs/Timers.antt` on the set of running timers.
+//!
+//! # Cost
+//!
+//! All memory is taken by `Clock::start`: for each line `4 * terminals + 1` places. `apply` goes
+//! over the timers of its one line, three times at most, and looks at no other line. `next` and
+//! `due` look at the first timer of each line, and `due` then moves the other timers of the line
+//! whose timer it takes out. So `apply` is linear in the places of a line, `next` in the lines, and
+//! `due` in the places of a line plus the lines.
+#![tactic(auto)]
+
+mod clock;
+mod fault;
+mod line;
+mod lines;
+#[cfg(test)]
+mod tests;
+mod timers;
+
+pub use clock::Clock;
+pub use fault::StartFault;

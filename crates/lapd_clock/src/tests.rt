@@ -1,0 +1,191 @@
+//! Runs of clocks, whose answers are written down by hand from the rules of the order.
+
+use crate::{Clock, StartFault};
+use lapd_frame::{Order, Service, Timer};
+use std::process::Abort;
+use std::test::Fail;
+
+/// What a clock answers to an order, at a line that it has.
+fn apply(rt: &impl Abort, clock: &mut Clock, line: usize, order: Order, now: u64) -> bool {
+    assert!(rt; line < clock.lines());
+    assert!(rt; now <= 1 << 63);
+    clock.apply(line, order, now)
+}
+
+#[test]
+fn first_by_moment_then_line_then_timer(rt: HostRuntime) -> Result<(), Fail> {
+    let mut clock = Clock::start(rt.alloc(), 3, 3)?;
+    assert_eq!(rt; clock.lines(), 3);
+    // In no order; all fall due at 10,000 but the last two.
+    for (line, timer, now) in [
+        (1, Timer::T201, 9_000),
+        (0, Timer::T203(Service::Packet, 70), 0),
+        (1, Timer::T200(Service::Packet, 0), 9_000),
+        (0, Timer::T203(Service::Call, 70), 0),
+        (1, Timer::T203(Service::Call, 0), 0),
+        (0, Timer::T201, 9_000),
+        (0, Timer::T200(Service::Packet, 126), 9_000),
+        (0, Timer::T200(Service::Call, 126), 9_000),
+        (0, Timer::T203(Service::Packet, 3), 0),
+        (0, Timer::T200(Service::Call, 70), 9_000),
+        (2, Timer::T200(Service::Call, 1), 8_999),
+        (0, Timer::T200(Service::Call, 3), 9_001),
+    ] {
+        assert!(rt; apply(&rt, &mut clock, line, Order::Start(timer), now));
+    }
+
+    assert_eq!(rt; clock.next(), Some(9_999));
+    assert_eq!(rt; clock.due(9_998), None);
+    for first in [
+        (2, Timer::T200(Service::Call, 1)),
+        (0, Timer::T200(Service::Call, 70)),
+        (0, Timer::T200(Service::Call, 126)),
+        (0, Timer::T200(Service::Packet, 126)),
+        (0, Timer::T203(Service::Packet, 3)),
+        (0, Timer::T203(Service::Call, 70)),
+        (0, Timer::T203(Service::Packet, 70)),
+        (0, Timer::T201),
+        (1, Timer::T200(Service::Packet, 0)),
+        (1, Timer::T203(Service::Call, 0)),
+        (1, Timer::T201),
+    ] {
+        assert_eq!(rt; clock.due(10_000), Some(first));
+    }
+    assert_eq!(rt; clock.due(10_000), None);
+    assert_eq!(rt; clock.next(), Some(10_001));
+    assert_eq!(rt; clock.due(10_001), Some((0, Timer::T200(Service::Call, 3))));
+    assert_eq!(rt; clock.next(), None);
+    assert_eq!(rt; clock.due(u64::MAX), None);
+    Ok(())
+}
+
+#[test]
+fn a_timer_has_one_moment(rt: HostRuntime) -> Result<(), Fail> {
+    let mut clock = Clock::start(rt.alloc(), 2, 1)?;
+    let timer = Timer::T200(Service::Call, 64);
+    assert!(rt; apply(&rt, &mut clock, 0, Order::Start(timer), 0));
+    assert!(rt; apply(&rt, &mut clock, 1, Order::Start(timer), 100));
+    assert!(rt; apply(&rt, &mut clock, 0, Order::Start(timer), 500));
+    assert_eq!(rt; clock.due(1_099), None);
+    assert_eq!(rt; clock.due(1_100), Some((1, timer)));
+    assert_eq!(rt; clock.due(1_499), None);
+    assert_eq!(rt; clock.due(1_500), Some((0, timer)));
+
+    // Stopped, it is not due, and the other service's is.
+    let other = Timer::T200(Service::Packet, 64);
+    assert!(rt; apply(&rt, &mut clock, 0, Order::Start(timer), 2_000));
+    assert!(rt; apply(&rt, &mut clock, 0, Order::Start(other), 2_000));
+    assert!(rt; apply(&rt, &mut clock, 0, Order::Stop(timer), 2_000));
+    assert!(rt; apply(&rt, &mut clock, 0, Order::Stop(timer), 2_000));
+    assert_eq!(rt; clock.due(u64::MAX), Some((0, other)));
+    assert_eq!(rt; clock.due(u64::MAX), None);
+    Ok(())
+}
+
+#[test]
+fn a_full_line_takes_no_other_timer(rt: HostRuntime) -> Result<(), Fail> {
+    let mut clock = Clock::start(rt.alloc(), 2, 1)?;
+    let places = [
+        Timer::T200(Service::Call, 64),
+        Timer::T200(Service::Packet, 64),
+        Timer::T203(Service::Call, 255),
+        Timer::T203(Service::Packet, 64),
+        Timer::T201,
+    ];
+    for timer in places {
+        assert!(rt; apply(&rt, &mut clock, 1, Order::Start(timer), 0));
+    }
+    let sixth = Timer::T200(Service::Call, 0);
+    assert!(rt; !apply(&rt, &mut clock, 1, Order::Start(sixth), 0));
+    // A timer that runs keeps its place, a stopped one frees it, and the other line has its own.
+    assert!(rt; apply(&rt, &mut clock, 1, Order::Start(Timer::T201), 7));
+    assert!(rt; apply(&rt, &mut clock, 0, Order::Start(sixth), 0));
+    assert!(rt;
+        apply(
+            &rt,
+            &mut clock,
+            1,
+            Order::Stop(Timer::T200(Service::Packet, 64)),
+            0
+        )
+    );
+    assert!(rt; apply(&rt, &mut clock, 1, Order::Start(sixth), 0));
+    assert!(rt;
+        !apply(
+            &rt,
+            &mut clock,
+            1,
+            Order::Start(Timer::T200(Service::Packet, 64)),
+            0
+        )
+    );
+    for first in [
+        (0, sixth),
+        (1, sixth),
+        (1, Timer::T200(Service::Call, 64)),
+        (1, Timer::T201),
+        (1, Timer::T203(Service::Packet, 64)),
+        (1, Timer::T203(Service::Call, 255)),
+    ] {
+        assert_eq!(rt; clock.due(10_000), Some(first));
+    }
+    assert_eq!(rt; clock.next(), None);
+    Ok(())
+}
+
+#[test]
+fn moments_go_up_to_the_greatest(rt: HostRuntime) -> Result<(), Fail> {
+    let mut clock = Clock::start(rt.alloc(), 64, 8)?;
+    let greatest = 1 << 63;
+    let timer = Timer::T203(Service::Packet, 126);
+    assert!(rt; apply(&rt, &mut clock, 63, Order::Start(timer), greatest));
+    assert!(rt; apply(&rt, &mut clock, 0, Order::Start(Timer::T201), greatest - 1));
+    assert_eq!(rt; clock.next(), Some(greatest + 999));
+    assert_eq!(rt; clock.due(greatest + 998), None);
+    assert_eq!(rt; clock.due(greatest + 999), Some((0, Timer::T201)));
+    assert_eq!(rt; clock.next(), Some(greatest + 10_000));
+    assert_eq!(rt; clock.due(greatest + 9_999), None);
+    assert_eq!(rt; clock.due(greatest + 10_000), Some((63, timer)));
+    Ok(())
+}
+
+/// A link that hears nothing: T203 expires, and then T200 for each enquiry, three of them repeats,
+/// and for the SABME that follows.
+#[test]
+fn a_silent_link(rt: HostRuntime) -> Result<(), Fail> {
+    let mut clock = Clock::start(rt.alloc(), 1, 8)?;
+    let enquiry = Timer::T200(Service::Call, 64);
+    let idle = Timer::T203(Service::Call, 64);
+    assert!(rt; apply(&rt, &mut clock, 0, Order::Start(idle), 0));
+    for (moment, timer) in [
+        (10_000, idle),
+        (11_000, enquiry),
+        (12_000, enquiry),
+        (13_000, enquiry),
+        (14_000, enquiry),
+    ] {
+        assert_eq!(rt; clock.next(), Some(moment));
+        assert_eq!(rt; clock.due(14_000), Some((0, timer)));
+        assert!(rt; apply(&rt, &mut clock, 0, Order::Start(enquiry), moment));
+    }
+    assert_eq!(rt; clock.due(14_000), None);
+    assert_eq!(rt; clock.next(), Some(15_000));
+    Ok(())
+}
+
+/// Run with each allocation refused in turn, this says that nothing else is answered then.
+#[test]
+fn start_is_refused_for_memory_alone(rt: HostRuntime) {
+    match Clock::start(rt.alloc(), 3, 2) {
+        Ok(clock) => assert_eq!(rt; clock.lines(), 3),
+        Err(fault) => assert_eq!(rt; fault, StartFault::OutOfMemory),
+    }
+}
+
+#[test]
+fn a_fault_says_what_is_missing(rt: HostRuntime) -> Result<(), Fail> {
+    let text = format!(in rt.alloc(); "{}", StartFault::OutOfMemory)?;
+    assert_eq!(rt; text.as_str(), "out of memory");
+    assert_eq!(rt; StartFault::OutOfMemory as u8, 1);
+    Ok(())
+}

@@ -1,0 +1,20 @@
+-- Octets that are written one part after the other.
+use Rattle.std.proofs.Common.{◌≡◌, ℕ, ◌+◌, ◌≤◌, List, ◌++◌, length, take, drop, ap, sym, ◌∙◌, arith}
+use Rattle.std.proofs.Math.Seq.{take-append_seam}
+use Rattle.std.proofs.lemmas.Slice.{drop-append-drop}
+
+-- a head of s octets, then the information
+pub written : (s : ℕ) (head info old middle new front : List ℕ) → take s head ≡ front → length front ≡ s
+    → middle ≡ take s head ++ drop (0 + length (take s head)) old → new ≡ take s middle ++ info ++ drop (s + length info) middle
+    → new ≡ front ++ info ++ drop (s + length info) old
+written s head info old middle new front e count first second =
+    let place : 0 + length front ≡ s = omega arith in
+    let first_is : middle ≡ front ++ drop s old = first ∙ ap (λ l. l ++ drop (0 + length l) old) e ∙ ap (λ n. front ++ drop n old) place in
+    let before : take s middle ≡ front = ap (take s) first_is ∙ ap (λ n. take n (front ++ drop s old)) (sym count) ∙ take-append_seam front (drop s old) in
+    let more : s ≤ s + length info = omega arith in
+    let after : drop (s + length info) middle ≡ drop (s + length info) old = ap (drop (s + length info)) first_is ∙ drop-append-drop s old front (s + length info) more count in
+    second ∙ ap (λ l. l ++ info ++ drop (s + length info) middle) before ∙ ap (λ l. front ++ info ++ l) after
+
+-- the front of octets that begin so
+pub front-of : (n : ℕ) (new front back : List ℕ) → new ≡ front ++ back → length front ≡ n → take n new ≡ front
+front-of n new front back e count = ap (take n) e ∙ ap (λ k. take k (front ++ back)) (sym count) ∙ take-append_seam front back

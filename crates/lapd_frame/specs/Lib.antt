@@ -1,0 +1,7 @@
+-- The definitions that the contracts of this crate cite, and worked values of them.
+pub mod Faults
+pub mod Grammar
+pub mod Overlong
+pub mod Reading
+pub mod Services
+pub mod Worked

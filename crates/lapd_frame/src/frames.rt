@@ -1,0 +1,32 @@
+//! A whole frame.
+
+ghost use Rattle.std.specs.Prelude.{◌≡◌, ◌++◌, take};
+ghost use Rattle.lapd_frame.specs.Grammar.{address_field, row, parts_of, IsFrame};
+ghost use Rattle.lapd_frame.specs.Reading.{start_of};
+
+use crate::addresses::{Address, Side};
+use crate::controls::Control;
+
+/// A frame between its flags, without the frame check (Q.921 clause 2). Its information is lent.
+#[derive(Clone, Copy, PartialEq, Eq, Debug)]
+pub struct Frame<'a> {
+    /// Whom the frame is from or to, and whether it is a command (clauses 2.3 and 3.3).
+    pub address: Address,
+    /// Its kind (clauses 2.4 and 3.4).
+    pub control: Control,
+    /// The information field (clause 2.5), without a limit of its length here. I, UI and XID have
+    /// any number of octets, none included; FRMR has five, and the other frames have none.
+    pub info: &'a [u8],
+}
+
+impl Frame<'_> {
+    // The octets before the information, and 0 up to four.
+    pub(crate) fn head(&self, side: Side) -> [u8; 4]
+        requires { IsFrame (parts_of self.now) }
+        ensures { take (start_of self.now.control) result ≡ address_field side self.now.address ++ (row self.now.control).field }
+    {
+        let [first, second] = self.address.octets(side);
+        let [third, fourth] = self.control.field();
+        [first, second, third, fourth]
+    }
+}

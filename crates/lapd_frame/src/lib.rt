@@ -1,0 +1,49 @@
+//! The frames of LAPD: how octets spell them, and the words in which the parts of an exchange
+//! termination speak of links (Q.921 clauses 2 and 3).
+//!
+//! The octets here are those between two flags, without bit stuffing and frame check.
+//!
+//! - `addresses`: `Side`, who sent a frame, and its `Address`.
+//! - `controls`: `Control`, what kind of frame it is, a variant for each row of table 5.
+//! - `frames`: `Frame`, the whole of it, with its information lent.
+//! - `faults`, `headers`, `reading`: `read`, from octets to a frame, or to the first `ReadFault`.
+//! - `overlong`: `read_long`, what the first four octets tell of a frame that is too long to keep.
+//! - `writing`: `write`, from a frame to octets.
+//! - `laws`: `one_spelling`, what holds of the grammar itself.
+//! - `services`, `timers`, `notes`, `refusals`: the types that links, lines and their users share.
+//!
+//! The grammar stands in `specs/Grammar.antt`, one equation for each row of table 5. No call takes
+//! memory, and nothing is copied but by `write`.
+#![tactic(auto)]
+
+mod addresses;
+mod controls;
+mod faults;
+mod frames;
+mod headers;
+mod laws;
+mod notes;
+mod overlong;
+mod reading;
+mod refusals;
+mod services;
+mod timers;
+mod writing;
+
+pub use addresses::{Address, Side};
+pub use controls::Control;
+pub use faults::ReadFault;
+pub use frames::Frame;
+pub use laws::one_spelling;
+pub use notes::{ErrorCode, Note};
+pub use overlong::{Long, read_long};
+pub use reading::read;
+pub use refusals::Refusal;
+pub use services::Service;
+pub use timers::{Order, Timer};
+pub use writing::write;
+
+#[cfg(test)]
+mod table_tests;
+#[cfg(test)]
+mod tests;

@@ -1,0 +1,93 @@
+//! What a line tells its user.
+
+ghost use Rattle.std.specs.Prelude.{◌≡◌};
+ghost use Rattle.lapd_frame.specs.Services.{letter_of};
+
+use crate::services::Service;
+
+/// What happened on a line, as its user is told. The number is the TEI that it is about.
+#[derive(Clone, Copy, PartialEq, Eq, Debug)]
+pub enum Note {
+    /// The terminal established the link (DL-ESTABLISH indication, Q.921 clause 4.1.1.1).
+    EstablishIndication(Service, u8),
+    /// The link that was asked for is established (DL-ESTABLISH confirm).
+    EstablishConfirm(Service, u8),
+    /// The link is down, and nobody on this side asked for it (DL-RELEASE indication, clause
+    /// 4.1.1.2).
+    ReleaseIndication(Service, u8),
+    /// The link is down, as was asked for (DL-RELEASE confirm).
+    ReleaseConfirm(Service, u8),
+    /// The contents of an I-frame were received, in order (DL-DATA indication, clause 4.1.1.3).
+    Data(Service, u8),
+    /// The contents of a UI frame were received (DL-UNIT DATA indication, clause 4.1.1.4). The TEI
+    /// is the sender's.
+    Unit(Service, u8),
+    /// Layer management is told of an error (MDL-ERROR indication, clause 4.1.1.7).
+    Error(Service, u8, ErrorCode),
+    /// TEI management assigned the TEI to a terminal that asked for one (clause 5.3.2).
+    Assigned(u8),
+    /// The TEI left the line, since no terminal answered an identity check (clause 5.3.4).
+    Removed(u8),
+    /// The TEI left the line, since two terminals answered an identity check (clause 5.3.4).
+    Doubled(u8),
+    /// An XID frame was received. It is not answered (profile).
+    Xid(Service, u8),
+}
+
+/// Which error it is: the codes of MDL-ERROR indication (Q.921 appendix II, table II.1). M is not
+/// used (profile).
+#[derive(Clone, Copy, PartialEq, Eq, Debug)]
+pub enum ErrorCode {
+    /// A supervisory response with F=1 that no command asked for.
+    A,
+    /// A DM response with F=1 that no command asked for.
+    B,
+    /// A UA response with F=1 that no command asked for.
+    C,
+    /// A UA response with F=0 that no command asked for.
+    D,
+    /// A DM response with F=0.
+    E,
+    /// The terminal established an established link again.
+    F,
+    /// SABME was sent as often as allowed, and not answered.
+    G,
+    /// DISC was sent as often as allowed, and not answered.
+    H,
+    /// The terminal's state was asked for as often as allowed, without an answer.
+    I,
+    /// An N(R) that is not valid.
+    J,
+    /// An FRMR response.
+    K,
+    /// A frame whose control field is undefined.
+    L,
+    /// A frame of wrong size.
+    N,
+    /// An I-frame with more information than N201 allows.
+    O,
+}
+
+impl ErrorCode {
+    /// The code's letter.
+    pub fn letter(self) -> char
+        ensures { result ≡ letter_of self }
+    {
+        match self {
+            ErrorCode::A => 'A',
+            ErrorCode::B => 'B',
+            ErrorCode::C => 'C',
+            ErrorCode::D => 'D',
+            ErrorCode::E => 'E',
+            ErrorCode::F => 'F',
+            ErrorCode::G => 'G',
+            ErrorCode::H => 'H',
+            ErrorCode::I => 'I',
+            ErrorCode::J => 'J',
+            ErrorCode::K => 'K',
+            ErrorCode::L => 'L',
+            ErrorCode::N => 'N',
+            ErrorCode::O => 'O',
+        }
+    }
+}

@@ -1,0 +1,48 @@
+//! Frames that are too long to keep.
+
+ghost use Rattle.std.specs.Prelude.{◌≡◌, ℕ, ◌≤◌, List, length, ◌++◌};
+ghost use Rattle.lapd_frame.specs.Grammar.{AreOctets};
+ghost use Rattle.lapd_frame.specs.Overlong.{IsLong};
+ghost use Rattle.lapd_frame.specs.Reading.{reading, long_of};
+
+use crate::addresses::{Address, Side};
+use crate::controls::Control;
+use crate::faults::ReadFault;
+use crate::headers::header;
+
+/// What a frame is of which only the first four octets were kept, since it is too long.
+#[derive(Clone, Copy, PartialEq, Eq, Debug)]
+pub enum Long {
+    /// An I-frame.
+    Information(Address),
+    /// A UI or XID frame.
+    Unnumbered(Address),
+}
+
+/// Reads the first four octets of a frame of 9 octets or more, which `side` sent, without its frame
+/// check (profile: a frame that is too long is kept only by its first four octets).
+///
+/// An I-frame is `Long::Information`, a UI or XID frame `Long::Unnumbered`. The others are faults,
+/// tested in the order `BadExtension`, `Undefined`, `WrongSize`: frames of the remaining kinds are
+/// never so long.
+pub fn read_long(side: Side, octets: &[u8; 4]) -> Result<Long, ReadFault>
+    // Whatever follows the four octets, the answer is right of the whole,
+    ensures grammar { (rest : List ℕ) → AreOctets rest → 5 ≤ length rest → IsLong side (octets.now ++ rest) result }
+    // and is what `read` would say of it.
+    ensures reading { (rest : List ℕ) → 5 ≤ length rest → result ≡ long_of (reading side (octets.now ++ rest)) }
+{
+    kind(side, octets)
+}
+
+// What `read_long` answers.
+#[tactic(auto, unfolding(crate::specs::Reading::reading))]
+fn kind(side: Side, octets: &[u8; 4]) -> Result<Long, ReadFault>
+    ensures { (rest : List ℕ) → 5 ≤ length rest → result ≡ long_of (reading side (octets.now ++ rest)) }
+{
+    let (address, control) = header(side, octets)?;
+    match control {
+        Control::Information { .. } => Ok(Long::Information(address)),
+        Control::Ui { .. } | Control::Xid { .. } => Ok(Long::Unnumbered(address)),
+        _ => Err(ReadFault::WrongSize(address)),
+    }
+}

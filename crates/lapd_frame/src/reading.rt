@@ -1,0 +1,53 @@
+//! From octets to a frame.
+
+ghost use Rattle.std.specs.Prelude.{◌≡◌, ◌↔◌, IfOk, IsOkAnd, drop};
+ghost use Rattle.lapd_frame.specs.declared.faults.ReadFault.{ReadFault};
+ghost use Rattle.lapd_frame.specs.Faults.{IsFault};
+ghost use Rattle.lapd_frame.specs.Grammar.{Parts, parts_of, Spells};
+ghost use Rattle.lapd_frame.specs.Reading.{reading, outcome_of, start_of};
+
+use crate::addresses::Side;
+use crate::faults::ReadFault;
+use crate::frames::Frame;
+use crate::headers::{header, is_short};
+
+/// Reads a frame that `side` sent, without its frame check.
+///
+/// The information is lent from `octets`, of which it is the tail. The faults are tested in this
+/// order: `Short`, `BadExtension`, `Undefined`, `WrongSize`.
+pub fn read(side: Side, octets: &[u8]) -> Result<Frame<'_>, ReadFault>
+    // A frame is answered exactly where the octets spell it,
+    ensures spelled { IfOk result (λ frame. Spells side (parts_of frame) octets.now) }
+    ensures only { (frame : Parts) → Spells side frame octets.now → IsOkAnd result (λ read. parts_of read ≡ frame) }
+    ensures tail { IfOk result (λ frame. frame.info.now ≡ drop (start_of frame.control) octets.now) }
+
+    // and a fault exactly where it is the first that holds.
+    ensures fault { (fault : ReadFault) → (result ≡ Err fault) ↔ IsFault side octets.now fault }
+
+    // The same as a function of the octets.
+    ensures reading { outcome_of result ≡ reading side octets.now }
+{
+    parse(side, octets)
+}
+
+// What `read` answers.
+#[tactic(auto, unfolding(crate::specs::Reading::reading))]
+fn parse(side: Side, octets: &[u8]) -> Result<Frame<'_>, ReadFault>
+    ensures tail { IfOk result (λ frame. frame.info.now ≡ drop (start_of frame.control) octets.now) }
+    ensures reading { outcome_of result ≡ reading side octets.now }
+{
+    if is_short(octets) {
+        return Err(ReadFault::Short);
+    }
+    let fourth = octets.get(3).copied().unwrap_or(0);
+    let (address, control) = header(side, &[octets[0], octets[1], octets[2], fourth])?;
+    let (_, info) = octets.split_at(control.start());
+    if !control.takes(info.len()) {
+        return Err(ReadFault::WrongSize(address));
+    }
+    Ok(Frame {
+        address,
+        control,
+        info,
+    })
+}

@@ -1,0 +1,27 @@
+//! Why a request is refused.
+
+/// Why a request is refused: the first of these that applies to the request and holds. A refused
+/// request changes nothing (profile).
+#[derive(Clone, Copy, PartialEq, Eq, Debug)]
+pub enum Refusal {
+    /// The TEI is over 126; for unit data over 127, since 127 is the group.
+    BadTei = 1,
+    /// The TEI is not on the line.
+    NoLink,
+    /// The link is not in a state that serves the request.
+    WrongState,
+    /// The contents are longer than N201.
+    TooLong,
+    /// The link's queue of I-frame contents is full, or the line's queue of unit data.
+    QueueFull,
+    /// The card holds as many contents as it has slots.
+    PoolFull,
+    /// The TEI is on the line already.
+    TeiTaken,
+    /// The line has as many TEIs as it may have.
+    TableFull,
+    /// An identity check is running on the line.
+    CheckRunning,
+    /// No room for one more TEI management message.
+    ControlFull,
+}

@@ -1,0 +1,39 @@
+//! From a frame to octets.
+
+ghost use Rattle.std.specs.Prelude.{◌≡◌, ◌+◌, ◌≤◌, ◌++◌, take, drop, length};
+ghost use Rattle.lapd_frame.specs.Grammar.{parts_of, IsFrame, spelling, Spells};
+ghost use Rattle.lapd_frame.specs.Reading.{reading};
+
+use crate::addresses::Side;
+use crate::frames::Frame;
+
+/// Writes a frame that `side` sends to the beginning of `out`, without its frame check, and answers
+/// how many octets it has. The octets of `out` past these stay as they are.
+///
+/// The frame has to be one (`IsFrame`): SAPI at most 63, TEI at most 127, a command or a response
+/// as its control field demands, as much information as it allows. It has to fit into `out`.
+pub fn write(side: Side, frame: &Frame<'_>, out: &mut [u8]) -> usize
+    requires frame { IsFrame (parts_of frame.now) }
+    requires room { length (spelling side (parts_of frame.now)) ≤ length out.old }
+    // The octets written spell the frame,
+    ensures len { result ≡ length (spelling side (parts_of frame.now)) }
+    ensures spelled { Spells side (parts_of frame.now) (take result out.new) }
+    // those past them stay,
+    ensures rest { drop result out.new ≡ drop result out.old }
+    ensures whole { out.new ≡ spelling side (parts_of frame.now) ++ drop result out.old }
+    // and what was written is read again.
+    ensures read_again { reading side (take result out.new) ≡ Ok (parts_of frame.now) }
+{
+    let start = frame.control.start();
+    put(out, 0, &frame.head(side)[..start]);
+    put(out, start, frame.info);
+    start + frame.info.len()
+}
+
+// Writes octets at a place.
+fn put(out: &mut [u8], at: usize, octets: &[u8])
+    requires { at + length octets.now ≤ length out.old }
+    ensures { out.new ≡ take at out.old ++ octets.now ++ drop (at + length octets.now) out.old }
+{
+    out[at..at + octets.len()].copy_from_slice(octets);
+}

@@ -1,0 +1,119 @@
+//! A source and a target of the tests, and the run of a script over them.
+
+use lapd_sim::{ReadFailed, Source, Target, WriteFailed, serve};
+use std::alloc::Global;
+
+/// Gives its octets in pieces, and then fails, where it has as many good reads only.
+#[derive(Drop)]
+pub struct Pieces<'a> {
+    rest: &'a [u8],
+    piece: usize,
+    good_reads: usize,
+    failures: u64,
+}
+
+impl<'a> Pieces<'a> {
+    /// Gives all octets in pieces of this size, and never fails.
+    pub fn of(octets: &'a [u8], piece: usize) -> Pieces<'a> {
+        Pieces::failing(octets, piece, usize::MAX)
+    }
+
+    /// Fails after so many good reads.
+    pub fn failing(octets: &'a [u8], piece: usize, good_reads: usize) -> Pieces<'a> {
+        Pieces {
+            rest: octets,
+            piece,
+            good_reads,
+            failures: 0,
+        }
+    }
+
+    /// How many octets have not been given.
+    pub fn left(&self) -> usize {
+        self.rest.len()
+    }
+}
+
+impl Source for Pieces<'_> {
+    ghost failures = { λ source. source.failures };
+
+    fn read(&mut self, buffer: &mut [u8]) -> Result<usize, ReadFailed> {
+        if self.good_reads == 0 {
+            self.failures = self.failures.saturating_add(1);
+            return Err(ReadFailed);
+        }
+        self.good_reads -= 1;
+        let count = self.piece.min(self.rest.len()).min(buffer.len());
+        let (given, rest) = self.rest.split_at(count);
+        buffer[..count].copy_from_slice(given);
+        self.rest = rest;
+        Ok(count)
+    }
+}
+
+/// Keeps what is written to it, and fails, where it has as many good writes only.
+#[derive(Drop)]
+pub struct Page {
+    text: Vec<u8>,
+    good_writes: usize,
+    failures: u64,
+}
+
+impl Page {
+    /// Keeps all that is written.
+    pub fn new(alloc: Global) -> Page {
+        Page::failing(alloc, usize::MAX)
+    }
+
+    /// Fails after so many good writes.
+    pub fn failing(alloc: Global, good_writes: usize) -> Page {
+        Page {
+            text: Vec::new(alloc),
+            good_writes,
+            failures: 0,
+        }
+    }
+
+    /// What has been written.
+    pub fn text(&self) -> &[u8] {
+        self.text.as_slice()
+    }
+}
+
+impl Target for Page {
+    ghost failures = { λ target. target.failures };
+
+    fn write(&mut self, octets: &[u8]) -> Result<(), WriteFailed> {
+        if self.good_writes == 0 || self.text.extend_from_slice(octets).is_err() {
+            self.failures = self.failures.saturating_add(1);
+            return Err(WriteFailed);
+        }
+        self.good_writes -= 1;
+        Ok(())
+    }
+}
+
+/// What `lapdsim run` left: its exit status, and the texts on its standard output and standard error.
+#[derive(Drop)]
+pub struct Outcome {
+    pub status: u8,
+    pub transcript: Page,
+    pub faults: Page,
+}
+
+/// Runs a script that comes in one piece.
+pub fn run(alloc: Global, script: &[u8]) -> Outcome {
+    run_from(alloc, &mut Pieces::of(script, usize::MAX))
+}
+
+/// Runs the script that a source gives.
+pub fn run_from(alloc: Global, source: &mut Pieces<'_>) -> Outcome {
+    let mut transcript = Page::new(alloc);
+    let mut faults = Page::new(alloc);
+    let status = serve(alloc, &["run"], source, &mut transcript, &mut faults);
+    Outcome {
+        status,
+        transcript,
+        faults,
+    }
+}

@@ -1,0 +1,60 @@
+//! A slab shelf, used at its own type.
+use lapd_store::{Shelf, SlabShelf, StartFault};
+use std::test::Fail;
+
+#[test]
+fn one_slot_holds_one_message(rt: HostRuntime) -> Result<(), Fail> {
+    let mut shelf = SlabShelf::start(rt.alloc(), 1, 8)?;
+    assert_eq!(rt; shelf.slots(), 1);
+    assert_eq!(rt; shelf.width(), 8);
+    let slot = shelf.put(b"ABC".as_slice()).ok_or("no slot")?;
+    assert!(rt; shelf.put(b"D".as_slice()).is_none());
+    assert_eq!(rt; shelf.used(), 1);
+    assert_eq!(rt; shelf.octets(), 3);
+    assert_eq!(rt; shelf.get(&slot), b"ABC".as_slice());
+    shelf.release(slot);
+    assert_eq!(rt; shelf.used(), 0);
+    assert_eq!(rt; shelf.octets(), 0);
+    assert!(rt; shelf.put(b"D".as_slice()).is_some());
+    Ok(())
+}
+
+#[test]
+fn contents_of_every_length_come_back(rt: HostRuntime) -> Result<(), Fail> {
+    let mut pattern = [0u8; 260];
+    for (octet, value) in pattern.iter_mut().zip(1u8..=255) {
+        *octet = value;
+    }
+    for (width, length) in [
+        (8u16, 0usize),
+        (8, 7),
+        (8, 8),
+        (260, 0),
+        (260, 9),
+        (260, 260),
+    ] {
+        assert!(rt; 8 <= width && width <= 260 && length <= usize::from(width));
+        let octets = &pattern[..length];
+        let mut shelf = SlabShelf::start(rt.alloc(), 2, width)?;
+        let slot = shelf.put(octets).ok_or("no slot")?;
+        assert_eq!(rt; shelf.get(&slot), octets, "length {length}");
+        assert_eq!(rt; shelf.octets(), length as u64);
+        assert_eq!(rt; shelf.used(), 1);
+    }
+    Ok(())
+}
+
+#[test]
+fn a_shelf_may_have_no_slot(rt: HostRuntime) -> Result<(), Fail> {
+    let mut shelf = SlabShelf::start(rt.alloc(), 0, 8)?;
+    assert!(rt; shelf.put(b"A".as_slice()).is_none());
+    Ok(())
+}
+
+#[test]
+fn the_fault_has_its_text(rt: HostRuntime) -> Result<(), Fail> {
+    let text = format!(in rt.alloc(); "{}", StartFault::OutOfMemory)?;
+    assert_eq!(rt; text.as_str(), "out of memory");
+    assert_eq!(rt; StartFault::OutOfMemory as u8, 1);
+    Ok(())
+}

@@ -1,0 +1,98 @@
+//! Readers and writers of std as sources and targets.
+
+use crate::fakes::Page;
+use crate::transcripts::{ESTABLISHED, TRANSCRIPT};
+use lapd_sim::{
+    PlayFault, ReadFailed, ReadFrom, Source, Target, WriteFailed, WriteTo, play, refuse,
+};
+use std::io::{Error, ErrorKind, Read, Result, Write};
+
+/// Is interrupted once, gives one octet, and fails from then on.
+#[derive(Drop)]
+struct Shaky {
+    reads: u8,
+}
+
+impl Read for Shaky {
+    fn read(&mut self, buf: &mut [u8]) -> Result<usize> {
+        self.reads = self.reads.saturating_add(1);
+        match buf {
+            [first, ..] if self.reads == 2 => {
+                *first = 7;
+                Ok(1)
+            }
+            _ if self.reads == 1 => Err(Error::from(ErrorKind::Interrupted)),
+            _ => Err(Error::from(ErrorKind::BrokenPipe)),
+        }
+    }
+}
+
+/// Takes so many octets, one at a time, and then none.
+#[derive(Drop)]
+struct Narrow {
+    room: usize,
+}
+
+impl Write for Narrow {
+    fn write(&mut self, buf: &[u8]) -> Result<usize> {
+        if self.room == 0 || buf.is_empty() {
+            return Ok(0);
+        }
+        self.room -= 1;
+        Ok(1)
+    }
+
+    fn flush(&mut self) -> Result<()> {
+        Ok(())
+    }
+}
+
+#[test]
+fn reads_from_a_reader(rt: HostRuntime) {
+    let mut source = ReadFrom::new(Shaky { reads: 0 });
+    let mut octets = [0; 4];
+    assert_eq!(rt; source.read(&mut octets), Ok(1));
+    assert_eq!(rt; octets, [7, 0, 0, 0]);
+    assert_eq!(rt; source.read(&mut octets), Err(ReadFailed));
+    assert_eq!(rt; source.read(&mut octets), Err(ReadFailed));
+}
+
+#[test]
+fn writes_to_a_writer(rt: HostRuntime) {
+    let mut target = WriteTo::new(Narrow { room: 5 });
+    assert_eq!(rt; target.write(b"abc"), Ok(()));
+    assert_eq!(rt; target.write(b""), Ok(()));
+    assert_eq!(rt; target.write(b"abc"), Err(WriteFailed));
+    assert_eq!(rt; target.write(b"a"), Err(WriteFailed));
+}
+
+#[test]
+fn plays_from_a_reader_to_a_writer(rt: HostRuntime) {
+    let mut text = Vec::new(rt.alloc());
+    let outcome = play(
+        rt.alloc(),
+        &mut ReadFrom::new(ESTABLISHED),
+        &mut WriteTo::new(&mut text),
+    );
+    assert_eq!(rt; outcome, Ok(()));
+    assert_eq!(rt; text.as_slice(), TRANSCRIPT);
+    let outcome = play(
+        rt.alloc(),
+        &mut ReadFrom::new(ESTABLISHED),
+        &mut WriteTo::new(Narrow { room: 30 }),
+    );
+    assert_eq!(rt; outcome, Err(PlayFault::Write));
+    let outcome = play(
+        rt.alloc(),
+        &mut ReadFrom::new(Shaky { reads: 0 }),
+        &mut Page::new(rt.alloc()),
+    );
+    assert_eq!(rt; outcome, Err(PlayFault::Read));
+}
+
+#[test]
+fn tells_of_refused_memory(rt: HostRuntime) {
+    let mut faults = Page::new(rt.alloc());
+    assert_eq!(rt; refuse(PlayFault::OutOfMemory, &mut faults), 1);
+    assert_eq!(rt; faults.text(), b"out of memory\n".as_slice());
+}

@@ -1,0 +1,12 @@
+use Rattle.lapd_seq.specs.Circle.{distance_of}
+use Rattle.lapd_seq.proofs.Remainders.{distance-plain}
+use Rattle.lapd_seq.proofs.circle.distance.Goals as goal
+use Rattle.std.proofs.Common.{refl}
+
+pub returns-clause-circle : goal.returns-clause-circle
+unfolding distance_of
+returns-clause-circle c = refl
+
+pub returns-clause-plain : goal.returns-clause-plain
+unfolding distance_of
+returns-clause-plain c = λ a s h. distance-plain c.args.from c.args.to a s h

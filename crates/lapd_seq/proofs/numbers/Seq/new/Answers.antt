@@ -1,0 +1,6 @@
+use Rattle.std.proofs.Common.{arith}
+use Rattle.lapd_seq.proofs.Remainders.{is_seq}
+use Rattle.lapd_seq.proofs.numbers.Seq.new.Goals as goal
+
+pub returns-clause-number : goal.returns-clause-number
+returns-clause-number c = is_seq _ c.args.value (omega arith)

@@ -1,0 +1,9 @@
+use Rattle.std.proofs.Common.{refl}
+use Rattle.lapd_seq.proofs.Remainders.{is_seq, seq-next}
+use Rattle.lapd_seq.proofs.numbers.Seq.next.Goals as goal
+
+pub returns-clause-circle : goal.returns-clause-circle
+returns-clause-circle c = is_seq _ _ refl
+
+pub returns-clause-plain : goal.returns-clause-plain
+returns-clause-plain c = λ n e. seq-next c.args.self _ n e refl

@@ -1,0 +1,106 @@
+//! The I-frames that were sent and are not yet acknowledged.
+
+ghost use Rattle.std.specs.Prelude.{◌≡◌, ℕ, ◌+◌, ◌<◌, ◌↔◌, IsTrue};
+ghost use Rattle.lapd_seq.specs.Numbers.{seq};
+ghost use Rattle.lapd_seq.specs.Circle.{IsValid, IsNamed};
+ghost use Rattle.lapd_seq.specs.Windows.{va_of, vs_of, outstanding_of, Stands};
+
+use crate::circle::distance;
+use crate::numbers::Seq;
+
+/// The variables V(A) and V(S) of one link (Q.921 clauses 3.5.2.2 and 3.5.2.3).
+///
+/// It stands for two plain numbers, which count from 0 since the link was established: the first
+/// `a` I-frames are acknowledged and the first `s` are sent, with `a <= s`, at most 127 apart. V(A)
+/// and V(S) are their remainders.
+#[derive(Clone, Copy, PartialEq, Eq, Debug)]
+pub struct Window {
+    va: Seq,
+    vs: Seq,
+}
+
+impl Window {
+    /// The window of a link that has just been established: nothing sent.
+    pub fn new() -> Self
+        ensures { Stands result 0 0 }
+    {
+        Window {
+            va: Seq::ZERO,
+            vs: Seq::ZERO,
+        }
+    }
+
+    /// V(A), the number of the oldest I-frame that is not acknowledged, or of the next to be sent
+    /// where there is none.
+    pub fn va(&self) -> Seq
+        ensures held { result ≡ va_of self.now }
+        ensures plain { (a s : ℕ) → Stands self.now a s → result ≡ seq a }
+    {
+        self.va
+    }
+
+    /// V(S), the number of the next I-frame to be sent.
+    pub fn vs(&self) -> Seq
+        ensures held { result ≡ vs_of self.now }
+        ensures plain { (a s : ℕ) → Stands self.now a s → result ≡ seq s }
+    {
+        self.vs
+    }
+
+    /// How many I-frames are sent and not acknowledged: 0 to 127.
+    pub fn outstanding(&self) -> u8
+        ensures held { result ≡ outstanding_of self.now }
+        ensures bound { result < 128 }
+        ensures plain { (a s : ℕ) → Stands self.now a s → a + result ≡ s }
+    {
+        distance(self.va, self.vs)
+    }
+
+    /// Whether one more I-frame may be sent where at most `k` may be outstanding (Q.921 clause
+    /// 5.9.5). `k` is 1 to 127.
+    pub fn may_send(&self, k: u8) -> bool
+        ensures held { IsTrue result ↔ (outstanding_of self.now < k) }
+        ensures plain { (a s : ℕ) → Stands self.now a s → (IsTrue result ↔ (s < a + k)) }
+    {
+        self.outstanding() < k
+    }
+
+    /// One more I-frame is sent. Fewer than 127 may be outstanding before.
+    pub fn advance(&mut self)
+        requires { outstanding_of self.old < 127 }
+        ensures held { vs_of self.new ≡ seq ((vs_of self.old).value + 1) }
+        ensures same { va_of self.new ≡ va_of self.old }
+        ensures plain { (a s : ℕ) → Stands self.old a s → Stands self.new a (s + 1) }
+    {
+        self.vs = self.vs.next();
+    }
+
+    /// All I-frames before the one that a valid `nr` names are acknowledged.
+    pub fn acknowledge(&mut self, nr: Seq)
+        requires { IsValid (va_of self.old) nr (vs_of self.old) }
+        ensures held { va_of self.new ≡ nr }
+        ensures same { vs_of self.new ≡ vs_of self.old }
+        ensures plain { (a s n : ℕ) → Stands self.old a s → IsNamed a s nr n → Stands self.new n s }
+    {
+        self.va = nr;
+    }
+
+    /// The I-frame that a valid `nr` names is the next to be sent, and so are those after it again.
+    pub fn go_back(&mut self, nr: Seq)
+        requires { IsValid (va_of self.old) nr (vs_of self.old) }
+        ensures held { vs_of self.new ≡ nr }
+        ensures same { va_of self.new ≡ va_of self.old }
+        ensures plain { (a s n : ℕ) → Stands self.old a s → IsNamed a s nr n → Stands self.new a n }
+    {
+        self.vs = nr;
+    }
+}
+
+impl Default for Window {
+    ghost is_default = { λ window. Stands window 0 0 };
+
+    /// `Window::new`.
+    fn default() -> Self {
+        Window::new()
+    }
+}

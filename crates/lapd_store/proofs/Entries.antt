@@ -1,0 +1,201 @@
+-- The entries of a finite map whose keys are numbers, as a list in any order.
+use Rattle.std.proofs.Common.{◌≡◌, ◌≢◌, ℕ, ◌<◌, Bool, true, false, cond, T, Option, Some, None, List, [], ◌∷◌, map, refl, sym, ap, subst, ◌∙◌, ◌⊎◌, inl, inr, arith, eqb, get_or}
+use Rattle.std.proofs.lemmas.Bool.{eqb-false, ne_eqb, eq-eqb, cases_eq, and_parts, cond-true, cond-false}
+use Rattle.std.proofs.lemmas.Bool.Decides.{nat_tests}
+use Rattle.std.proofs.lemmas.List.{nil_from_length}
+use Rattle.std.proofs.lemmas.List.Elements.{All-nil, All-cons, All-head, All-tail, All-contains, All-map, recursion_from_All, Contains-append_right}
+use Rattle.std.proofs.lemmas.List.Sorted.{IsPermutation-refl, IsPermutation-sym, IsPermutation-cons, IsPermutation-trans, IsPermutation-middle, IsPermutation-map, All-permutation}
+use Rattle.std.proofs.lemmas.Map.Keys.{IsDistinct-head, IsDistinct-tail, IsDistinct-cons, IsDistinct-from_apart, IsDistinct-IsPermutation}
+use Rattle.std.proofs.lemmas.Option.{none-some, same_Some}
+use Rattle.std.specs.Cmp.{nat_cmp_total, unsigned_tied, ranked}
+use Rattle.std.specs.declared.cmp.Ordering.{Ordering}
+use Rattle.std.specs.declared.cmp.Ordering.TheVariants.{Less, Equal, Greater}
+use Rattle.std.specs.FinMap as finmap
+use Rattle.std.specs.FinMap.Entries.{by_order, below_all, find, put, is_sorted}
+use Rattle.std.specs.List.{All, AllByRecursion, Contains, IsDistinct}
+use Rattle.std.specs.List.Sorted.{IsPermutation}
+use Rattle.std.specs.Ordering.{nat_cmp, is_lt, is_eq, eq_by_cmp}
+
+holds : (b : Bool) → T b → b ≡ true
+holds true t = refl
+holds false t = absurd t
+
+tied : (x y : ℕ) → x ≡ y → eq_by_cmp nat_cmp x y ≡ true
+tied x y e = unsigned_tied x y ∙ eq-eqb x y e
+
+untied : (x y : ℕ) → x ≢ y → eq_by_cmp nat_cmp x y ≡ false
+untied x y ne = unsigned_tied x y ∙ ne_eqb x y ne
+
+less : (o : Ordering) → is_lt o ≡ true → o ≡ Less
+less Less is = refl
+less Equal is = cc
+less Greater is = cc
+
+eqb-flips : (x y : ℕ) → eqb x y ≡ eqb y x
+eqb-flips x y = grind (arith, nat_tests)
+
+-- what holds at one key and at every other holds at each
+pub each_key : (P : ℕ → Type 0) (k : ℕ) → P k → ((q : ℕ) → q ≢ k → P q) → (q : ℕ) → P q
+each_key P k here other q = elim (cases_eq q k) [ inl e ↦ subst P (sym e) here | inr ne ↦ other q ne ]
+
+none_from : {A : Type 0} (o : Option A) → ((v : A) → o ≢ Some v) → o ≡ None
+none_from None never = refl
+none_from (Some v) never = absurd (never v refl)
+
+module _ {X : Type 0} where
+  pub get-insert_same : (m : finmap.FinMap nat_cmp X) (k : ℕ) (v : X) → finmap.get (finmap.insert m k v) k ≡ Some v
+  get-insert_same m k v = finmap.get-insert nat_cmp_total m k v k ∙ cond-true _ _ _ (tied k k refl)
+
+  pub get-insert_other : (m : finmap.FinMap nat_cmp X) (k : ℕ) (v : X) (q : ℕ) → q ≢ k → finmap.get (finmap.insert m k v) q ≡ finmap.get m q
+  get-insert_other m k v q ne = finmap.get-insert nat_cmp_total m k v q ∙ cond-false _ _ _ (untied q k ne)
+
+  pub get-remove_same : (m : finmap.FinMap nat_cmp X) (k : ℕ) → finmap.get (finmap.remove m k) k ≡ None
+  get-remove_same m k = finmap.get-remove nat_cmp_total m k k ∙ cond-true _ _ _ (tied k k refl)
+
+  pub get-remove_other : (m : finmap.FinMap nat_cmp X) (k q : ℕ) → q ≢ k → finmap.get (finmap.remove m k) q ≡ finmap.get m q
+  get-remove_other m k q ne = finmap.get-remove nat_cmp_total m k q ∙ cond-false _ _ _ (untied q k ne)
+
+  pub same_entries : (m n : finmap.FinMap nat_cmp X) → ((q : ℕ) → finmap.get m q ≡ finmap.get n q) → m ≡ n
+  same_entries m n = finmap.same_map nat_cmp_total finmap.nat_cmp-IsAntisymmetric m n
+
+  -- a value taken out and put back
+  pub insert-remove_same : (m : finmap.FinMap nat_cmp X) (k : ℕ) (v : X) → finmap.get m k ≡ Some v → finmap.insert (finmap.remove m k) k v ≡ m
+  insert-remove_same m k v is =
+      same_entries _ _ (each_key _ k
+      (get-insert_same _ k v ∙ sym is)
+      (λ q ne. get-insert_other _ k v q ne ∙ get-remove_other m k q ne))
+
+  -- a new value taken out again
+  pub remove-insert_same : (m : finmap.FinMap nat_cmp X) (k : ℕ) (v : X) → finmap.get m k ≡ None → finmap.remove (finmap.insert m k v) k ≡ m
+  remove-insert_same m k v free =
+      same_entries _ _ (each_key _ k
+      (get-remove_same _ k ∙ sym free)
+      (λ q ne. get-remove_other _ k q ne ∙ get-insert_other m k v q ne))
+
+  -- an entry at a new key goes somewhere among the others
+  put_permutes : (k : ℕ) (v : X) (es : List (ℕ × X)) → find nat_cmp k es ≡ None → IsPermutation ((k, v) ∷ es) (put nat_cmp k v es)
+  put_permutes k v [] none = IsPermutation-refl _
+  put_permutes k v (e ∷ es) none =
+      elim (nat_cmp k e.0) as (λ o. cond (is_eq o) (Some e.1) (find nat_cmp k es) ≡ None → IsPermutation ((k, v) ∷ e ∷ es) (by_order o ((k, v) ∷ e ∷ es) ((e.0, v) ∷ es) (e ∷ put nat_cmp k v es))) [
+        | Less ↦ λ is. IsPermutation-refl _
+        | Equal ↦ λ is. absurd (none-some e.1 (sym is))
+        | Greater ↦ λ is. IsPermutation-trans _ _ _ (IsPermutation-middle ((k, v) ∷ []) e es) (IsPermutation-cons e _ _ (put_permutes k v es is))
+      ] none
+
+  -- the entries after an insert at a free key
+  pub entries-insert_free : (m : finmap.FinMap nat_cmp X) (k : ℕ) (v : X) → finmap.get m k ≡ None → IsPermutation ((k, v) ∷ finmap.entries m) (finmap.entries (finmap.insert m k v))
+  entries-insert_free m k v free =
+      subst (λ es. IsPermutation ((k, v) ∷ finmap.entries m) es)
+      (sym (finmap.entries-insert nat_cmp_total m k v))
+      (put_permutes k v (finmap.entries m) (sym (finmap.get-entries m k) ∙ free))
+
+  pub entries-empty : finmap.entries (finmap.empty {X = X} {R = nat_cmp}) ≡ []
+  entries-empty = nil_from_length _ (sym (finmap.len-entries finmap.empty) ∙ finmap.len-empty nat_cmp X)
+
+  -- a key is found where an entry has it
+  pub find-head : (q : ℕ) (e : ℕ × X) (es : List (ℕ × X)) → q ≡ e.0 → find nat_cmp q (e ∷ es) ≡ Some e.1
+  find-head q e es is = cond-true _ _ _ (tied q e.0 is)
+
+  pub find-tail : (q : ℕ) (e : ℕ × X) (es : List (ℕ × X)) → q ≢ e.0 → find nat_cmp q (e ∷ es) ≡ find nat_cmp q es
+  find-tail q e es ne = cond-false _ _ _ (untied q e.0 ne)
+
+  above : (x : ℕ) (es : List (ℕ × X)) → below_all nat_cmp x es ≡ true → All (λ p. x < p.0) es
+  above x [] b = All-nil _
+  above x (e ∷ es) b =
+      let parts = and_parts (is_lt (nat_cmp x e.0)) (below_all nat_cmp x es) b in
+      All-cons (λ p. x < p.0) e es (ranked x e.0 Less (sym (less _ parts.0))) (above x es parts.1)
+
+  -- each entry of a list in order is found under its key
+  each_found : (es : List (ℕ × X)) → is_sorted nat_cmp es ≡ true → All (λ p. find nat_cmp p.0 es ≡ Some p.1) es
+  each_found [] s = All-nil _
+  each_found (e ∷ es) s =
+      let parts = and_parts (below_all nat_cmp e.0 es) (is_sorted nat_cmp es) s in
+      let higher = above e.0 es parts.0 in
+      let rest = each_found es parts.1 in
+      All-cons (λ p. find nat_cmp p.0 (e ∷ es) ≡ Some p.1) e es (find-head e.0 e es refl) (λ i d h. find-tail _ e es (omega (arith, higher i d h)) ∙ rest i d h)
+
+  -- each entry of a map is what its key has
+  pub entries_found : (m : finmap.FinMap nat_cmp X) → All (λ p. finmap.get m p.0 ≡ Some p.1) (finmap.entries m)
+  entries_found m i d h = finmap.get-entries m _ ∙ each_found (finmap.entries m) (holds _ (finmap.entries_sorted m)) i d h
+
+  distinct_from_sorted : (es : List (ℕ × X)) → is_sorted nat_cmp es ≡ true → IsDistinct eqb (map (λ p. p.0) es)
+  distinct_from_sorted [] s = IsDistinct-from_apart eqb [] (λ i j d low high. absurd (omega arith))
+  distinct_from_sorted (e ∷ es) s =
+      let parts = and_parts (below_all nat_cmp e.0 es) (is_sorted nat_cmp es) s in
+      IsDistinct-cons eqb e.0 _
+      (recursion_from_All (λ y. eqb e.0 y ≡ false) _ (All-map (λ y. eqb e.0 y ≡ false) (λ p. p.0) es (λ i d h. let higher : e.0 < (get_or es i d).0 = above e.0 es parts.0 i d h in ne_eqb e.0 (get_or es i d).0 (omega arith))))
+      (distinct_from_sorted es parts.1)
+
+  -- no key stands twice among the entries of a map
+  pub entries_distinct : (m : finmap.FinMap nat_cmp X) → IsDistinct eqb (map (λ p. p.0) (finmap.entries m))
+  entries_distinct m = distinct_from_sorted (finmap.entries m) (holds _ (finmap.entries_sorted m))
+
+  -- nor among them in any order
+  pub keys_distinct : (m : finmap.FinMap nat_cmp X) (es : List (ℕ × X)) → IsPermutation es (finmap.entries m) → IsDistinct eqb (map (λ p. p.0) es)
+  keys_distinct m es order =
+      IsDistinct-IsPermutation eqb eqb-flips _ _
+      (IsPermutation-map (λ p. p.0) _ _ (IsPermutation-sym _ _ order))
+      (entries_distinct m)
+
+  found_contained : (q : ℕ) (v : X) (es : List (ℕ × X)) → find nat_cmp q es ≡ Some v → Contains es (q, v)
+  found_contained q v [] is = absurd (none-some v is)
+  found_contained q v (e ∷ es) is =
+      elim (cases_eq q e.0) [
+        | inl same ↦ (0, omega arith, λ i. (sym same i, same_Some _ _ (sym (find-head q e es same) ∙ is) i))
+        | inr ne ↦ Contains-append_right (e ∷ []) es (q, v) (found_contained q v es (sym (find-tail q e es ne) ∙ is))
+      ]
+
+  -- what a key has is among the entries
+  pub get_contained : (m : finmap.FinMap nat_cmp X) (q : ℕ) (v : X) → finmap.get m q ≡ Some v → Contains (finmap.entries m) (q, v)
+  get_contained m q v is = found_contained q v (finmap.entries m) (sym (finmap.get-entries m q) ∙ is)
+
+  unfound_apart : (q : ℕ) (es : List (ℕ × X)) → find nat_cmp q es ≡ None → All (λ p. q ≢ p.0) es
+  unfound_apart q [] none = All-nil _
+  unfound_apart q (e ∷ es) none =
+      let apart : q ≢ e.0 = λ same. none-some e.1 (sym none ∙ find-head q e es same) in
+      All-cons (λ p. q ≢ p.0) e es apart (unfound_apart q es (sym (find-tail q e es apart) ∙ none))
+
+  apart_unfound : (q : ℕ) (es : List (ℕ × X)) → AllByRecursion (λ y. eqb q y ≡ false) (map (λ p. p.0) es) → find nat_cmp q es ≡ None
+  apart_unfound q [] apart = refl
+  apart_unfound q (e ∷ es) apart = find-tail q e es (eqb-false q e.0 apart.0) ∙ apart_unfound q es apart.1
+
+  -- entries that agree with a function find nothing else than it has
+  found_agrees : (f : ℕ → Option X) (q : ℕ) (es : List (ℕ × X)) → All (λ p. f p.0 ≡ Some p.1) es → (find nat_cmp q es ≡ None) ⊎ (find nat_cmp q es ≡ f q)
+  found_agrees f q [] all = inl refl
+  found_agrees f q (e ∷ es) all =
+      elim (cases_eq q e.0) [
+        | inl same ↦ inr (find-head q e es same ∙ sym (ap f same ∙ All-head (λ p. f p.0 ≡ Some p.1) e es all))
+        | inr ne ↦ subst (λ r. (r ≡ None) ⊎ (r ≡ f q)) (sym (find-tail q e es ne)) (found_agrees f q es (All-tail (λ p. f p.0 ≡ Some p.1) e es all))
+      ]
+
+  -- what is not among the entries is not in the map
+  nothing_there : (m : finmap.FinMap nat_cmp X) (es : List (ℕ × X)) (q : ℕ) → IsPermutation (finmap.entries m) es → find nat_cmp q es ≡ None → finmap.get m q ≡ None
+  nothing_there m es q order none =
+      let apart = All-permutation (λ p. q ≢ p.0) _ _ (IsPermutation-sym _ _ order) (unfound_apart q es none) in
+      none_from (finmap.get m q) (λ v is. All-contains (λ p. q ≢ p.0) _ (q, v) apart (get_contained m q v is) refl)
+
+  -- the map of a map's entries, in any order, is that map
+  pub from_entries_permuted : (m : finmap.FinMap nat_cmp X) (es : List (ℕ × X)) → IsPermutation es (finmap.entries m) → finmap.from_entries es ≡ m
+  from_entries_permuted m es order =
+      let back = IsPermutation-sym _ _ order in
+      let agree = All-permutation (λ p. finmap.get m p.0 ≡ Some p.1) _ _ back (entries_found m) in
+      same_entries _ _ (λ q. finmap.get-from_entries nat_cmp_total es q ∙ elim (found_agrees (finmap.get m) q es agree) [
+        | inl none ↦ none ∙ sym (nothing_there m es q back none)
+        | inr found ↦ found
+      ])
+
+  -- entries of different keys are those of their map
+  pub entries-from_entries : (es : List (ℕ × X)) → IsDistinct eqb (map (λ p. p.0) es) → IsPermutation es (finmap.entries (finmap.from_entries {R = nat_cmp} es))
+  entries-from_entries [] distinct = subst (IsPermutation []) (sym entries-empty) (IsPermutation-refl [])
+  entries-from_entries (e ∷ es) distinct =
+      let free = finmap.get-from_entries nat_cmp_total es e.0 ∙ apart_unfound e.0 es (IsDistinct-head eqb e.0 _ distinct) in
+      let rest = entries-from_entries es (IsDistinct-tail eqb e.0 _ distinct) in
+      IsPermutation-trans _ _ _ (IsPermutation-cons e _ _ rest) (entries-insert_free (finmap.from_entries es) e.0 e.1 free)
+
+  -- what is left of the entries after a removal
+  pub entries-remove : (m : finmap.FinMap nat_cmp X) (k : ℕ) (v : X) (es : List (ℕ × X)) → IsPermutation ((k, v) ∷ es) (finmap.entries m) → IsPermutation es (finmap.entries (finmap.remove m k))
+  entries-remove m k v es order =
+      let distinct = keys_distinct m ((k, v) ∷ es) order in
+      let free = finmap.get-from_entries nat_cmp_total es k ∙ apart_unfound k es (IsDistinct-head eqb k _ distinct) in
+      let is = ap (λ n. finmap.remove n k) (sym (from_entries_permuted m ((k, v) ∷ es) order)) ∙ remove-insert_same (finmap.from_entries es) k v free in
+      subst (λ n. IsPermutation es (finmap.entries n)) (sym is) (entries-from_entries es (IsDistinct-tail eqb k _ distinct))

@@ -1,0 +1,6 @@
+pub mod Entries
+pub mod Ownership
+pub mod Queues
+pub mod StoreLemmas
+mod SlabLemmas
+mod Worked

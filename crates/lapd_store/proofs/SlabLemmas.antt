@@ -1,0 +1,129 @@
+-- A slab of octet vectors as a store.
+use Rattle.std.proofs.Common.{◌≡◌, ℕ, zero, suc, ◌+◌, ◌-◌, ◌^◌, ◌<◌, ◌≤◌, Option, Some, None, IsSome, List, [], ◌∷◌, map, length, refl, sym, ap, subst, ◌∙◌, arith, get_or}
+use Rattle.std.specs.FinMap as finmap
+use Rattle.std.specs.FinMap.Entries.{find}
+use Rattle.std.specs.List.{count_by}
+use Rattle.std.specs.Option.{option_map, is_some}
+use Rattle.std.specs.Ordering.{nat_cmp}
+use Rattle.std.specs.Cmp.{nat_cmp_total}
+use Rattle.slab.specs.Slab.{Slab, get, slab_len, entries_from, ContainsKey, HasRoomFor, Updates}
+use Rattle.arrayvec.specs.ArrayVec.{ArrayVec}
+use Rattle.lapd_store.specs.Ownership.{Owned}
+use Rattle.lapd_store.specs.SlabStore.{filled, slab_store, IsSound}
+use Rattle.lapd_store.specs.Store.{empty_store, contents_of, IsUsed, IsFree, used_slots, stored_octets, with_contents, without, IsWithinLimits}
+use Rattle.lapd_store.specs.declared.slab_shelf.SlabShelf.TheInside.{Inside}
+use Rattle.lapd_store.proofs.StoreLemmas.{used_slots-empty, stored_octets-empty, IsWithinLimits-empty, used_slots-with_contents, stored_octets-with_contents, IsWithinLimits-with_contents, used_slots-without, stored_octets-without, IsWithinLimits-without, stored_octets_bound}
+use Rattle.lapd_store.proofs.Entries.{find-head, find-tail, each_key, same_entries, get-insert_same, get-insert_other, get-remove_same, get-remove_other}
+
+-- the pairs of these places, where the first has this key
+abbrev pairs_from : ℕ → List (Option (ArrayVec ℕ)) → List Owned
+pairs_from key slots = map (λ e. (e.0, e.1.items)) (entries_from key slots)
+
+find_before : (key q : ℕ) (slots : List (Option (ArrayVec ℕ))) → q < key → find nat_cmp q (pairs_from key slots) ≡ None
+find_before key q [] low = refl
+find_before key q (None ∷ rest) low = find_before (key + 1) q rest (omega arith)
+find_before key q (Some v ∷ rest) low =
+    find-tail q (key, v.items) (pairs_from (key + 1) rest) (omega arith) ∙ find_before (key + 1) q rest (omega arith)
+
+find_from : (key i q : ℕ) (slots : List (Option (ArrayVec ℕ))) → q ≡ key + i → find nat_cmp q (pairs_from key slots) ≡ option_map (λ v. v.items) (get_or slots i None)
+find_from key i q [] is = refl
+find_from key zero q (None ∷ rest) is = find_before (key + 1) q rest (omega arith)
+find_from key (suc i) q (None ∷ rest) is = find_from (key + 1) i q rest (omega arith)
+find_from key zero q (Some v ∷ rest) is = find-head q (key, v.items) (pairs_from (key + 1) rest) (omega arith)
+find_from key (suc i) q (Some v ∷ rest) is =
+    find-tail q (key, v.items) (pairs_from (key + 1) rest) (omega arith) ∙ find_from (key + 1) i q rest (omega arith)
+
+-- the store has under a key what the slab has
+pub get-filled : (slab : Slab (ArrayVec ℕ)) (q : ℕ) → finmap.get (finmap.from_entries {R = nat_cmp} (filled slab)) q ≡ option_map (λ v. v.items) (get slab q)
+get-filled slab q = finmap.get-from_entries nat_cmp_total (filled slab) q ∙ find_from 0 q q slab.slots (omega arith)
+
+-- an insert into the slab is one into the store
+pub filled-insert : (old new : Slab (ArrayVec ℕ)) (key : ℕ) (v : ArrayVec ℕ) → Updates old new key (Some v) → finmap.from_entries {R = nat_cmp} (filled new) ≡ finmap.insert (finmap.from_entries (filled old)) key v.items
+filled-insert old new key v updates =
+    same_entries _ _ (each_key _ key
+    (get-filled new key ∙ ap (option_map (λ x. x.items)) updates.changed ∙ sym (get-insert_same _ key v.items))
+    (λ q ne. get-filled new q ∙ ap (option_map (λ x. x.items)) (updates.others q ne) ∙ sym (get-insert_other _ key v.items q ne ∙ get-filled old q)))
+
+-- and a removal likewise
+pub filled-remove : (old new : Slab (ArrayVec ℕ)) (key : ℕ) → Updates old new key None → finmap.from_entries {R = nat_cmp} (filled new) ≡ finmap.remove (finmap.from_entries (filled old)) key
+filled-remove old new key updates =
+    same_entries _ _ (each_key _ key
+    (get-filled new key ∙ ap (option_map (λ x. x.items)) updates.changed ∙ sym (get-remove_same _ key))
+    (λ q ne. get-filled new q ∙ ap (option_map (λ x. x.items)) (updates.others q ne) ∙ sym (get-remove_other _ key q ne ∙ get-filled old q)))
+
+-- a slab that was just made is an empty store
+pub slab_store-start : (slab : Slab (ArrayVec ℕ)) (slots width : ℕ) → slab.slots ≡ [] → slab_store (record { contents = slab; octets = 0; slots = slots; width = width }) ≡ empty_store slots width
+slab_store-start slab slots width empty i = record { contents = finmap.from_entries (map (λ e. (e.0, e.1.items)) (entries_from 0 (empty i))); slots = slots; width = width }
+
+pub IsSound-start : (slab : Slab (ArrayVec ℕ)) (slots width : ℕ) → slab.slots ≡ [] → slots ≤ slab.capacity → slots < 2 ^ 32 → width ≤ 260 → IsSound (record { contents = slab; octets = 0; slots = slots; width = width })
+IsSound-start slab slots width empty room few narrow =
+    let is = slab_store-start slab slots width empty in
+    record {
+      room = room;
+      counted = ap (count_by is_some) empty ∙ sym (ap used_slots is ∙ used_slots-empty slots width);
+      measured = sym (ap stored_octets is ∙ stored_octets-empty slots width);
+      within = subst IsWithinLimits (sym is) (IsWithinLimits-empty slots width);
+      few = few;
+      narrow = narrow;
+    }
+
+some_mapped : (o : Option (ArrayVec ℕ)) → IsSome (option_map (λ v. v.items) o) → IsSome o
+some_mapped None some = some
+some_mapped (Some v) some = some
+
+module _ (a : Inside) (sound : IsSound a) where
+  -- a slot of the store is a key of the slab
+  pub contents_of-slab : (slot : ℕ) → contents_of (slab_store a) slot ≡ option_map (λ v. v.items) (get a.contents slot)
+  contents_of-slab slot = get-filled a.contents slot
+
+  pub ContainsKey-slab : (slot : ℕ) → IsUsed (slab_store a) slot → ContainsKey a.contents slot
+  ContainsKey-slab slot used = some_mapped (get a.contents slot) (subst IsSome (contents_of-slab slot) used)
+
+  -- where a slot is free, the slab has room
+  pub HasRoomFor-one : used_slots (slab_store a) < a.slots → HasRoomFor a.contents 1
+  HasRoomFor-one free = omega (arith, sound.room, sound.counted)
+
+  -- the octets with those of one message more are no more than a count of 64 bits can hold
+  pub octets_fit : (more : ℕ) → more ≤ 260 → a.octets + more < 2 ^ 64
+  octets_fit more fits =
+      let bound = stored_octets_bound (slab_store a) 260 sound.narrow sound.within in
+      omega (arith, bound, sound.measured, sound.within.count, sound.few)
+
+  module _ (slab : Slab (ArrayVec ℕ)) (key : ℕ) (octets : List ℕ) where
+    -- a put
+    pub slab_store-put : Updates a.contents slab key (Some (record { items = octets })) → slab_store (record { contents = slab; octets = a.octets + length octets; slots = a.slots; width = a.width }) ≡ with_contents (slab_store a) key octets
+    slab_store-put updates i = record { contents = filled-insert a.contents slab key (record { items = octets }) updates i; slots = a.slots; width = a.width }
+
+    pub IsFree-slab : get a.contents key ≡ None → IsFree (slab_store a) key
+    IsFree-slab vacant = contents_of-slab key ∙ ap (option_map (λ v. v.items)) vacant
+
+    pub IsSound-put : used_slots (slab_store a) < a.slots → length octets ≤ a.width → get a.contents key ≡ None → Updates a.contents slab key (Some (record { items = octets })) → slab_len slab ≡ slab_len a.contents + 1 → slab.capacity ≡ a.contents.capacity → IsSound (record { contents = slab; octets = a.octets + length octets; slots = a.slots; width = a.width })
+    IsSound-put room fits vacant updates longer capacity =
+        let is = slab_store-put updates in
+        let free = IsFree-slab vacant in
+        record {
+          room = omega (arith, sound.room, capacity);
+          counted = longer ∙ ap (λ n. n + 1) sound.counted ∙ sym (ap used_slots is ∙ used_slots-with_contents (slab_store a) key octets free);
+          measured = ap (λ n. n + length octets) sound.measured ∙ sym (ap stored_octets is ∙ stored_octets-with_contents (slab_store a) key octets free);
+          within = subst IsWithinLimits (sym is) (IsWithinLimits-with_contents (slab_store a) key octets free room fits sound.within);
+          few = sound.few;
+          narrow = sound.narrow;
+        }
+
+    -- a release
+    pub slab_store-release : Updates a.contents slab key None → slab_store (record { contents = slab; octets = a.octets - length octets; slots = a.slots; width = a.width }) ≡ without (slab_store a) key
+    slab_store-release updates i = record { contents = filled-remove a.contents slab key updates i; slots = a.slots; width = a.width }
+
+    pub IsSound-release : contents_of (slab_store a) key ≡ Some octets → Updates a.contents slab key None → slab_len slab + 1 ≡ slab_len a.contents → slab.capacity ≡ a.contents.capacity → IsSound (record { contents = slab; octets = a.octets - length octets; slots = a.slots; width = a.width })
+    IsSound-release held updates shorter capacity =
+        let is = slab_store-release updates in
+        let fewer = used_slots-without (slab_store a) key octets held in
+        let less = stored_octets-without (slab_store a) key octets held in
+        record {
+          room = omega (arith, sound.room, capacity);
+          counted = omega (arith, ap used_slots is, fewer, shorter, sound.counted);
+          measured = omega (arith, ap stored_octets is, less, sound.measured);
+          within = subst IsWithinLimits (sym is) (IsWithinLimits-without (slab_store a) key octets held sound.within);
+          few = sound.few;
+          narrow = sound.narrow;
+        }

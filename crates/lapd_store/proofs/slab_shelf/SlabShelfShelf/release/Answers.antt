@@ -1,0 +1,37 @@
+use Rattle.std.proofs.Common.{◌-◌, sym, ap, subst, ◌∙◌, arith}
+use Rattle.std.specs.Option.{option_map}
+use Rattle.lapd_store.specs.SlabStore.{slab_store, IsSound}
+use Rattle.lapd_store.specs.Store.{IsUsed}
+use Rattle.lapd_store.proofs.SlabLemmas.{contents_of-slab, ContainsKey-slab, IsSound-release, slab_store-release}
+use Rattle.lapd_store.proofs.StoreLemmas.{stored_octets-without}
+use Rattle.lapd_store.proofs.slab_shelf.SlabShelfShelf.release.Goals as goal
+
+pub remove-contents-requires : goal.remove-contents-requires
+remove-contents-requires c =
+    ContainsKey-slab c.self.inside c.self.invariant c.slot.inside.number
+    (subst (IsUsed (slab_store c.self.inside)) (sym c.slot.view_is) (subst (λ s. IsUsed s c.args.slot) (sym c.self.view_is) c.requires))
+
+pub overflow_sub-self : goal.overflow_sub-self
+overflow_sub-self c =
+    let held = contents_of-slab c.self.inside c.self.invariant c.slot.inside.number ∙ ap (option_map (λ v. v.items)) c.remove-contents.ensures.value in
+    let less = stored_octets-without (slab_store c.self.inside) c.slot.inside.number c.remove-contents.result.items held in
+    omega (arith, less, c.len.ensures.value, c.self.invariant.measured)
+
+-- the fields after the release are sound
+sound : (c : goal.After-self-1) → IsSound (record { contents = c.remove-contents.new.self; octets = c.self.inside.octets - c.len.result; slots = c.self.inside.slots; width = c.self.inside.width })
+sound c =
+    let says = c.remove-contents.ensures in
+    let held = contents_of-slab c.self.inside c.self.invariant c.slot.inside.number ∙ ap (option_map (λ v. v.items)) says.value in
+    rw c.len.ensures.value
+    (IsSound-release c.self.inside c.self.invariant c.remove-contents.new.self c.slot.inside.number c.remove-contents.result.items held says.updates says.len says.capacity)
+
+pub invariant_of-self : goal.invariant_of-self
+invariant_of-self c = sound c
+
+pub returns-clause-released : goal.returns-clause-released
+returns-clause-released c =
+    rw (← c.self.view_is, ← c.slot.view_is)
+    (slab_store-release c.self.inside c.self.invariant c.remove-contents.new.self c.slot.inside.number c.remove-contents.result.items c.remove-contents.ensures.updates)
+
+pub returns-clause-within : goal.returns-clause-within
+returns-clause-within c = (sound c).within

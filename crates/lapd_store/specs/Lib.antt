@@ -1,0 +1,4 @@
+pub mod Store
+pub mod Ownership
+pub mod SlabStore
+pub mod SlotRing

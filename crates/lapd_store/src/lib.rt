@@ -1,0 +1,28 @@
+//! Storage for message contents, in room that is taken once.
+//!
+//! A queue of messages needs a place for the octets of each message until it has been sent and acknowledged. In this crate a
+//! [`Shelf`] is that place: a fixed number of slots, each of a fixed width. `put` copies a message into a free slot and
+//! answers the slot, `get` lends the octets, and `release` frees the slot. Queues then hold slots, not octets: a
+//! [`SlotQueue`] is a ring of them. All queues of a line card share one shelf.
+//!
+//! Only the starts take memory. No later call does, whatever the order of puts and releases.
+//!
+//! - [`Shelf`]: what a shelf does, by a trait, so that its users are proved once for every shelf;
+//! - [`SlabShelf`]: a shelf over a slab of octet vectors;
+//! - [`SlotQueue`]: a ring of slots of fixed capacity;
+//! - `specs/Store.antt`: a shelf as a finite map, with which the contracts speak of it;
+//! - `specs/Ownership.antt`: how several owners share a shelf, with its laws in `proofs/Ownership.antt` and, for an owner
+//!   that is a queue of slots, in `proofs/Queues.antt`.
+#![tactic(auto)]
+
+mod fault;
+mod shelf;
+mod slab_shelf;
+mod slot;
+mod slot_queue;
+
+pub use fault::StartFault;
+pub use shelf::Shelf;
+pub use slab_shelf::SlabShelf;
+pub use slot::Slot;
+pub use slot_queue::SlotQueue;

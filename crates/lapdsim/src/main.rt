@@ -1,0 +1,38 @@
+//! `lapdsim run` plays the script on its standard input, and writes the transcript to its standard output.
+#![tactic(auto)]
+
+use lapd_sim::{PlayFault, ReadFrom, WriteTo, refuse, serve};
+use std::alloc::AllocError;
+use std::env;
+use std::io::ErrorKind;
+use std::process::ExitCode;
+
+fn main(rt: HostRuntime) -> ExitCode {
+    let mut source = ReadFrom::new(rt.stdin());
+    let mut target = WriteTo::new(rt.stdout());
+    let mut faults = WriteTo::new(rt.stderr());
+    let arguments = match env::args(&rt) {
+        Ok(arguments) => arguments.skip(1).collect::<Vec<String>>(rt.alloc()),
+        Err(error) if error.kind() == ErrorKind::OutOfMemory => Err(AllocError),
+        // An argument that is no text is no word of this program.
+        Err(_) => Ok(Vec::new(rt.alloc())),
+    };
+    let words = match &arguments {
+        Ok(arguments) => arguments
+            .iter()
+            .map(|word| word.as_str())
+            .collect::<Vec<&str>>(rt.alloc()),
+        Err(_) => Err(AllocError),
+    };
+    let status = match words {
+        Ok(words) => serve(
+            rt.alloc(),
+            words.as_slice(),
+            &mut source,
+            &mut target,
+            &mut faults,
+        ),
+        Err(_) => refuse(PlayFault::OutOfMemory, &mut faults),
+    };
+    ExitCode::from(status)
+}

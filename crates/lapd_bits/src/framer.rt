@@ -120,7 +120,7 @@ impl Framer {
             → Stands self.new (with_idle self.old.left items) (given ++ result ∷ []) }
     {
         let mut octet = 0;
-        for place in 0..8u8 {
+        for place in 0..u8::BITS {
             if self.bit() {
                 octet |= 1 << place;
             }
@@ -136,10 +136,11 @@ impl Framer {
     {
         if 0 < self.flag {
             self.flag -= 1;
-            return 0 < self.flag && self.flag < 7;
+            // Between its first bit and its last, a flag's bits are 1s.
+            return 0 < self.flag && self.flag < FLAG_BITS - 1;
         }
         if self.frame.is_empty() {
-            self.flag = 7;
+            self.flag = FLAG_BITS - 1;
             return false;
         }
         let bit = self.text.bit(&self.frame);

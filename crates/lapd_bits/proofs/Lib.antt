@@ -14,3 +14,4 @@ pub mod FramerStands
 pub mod FramerLoad
 pub mod RoundTripPlaces
 pub mod RoundTripFrame
+pub mod OneEvent

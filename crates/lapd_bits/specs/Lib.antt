@@ -4,6 +4,7 @@ pub mod StuffingLaws
 pub mod Check
 pub mod CheckLaws
 pub mod Stream
+pub mod StreamLaws
 pub mod Sent
 pub mod Vectors
 pub mod Deframer

@@ -255,3 +255,6 @@ impl Deframer {
         ended
     }
 }
+
+#[cfg(test)]
+mod tests;

@@ -17,7 +17,7 @@ use Rattle.lapd_card.specs.Answer.{Answer, told, refused, nothing}
 use Rattle.lapd_card.specs.Link.{LinkState, after_sabme, with_sent, has_room, first_waiting, with_tei, ua}
 use Rattle.lapd_card.specs.Machine.{Machine, fresh, gained, reading, served, after_octet, with_item, is_due, after_pull, begins, after, answer, refusal, link_after_request, answer_to_request}
 use Rattle.lapd_card.specs.Event.{line_of}
-use Rattle.lapd_card.specs.Frames.{recognised}
+use Rattle.lapd_card.specs.Frames.{recognised, recognised_overlong}
 use Rattle.lapd_card.specs.Run.{Run, one_more, run}
 use Rattle.lapd_card.proofs.Octet.{slice_get-after}
 use Rattle.lapd_card.specs.Counts.{is_begun, sent, is_frame, frames_heard, waiting, IsWithinFrames}
@@ -70,7 +70,8 @@ waiting-read (Dropped cause) l = omega arith
 waiting-served : (own : Option ℕ) (more : List stream.Event) (l : LinkState) → length (served (option_map (reading own) (slice_get more 0)) l).waiting ≤ length l.waiting + count_by is_frame more
 waiting-served own [] l = omega arith
 waiting-served own (stream.dropped cause ∷ more) l = omega arith
-waiting-served own (stream.overlong head ∷ more) l = omega arith
+waiting-served own (stream.overlong head ∷ more) l =
+    omega (arith, waiting-read (recognised_overlong own head) l, count_by-append is_frame (stream.overlong head ∷ []) more)
 waiting-served own (stream.frame octets ∷ more) l =
     omega (arith, waiting-read (recognised own octets) l, count_by-append is_frame (stream.frame octets ∷ []) more)
 

@@ -1,21 +1,19 @@
--- How a received frame is read (Q.921 clauses 3.2, 3.3 and 3.6).
-use Rattle.std.specs.Prelude.{ℕ, ◌+◌, ◌*◌, ◌/◌, ◌%◌, ◌==◌, ◌<◌, Bool, true, false, not, ◌&&◌, ◌||◌, List, [], ◌∷◌, Option, Some, None, unwrap_or, if◌then◌else◌}
+-- What a received frame is to the first card (Q.921 clauses 3.3 and 3.6).
+use Rattle.std.specs.Prelude.{ℕ, ◌==◌, ◌<◌, Bool, true, false, not, ◌||◌, List, ◌++◌, replicate, Option, Some, None, Result, Ok, Err, if◌then◌else◌}
 use Rattle.lapd_bits.specs.declared.heard.Cause.{Cause}
 use Rattle.lapd_bits.specs.declared.heard.Cause.TheVariants.{Extension, Sapi, Tei, Unserved}
+use Rattle.lapd_frame.specs.declared.addresses.Address.{Address}
+use Rattle.lapd_frame.specs.declared.addresses.Side.TheVariants.{User}
+use Rattle.lapd_frame.specs.declared.controls.Control.{Control}
+use Rattle.lapd_frame.specs.declared.controls.Control.TheVariants as control
+use Rattle.lapd_frame.specs.declared.faults.ReadFault.{ReadFault}
+use Rattle.lapd_frame.specs.declared.faults.ReadFault.TheVariants.{BadExtension, Undefined, WrongSize, Short}
+use Rattle.lapd_frame.specs.declared.overlong.Long.{Long}
+use Rattle.lapd_frame.specs.declared.overlong.Long.TheVariants as long
+use Rattle.lapd_frame.specs.Grammar.{Parts}
+use Rattle.lapd_frame.specs.Reading.{reading, long_of}
 use Rattle.lapd_card.specs.declared.recognise.Recognised.{Recognised}
 use Rattle.lapd_card.specs.declared.recognise.Recognised.TheVariants.{Sabme, Dropped}
-
--- The address field of two octets (clause 3.2): its extension bit is bit 1, 0 in the first octet and 1 in
--- the second.
-abbrev pub has_two_octets : ℕ → ℕ → Bool
-has_two_octets first second = (first % 2 == 0) && (second % 2 == 1)
-
--- The SAPI stands in bits 3 to 8 of the first octet, and the TEI in bits 2 to 8 of the second.
-abbrev pub sapi_of : ℕ → ℕ
-sapi_of first = first / 4
-
-abbrev pub tei_of : ℕ → ℕ
-tei_of second = second / 2
 
 -- Call control, packet mode, and layer 2 management (clause 3.3.3).
 abbrev pub is_served : ℕ → Bool
@@ -30,36 +28,49 @@ is_on_line (Some own) tei = own == tei
 abbrev pub is_addressed : Option ℕ → ℕ → ℕ → Bool
 is_addressed own sapi tei = if sapi == 63 then tei == 127 else is_on_line own tei
 
--- Why a frame is dropped for its address alone: the first cause that holds. A deframer gives no frame
--- without an address.
-abbrev pub address_cause : Option ℕ → List ℕ → Option Cause
-address_cause own (first ∷ second ∷ _) =
-    if not (has_two_octets first second) then Some Extension
-    else if not (is_served (sapi_of first)) then Some Sapi
-    else if not (is_addressed own (sapi_of first) (tei_of second)) then Some Tei
+-- Why a frame is dropped for its address alone: the first cause that holds (profile).
+abbrev pub address_cause : Option ℕ → Address → Option Cause
+address_cause own address =
+    if not (is_served address.sapi) then Some Sapi
+    else if not (is_addressed own address.sapi address.tei) then Some Tei
     else None
-address_cause own _ = Some Unserved
 
--- A SABME command of call control: three octets, of which the first has SAPI 0 and C/R 0, as a terminal's
--- command has (clauses 3.3.2 and 3.6.2). The P bit is bit 5 of the control field.
-abbrev pub sabme_control : Bool → ℕ
-sabme_control false = 0x6F
-sabme_control true = 0x7F
+-- What is made of a frame whose address is the line's, unless the address is not.
+abbrev pub unless_dropped : Option Cause → Recognised → Recognised
+unless_dropped (Some cause) meant = Dropped cause
+unless_dropped None meant = meant
 
-abbrev pub sabme_or_unserved : List ℕ → Recognised
-sabme_or_unserved (first ∷ second ∷ control ∷ []) =
-    if (first == 0) && (control == sabme_control false) then Sabme (tei_of second) false
-    else if (first == 0) && (control == sabme_control true) then Sabme (tei_of second) true
-    else Dropped Unserved
-sabme_or_unserved _ = Dropped Unserved
+abbrev pub addressed : Option ℕ → Address → Recognised → Recognised
+addressed own address meant = unless_dropped (address_cause own address) meant
 
--- What a frame of a terminal is to a line with this TEI.
+-- SABME for call control is served, and nothing else.
+abbrev pub meaning : Address → Control → Recognised
+meaning address (control.Sabme pf) = if address.sapi == 0 then Sabme address.tei pf else Dropped Unserved
+meaning address _ = Dropped Unserved
+
+-- What a frame of a terminal is, as the grammar reads it. One that is too short is heard by no deframer.
+abbrev pub of_reading : Option ℕ → Result Parts ReadFault → Recognised
+of_reading own (Ok parts) = addressed own parts.address (meaning parts.address parts.control)
+of_reading own (Err BadExtension) = Dropped Extension
+of_reading own (Err (Undefined address)) = addressed own address (Dropped Unserved)
+of_reading own (Err (WrongSize address)) = addressed own address (Dropped Unserved)
+of_reading own (Err Short) = Dropped Unserved
+
 abbrev pub recognised : Option ℕ → List ℕ → Recognised
-recognised own frame = elim (address_cause own frame) [ Some cause ↦ Dropped cause | None ↦ sabme_or_unserved frame ]
+recognised own frame = of_reading own (reading User frame)
 
--- What a frame is that is longer than a receiver's room, by its first four octets. None is served.
+-- The same for a frame that is longer than a receiver's room. None is served.
+abbrev pub of_long : Option ℕ → Result Long ReadFault → Recognised
+of_long own (Ok (long.Information address)) = addressed own address (Dropped Unserved)
+of_long own (Ok (long.Unnumbered address)) = addressed own address (Dropped Unserved)
+of_long own (Err BadExtension) = Dropped Extension
+of_long own (Err (Undefined address)) = addressed own address (Dropped Unserved)
+of_long own (Err (WrongSize address)) = addressed own address (Dropped Unserved)
+of_long own (Err Short) = Dropped Unserved
+
+-- It is kept by its first four octets, and read the same whatever follows them: here five octets 0.
 abbrev pub recognised_overlong : Option ℕ → List ℕ → Recognised
-recognised_overlong own head = Dropped (unwrap_or (address_cause own head) Unserved)
+recognised_overlong own head = of_long own (long_of (reading User (head ++ replicate 5 0)))
 
 -- A TEI that is read is below this number.
 abbrev pub IsTeiBelow : ℕ → Recognised → Type 0

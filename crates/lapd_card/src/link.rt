@@ -9,7 +9,9 @@ use crate::orders::Orders;
 use crate::outcome::Outcome;
 use crate::states::State;
 use circular_buffer::HeapCircularBuffer;
-use lapd_frame::{ErrorCode, Note, Order, Refusal, Service, Timer};
+use lapd_frame::{
+    Address, Control, ErrorCode, Frame, Note, Order, Refusal, Service, Side, Timer, write,
+};
 use std::alloc::{AllocError, Global};
 use std::marker::Model;
 
@@ -118,5 +120,16 @@ fn unnumbered_acknowledgement(tei: u8, last: bool) -> Head
     requires { tei < 128 }
     ensures { result ≡ ua tei last }
 {
-    [0x00, tei << 1 | 1, if last { 0x73 } else { 0x63 }]
+    let frame = Frame {
+        address: Address {
+            sapi: Service::Call.sapi(),
+            command: false,
+            tei,
+        },
+        control: Control::Ua { pf: last },
+        info: &[],
+    };
+    let mut head = [0; 3];
+    let _ = write(Side::Network, &frame, &mut head);
+    head
 }

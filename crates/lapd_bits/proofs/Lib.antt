@@ -15,3 +15,4 @@ pub mod FramerLoad
 pub mod RoundTripPlaces
 pub mod RoundTripFrame
 pub mod OneEvent
+pub mod ReferenceSteps

@@ -15,3 +15,4 @@ pub mod Framer
 pub mod FramerText
 pub mod FramerFields
 pub mod RoundTrip
+pub mod Reference

@@ -10,6 +10,8 @@ mod framer;
 mod gap;
 mod heard;
 mod one_event;
+#[cfg(test)]
+mod reference;
 mod round_trip;
 mod start_fault;
 mod stuffer;

@@ -93,8 +93,8 @@ const DROPPED: [(&[u8], &[u8]); 8] = [
     ),
     // Two good frames with one flag between them.
     (
-        b"7E0081EF50B1FDFC0081EF50B1FDFC",
-        b"0 establish-indication 64\n",
+        b"7E0081EF50B1FD0002DFA162FBF9",
+        b"0 establish-indication 64\n0 error 64 F\n",
     ),
 ];
 

@@ -1,6 +1,7 @@
 //! What goes out on a line (clauses 2.2, 2.6 and 2.7): frames, and idle flags between them.
-ghost use Rattle.std.specs.Prelude.{◌≡◌, ℕ, ◌+◌, ◌<◌, ◌≤◌, ◌↔◌, Bool, List, [], ◌∷◌, ◌++◌, length, min, IsTrue, IfOk, if◌then◌else◌};
+ghost use Rattle.std.specs.Prelude.{◌≡◌, ℕ, ◌+◌, ◌<◌, ◌≤◌, ◌↔◌, Bool, List, [], ◌∷◌, ◌++◌, length, take, min, IsTrue, IfOk, if◌then◌else◌};
 ghost use Rattle.lapd_bits.specs.Bits.{low_bits, flag};
+ghost use Rattle.lapd_bits.specs.Stuffing.{number_of};
 ghost use Rattle.lapd_bits.specs.Sent.{Item, frame, item_text};
 ghost use Rattle.lapd_bits.specs.Framer.{Framing, Stands, refilled, with_idle, still_held};
 ghost use Rattle.lapd_bits.specs.FramerText.{begun};
@@ -113,6 +114,7 @@ impl Framer {
     /// The next octet of the line, low bit first. Where fewer than eight bits are left, an idle flag goes on
     /// after them first, and else nothing.
     pub fn octet(&mut self) -> u8
+        ensures octet { result ≡ number_of (take 8 (refilled self.old.left)) }
         ensures bits { low_bits 8 result ++ self.new.left ≡ refilled self.old.left }
         ensures held { self.new.held ≡ still_held self.new.left self.old.held }
         ensures room { self.new.room ≡ self.old.room }

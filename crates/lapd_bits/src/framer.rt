@@ -189,7 +189,23 @@ mod tests {
         Ok(())
     }
 
-    // A SABME whose stuffed 0s leave the idle flags after it across octets.
+    // A SABME of the terminal, whose closing flag ends in the first bit of the last octet.
+    #[test]
+    fn a_terminals_sabme(rt: HostRuntime) -> Result<(), Fail> {
+        let mut framer = Framer::start(rt.alloc(), 260)?;
+        expect(&rt, &mut framer, &[0x7E]);
+        assert!(rt; !framer.busy());
+        framer.load(&[0x00, 0x81, 0x7F], &[]);
+        assert_eq!(rt; framer.held(), 3);
+        expect(
+            &rt,
+            &mut framer,
+            &[0x00, 0x81, 0xEF, 0x50, 0xB1, 0xFD, 0xFC],
+        );
+        Ok(())
+    }
+
+    // A SABME of the network, whose stuffed 0s leave the idle flags after it across octets.
     #[test]
     fn idle_flags_across_octets(rt: HostRuntime) -> Result<(), Fail> {
         let mut framer = Framer::start(rt.alloc(), 260)?;

@@ -68,6 +68,7 @@ impl Framer {
     pub fn busy(&self) -> bool
         ensures { IsTrue result ↔ (8 ≤ length self.now.left) }
     {
+        // A frame in hand has its closing flag after it, so eight bits are left at least.
         self.flag == FLAG_BITS || !self.frame.is_empty()
     }
 

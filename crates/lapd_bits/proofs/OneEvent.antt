@@ -3,7 +3,7 @@ use Rattle.std.proofs.Common.{◌≡◌, ℕ, suc, ◌<◌, ◌≤◌, ◌⊎◌
 use Rattle.std.proofs.lemmas.Bool.{cases_lt, cases_eq, lt-ltb, le-ltb}
 use Rattle.std.proofs.lemmas.List.{append-nil, length-reverse}
 use Rattle.lapd_bits.specs.Bits.{bits, low_bits}
-use Rattle.lapd_bits.specs.Stream.{Event, heard_at, heard_until, heard_in, room_for}
+use Rattle.lapd_bits.specs.Stream.{Event, heard_at, heard_until, room_for}
 use Rattle.lapd_bits.specs.StreamLaws.{OneEventAnOctet}
 use Rattle.lapd_bits.specs.Deframer.{run_of, open_gap}
 use Rattle.lapd_bits.specs.Steps.{one_more, given_up_event, closed_event}

@@ -32,7 +32,7 @@ impl Deframer {
     ghost use Rattle.lapd_bits.specs.Deframer.{Stands, HoldsPast, HoldsGap, run_of, open_gap, octets_held};
     ghost use Rattle.lapd_bits.specs.Ended.{FitsIn};
     ghost use Rattle.lapd_bits.specs.Heard.{heard_of, event_in};
-    ghost use Rattle.lapd_bits.specs.Steps.{one_more, IsKept, IsStuffed, IsYoung, given_up_event, closed_event, with_bits};
+    ghost use Rattle.lapd_bits.specs.Steps.{Hears, Ages, one_more, IsKept, IsStuffed, IsYoung, given_up_event, closed_event, with_bits};
 
     /// A deframer for frames with information fields of `n201` octets at most, which is 1,024 at most. Its line
     /// has brought no octet yet.
@@ -117,14 +117,8 @@ impl Deframer {
     fn bit(&mut self, bit: bool) -> Ended
         ensures fits { FitsIn (vec_len self.new.octets) result }
         ensures room { vec_len self.new.octets ≡ vec_len self.old.octets }
-        ensures stands { (past : List Bool) → HoldsPast self.old.octets.items self.old.ones self.old.gap past
-            → HoldsPast self.new.octets.items self.new.ones self.new.gap (bit ∷ past) }
-        ensures told { (past : List Bool) → HoldsPast self.old.octets.items self.old.ones self.old.gap past
-            → event_in self.new.octets.items result ≡ heard_at (length self.old.octets.items) (bit ∷ past) }
-        ensures quiet { IsYoung 7 self.old.gap → result ≡ Ended.Nothing }
-        ensures untouched { IsYoung 7 self.old.gap → self.new.octets.items ≡ self.old.octets.items }
-        ensures grows { (n : ℕ) → IsYoung n self.old.gap → IsYoung (n + 1) self.new.gap }
-        ensures anew { result ≢ Ended.Nothing → IsYoung 1 self.new.gap }
+        ensures hears { Hears bit self.old self.new result }
+        ensures ages { Ages self.old self.new result }
     {
         if bit { self.one() } else { self.zero() }
     }
@@ -132,14 +126,8 @@ impl Deframer {
     fn one(&mut self) -> Ended
         ensures fits { FitsIn (vec_len self.new.octets) result }
         ensures room { vec_len self.new.octets ≡ vec_len self.old.octets }
-        ensures stands { (past : List Bool) → HoldsPast self.old.octets.items self.old.ones self.old.gap past
-            → HoldsPast self.new.octets.items self.new.ones self.new.gap (true ∷ past) }
-        ensures told { (past : List Bool) → HoldsPast self.old.octets.items self.old.ones self.old.gap past
-            → event_in self.new.octets.items result ≡ heard_at (length self.old.octets.items) (true ∷ past) }
-        ensures quiet { IsYoung 7 self.old.gap → result ≡ Ended.Nothing }
-        ensures untouched { IsYoung 7 self.old.gap → self.new.octets.items ≡ self.old.octets.items }
-        ensures grows { (n : ℕ) → IsYoung n self.old.gap → IsYoung (n + 1) self.new.gap }
-        ensures anew { result ≢ Ended.Nothing → IsYoung 1 self.new.gap }
+        ensures hears { Hears true self.old self.new result }
+        ensures ages { Ages self.old self.new result }
     {
         if self.ones >= 6 {
             self.ones = 7;
@@ -153,14 +141,8 @@ impl Deframer {
     fn zero(&mut self) -> Ended
         ensures fits { FitsIn (vec_len self.new.octets) result }
         ensures room { vec_len self.new.octets ≡ vec_len self.old.octets }
-        ensures stands { (past : List Bool) → HoldsPast self.old.octets.items self.old.ones self.old.gap past
-            → HoldsPast self.new.octets.items self.new.ones self.new.gap (false ∷ past) }
-        ensures told { (past : List Bool) → HoldsPast self.old.octets.items self.old.ones self.old.gap past
-            → event_in self.new.octets.items result ≡ heard_at (length self.old.octets.items) (false ∷ past) }
-        ensures quiet { IsYoung 7 self.old.gap → result ≡ Ended.Nothing }
-        ensures untouched { IsYoung 7 self.old.gap → self.new.octets.items ≡ self.old.octets.items }
-        ensures grows { (n : ℕ) → IsYoung n self.old.gap → IsYoung (n + 1) self.new.gap }
-        ensures anew { result ≢ Ended.Nothing → IsYoung 1 self.new.gap }
+        ensures hears { Hears false self.old self.new result }
+        ensures ages { Ages self.old self.new result }
     {
         let ones = self.ones;
         self.ones = 0;

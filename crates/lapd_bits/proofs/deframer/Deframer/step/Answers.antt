@@ -34,32 +34,32 @@ loop-place-preserved c =
         fits = subst (λ e. FitsIn (vec_len new.octets) e) (sym w.ended-is) (subst (λ n. FitsIn n c.loop-place.ended) (sym b.room) i.fits);
         room = stays;
         stands = λ past h.
-            subst (HoldsPast new.octets.items new.ones new.gap) (sym (with_bits-more place octet past)) (b.stands (with_bits place octet past) (i.stands past h));
+            subst (HoldsPast new.octets.items new.ones new.gap) (sym (with_bits-more place octet past)) (b.hears.stands (with_bits place octet past) (i.stands past h));
         told = λ past h.
             let so_far = with_bits place octet past in
-            let heard = b.told so_far (i.stands past h) in
+            let heard = b.hears.told so_far (i.stands past h) in
             ap (heard_until room) (with_bits-more place octet past)
             ∙ told_nothing_more room past so_far bit (event_in old.octets.items c.loop-place.ended) (event_in new.octets.items c.match-bit.ended) (i.told past h)
             (sym (ap (event_in new.octets.items) w.in-Nothing.is) ∙ heard ∙ ap (λ r. heard_at r (bit ∷ so_far)) i.room)
-            (event_stays old.octets.items new.octets.items c.loop-place.ended old.gap place c.loop-place-test.true i.young b.untouched
+            (event_stays old.octets.items new.octets.items c.loop-place.ended old.gap place c.loop-place-test.true i.young b.ages.untouched
             ∙ ap (event_in new.octets.items) (sym w.ended-is));
-        young = subst (λ e. EndedEarlier (place + 1) e new.gap) (sym w.ended-is) (ended_still place c.loop-place.ended old.gap new.gap i.young (b.grows place));
+        young = subst (λ e. EndedEarlier (place + 1) e new.gap) (sym w.ended-is) (ended_still place c.loop-place.ended old.gap new.gap i.young (b.ages.grows place));
       }
       | in_default w ↦
-          let nothing = nothing_before place c.loop-place.ended c.bit.result old.gap c.loop-place-test.true i.young b.quiet w.in_default.not-Nothing in
+          let nothing = nothing_before place c.loop-place.ended c.bit.result old.gap c.loop-place-test.true i.young b.ages.quiet w.in_default.not-Nothing in
           record {
             fits = subst (λ e. FitsIn (vec_len new.octets) e) (sym w.ended-is) b.fits;
             room = stays;
             stands = λ past h.
-                subst (HoldsPast new.octets.items new.ones new.gap) (sym (with_bits-more place octet past)) (b.stands (with_bits place octet past) (i.stands past h));
+                subst (HoldsPast new.octets.items new.ones new.gap) (sym (with_bits-more place octet past)) (b.hears.stands (with_bits place octet past) (i.stands past h));
             told = λ past h.
                 let so_far = with_bits place octet past in
-                let heard = b.told so_far (i.stands past h) in
+                let heard = b.hears.told so_far (i.stands past h) in
                 ap (heard_until room) (with_bits-more place octet past)
                 ∙ told_event_more room past so_far bit (event_in new.octets.items c.match-bit.ended)
                 (i.told past h ∙ ap (λ e. heard_until room past ++ option_to_list (event_in old.octets.items e)) nothing)
                 (ap (event_in new.octets.items) w.ended-is ∙ heard ∙ ap (λ r. heard_at r (bit ∷ so_far)) i.room);
-            young = inr (IsYoung-le 1 (place + 1) new.gap (omega arith) (b.anew w.in_default.not-Nothing));
+            young = inr (IsYoung-le 1 (place + 1) new.gap (omega arith) (b.ages.anew w.in_default.not-Nothing));
           }
     ]
 

@@ -10,32 +10,40 @@ const THREE_LINES: usize = 60;
 /// The first line of its transcript.
 const FIRST_ANSWER: usize = 26;
 
-/// A read fails: the lines whose line feed had come were answered.
+/// The transcript of as many octets of the script, where the line that is cut off is not answered.
+fn answered(given: usize) -> &'static [u8] {
+    if given >= ESTABLISHED.len() {
+        TRANSCRIPT
+    } else if given >= THREE_LINES {
+        &TRANSCRIPT[..FIRST_ANSWER]
+    } else {
+        &[]
+    }
+}
+
+/// A read fails, after reads of an octet each, or of more than a line: the lines whose line feed had come were
+/// answered.
 #[test]
 fn each_read_fails_in_turn(rt: HostRuntime) {
-    for good_reads in 0..=ESTABLISHED.len() {
-        let outcome = run_from(rt.alloc(), &mut Pieces::failing(ESTABLISHED, 1, good_reads));
-        let answered = if good_reads == ESTABLISHED.len() {
-            TRANSCRIPT
-        } else if good_reads >= THREE_LINES {
-            &TRANSCRIPT[..FIRST_ANSWER]
-        } else {
-            &[]
-        };
-        assert_eq!(rt;
-            outcome.transcript.text(),
-            answered,
-            "after {good_reads} reads"
-        );
-        assert_eq!(rt; outcome.faults.text(), b"read failed\n".as_slice());
-        assert_eq!(rt; outcome.status, 1);
+    for piece in [1usize, 7, 30, 61] {
+        let reads = ESTABLISHED.len().div_ceil(piece);
+        for good_reads in 0..=reads {
+            let mut source = Pieces::failing(ESTABLISHED, piece, good_reads);
+            let outcome = run_from(rt.alloc(), &mut source);
+            let given = ESTABLISHED.len().saturating_sub(source.left());
+            assert_eq!(rt;
+                outcome.transcript.text(),
+                answered(given),
+                "{good_reads} reads of {piece}"
+            );
+            assert_eq!(rt; outcome.faults.text(), b"read failed\n".as_slice());
+            assert_eq!(rt; outcome.status, 1);
+        }
+        let mut source = Pieces::failing(ESTABLISHED, piece, reads.saturating_add(1));
+        let outcome = run_from(rt.alloc(), &mut source);
+        assert_eq!(rt; outcome.transcript.text(), TRANSCRIPT);
+        assert_eq!(rt; outcome.status, 0);
     }
-    let outcome = run_from(
-        rt.alloc(),
-        &mut Pieces::failing(ESTABLISHED, 1, ESTABLISHED.len() + 1),
-    );
-    assert_eq!(rt; outcome.transcript.text(), TRANSCRIPT);
-    assert_eq!(rt; outcome.status, 0);
 }
 
 /// A write fails: a beginning of the transcript was written.

@@ -4,7 +4,7 @@ use crate::fakes::{Page, Pieces, run};
 use lapd_sim::serve;
 
 /// Faulty scripts, what they answer before the fault, and the line that tells of it.
-const FAULTY: [(&[u8], &[u8], &[u8]); 45] = [
+const FAULTY: [(&[u8], &[u8], &[u8]); 48] = [
     (b"walk\n", b"", b"line 1: unknown word\n"),
     (b" assign 0 64\n", b"", b"line 1: unknown word\n"),
     (b" \n", b"", b"line 1: unknown word\n"),
@@ -80,11 +80,22 @@ const FAULTY: [(&[u8], &[u8], &[u8]); 45] = [
         b"",
         b"line 2: second card\n",
     ),
+    (
+        b"card 1 8 7 8 4 4 64 260 3\ncard 1 8 7 8 4 4 64 260 x\n",
+        b"",
+        b"line 2: bad number\n",
+    ),
     (b"card 0 8 7 8 4 4 64 260 3\n", b"", b"line 1: bad card\n"),
+    (b"card 2 8 7 8 4 4 64 260 3\n", b"", b"line 1: bad card\n"),
     (b"card 1 8 7 8 4 4 64 260 3 9\n", b"", b"line 1: bad card\n"),
     (b"card 1 8 7 8 4 4 64 261 3\n", b"", b"line 1: bad card\n"),
     (
         b"card 1 8 7 8 4 4 64 260 3\npull 1 1\n",
+        b"",
+        b"line 2: bad line\n",
+    ),
+    (
+        b"card 1 8 7 8 4 4 64 260 3\nrx 1 -\n",
         b"",
         b"line 2: bad line\n",
     ),
@@ -103,11 +114,11 @@ const FAULTY: [(&[u8], &[u8], &[u8]); 45] = [
 
 #[test]
 fn tells_of_each_fault(rt: HostRuntime) {
-    for (script, transcript, fault) in FAULTY {
+    for (row, (script, transcript, fault)) in FAULTY.iter().enumerate() {
         let outcome = run(rt.alloc(), script);
-        assert_eq!(rt; outcome.faults.text(), fault);
-        assert_eq!(rt; outcome.transcript.text(), transcript);
-        assert_eq!(rt; outcome.status, 1);
+        assert_eq!(rt; outcome.faults.text(), *fault, "row {row}");
+        assert_eq!(rt; outcome.transcript.text(), *transcript, "row {row}");
+        assert_eq!(rt; outcome.status, 1, "row {row}");
     }
 }
 

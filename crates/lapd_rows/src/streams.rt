@@ -47,6 +47,31 @@ impl Write for Narrow {
     }
 }
 
+/// Is interrupted once, and then takes everything. Its second flush fails.
+#[derive(Drop)]
+struct Buffered {
+    writes: u8,
+    flushes: u8,
+}
+
+impl Write for Buffered {
+    fn write(&mut self, buf: &[u8]) -> Result<usize> {
+        self.writes = self.writes.saturating_add(1);
+        if self.writes == 1 {
+            return Err(Error::from(ErrorKind::Interrupted));
+        }
+        Ok(buf.len())
+    }
+
+    fn flush(&mut self) -> Result<()> {
+        self.flushes = self.flushes.saturating_add(1);
+        if self.flushes == 2 {
+            return Err(Error::from(ErrorKind::BrokenPipe));
+        }
+        Ok(())
+    }
+}
+
 #[test]
 fn reads_from_a_reader(rt: HostRuntime) {
     let mut source = ReadFrom::new(Shaky { reads: 0 });
@@ -64,6 +89,17 @@ fn writes_to_a_writer(rt: HostRuntime) {
     assert_eq!(rt; target.write(b""), Ok(()));
     assert_eq!(rt; target.write(b"abc"), Err(WriteFailed));
     assert_eq!(rt; target.write(b"a"), Err(WriteFailed));
+}
+
+#[test]
+fn flushes_each_write(rt: HostRuntime) {
+    let mut target = WriteTo::new(Buffered {
+        writes: 0,
+        flushes: 0,
+    });
+    assert_eq!(rt; target.write(b"a"), Ok(()));
+    assert_eq!(rt; target.write(b"b"), Err(WriteFailed));
+    assert_eq!(rt; target.write(b"c"), Ok(()));
 }
 
 #[test]

@@ -1,6 +1,6 @@
 //! The program's work: what its words ask for, its fault lines and its exit status.
 
-ghost use Rattle.std.specs.Prelude.{◌≡◌, ◌≤◌, ◌↔◌};
+ghost use Rattle.std.specs.Prelude.{◌≡◌, ◌≢◌, ◌≤◌, ◌↔◌};
 ghost use Rattle.lapd_sim.specs.Program.{IsRun};
 
 use crate::faults::PlayFault;
@@ -36,11 +36,9 @@ pub fn serve<S: Source, T: Target, F: Target>(
 ) -> u8
     ensures range { result ≤ 2 }
     ensures wrong_words { (result ≡ 2) ↔ ¬ (IsRun words.now) }
-    ensures nothing_read { result ≡ 2 → S.failures source.new ≡ S.failures source.old }
-    ensures nothing_written { result ≡ 2 → T.failures target.new ≡ T.failures target.old }
-    ensures all_read { result ≡ 0 → S.failures source.new ≡ S.failures source.old }
-    ensures all_written { result ≡ 0 → T.failures target.new ≡ T.failures target.old }
-    ensures no_fault { result ≡ 0 → F.failures faults.new ≡ F.failures faults.old }
+    ensures no_read_failed { result ≢ 1 → S.failures source.new ≡ S.failures source.old }
+    ensures no_write_failed { result ≢ 1 → T.failures target.new ≡ T.failures target.old }
+    ensures no_fault_line_failed { result ≡ 0 → F.failures faults.new ≡ F.failures faults.old }
 {
     match words {
         ["run"] => match play(alloc, source, target) {

@@ -57,27 +57,6 @@ pub(crate) enum Command<'a> {
     Pull(u16, u16),
 }
 
-/// The first word of a line that isn't skipped.
-#[derive(Clone, Copy)]
-enum Word {
-    Card,
-    Assign,
-    Rx,
-    Pull,
-}
-
-impl Word {
-    fn named(name: &[u8]) -> Option<Word> {
-        match name {
-            b"card" => Some(Word::Card),
-            b"assign" => Some(Word::Assign),
-            b"rx" => Some(Word::Rx),
-            b"pull" => Some(Word::Pull),
-            _ => None,
-        }
-    }
-}
-
 /// One word more than the longest line has, so that a line with too many is known by their number.
 const MOST_WORDS: usize = 12;
 
@@ -100,20 +79,21 @@ impl<'a> Command<'a> {
         let Some((name, arguments)) = words.split_first() else {
             return Err(FaultKind::UnknownWord);
         };
-        match Word::named(name).ok_or(FaultKind::UnknownWord)? {
-            Word::Card => Ok(Command::Card(config(arguments)?)),
-            Word::Assign => {
+        match *name {
+            b"card" => Ok(Command::Card(config(arguments)?)),
+            b"assign" => {
                 let (line, tei) = two(arguments)?;
                 Ok(Command::Assign(number(line)?, number(tei)?))
             }
-            Word::Rx => {
+            b"rx" => {
                 let (line, digits) = two(arguments)?;
                 Ok(Command::Rx(number(line)?, digits))
             }
-            Word::Pull => {
+            b"pull" => {
                 let (line, count) = two(arguments)?;
                 Ok(Command::Pull(number(line)?, pulls(count)?))
             }
+            _ => Err(FaultKind::UnknownWord),
         }
     }
 }

@@ -13,7 +13,7 @@ pub struct WriteFailed;
 
 /// Where octets are read from. It counts the reads that failed.
 pub trait Source {
-    // How many reads have failed: a number of 64 bits that stays at its greatest value.
+    /// How many reads have failed: a number of 64 bits that stays at its greatest value.
     ghost failures: { Self → ℕ };
 
     /// Puts the next octets into the beginning of `buffer`, as many as it likes, and tells how many: 0 where
@@ -26,7 +26,7 @@ pub trait Source {
 
 /// Where octets are written to. It counts the writes that failed.
 pub trait Target {
-    // How many writes have failed: a number of 64 bits that stays at its greatest value.
+    /// How many writes have failed: a number of 64 bits that stays at its greatest value.
     ghost failures: { Self → ℕ };
 
     /// Writes all of `octets`. After a failure a beginning of them may have been written.

@@ -4,6 +4,7 @@ ghost use Rattle.std.specs.Prelude.{◌≡◌};
 ghost use Rattle.lapd_sim.specs.Faults.{line_writes_failed_by};
 
 use crate::faults::LineFault;
+use crate::script::MOST_PULLS;
 use crate::streams::Target;
 use lapd_bits::Cause;
 use lapd_card::Report;
@@ -11,7 +12,7 @@ use lapd_frame::{ErrorCode, Note, Refusal, Service};
 use std::alloc::{AllocError, Global};
 
 /// Room for the longest line: the octets of the most pulls, two digits each, and the words before them.
-const ROOM: usize = 2 * 4096 + 64;
+const ROOM: usize = 2 * MOST_PULLS as usize + 64;
 
 /// The transcript of a script, of which it holds one line at a time. Each begins with the number of the card's line
 /// that it is about.
@@ -154,11 +155,7 @@ impl Transcript {
             return self.text.push('-');
         }
         for octet in octets {
-            let mut digits = [0u8; 2];
-            hex::encode_to_slice([*octet], &mut digits).unwrap();
-            for digit in digits {
-                self.text.push(char::from(digit.to_ascii_uppercase()))?;
-            }
+            write!(self.text, "{octet:02X}")?;
         }
         Ok(())
     }

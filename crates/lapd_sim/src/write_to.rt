@@ -6,7 +6,7 @@ use crate::streams::{Target, WriteFailed};
 use std::io;
 
 /// A writer of std as a [`Target`]. A write that takes no octet is a failure; one that was interrupted is tried
-/// again, as std does.
+/// again, as std does. Each write is flushed.
 #[derive(Drop)]
 pub struct WriteTo<W> {
     writer: W,

@@ -34,7 +34,7 @@ fn pair_of_64(rt: &impl Abort, alloc: Global) -> Result<Pair, Fail> {
 
 #[test]
 fn each_cause_by_address_and_kind(rt: HostRuntime) -> Result<(), Fail> {
-    let table: [(&[u8], &[u8], Cause); 15] = [
+    let table: [(&[u8], &[u8], Cause); 18] = [
         (&[0x01, 0x81, 0x7F], &[], Cause::Extension),
         (&[0x00, 0x80, 0x7F], &[], Cause::Extension),
         (&[0x05, 0x82, 0x7F], &[], Cause::Extension),
@@ -43,6 +43,10 @@ fn each_cause_by_address_and_kind(rt: HostRuntime) -> Result<(), Fail> {
         (&[0x00, 0xFF, 0x03], &[0xAB], Cause::Tei),
         (&[0x40, 0x83, 0x7F], &[], Cause::Tei),
         (&[0xFC, 0x81, 0x03], &[0xAB], Cause::Tei),
+        // Where two causes hold, the first one is told.
+        (&[0x04, 0x83, 0x7F], &[], Cause::Sapi),
+        (&[0x00, 0x83, 0x11, 0x00], &[], Cause::Tei),
+        (&[0x40, 0xFF, 0x03], &[0xAB], Cause::Tei),
         (&[0x02, 0x81, 0x7F], &[], Cause::Unserved),
         (&[0x00, 0x81, 0x7F, 0x00], &[], Cause::Unserved),
         (&[0x00, 0x81, 0x53], &[], Cause::Unserved),
@@ -69,20 +73,20 @@ fn each_cause_by_address_and_kind(rt: HostRuntime) -> Result<(), Fail> {
 
 #[test]
 fn overlong_frames(rt: HostRuntime) -> Result<(), Fail> {
-    let long = [0x55; 300];
+    let table: [([u8; 3], Cause); 4] = [
+        ([0x00, 0x81, 0x03], Cause::Unserved),
+        ([0x00, 0x83, 0x03], Cause::Tei),
+        ([0x08, 0x81, 0x03], Cause::Sapi),
+        ([0x01, 0x81, 0x03], Cause::Extension),
+    ];
     let mut pair = pair_of_64(&rt, rt.alloc())?;
-    assert_eq!(rt;
-        pair.cause_of(&rt, rt.alloc(), &[0x00, 0x81, 0x03], &long)?,
-        Some(Cause::Unserved)
-    );
-    assert_eq!(rt;
-        pair.cause_of(&rt, rt.alloc(), &[0x00, 0x83, 0x03], &long)?,
-        Some(Cause::Tei)
-    );
-    assert_eq!(rt;
-        pair.cause_of(&rt, rt.alloc(), &[0x08, 0x81, 0x03], &long)?,
-        Some(Cause::Sapi)
-    );
+    for (head, cause) in table {
+        assert_eq!(rt;
+            pair.cause_of(&rt, rt.alloc(), &head, &[0x55; 300])?,
+            Some(cause),
+            "{head:?}"
+        );
+    }
     Ok(())
 }
 

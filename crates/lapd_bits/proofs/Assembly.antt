@@ -10,7 +10,7 @@ use Rattle.std.proofs.Math.Nat.{add-mul-mod_self_left, add-mul-div_left, mod-eq_
 use Rattle.lapd_bits.specs.Bits.{bits, low_bits}
 use Rattle.lapd_bits.specs.Stuffing.{same_bits}
 use Rattle.lapd_bits.specs.Check.{is_good}
-use Rattle.lapd_bits.specs.CheckLaws.{HoldsDivision}
+use Rattle.lapd_bits.specs.Register.{HoldsDivision}
 use Rattle.lapd_bits.specs.Stream.{frame, overlong, dropped, is_short, judged}
 use Rattle.lapd_bits.specs.Heard.{flag_front, closing_event}
 use Rattle.lapd_bits.specs.Deframer.{Keeps, Assembles}

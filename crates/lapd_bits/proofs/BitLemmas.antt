@@ -1,5 +1,5 @@
 -- Numbers as bits, the lowest first, and back.
-use Rattle.std.proofs.Common.{◌≡◌, ℕ, suc, zero, ◌+◌, ◌*◌, ◌/◌, ◌%◌, ◌^◌, ◌<◌, Bool, true, false, List, [], ◌∷◌, ◌++◌, length, nat_eq, refl, sym, ap, subst, ◌∙◌, add-one, append_assoc, append-nil, length-append, arith}
+use Rattle.std.proofs.Common.{◌≡◌, ℕ, suc, zero, ◌+◌, ◌*◌, ◌/◌, ◌%◌, ◌^◌, ◌<◌, Bool, true, false, List, [], ◌∷◌, ◌++◌, length, take, nat_eq, refl, sym, ap, subst, ◌∙◌, add-one, append_assoc, append-nil, length-append, arith}
 use Rattle.std.proofs.Math.Nat.{pow-suc, pow-succ', pow-zero, suc-add, zero-add, div-div-eq-div-mul, div-one, mod-eq_of_lt}
 use Rattle.std.proofs.lemmas.Bool.{eqb-true, eqb-false}
 use Rattle.std.proofs.lemmas.Nat.{mod-pow-add}
@@ -120,6 +120,11 @@ number_of-low_bits_mod (suc n) x =
 -- the bits of a number give the number back
 pub number_of-low_bits : (n x : ℕ) → x < 2 ^ n → number_of (low_bits n x) ≡ x
 number_of-low_bits n x small = number_of-low_bits_mod n x ∙ mod-eq_of_lt small
+
+-- an octet is the number of its eight bits, whatever follows them
+pub number_of-octet : (octet : ℕ) (more : List Bool) → octet < 256 → number_of (take 8 (low_bits 8 octet ++ more)) ≡ octet
+unfolding low_bits
+number_of-octet octet more small = number_of-low_bits 8 octet small
 
 -- two numbers below 2 ^ n with the same n low bits are one
 pub same_from_low_bits : (n x y : ℕ) → x < 2 ^ n → y < 2 ^ n → low_bits n x ≡ low_bits n y → x ≡ y

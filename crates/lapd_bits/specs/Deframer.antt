@@ -3,7 +3,7 @@ use Rattle.std.specs.Prelude.{◌≡◌, ℕ, ◌+◌, ◌<◌, ◌/◌, Bool, t
 use Rattle.std.specs.Option.{option_map_or}
 use Rattle.lapd_bits.specs.Bits.{low_bits, bits}
 use Rattle.lapd_bits.specs.Stuffing.{unstuffed}
-use Rattle.lapd_bits.specs.CheckLaws.{HoldsDivision}
+use Rattle.lapd_bits.specs.Register.{HoldsDivision}
 use Rattle.lapd_bits.specs.Stream.{since_flag, has_abort, room_for}
 use Rattle.lapd_bits.specs.declared.gap.Gap.{Gap}
 use Rattle.lapd_bits.specs.declared.deframer.Deframer.{Deframer}

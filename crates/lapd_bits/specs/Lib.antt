@@ -3,6 +3,7 @@ pub mod Stuffing
 pub mod StuffingLaws
 pub mod Check
 pub mod CheckLaws
+pub mod Register
 pub mod Stream
 pub mod StreamLaws
 pub mod Sent

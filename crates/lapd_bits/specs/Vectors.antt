@@ -1,5 +1,5 @@
--- Worked values of the definitions, from outside: Q.921's own examples, a published check value, and
--- frames that were worked out by hand. Each is a fact that computes.
+-- Worked values of the definitions, from outside: a published check value, and frames that were worked out
+-- by hand. Each is a fact that computes.
 use Rattle.std.specs.Prelude.{◌≡◌, ◌∷◌, [], refl, take}
 use Rattle.lapd_bits.specs.Bits.{bits, low_bits}
 use Rattle.lapd_bits.specs.Check.{check}
@@ -75,6 +75,15 @@ heard_abort :
 unfolding low_bits
 heard_abort = refl
 
+-- the abort comes with the octet of 1s, and not before it
+heard_before_abort : heard_in 260 (0x7E ∷ 0x00 ∷ 0x81 ∷ []) ≡ []
+unfolding low_bits
+heard_before_abort = refl
+
+heard_at_abort : heard_in 260 (0x7E ∷ 0x00 ∷ 0x81 ∷ 0xFF ∷ []) ≡ dropped Abort ∷ []
+unfolding low_bits
+heard_at_abort = refl
+
 heard_short : heard_in 260 (0x7E ∷ 0x00 ∷ 0x81 ∷ 0x7E ∷ []) ≡ dropped Short ∷ []
 unfolding low_bits
 heard_short = refl
@@ -97,7 +106,13 @@ heard_overlong_more :
 unfolding low_bits
 heard_overlong_more = refl
 
--- what a sender puts on the line for three of these frames, whole octets of it
+-- what a sender puts on the line for frames whose checks stand above, whole octets of it
+sent_sabme :
+    take 64 (sent.line_text (sent.frame (0x00 ∷ 0x81 ∷ 0x7F ∷ []) ∷ sent.idle ∷ []))
+    ≡ bits (0x7E ∷ 0x00 ∷ 0x81 ∷ 0xEF ∷ 0x50 ∷ 0xB1 ∷ 0xFD ∷ 0xFC ∷ [])
+unfolding low_bits
+sent_sabme = refl
+
 sent_ua :
     sent.line_text (sent.frame (0x00 ∷ 0x81 ∷ 0x73 ∷ []) ∷ [])
     ≡ bits (0x7E ∷ 0x00 ∷ 0x81 ∷ 0x73 ∷ 0xC4 ∷ 0x12 ∷ 0x7E ∷ [])

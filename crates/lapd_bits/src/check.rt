@@ -5,7 +5,8 @@
 ghost use Rattle.std.specs.Prelude.{◌≡◌, ◌++◌, List, Bool, [], ◌∷◌};
 ghost use Rattle.lapd_bits.specs.Bits.{low_bits, bits};
 ghost use Rattle.lapd_bits.specs.Check.{check, is_good};
-ghost use Rattle.lapd_bits.specs.CheckLaws.{HoldsDivision, OnlyCheck};
+ghost use Rattle.lapd_bits.specs.CheckLaws.{OnlyCheck};
+ghost use Rattle.lapd_bits.specs.Register.{HoldsDivision};
 
 /// The register before the first bit: the preset to ones.
 pub(crate) const PRESET: u16 = 0xFFFF;

@@ -1,3 +1,4 @@
+//! What is heard on a line (clauses 2.2 to 2.10): octets go in one by one, and the frames in them come out.
 ghost use Rattle.std.specs.Prelude.{◌≡◌, ◌≢◌, ◌⊎◌, ℕ, ◌<◌, ◌≤◌, ◌-◌, ◌+◌, Bool, true, false, List, [], ◌∷◌, ◌++◌, length, vec_len, IfOk, IfSome, Option, Some, None, option_to_list, take};
 ghost use Rattle.std.specs.Option.{ForSome};
 ghost use Rattle.lapd_bits.specs.Bits.{low_bits};
@@ -60,11 +61,13 @@ impl Deframer {
         ensures* after { sem 𝓛 (Rests the_row self.entry
             (λ v. (n201 : ℕ) (past : List ℕ) → Stands n201 self.old past → Stands n201 v (past ++ octet ∷ []))) }
     {
+        // All changes are made in a step that answers without references, since the toolchain proves no loan
+        // beside a later write.
         let ended = self.step(octet);
         self.lent(ended)
     }
 
-    /// How many whole octets of the open gap are kept; 0 where none is open.
+    /// How many whole octets of the open gap are kept, four once there are too many to keep; 0 where none is open.
     pub fn held(&self) -> u32
         ensures held { (n201 : ℕ) (past : List ℕ) → Stands n201 self.now past → result ≡ octets_held n201 past }
     {
@@ -99,6 +102,8 @@ impl Deframer {
             ≡ heard_until (length self.old.octets.items) past
             ++ option_to_list (event_in self.new.octets.items result) }
     {
+        // At most one bit of an octet ends something, and the fewer than eight bits after it fill no octet. So what
+        // it lies in is still whole when it is lent.
         let mut ended = Ended::Nothing;
         for place in 0..8u8 {
             match self.bit((octet >> place) & 1 == 1) {

@@ -1,6 +1,7 @@
 //! What goes out on a line (clauses 2.2, 2.6 and 2.7): frames, and idle flags between them.
-ghost use Rattle.std.specs.Prelude.{◌≡◌, ℕ, ◌+◌, ◌<◌, ◌≤◌, ◌↔◌, Bool, List, [], ◌∷◌, ◌++◌, length, min, IsTrue, IfOk, if◌then◌else◌};
+ghost use Rattle.std.specs.Prelude.{◌≡◌, ℕ, ◌+◌, ◌<◌, ◌≤◌, ◌↔◌, Bool, List, [], ◌∷◌, ◌++◌, length, take, min, IsTrue, IfOk, if◌then◌else◌};
 ghost use Rattle.lapd_bits.specs.Bits.{low_bits, flag};
+ghost use Rattle.lapd_bits.specs.Stuffing.{number_of};
 ghost use Rattle.lapd_bits.specs.Sent.{Item, frame, item_text};
 ghost use Rattle.lapd_bits.specs.Framer.{Framing, Stands, refilled, with_idle, still_held};
 ghost use Rattle.lapd_bits.specs.FramerText.{begun};
@@ -67,6 +68,7 @@ impl Framer {
     pub fn busy(&self) -> bool
         ensures { IsTrue result ↔ (8 ≤ length self.now.left) }
     {
+        // A frame in hand has its closing flag after it, so eight bits are left at least.
         self.flag == FLAG_BITS || !self.frame.is_empty()
     }
 
@@ -113,6 +115,7 @@ impl Framer {
     /// The next octet of the line, low bit first. Where fewer than eight bits are left, an idle flag goes on
     /// after them first, and else nothing.
     pub fn octet(&mut self) -> u8
+        ensures octet { result ≡ number_of (take 8 (refilled self.old.left)) }
         ensures bits { low_bits 8 result ++ self.new.left ≡ refilled self.old.left }
         ensures held { self.new.held ≡ still_held self.new.left self.old.held }
         ensures room { self.new.room ≡ self.old.room }
@@ -187,7 +190,23 @@ mod tests {
         Ok(())
     }
 
-    // A SABME whose stuffed 0s leave the idle flags after it across octets.
+    // A SABME of the terminal, whose closing flag ends in the first bit of the last octet.
+    #[test]
+    fn a_terminals_sabme(rt: HostRuntime) -> Result<(), Fail> {
+        let mut framer = Framer::start(rt.alloc(), 260)?;
+        expect(&rt, &mut framer, &[0x7E]);
+        assert!(rt; !framer.busy());
+        framer.load(&[0x00, 0x81, 0x7F], &[]);
+        assert_eq!(rt; framer.held(), 3);
+        expect(
+            &rt,
+            &mut framer,
+            &[0x00, 0x81, 0xEF, 0x50, 0xB1, 0xFD, 0xFC],
+        );
+        Ok(())
+    }
+
+    // A SABME of the network, whose stuffed 0s leave the idle flags after it across octets.
     #[test]
     fn idle_flags_across_octets(rt: HostRuntime) -> Result<(), Fail> {
         let mut framer = Framer::start(rt.alloc(), 260)?;

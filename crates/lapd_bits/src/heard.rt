@@ -1,3 +1,5 @@
+//! What the octets of a line bring: the events of a deframer, and the causes for which a frame is dropped.
+
 /// Why what stood between two flags, or a frame, was dropped without effect. The first cause that holds, in
 /// this order, is the one that is told (profile).
 #[derive(Clone, Copy, PartialEq, Eq, Debug)]

@@ -2,6 +2,13 @@
 //!
 //! A [`Deframer`] hears the frames in the octets of a line, and a [`Framer`] gives the octets for frames to be
 //! sent. Both take all their memory when they start.
+//!
+//! - `deframer`, over `gap`: from octets to frames; `heard`: what it answers.
+//! - `framer`, over `stuffer`: from frames to octets.
+//! - `start_fault`: why neither could be started.
+//! - `check`: the frame check sequence.
+//! - `stuffing`, `one_event`, `round_trip`: laws, as functions with no effect.
+//! - `reference`: for tests, a plain program that hears by the definitions.
 #![tactic(auto)]
 
 mod check;

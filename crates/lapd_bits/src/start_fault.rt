@@ -1,3 +1,4 @@
+//! What a start answers where it gives no value.
 use thiserror::Error;
 
 /// Why a start gave no value. Nothing has been kept then.

@@ -7,7 +7,7 @@ use Rattle.std.proofs.lemmas.Nat.{and_mask}
 use Rattle.lapd_bits.specs.Bits.{low_bits, bits}
 use Rattle.lapd_bits.specs.Stuffing.{same_bits}
 use Rattle.lapd_bits.specs.Check.{plus, generator, brought_down, remainder, dividend, check, residue, is_good}
-use Rattle.lapd_bits.specs.CheckLaws.{HoldsDivision}
+use Rattle.lapd_bits.specs.Register.{HoldsDivision}
 use Rattle.lapd_bits.proofs.BitLemmas.{low_bits-add, bits-push, same_bits-low_bits}
 use Rattle.lapd_bits.proofs.Division.Register.{with_bit, remainder-dividend-append}
 use Rattle.lapd_bits.proofs.Division.Word.{low_bits-xor, low_bits-not, low_bits-suc, low_bits-one, low_bits-shifted}

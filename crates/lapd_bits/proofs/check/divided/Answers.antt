@@ -1,7 +1,7 @@
 -- No bit, and one bit more, of the octet.
 use Rattle.std.proofs.Common.{◌++◌, sym, ap, subst, ◌∙◌, append_assoc, append-nil}
 use Rattle.lapd_bits.specs.Bits.{low_bits}
-use Rattle.lapd_bits.specs.CheckLaws.{HoldsDivision}
+use Rattle.lapd_bits.specs.Register.{HoldsDivision}
 use Rattle.lapd_bits.proofs.Division.Holds.{low_bits-next}
 use Rattle.lapd_bits.proofs.check.divided.Goals as goal
 

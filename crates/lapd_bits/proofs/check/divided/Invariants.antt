@@ -1,7 +1,7 @@
 -- The register stands for the bits so far.
 use Rattle.std.proofs.Common.{List, Bool, ◌++◌}
 use Rattle.lapd_bits.specs.Bits.{low_bits}
-use Rattle.lapd_bits.specs.CheckLaws.{HoldsDivision}
+use Rattle.lapd_bits.specs.Register.{HoldsDivision}
 use Rattle.lapd_bits.proofs.check.divided.Given as goal
 
 abbrev pub invariant-loop-place : goal.invariant-loop-place

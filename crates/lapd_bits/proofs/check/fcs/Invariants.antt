@@ -1,7 +1,7 @@
 -- The register stands for the octets so far.
 use Rattle.std.proofs.Common.{◌<◌, ◌^◌, take}
 use Rattle.lapd_bits.specs.Bits.{bits}
-use Rattle.lapd_bits.specs.CheckLaws.{HoldsDivision}
+use Rattle.lapd_bits.specs.Register.{HoldsDivision}
 use Rattle.lapd_bits.proofs.check.fcs.Given as goal
 
 abbrev pub invariant-loop-octet : goal.invariant-loop-octet

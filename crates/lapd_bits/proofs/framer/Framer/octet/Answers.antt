@@ -1,5 +1,7 @@
 -- Each bit goes on with the octet, and the eight of them are its bits.
-use Rattle.std.proofs.Common.{◌∙◌, ◌∷◌, sym, ap, true, false, arith}
+use Rattle.std.proofs.Common.{◌∙◌, ◌∷◌, sym, ap, take, true, false, arith}
+use Rattle.lapd_bits.specs.Stuffing.{number_of}
+use Rattle.lapd_bits.proofs.BitLemmas.{number_of-octet}
 use Rattle.lapd_bits.proofs.FramerOctet.{GoesOn-none, GoesOn-more, GoesOn-all, bit_set}
 use Rattle.lapd_bits.proofs.FramerStands.{Stands-octet}
 use Rattle.lapd_bits.proofs.framer.Framer.octet.Goals as goal
@@ -25,6 +27,13 @@ loop-place-preserved c =
           (ap (λ b. b ∷ new.left) (sym w.if-bit.false) ∙ c.bit.ensures.bit) c.bit.ensures.held c.bit.ensures.room
           (w.octet-is ∙ omega arith)
     ]
+
+pub returns-clause-octet : goal.returns-clause-octet
+returns-clause-octet c =
+    let left = c.loop-place.self.left in
+    let octet = c.loop-place.octet in
+    let bits_are = GoesOn-all c.args.self.now c.loop-place.self c.loop-place.place octet (omega arith) (omega arith) c.loop-place.invariant in
+    sym (number_of-octet octet left (omega arith)) ∙ ap (λ l. number_of (take 8 l)) bits_are
 
 pub returns-clause-bits : goal.returns-clause-bits
 returns-clause-bits c =

@@ -58,8 +58,7 @@ impl Card {
         if let Some(field) = config.fault() {
             return Err(CardFault::BadConfig(field));
         }
-        let deframer =
-            Deframer::start(alloc, config.n201).map_err(|_| CardFault::OutOfMemory)?;
+        let deframer = Deframer::start(alloc, config.n201).map_err(|_| CardFault::OutOfMemory)?;
         let framer = Framer::start(alloc, config.n201).map_err(|_| CardFault::OutOfMemory)?;
         let link = Link::start(alloc, config.control).map_err(|_| CardFault::OutOfMemory)?;
         Ok(Card {

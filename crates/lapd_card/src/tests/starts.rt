@@ -52,7 +52,10 @@ fn each_field_has_its_range(rt: HostRuntime) -> Result<(), Fail> {
         (Field::N200, 11),
     ];
     for (field, value) in table {
-        assert!(rt; is_told(rt.alloc(), with(field, value), field), "{field} {value}");
+        assert!(rt;
+            is_told(rt.alloc(), with(field, value), field),
+            "{field} {value}"
+        );
     }
     Ok(())
 }
@@ -148,7 +151,7 @@ fn the_bounds_of_the_ranges_are_in_range(rt: HostRuntime) -> Result<(), Fail> {
 
 #[test]
 fn a_line_takes_one_tei(rt: HostRuntime) -> Result<(), Fail> {
-    let mut card = Card::start(rt.alloc(), USUAL)?;
+    let mut card = usual_card(rt.alloc())?;
     assert_eq!(rt; card.state(0, Service::Call, 126), None);
     let table = [
         (127, Some(Refusal::BadTei)),

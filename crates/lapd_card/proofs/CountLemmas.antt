@@ -15,7 +15,7 @@ use Rattle.lapd_card.specs.declared.recognise.Recognised.{Recognised}
 use Rattle.lapd_card.specs.declared.recognise.Recognised.TheVariants.{Sabme, Dropped}
 use Rattle.lapd_card.specs.Answer.{Answer, told, refused, nothing}
 use Rattle.lapd_card.specs.Link.{LinkState, after_sabme, with_sent, has_room, first_waiting, with_tei, ua}
-use Rattle.lapd_card.specs.Machine.{Machine, fresh, gained, reading, served, after_octet, with_item, is_due, after_pull, begins, after, answer, refusal, link_after_request, answer_to_request}
+use Rattle.lapd_card.specs.Machine.{Machine, fresh, gained, recognised_event, link_after_brought, after_octet, with_item, is_due, after_pull, begins, after, answer, refusal, link_after_request, answer_to_request}
 use Rattle.lapd_card.specs.Event.{line_of}
 use Rattle.lapd_card.specs.Frames.{recognised, recognised_overlong}
 use Rattle.lapd_card.specs.Run.{Run, one_more, run}
@@ -62,17 +62,17 @@ waiting-sent frame l = go (has_room l) refl
         let size : length (with_sent frame l).waiting ≡ length l.waiting = ap (λ (k : LinkState). length k.waiting) same in
         omega (arith, size)
 
-waiting-read : (r : Recognised) (l : LinkState) → length (served (Some r) l).waiting ≤ length l.waiting + 1
+waiting-read : (r : Recognised) (l : LinkState) → length (link_after_brought (Some r) l).waiting ≤ length l.waiting + 1
 waiting-read (Sabme tei p) l = waiting-sent (ua tei p) (record l { state = Established })
 waiting-read (Dropped cause) l = omega arith
 
 -- and only by a frame that is recognised
-waiting-served : (own : Option ℕ) (more : List stream.Event) (l : LinkState) → length (served (option_map (reading own) (slice_get more 0)) l).waiting ≤ length l.waiting + count_by is_frame more
-waiting-served own [] l = omega arith
-waiting-served own (stream.dropped cause ∷ more) l = omega arith
-waiting-served own (stream.overlong head ∷ more) l =
+waiting-brought : (own : Option ℕ) (more : List stream.Event) (l : LinkState) → length (link_after_brought (option_map (recognised_event own) (slice_get more 0)) l).waiting ≤ length l.waiting + count_by is_frame more
+waiting-brought own [] l = omega arith
+waiting-brought own (stream.dropped cause ∷ more) l = omega arith
+waiting-brought own (stream.overlong head ∷ more) l =
     omega (arith, waiting-read (recognised_overlong own head) l, count_by-append is_frame (stream.overlong head ∷ []) more)
-waiting-served own (stream.frame octets ∷ more) l =
+waiting-brought own (stream.frame octets ∷ more) l =
     omega (arith, waiting-read (recognised own octets) l, count_by-append is_frame (stream.frame octets ∷ []) more)
 
 grown : (w w' more f f' : ℕ) → w' ≤ w + more → f' ≡ f + more → w' + f ≤ w + f'
@@ -85,9 +85,9 @@ octet-within m octet =
     let more = heard_in-more m.n201 m.received octet in
     let gains : gained m.n201 m.received octet ≡ slice_get more.0 0 =
     ap (λ (xs : List stream.Event). slice_get xs (length before)) more.1 ∙ slice_get-after before more.0 in
-    let at : Option stream.Event → Type 0 = λ g. length (served (option_map (reading m.link.tei) g) m.link).waiting ≤ length m.link.waiting + count_by is_frame more.0 in
+    let at : Option stream.Event → Type 0 = λ g. length (link_after_brought (option_map (recognised_event m.link.tei) g) m.link).waiting ≤ length m.link.waiting + count_by is_frame more.0 in
     grown (waiting m) (waiting (after_octet octet m)) (count_by is_frame more.0) (frames_heard m) (frames_heard (after_octet octet m))
-    (subst at (sym gains) (waiting-served m.link.tei more.0 m.link))
+    (subst at (sym gains) (waiting-brought m.link.tei more.0 m.link))
     (ap (count_by is_frame) more.1 ∙ count_by-append is_frame before more.0)
 
 -- an item that is taken waits no more

@@ -15,29 +15,6 @@ use Rattle.lapd_card.specs.Machine.{Machine, left_of, is_due, with_item, with_du
 use Rattle.lapd_card.specs.Stands.{Stands}
 use Rattle.lapd_card.specs.Steps.{with_frame, with_frame_due}
 
--- the lowest bit of a number, as a number
-bit_value-lowest : (x : ℕ) → bit_value (nat_eq (x % 2) 1) ≡ x % 2
-bit_value-lowest x = go (nat_eq (x % 2) 1) refl
-  where
-    go : (b : Bool) → nat_eq (x % 2) 1 ≡ b → bit_value b ≡ x % 2
-    go true e = sym (eqb-true (x % 2) 1 e)
-    go false e =
-        let odd : x % 2 ≡ 1 → ⊥ = eqb-false (x % 2) 1 e in
-        omega arith
-
--- the low bits of a small number make the number
-number_of-low_bits : (n x : ℕ) → x < 2 ^ n → number_of (low_bits n x) ≡ x
-unfolding low_bits
-number_of-low_bits zero x small = omega arith
-number_of-low_bits (suc n) x small =
-    let half : x / 2 < 2 ^ n = omega (arith, pow-suc 2 n) in
-    rw (bit_value-lowest x, number_of-low_bits n (x / 2) half) (omega arith)
-
--- an octet is the number of its eight bits, whatever follows them
-pub number_of-octet : (octet : ℕ) (more : List Bool) → octet < 256 → number_of (take 8 (low_bits 8 octet ++ more)) ≡ octet
-unfolding low_bits
-number_of-octet octet more small = number_of-low_bits 8 octet small
-
 -- what a framer has left is what is left of its past
 pub left_of-stands : (f : Framing) (m : Machine) → framer.Stands f m.items m.given → left_of m ≡ f.left
 left_of-stands f m s =
@@ -115,11 +92,6 @@ with_due-steps f m left text s = go (is_due m) (first_waiting m.link) refl refl
         let low : runs_low f.left ≡ false = full_after_frame f m left octets text (subst at frames s) in
         with_due-is m true (Some octets) e first ∙ sym (ap (λ b. refit b (with_frame (Some octets) m)) low) ∙ ap (λ (n : Machine). refit (runs_low f.left) n) (sym frames)
 
--- the next octet is the one whose bits the framer gave
-pub next_octet-is : (f : Framing) (m : Machine) (octet : ℕ) (more : List Bool) → left_of m ≡ refilled f.left → low_bits 8 octet ++ more ≡ refilled f.left → octet < 256 → next_octet m ≡ octet
-next_octet-is f m octet more left given small =
-    ap (λ (l : List Bool). number_of (take 8 l)) (left ∙ sym given) ∙ number_of-octet octet more small
-
 -- once an idle flag has gone on where the framer runs low, its bits are left
 left_of-refit : (f : Framing) (n : Machine) → framer.Stands f n.items n.given → left_of (refit (runs_low f.left) n) ≡ refilled f.left
 left_of-refit f n s = go (runs_low f.left) refl
@@ -133,19 +105,18 @@ left_of-refit f n s = go (runs_low f.left) refl
         ∙ sym (ap (λ b. if b then f.left ++ flag else f.left) e)
 
 -- what a framer gives next is what the past gives next
-pub given_next : (f : Framing) (m : Machine) (left : List Bool) (octet : ℕ) (more : List Bool) → line_text m.items ≡ bits m.given ++ left → framer.Stands f (with_frame_due m).items (with_frame_due m).given → low_bits 8 octet ++ more ≡ refilled f.left → octet < 256 → next_octet (with_due m) ≡ octet
-given_next f m left octet more text s given small =
-    next_octet-is f (with_due m) octet more
+pub given_next : (f : Framing) (m : Machine) (left : List Bool) → line_text m.items ≡ bits m.given ++ left → framer.Stands f (with_frame_due m).items (with_frame_due m).given → next_octet (with_due m) ≡ number_of (take 8 (refilled f.left))
+given_next f m left text s =
+    ap (λ (l : List Bool). number_of (take 8 l))
     (ap left_of (with_due-steps f m left text s) ∙ left_of-refit f (with_frame_due m) s)
-    given small
 
 -- a card whose framer gave an octet stands for the past with that pull
-pub pulled-stands : (card old : Card) (m : Machine) (next : Framing) (octet : ℕ) → Stands old m → Stands card (with_frame_due m) → low_bits 8 octet ++ next.left ≡ refilled card.framer.left → octet < 256 → ((items : List Item) (given : List ℕ) → framer.Stands card.framer items given → framer.Stands next (with_idle card.framer.left items) (given ++ octet ∷ [])) → Stands (record card { framer = next }) (after_pull m)
-pulled-stands card old m next octet before s given small gives =
+pub pulled-stands : (card old : Card) (m : Machine) (next : Framing) (octet : ℕ) → Stands old m → Stands card (with_frame_due m) → octet ≡ number_of (take 8 (refilled card.framer.left)) → ((items : List Item) (given : List ℕ) → framer.Stands card.framer items given → framer.Stands next (with_idle card.framer.left items) (given ++ octet ∷ [])) → Stands (record card { framer = next }) (after_pull m)
+pulled-stands card old m next octet before s is_octet gives =
     let n : Machine = with_frame_due m in
     let at : Machine → Type 0 = λ n. Stands (record card { framer = next }) n in
     let steps : with_due m ≡ refit (runs_low card.framer.left) n = with_due-steps card.framer m old.framer.left before.sent.text s.sent in
-    let is_next : next_octet (with_due m) ≡ octet = given_next card.framer m old.framer.left octet next.left before.sent.text s.sent given small in
+    let is_next : next_octet (with_due m) ≡ octet = given_next card.framer m old.framer.left before.sent.text s.sent ∙ sym is_octet in
     let whole : after_pull m ≡ record (refit (runs_low card.framer.left) n) { given = n.given ++ octet ∷ [] } =
     ap (λ (k : ℕ). record (with_due m) { given = (with_due m).given ++ k ∷ [] }) is_next
     ∙ ap (λ (d : Machine). record d { given = d.given ++ octet ∷ [] }) steps in

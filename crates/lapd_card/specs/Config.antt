@@ -1,5 +1,5 @@
 -- Which configurations a card can be started with (profile).
-use Rattle.std.specs.Prelude.{ℕ, nat_le, max, Bool, not, ◌&&◌, Option, Some, None, if◌then◌else◌}
+use Rattle.std.specs.Prelude.{ℕ, nat_le, max, Bool, not, ◌&&◌, List, codes, Option, Some, None, if◌then◌else◌}
 use Rattle.lapd_card.specs.declared.config.Config.{Config}
 use Rattle.lapd_card.specs.declared.config.Field.{Field}
 use Rattle.lapd_card.specs.declared.config.Field.TheVariants.{Lines, Terminals, K, K16, Queue, UnitQueue, Control, Slots, N201, N200}
@@ -26,3 +26,16 @@ first_fault c =
 -- The same for the first card, which has one line.
 abbrev pub start_fault : Config → Option Field
 start_fault c = if nat_le c.lines 1 then first_fault c else Some Lines
+
+-- The name of a field, as a fault prints it.
+abbrev pub field_name : Field → List ℕ
+field_name Lines = codes "lines"
+field_name Terminals = codes "terminals"
+field_name K = codes "k"
+field_name K16 = codes "k16"
+field_name Queue = codes "queue"
+field_name UnitQueue = codes "unit_queue"
+field_name Control = codes "control"
+field_name Slots = codes "slots"
+field_name N201 = codes "n201"
+field_name N200 = codes "n200"

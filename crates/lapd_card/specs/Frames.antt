@@ -16,8 +16,8 @@ use Rattle.lapd_card.specs.declared.recognise.Recognised.{Recognised}
 use Rattle.lapd_card.specs.declared.recognise.Recognised.TheVariants.{Sabme, Dropped}
 
 -- Call control, packet mode, and layer 2 management (clause 3.3.3).
-abbrev pub is_served : ℕ → Bool
-is_served sapi = (sapi == 0) || (sapi == 16) || (sapi == 63)
+abbrev pub is_known_sapi : ℕ → Bool
+is_known_sapi sapi = (sapi == 0) || (sapi == 16) || (sapi == 63)
 
 -- The TEI is the line's.
 abbrev pub is_on_line : Option ℕ → ℕ → Bool
@@ -31,7 +31,7 @@ is_addressed own sapi tei = if sapi == 63 then tei == 127 else is_on_line own te
 -- Why a frame is dropped for its address alone: the first cause that holds (profile).
 abbrev pub address_cause : Option ℕ → Address → Option Cause
 address_cause own address =
-    if not (is_served address.sapi) then Some Sapi
+    if not (is_known_sapi address.sapi) then Some Sapi
     else if not (is_addressed own address.sapi address.tei) then Some Tei
     else None
 

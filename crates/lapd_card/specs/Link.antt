@@ -1,5 +1,5 @@
--- The call control link of the line's terminal (Q.921 clauses 3.6, 5.1 and 5.5), as far as the first card
--- serves it.
+-- The call control link of the line's terminal (Q.921 clauses 3.6, 5.1 and 5.5, and annex B), as far as the
+-- first card serves it.
 use Rattle.std.specs.Prelude.{ℕ, ◌+◌, ◌*◌, ◌==◌, nat_lt, length, Bool, true, false, List, [], ◌∷◌, ◌++◌, Option, Some, None, slice_get, drop, if◌then◌else◌}
 use Rattle.lapd_frame.specs.declared.notes.Note.{Note}
 use Rattle.lapd_frame.specs.declared.notes.Note.TheVariants.{EstablishIndication, Error}
@@ -25,7 +25,7 @@ pub record LinkState : Type 0 where
 abbrev pub fresh_link : ℕ → LinkState
 fresh_link room = record { tei = None; state = TeiAssigned; waiting = []; room = room }
 
--- The number of a state (clause 5.1.2).
+-- The number of a state (annex B).
 abbrev pub state_number : State → ℕ
 state_number TeiAssigned = 4
 state_number Established = 7

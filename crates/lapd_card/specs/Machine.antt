@@ -36,30 +36,30 @@ gained n201 received octet =
     slice_get (stream.heard_in n201 (received ++ octet ∷ [])) (length (stream.heard_in n201 received))
 
 -- What is heard, to a line with this TEI: the causes of a deframer come before those of an address.
-abbrev pub reading : Option ℕ → stream.Event → Recognised
-reading own (stream.frame octets) = recognised own octets
-reading own (stream.overlong head) = recognised_overlong own head
-reading own (stream.dropped cause) = Dropped cause
+abbrev pub recognised_event : Option ℕ → stream.Event → Recognised
+recognised_event own (stream.frame octets) = recognised own octets
+recognised_event own (stream.overlong head) = recognised_overlong own head
+recognised_event own (stream.dropped cause) = Dropped cause
 
 abbrev pub brought : ℕ → Machine → Option Recognised
-brought octet m = option_map (reading m.link.tei) (gained m.n201 m.received octet)
+brought octet m = option_map (recognised_event m.link.tei) (gained m.n201 m.received octet)
 
 -- What that does to the link, and what is told of it.
-abbrev pub served : Option Recognised → LinkState → LinkState
-served None l = l
-served (Some (Sabme tei p)) l = after_sabme tei p l
-served (Some (Dropped cause)) l = l
+abbrev pub link_after_brought : Option Recognised → LinkState → LinkState
+link_after_brought None l = l
+link_after_brought (Some (Sabme tei p)) l = after_sabme tei p l
+link_after_brought (Some (Dropped cause)) l = l
 
-abbrev pub told_of_served : Option Recognised → LinkState → Told
-told_of_served None l = nothing
-told_of_served (Some (Sabme tei p)) l = told_of_sabme tei l
-told_of_served (Some (Dropped cause)) l = dropped cause
+abbrev pub told_of_brought : Option Recognised → LinkState → Told
+told_of_brought None l = nothing
+told_of_brought (Some (Sabme tei p)) l = told_of_sabme tei l
+told_of_brought (Some (Dropped cause)) l = dropped cause
 
 abbrev pub after_octet : ℕ → Machine → Machine
-after_octet octet m = record m { received = m.received ++ octet ∷ []; link = served (brought octet m) m.link }
+after_octet octet m = record m { received = m.received ++ octet ∷ []; link = link_after_brought (brought octet m) m.link }
 
 abbrev pub told_of_octet : ℕ → Machine → Told
-told_of_octet octet m = told_of_served (brought octet m) m.link
+told_of_octet octet m = told_of_brought (brought octet m) m.link
 
 -- A request: the first refusal that holds, or what is asked for.
 abbrev pub refusal : requests.Request → LinkState → Option Refusal

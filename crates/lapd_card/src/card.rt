@@ -16,8 +16,8 @@ use std::alloc::Global;
 
 /// A line card: what it holds of its line now.
 ///
-/// All memory is taken by [`Card::start`]; no other call takes any. Each call but `start` and `lines` names
-/// a line, counted from 0.
+/// All memory is taken by [`Card::start`]; no other call takes any. Lines are counted from 0: `octet`,
+/// `request`, `pull` and `state` name one, and `drive`'s events do.
 #[derive(Drop)]
 pub struct Card {
     config: Config,
@@ -36,7 +36,7 @@ impl Card {
     ghost use Rattle.lapd_card.specs.Answer.{told, pulled};
     ghost use Rattle.lapd_card.specs.Frames.{IsTeiBelow};
     ghost use Rattle.lapd_card.specs.Card.{line_count, link_of, link_state, after_request};
-    ghost use Rattle.lapd_card.specs.Machine.{Machine, fresh, answer, refusal, brought, served, told_of_served, told_of_octet, after_octet, begins};
+    ghost use Rattle.lapd_card.specs.Machine.{Machine, fresh, answer, refusal, brought, link_after_brought, told_of_brought, told_of_octet, after_octet, begins};
     ghost use Rattle.lapd_card.specs.Stands.{Stands, Leads};
     ghost use Rattle.lapd_card.specs.Steps.{with_frame_due};
 
@@ -58,15 +58,9 @@ impl Card {
         if let Some(field) = config.fault() {
             return Err(CardFault::BadConfig(field));
         }
-        let Ok(deframer) = Deframer::start(alloc, config.n201) else {
-            return Err(CardFault::OutOfMemory);
-        };
-        let Ok(framer) = Framer::start(alloc, config.n201) else {
-            return Err(CardFault::OutOfMemory);
-        };
-        let Ok(link) = Link::start(alloc, config.control) else {
-            return Err(CardFault::OutOfMemory);
-        };
+        let deframer = Deframer::start(alloc, config.n201).map_err(|_| CardFault::OutOfMemory)?;
+        let framer = Framer::start(alloc, config.n201).map_err(|_| CardFault::OutOfMemory)?;
+        let link = Link::start(alloc, config.control).map_err(|_| CardFault::OutOfMemory)?;
         Ok(Card {
             config,
             deframer,
@@ -164,8 +158,8 @@ impl Card {
 
     fn serve(&mut self, recognised: Recognised) -> Outcome
         requires { IsTeiBelow 128 recognised }
-        ensures told { told_of result ≡ told_of_served (Some recognised) self.old.link }
-        ensures after { self.new ≡ record self.old { link = served (Some recognised) self.old.link } }
+        ensures told { told_of result ≡ told_of_brought (Some recognised) self.old.link }
+        ensures after { self.new ≡ record self.old { link = link_after_brought (Some recognised) self.old.link } }
     {
         match recognised {
             Recognised::Sabme { tei, poll } => self.link.sabme(tei, poll),
@@ -201,6 +195,8 @@ impl Card {
         true
     }
 
+    // The report borrows from the card, so that no event can come while contents are lent. Whatever the event
+    // changed was changed in a step before this one: no loan is proved beside a later write.
     fn lent(&self, outcome: Outcome) -> Report<'_>
         ensures { report_told result ≡ told_of outcome }
     {

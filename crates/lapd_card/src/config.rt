@@ -1,7 +1,7 @@
 //! The sizes and limits of a card.
 
-ghost use Rattle.std.specs.Prelude.{◌≡◌};
-ghost use Rattle.lapd_card.specs.Config.{first_fault, is_within};
+ghost use Rattle.std.specs.Prelude.{◌≡◌, Some};
+ghost use Rattle.lapd_card.specs.Config.{first_fault, field_name, is_within};
 
 use std::fmt;
 use thiserror::Error;
@@ -36,15 +36,25 @@ pub struct Config {
 /// A field of [`Config`], in their order.
 #[derive(Clone, Copy, PartialEq, Eq, Debug)]
 pub enum Field {
+    /// [`Config::lines`].
     Lines,
+    /// [`Config::terminals`].
     Terminals,
+    /// [`Config::k`].
     K,
+    /// [`Config::k16`].
     K16,
+    /// [`Config::queue`].
     Queue,
+    /// [`Config::unit_queue`].
     UnitQueue,
+    /// [`Config::control`].
     Control,
+    /// [`Config::slots`].
     Slots,
+    /// [`Config::n201`].
     N201,
+    /// [`Config::n200`].
     N200,
 }
 
@@ -104,9 +114,12 @@ fn is_in(value: u16, low: u16, high: u16) -> bool
     low <= value && value <= high
 }
 
-impl Field {
-    fn name(self) -> &'static str {
-        match self {
+/// A field prints as its name in [`Config`].
+impl fmt::Display for Field {
+    ghost output = { λ field. Some (field_name field) };
+
+    fn fmt<W: fmt::Write>(&self, f: &mut fmt::Formatter<W>) -> fmt::Result {
+        f.write_str(match self {
             Field::Lines => "lines",
             Field::Terminals => "terminals",
             Field::K => "k",
@@ -117,12 +130,6 @@ impl Field {
             Field::Slots => "slots",
             Field::N201 => "n201",
             Field::N200 => "n200",
-        }
-    }
-}
-
-impl fmt::Display for Field {
-    fn fmt<W: fmt::Write>(&self, f: &mut fmt::Formatter<W>) -> fmt::Result {
-        write!(f, "{}", self.name())
+        })
     }
 }

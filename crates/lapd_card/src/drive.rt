@@ -1,6 +1,6 @@
 //! A whole list of events, with the replies handed to a sink.
 
-ghost use Rattle.std.specs.Prelude.{◌≡◌, ◌<◌, ◌+◌, [], ◌∷◌, ◌++◌, length, take, All, IfOk, IfErr, OnOk, OnErr};
+ghost use Rattle.std.specs.Prelude.{◌≡◌, ◌<◌, ◌+◌, ℕ, [], ◌∷◌, ◌++◌, length, take, All, IfOk, IfErr, OnOk, OnErr};
 ghost use Rattle.lapd_card.specs.Card.{line_count};
 ghost use Rattle.lapd_card.specs.Counts.{IsWithinFrames};
 ghost use Rattle.lapd_card.specs.Event.{line_of};
@@ -41,8 +41,9 @@ impl Card {
         ensures taken_before { IfErr result (λ fault. (m : Machine) → Stands self.old m
             → K.taken sink.new ≡ K.taken sink.old ++ (run m (take fault.at events.now)).replies) }
 
-        // Frames that pulls begin are at most those that were recognised and those that waited before.
-        ensures within_frames { (m : Machine) → IsWithinFrames m (run m events.now) }
+        // Frames that pulls begin are at most those that were recognised and those that waited before: after
+        // every front of the list, of which the whole list is one, so also where the sink failed on the way.
+        ensures within_frames { (m : Machine) (count : ℕ) → IsWithinFrames m (run m (take count events.now)) }
     {
         for (at, event) in events.iter().enumerate() {
             if self.answer(*event, sink).is_err() {

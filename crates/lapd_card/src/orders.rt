@@ -4,12 +4,12 @@ ghost use Rattle.std.specs.Prelude.{◌≡◌, ℕ, ◌+◌, ◌≤◌, ◌<◌,
 
 use lapd_frame::{Order, Timer};
 
-/// The timer orders of one event, in order: at most five.
+/// The timer orders of one event, in order: at most four.
 #[derive(Clone, Copy)]
 pub struct Orders {
-    places: [Order; 5],
+    places: [Order; 4],
     count: usize,
-    ghost in_range: { count ≤ 5 },
+    ghost in_range: { count ≤ 4 },
 }
 
 impl Orders {
@@ -20,7 +20,7 @@ impl Orders {
         ensures { orders_in result ≡ [] }
     {
         Orders {
-            places: [Order::Stop(Timer::T201); 5],
+            places: [Order::Stop(Timer::T201); 4],
             count: 0,
         }
     }
@@ -30,7 +30,7 @@ impl Orders {
         ensures { orders_in result ≡ order ∷ [] }
     {
         Orders {
-            places: [order; 5],
+            places: [order; 4],
             count: 1,
         }
     }

@@ -21,7 +21,7 @@ pub fn recognise(tei: Option<u8>, frame: &[u8]) -> Recognised
     ensures tei_fits { IsTeiBelow 128 result }
 {
     match read(Side::User, frame) {
-        Ok(frame) => for_line(tei, frame.address, served(frame.address, frame.control)),
+        Ok(frame) => for_line(tei, frame.address, meaning_of(frame.address, frame.control)),
         Err(ReadFault::Undefined(address)) => unserved(tei, address),
         Err(ReadFault::WrongSize(address)) => unserved(tei, address),
         Err(ReadFault::BadExtension) => Recognised::Dropped(Cause::Extension),
@@ -64,7 +64,7 @@ fn unserved(tei: Option<u8>, address: Address) -> Recognised
 }
 
 /// What a frame means to the line that it is addressed to.
-fn served(address: Address, control: Control) -> Recognised
+fn meaning_of(address: Address, control: Control) -> Recognised
     ensures value { result ≡ meaning address control }
     ensures fits { address.tei < 128 → IsTeiBelow 128 result }
 {

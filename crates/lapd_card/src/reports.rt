@@ -62,7 +62,7 @@ impl<'a> Report<'a> {
         self.notes.as_slice()
     }
 
-    /// What is to be done with timers, in order: at most five orders.
+    /// What is to be done with timers, in order: at most four orders.
     pub fn orders(&self) -> &[Order]
         ensures { result.now ≡ report_orders self.now }
     {

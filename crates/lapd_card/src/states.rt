@@ -3,7 +3,7 @@
 ghost use Rattle.std.specs.Prelude.{◌≡◌};
 ghost use Rattle.lapd_card.specs.Link.{state_number};
 
-/// The state of a link (Q.921 clause 5.1.2). The first card knows two of them.
+/// The state of a link (Q.921 annex B). The first card knows two of them.
 #[derive(Clone, Copy, PartialEq, Eq, Debug)]
 pub enum State {
     /// State 4: a TEI is assigned, and the link is down.

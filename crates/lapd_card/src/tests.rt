@@ -1,6 +1,7 @@
 //! Worked values, and a call of each public function.
 
-ghost use Rattle.std.specs.Prelude.{◌≡◌};
+ghost use Rattle.std.specs.Prelude.{◌≡◌, IfOk};
+ghost use Rattle.lapd_card.specs.Card.{line_count};
 
 mod addresses;
 mod lines;
@@ -37,7 +38,18 @@ struct Seen {
     lost: u8,
 }
 
-fn seen_in(place: usize, report: &Report<'_>) -> Option<Seen> {
+const SILENT: Seen = Seen {
+    place: 0,
+    note: None,
+    cause: None,
+    order: None,
+    lost: 0,
+};
+
+/// The usual card has at most one note and one order to tell of an octet, and delivers nothing.
+fn seen_in(rt: &impl Abort, place: usize, report: &Report<'_>) -> Option<Seen> {
+    let few = report.notes().len() <= 1 && report.orders().len() <= 1;
+    assert!(rt; few && report.delivered.is_none(), "octet {place}");
     let all = Seen {
         place,
         note: report.notes().first().copied(),
@@ -45,27 +57,18 @@ fn seen_in(place: usize, report: &Report<'_>) -> Option<Seen> {
         order: report.orders().first().copied(),
         lost: report.lost,
     };
-    if all == silent(place) {
+    if all == (Seen { place, ..SILENT }) {
         None
     } else {
         Some(all)
     }
 }
 
-fn silent(place: usize) -> Seen {
-    Seen {
-        place,
-        note: None,
-        cause: None,
-        order: None,
-        lost: 0,
-    }
-}
-
 fn drop_at(place: usize, cause: Cause) -> Seen {
     Seen {
+        place,
         cause: Some(cause),
-        ..silent(place)
+        ..SILENT
     }
 }
 
@@ -74,32 +77,57 @@ fn hear(rt: &impl Abort, alloc: Global, card: &mut Card, octets: &[u8]) -> Resul
     let mut all = Vec::new(alloc);
     for (place, octet) in octets.iter().enumerate() {
         assert_eq!(rt; card.lines(), 1);
-        if let Some(one) = seen_in(place, &card.octet(0, *octet)) {
+        if let Some(one) = seen_in(rt, place, &card.octet(0, *octet)) {
             all.push(one)?;
         }
     }
     Ok(all)
 }
 
+/// Octets of the line, and how many frames they began.
+#[derive(Drop)]
+struct Pulls {
+    octets: Vec<u8>,
+    begun: u16,
+}
+
 fn pull(rt: &impl Abort, card: &mut Card) -> Pulled {
     assert_eq!(rt; card.lines(), 1);
-    card.pull(0)
+    let pulled = card.pull(0);
+    assert!(rt; pulled.orders().is_empty());
+    pulled
 }
 
 /// The next octets of the line.
-fn pull_all(rt: &impl Abort, alloc: Global, card: &mut Card, count: u16) -> Result<Vec<u8>, Fail> {
+fn pull_all(rt: &impl Abort, alloc: Global, card: &mut Card, count: u16) -> Result<Pulls, Fail> {
     let mut octets = Vec::new(alloc);
+    let mut begun = 0u16;
     for _ in 0..count {
-        octets.push(pull(rt, card).octet)?;
+        let pulled = pull(rt, card);
+        octets.push(pulled.octet)?;
+        begun = begun.saturating_add(u16::from(pulled.begun));
     }
-    Ok(octets)
+    Ok(Pulls { octets, begun })
+}
+
+/// Whether the line's next octets are idle flags.
+fn is_idle(rt: &impl Abort, alloc: Global, card: &mut Card, count: u16) -> Result<bool, Fail> {
+    let pulls = pull_all(rt, alloc, card, count)?;
+    Ok(pulls.begun == 0 && pulls.octets.iter().all(|octet| *octet == 0x7E))
+}
+
+/// A card of the usual sizes.
+fn usual_card(alloc: Global) -> Result<Card, Fail>
+    ensures { IfOk result (λ card. line_count card ≡ 1) }
+{
+    Ok(Card::start(alloc, USUAL)?)
 }
 
 /// A card with TEI 64 on its line.
 fn card_of_64(rt: &impl Abort, alloc: Global) -> Result<Card, Fail> {
-    let mut card = Card::start(alloc, USUAL)?;
-    assert_eq!(rt; card.lines(), 1);
-    assert!(rt; card.request(0, Request::Assign(64)).is_ok());
+    let mut card = usual_card(alloc)?;
+    let assigned = card.request(0, Request::Assign(64)).is_ok();
+    assert!(rt; assigned);
     Ok(card)
 }
 
@@ -154,4 +182,36 @@ fn frames_in(alloc: Global, octets: &[u8]) -> Result<Vec<u8>, Fail> {
         }
     }
     Ok(all)
+}
+
+/// A card with TEI 64 on its line, and the terminal there.
+#[derive(Drop)]
+struct Pair {
+    card: Card,
+    terminal: Terminal,
+}
+
+impl Pair {
+    fn start(rt: &impl Abort, alloc: Global) -> Result<Pair, Fail> {
+        let card = card_of_64(rt, alloc)?;
+        let terminal = Terminal::start(rt, alloc);
+        Ok(Pair { card, terminal })
+    }
+
+    /// The one report that a frame of the terminal leads to, at whatever octet.
+    fn heard(
+        &mut self,
+        rt: &impl Abort,
+        alloc: Global,
+        head: &[u8],
+        info: &[u8],
+    ) -> Result<Seen, Fail> {
+        let octets = self.terminal.send(rt, alloc, head, info)?;
+        let heard = hear(rt, alloc, &mut self.card, &octets)?;
+        assert_eq!(rt; heard.len(), 1, "{head:?}");
+        Ok(Seen {
+            place: 0,
+            ..heard[0]
+        })
+    }
 }

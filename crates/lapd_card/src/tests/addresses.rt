@@ -2,47 +2,26 @@
 
 use super::*;
 
-/// A card with TEI 64 on its line, and the terminal there.
-#[derive(Drop)]
-struct Pair {
-    card: Card,
-    terminal: Terminal,
-}
-
-impl Pair {
-    fn cause_of(
-        &mut self,
-        rt: &impl Abort,
-        alloc: Global,
-        head: &[u8],
-        info: &[u8],
-    ) -> Result<Option<Cause>, Fail> {
-        let octets = self.terminal.send(rt, alloc, head, info)?;
-        let heard = hear(rt, alloc, &mut self.card, &octets)?;
-        assert_eq!(rt; heard.len(), 1, "{head:?}");
-        assert_eq!(rt; heard[0].note, None, "{head:?}");
-        Ok(heard[0].cause)
-    }
-}
-
-fn pair_of_64(rt: &impl Abort, alloc: Global) -> Result<Pair, Fail> {
-    Ok(Pair {
-        card: card_of_64(rt, alloc)?,
-        terminal: Terminal::start(rt, alloc),
-    })
-}
+const LONG: [u8; 300] = [0x55; 300];
 
 #[test]
 fn each_cause_by_address_and_kind(rt: HostRuntime) -> Result<(), Fail> {
-    let table: [(&[u8], &[u8], Cause); 15] = [
+    let table: [(&[u8], &[u8], Cause); 22] = [
         (&[0x01, 0x81, 0x7F], &[], Cause::Extension),
         (&[0x00, 0x80, 0x7F], &[], Cause::Extension),
         (&[0x05, 0x82, 0x7F], &[], Cause::Extension),
+        (&[0x01, 0x81, 0x03], &LONG, Cause::Extension),
         (&[0x04, 0x81, 0x7F], &[], Cause::Sapi),
+        (&[0x08, 0x81, 0x03], &LONG, Cause::Sapi),
         (&[0x00, 0x83, 0x7F], &[], Cause::Tei),
         (&[0x00, 0xFF, 0x03], &[0xAB], Cause::Tei),
         (&[0x40, 0x83, 0x7F], &[], Cause::Tei),
         (&[0xFC, 0x81, 0x03], &[0xAB], Cause::Tei),
+        (&[0x00, 0x83, 0x03], &LONG, Cause::Tei),
+        // Where two causes hold, the first one is told.
+        (&[0x04, 0x83, 0x7F], &[], Cause::Sapi),
+        (&[0x00, 0x83, 0x11, 0x00], &[], Cause::Tei),
+        (&[0x40, 0xFF, 0x03], &[0xAB], Cause::Tei),
         (&[0x02, 0x81, 0x7F], &[], Cause::Unserved),
         (&[0x00, 0x81, 0x7F, 0x00], &[], Cause::Unserved),
         (&[0x00, 0x81, 0x53], &[], Cause::Unserved),
@@ -54,47 +33,23 @@ fn each_cause_by_address_and_kind(rt: HostRuntime) -> Result<(), Fail> {
             &[0x0F, 0x12, 0x34, 0x01, 0xFF],
             Cause::Unserved,
         ),
+        (&[0x00, 0x81, 0x03], &LONG, Cause::Unserved),
     ];
-    let mut pair = pair_of_64(&rt, rt.alloc())?;
+    let mut pair = Pair::start(&rt, rt.alloc())?;
     for (head, info, cause) in table {
-        assert_eq!(rt;
-            pair.cause_of(&rt, rt.alloc(), head, info)?,
-            Some(cause),
-            "{head:?}"
-        );
+        let heard = pair.heard(&rt, rt.alloc(), head, info)?;
+        assert_eq!(rt; heard, drop_at(0, cause), "{head:?}");
     }
     assert_eq!(rt; pair.card.state(0, lapd_frame::Service::Call, 64), Some(4));
     Ok(())
 }
 
 #[test]
-fn overlong_frames(rt: HostRuntime) -> Result<(), Fail> {
-    let long = [0x55; 300];
-    let mut pair = pair_of_64(&rt, rt.alloc())?;
-    assert_eq!(rt;
-        pair.cause_of(&rt, rt.alloc(), &[0x00, 0x81, 0x03], &long)?,
-        Some(Cause::Unserved)
-    );
-    assert_eq!(rt;
-        pair.cause_of(&rt, rt.alloc(), &[0x00, 0x83, 0x03], &long)?,
-        Some(Cause::Tei)
-    );
-    assert_eq!(rt;
-        pair.cause_of(&rt, rt.alloc(), &[0x08, 0x81, 0x03], &long)?,
-        Some(Cause::Sapi)
-    );
-    Ok(())
-}
-
-#[test]
 fn no_tei_is_on_a_fresh_line(rt: HostRuntime) -> Result<(), Fail> {
-    let mut pair = Pair {
-        card: Card::start(rt.alloc(), USUAL)?,
-        terminal: Terminal::start(&rt, rt.alloc()),
-    };
-    assert_eq!(rt;
-        pair.cause_of(&rt, rt.alloc(), &[0x00, 0x81, 0x7F], &[])?,
-        Some(Cause::Tei)
-    );
+    let card = usual_card(rt.alloc())?;
+    let terminal = Terminal::start(&rt, rt.alloc());
+    let mut pair = Pair { card, terminal };
+    let heard = pair.heard(&rt, rt.alloc(), &[0x00, 0x81, 0x7F], &[])?;
+    assert_eq!(rt; heard, drop_at(0, Cause::Tei));
     Ok(())
 }

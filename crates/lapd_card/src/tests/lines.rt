@@ -3,11 +3,16 @@
 use super::*;
 use lapd_frame::{ErrorCode, Service, Timer};
 
+const ESTABLISHED: Seen = Seen {
+    note: Some(Note::EstablishIndication(Service::Call, 64)),
+    order: Some(Order::Start(Timer::T203(Service::Call, 64))),
+    ..SILENT
+};
+
 fn established(place: usize) -> Seen {
     Seen {
-        note: Some(Note::EstablishIndication(Service::Call, 64)),
-        order: Some(Order::Start(Timer::T203(Service::Call, 64))),
-        ..silent(place)
+        place,
+        ..ESTABLISHED
     }
 }
 
@@ -18,27 +23,39 @@ const SABME: [u8; 8] = [0x7E, 0x00, 0x81, 0xEF, 0x50, 0xB1, 0xFD, 0xFC];
 /// UA with F=1 of TEI 64, between two flags.
 const UA: [u8; 7] = [0x7E, 0x00, 0x81, 0x73, 0xC4, 0x12, 0x7E];
 
+/// The state of the one link that the line may have, and of three that it has not.
+fn states(card: &Card) -> [Option<u8>; 4] {
+    [
+        card.state(0, Service::Call, 64),
+        card.state(0, Service::Call, 65),
+        card.state(0, Service::Packet, 64),
+        card.state(1, Service::Call, 64),
+    ]
+}
+
 #[test]
 fn a_terminal_establishes_its_link(rt: HostRuntime) -> Result<(), Fail> {
     let mut card = card_of_64(&rt, rt.alloc())?;
-    assert_eq!(rt; card.state(0, Service::Call, 64), Some(4));
+    assert_eq!(rt; states(&card), [Some(4), None, None, None]);
     let heard = hear(&rt, rt.alloc(), &mut card, &SABME)?;
     assert_eq!(rt; heard.as_slice(), [established(7)].as_slice());
-    assert_eq!(rt; card.state(0, Service::Call, 64), Some(7));
-    assert_eq!(rt; card.state(0, Service::Call, 65), None);
-    assert_eq!(rt; card.state(0, Service::Packet, 64), None);
-    assert_eq!(rt; card.state(1, Service::Call, 64), None);
-    let mut begun = 0u16;
-    for octet in UA {
-        let pulled = pull(&rt, &mut card);
-        assert_eq!(rt; pulled.octet, octet);
-        assert!(rt; pulled.orders().is_empty());
-        begun = begun.saturating_add(u16::from(pulled.begun));
-    }
-    assert_eq!(rt; begun, 1);
-    let idle = pull_all(&rt, rt.alloc(), &mut card, 100)?;
-    assert!(rt; idle.iter().all(|octet| *octet == 0x7E));
+    assert_eq!(rt; states(&card), [Some(7), None, None, None]);
+    let pulls = pull_all(&rt, rt.alloc(), &mut card, 7)?;
+    assert_eq!(rt; (pulls.octets.as_slice(), pulls.begun), (UA.as_slice(), 1));
+    assert!(rt; is_idle(&rt, rt.alloc(), &mut card, 100)?);
     Ok(())
+}
+
+/// What a card with TEI 64 on its line tells of a stream: one report at most.
+fn told_of(
+    rt: &impl Abort,
+    alloc: Global,
+    card: &mut Card,
+    octets: &[u8],
+) -> Result<Option<Seen>, Fail> {
+    let heard = hear(rt, alloc, card, octets)?;
+    assert!(rt; heard.len() <= 1, "{octets:?}");
+    Ok(heard.first().copied())
 }
 
 #[test]
@@ -62,12 +79,10 @@ fn streams_without_a_frame_to_serve(rt: HostRuntime) -> Result<(), Fail> {
     ];
     for (octets, drop) in table {
         let mut card = card_of_64(&rt, rt.alloc())?;
-        let heard = hear(&rt, rt.alloc(), &mut card, octets)?;
-        assert_eq!(rt; heard.first().copied(), drop, "{octets:?}");
-        assert!(rt; heard.len() <= 1);
-        assert_eq!(rt; card.state(0, Service::Call, 64), Some(4));
-        let idle = pull_all(&rt, rt.alloc(), &mut card, 20)?;
-        assert!(rt; idle.iter().all(|octet| *octet == 0x7E));
+        let told = told_of(&rt, rt.alloc(), &mut card, octets)?;
+        let idle = is_idle(&rt, rt.alloc(), &mut card, 20)?;
+        let state = card.state(0, Service::Call, 64);
+        assert_eq!(rt; (told, idle, state), (drop, true, Some(4)), "{octets:?}");
     }
     Ok(())
 }
@@ -83,68 +98,65 @@ fn a_frame_after_an_abort_is_served(rt: HostRuntime) -> Result<(), Fail> {
         heard.as_slice(),
         [drop_at(3, Cause::Abort), established(11)].as_slice()
     );
-    assert_eq!(rt;
-        pull_all(&rt, rt.alloc(), &mut card, 7)?.as_slice(),
-        UA.as_slice()
-    );
+    let pulls = pull_all(&rt, rt.alloc(), &mut card, 7)?;
+    assert_eq!(rt; pulls.octets.as_slice(), UA.as_slice());
     Ok(())
 }
 
 #[test]
 fn a_long_idle_line_is_no_event(rt: HostRuntime) -> Result<(), Fail> {
     let mut card = card_of_64(&rt, rt.alloc())?;
-    assert!(rt; hear(&rt, rt.alloc(), &mut card, &[0x7E])?.is_empty());
-    for _ in 0..1000u16 {
-        assert!(rt; hear(&rt, rt.alloc(), &mut card, &[0xFF])?.is_empty());
-    }
-    let heard = hear(&rt, rt.alloc(), &mut card, &SABME)?;
-    assert_eq!(rt; heard.as_slice(), [established(7)].as_slice());
+    assert_eq!(rt; told_of(&rt, rt.alloc(), &mut card, &[0x7E])?, None);
+    assert_eq!(rt; told_of(&rt, rt.alloc(), &mut card, &[0xFF; 1000])?, None);
+    assert_eq!(rt;
+        told_of(&rt, rt.alloc(), &mut card, &SABME)?,
+        Some(established(7))
+    );
     Ok(())
+}
+
+/// SABME on a line after as many 1s as the factor, a power of two, says.
+fn shifted(alloc: Global, factor: u16) -> Result<Vec<u8>, Fail> {
+    let mut carry = factor.wrapping_sub(1);
+    let mut octets = Vec::new(alloc);
+    for octet in SABME {
+        let [low, high] = (u16::from(octet).wrapping_mul(factor) | carry).to_le_bytes();
+        octets.push(low)?;
+        carry = u16::from(high);
+    }
+    Ok(octets)
 }
 
 #[test]
 fn a_frame_may_begin_at_any_bit(rt: HostRuntime) -> Result<(), Fail> {
-    for shift in 0..8u16 {
+    for factor in [1u16, 2, 4, 8, 16, 32, 64, 128] {
         let mut card = card_of_64(&rt, rt.alloc())?;
-        let mut carry = (1u16 << shift) - 1;
-        let mut octets = Vec::new(rt.alloc());
-        for octet in SABME.iter().chain(&[0xFC]) {
-            let bits = u16::from(*octet) << shift | carry;
-            octets.push(bits.to_le_bytes()[0])?;
-            carry = bits >> 8;
-        }
-        let heard = hear(&rt, rt.alloc(), &mut card, &octets)?;
-        assert_eq!(rt; heard.len(), 1, "shifted by {shift}");
-        assert_eq!(rt; heard[0].note, established(0).note, "shifted by {shift}");
+        let octets = shifted(rt.alloc(), factor)?;
+        let told = told_of(&rt, rt.alloc(), &mut card, &octets)?;
+        assert_eq!(rt; told, Some(established(7)), "times {factor}");
     }
     Ok(())
 }
 
 #[test]
 fn a_full_control_ring_loses_the_newest_frame(rt: HostRuntime) -> Result<(), Fail> {
-    let mut card = card_of_64(&rt, rt.alloc())?;
-    let mut terminal = Terminal::start(&rt, rt.alloc());
-    let octets = terminal.send(&rt, rt.alloc(), &[0x00, 0x81, 0x7F], &[])?;
-    assert_eq!(rt; hear(&rt, rt.alloc(), &mut card, &octets)?.len(), 1);
+    let mut pair = Pair::start(&rt, rt.alloc())?;
+    let first = pair.heard(&rt, rt.alloc(), &[0x00, 0x81, 0x7F], &[])?;
+    assert_eq!(rt; first, ESTABLISHED);
     for lost in [0u8, 0, 0, 1] {
-        let octets = terminal.send(&rt, rt.alloc(), &[0x00, 0x81, 0x6F], &[])?;
-        let heard = hear(&rt, rt.alloc(), &mut card, &octets)?;
-        assert_eq!(rt; heard.len(), 1);
-        assert_eq!(rt;
-            heard[0].note,
-            Some(Note::Error(Service::Call, 64, ErrorCode::F))
-        );
-        assert_eq!(rt;
-            heard[0].order,
-            Some(Order::Start(Timer::T203(Service::Call, 64)))
-        );
-        assert_eq!(rt; heard[0].lost, lost);
+        let heard = pair.heard(&rt, rt.alloc(), &[0x00, 0x81, 0x6F], &[])?;
+        let again = Seen {
+            note: Some(Note::Error(Service::Call, 64, ErrorCode::F)),
+            lost,
+            ..ESTABLISHED
+        };
+        assert_eq!(rt; heard, again);
     }
-    let pulled = pull_all(&rt, rt.alloc(), &mut card, 60)?;
-    let frames = frames_in(rt.alloc(), &pulled)?;
+    let pulls = pull_all(&rt, rt.alloc(), &mut pair.card, 60)?;
+    let frames = frames_in(rt.alloc(), &pulls.octets)?;
     let sent = [
         0x00, 0x81, 0x73, 0x00, 0x81, 0x63, 0x00, 0x81, 0x63, 0x00, 0x81, 0x63,
     ];
-    assert_eq!(rt; frames.as_slice(), sent.as_slice());
+    assert_eq!(rt; (frames.as_slice(), pulls.begun), (sent.as_slice(), 4));
     Ok(())
 }

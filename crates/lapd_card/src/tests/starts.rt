@@ -4,164 +4,109 @@ use super::*;
 use crate::{CardFault, Field};
 use lapd_frame::{Refusal, Service};
 
+/// The usual sizes but for one field.
+fn with(field: Field, value: u16) -> Config {
+    let mut config = USUAL;
+    match field {
+        Field::Lines => config.lines = value,
+        Field::Terminals => config.terminals = value,
+        Field::K => config.k = value,
+        Field::K16 => config.k16 = value,
+        Field::Queue => config.queue = value,
+        Field::UnitQueue => config.unit_queue = value,
+        Field::Control => config.control = value,
+        Field::Slots => config.slots = value,
+        Field::N201 => config.n201 = value,
+        Field::N200 => config.n200 = value,
+    }
+    config
+}
+
+/// The field is told by the configuration and by a start alike.
+fn is_told(alloc: Global, config: Config, field: Field) -> bool {
+    config.fault() == Some(field)
+        && Card::start(alloc, config).err() == Some(CardFault::BadConfig(field))
+}
+
 #[test]
 fn each_field_has_its_range(rt: HostRuntime) -> Result<(), Fail> {
     let table = [
-        (
-            Config { lines: 0, ..USUAL },
-            Field::Lines,
-            "lines is out of range",
-        ),
-        (
-            Config { lines: 65, ..USUAL },
-            Field::Lines,
-            "lines is out of range",
-        ),
-        (
-            Config {
-                terminals: 0,
-                ..USUAL
-            },
-            Field::Terminals,
-            "terminals is out of range",
-        ),
-        (
-            Config {
-                terminals: 9,
-                ..USUAL
-            },
-            Field::Terminals,
-            "terminals is out of range",
-        ),
-        (Config { k: 0, ..USUAL }, Field::K, "k is out of range"),
-        (
-            Config {
-                k: 128,
-                queue: 127,
-                ..USUAL
-            },
-            Field::K,
-            "k is out of range",
-        ),
-        (
-            Config { k16: 0, ..USUAL },
-            Field::K16,
-            "k16 is out of range",
-        ),
+        (Field::Lines, 0),
+        (Field::Lines, 65),
+        (Field::Terminals, 0),
+        (Field::Terminals, 9),
+        (Field::K, 0),
+        (Field::K, 128),
+        (Field::K16, 0),
+        (Field::K16, 128),
+        (Field::Queue, 6),
+        (Field::Queue, 128),
+        (Field::UnitQueue, 0),
+        (Field::UnitQueue, 17),
+        (Field::Control, 1),
+        (Field::Control, 17),
+        (Field::Slots, 0),
+        (Field::Slots, 8193),
+        (Field::N201, 7),
+        (Field::N201, 261),
+        (Field::N200, 11),
+    ];
+    for (field, value) in table {
+        assert!(rt;
+            is_told(rt.alloc(), with(field, value), field),
+            "{field} {value}"
+        );
+    }
+    Ok(())
+}
+
+#[test]
+fn the_first_of_two_fields_is_told(rt: HostRuntime) -> Result<(), Fail> {
+    let table = [
+        (with(Field::K, 9), Field::Queue),
+        (with(Field::K16, 9), Field::Queue),
         (
             Config {
-                k16: 128,
-                queue: 127,
-                ..USUAL
-            },
-            Field::K16,
-            "k16 is out of range",
-        ),
-        (
-            Config {
-                queue: 6,
-                k16: 1,
-                ..USUAL
-            },
-            Field::Queue,
-            "queue is out of range",
-        ),
-        (
-            Config {
-                queue: 8,
-                k16: 9,
-                ..USUAL
-            },
-            Field::Queue,
-            "queue is out of range",
-        ),
-        (
-            Config {
-                queue: 128,
-                ..USUAL
-            },
-            Field::Queue,
-            "queue is out of range",
-        ),
-        (
-            Config {
-                unit_queue: 0,
-                ..USUAL
-            },
-            Field::UnitQueue,
-            "unit_queue is out of range",
-        ),
-        (
-            Config {
-                unit_queue: 17,
-                ..USUAL
-            },
-            Field::UnitQueue,
-            "unit_queue is out of range",
-        ),
-        (
-            Config {
-                control: 1,
-                ..USUAL
-            },
-            Field::Control,
-            "control is out of range",
-        ),
-        (
-            Config {
-                control: 17,
-                ..USUAL
-            },
-            Field::Control,
-            "control is out of range",
-        ),
-        (
-            Config { slots: 0, ..USUAL },
-            Field::Slots,
-            "slots is out of range",
-        ),
-        (
-            Config {
-                slots: 8193,
-                ..USUAL
-            },
-            Field::Slots,
-            "slots is out of range",
-        ),
-        (
-            Config { n201: 7, ..USUAL },
-            Field::N201,
-            "n201 is out of range",
-        ),
-        (
-            Config {
-                n201: 261,
                 n200: 11,
-                ..USUAL
+                ..with(Field::N201, 261)
             },
             Field::N201,
-            "n201 is out of range",
-        ),
-        (
-            Config { n200: 11, ..USUAL },
-            Field::N200,
-            "n200 is out of range",
         ),
     ];
-    for (config, field, text) in table {
-        assert_eq!(rt; config.fault(), Some(field), "{config:?}");
-        let fault = CardFault::BadConfig(field);
-        assert_eq!(rt;
-            Card::start(rt.alloc(), config).err(),
-            Some(fault),
-            "{config:?}"
-        );
+    for (config, field) in table {
+        assert!(rt; is_told(rt.alloc(), config, field), "{config:?}");
+    }
+    Ok(())
+}
+
+#[test]
+fn faults_in_words(rt: HostRuntime) -> Result<(), Fail> {
+    let table = [
+        (CardFault::BadConfig(Field::Lines), "lines is out of range"),
+        (
+            CardFault::BadConfig(Field::Terminals),
+            "terminals is out of range",
+        ),
+        (CardFault::BadConfig(Field::K), "k is out of range"),
+        (CardFault::BadConfig(Field::K16), "k16 is out of range"),
+        (CardFault::BadConfig(Field::Queue), "queue is out of range"),
+        (
+            CardFault::BadConfig(Field::UnitQueue),
+            "unit_queue is out of range",
+        ),
+        (
+            CardFault::BadConfig(Field::Control),
+            "control is out of range",
+        ),
+        (CardFault::BadConfig(Field::Slots), "slots is out of range"),
+        (CardFault::BadConfig(Field::N201), "n201 is out of range"),
+        (CardFault::BadConfig(Field::N200), "n200 is out of range"),
+        (CardFault::OutOfMemory, "out of memory"),
+    ];
+    for (fault, text) in table {
         let shown = format!(in rt.alloc(); "{fault}")?;
         assert_eq!(rt; shown.as_str(), text);
     }
-    let memory = CardFault::OutOfMemory;
-    let shown = format!(in rt.alloc(); "{memory}")?;
-    assert_eq!(rt; shown.as_str(), "out of memory");
     Ok(())
 }
 
@@ -206,7 +151,7 @@ fn the_bounds_of_the_ranges_are_in_range(rt: HostRuntime) -> Result<(), Fail> {
 
 #[test]
 fn a_line_takes_one_tei(rt: HostRuntime) -> Result<(), Fail> {
-    let mut card = Card::start(rt.alloc(), USUAL)?;
+    let mut card = usual_card(rt.alloc())?;
     assert_eq!(rt; card.state(0, Service::Call, 126), None);
     let table = [
         (127, Some(Refusal::BadTei)),

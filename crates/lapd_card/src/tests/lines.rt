@@ -9,6 +9,12 @@ const ESTABLISHED: Seen = Seen {
     ..SILENT
 };
 
+/// A second SABME.
+const AGAIN: Seen = Seen {
+    note: Some(Note::Error(Service::Call, 64, ErrorCode::F)),
+    ..ESTABLISHED
+};
+
 fn established(place: usize) -> Seen {
     Seen {
         place,
@@ -138,6 +144,11 @@ fn a_frame_may_begin_at_any_bit(rt: HostRuntime) -> Result<(), Fail> {
     Ok(())
 }
 
+/// UA with F=1, and three with F=0.
+const ANSWERS: [u8; 12] = [
+    0x00, 0x81, 0x73, 0x00, 0x81, 0x63, 0x00, 0x81, 0x63, 0x00, 0x81, 0x63,
+];
+
 #[test]
 fn a_full_control_ring_loses_the_newest_frame(rt: HostRuntime) -> Result<(), Fail> {
     let mut pair = Pair::start(&rt, rt.alloc())?;
@@ -145,18 +156,10 @@ fn a_full_control_ring_loses_the_newest_frame(rt: HostRuntime) -> Result<(), Fai
     assert_eq!(rt; first, ESTABLISHED);
     for lost in [0u8, 0, 0, 1] {
         let heard = pair.heard(&rt, rt.alloc(), &[0x00, 0x81, 0x6F], &[])?;
-        let again = Seen {
-            note: Some(Note::Error(Service::Call, 64, ErrorCode::F)),
-            lost,
-            ..ESTABLISHED
-        };
-        assert_eq!(rt; heard, again);
+        assert_eq!(rt; heard, Seen { lost, ..AGAIN });
     }
     let pulls = pull_all(&rt, rt.alloc(), &mut pair.card, 60)?;
     let frames = frames_in(rt.alloc(), &pulls.octets)?;
-    let sent = [
-        0x00, 0x81, 0x73, 0x00, 0x81, 0x63, 0x00, 0x81, 0x63, 0x00, 0x81, 0x63,
-    ];
-    assert_eq!(rt; (frames.as_slice(), pulls.begun), (sent.as_slice(), 4));
+    assert_eq!(rt; (frames.as_slice(), pulls.begun), (ANSWERS.as_slice(), 4));
     Ok(())
 }

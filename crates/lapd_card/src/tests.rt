@@ -155,20 +155,27 @@ impl Terminal {
         info: &[u8],
     ) -> Result<Vec<u8>, Fail> {
         let mut octets = Vec::new(alloc);
-        if self.framer.busy() {
-            octets.push(self.framer.octet())?;
-        }
-        assert!(rt;
-            !self.framer.busy() && head.len() >= 3 && head.len() <= 4 && info.len() <= 1024
-        );
+        self.drain(&mut octets)?;
+        self.load(rt, head, info);
+        self.drain(&mut octets)?;
+        octets.push(self.framer.octet())?;
+        Ok(octets)
+    }
+
+    fn load(&mut self, rt: &impl Abort, head: &[u8], info: &[u8]) {
+        let fits = head.len() >= 3 && head.len() <= 4 && info.len() <= 1024;
+        assert!(rt; fits && !self.framer.busy());
         self.framer.load(head, info);
+    }
+
+    /// Gives octets until an idle flag would go on after them.
+    fn drain(&mut self, octets: &mut Vec<u8>) -> Result<(), Fail> {
         for _ in 0..2000u16 {
             if self.framer.busy() {
                 octets.push(self.framer.octet())?;
             }
         }
-        octets.push(self.framer.octet())?;
-        Ok(octets)
+        Ok(())
     }
 }
 

@@ -3,16 +3,21 @@
 use super::*;
 use lapd_frame::{ErrorCode, Service, Timer};
 
-const ESTABLISHED: Seen = Seen {
-    note: Some(Note::EstablishIndication(Service::Call, 64)),
-    order: Some(Order::Start(Timer::T203(Service::Call, 64))),
-    ..SILENT
-};
-
 fn established(place: usize) -> Seen {
     Seen {
         place,
-        ..ESTABLISHED
+        note: Some(Note::EstablishIndication(Service::Call, 64)),
+        order: Some(Order::Start(Timer::T203(Service::Call, 64))),
+        ..SILENT
+    }
+}
+
+/// What one more SABME leads to.
+fn again(lost: u8) -> Seen {
+    Seen {
+        note: Some(Note::Error(Service::Call, 64, ErrorCode::F)),
+        lost,
+        ..established(0)
     }
 }
 
@@ -138,25 +143,39 @@ fn a_frame_may_begin_at_any_bit(rt: HostRuntime) -> Result<(), Fail> {
     Ok(())
 }
 
+/// UA with F=1, and three with F=0.
+const ANSWERS: [u8; 12] = [
+    0x00, 0x81, 0x73, 0x00, 0x81, 0x63, 0x00, 0x81, 0x63, 0x00, 0x81, 0x63,
+];
+
+/// The frames in the next octets of the line.
+fn frames_sent(rt: &impl Abort, alloc: Global, pair: &mut Pair) -> Result<Vec<u8>, Fail> {
+    let pulls = pull_all(rt, alloc, &mut pair.card, 60)?;
+    frames_in(alloc, &pulls.octets)
+}
+
+/// The answer to one more SABME of an established link finds room, or is lost.
+fn resend(rt: &impl Abort, alloc: Global, pair: &mut Pair, lost: u8) -> Result<(), Fail> {
+    let heard = pair.heard(rt, alloc, &[0x00, 0x81, 0x6F], &[])?;
+    assert_eq!(rt; heard, again(lost));
+    Ok(())
+}
+
+/// Fills the ring of a fresh pair, and one more.
+fn overfill(rt: &impl Abort, alloc: Global, pair: &mut Pair) -> Result<(), Fail> {
+    let first = pair.heard(rt, alloc, &[0x00, 0x81, 0x7F], &[])?;
+    assert_eq!(rt; first, established(0));
+    for lost in [0u8, 0, 0, 1] {
+        resend(rt, alloc, pair, lost)?;
+    }
+    Ok(())
+}
+
 #[test]
 fn a_full_control_ring_loses_the_newest_frame(rt: HostRuntime) -> Result<(), Fail> {
     let mut pair = Pair::start(&rt, rt.alloc())?;
-    let first = pair.heard(&rt, rt.alloc(), &[0x00, 0x81, 0x7F], &[])?;
-    assert_eq!(rt; first, ESTABLISHED);
-    for lost in [0u8, 0, 0, 1] {
-        let heard = pair.heard(&rt, rt.alloc(), &[0x00, 0x81, 0x6F], &[])?;
-        let again = Seen {
-            note: Some(Note::Error(Service::Call, 64, ErrorCode::F)),
-            lost,
-            ..ESTABLISHED
-        };
-        assert_eq!(rt; heard, again);
-    }
-    let pulls = pull_all(&rt, rt.alloc(), &mut pair.card, 60)?;
-    let frames = frames_in(rt.alloc(), &pulls.octets)?;
-    let sent = [
-        0x00, 0x81, 0x73, 0x00, 0x81, 0x63, 0x00, 0x81, 0x63, 0x00, 0x81, 0x63,
-    ];
-    assert_eq!(rt; (frames.as_slice(), pulls.begun), (sent.as_slice(), 4));
+    overfill(&rt, rt.alloc(), &mut pair)?;
+    let sent = frames_sent(&rt, rt.alloc(), &mut pair)?;
+    assert_eq!(rt; sent.as_slice(), ANSWERS.as_slice());
     Ok(())
 }

@@ -1,5 +1,5 @@
 -- The measure by which it ends to wait for the timers that fall due until a moment.
-use Rattle.std.proofs.Common.{◌≡◌, ℕ, ◌+◌, ◌-◌, ◌≤◌, Bool, true, false, cond, not, List, ◌∷◌, filter, refl, ap, ◌∙◌, arith}
+use Rattle.std.proofs.Common.{◌≡◌, ℕ, ◌+◌, ◌-◌, ◌≤◌, true, false, cond, not, List, ◌∷◌, refl, ap, ◌∙◌, arith}
 use Rattle.std.specs.List.{sum_by}
 use Rattle.std.proofs.lemmas.List.Filters.{sum_by-filter_both}
 use Rattle.std.proofs.lemmas.List.Sums.{sum_by-cons}
@@ -20,6 +20,7 @@ time_until-due c e es now end is due =
     let before : time_until end c ≡ (end + 1 - e.moment) + left end es = ap (left end) is ∙ sum_by-cons (λ (x : Expiry). end + 1 - x.moment) e es in
     omega (arith, after, before)
 
+-- what is taken out of the set adds nothing to what is left
 left-without : (line : ℕ) (timer : Timer) (end : ℕ) (es : List Expiry) → left end (without line timer es) ≤ left end es
 left-without line timer end es =
     omega (arith, sum_by-filter_both (λ x. not (is_of line timer x)) (λ x. not (not (is_of line timer x))) (λ _. refl) (λ (x : Expiry). end + 1 - x.moment) es)

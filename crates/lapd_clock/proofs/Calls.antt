@@ -4,13 +4,13 @@ use Rattle.std.specs.List.{AllByRecursion}
 use Rattle.std.proofs.lemmas.Bool.Decides.{nat_tests}
 use Rattle.std.proofs.lemmas.List.Elements.{All-from_recursion}
 use Rattle.std.proofs.lemmas.List.Sums.{length-filter, count_by-le-length}
-use Rattle.lapd_clock.specs.Order.{placed, IsInOrder}
+use Rattle.lapd_clock.specs.InOrder.{put_in_order, IsInOrder}
 use Rattle.lapd_clock.specs.Timer.{Timer, Start, Stop, duration, is_same}
 use Rattle.lapd_clock.specs.Timers.{Expiry, Timers, is_before, without, finds_place, with_order, after_first_due, first_due}
 use Rattle.lapd_clock.specs.Sound.{IsSound, IsLeastDue}
 use Rattle.lapd_clock.specs.declared.line.Held.{Held}
 use Rattle.lapd_clock.specs.Places.{Line, held_before, all_but, from_line, in_order, timers_in, IsLineKept, IsKept}
-use Rattle.lapd_clock.proofs.Ordered.{IsInOrder-placed, IsInOrder-filter}
+use Rattle.lapd_clock.proofs.Ordered.{IsInOrder-put_in_order, IsInOrder-filter}
 use Rattle.lapd_clock.proofs.TimerOrder.{held_order}
 use Rattle.lapd_clock.proofs.StandsFor.{in_order-stopped, in_order-restarted, count_on-stopped}
 use Rattle.lapd_clock.proofs.Running.{finds_place-without, without-no_place}
@@ -32,8 +32,8 @@ pub length-all_but : (t : Timer) (hs : List Held) → length (all_but t hs) ≤ 
 length-all_but t hs =
     let p = λ (h : Held). not (is_same h.timer t) in omega (arith, length-filter p hs, count_by-le-length p hs)
 
-pub IsInOrder-restarted : (b : Bool) (h : Held) (t : Timer) (hs : List Held) → IsInOrder held_before hs → IsInOrder held_before (cond b (placed held_before h (all_but t hs)) (all_but t hs))
-IsInOrder-restarted true h t hs ordered = IsInOrder-placed held_before held_order h (all_but t hs) (IsInOrder-filter held_before held_order _ hs ordered)
+pub IsInOrder-restarted : (b : Bool) (h : Held) (t : Timer) (hs : List Held) → IsInOrder held_before hs → IsInOrder held_before (cond b (put_in_order held_before h (all_but t hs)) (all_but t hs))
+IsInOrder-restarted true h t hs ordered = IsInOrder-put_in_order held_before held_order h (all_but t hs) (IsInOrder-filter held_before held_order _ hs ordered)
 IsInOrder-restarted false h t hs ordered = IsInOrder-filter held_before held_order _ hs ordered
 
 pub IsInOrder-stopped : (t : Timer) (hs : List Held) → IsInOrder held_before hs → IsInOrder held_before (all_but t hs)
@@ -59,18 +59,18 @@ finds_place-restarted places k lines u t sound within at =
     finds_place-without (timers_in places lines) k t (sound.in_places k) ∙ ap (λ n. not (n == places)) (count_on-stopped k lines u t within at)
 
 pub timers_in-restarted : (b : Bool) (places k : ℕ) (lines : List Line) (u v : Line) (h : Held) (now : ℕ) → IsSound (timers_in places lines) → k < length lines → u ≡ get_or lines k u
-    → h.moment ≡ now + duration h.timer → b ≡ not (length (all_but h.timer u.items) == places) → v.items ≡ cond b (placed held_before h (all_but h.timer u.items)) (all_but h.timer u.items)
+    → h.moment ≡ now + duration h.timer → b ≡ not (length (all_but h.timer u.items) == places) → v.items ≡ cond b (put_in_order held_before h (all_but h.timer u.items)) (all_but h.timer u.items)
     → timers_in places (set lines k v) ≡ with_order (timers_in places lines) k (Start h.timer) now
 unfolding with_order
 timers_in-restarted true places k lines u v h now sound within at moment placed_is new =
     let found = finds_place-restarted places k lines u h.timer sound within at ∙ sym placed_is in
     same_timers _ _ places _ _ (length-set lines k v) (in_order-restarted k lines u v h within at new)
-    ∙ ap (λ m. record { lines = length lines; places = places; running = placed is_before (record { moment = m; line = k; timer = h.timer }) (without k h.timer (in_order (from_line 0 lines))) }) moment
-    ∙ sym (ap (λ b. cond b (record { lines = length lines; places = places; running = placed is_before (record { moment = now + duration h.timer; line = k; timer = h.timer }) (without k h.timer (in_order (from_line 0 lines))) }) (timers_in places lines)) found)
+    ∙ ap (λ m. record { lines = length lines; places = places; running = put_in_order is_before (record { moment = m; line = k; timer = h.timer }) (without k h.timer (in_order (from_line 0 lines))) }) moment
+    ∙ sym (ap (λ b. cond b (record { lines = length lines; places = places; running = put_in_order is_before (record { moment = now + duration h.timer; line = k; timer = h.timer }) (without k h.timer (in_order (from_line 0 lines))) }) (timers_in places lines)) found)
 timers_in-restarted false places k lines u v h now sound within at moment placed_is new =
     let found = finds_place-restarted places k lines u h.timer sound within at ∙ sym placed_is in
     same_timers _ _ places _ _ (length-set lines k v) (in_order-stopped k lines u v h.timer within at new ∙ without-no_place (timers_in places lines) k h.timer found)
-    ∙ sym (ap (λ b. cond b (record { lines = length lines; places = places; running = placed is_before (record { moment = now + duration h.timer; line = k; timer = h.timer }) (without k h.timer (in_order (from_line 0 lines))) }) (timers_in places lines)) found)
+    ∙ sym (ap (λ b. cond b (record { lines = length lines; places = places; running = put_in_order is_before (record { moment = now + duration h.timer; line = k; timer = h.timer }) (without k h.timer (in_order (from_line 0 lines))) }) (timers_in places lines)) found)
 
 pub timers_in-none : (places : ℕ) (lines : List Line) → AllByRecursion (λ v. v.items ≡ []) lines → timers_in places lines ≡ record { lines = length lines; places = places; running = [] }
 unfolding in_order
@@ -100,12 +100,18 @@ one_due e es now h = ap (λ b. cond b (Some (e.line, e.timer)) None) (by_now e.m
 pub one_taken : (e : Expiry) (es : List Expiry) (now : ℕ) → e.moment ≤ now → after_first_due (e ∷ es) now ≡ es
 one_taken e es now h = ap (λ b. cond b es (e ∷ es)) (by_now e.moment now h)
 
-pub all_later : (e : Expiry) (es : List Expiry) (now : ℕ) → IsInOrder is_before (e ∷ es) → now < e.moment → All (λ held. now < held.moment) (e ∷ es)
-all_later e es now h k = All-from_recursion (λ (held : Expiry). now < held.moment) (e ∷ es) (k, later es h.0)
+-- the first of the set is no later than any other
+pub all_no_earlier : (e : Expiry) (es : List Expiry) → IsInOrder is_before (e ∷ es) → All (λ held. e.moment ≤ held.moment) (e ∷ es)
+all_no_earlier e es h = All-from_recursion (λ (held : Expiry). e.moment ≤ held.moment) (e ∷ es) (omega arith, behind es h.0)
   where
-    later : (xs : List Expiry) → AllByRecursion (λ x. is_before x e ≡ false) xs → AllByRecursion (λ held. now < held.moment) xs
-    later [] h = tt
-    later (x ∷ xs) h = (omega (arith, no_earlier x e h.0), later xs h.1)
+    behind : (xs : List Expiry) → AllByRecursion (λ x. is_before x e ≡ false) xs → AllByRecursion (λ held. e.moment ≤ held.moment) xs
+    behind [] h = tt
+    behind (x ∷ xs) h = (no_earlier x e h.0, behind xs h.1)
+
+pub all_later : (e : Expiry) (es : List Expiry) (now : ℕ) → IsInOrder is_before (e ∷ es) → now < e.moment → All (λ held. now < held.moment) (e ∷ es)
+all_later e es now h k i d within =
+    let from : e.moment ≤ (get_or (e ∷ es) i d).moment = all_no_earlier e es h i d within in
+    omega (arith, from, k)
 
 pub first_is_least : (c : Timers) (e : Expiry) (es : List Expiry) (now : ℕ) → c.running ≡ e ∷ es → IsInOrder is_before (e ∷ es) → e.moment ≤ now → IsLeastDue c now e.line e.timer
 first_is_least c e es now is h k = record {

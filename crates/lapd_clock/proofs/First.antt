@@ -8,12 +8,12 @@ use Rattle.std.specs.Ordering.{nat_cmp, ordering_then, is_lt}
 use Rattle.std.proofs.lemmas.Bool.{false≢true}
 use Rattle.std.proofs.lemmas.Bool.Decides.{nat_tests}
 use Rattle.std.proofs.lemmas.Cmp.{tied_itself}
-use Rattle.lapd_clock.specs.Order.{placed, IsInOrder}
+use Rattle.lapd_clock.specs.InOrder.{put_in_order, IsInOrder}
 use Rattle.lapd_clock.specs.Timer.{timer_cmp}
 use Rattle.lapd_clock.specs.Timers.{Expiry, is_before}
 use Rattle.lapd_clock.specs.declared.line.Held.{Held}
 use Rattle.lapd_clock.specs.Places.{Line, held_before, expiry_on, on_line, from_line, in_order, earlier_of, IsFirst, IsFirstLine, IsFirstAfter, AreFirstAfter, IsLineKept}
-use Rattle.lapd_clock.proofs.Ordered.{All-placed, All-unplaced, placed-first}
+use Rattle.lapd_clock.proofs.Ordered.{All-put_in_order, All-from_put_in_order, put_in_order-first}
 use Rattle.lapd_clock.proofs.TimerOrder.{before_order, expiry_total}
 use Rattle.lapd_clock.proofs.StandsFor.{same_line, behind}
 
@@ -142,7 +142,7 @@ all_of_lines places e i (v ∷ vs) h k =
 All-in_order : (P : Expiry → Type 0) (es : List Expiry) → AllByRecursion P es → AllByRecursion P (in_order es)
 unfolding in_order
 All-in_order P [] h = tt
-All-in_order P (e ∷ es) h = All-placed is_before P e (in_order es) h.0 (All-in_order P es h.1)
+All-in_order P (e ∷ es) h = All-put_in_order is_before P e (in_order es) h.0 (All-in_order P es h.1)
 
 -- the set is the first timer and what stays when it is taken out of its line
 pub record Leads (line : ℕ) (held : Held) (lines : List Line) : Type 0 where
@@ -154,12 +154,12 @@ pub record Leads (line : ℕ) (held : Held) (lines : List Line) : Type 0 where
 pub first_leads : (places line : ℕ) (held : Held) (lines : List Line) → AllByRecursion (IsLineKept places) lines → IsFirstLine lines line held → Leads line held lines
 first_leads places line held lines each first =
     let others = behind 0 line lines held first.in_range first.front in
-    let all : in_order (from_line 0 lines) ≡ placed is_before (expiry_on line held) (in_order others.rest) = others.all ∙ ap (λ n. placed is_before (expiry_on n held) (in_order others.rest)) (omega arith) in
+    let all : in_order (from_line 0 lines) ≡ put_in_order is_before (expiry_on line held) (in_order others.rest) = others.all ∙ ap (λ n. put_in_order is_before (expiry_on n held) (in_order others.rest)) (omega arith) in
     let none_before = All-in_order (λ y. is_before y (expiry_on line held) ≡ false) (from_line 0 lines) (all_of_lines places (expiry_on line held) 0 lines each first.least) in
     record {
       in_range = first.in_range;
       rest = in_order others.rest;
-      all = all ∙ placed-first is_before (expiry_on line held) (in_order others.rest) (All-unplaced is_before (λ y. is_before y (expiry_on line held) ≡ false) (expiry_on line held) (in_order others.rest) (subst (AllByRecursion (λ y. is_before y (expiry_on line held) ≡ false)) all none_before));
+      all = all ∙ put_in_order-first is_before (expiry_on line held) (in_order others.rest) (All-from_put_in_order is_before (λ y. is_before y (expiry_on line held) ≡ false) (expiry_on line held) (in_order others.rest) (subst (AllByRecursion (λ y. is_before y (expiry_on line held) ≡ false)) all none_before));
       taken = λ u v at new. ap in_order (others.taken u v at new);
     }
 

@@ -4,3 +4,4 @@ pub mod StandsFor
 pub mod Running
 pub mod First
 pub mod Calls
+pub mod TimeUntil

@@ -4,11 +4,11 @@ use Rattle.std.specs.List.{AllByRecursion}
 use Rattle.std.proofs.lemmas.Bool.{false≢true}
 use Rattle.std.proofs.lemmas.Bool.Decides.{nat_tests}
 use Rattle.std.proofs.lemmas.List.Elements.{All-from_recursion, recursion_from_All}
-use Rattle.lapd_clock.specs.Order.{placed}
+use Rattle.lapd_clock.specs.InOrder.{put_in_order}
 use Rattle.lapd_clock.specs.Timer.{Timer, Order, Start, Stop, duration, is_same}
 use Rattle.lapd_clock.specs.Timers.{Expiry, Timers, is_before, is_of, is_held, without, count_on, finds_place, with_order, after_first_due}
 use Rattle.lapd_clock.specs.Sound.{IsSound, IsOneEach}
-use Rattle.lapd_clock.proofs.Ordered.{by_place, IsInOrder-placed, IsInOrder-filter, All-placed, All-filter, count_by-placed, count_by-cons}
+use Rattle.lapd_clock.proofs.Ordered.{by_place, IsInOrder-put_in_order, IsInOrder-filter, All-put_in_order, All-filter, count_by-put_in_order, count_by-cons}
 use Rattle.lapd_clock.proofs.TimerOrder.{before_order, is_same_both_ways}
 
 -- taking a timer out frees its place, if it has one
@@ -75,11 +75,11 @@ same_line_both_ways m n = grind (arith, nat_tests)
 other_way : (a b : Expiry) → is_of a.line a.timer b ≡ false → is_of b.line b.timer a ≡ false
 other_way a b h = ap (λ t. (a.line == b.line) && t) (is_same_both_ways a.timer b.timer) ∙ ap (λ t. t && is_same b.timer a.timer) (same_line_both_ways a.line b.line) ∙ h
 
-IsOneEach-placed : (e : Expiry) (es : List Expiry) → AllByRecursion (λ other. is_of e.line e.timer other ≡ false) es → IsOneEach es → IsOneEach (placed is_before e es)
-IsOneEach-placed e [] others h = (tt, tt)
-IsOneEach-placed e (x ∷ xs) others h =
+IsOneEach-put_in_order : (e : Expiry) (es : List Expiry) → AllByRecursion (λ other. is_of e.line e.timer other ≡ false) es → IsOneEach es → IsOneEach (put_in_order is_before e es)
+IsOneEach-put_in_order e [] others h = (tt, tt)
+IsOneEach-put_in_order e (x ∷ xs) others h =
     by_place is_before e x xs IsOneEach
-    (λ _. (All-placed is_before (λ other. is_of x.line x.timer other ≡ false) e xs (other_way e x others.0) h.0, IsOneEach-placed e xs others.1 h.1))
+    (λ _. (All-put_in_order is_before (λ other. is_of x.line x.timer other ≡ false) e xs (other_way e x others.0) h.0, IsOneEach-put_in_order e xs others.1 h.1))
     (λ _. (others, h))
 
 none_of-without : (line : ℕ) (timer : Timer) (es : List Expiry) → AllByRecursion (λ other. is_of line timer other ≡ false) (without line timer es)
@@ -114,12 +114,12 @@ with_order_sound c line (Stop timer) now within h = without_sound c line timer h
 with_order_sound c line (Start timer) now within h =
     let rest = without_sound c line timer h in
     let e : Expiry = record { moment = now + duration timer; line = line; timer = timer } in
-    (elim (finds_place c line (Start timer)) as (λ b. finds_place c line (Start timer) ≡ b → IsSound (cond b (record c { running = placed is_before e (without line timer c.running) }) c)) [
+    (elim (finds_place c line (Start timer)) as (λ b. finds_place c line (Start timer) ≡ b → IsSound (cond b (record c { running = put_in_order is_before e (without line timer c.running) }) c)) [
       | true ↦ λ found. record {
-        in_order = IsInOrder-placed is_before before_order e _ rest.in_order;
-        one_each = IsOneEach-placed e _ (none_of-without line timer c.running) rest.one_each;
-        on_lines = All-from_recursion (λ x. x.line < c.lines) _ (All-placed is_before (λ x. x.line < c.lines) e _ within (recursion_from_All (λ x. x.line < c.lines) _ rest.on_lines));
-        in_places = λ l. rw (count_by-placed is_before (λ x. x.line == l) e (without line timer c.running)) (one_more_fits line l (λ k. count_on k (without line timer c.running)) c.places (room (count_on line (without line timer c.running)) c.places (rest.in_places line) (sym (finds_place-without c line timer (h.in_places line)) ∙ found)) (rest.in_places l));
+        in_order = IsInOrder-put_in_order is_before before_order e _ rest.in_order;
+        one_each = IsOneEach-put_in_order e _ (none_of-without line timer c.running) rest.one_each;
+        on_lines = All-from_recursion (λ x. x.line < c.lines) _ (All-put_in_order is_before (λ x. x.line < c.lines) e _ within (recursion_from_All (λ x. x.line < c.lines) _ rest.on_lines));
+        in_places = λ l. rw (count_by-put_in_order is_before (λ x. x.line == l) e (without line timer c.running)) (one_more_fits line l (λ k. count_on k (without line timer c.running)) c.places (room (count_on line (without line timer c.running)) c.places (rest.in_places line) (sym (finds_place-without c line timer (h.in_places line)) ∙ found)) (rest.in_places l));
       }
       | false ↦ λ _. h
     ]) refl
@@ -151,5 +151,5 @@ after_due_sound lines places (e ∷ es) now h =
 -- an order that finds no place changes nothing
 pub refused_unchanged : (c : Timers) (line : ℕ) (order : Order) (now : ℕ) → finds_place c line order ≡ false → with_order c line order now ≡ c
 unfolding with_order finds_place
-refused_unchanged c line (Start timer) now h = ap (λ b. cond b (record c { running = placed is_before (record { moment = now + duration timer; line = line; timer = timer }) (without line timer c.running) }) c) h
+refused_unchanged c line (Start timer) now h = ap (λ b. cond b (record c { running = put_in_order is_before (record { moment = now + duration timer; line = line; timer = timer }) (without line timer c.running) }) c) h
 refused_unchanged c line (Stop timer) now h = absurd (false≢true (sym h))

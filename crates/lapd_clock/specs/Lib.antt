@@ -1,6 +1,6 @@
 pub mod Timer
 pub mod Timers
 pub mod Worked
-pub mod Order
+pub mod InOrder
 pub mod Sound
 pub mod Places

@@ -4,7 +4,7 @@ use Rattle.std.specs.Prelude.{◌≡◌, ℕ, ◌+◌, ◌≤◌, Bool, false, n
 use Rattle.std.specs.declared.alloc.Global.{Global}
 use Rattle.std.specs.List.{AllByRecursion, HoldsAt}
 use Rattle.std.specs.Ordering.{nat_cmp, ordering_then, is_lt}
-use Rattle.lapd_clock.specs.Order.{placed, IsInOrder}
+use Rattle.lapd_clock.specs.InOrder.{put_in_order, IsInOrder}
 use Rattle.lapd_clock.specs.Timer.{Timer, timer_cmp, is_same}
 use Rattle.lapd_clock.specs.Timers.{Expiry, Timers, is_before, with_expiry}
 use Rattle.lapd_clock.specs.Sound.{IsSound}
@@ -16,7 +16,7 @@ held_before a b = is_lt (ordering_then (nat_cmp a.moment b.moment) (timer_cmp a.
 
 -- one more in its place, and all but one timer
 abbrev pub with_held : Held → List Held → List Held
-with_held h hs = placed held_before h hs
+with_held h hs = put_in_order held_before h hs
 
 abbrev pub all_but : Timer → List Held → List Held
 all_but timer hs = filter (λ h. not (is_same h.timer timer)) hs

@@ -1,7 +1,7 @@
 -- What holds of every clock.
 use Rattle.std.specs.Prelude.{◌≡◌, ℕ, ◌<◌, ◌≤◌, false, List, [], ◌∷◌, Contains, All}
 use Rattle.std.specs.List.{AllByRecursion}
-use Rattle.lapd_clock.specs.Order.{IsInOrder}
+use Rattle.lapd_clock.specs.InOrder.{IsInOrder}
 use Rattle.lapd_clock.specs.Timer.{Timer}
 use Rattle.lapd_clock.specs.Timers.{Expiry, Timers, is_before, is_of, count_on}
 

@@ -1,9 +1,9 @@
 -- A clock as a set of running timers, and what each call does to it.
-use Rattle.std.specs.Prelude.{ℕ, ◌+◌, ◌*◌, Bool, true, not, ◌&&◌, ◌||◌, ◌==◌, if◌then◌else◌, nat_lt, nat_le, List, [], ◌∷◌, filter, count_by, Option, None, Some}
+use Rattle.std.specs.Prelude.{ℕ, ◌+◌, ◌-◌, ◌*◌, Bool, true, not, ◌&&◌, ◌||◌, ◌==◌, if◌then◌else◌, nat_lt, nat_le, List, [], ◌∷◌, filter, count_by, sum_by, Option, None, Some}
 use Rattle.std.specs.List.{list_any}
 use Rattle.std.specs.declared.cmp.Ordering.{Ordering}
 use Rattle.std.specs.Ordering.{nat_cmp, ordering_then, is_lt}
-use Rattle.lapd_clock.specs.Order.{placed}
+use Rattle.lapd_clock.specs.InOrder.{put_in_order}
 use Rattle.lapd_clock.specs.Timer.{Timer, Order, Start, Stop, duration, timer_cmp, is_same}
 
 -- A running timer: the moment at which it falls due, in milliseconds, its line, and which timer of the line it is.
@@ -33,7 +33,7 @@ idle lines terminals = record { lines = lines; places = 4 * terminals + 1; runni
 
 -- the set with one more member
 abbrev pub with_expiry : Expiry → List Expiry → List Expiry
-with_expiry e es = placed is_before e es
+with_expiry e es = put_in_order is_before e es
 
 -- this timer of this line
 abbrev pub is_of : ℕ → Timer → Expiry → Bool
@@ -87,3 +87,7 @@ first_moment (e ∷ es) = Some e.moment
 
 abbrev pub next_moment : Timers → Option ℕ
 next_moment c = first_moment c.running
+
+-- how long the running timers still run until a moment, all together; one that falls due later counts nothing
+abbrev pub time_until : ℕ → Timers → ℕ
+time_until end c = sum_by (λ e. end + 1 - e.moment) c.running

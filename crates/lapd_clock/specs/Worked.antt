@@ -1,7 +1,7 @@
 -- The definitions on worked values: each fact holds by computing.
 use Rattle.std.specs.Prelude.{◌≡◌, ℕ, false, List, [], ◌∷◌, Some, None, refl}
 use Rattle.lapd_clock.specs.Timer.{Timer, Order, Start, Stop, T200, T203, T201, Call, Packet}
-use Rattle.lapd_clock.specs.Timers.{Expiry, Timers, idle, finds_place, with_order, due_at, after_due, next_moment}
+use Rattle.lapd_clock.specs.Timers.{Expiry, Timers, idle, finds_place, with_order, due_at, after_due, next_moment, time_until}
 
 abbrev at : ℕ → ℕ → Timer → Expiry
 at moment line timer = record { moment = moment; line = line; timer = timer }
@@ -66,3 +66,16 @@ moments = refl
 
 none_running : next_moment (idle 64 8) ≡ None
 none_running = refl
+
+-- what falls due at the end still counts, and what falls due later does not
+counted : time_until 10001 busy ≡ 10
+unfolding with_order finds_place
+counted = refl
+
+counted_at_the_end : time_until 10000 (after_due busy 10000) ≡ 4
+unfolding with_order finds_place
+counted_at_the_end = refl
+
+later_not_counted : time_until 9999 busy ≡ 0
+unfolding with_order finds_place
+later_not_counted = refl

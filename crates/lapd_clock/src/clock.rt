@@ -65,10 +65,10 @@ impl Clock {
         self.lines.len()
     }
 
-    /// Does at the moment `now`, at most `2^63` ms, what is ordered of a timer of a line.
+    /// Carries out an order for a timer of a line at the moment `now`, at most `2^63` ms.
     ///
-    /// A timer that is started falls due as much later as it runs. Where it runs already, it has
-    /// the new moment only. To stop a timer that does not run changes nothing.
+    /// A timer that is started falls due at `now` plus the time that it runs; where it runs
+    /// already, only the new moment counts. To stop a timer that does not run changes nothing.
     ///
     /// The answer is false exactly where a timer is to be started that does not run, and all
     /// places of its line are taken. Then nothing changes.
@@ -125,6 +125,7 @@ impl Clock {
     /// no timer runs.
     pub fn next(&self) -> Option<u64>
         ensures next { result ≡ next_moment self.now }
+        ensures least { IfSome result (λ moment. All (λ held. moment ≤ held.moment) self.now.running) }
         ensures sound { IsSound self.now }
     {
         let (_, held) = first_of(&self.lines)?;

@@ -12,11 +12,55 @@ fn apply(rt: &impl Abort, clock: &mut Clock, line: usize, order: Order, now: u64
     clock.apply(line, order, now)
 }
 
+/// Whether a timer that is started finds its place.
+fn started(rt: &impl Abort, clock: &mut Clock, line: usize, timer: Timer, now: u64) -> bool {
+    apply(rt, clock, line, Order::Start(timer), now)
+}
+
+/// The same of a timer that is stopped.
+fn stopped(rt: &impl Abort, clock: &mut Clock, line: usize, timer: Timer, now: u64) -> bool {
+    apply(rt, clock, line, Order::Stop(timer), now)
+}
+
+/// Takes out these timers at a moment, one after the other.
+fn all_due(rt: &impl Abort, clock: &mut Clock, now: u64, wanted: &[(usize, Timer)]) {
+    for first in wanted {
+        assert_eq!(rt; clock.due(now), Some(*first));
+    }
+}
+
 #[test]
 fn first_by_moment_then_line_then_timer(rt: HostRuntime) -> Result<(), Fail> {
     let mut clock = Clock::start(rt.alloc(), 3, 3)?;
     assert_eq!(rt; clock.lines(), 3);
-    // In no order; all fall due at 10,000 but the last two.
+    start_in_no_order(&rt, &mut clock);
+
+    assert_eq!(rt; clock.next(), Some(9_999));
+    assert_eq!(rt; clock.due(9_998), None);
+    let wanted = [
+        (2, Timer::T200(Service::Call, 1)),
+        (0, Timer::T200(Service::Call, 70)),
+        (0, Timer::T200(Service::Call, 126)),
+        (0, Timer::T200(Service::Packet, 126)),
+        (0, Timer::T203(Service::Packet, 3)),
+        (0, Timer::T203(Service::Call, 70)),
+        (0, Timer::T203(Service::Packet, 70)),
+        (0, Timer::T201),
+        (1, Timer::T200(Service::Packet, 0)),
+        (1, Timer::T203(Service::Call, 0)),
+        (1, Timer::T201),
+    ];
+    all_due(&rt, &mut clock, 10_000, &wanted);
+    assert_eq!(rt; clock.due(10_000), None);
+    assert_eq!(rt; clock.next(), Some(10_001));
+    assert_eq!(rt; clock.due(10_001), Some((0, Timer::T200(Service::Call, 3))));
+    assert_eq!(rt; clock.next(), None);
+    assert_eq!(rt; clock.due(u64::MAX), None);
+    Ok(())
+}
+
+/// Twelve timers of three lines; all fall due at 10,000 but the last two.
+fn start_in_no_order(rt: &impl Abort, clock: &mut Clock) {
     for (line, timer, now) in [
         (1, Timer::T201, 9_000),
         (0, Timer::T203(Service::Packet, 70), 0),
@@ -31,41 +75,17 @@ fn first_by_moment_then_line_then_timer(rt: HostRuntime) -> Result<(), Fail> {
         (2, Timer::T200(Service::Call, 1), 8_999),
         (0, Timer::T200(Service::Call, 3), 9_001),
     ] {
-        assert!(rt; apply(&rt, &mut clock, line, Order::Start(timer), now));
+        assert!(rt; started(rt, clock, line, timer, now));
     }
-
-    assert_eq!(rt; clock.next(), Some(9_999));
-    assert_eq!(rt; clock.due(9_998), None);
-    for first in [
-        (2, Timer::T200(Service::Call, 1)),
-        (0, Timer::T200(Service::Call, 70)),
-        (0, Timer::T200(Service::Call, 126)),
-        (0, Timer::T200(Service::Packet, 126)),
-        (0, Timer::T203(Service::Packet, 3)),
-        (0, Timer::T203(Service::Call, 70)),
-        (0, Timer::T203(Service::Packet, 70)),
-        (0, Timer::T201),
-        (1, Timer::T200(Service::Packet, 0)),
-        (1, Timer::T203(Service::Call, 0)),
-        (1, Timer::T201),
-    ] {
-        assert_eq!(rt; clock.due(10_000), Some(first));
-    }
-    assert_eq!(rt; clock.due(10_000), None);
-    assert_eq!(rt; clock.next(), Some(10_001));
-    assert_eq!(rt; clock.due(10_001), Some((0, Timer::T200(Service::Call, 3))));
-    assert_eq!(rt; clock.next(), None);
-    assert_eq!(rt; clock.due(u64::MAX), None);
-    Ok(())
 }
 
 #[test]
 fn a_timer_has_one_moment(rt: HostRuntime) -> Result<(), Fail> {
     let mut clock = Clock::start(rt.alloc(), 2, 1)?;
     let timer = Timer::T200(Service::Call, 64);
-    assert!(rt; apply(&rt, &mut clock, 0, Order::Start(timer), 0));
-    assert!(rt; apply(&rt, &mut clock, 1, Order::Start(timer), 100));
-    assert!(rt; apply(&rt, &mut clock, 0, Order::Start(timer), 500));
+    assert!(rt; started(&rt, &mut clock, 0, timer, 0));
+    assert!(rt; started(&rt, &mut clock, 1, timer, 100));
+    assert!(rt; started(&rt, &mut clock, 0, timer, 500));
     assert_eq!(rt; clock.due(1_099), None);
     assert_eq!(rt; clock.due(1_100), Some((1, timer)));
     assert_eq!(rt; clock.due(1_499), None);
@@ -73,10 +93,10 @@ fn a_timer_has_one_moment(rt: HostRuntime) -> Result<(), Fail> {
 
     // Stopped, it is not due, and the other service's is.
     let other = Timer::T200(Service::Packet, 64);
-    assert!(rt; apply(&rt, &mut clock, 0, Order::Start(timer), 2_000));
-    assert!(rt; apply(&rt, &mut clock, 0, Order::Start(other), 2_000));
-    assert!(rt; apply(&rt, &mut clock, 0, Order::Stop(timer), 2_000));
-    assert!(rt; apply(&rt, &mut clock, 0, Order::Stop(timer), 2_000));
+    assert!(rt; started(&rt, &mut clock, 0, timer, 2_000));
+    assert!(rt; started(&rt, &mut clock, 0, other, 2_000));
+    assert!(rt; stopped(&rt, &mut clock, 0, timer, 2_000));
+    assert!(rt; stopped(&rt, &mut clock, 0, timer, 2_000));
     assert_eq!(rt; clock.due(u64::MAX), Some((0, other)));
     assert_eq!(rt; clock.due(u64::MAX), None);
     Ok(())
@@ -85,50 +105,34 @@ fn a_timer_has_one_moment(rt: HostRuntime) -> Result<(), Fail> {
 #[test]
 fn a_full_line_takes_no_other_timer(rt: HostRuntime) -> Result<(), Fail> {
     let mut clock = Clock::start(rt.alloc(), 2, 1)?;
+    let packet = Timer::T200(Service::Packet, 64);
     let places = [
         Timer::T200(Service::Call, 64),
-        Timer::T200(Service::Packet, 64),
-        Timer::T203(Service::Call, 255),
+        packet,
+        Timer::T203(Service::Call, 126),
         Timer::T203(Service::Packet, 64),
         Timer::T201,
     ];
     for timer in places {
-        assert!(rt; apply(&rt, &mut clock, 1, Order::Start(timer), 0));
+        assert!(rt; started(&rt, &mut clock, 1, timer, 0));
     }
     let sixth = Timer::T200(Service::Call, 0);
-    assert!(rt; !apply(&rt, &mut clock, 1, Order::Start(sixth), 0));
+    assert!(rt; !started(&rt, &mut clock, 1, sixth, 0));
     // A timer that runs keeps its place, a stopped one frees it, and the other line has its own.
-    assert!(rt; apply(&rt, &mut clock, 1, Order::Start(Timer::T201), 7));
-    assert!(rt; apply(&rt, &mut clock, 0, Order::Start(sixth), 0));
-    assert!(rt;
-        apply(
-            &rt,
-            &mut clock,
-            1,
-            Order::Stop(Timer::T200(Service::Packet, 64)),
-            0
-        )
-    );
-    assert!(rt; apply(&rt, &mut clock, 1, Order::Start(sixth), 0));
-    assert!(rt;
-        !apply(
-            &rt,
-            &mut clock,
-            1,
-            Order::Start(Timer::T200(Service::Packet, 64)),
-            0
-        )
-    );
-    for first in [
+    assert!(rt; started(&rt, &mut clock, 1, Timer::T201, 7));
+    assert!(rt; started(&rt, &mut clock, 0, sixth, 0));
+    assert!(rt; stopped(&rt, &mut clock, 1, packet, 0));
+    assert!(rt; started(&rt, &mut clock, 1, sixth, 0));
+    assert!(rt; !started(&rt, &mut clock, 1, packet, 0));
+    let wanted = [
         (0, sixth),
         (1, sixth),
         (1, Timer::T200(Service::Call, 64)),
         (1, Timer::T201),
         (1, Timer::T203(Service::Packet, 64)),
-        (1, Timer::T203(Service::Call, 255)),
-    ] {
-        assert_eq!(rt; clock.due(10_000), Some(first));
-    }
+        (1, Timer::T203(Service::Call, 126)),
+    ];
+    all_due(&rt, &mut clock, 10_000, &wanted);
     assert_eq!(rt; clock.next(), None);
     Ok(())
 }
@@ -138,8 +142,8 @@ fn moments_go_up_to_the_greatest(rt: HostRuntime) -> Result<(), Fail> {
     let mut clock = Clock::start(rt.alloc(), 64, 8)?;
     let greatest = 1 << 63;
     let timer = Timer::T203(Service::Packet, 126);
-    assert!(rt; apply(&rt, &mut clock, 63, Order::Start(timer), greatest));
-    assert!(rt; apply(&rt, &mut clock, 0, Order::Start(Timer::T201), greatest - 1));
+    assert!(rt; started(&rt, &mut clock, 63, timer, greatest));
+    assert!(rt; started(&rt, &mut clock, 0, Timer::T201, greatest - 1));
     assert_eq!(rt; clock.next(), Some(greatest + 999));
     assert_eq!(rt; clock.due(greatest + 998), None);
     assert_eq!(rt; clock.due(greatest + 999), Some((0, Timer::T201)));
@@ -156,7 +160,7 @@ fn a_silent_link(rt: HostRuntime) -> Result<(), Fail> {
     let mut clock = Clock::start(rt.alloc(), 1, 8)?;
     let enquiry = Timer::T200(Service::Call, 64);
     let idle = Timer::T203(Service::Call, 64);
-    assert!(rt; apply(&rt, &mut clock, 0, Order::Start(idle), 0));
+    assert!(rt; started(&rt, &mut clock, 0, idle, 0));
     for (moment, timer) in [
         (10_000, idle),
         (11_000, enquiry),
@@ -166,20 +170,11 @@ fn a_silent_link(rt: HostRuntime) -> Result<(), Fail> {
     ] {
         assert_eq!(rt; clock.next(), Some(moment));
         assert_eq!(rt; clock.due(14_000), Some((0, timer)));
-        assert!(rt; apply(&rt, &mut clock, 0, Order::Start(enquiry), moment));
+        assert!(rt; started(&rt, &mut clock, 0, enquiry, moment));
     }
     assert_eq!(rt; clock.due(14_000), None);
     assert_eq!(rt; clock.next(), Some(15_000));
     Ok(())
-}
-
-/// Run with each allocation refused in turn, this says that nothing else is answered then.
-#[test]
-fn start_is_refused_for_memory_alone(rt: HostRuntime) {
-    match Clock::start(rt.alloc(), 3, 2) {
-        Ok(clock) => assert_eq!(rt; clock.lines(), 3),
-        Err(fault) => assert_eq!(rt; fault, StartFault::OutOfMemory),
-    }
 }
 
 #[test]

@@ -1,7 +1,7 @@
 //! Tests that cross crates; there is nothing to call. Shelves and queues are used from outside their crate, and
 //! scripts are played on a card, and what comes out is compared with what a reader of `docs/FORMAT.md` expects.
 //!
-//! - `store`: shelves and rings of slots, at a type of their own and through the trait.
+//! - `store`: a slab shelf at its own type, any shelf through the trait, and queues of slots.
 //! - `fakes`: a source that gives its octets in pieces, and a target that keeps what it is given. Both can fail.
 //! - `transcripts`: what the lines of a script answer.
 //! - `faults`: each kind of fault, with its line, text and status.

@@ -6,10 +6,10 @@ use Rattle.std.proofs.lemmas.List.{set_split, set-get_or}
 use Rattle.std.proofs.lemmas.List.Elements.{All-head, All-tail, All-contains, Contains-append_left}
 use Rattle.std.proofs.lemmas.Option.{slice_get_within, get_or_from_slice_get}
 use Rattle.std.proofs.lemmas.List.Sorted.{IsPermutation-refl, IsPermutation-sym, IsPermutation-cons, IsPermutation-trans, IsPermutation-middle, IsPermutation-append_comm, IsPermutation-append_left, All-permutation, Contains-permutation, length_permutation}
-use Rattle.std.proofs.lemmas.List.Sums.{sum_by-append}
+use Rattle.std.proofs.lemmas.List.Sums.{sum_by-append, sum_by-cons}
 use Rattle.std.proofs.lemmas.Map.Entries.{sum_by_values_permutation}
 use Rattle.std.specs.FinMap as finmap
-use Rattle.std.specs.List.{All, Contains, IsDistinct, flat_map, fold, remove, slice_get}
+use Rattle.std.specs.List.{All, Contains, IsDistinct, flat_map, fold, remove, slice_get, sum_by}
 use Rattle.std.specs.List.Sorted.{IsPermutation}
 use Rattle.lapd_store.specs.Store.{Store, empty_store, contents_of, IsFree, used_slots, stored_octets, with_contents, without}
 use Rattle.lapd_store.specs.Ownership.{Owned, Holds, owned_octets}
@@ -18,6 +18,12 @@ use Rattle.lapd_store.proofs.Entries.{entries-empty, entries-insert_free, entrie
 -- a fresh shelf holds nothing
 pub Holds-empty : (slots width : ℕ) → Holds (empty_store slots width) []
 Holds-empty slots width = record { entries = subst (IsPermutation []) (sym entries-empty) (IsPermutation-refl []) }
+
+-- a shelf with no slot in use holds nothing
+pub Holds-unused : {s : Store} → used_slots s ≡ 0 → Holds s []
+Holds-unused {s} none =
+    let empty = finmap.empty_of_len s.contents none in
+    subst (λ m. Holds (record s { contents = m }) []) (sym empty) (Holds-empty s.slots s.width)
 
 -- the pairs stand in no order
 pub Holds-permutation : {s : Store} (xs ys : List Owned) → IsPermutation xs ys → Holds s xs → Holds s ys
@@ -65,6 +71,14 @@ stored_octets-held {s} owned held = sum_by_values_permutation length _ _ held.en
 
 pub owned_octets-append : (xs ys : List Owned) → owned_octets (xs ++ ys) ≡ owned_octets xs + owned_octets ys
 owned_octets-append = sum_by-append (λ p. length p.1)
+
+-- the octets of many owners are those of each, all together
+pub owned_octets-flat_map : {X : Type 0} (f : X → List Owned) (xs : List X) → owned_octets (flat_map f xs) ≡ sum_by (λ x. owned_octets (f x)) xs
+owned_octets-flat_map f [] = refl
+owned_octets-flat_map f (x ∷ xs) =
+    owned_octets-append (f x) (flat_map f xs)
+    ∙ ap (λ n. owned_octets (f x) + n) (owned_octets-flat_map f xs)
+    ∙ sym (sum_by-cons (λ y. owned_octets (f y)) x xs)
 
 -- The same with several owners, whose lists are appended: `own` is one owner's list, and `others` that of all others.
 

@@ -1,9 +1,9 @@
 -- Laws of ownership for a queue of slots: it owns each of its slots with the message in it, and others own the rest. As in
 -- `Ownership`, each law takes the clauses of the calls that it is about as its premises.
-use Rattle.std.proofs.Common.{◌≡◌, ℕ, zero, suc, Some, IsSome, List, [], ◌∷◌, ◌++◌, length, drop, refl, sym, ap, subst, ◌∙◌, arith}
+use Rattle.std.proofs.Common.{◌≡◌, ℕ, zero, suc, Some, IsSome, List, [], ◌∷◌, ◌++◌, length, drop, set, refl, sym, ap, subst, ◌∙◌, arith}
 use Rattle.std.proofs.lemmas.Option.{none-some, same_Some}
 use Rattle.std.proofs.lemmas.Slice.Zip.{length-zip, seconds-zip}
-use Rattle.std.specs.List.{slice_get, sum_by}
+use Rattle.std.specs.List.{slice_get, sum_by, zip}
 use Rattle.lapd_store.specs.Ownership.{Owned, Holds, owned_octets, pairs_of}
 use Rattle.lapd_store.specs.Store.{Store, contents_of, IsUsed, IsFree, with_contents, without}
 use Rattle.lapd_store.proofs.Ownership.{values_octets, Holds-put_newest, Holds-release, contents_of-at}
@@ -14,6 +14,14 @@ pairs_of-push [] [] slot octets same = refl
 pairs_of-push [] (m ∷ ms) slot octets same = absurd (omega arith)
 pairs_of-push (s ∷ ss) [] slot octets same = absurd (omega arith)
 pairs_of-push (s ∷ ss) (m ∷ ms) slot octets same = ap (λ l. (s, m) ∷ l) (pairs_of-push ss ms slot octets (omega arith))
+
+-- two lists in pairs, with a new pair at a place
+pub zip-set : {X Y : Type 0} (xs : List X) (ys : List Y) (i : ℕ) (x : X) (y : Y) → zip (set xs i x) (set ys i y) ≡ set (zip xs ys) i (x, y)
+zip-set [] ys i x y = refl
+zip-set (u ∷ us) [] zero x y = refl
+zip-set (u ∷ us) [] (suc i) x y = refl
+zip-set (u ∷ us) (v ∷ vs) zero x y = refl
+zip-set (u ∷ us) (v ∷ vs) (suc i) x y = ap (λ l. (u, v) ∷ l) (zip-set us vs i x y)
 
 -- the pair at a place
 pub slice_get-pairs_of : (slots : List ℕ) (messages : List (List ℕ)) (i slot : ℕ) → length slots ≡ length messages → slice_get slots i ≡ Some slot → (octets : List ℕ) × (slice_get messages i ≡ Some octets) × (slice_get (pairs_of slots messages) i ≡ Some (slot, octets))

@@ -1,6 +1,6 @@
 -- A timer of one line changes: so does the set, and the clock keeps what it keeps.
 use Rattle.std.proofs.Common.{◌+◌, ◌<◌, length, sym, ap, ◌∙◌, subst, arith}
-use Rattle.lapd_clock.specs.Order.{IsInOrder}
+use Rattle.lapd_clock.specs.InOrder.{IsInOrder}
 use Rattle.lapd_clock.specs.Timer.{Start, Stop}
 use Rattle.lapd_clock.specs.Timers.{Timers, with_order, finds_place}
 use Rattle.lapd_clock.specs.Sound.{IsSound}

@@ -3,7 +3,7 @@ use Rattle.std.proofs.Common.{◌≡◌, ◌<◌, [], All, length, sym, ap, ◌�
 use Rattle.std.specs.List.{AllByRecursion}
 use Rattle.std.proofs.lemmas.List.Elements.{All-nil}
 use Rattle.std.specs.Option.{IfNone}
-use Rattle.lapd_clock.specs.Order.{IsInOrder}
+use Rattle.lapd_clock.specs.InOrder.{IsInOrder}
 use Rattle.lapd_clock.specs.Timers.{Expiry, Timers, is_before, due_at, first_due, after_due, after_first_due}
 use Rattle.lapd_clock.specs.Sound.{IsSound, IsLeastDue}
 use Rattle.lapd_clock.specs.Places.{Line, IsLineKept, held_before, expiry_on, timers_in}

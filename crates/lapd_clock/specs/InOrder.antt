@@ -3,9 +3,9 @@ use Rattle.std.specs.Prelude.{◌≡◌, Bool, false, if◌then◌else◌, List,
 use Rattle.std.specs.List.{AllByRecursion}
 
 -- a list with one more element, which goes before the first that does not come before it
-abbrev pub placed : {X : Type 0} → (X → X → Bool) → X → List X → List X
-placed before x [] = x ∷ []
-placed before x (y ∷ ys) = if before y x then y ∷ placed before x ys else x ∷ y ∷ ys
+abbrev pub put_in_order : {X : Type 0} → (X → X → Bool) → X → List X → List X
+put_in_order before x [] = x ∷ []
+put_in_order before x (y ∷ ys) = if before y x then y ∷ put_in_order before x ys else x ∷ y ∷ ys
 
 -- no later element comes before an earlier one
 abbrev pub IsInOrder : {X : Type 0} → (X → X → Bool) → List X → Type 0

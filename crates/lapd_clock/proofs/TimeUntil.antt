@@ -1,0 +1,41 @@
+-- The measure by which it ends to wait for the timers that fall due until a moment.
+use Rattle.std.proofs.Common.{◌≡◌, ℕ, ◌+◌, ◌-◌, ◌≤◌, true, false, cond, not, List, ◌∷◌, refl, ap, ◌∙◌, arith}
+use Rattle.std.specs.List.{sum_by}
+use Rattle.std.proofs.lemmas.List.Filters.{sum_by-filter_both}
+use Rattle.std.proofs.lemmas.List.Sums.{sum_by-cons}
+use Rattle.lapd_clock.specs.InOrder.{put_in_order}
+use Rattle.lapd_clock.specs.Timer.{Timer, Start, Stop, duration}
+use Rattle.lapd_clock.specs.Timers.{Expiry, Timers, is_before, is_of, without, finds_place, with_order, after_first_due, after_due, time_until}
+use Rattle.lapd_clock.proofs.Ordered.{sum_by-put_in_order}
+use Rattle.lapd_clock.proofs.Calls.{one_taken}
+
+-- what the timers of a list count until a moment
+abbrev left : ℕ → List Expiry → ℕ
+left end es = sum_by (λ e. end + 1 - e.moment) es
+
+-- what is due and taken out counts no more
+pub time_until-due : (c : Timers) (e : Expiry) (es : List Expiry) (now end : ℕ) → c.running ≡ e ∷ es → e.moment ≤ now → time_until end (after_due c now) + (end + 1 - e.moment) ≡ time_until end c
+time_until-due c e es now end is due =
+    let after : time_until end (after_due c now) ≡ left end es = ap (λ l. left end (after_first_due l now)) is ∙ ap (left end) (one_taken e es now due) in
+    let before : time_until end c ≡ (end + 1 - e.moment) + left end es = ap (left end) is ∙ sum_by-cons (λ (x : Expiry). end + 1 - x.moment) e es in
+    omega (arith, after, before)
+
+-- what is taken out of the set adds nothing to what is left
+left-without : (line : ℕ) (timer : Timer) (end : ℕ) (es : List Expiry) → left end (without line timer es) ≤ left end es
+left-without line timer end es =
+    omega (arith, sum_by-filter_both (λ x. not (is_of line timer x)) (λ x. not (not (is_of line timer x))) (λ _. refl) (λ (x : Expiry). end + 1 - x.moment) es)
+
+-- a timer that is stopped adds nothing
+pub time_until-stop : (c : Timers) (line : ℕ) (timer : Timer) (now end : ℕ) → time_until end (with_order c line (Stop timer) now) ≤ time_until end c
+unfolding with_order
+time_until-stop c line timer now end = left-without line timer end c.running
+
+-- a timer that is started adds at most what it runs itself
+pub time_until-start : (c : Timers) (line : ℕ) (timer : Timer) (now end : ℕ) → time_until end (with_order c line (Start timer) now) ≤ time_until end c + (end + 1 - (now + duration timer))
+unfolding with_order
+time_until-start c line timer now end =
+    let e : Expiry = record { moment = now + duration timer; line = line; timer = timer } in
+    elim (finds_place c line (Start timer)) as (λ b. time_until end (cond b (record c { running = put_in_order is_before e (without line timer c.running) }) c) ≤ time_until end c + (end + 1 - (now + duration timer))) [
+      | true ↦ omega (arith, sum_by-put_in_order is_before (λ (x : Expiry). end + 1 - x.moment) e (without line timer c.running), left-without line timer end c.running)
+      | false ↦ omega arith
+    ]

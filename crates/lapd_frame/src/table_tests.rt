@@ -148,7 +148,11 @@ fn expected_fields(name: Name, octet: u8, second: u8) -> (Fields, usize) {
     }
     let fields = Fields {
         name,
-        ns: if octet % 2 == 0 { Some(octet / 2) } else { None },
+        ns: if octet % 2 == 0 {
+            Some(octet / 2)
+        } else {
+            None
+        },
         nr: Some(second / 2),
         pf: second % 2 == 1,
     };

@@ -1,5 +1,5 @@
 -- What a received frame is to the first card (Q.921 clauses 3.3 and 3.6).
-use Rattle.std.specs.Prelude.{ℕ, ◌==◌, ◌<◌, Bool, true, false, not, ◌||◌, List, Option, Some, None, Result, Ok, Err, if◌then◌else◌}
+use Rattle.std.specs.Prelude.{ℕ, ◌==◌, ◌<◌, Bool, false, not, ◌||◌, List, Option, Some, None, Result, Ok, Err, if◌then◌else◌}
 use Rattle.lapd_bits.specs.declared.heard.Cause.{Cause}
 use Rattle.lapd_bits.specs.declared.heard.Cause.TheVariants.{Extension, Sapi, Tei, Unserved}
 use Rattle.lapd_frame.specs.declared.addresses.Address.{Address}

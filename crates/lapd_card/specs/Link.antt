@@ -1,6 +1,6 @@
 -- The call control link of the line's terminal (Q.921 clauses 3.6, 5.1 and 5.5, and annex B), as far as the
 -- first card serves it.
-use Rattle.std.specs.Prelude.{ℕ, ◌==◌, nat_lt, length, Bool, true, false, List, [], ◌∷◌, ◌++◌, Option, Some, None, slice_get, drop, if◌then◌else◌}
+use Rattle.std.specs.Prelude.{ℕ, ◌==◌, nat_lt, length, Bool, false, List, [], ◌∷◌, ◌++◌, Option, Some, None, slice_get, drop, if◌then◌else◌}
 use Rattle.lapd_frame.specs.declared.addresses.Side.TheVariants.{Network}
 use Rattle.lapd_frame.specs.declared.controls.Control.TheVariants.{Ua}
 use Rattle.lapd_frame.specs.declared.notes.Note.{Note}

@@ -1,5 +1,5 @@
 -- A run sends at most as many frames as it recognised.
-use Rattle.std.proofs.Common.{◌≡◌, ℕ, ◌+◌, ◌≤◌, Bool, true, false, List, [], ◌∷◌, ◌++◌, length, drop, reverse, Option, Some, None, refl, sym, ap, subst, ◌∙◌, append_assoc, append-nil, length-append, length-drop, zero-add, arith}
+use Rattle.std.proofs.Common.{◌≡◌, ℕ, ◌+◌, ◌≤◌, Bool, true, false, List, [], ◌∷◌, ◌++◌, length, reverse, Option, Some, None, refl, sym, ap, subst, ◌∙◌, append_assoc, append-nil, length-append, zero-add, arith}
 use Rattle.std.specs.Prelude.{count_by, fold, option_map, option_to_list, slice_get, is_some, ◌&&◌, if◌then◌else◌, cond}
 use Rattle.std.proofs.lemmas.List.{reverse-append}
 use Rattle.std.proofs.lemmas.List.Sums.{sum_by-append}
@@ -14,7 +14,7 @@ use Rattle.lapd_card.specs.declared.events.Event.TheVariants.{Octet, Request, Pu
 use Rattle.lapd_card.specs.declared.recognise.Recognised.{Recognised}
 use Rattle.lapd_card.specs.declared.recognise.Recognised.TheVariants.{Sabme, Dropped}
 use Rattle.lapd_card.specs.Answer.{Answer, told, refused, nothing}
-use Rattle.lapd_card.specs.Link.{LinkState, after_sabme, with_sent, has_room, first_waiting, with_tei, ua}
+use Rattle.lapd_card.specs.Link.{LinkState, with_sent, has_room, first_waiting, with_tei, ua}
 use Rattle.lapd_card.specs.Machine.{Machine, fresh, gained, recognised_event, link_after_brought, after_octet, with_item, is_due, after_pull, begins, after, answer, refusal, link_after_request, answer_to_request}
 use Rattle.lapd_card.specs.Event.{line_of}
 use Rattle.lapd_card.specs.Frames.{recognised, recognised_overlong}

@@ -1,5 +1,5 @@
 -- What an octet makes of the past that a card stands for.
-use Rattle.std.proofs.Common.{◌≡◌, ℕ, List, [], ◌∷◌, ◌++◌, length, Option, Some, None, refl, sym, ap, ◌∙◌}
+use Rattle.std.proofs.Common.{◌≡◌, ℕ, List, [], ◌∷◌, ◌++◌, length, Option, Some, None, refl, ap, ◌∙◌}
 use Rattle.std.specs.Prelude.{option_map, option_to_list, slice_get}
 use Rattle.lapd_bits.specs.Stream as stream
 use Rattle.lapd_bits.specs.Deframer as deframer

@@ -1,17 +1,16 @@
 -- What a pull makes of the past that a card stands for.
-use Rattle.std.proofs.Common.{◌≡◌, ℕ, suc, zero, ◌+◌, ◌*◌, ◌/◌, ◌%◌, ◌^◌, ◌<◌, ◌≤◌, Bool, true, false, List, [], ◌∷◌, ◌++◌, length, take, drop, nat_eq, Option, Some, None, refl, sym, ap, subst, ◌∙◌, append_assoc, append-nil, length-append, arith}
+use Rattle.std.proofs.Common.{◌≡◌, ℕ, ◌<◌, ◌≤◌, Bool, true, false, List, [], ◌∷◌, ◌++◌, length, take, drop, Option, Some, None, refl, sym, ap, subst, ◌∙◌, append_assoc, append-nil, length-append, arith}
 use Rattle.std.specs.Prelude.{if◌then◌else◌}
-use Rattle.std.proofs.Math.Nat.{pow-suc}
-use Rattle.std.proofs.lemmas.Bool.{eqb-true, eqb-false, lt-ltb, le-ltb}
+use Rattle.std.proofs.lemmas.Bool.{lt-ltb, le-ltb}
 use Rattle.std.proofs.lemmas.List.{flat_map_more, drop_at, append_cancel_left}
-use Rattle.lapd_bits.specs.Bits.{bits, flag, low_bits}
-use Rattle.lapd_bits.specs.Stuffing.{bit_value, number_of}
+use Rattle.lapd_bits.specs.Bits.{bits, flag}
+use Rattle.lapd_bits.specs.Stuffing.{number_of}
 use Rattle.lapd_bits.specs.Sent.{Item, idle, frame, frame_text, item_text, line_text}
 use Rattle.lapd_bits.specs.Framer.{Framing, runs_low, refilled, with_idle}
 use Rattle.lapd_bits.specs.Framer as framer
 use Rattle.lapd_card.specs.declared.card.Card.{Card}
 use Rattle.lapd_card.specs.Link.{LinkState, first_waiting, without_first}
-use Rattle.lapd_card.specs.Machine.{Machine, left_of, is_due, with_item, with_due, next_octet, with_given, after_pull}
+use Rattle.lapd_card.specs.Machine.{Machine, left_of, is_due, with_item, with_due, next_octet, after_pull}
 use Rattle.lapd_card.specs.Stands.{Stands}
 use Rattle.lapd_card.specs.Steps.{with_frame, with_frame_due}
 

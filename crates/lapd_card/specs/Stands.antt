@@ -1,5 +1,5 @@
 -- What a card holds of its past.
-use Rattle.std.specs.Prelude.{◌≡◌, ℕ}
+use Rattle.std.specs.Prelude.{◌≡◌}
 use Rattle.lapd_bits.specs.Deframer as deframer
 use Rattle.lapd_bits.specs.Framer as framer
 use Rattle.lapd_card.specs.declared.card.Card.{Card}

@@ -1,5 +1,5 @@
 -- What a received frame is to the first card (Q.921 clauses 3.3 and 3.6).
-use Rattle.std.specs.Prelude.{ℕ, ◌==◌, ◌<◌, Bool, false, not, ◌||◌, List, ◌++◌, replicate, Option, Some, None, Result, Ok, Err, if◌then◌else◌}
+use Rattle.std.specs.Prelude.{ℕ, ◌==◌, ◌<◌, Bool, false, not, ◌||◌, List, Option, Some, None, Result, Ok, Err, if◌then◌else◌}
 use Rattle.lapd_bits.specs.declared.heard.Cause.{Cause}
 use Rattle.lapd_bits.specs.declared.heard.Cause.TheVariants.{Extension, Sapi, Tei, Unserved}
 use Rattle.lapd_frame.specs.declared.addresses.Address.{Address}
@@ -11,7 +11,7 @@ use Rattle.lapd_frame.specs.declared.faults.ReadFault.TheVariants.{BadExtension,
 use Rattle.lapd_frame.specs.declared.overlong.Long.{Long}
 use Rattle.lapd_frame.specs.declared.overlong.Long.TheVariants as long
 use Rattle.lapd_frame.specs.Grammar.{Parts}
-use Rattle.lapd_frame.specs.Reading.{reading, long_of}
+use Rattle.lapd_frame.specs.Reading.{reading, long_reading}
 use Rattle.lapd_card.specs.declared.recognise.Recognised.{Recognised}
 use Rattle.lapd_card.specs.declared.recognise.Recognised.TheVariants.{Sabme, Dropped}
 
@@ -68,9 +68,9 @@ of_long own (Err (Undefined address)) = addressed own address (Dropped Unserved)
 of_long own (Err (WrongSize address)) = addressed own address (Dropped Unserved)
 of_long own (Err Short) = Dropped Unserved
 
--- It is kept by its first four octets, and read the same whatever follows them: here five octets 0.
+-- It is kept by its first four octets, and read by these alone.
 abbrev pub recognised_overlong : Option ℕ → List ℕ → Recognised
-recognised_overlong own head = of_long own (long_of (reading User (head ++ replicate 5 0)))
+recognised_overlong own head = of_long own (long_reading User head)
 
 -- A TEI that is read is below this number.
 abbrev pub IsTeiBelow : ℕ → Recognised → Type 0

@@ -1,6 +1,8 @@
 -- The call control link of the line's terminal (Q.921 clauses 3.6, 5.1 and 5.5, and annex B), as far as the
 -- first card serves it.
-use Rattle.std.specs.Prelude.{ℕ, ◌+◌, ◌*◌, ◌==◌, nat_lt, length, Bool, true, false, List, [], ◌∷◌, ◌++◌, Option, Some, None, slice_get, drop, if◌then◌else◌}
+use Rattle.std.specs.Prelude.{ℕ, ◌==◌, nat_lt, length, Bool, false, List, [], ◌∷◌, ◌++◌, Option, Some, None, slice_get, drop, if◌then◌else◌}
+use Rattle.lapd_frame.specs.declared.addresses.Side.TheVariants.{Network}
+use Rattle.lapd_frame.specs.declared.controls.Control.TheVariants.{Ua}
 use Rattle.lapd_frame.specs.declared.notes.Note.{Note}
 use Rattle.lapd_frame.specs.declared.notes.Note.TheVariants.{EstablishIndication, Error}
 use Rattle.lapd_frame.specs.declared.notes.ErrorCode.TheVariants.{F}
@@ -9,6 +11,7 @@ use Rattle.lapd_frame.specs.declared.refusals.Refusal.TheVariants.{BadTei, TeiTa
 use Rattle.lapd_frame.specs.declared.services.Service.TheVariants.{Call}
 use Rattle.lapd_frame.specs.declared.timers.Order.TheVariants.{Start}
 use Rattle.lapd_frame.specs.declared.timers.Timer.TheVariants.{T203}
+use Rattle.lapd_frame.specs.Grammar.{spelling}
 use Rattle.lapd_card.specs.declared.states.State.{State}
 use Rattle.lapd_card.specs.declared.states.State.TheVariants.{TeiAssigned, Established}
 use Rattle.lapd_card.specs.Answer.{Told, nothing}
@@ -40,14 +43,9 @@ with_sent frame l = if has_room l then record l { waiting = l.waiting ++ frame �
 abbrev pub lost_by_sending : LinkState → ℕ
 lost_by_sending l = if has_room l then 0 else 1
 
--- UA, a response of the network: SAPI 0 with C/R 0, the TEI, and the control field with the F bit (clauses
--- 3.3 and 3.6.8).
-abbrev pub ua_control : Bool → ℕ
-ua_control false = 0x63
-ua_control true = 0x73
-
+-- UA, a response of the network with SAPI 0, the TEI and the F bit (clauses 3.3 and 3.6.9).
 abbrev pub ua : ℕ → Bool → List ℕ
-ua tei f = 0 ∷ (2 * tei + 1) ∷ ua_control f ∷ []
+ua tei f = spelling Network (record { address = record { sapi = 0; command = false; tei = tei }; control = Ua f; info = [] })
 
 -- SABME is answered by UA, F as P; the link is established, and T203 runs anew (clauses 5.5.1.2 and 5.7).
 -- Nothing is ever queued here, so that there is nothing else to discard or to number anew.

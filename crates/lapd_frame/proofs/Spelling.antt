@@ -2,6 +2,7 @@
 use Rattle.std.proofs.Common.{◌≡◌, ℕ, ◌+◌, ◌*◌, ◌/◌, ◌%◌, ◌<◌, ◌≤◌, ◌⊎◌, inl, inr, Bool, true, false, IsTrue, cond, ◌==◌, refl, ap, sym, ◌∙◌, subst, List, [], ◌∷◌, ◌++◌, length, drop, slice_index, Option, Some, None, Result, Ok, Err, IfOk, IsOkAnd, ◌↔◌, length-append, lit<, zero, suc, arith}
 use Rattle.std.proofs.lemmas.Bool.{eqb-true}
 use Rattle.std.proofs.lemmas.Bool.Decides.{eqb_tells}
+use Rattle.std.proofs.lemmas.List.Elements.{All-nil, All-cons, All-head, All-tail}
 use Rattle.lapd_frame.specs.declared.addresses.Side.{Side}
 use Rattle.lapd_frame.specs.declared.addresses.Address.{Address}
 use Rattle.lapd_frame.specs.declared.controls.Control.{Control}
@@ -16,6 +17,17 @@ use Rattle.lapd_frame.specs.Overlong.{IsLong}
 use Rattle.lapd_frame.specs.Reading.{address_of, control_of, checked, header_of, start_of, sized, completed, reading, outcome_of, long_kind, long_of}
 use Rattle.lapd_frame.proofs.AddressField.{address-found, extension-again, address-again}
 use Rattle.lapd_frame.proofs.ControlField.{HasField, two_octets, one_octet, control-found, control-again}
+
+-- an octet at any place, 0 past the end
+octet-at : (octets : List ℕ) → AreOctets octets → (i : ℕ) → slice_index octets i < 256
+octet-at [] small i = lit< tt
+octet-at (x ∷ xs) small zero = All-head (λ octet. octet < 256) x xs small
+octet-at (x ∷ xs) small (suc i) = octet-at xs (All-tail (λ octet. octet < 256) x xs small) i
+
+-- what is an octet at each place is octets
+pub are-octets : (octets : List ℕ) → ((i : ℕ) → slice_index octets i < 256) → AreOctets octets
+are-octets [] small = All-nil (λ octet. octet < 256)
+are-octets (x ∷ xs) small = All-cons (λ octet. octet < 256) x xs (small 0) (are-octets xs (λ i. small (suc i)))
 
 -- a test that lets a value through
 passed : {A E : Type 0} (b : Bool) (e : E) (r : Result A E) (x : A) → cond b (Err e) r ≡ Ok x → (b ≡ false) × (r ≡ Ok x)
@@ -89,13 +101,14 @@ reading-found side [] f small e = absurd (cc)
 reading-found side (first ∷ []) f small e = absurd (cc)
 reading-found side (first ∷ second ∷ []) f small e = absurd (cc)
 reading-found side (first ∷ second ∷ third ∷ rest) f small e =
+    let at : (i : ℕ) → slice_index (first ∷ second ∷ third ∷ rest) i < 256 = octet-at (first ∷ second ∷ third ∷ rest) small in
     let octets : List ℕ = first ∷ second ∷ third ∷ rest in
     let k : (is_short octets ≡ false) × (completed octets (header_of side first second third (slice_index rest 0)) ≡ Ok f) = passed _ _ _ _ e in
     let m : (h : Address × Control) × (header_of side first second third (slice_index rest 0) ≡ Ok h) × (sized h.0 h.1 (drop (start_of h.1) octets) ≡ Ok f) = completed-found octets _ f k.1 in
     let h : Address × Control = m.0 in
     let is : HeaderIs side first second third (slice_index rest 0) h = header-found side first second third (slice_index rest 0) h m.1 in
-    let address : HasAddress side octets h.0 = header-address side first second third (slice_index rest 0) (third ∷ rest) h (small 0) (small 1) is in
-    let field : HasField h.1 third (slice_index rest 0) = control-found third (slice_index rest 0) h.1 (small 2) (small 3) is.found in
+    let address : HasAddress side octets h.0 = header-address side first second third (slice_index rest 0) (third ∷ rest) h (at 0) (at 1) is in
+    let field : HasField h.1 third (slice_index rest 0) = control-found third (slice_index rest 0) h.1 (at 2) (at 3) is.found in
     let behind : third ∷ rest ≡ (row h.1).field ++ drop (start_of h.1) octets = rest-found h.1 first second third rest k.0 field in
     let s : (takes (row h.1).info (length (drop (start_of h.1) octets)) ≡ true) × (record { address = h.0; control = h.1; info = drop (start_of h.1) octets } ≡ f) = chosen _ _ _ _ m.2 in
     let whole : IsFrame (record { address = h.0; control = h.1; info = drop (start_of h.1) octets }) = record { sapi = address.sapi; tei = address.tei; kind = is.kind; size = s.0 } in
@@ -205,6 +218,7 @@ fault-found side [] fault small e = let k : Short ≡ fault = cc in subst (IsFau
 fault-found side (first ∷ []) fault small e = let k : Short ≡ fault = cc in subst (IsFault side (first ∷ [])) k refl
 fault-found side (first ∷ second ∷ []) fault small e = let k : Short ≡ fault = cc in subst (IsFault side (first ∷ second ∷ [])) k refl
 fault-found side (first ∷ second ∷ third ∷ rest) fault small e =
+    let at : (i : ℕ) → slice_index (first ∷ second ∷ third ∷ rest) i < 256 = octet-at (first ∷ second ∷ third ∷ rest) small in
     let octets : List ℕ = first ∷ second ∷ third ∷ rest in
     let header_read : Result (Address × Control) ReadFault = header_of side first second third (slice_index rest 0) in
     let first_test : ((is_short octets ≡ true) × (Short ≡ fault)) ⊎ ((is_short octets ≡ false) × (completed octets header_read ≡ Err fault)) = stopped _ _ _ _ e in
@@ -219,8 +233,8 @@ fault-found side (first ∷ second ∷ third ∷ rest) fault small e =
               | inl bad ↦ subst (IsFault side octets) bad.1 (whole.0, bad.0)
               | inr good ↦
                   let k : IsNoHeader address (control_of third (slice_index rest 0)) × (Undefined address ≡ fault) = checked-stopped address _ _ good.1 in
-                  let small-first : first < 256 = small 0 in
-                  let small-second : second < 256 = small 1 in
+                  let small-first : first < 256 = at 0 in
+                  let small-second : second < 256 = at 1 in
                   let begins : octets ≡ address_field side address ++ (third ∷ rest) = sym (ap (λ l. l ++ (third ∷ rest)) (address-found side first second good.0)) in
                   let there : HasAddress side octets address = record { sapi = omega arith; tei = omega arith; begins = begins } in
                   subst (IsFault side octets) k.1 (record { whole = whole.0; extension = good.0; begins = there }, nothing-there address first second third rest k.0)
@@ -228,8 +242,8 @@ fault-found side (first ∷ second ∷ third ∷ rest) fault small e =
         | inr found ↦
             let h : Address × Control = found.0 in
             let is : HeaderIs side first second third (slice_index rest 0) h = header-found side first second third (slice_index rest 0) h found.1 in
-            let there : HasAddress side octets h.0 = header-address side first second third (slice_index rest 0) (third ∷ rest) h (small 0) (small 1) is in
-            let field : HasField h.1 third (slice_index rest 0) = control-found third (slice_index rest 0) h.1 (small 2) (small 3) is.found in
+            let there : HasAddress side octets h.0 = header-address side first second third (slice_index rest 0) (third ∷ rest) h (at 0) (at 1) is in
+            let field : HasField h.1 third (slice_index rest 0) = control-found third (slice_index rest 0) h.1 (at 2) (at 3) is.found in
             let behind : third ∷ rest ≡ (row h.1).field ++ drop (start_of h.1) octets = rest-found h.1 first second third rest whole.0 field in
             let control : HasControl h.0 octets h.1 = record { kind = is.kind; begins = (drop (start_of h.1) octets, behind) } in
             let none_spelled : (f : Parts) → Spells side f octets → ⊥ = λ f s. let read : reading side octets ≡ Ok f = reading-again side f octets s in absurd (cc) in
@@ -286,7 +300,7 @@ fault-again side (first ∷ second ∷ third ∷ rest) (Undefined address) small
     let octets : List ℕ = first ∷ second ∷ third ∷ rest in
     let there : address_of side first second ≡ address = address-there side octets address h.0.begins in
     let found : checked address (control_of third (slice_index rest 0)) ≡ Err (Undefined address) =
-    undefined-again side first second third rest address _ (small 2) (small 3) h.0.whole refl h.1 in
+    undefined-again side first second third rest address _ (octet-at (first ∷ second ∷ third ∷ rest) small 2) (octet-at (first ∷ second ∷ third ∷ rest) small 3) h.0.whole refl h.1 in
     rw (h.0.whole, h.0.extension, there, found) refl
 fault-again side [] (WrongSize address) small h = let wrong : true ≡ false = h.0.whole in absurd (cc)
 fault-again side (first ∷ []) (WrongSize address) small h = let wrong : true ≡ false = h.0.whole in absurd (cc)
@@ -308,8 +322,9 @@ start-within side [] h small whole e = absurd (cc)
 start-within side (first ∷ []) h small whole e = absurd (cc)
 start-within side (first ∷ second ∷ []) h small whole e = absurd (cc)
 start-within side (first ∷ second ∷ third ∷ rest) h small whole e =
+    let at : (i : ℕ) → slice_index (first ∷ second ∷ third ∷ rest) i < 256 = octet-at (first ∷ second ∷ third ∷ rest) small in
     let is : HeaderIs side first second third (slice_index rest 0) h = header-found side first second third (slice_index rest 0) h e in
-    let field : HasField h.1 third (slice_index rest 0) = control-found third (slice_index rest 0) h.1 (small 2) (small 3) is.found in
+    let field : HasField h.1 third (slice_index rest 0) = control-found third (slice_index rest 0) h.1 (at 2) (at 3) is.found in
     let behind : third ∷ rest ≡ (row h.1).field ++ drop (start_of h.1) (first ∷ second ∷ third ∷ rest) = rest-found h.1 first second third rest whole field in
     let count : length (third ∷ rest) ≡ length (row h.1).field + length (drop (start_of h.1) (first ∷ second ∷ third ∷ rest)) = ap length behind ∙ length-append _ _ in
     omega arith
@@ -374,9 +389,3 @@ long-found side octets (Err fault) small long e = fault-found side octets fault 
 
 pub long-is : (side : Side) (octets : List ℕ) (r : Result Long ReadFault) → AreOctets octets → 9 ≤ length octets → r ≡ long_of (reading side octets) → IsLong side octets r
 long-is side octets r small long e = subst (IsLong side octets) (sym e) (long-found side octets _ small long refl)
-
--- octets, and more octets
-pub octets-append : (xs ys : List ℕ) → AreOctets xs → AreOctets ys → AreOctets (xs ++ ys)
-octets-append [] ys small more i = more i
-octets-append (x ∷ xs) ys small more zero = small 0
-octets-append (x ∷ xs) ys small more (suc i) = octets-append xs ys (λ j. small (suc j)) more i

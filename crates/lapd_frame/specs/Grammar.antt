@@ -1,6 +1,6 @@
 -- The grammar of frames: which octets spell which frame (Q.921 clauses 2 and 3). The octets are those between two flags, without
 -- bit stuffing and frame check.
-use Rattle.std.specs.Prelude.{◌≡◌, ℕ, ◌+◌, ◌*◌, ◌<◌, Bool, true, false, IsTrue, not, if◌then◌else◌, ◌==◌, List, [], ◌∷◌, ◌++◌, length, slice_index}
+use Rattle.std.specs.Prelude.{◌≡◌, ℕ, ◌+◌, ◌*◌, ◌<◌, Bool, true, false, IsTrue, not, if◌then◌else◌, ◌==◌, List, [], ◌∷◌, ◌++◌, length, All}
 use Rattle.lapd_frame.specs.declared.addresses.Side.{Side}
 use Rattle.lapd_frame.specs.declared.addresses.Side.TheVariants.{User, Network}
 use Rattle.lapd_frame.specs.declared.addresses.Address.{Address}
@@ -99,4 +99,4 @@ pub record Spells (side : Side) (frame : Parts) (octets : List ℕ) : Type 0 whe
 
 -- octets, each 0 to 255
 abbrev pub AreOctets : List ℕ → Type 0
-AreOctets octets = (i : ℕ) → slice_index octets i < 256
+AreOctets octets = All (λ octet. octet < 256) octets

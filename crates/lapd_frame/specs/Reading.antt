@@ -101,3 +101,11 @@ long_kind address (Frmr pf) = Err (WrongSize address)
 abbrev pub long_of : Result Parts ReadFault → Result Long ReadFault
 long_of (Ok parts) = long_kind parts.address parts.control
 long_of (Err fault) = Err fault
+
+-- what a frame is that was kept by its first four octets alone
+abbrev pub long_of_header : Result (Address × Control) ReadFault → Result Long ReadFault
+long_of_header (Ok header) = long_kind header.0 header.1
+long_of_header (Err fault) = Err fault
+
+abbrev pub long_reading : Side → List ℕ → Result Long ReadFault
+long_reading side head = long_of_header (header_of side (slice_index head 0) (slice_index head 1) (slice_index head 2) (slice_index head 3))

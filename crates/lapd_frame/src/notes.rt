@@ -8,12 +8,14 @@ use crate::services::Service;
 /// What happened on a line, as its user is told. The number is the TEI that it is about.
 #[derive(Clone, Copy, PartialEq, Eq, Debug)]
 pub enum Note {
-    /// The terminal established the link (DL-ESTABLISH indication, Q.921 clause 4.1.1.1).
+    /// The link is established, or established again, without a request for it: by the terminal, or
+    /// by this side after an error if contents were lost (DL-ESTABLISH indication, Q.921 clause
+    /// 4.1.1.1).
     EstablishIndication(Service, u8),
     /// The link that was asked for is established (DL-ESTABLISH confirm).
     EstablishConfirm(Service, u8),
-    /// The link is down, and nobody on this side asked for it (DL-RELEASE indication, clause
-    /// 4.1.1.2).
+    /// The link is down without a request to release it: the terminal released it or gave no
+    /// answer, or its TEI left the line (DL-RELEASE indication, clause 4.1.1.2).
     ReleaseIndication(Service, u8),
     /// The link is down, as was asked for (DL-RELEASE confirm).
     ReleaseConfirm(Service, u8),

@@ -3,7 +3,7 @@
 ghost use Rattle.std.specs.Prelude.{◌≡◌, ℕ, ◌≤◌, List, length, ◌++◌};
 ghost use Rattle.lapd_frame.specs.Grammar.{AreOctets};
 ghost use Rattle.lapd_frame.specs.Overlong.{IsLong};
-ghost use Rattle.lapd_frame.specs.Reading.{reading, long_of};
+ghost use Rattle.lapd_frame.specs.Reading.{reading, long_of, long_reading};
 
 use crate::addresses::{Address, Side};
 use crate::controls::Control;
@@ -26,7 +26,9 @@ pub enum Long {
 /// tested in the order `BadExtension`, `Undefined`, `WrongSize`: frames of the remaining kinds are
 /// never so long.
 pub fn read_long(side: Side, octets: &[u8; 4]) -> Result<Long, ReadFault>
-    // Whatever follows the four octets, the answer is right of the whole,
+    // The answer is what the four octets alone tell.
+    ensures kept { result ≡ long_reading side octets.now }
+    // Whatever follows them, it is right of the whole,
     ensures grammar { (rest : List ℕ) → AreOctets rest → 5 ≤ length rest → IsLong side (octets.now ++ rest) result }
     // and is what `read` would say of it.
     ensures reading { (rest : List ℕ) → 5 ≤ length rest → result ≡ long_of (reading side (octets.now ++ rest)) }
@@ -37,7 +39,8 @@ pub fn read_long(side: Side, octets: &[u8; 4]) -> Result<Long, ReadFault>
 // What `read_long` answers.
 #[tactic(auto, unfolding(crate::specs::Reading::reading))]
 fn kind(side: Side, octets: &[u8; 4]) -> Result<Long, ReadFault>
-    ensures { (rest : List ℕ) → 5 ≤ length rest → result ≡ long_of (reading side (octets.now ++ rest)) }
+    ensures kept { result ≡ long_reading side octets.now }
+    ensures reading { (rest : List ℕ) → 5 ≤ length rest → result ≡ long_of (reading side (octets.now ++ rest)) }
 {
     let (address, control) = header(side, octets)?;
     match control {

@@ -6,7 +6,7 @@
 pub enum Refusal {
     /// The TEI is over 126; for unit data over 127, since 127 is the group.
     BadTei = 1,
-    /// The TEI is not on the line.
+    /// The TEI is not on the line. Not for `Assign`, nor for unit data to the group.
     NoLink,
     /// The link is not in a state that serves the request.
     WrongState,

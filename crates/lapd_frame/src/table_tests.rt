@@ -1,6 +1,7 @@
 //! Every control octet, and every length, against table 5 of Q.921 as its bits stand there.
 
 use super::*;
+use lapd_seq::Seq;
 use std::process::Abort;
 
 // The names of table 5.
@@ -92,23 +93,74 @@ fn row_of(octet: u8, command: bool) -> Option<Row> {
     found
 }
 
-fn name_of(control: Control) -> (Name, bool) {
-    match control {
-        Control::Information { ns, nr, pf } => (Name::I, pf),
-        Control::ReceiveReady { nr, pf } => (Name::Rr, pf),
-        Control::ReceiveNotReady { nr, pf } => (Name::Rnr, pf),
-        Control::Reject { nr, pf } => (Name::Rej, pf),
-        Control::Sabme { pf } => (Name::Sabme, pf),
-        Control::Disc { pf } => (Name::Disc, pf),
-        Control::Ui { pf } => (Name::Ui, pf),
-        Control::Ua { pf } => (Name::Ua, pf),
-        Control::Dm { pf } => (Name::Dm, pf),
-        Control::Frmr { pf } => (Name::Frmr, pf),
-        Control::Xid { pf } => (Name::Xid, pf),
+// What a control field says: its row, N(S) and N(R) where it has them, and P/F.
+#[derive(Clone, Copy, PartialEq, Eq, Debug)]
+struct Fields {
+    name: Name,
+    ns: Option<u8>,
+    nr: Option<u8>,
+    pf: bool,
+}
+
+fn supervisory(name: Name, nr: Seq, pf: bool) -> Fields {
+    Fields {
+        name,
+        ns: None,
+        nr: Some(nr.value),
+        pf,
     }
 }
 
-// What is expected of the first `len` octets of a frame whose address is right.
+fn unnumbered(name: Name, pf: bool) -> Fields {
+    Fields {
+        name,
+        ns: None,
+        nr: None,
+        pf,
+    }
+}
+
+fn fields_of(control: Control) -> Fields {
+    match control {
+        Control::Information { ns, nr, pf } => Fields {
+            name: Name::I,
+            ns: Some(ns.value),
+            nr: Some(nr.value),
+            pf,
+        },
+        Control::ReceiveReady { nr, pf } => supervisory(Name::Rr, nr, pf),
+        Control::ReceiveNotReady { nr, pf } => supervisory(Name::Rnr, nr, pf),
+        Control::Reject { nr, pf } => supervisory(Name::Rej, nr, pf),
+        Control::Sabme { pf } => unnumbered(Name::Sabme, pf),
+        Control::Disc { pf } => unnumbered(Name::Disc, pf),
+        Control::Ui { pf } => unnumbered(Name::Ui, pf),
+        Control::Ua { pf } => unnumbered(Name::Ua, pf),
+        Control::Dm { pf } => unnumbered(Name::Dm, pf),
+        Control::Frmr { pf } => unnumbered(Name::Frmr, pf),
+        Control::Xid { pf } => unnumbered(Name::Xid, pf),
+    }
+}
+
+// What the octets of a control field say by their bits, and where the information behind it begins.
+fn expected_fields(name: Name, octet: u8, second: u8) -> (Fields, usize) {
+    if octet % 4 == 3 {
+        return (unnumbered(name, (octet / 16) % 2 == 1), 3);
+    }
+    let fields = Fields {
+        name,
+        ns: if octet % 2 == 0 {
+            Some(octet / 2)
+        } else {
+            None
+        },
+        nr: Some(second / 2),
+        pf: second % 2 == 1,
+    };
+    (fields, 4)
+}
+
+// Whether octets with a right address, whose control field is `octet` and, where it has two octets,
+// `second`, are read as the table says.
 fn is_as_table_says(side: Side, command: bool, octets: &[u8], octet: u8, second: u8) -> bool {
     let address = Address {
         sapi: 0,
@@ -126,9 +178,12 @@ fn is_as_table_says(side: Side, command: bool, octets: &[u8], octet: u8, second:
             outcome == Err(ReadFault::WrongSize(address))
         }
         Some(row) => {
-            let pf = if octet % 4 == 3 { octet / 16 } else { second } % 2 == 1;
+            let (fields, start) = expected_fields(row.name, octet, second);
+            let info = octets.get(start..);
             outcome.is_ok_and(|frame| {
-                frame.address == address && name_of(frame.control) == (row.name, pf)
+                frame.address == address
+                    && fields_of(frame.control) == fields
+                    && Some(frame.info) == info
             })
         }
     }

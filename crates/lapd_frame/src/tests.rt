@@ -196,6 +196,10 @@ fn frames_too_long_to_keep(rt: HostRuntime) {
     assert_eq!(rt; response, Err(ReadFault::Undefined(ANSWER)));
     let extension = read_long(Side::User, &[0x01, 0x81, 0x02, 0x04]);
     assert_eq!(rt; extension, Err(ReadFault::BadExtension));
+    let reserved = read_long(Side::User, &[0x01, 0x81, 0x11, 0x04]);
+    assert_eq!(rt; reserved, Err(ReadFault::BadExtension));
+    let of_network = read_long(Side::Network, &[0x02, 0x81, 0x02, 0x04]);
+    assert_eq!(rt; of_network, Ok(Long::Information(TERMINAL)));
 }
 
 #[test]

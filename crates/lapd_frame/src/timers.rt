@@ -7,7 +7,7 @@ use crate::services::Service;
 pub enum Timer {
     /// An answer to a command is awaited (Q.921 clause 5.9.1).
     T200(Service, u8),
-    /// The longest time without a frame from the terminal (clause 5.9.8).
+    /// The longest time without frames exchanged (clause 5.9.8).
     T203(Service, u8),
     /// Responses to an identity check are awaited (clause 5.9.6).
     T201,
@@ -18,6 +18,6 @@ pub enum Timer {
 pub enum Order {
     /// Start the timer; if it runs, start it anew.
     Start(Timer),
-    /// Stop the timer. It runs.
+    /// Stop the timer, which ran before the event. After its own expiry it is stopped already.
     Stop(Timer),
 }

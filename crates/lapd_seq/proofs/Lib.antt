@@ -1,2 +1,3 @@
 -- Lemmas.
+pub mod Callers
 pub mod Remainders

@@ -15,7 +15,7 @@ pub fn distance(from: Seq, to: Seq) -> u8
 }
 
 /// Whether an N(R) is valid: `V(A) <= N(R) <= V(S)`, counted upwards from V(A) (Q.921 clauses
-/// 3.5.2.6 and 5.8.2). It then acknowledges all numbers before the one that it names.
+/// 3.5.2.3 and 5.8.2). It then acknowledges all numbers before the one that it names.
 pub fn valid(va: Seq, nr: Seq, vs: Seq) -> bool
     ensures circle { IsTrue result ↔ IsValid va nr vs }
 

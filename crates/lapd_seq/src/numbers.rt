@@ -15,8 +15,12 @@ impl Seq {
     ghost use Rattle.std.specs.Prelude.{◌≡◌, ℕ, ◌+◌, ◌<◌};
     ghost use Rattle.lapd_seq.specs.Numbers.{seq};
 
-    /// Where every count begins.
-    pub const ZERO: Seq = Seq { value: 0 };
+    /// The sequence number with which every count begins: 0.
+    pub fn zero() -> Self
+        ensures { result ≡ seq 0 }
+    {
+        Seq::new(0)
+    }
 
     /// The sequence number `value`, which is 0 to 127.
     pub fn new(value: u8) -> Self

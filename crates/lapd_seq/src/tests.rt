@@ -18,9 +18,7 @@ fn window_after(acknowledged: u8, outstanding: u8) -> Window {
     let mut window = Window::new();
     send(&mut window, acknowledged);
     let nr = window.vs();
-    if valid(window.va(), nr, window.vs()) {
-        window.acknowledge(nr);
-    }
+    window.acknowledge(nr);
     send(&mut window, outstanding);
     window
 }
@@ -44,9 +42,9 @@ fn takes(window: &Window, nr: Seq) -> bool
 
 #[test]
 fn numbers_go_round(rt: HostRuntime) {
-    assert_eq!(rt; Seq::ZERO, Seq::new(0));
+    assert_eq!(rt; Seq::zero(), Seq::new(0));
     assert_eq!(rt; Seq::new(5).next(), Seq::new(6));
-    assert_eq!(rt; Seq::new(127).next(), Seq::ZERO);
+    assert_eq!(rt; Seq::new(127).next(), Seq::zero());
     assert_eq!(rt; distance(Seq::new(126), Seq::new(1)), 3);
     assert_eq!(rt; distance(Seq::new(1), Seq::new(126)), 125);
     assert_eq!(rt; distance(Seq::new(9), Seq::new(9)), 0);
@@ -56,15 +54,15 @@ fn numbers_go_round(rt: HostRuntime) {
 fn a_window_begins_empty(rt: HostRuntime) {
     let mut window = Window::new();
     assert_eq!(rt; window, Window::default());
-    assert_eq!(rt; window.va(), Seq::ZERO);
-    assert_eq!(rt; window.vs(), Seq::ZERO);
+    assert_eq!(rt; window.va(), Seq::zero());
+    assert_eq!(rt; window.vs(), Seq::zero());
     assert_eq!(rt; window.outstanding(), 0);
     assert_eq!(rt; count_valid(&window), 1);
     assert!(rt; window.may_send(1));
     send(&mut window, 1);
     assert!(rt; !window.may_send(1));
     assert_eq!(rt; window.outstanding(), 1);
-    assert_eq!(rt; window.va(), Seq::ZERO);
+    assert_eq!(rt; window.va(), Seq::zero());
     assert_eq!(rt; window.vs(), Seq::new(1));
 }
 
@@ -78,6 +76,7 @@ fn a_full_window(rt: HostRuntime) {
     assert!(rt; !window.may_send(127));
     assert_eq!(rt; count_valid(&window), 128);
     let first = Seq::new(5);
+    assert!(rt; takes(&window, first));
     if takes(&window, first) {
         window.acknowledge(first);
     }

@@ -2,7 +2,7 @@
 
 ghost use Rattle.std.specs.Prelude.{◌≡◌, ℕ, ◌+◌, ◌<◌, ◌↔◌, IsTrue};
 ghost use Rattle.lapd_seq.specs.Numbers.{seq};
-ghost use Rattle.lapd_seq.specs.Circle.{IsValid, IsNamed};
+ghost use Rattle.lapd_seq.specs.Circle.{distance_of, IsValid, IsNamed};
 ghost use Rattle.lapd_seq.specs.Windows.{va_of, vs_of, outstanding_of, Stands};
 
 use crate::circle::distance;
@@ -22,11 +22,12 @@ pub struct Window {
 impl Window {
     /// The window of a link that has just been established: nothing sent.
     pub fn new() -> Self
-        ensures { Stands result 0 0 }
+        ensures numbers { Stands result 0 0 }
+        ensures count { outstanding_of result ≡ 0 }
     {
         Window {
-            va: Seq::ZERO,
-            vs: Seq::ZERO,
+            va: Seq::zero(),
+            vs: Seq::zero(),
         }
     }
 
@@ -35,6 +36,7 @@ impl Window {
     pub fn va(&self) -> Seq
         ensures held { result ≡ va_of self.now }
         ensures plain { (a s : ℕ) → Stands self.now a s → result ≡ seq a }
+        ensures valid { IsValid (va_of self.now) result (vs_of self.now) }
     {
         self.va
     }
@@ -43,6 +45,7 @@ impl Window {
     pub fn vs(&self) -> Seq
         ensures held { result ≡ vs_of self.now }
         ensures plain { (a s : ℕ) → Stands self.now a s → result ≡ seq s }
+        ensures valid { IsValid (va_of self.now) result (vs_of self.now) }
     {
         self.vs
     }
@@ -52,12 +55,13 @@ impl Window {
         ensures held { result ≡ outstanding_of self.now }
         ensures bound { result < 128 }
         ensures plain { (a s : ℕ) → Stands self.now a s → a + result ≡ s }
+        ensures stands { Stands self.now (va_of self.now).value ((va_of self.now).value + result) }
     {
         distance(self.va, self.vs)
     }
 
     /// Whether one more I-frame may be sent where at most `k` may be outstanding (Q.921 clause
-    /// 5.9.5). `k` is 1 to 127.
+    /// 5.9.5). Any `k` is taken; where it is at most 127, a yes allows `advance`.
     pub fn may_send(&self, k: u8) -> bool
         ensures held { IsTrue result ↔ (outstanding_of self.now < k) }
         ensures plain { (a s : ℕ) → Stands self.now a s → (IsTrue result ↔ (s < a + k)) }
@@ -70,6 +74,7 @@ impl Window {
         requires { outstanding_of self.old < 127 }
         ensures held { vs_of self.new ≡ seq ((vs_of self.old).value + 1) }
         ensures same { va_of self.new ≡ va_of self.old }
+        ensures count { outstanding_of self.new ≡ outstanding_of self.old + 1 }
         ensures plain { (a s : ℕ) → Stands self.old a s → Stands self.new a (s + 1) }
     {
         self.vs = self.vs.next();
@@ -80,6 +85,8 @@ impl Window {
         requires { IsValid (va_of self.old) nr (vs_of self.old) }
         ensures held { va_of self.new ≡ nr }
         ensures same { vs_of self.new ≡ vs_of self.old }
+        ensures count { distance_of (va_of self.old) nr + outstanding_of self.new ≡ outstanding_of self.old }
+        ensures valid { IsValid (va_of self.new) nr (vs_of self.new) }
         ensures plain { (a s n : ℕ) → Stands self.old a s → IsNamed a s nr n → Stands self.new n s }
     {
         self.va = nr;
@@ -90,6 +97,7 @@ impl Window {
         requires { IsValid (va_of self.old) nr (vs_of self.old) }
         ensures held { vs_of self.new ≡ nr }
         ensures same { va_of self.new ≡ va_of self.old }
+        ensures count { outstanding_of self.new ≡ distance_of (va_of self.old) nr }
         ensures plain { (a s n : ℕ) → Stands self.old a s → IsNamed a s nr n → Stands self.new a n }
     {
         self.vs = nr;

@@ -1,5 +1,5 @@
 use Rattle.lapd_seq.specs.Circle.{distance_of}
-use Rattle.lapd_seq.proofs.Remainders.{distance-plain}
+use Rattle.lapd_seq.proofs.Callers.{distance-plain}
 use Rattle.lapd_seq.proofs.circle.distance.Goals as goal
 use Rattle.std.proofs.Common.{refl}
 

@@ -1,5 +1,5 @@
 use Rattle.std.proofs.Common.{arith}
-use Rattle.lapd_seq.proofs.Remainders.{is_seq}
+use Rattle.lapd_seq.proofs.Callers.{is_seq}
 use Rattle.lapd_seq.proofs.numbers.Seq.new.Goals as goal
 
 pub returns-clause-number : goal.returns-clause-number

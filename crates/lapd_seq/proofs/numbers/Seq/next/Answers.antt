@@ -1,5 +1,6 @@
 use Rattle.std.proofs.Common.{refl}
-use Rattle.lapd_seq.proofs.Remainders.{is_seq, seq-next}
+use Rattle.lapd_seq.proofs.Callers.{is_seq}
+use Rattle.lapd_seq.proofs.Remainders.{seq-next}
 use Rattle.lapd_seq.proofs.numbers.Seq.next.Goals as goal
 
 pub returns-clause-circle : goal.returns-clause-circle

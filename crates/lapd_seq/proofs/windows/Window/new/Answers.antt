@@ -1,6 +1,10 @@
-use Rattle.std.proofs.Common.{arith, refl}
-use Rattle.lapd_seq.proofs.Remainders.{is_seq}
+use Rattle.std.proofs.Common.{◌≡◌, ◌+◌, arith}
+use Rattle.lapd_seq.specs.Circle.{distance_of}
+use Rattle.lapd_seq.proofs.Callers.{distance-plain}
 use Rattle.lapd_seq.proofs.windows.Window.new.Goals as goal
 
-pub returns : goal.returns
-returns c = record { ordered = omega arith; within = omega arith; acknowledged = is_seq _ 0 refl; sent = is_seq _ 0 refl }
+pub returns-clause-count : goal.returns-clause-count
+returns-clause-count c =
+    let none : 0 + distance_of c.zero.result c.zero-2.result ≡ 0 =
+    distance-plain _ _ 0 0 (record { ordered = omega arith; within = omega arith; acknowledged = c.zero.ensures; sent = c.zero-2.ensures }) in
+    omega (arith, none)

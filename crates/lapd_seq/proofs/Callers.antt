@@ -1,0 +1,64 @@
+-- What crates above may cite of sequence numbers.
+use Rattle.std.proofs.Common.{◌≡◌, ℕ, ◌+◌, ◌%◌, ◌<◌, ◌≤◌, ap, subst, arith}
+use Rattle.lapd_seq.specs.declared.numbers.Seq.{Seq}
+use Rattle.lapd_seq.specs.Numbers.{seq}
+use Rattle.lapd_seq.specs.Circle.{distance_of, AreNumbers, IsValid, IsNamed}
+use denote.Struct.Props.{props}
+
+-- two sequence numbers of one value are one
+same_seq : (x y : Seq) → x.value ≡ y.value → x ≡ y
+same_seq x y e =
+    let P : ℕ → Type 0 = λ n. (h : n < 128) → x ≡ record { value = n; in_range = h } in
+    let below : IsProp (x.value < 128) = hlevel props in
+    subst P e (λ h i. record { value = x.value; in_range = below x.in_range h i }) y.in_range
+
+-- the value of a plain number's remainder
+pub seq-value : (x : Seq) (n : ℕ) → x ≡ seq n → x.value ≡ n % 128
+unfolding seq
+seq-value x n e = ap (λ y. y.value) e
+
+-- what has the value of a plain number's remainder is it
+pub is_seq : (x : Seq) (n : ℕ) → x.value ≡ n % 128 → x ≡ seq n
+unfolding seq
+is_seq x n e = same_seq x (seq n) e
+
+-- the distance of two plain numbers that are at most 127 apart
+pub distance-plain : (x y : Seq) (a s : ℕ) → AreNumbers x y a s → a + distance_of x y ≡ s
+unfolding distance_of
+distance-plain x y a s h =
+    let va : x.value ≡ a % 128 = seq-value x a h.acknowledged in
+    let vs : y.value ≡ s % 128 = seq-value y s h.sent in
+    let low : a ≤ s = h.ordered in
+    let high : s ≤ a + 127 = h.within in
+    omega arith
+
+-- the number that lies as far above a as an N(R) above V(A) has its remainder
+pub seq-distance : (x nr : Seq) (a : ℕ) → x ≡ seq a → nr ≡ seq (a + distance_of x nr)
+unfolding distance_of
+seq-distance x nr a e =
+    let v : x.value ≡ a % 128 = seq-value x a e in
+    let low : x.value < 128 = x.in_range in
+    let here : nr.value < 128 = nr.in_range in
+    is_seq nr (a + distance_of x nr) (omega arith)
+
+-- an N(R) that names a number of a..=s is valid
+pub valid_from-named : (x nr y : Seq) (a s n : ℕ) → AreNumbers x y a s → IsNamed a s nr n → IsValid x nr y
+unfolding distance_of
+valid_from-named x nr y a s n h k =
+    let va : x.value ≡ a % 128 = seq-value x a h.acknowledged in
+    let vs : y.value ≡ s % 128 = seq-value y s h.sent in
+    let named : nr.value ≡ n % 128 = seq-value nr n k.remainder in
+    let high : s ≤ a + 127 = h.within in
+    let from : a ≤ n = k.from in
+    let to : n ≤ s = k.to in
+    omega arith
+
+-- a valid N(R) names the number that lies as far above a as the N(R) above V(A)
+pub named-valid : (x nr y : Seq) (a s : ℕ) → AreNumbers x y a s → IsValid x nr y → IsNamed a s nr (a + distance_of x nr)
+named-valid x nr y a s h v =
+    let whole : a + distance_of x y ≡ s = distance-plain x y a s h in
+    record {
+      from = omega arith;
+      to = omega arith;
+      remainder = seq-distance x nr a h.acknowledged;
+    }

@@ -1,7 +1,10 @@
 //! Runs of clocks, whose answers are written down by hand from the rules of the order.
 
-use crate::{Clock, StartFault};
+ghost use Rattle.std.specs.Prelude.{◌≤◌};
+
+use crate::{Clock, StartFault, orders_move_one_timer};
 use lapd_frame::{Order, Service, Timer};
+use std::alloc::Global;
 use std::process::Abort;
 use std::test::Fail;
 
@@ -25,18 +28,18 @@ fn stopped(rt: &impl Abort, clock: &mut Clock, line: usize, timer: Timer, now: u
 /// Takes out these timers at a moment, one after the other.
 fn all_due(rt: &impl Abort, clock: &mut Clock, now: u64, wanted: &[(usize, Timer)]) {
     for first in wanted {
-        assert_eq!(rt; clock.due(now), Some(*first));
+        assert!(rt; clock.due(now) == Some(*first));
     }
 }
 
 #[test]
 fn first_by_moment_then_line_then_timer(rt: HostRuntime) -> Result<(), Fail> {
     let mut clock = Clock::start(rt.alloc(), 3, 3)?;
-    assert_eq!(rt; clock.lines(), 3);
+    assert!(rt; clock.lines() == 3);
     start_in_no_order(&rt, &mut clock);
 
-    assert_eq!(rt; clock.next(), Some(9_999));
-    assert_eq!(rt; clock.due(9_998), None);
+    assert!(rt; clock.next() == Some(9_999));
+    assert!(rt; clock.due(9_998) == None);
     let wanted = [
         (2, Timer::T200(Service::Call, 1)),
         (0, Timer::T200(Service::Call, 70)),
@@ -51,11 +54,11 @@ fn first_by_moment_then_line_then_timer(rt: HostRuntime) -> Result<(), Fail> {
         (1, Timer::T201),
     ];
     all_due(&rt, &mut clock, 10_000, &wanted);
-    assert_eq!(rt; clock.due(10_000), None);
-    assert_eq!(rt; clock.next(), Some(10_001));
-    assert_eq!(rt; clock.due(10_001), Some((0, Timer::T200(Service::Call, 3))));
-    assert_eq!(rt; clock.next(), None);
-    assert_eq!(rt; clock.due(u64::MAX), None);
+    assert!(rt; clock.due(10_000) == None);
+    assert!(rt; clock.next() == Some(10_001));
+    assert!(rt; clock.due(10_001) == Some((0, Timer::T200(Service::Call, 3))));
+    assert!(rt; clock.next() == None);
+    assert!(rt; clock.due(u64::MAX) == None);
     Ok(())
 }
 
@@ -83,13 +86,14 @@ fn start_in_no_order(rt: &impl Abort, clock: &mut Clock) {
 fn a_timer_has_one_moment(rt: HostRuntime) -> Result<(), Fail> {
     let mut clock = Clock::start(rt.alloc(), 2, 1)?;
     let timer = Timer::T200(Service::Call, 64);
+    orders_move_one_timer();
     assert!(rt; started(&rt, &mut clock, 0, timer, 0));
     assert!(rt; started(&rt, &mut clock, 1, timer, 100));
     assert!(rt; started(&rt, &mut clock, 0, timer, 500));
-    assert_eq!(rt; clock.due(1_099), None);
-    assert_eq!(rt; clock.due(1_100), Some((1, timer)));
-    assert_eq!(rt; clock.due(1_499), None);
-    assert_eq!(rt; clock.due(1_500), Some((0, timer)));
+    assert!(rt; clock.due(1_099) == None);
+    assert!(rt; clock.due(1_100) == Some((1, timer)));
+    assert!(rt; clock.due(1_499) == None);
+    assert!(rt; clock.due(1_500) == Some((0, timer)));
 
     // Stopped, it is not due, and the other service's is.
     let other = Timer::T200(Service::Packet, 64);
@@ -97,8 +101,8 @@ fn a_timer_has_one_moment(rt: HostRuntime) -> Result<(), Fail> {
     assert!(rt; started(&rt, &mut clock, 0, other, 2_000));
     assert!(rt; stopped(&rt, &mut clock, 0, timer, 2_000));
     assert!(rt; stopped(&rt, &mut clock, 0, timer, 2_000));
-    assert_eq!(rt; clock.due(u64::MAX), Some((0, other)));
-    assert_eq!(rt; clock.due(u64::MAX), None);
+    assert!(rt; clock.due(u64::MAX) == Some((0, other)));
+    assert!(rt; clock.due(u64::MAX) == None);
     Ok(())
 }
 
@@ -133,7 +137,7 @@ fn a_full_line_takes_no_other_timer(rt: HostRuntime) -> Result<(), Fail> {
         (1, Timer::T203(Service::Call, 126)),
     ];
     all_due(&rt, &mut clock, 10_000, &wanted);
-    assert_eq!(rt; clock.next(), None);
+    assert!(rt; clock.next() == None);
     Ok(())
 }
 
@@ -144,12 +148,12 @@ fn moments_go_up_to_the_greatest(rt: HostRuntime) -> Result<(), Fail> {
     let timer = Timer::T203(Service::Packet, 126);
     assert!(rt; started(&rt, &mut clock, 63, timer, greatest));
     assert!(rt; started(&rt, &mut clock, 0, Timer::T201, greatest - 1));
-    assert_eq!(rt; clock.next(), Some(greatest + 999));
-    assert_eq!(rt; clock.due(greatest + 998), None);
-    assert_eq!(rt; clock.due(greatest + 999), Some((0, Timer::T201)));
-    assert_eq!(rt; clock.next(), Some(greatest + 10_000));
-    assert_eq!(rt; clock.due(greatest + 9_999), None);
-    assert_eq!(rt; clock.due(greatest + 10_000), Some((63, timer)));
+    assert!(rt; clock.next() == Some(greatest + 999));
+    assert!(rt; clock.due(greatest + 998) == None);
+    assert!(rt; clock.due(greatest + 999) == Some((0, Timer::T201)));
+    assert!(rt; clock.next() == Some(greatest + 10_000));
+    assert!(rt; clock.due(greatest + 9_999) == None);
+    assert!(rt; clock.due(greatest + 10_000) == Some((63, timer)));
     Ok(())
 }
 
@@ -168,19 +172,63 @@ fn a_silent_link(rt: HostRuntime) -> Result<(), Fail> {
         (13_000, enquiry),
         (14_000, enquiry),
     ] {
-        assert_eq!(rt; clock.next(), Some(moment));
-        assert_eq!(rt; clock.due(14_000), Some((0, timer)));
+        assert!(rt; clock.next() == Some(moment));
+        assert!(rt; clock.due(14_000) == Some((0, timer)));
         assert!(rt; started(&rt, &mut clock, 0, enquiry, moment));
     }
-    assert_eq!(rt; clock.due(14_000), None);
-    assert_eq!(rt; clock.next(), Some(15_000));
+    assert!(rt; clock.due(14_000) == None);
+    assert!(rt; clock.next() == Some(15_000));
     Ok(())
+}
+
+/// A clock of these sizes has its lines, and room for a timer on the last.
+fn starts_with(rt: &impl Abort, alloc: Global, lines: usize, terminals: usize) -> Result<(), Fail>
+    requires lines { 1 ≤ lines × lines ≤ 64 }
+    requires terminals { 1 ≤ terminals × terminals ≤ 8 }
+{
+    let mut clock = Clock::start(alloc, lines, terminals)?;
+    assert!(rt; clock.lines() == lines);
+    assert!(rt; started(rt, &mut clock, lines - 1, Timer::T201, 0));
+    Ok(())
+}
+
+#[test]
+fn starts_at_the_ends_of_the_ranges(rt: HostRuntime) -> Result<(), Fail> {
+    for lines in [1, 64] {
+        starts_with(&rt, rt.alloc(), lines, 1)?;
+        starts_with(&rt, rt.alloc(), lines, 8)?;
+    }
+    Ok(())
+}
+
+/// Starts a clock, and then has so many timers started, due or stopped.
+fn orders(rt: &impl Abort, alloc: Global, count: u64) -> Result<(), Fail> {
+    let mut clock = Clock::start(alloc, 2, 1)?;
+    let timer = Timer::T200(Service::Call, 64);
+    for now in 0..count.min(1 << 60) {
+        assert!(rt; started(rt, &mut clock, 1, timer, now));
+        assert!(rt; started(rt, &mut clock, 0, Timer::T201, now));
+        assert!(rt; stopped(rt, &mut clock, 1, timer, now));
+        assert!(rt; clock.due(u64::MAX) == Some((0, Timer::T201)));
+    }
+    Ok(())
+}
+
+/// `tests/memory` has this test and the next make the same number of allocations.
+#[test]
+fn ten_orders(rt: HostRuntime) -> Result<(), Fail> {
+    orders(&rt, rt.alloc(), 10)
+}
+
+#[test]
+fn ten_thousand_orders(rt: HostRuntime) -> Result<(), Fail> {
+    orders(&rt, rt.alloc(), 10_000)
 }
 
 #[test]
 fn a_fault_says_what_is_missing(rt: HostRuntime) -> Result<(), Fail> {
     let text = format!(in rt.alloc(); "{}", StartFault::OutOfMemory)?;
-    assert_eq!(rt; text.as_str(), "out of memory");
-    assert_eq!(rt; StartFault::OutOfMemory as u8, 1);
+    assert!(rt; text.as_str() == "out of memory");
+    assert!(rt; StartFault::OutOfMemory as u8 == 1);
     Ok(())
 }

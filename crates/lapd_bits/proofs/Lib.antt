@@ -15,4 +15,3 @@ pub mod FramerLoad
 pub mod RoundTripPlaces
 pub mod RoundTripFrame
 pub mod OneEvent
-pub mod ReferenceSteps

@@ -16,4 +16,3 @@ pub mod Framer
 pub mod FramerText
 pub mod FramerFields
 pub mod RoundTrip
-pub mod Reference

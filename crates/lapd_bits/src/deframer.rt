@@ -242,6 +242,3 @@ impl Deframer {
         ended
     }
 }
-
-#[cfg(test)]
-mod tests;

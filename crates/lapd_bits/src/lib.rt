@@ -8,7 +8,6 @@
 //! - `start_fault`: why neither could be started.
 //! - `check`: the frame check sequence.
 //! - `stuffing`, `one_event`, `round_trip`: laws, as functions with no effect.
-//! - `reference`: for tests, a plain program that hears by the definitions.
 #![tactic(auto)]
 
 mod check;
@@ -17,8 +16,6 @@ mod framer;
 mod gap;
 mod heard;
 mod one_event;
-#[cfg(test)]
-mod reference;
 mod round_trip;
 mod start_fault;
 mod stuffer;

@@ -35,6 +35,3 @@ pub use events::{Event, Request};
 pub use pulled::Pulled;
 pub use reports::{Reply, Report};
 pub use sink::{Sink, SinkFailed, SinkFault};
-
-#[cfg(test)]
-mod tests;

@@ -39,8 +39,7 @@ impl<'a> Report<'a> {
     }
 
     /// The report for as long as one likes, where it lends no contents.
-    #[cfg(test)]
-    pub(crate) fn without_contents(&self) -> Option<Report<'static>>
+    pub fn without_contents(&self) -> Option<Report<'static>>
         ensures { IfSome result (λ kept. report_told kept ≡ report_told self.now) }
     {
         if self.delivered.is_some() {

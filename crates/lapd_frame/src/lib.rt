@@ -42,8 +42,3 @@ pub use refusals::Refusal;
 pub use services::Service;
 pub use timers::{Order, Timer};
 pub use writing::write;
-
-#[cfg(test)]
-mod table_tests;
-#[cfg(test)]
-mod tests;

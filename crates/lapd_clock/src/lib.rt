@@ -28,8 +28,6 @@ mod fault;
 mod laws;
 mod line;
 mod lines;
-#[cfg(test)]
-mod tests;
 mod timers;
 
 pub use clock::Clock;

@@ -2,7 +2,7 @@
 
 ghost use Rattle.std.specs.Prelude.{◌≤◌};
 
-use crate::{Clock, StartFault, orders_move_one_timer};
+use lapd_clock::{Clock, StartFault, orders_move_one_timer};
 use lapd_frame::{Order, Service, Timer};
 use std::alloc::Global;
 use std::process::Abort;

@@ -10,8 +10,8 @@ use Rattle.lapd_bits.specs.Heard.{flag_front, closing_event, event_in}
 use Rattle.lapd_bits.specs.Steps.{one_more, IsKept, IsStuffed, closed_event, IsYoung, with_bits}
 use Rattle.lapd_bits.specs.Deframer.{run_of, open_gap, kept_count, KeepsIn, HoldsGap, HoldsPast, octets_held}
 use Rattle.lapd_bits.specs.declared.gap.Gap.{Gap}
-use Rattle.lapd_bits.specs.declared.gap.Ended.{Ended}
-use Rattle.lapd_bits.specs.declared.gap.Ended.TheVariants as ended
+use Rattle.lapd_bits.specs.declared.heard.Ended.{Ended}
+use Rattle.lapd_bits.specs.declared.heard.Ended.TheVariants as ended
 use Rattle.lapd_bits.specs.declared.heard.Cause.TheVariants.{Ragged}
 use Rattle.lapd_bits.proofs.BitLemmas.{length-bits, length-low_bits, bits-push}
 use Rattle.lapd_bits.proofs.Division.Holds.{low_bits-next}

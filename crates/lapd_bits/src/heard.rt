@@ -22,8 +22,22 @@ pub enum Cause {
     Unserved,
 }
 
+/// What a bit or an octet of a line ended, without references: at most one event. The octets of a frame lie with
+/// the deframer until its next octet, and [`Deframer::latest`](crate::Deframer::latest) lends them.
+#[derive(Clone, Copy, PartialEq, Eq, Debug)]
+pub enum Ended {
+    /// Nothing has ended.
+    Nothing,
+    /// What stood since the latest flag is dropped, for one of the first four causes.
+    Dropped(Cause),
+    /// A frame of so many octets, without its check.
+    Frame(usize),
+    /// A frame that is longer than the deframer's room, but otherwise good.
+    Overlong,
+}
+
 /// What an octet of a line brought: at most one event.
-#[derive(Clone, Copy)]
+#[derive(Clone, Copy, PartialEq, Eq, Debug)]
 pub enum Heard<'a> {
     /// Nothing has ended.
     Nothing,

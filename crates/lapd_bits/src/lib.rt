@@ -24,7 +24,7 @@ mod stuffing;
 pub use check::{fcs, only_check};
 pub use deframer::Deframer;
 pub use framer::Framer;
-pub use heard::{Cause, Heard};
+pub use heard::{Cause, Ended, Heard};
 pub use one_event::one_event_an_octet;
 pub use round_trip::frames_round_trip;
 pub use start_fault::StartFault;

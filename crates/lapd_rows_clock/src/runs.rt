@@ -32,54 +32,64 @@ fn all_due(rt: &impl Abort, clock: &mut Clock, now: u64, wanted: &[(usize, Timer
     }
 }
 
+/// Twelve timers of three lines, each with the moment of its start; all fall due at 10,000 but two.
+const STARTS: [(usize, Timer, u64); 12] = [
+    (1, Timer::T201, 9_000),
+    (0, Timer::T203(Service::Packet, 70), 0),
+    (1, Timer::T200(Service::Packet, 0), 9_000),
+    (0, Timer::T203(Service::Call, 70), 0),
+    (1, Timer::T203(Service::Call, 0), 0),
+    (0, Timer::T201, 9_000),
+    (0, Timer::T200(Service::Packet, 126), 9_000),
+    (0, Timer::T200(Service::Call, 126), 9_000),
+    (0, Timer::T203(Service::Packet, 3), 0),
+    (0, Timer::T200(Service::Call, 70), 9_000),
+    (2, Timer::T200(Service::Call, 1), 8_999),
+    (0, Timer::T200(Service::Call, 3), 9_001),
+];
+
+/// Those that are due at 10,000, in their order.
+const DUE: [(usize, Timer); 11] = [
+    (2, Timer::T200(Service::Call, 1)),
+    (0, Timer::T200(Service::Call, 70)),
+    (0, Timer::T200(Service::Call, 126)),
+    (0, Timer::T200(Service::Packet, 126)),
+    (0, Timer::T203(Service::Packet, 3)),
+    (0, Timer::T203(Service::Call, 70)),
+    (0, Timer::T203(Service::Packet, 70)),
+    (0, Timer::T201),
+    (1, Timer::T200(Service::Packet, 0)),
+    (1, Timer::T203(Service::Call, 0)),
+    (1, Timer::T201),
+];
+
+/// Starts all of them, in no order.
+fn start_all(rt: &impl Abort, clock: &mut Clock) {
+    for (line, timer, now) in STARTS.iter() {
+        assert!(rt; started(rt, clock, *line, *timer, *now));
+    }
+}
+
+/// Whether this is due at the moment.
+fn is_due(clock: &mut Clock, now: u64, wanted: Option<(usize, Timer)>) -> bool {
+    clock.due(now) == wanted
+}
+
+/// Whether this moment is the next.
+fn is_next(clock: &Clock, moment: Option<u64>) -> bool {
+    clock.next() == moment
+}
+
 #[test]
 fn first_by_moment_then_line_then_timer(rt: HostRuntime) -> Result<(), Fail> {
     let mut clock = Clock::start(rt.alloc(), 3, 3)?;
-    assert!(rt; clock.lines() == 3);
-    start_in_no_order(&rt, &mut clock);
-
-    assert!(rt; clock.next() == Some(9_999));
-    assert!(rt; clock.due(9_998) == None);
-    let wanted = [
-        (2, Timer::T200(Service::Call, 1)),
-        (0, Timer::T200(Service::Call, 70)),
-        (0, Timer::T200(Service::Call, 126)),
-        (0, Timer::T200(Service::Packet, 126)),
-        (0, Timer::T203(Service::Packet, 3)),
-        (0, Timer::T203(Service::Call, 70)),
-        (0, Timer::T203(Service::Packet, 70)),
-        (0, Timer::T201),
-        (1, Timer::T200(Service::Packet, 0)),
-        (1, Timer::T203(Service::Call, 0)),
-        (1, Timer::T201),
-    ];
-    all_due(&rt, &mut clock, 10_000, &wanted);
-    assert!(rt; clock.due(10_000) == None);
-    assert!(rt; clock.next() == Some(10_001));
-    assert!(rt; clock.due(10_001) == Some((0, Timer::T200(Service::Call, 3))));
-    assert!(rt; clock.next() == None);
-    assert!(rt; clock.due(u64::MAX) == None);
+    start_all(&rt, &mut clock);
+    assert!(rt; is_next(&clock, Some(9_999)) && is_due(&mut clock, 9_998, None));
+    all_due(&rt, &mut clock, 10_000, &DUE);
+    assert!(rt; is_due(&mut clock, 10_000, None) && is_next(&clock, Some(10_001)));
+    let last = Some((0, Timer::T200(Service::Call, 3)));
+    assert!(rt; is_due(&mut clock, 10_001, last) && is_next(&clock, None));
     Ok(())
-}
-
-/// Twelve timers of three lines; all fall due at 10,000 but the last two.
-fn start_in_no_order(rt: &impl Abort, clock: &mut Clock) {
-    for (line, timer, now) in [
-        (1, Timer::T201, 9_000),
-        (0, Timer::T203(Service::Packet, 70), 0),
-        (1, Timer::T200(Service::Packet, 0), 9_000),
-        (0, Timer::T203(Service::Call, 70), 0),
-        (1, Timer::T203(Service::Call, 0), 0),
-        (0, Timer::T201, 9_000),
-        (0, Timer::T200(Service::Packet, 126), 9_000),
-        (0, Timer::T200(Service::Call, 126), 9_000),
-        (0, Timer::T203(Service::Packet, 3), 0),
-        (0, Timer::T200(Service::Call, 70), 9_000),
-        (2, Timer::T200(Service::Call, 1), 8_999),
-        (0, Timer::T200(Service::Call, 3), 9_001),
-    ] {
-        assert!(rt; started(rt, clock, line, timer, now));
-    }
 }
 
 #[test]
@@ -90,10 +100,10 @@ fn a_timer_has_one_moment(rt: HostRuntime) -> Result<(), Fail> {
     assert!(rt; started(&rt, &mut clock, 0, timer, 0));
     assert!(rt; started(&rt, &mut clock, 1, timer, 100));
     assert!(rt; started(&rt, &mut clock, 0, timer, 500));
-    assert!(rt; clock.due(1_099) == None);
-    assert!(rt; clock.due(1_100) == Some((1, timer)));
-    assert!(rt; clock.due(1_499) == None);
-    assert!(rt; clock.due(1_500) == Some((0, timer)));
+    assert!(rt; is_due(&mut clock, 1_099, None));
+    assert!(rt; is_due(&mut clock, 1_100, Some((1, timer))));
+    assert!(rt; is_due(&mut clock, 1_499, None));
+    assert!(rt; is_due(&mut clock, 1_500, Some((0, timer))));
 
     // Stopped, it is not due, and the other service's is.
     let other = Timer::T200(Service::Packet, 64);
@@ -101,24 +111,36 @@ fn a_timer_has_one_moment(rt: HostRuntime) -> Result<(), Fail> {
     assert!(rt; started(&rt, &mut clock, 0, other, 2_000));
     assert!(rt; stopped(&rt, &mut clock, 0, timer, 2_000));
     assert!(rt; stopped(&rt, &mut clock, 0, timer, 2_000));
-    assert!(rt; clock.due(u64::MAX) == Some((0, other)));
-    assert!(rt; clock.due(u64::MAX) == None);
+    assert!(rt; is_due(&mut clock, u64::MAX, Some((0, other))));
+    assert!(rt; is_due(&mut clock, u64::MAX, None));
     Ok(())
 }
+
+/// As many timers as a line of one terminal has places.
+const PLACES: [Timer; 5] = [
+    Timer::T200(Service::Call, 64),
+    Timer::T200(Service::Packet, 64),
+    Timer::T203(Service::Call, 126),
+    Timer::T203(Service::Packet, 64),
+    Timer::T201,
+];
+
+/// What is left where the second has made room for one more, which runs on the other line too.
+const LEFT: [(usize, Timer); 6] = [
+    (0, Timer::T200(Service::Call, 0)),
+    (1, Timer::T200(Service::Call, 0)),
+    (1, Timer::T200(Service::Call, 64)),
+    (1, Timer::T201),
+    (1, Timer::T203(Service::Packet, 64)),
+    (1, Timer::T203(Service::Call, 126)),
+];
 
 #[test]
 fn a_full_line_takes_no_other_timer(rt: HostRuntime) -> Result<(), Fail> {
     let mut clock = Clock::start(rt.alloc(), 2, 1)?;
     let packet = Timer::T200(Service::Packet, 64);
-    let places = [
-        Timer::T200(Service::Call, 64),
-        packet,
-        Timer::T203(Service::Call, 126),
-        Timer::T203(Service::Packet, 64),
-        Timer::T201,
-    ];
-    for timer in places {
-        assert!(rt; started(&rt, &mut clock, 1, timer, 0));
+    for timer in PLACES.iter() {
+        assert!(rt; started(&rt, &mut clock, 1, *timer, 0));
     }
     let sixth = Timer::T200(Service::Call, 0);
     assert!(rt; !started(&rt, &mut clock, 1, sixth, 0));
@@ -128,16 +150,8 @@ fn a_full_line_takes_no_other_timer(rt: HostRuntime) -> Result<(), Fail> {
     assert!(rt; stopped(&rt, &mut clock, 1, packet, 0));
     assert!(rt; started(&rt, &mut clock, 1, sixth, 0));
     assert!(rt; !started(&rt, &mut clock, 1, packet, 0));
-    let wanted = [
-        (0, sixth),
-        (1, sixth),
-        (1, Timer::T200(Service::Call, 64)),
-        (1, Timer::T201),
-        (1, Timer::T203(Service::Packet, 64)),
-        (1, Timer::T203(Service::Call, 126)),
-    ];
-    all_due(&rt, &mut clock, 10_000, &wanted);
-    assert!(rt; clock.next() == None);
+    all_due(&rt, &mut clock, 10_000, &LEFT);
+    assert!(rt; is_next(&clock, None));
     Ok(())
 }
 
@@ -148,12 +162,12 @@ fn moments_go_up_to_the_greatest(rt: HostRuntime) -> Result<(), Fail> {
     let timer = Timer::T203(Service::Packet, 126);
     assert!(rt; started(&rt, &mut clock, 63, timer, greatest));
     assert!(rt; started(&rt, &mut clock, 0, Timer::T201, greatest - 1));
-    assert!(rt; clock.next() == Some(greatest + 999));
-    assert!(rt; clock.due(greatest + 998) == None);
-    assert!(rt; clock.due(greatest + 999) == Some((0, Timer::T201)));
-    assert!(rt; clock.next() == Some(greatest + 10_000));
-    assert!(rt; clock.due(greatest + 9_999) == None);
-    assert!(rt; clock.due(greatest + 10_000) == Some((63, timer)));
+    assert!(rt; is_next(&clock, Some(greatest + 999)));
+    assert!(rt; is_due(&mut clock, greatest + 998, None));
+    assert!(rt; is_due(&mut clock, greatest + 999, Some((0, Timer::T201))));
+    assert!(rt; is_next(&clock, Some(greatest + 10_000)));
+    assert!(rt; is_due(&mut clock, greatest + 9_999, None));
+    assert!(rt; is_due(&mut clock, greatest + 10_000, Some((63, timer))));
     Ok(())
 }
 
@@ -172,12 +186,12 @@ fn a_silent_link(rt: HostRuntime) -> Result<(), Fail> {
         (13_000, enquiry),
         (14_000, enquiry),
     ] {
-        assert!(rt; clock.next() == Some(moment));
-        assert!(rt; clock.due(14_000) == Some((0, timer)));
+        assert!(rt; is_next(&clock, Some(moment)));
+        assert!(rt; is_due(&mut clock, 14_000, Some((0, timer))));
         assert!(rt; started(&rt, &mut clock, 0, enquiry, moment));
     }
-    assert!(rt; clock.due(14_000) == None);
-    assert!(rt; clock.next() == Some(15_000));
+    assert!(rt; is_due(&mut clock, 14_000, None));
+    assert!(rt; is_next(&clock, Some(15_000)));
     Ok(())
 }
 
@@ -209,7 +223,7 @@ fn orders(rt: &impl Abort, alloc: Global, count: u64) -> Result<(), Fail> {
         assert!(rt; started(rt, &mut clock, 1, timer, now));
         assert!(rt; started(rt, &mut clock, 0, Timer::T201, now));
         assert!(rt; stopped(rt, &mut clock, 1, timer, now));
-        assert!(rt; clock.due(u64::MAX) == Some((0, Timer::T201)));
+        assert!(rt; is_due(&mut clock, u64::MAX, Some((0, Timer::T201))));
     }
     Ok(())
 }

@@ -8,6 +8,25 @@ use std::alloc::Global;
 use std::process::Abort;
 use std::test::Fail;
 
+/// A call of a clock, and what it must answer.
+#[derive(Clone, Copy)]
+enum Step {
+    /// A timer of a line is started at a moment, and finds its place.
+    Start(usize, Timer, u64),
+    /// The same, and it finds none.
+    Full(usize, Timer, u64),
+    /// A timer of a line is stopped.
+    Stop(usize, Timer),
+    /// At a moment this timer of this line is due, and is taken out.
+    Due(u64, usize, Timer),
+    /// At a moment none is due.
+    None(u64),
+    /// The next falls due at this moment.
+    Next(u64),
+    /// No timer runs.
+    Idle,
+}
+
 /// What a clock answers to an order, at a line that it has.
 fn apply(rt: &impl Abort, clock: &mut Clock, line: usize, order: Order, now: u64) -> bool {
     assert!(rt; line < clock.lines());
@@ -15,169 +34,168 @@ fn apply(rt: &impl Abort, clock: &mut Clock, line: usize, order: Order, now: u64
     clock.apply(line, order, now)
 }
 
-/// Whether a timer that is started finds its place.
-fn started(rt: &impl Abort, clock: &mut Clock, line: usize, timer: Timer, now: u64) -> bool {
-    apply(rt, clock, line, Order::Start(timer), now)
-}
-
-/// The same of a timer that is stopped.
-fn stopped(rt: &impl Abort, clock: &mut Clock, line: usize, timer: Timer, now: u64) -> bool {
-    apply(rt, clock, line, Order::Stop(timer), now)
-}
-
-/// Takes out these timers at a moment, one after the other.
-fn all_due(rt: &impl Abort, clock: &mut Clock, now: u64, wanted: &[(usize, Timer)]) {
-    for first in wanted {
-        assert!(rt; clock.due(now) == Some(*first));
+/// Whether the clock answers as it must.
+fn holds(rt: &impl Abort, clock: &mut Clock, step: Step) -> bool {
+    match step {
+        Step::Start(line, timer, now) => apply(rt, clock, line, Order::Start(timer), now),
+        Step::Full(line, timer, now) => !apply(rt, clock, line, Order::Start(timer), now),
+        Step::Stop(line, timer) => apply(rt, clock, line, Order::Stop(timer), 0),
+        Step::Due(now, line, timer) => clock.due(now) == Some((line, timer)),
+        Step::None(now) => clock.due(now).is_none(),
+        Step::Next(moment) => clock.next() == Some(moment),
+        Step::Idle => clock.next().is_none(),
     }
 }
+
+fn play(rt: &impl Abort, clock: &mut Clock, steps: &[Step]) {
+    for step in steps {
+        assert!(rt; holds(rt, clock, *step));
+    }
+}
+
+/// Twelve timers of three lines, started in no order; all fall due at 10,000 but the last two.
+const IN_ORDER: [Step; 30] = [
+    Step::Start(1, Timer::T201, 9_000),
+    Step::Start(0, Timer::T203(Service::Packet, 70), 0),
+    Step::Start(1, Timer::T200(Service::Packet, 0), 9_000),
+    Step::Start(0, Timer::T203(Service::Call, 70), 0),
+    Step::Start(1, Timer::T203(Service::Call, 0), 0),
+    Step::Start(0, Timer::T201, 9_000),
+    Step::Start(0, Timer::T200(Service::Packet, 126), 9_000),
+    Step::Start(0, Timer::T200(Service::Call, 126), 9_000),
+    Step::Start(0, Timer::T203(Service::Packet, 3), 0),
+    Step::Start(0, Timer::T200(Service::Call, 70), 9_000),
+    Step::Start(2, Timer::T200(Service::Call, 1), 8_999),
+    Step::Start(0, Timer::T200(Service::Call, 3), 9_001),
+    Step::Next(9_999),
+    Step::None(9_998),
+    Step::Due(10_000, 2, Timer::T200(Service::Call, 1)),
+    Step::Due(10_000, 0, Timer::T200(Service::Call, 70)),
+    Step::Due(10_000, 0, Timer::T200(Service::Call, 126)),
+    Step::Due(10_000, 0, Timer::T200(Service::Packet, 126)),
+    Step::Due(10_000, 0, Timer::T203(Service::Packet, 3)),
+    Step::Due(10_000, 0, Timer::T203(Service::Call, 70)),
+    Step::Due(10_000, 0, Timer::T203(Service::Packet, 70)),
+    Step::Due(10_000, 0, Timer::T201),
+    Step::Due(10_000, 1, Timer::T200(Service::Packet, 0)),
+    Step::Due(10_000, 1, Timer::T203(Service::Call, 0)),
+    Step::Due(10_000, 1, Timer::T201),
+    Step::None(10_000),
+    Step::Next(10_001),
+    Step::Due(10_001, 0, Timer::T200(Service::Call, 3)),
+    Step::Idle,
+    Step::None(u64::MAX),
+];
 
 #[test]
 fn first_by_moment_then_line_then_timer(rt: HostRuntime) -> Result<(), Fail> {
     let mut clock = Clock::start(rt.alloc(), 3, 3)?;
-    assert!(rt; clock.lines() == 3);
-    start_in_no_order(&rt, &mut clock);
-
-    assert!(rt; clock.next() == Some(9_999));
-    assert!(rt; clock.due(9_998) == None);
-    let wanted = [
-        (2, Timer::T200(Service::Call, 1)),
-        (0, Timer::T200(Service::Call, 70)),
-        (0, Timer::T200(Service::Call, 126)),
-        (0, Timer::T200(Service::Packet, 126)),
-        (0, Timer::T203(Service::Packet, 3)),
-        (0, Timer::T203(Service::Call, 70)),
-        (0, Timer::T203(Service::Packet, 70)),
-        (0, Timer::T201),
-        (1, Timer::T200(Service::Packet, 0)),
-        (1, Timer::T203(Service::Call, 0)),
-        (1, Timer::T201),
-    ];
-    all_due(&rt, &mut clock, 10_000, &wanted);
-    assert!(rt; clock.due(10_000) == None);
-    assert!(rt; clock.next() == Some(10_001));
-    assert!(rt; clock.due(10_001) == Some((0, Timer::T200(Service::Call, 3))));
-    assert!(rt; clock.next() == None);
-    assert!(rt; clock.due(u64::MAX) == None);
+    play(&rt, &mut clock, &IN_ORDER);
     Ok(())
 }
 
-/// Twelve timers of three lines; all fall due at 10,000 but the last two.
-fn start_in_no_order(rt: &impl Abort, clock: &mut Clock) {
-    for (line, timer, now) in [
-        (1, Timer::T201, 9_000),
-        (0, Timer::T203(Service::Packet, 70), 0),
-        (1, Timer::T200(Service::Packet, 0), 9_000),
-        (0, Timer::T203(Service::Call, 70), 0),
-        (1, Timer::T203(Service::Call, 0), 0),
-        (0, Timer::T201, 9_000),
-        (0, Timer::T200(Service::Packet, 126), 9_000),
-        (0, Timer::T200(Service::Call, 126), 9_000),
-        (0, Timer::T203(Service::Packet, 3), 0),
-        (0, Timer::T200(Service::Call, 70), 9_000),
-        (2, Timer::T200(Service::Call, 1), 8_999),
-        (0, Timer::T200(Service::Call, 3), 9_001),
-    ] {
-        assert!(rt; started(rt, clock, line, timer, now));
-    }
-}
+/// A timer that is started again has its new moment alone. Stopped, it is not due, and the other service's is.
+const ONE_MOMENT: [Step; 13] = [
+    Step::Start(0, Timer::T200(Service::Call, 64), 0),
+    Step::Start(1, Timer::T200(Service::Call, 64), 100),
+    Step::Start(0, Timer::T200(Service::Call, 64), 500),
+    Step::None(1_099),
+    Step::Due(1_100, 1, Timer::T200(Service::Call, 64)),
+    Step::None(1_499),
+    Step::Due(1_500, 0, Timer::T200(Service::Call, 64)),
+    Step::Start(0, Timer::T200(Service::Call, 64), 2_000),
+    Step::Start(0, Timer::T200(Service::Packet, 64), 2_000),
+    Step::Stop(0, Timer::T200(Service::Call, 64)),
+    Step::Stop(0, Timer::T200(Service::Call, 64)),
+    Step::Due(u64::MAX, 0, Timer::T200(Service::Packet, 64)),
+    Step::None(u64::MAX),
+];
 
 #[test]
 fn a_timer_has_one_moment(rt: HostRuntime) -> Result<(), Fail> {
     let mut clock = Clock::start(rt.alloc(), 2, 1)?;
-    let timer = Timer::T200(Service::Call, 64);
     orders_move_one_timer();
-    assert!(rt; started(&rt, &mut clock, 0, timer, 0));
-    assert!(rt; started(&rt, &mut clock, 1, timer, 100));
-    assert!(rt; started(&rt, &mut clock, 0, timer, 500));
-    assert!(rt; clock.due(1_099) == None);
-    assert!(rt; clock.due(1_100) == Some((1, timer)));
-    assert!(rt; clock.due(1_499) == None);
-    assert!(rt; clock.due(1_500) == Some((0, timer)));
-
-    // Stopped, it is not due, and the other service's is.
-    let other = Timer::T200(Service::Packet, 64);
-    assert!(rt; started(&rt, &mut clock, 0, timer, 2_000));
-    assert!(rt; started(&rt, &mut clock, 0, other, 2_000));
-    assert!(rt; stopped(&rt, &mut clock, 0, timer, 2_000));
-    assert!(rt; stopped(&rt, &mut clock, 0, timer, 2_000));
-    assert!(rt; clock.due(u64::MAX) == Some((0, other)));
-    assert!(rt; clock.due(u64::MAX) == None);
+    play(&rt, &mut clock, &ONE_MOMENT);
     Ok(())
 }
+
+/// A timer that runs keeps its place, a stopped one frees it, and the other line has its own.
+const FULL_LINE: [Step; 18] = [
+    Step::Start(1, Timer::T200(Service::Call, 64), 0),
+    Step::Start(1, Timer::T200(Service::Packet, 64), 0),
+    Step::Start(1, Timer::T203(Service::Call, 126), 0),
+    Step::Start(1, Timer::T203(Service::Packet, 64), 0),
+    Step::Start(1, Timer::T201, 0),
+    Step::Full(1, Timer::T200(Service::Call, 0), 0),
+    Step::Start(1, Timer::T201, 7),
+    Step::Start(0, Timer::T200(Service::Call, 0), 0),
+    Step::Stop(1, Timer::T200(Service::Packet, 64)),
+    Step::Start(1, Timer::T200(Service::Call, 0), 0),
+    Step::Full(1, Timer::T200(Service::Packet, 64), 0),
+    Step::Due(10_000, 0, Timer::T200(Service::Call, 0)),
+    Step::Due(10_000, 1, Timer::T200(Service::Call, 0)),
+    Step::Due(10_000, 1, Timer::T200(Service::Call, 64)),
+    Step::Due(10_000, 1, Timer::T201),
+    Step::Due(10_000, 1, Timer::T203(Service::Packet, 64)),
+    Step::Due(10_000, 1, Timer::T203(Service::Call, 126)),
+    Step::Idle,
+];
 
 #[test]
 fn a_full_line_takes_no_other_timer(rt: HostRuntime) -> Result<(), Fail> {
     let mut clock = Clock::start(rt.alloc(), 2, 1)?;
-    let packet = Timer::T200(Service::Packet, 64);
-    let places = [
-        Timer::T200(Service::Call, 64),
-        packet,
-        Timer::T203(Service::Call, 126),
-        Timer::T203(Service::Packet, 64),
-        Timer::T201,
-    ];
-    for timer in places {
-        assert!(rt; started(&rt, &mut clock, 1, timer, 0));
-    }
-    let sixth = Timer::T200(Service::Call, 0);
-    assert!(rt; !started(&rt, &mut clock, 1, sixth, 0));
-    // A timer that runs keeps its place, a stopped one frees it, and the other line has its own.
-    assert!(rt; started(&rt, &mut clock, 1, Timer::T201, 7));
-    assert!(rt; started(&rt, &mut clock, 0, sixth, 0));
-    assert!(rt; stopped(&rt, &mut clock, 1, packet, 0));
-    assert!(rt; started(&rt, &mut clock, 1, sixth, 0));
-    assert!(rt; !started(&rt, &mut clock, 1, packet, 0));
-    let wanted = [
-        (0, sixth),
-        (1, sixth),
-        (1, Timer::T200(Service::Call, 64)),
-        (1, Timer::T201),
-        (1, Timer::T203(Service::Packet, 64)),
-        (1, Timer::T203(Service::Call, 126)),
-    ];
-    all_due(&rt, &mut clock, 10_000, &wanted);
-    assert!(rt; clock.next() == None);
+    play(&rt, &mut clock, &FULL_LINE);
     Ok(())
 }
+
+/// The greatest moment at which an order may come.
+const GREATEST: u64 = 1 << 63;
+
+/// The last of the lines and terminals, at the greatest moments.
+const GREATEST_MOMENTS: [Step; 8] = [
+    Step::Start(63, Timer::T203(Service::Packet, 126), GREATEST),
+    Step::Start(0, Timer::T201, GREATEST - 1),
+    Step::Next(GREATEST + 999),
+    Step::None(GREATEST + 998),
+    Step::Due(GREATEST + 999, 0, Timer::T201),
+    Step::Next(GREATEST + 10_000),
+    Step::None(GREATEST + 9_999),
+    Step::Due(GREATEST + 10_000, 63, Timer::T203(Service::Packet, 126)),
+];
 
 #[test]
 fn moments_go_up_to_the_greatest(rt: HostRuntime) -> Result<(), Fail> {
     let mut clock = Clock::start(rt.alloc(), 64, 8)?;
-    let greatest = 1 << 63;
-    let timer = Timer::T203(Service::Packet, 126);
-    assert!(rt; started(&rt, &mut clock, 63, timer, greatest));
-    assert!(rt; started(&rt, &mut clock, 0, Timer::T201, greatest - 1));
-    assert!(rt; clock.next() == Some(greatest + 999));
-    assert!(rt; clock.due(greatest + 998) == None);
-    assert!(rt; clock.due(greatest + 999) == Some((0, Timer::T201)));
-    assert!(rt; clock.next() == Some(greatest + 10_000));
-    assert!(rt; clock.due(greatest + 9_999) == None);
-    assert!(rt; clock.due(greatest + 10_000) == Some((63, timer)));
+    play(&rt, &mut clock, &GREATEST_MOMENTS);
     Ok(())
 }
 
-/// A link that hears nothing: T203 expires, and then T200 for each enquiry, three of them repeats,
-/// and for the SABME that follows.
+/// A link that hears nothing: T203 expires, then T200 for each enquiry, three of them repeats, and for the SABME.
+const SILENT_LINK: [Step; 18] = [
+    Step::Start(0, Timer::T203(Service::Call, 64), 0),
+    Step::Next(10_000),
+    Step::Due(14_000, 0, Timer::T203(Service::Call, 64)),
+    Step::Start(0, Timer::T200(Service::Call, 64), 10_000),
+    Step::Next(11_000),
+    Step::Due(14_000, 0, Timer::T200(Service::Call, 64)),
+    Step::Start(0, Timer::T200(Service::Call, 64), 11_000),
+    Step::Next(12_000),
+    Step::Due(14_000, 0, Timer::T200(Service::Call, 64)),
+    Step::Start(0, Timer::T200(Service::Call, 64), 12_000),
+    Step::Next(13_000),
+    Step::Due(14_000, 0, Timer::T200(Service::Call, 64)),
+    Step::Start(0, Timer::T200(Service::Call, 64), 13_000),
+    Step::Next(14_000),
+    Step::Due(14_000, 0, Timer::T200(Service::Call, 64)),
+    Step::Start(0, Timer::T200(Service::Call, 64), 14_000),
+    Step::None(14_000),
+    Step::Next(15_000),
+];
+
 #[test]
 fn a_silent_link(rt: HostRuntime) -> Result<(), Fail> {
     let mut clock = Clock::start(rt.alloc(), 1, 8)?;
-    let enquiry = Timer::T200(Service::Call, 64);
-    let idle = Timer::T203(Service::Call, 64);
-    assert!(rt; started(&rt, &mut clock, 0, idle, 0));
-    for (moment, timer) in [
-        (10_000, idle),
-        (11_000, enquiry),
-        (12_000, enquiry),
-        (13_000, enquiry),
-        (14_000, enquiry),
-    ] {
-        assert!(rt; clock.next() == Some(moment));
-        assert!(rt; clock.due(14_000) == Some((0, timer)));
-        assert!(rt; started(&rt, &mut clock, 0, enquiry, moment));
-    }
-    assert!(rt; clock.due(14_000) == None);
-    assert!(rt; clock.next() == Some(15_000));
+    play(&rt, &mut clock, &SILENT_LINK);
     Ok(())
 }
 
@@ -188,7 +206,7 @@ fn starts_with(rt: &impl Abort, alloc: Global, lines: usize, terminals: usize) -
 {
     let mut clock = Clock::start(alloc, lines, terminals)?;
     assert!(rt; clock.lines() == lines);
-    assert!(rt; started(rt, &mut clock, lines - 1, Timer::T201, 0));
+    assert!(rt; holds(rt, &mut clock, Step::Start(lines - 1, Timer::T201, 0)));
     Ok(())
 }
 
@@ -201,15 +219,19 @@ fn starts_at_the_ends_of_the_ranges(rt: HostRuntime) -> Result<(), Fail> {
     Ok(())
 }
 
-/// Starts a clock, and then has so many timers started, due or stopped.
-fn orders(rt: &impl Abort, alloc: Global, count: u64) -> Result<(), Fail> {
+/// Two timers are started; one is stopped, and one falls due.
+const TURN: [Step; 4] = [
+    Step::Start(1, Timer::T200(Service::Call, 64), 5),
+    Step::Start(0, Timer::T201, 5),
+    Step::Stop(1, Timer::T200(Service::Call, 64)),
+    Step::Due(u64::MAX, 0, Timer::T201),
+];
+
+/// Starts a clock, and then plays so many turns.
+fn orders(rt: &impl Abort, alloc: Global, count: u32) -> Result<(), Fail> {
     let mut clock = Clock::start(alloc, 2, 1)?;
-    let timer = Timer::T200(Service::Call, 64);
-    for now in 0..count.min(1 << 60) {
-        assert!(rt; started(rt, &mut clock, 1, timer, now));
-        assert!(rt; started(rt, &mut clock, 0, Timer::T201, now));
-        assert!(rt; stopped(rt, &mut clock, 1, timer, now));
-        assert!(rt; clock.due(u64::MAX) == Some((0, Timer::T201)));
+    for _ in 0..count {
+        play(rt, &mut clock, &TURN);
     }
     Ok(())
 }

@@ -7,12 +7,13 @@
 //! - `framer`, over `stuffer`: from frames to octets.
 //! - `start_fault`: why neither could be started.
 //! - `check`: the frame check sequence.
-//! - `stuffing`, `one_event`, `round_trip`: laws, as functions with no effect.
+//! - `stuffing`, `one_event`, `flag_places`, `round_trip`: laws, as functions with no effect.
 //! - `reference`: for tests, a plain program that hears by the definitions.
 #![tactic(auto)]
 
 mod check;
 mod deframer;
+mod flag_places;
 mod framer;
 mod gap;
 mod heard;
@@ -26,6 +27,7 @@ mod stuffing;
 
 pub use check::{fcs, only_check};
 pub use deframer::Deframer;
+pub use flag_places::{abort_after_flag, flag_after_flag};
 pub use framer::Framer;
 pub use heard::{Cause, Ended, Heard};
 pub use one_event::one_event_an_octet;

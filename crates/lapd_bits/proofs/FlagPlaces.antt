@@ -1,10 +1,10 @@
 -- What a flag and an abort bring, by the flag before.
-use Rattle.std.proofs.Common.{◌≡◌, ℕ, ◌+◌, ◌≤◌, Bool, true, false, List, [], ◌∷◌, ◌++◌, length, drop, reverse, Option, Some, None, refl, ap, ◌∙◌, arith}
+use Rattle.std.proofs.Common.{◌≡◌, ℕ, Bool, true, false, List, [], ◌∷◌, ◌++◌, length, drop, reverse, Some, None, refl, ap, ◌∙◌, arith}
 use Rattle.std.specs.Prelude.{option_map, option_and_then, not, nat_lt, ◌&&◌, ◌||◌, if◌then◌else◌}
 use Rattle.std.proofs.lemmas.Bool.{lt-ltb, le-ltb}
 use Rattle.std.proofs.lemmas.List.{length-reverse, reverse-reverse}
 use Rattle.lapd_bits.specs.Bits.{flag}
-use Rattle.lapd_bits.specs.Stream.{Event, dropped, ends_flag, since_flag, has_abort, gap_event, closed_by_flag, given_up}
+use Rattle.lapd_bits.specs.Stream.{dropped, since_flag, has_abort, gap_event, closed_by_flag, given_up}
 use Rattle.lapd_bits.specs.FlagLaws.{HasNoFlag, gap_brings, abort_brings, seven_ones, GapBetweenFlags, FlagsThatShare, FirstAbortAfterFlag}
 use Rattle.lapd_bits.specs.declared.heard.Cause.TheVariants.{Abort}
 

@@ -3,6 +3,10 @@
 //! A [`Deframer`] hears the frames in the octets of a line, and a [`Framer`] gives the octets for frames to be
 //! sent. Both take all their memory when they start.
 //!
+//! A *gap* is what stands between two flags that follow one another. The *open gap* is what has come since the latest
+//! flag, as long as no seven 1s have given it up. An *item* is what is sent after a line's opening flag: an idle flag, or
+//! a stuffed frame with its check and its closing flag.
+//!
 //! - `deframer`, over `gap`: from octets to frames; `heard`: what it answers.
 //! - `framer`, over `stuffer`: from frames to octets.
 //! - `start_fault`: why neither could be started.

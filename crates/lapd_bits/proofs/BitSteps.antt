@@ -3,8 +3,8 @@ use Rattle.std.proofs.Common.{◌≡◌, ◌≢◌, ℕ, ◌+◌, ◌*◌, ◌/�
 use Rattle.std.specs.Option.{option_map_or}
 use Rattle.std.proofs.lemmas.Bool.{le-ltb}
 use Rattle.std.proofs.lemmas.List.{reverse-append, append-nil}
-use Rattle.lapd_bits.specs.Bits.{bits, low_bits}
-use Rattle.lapd_bits.specs.Stuffing.{unstuffed, octets_sent, same_bits}
+use Rattle.lapd_bits.specs.Bits.{bits, low_bits, same_bits}
+use Rattle.lapd_bits.specs.Stuffing.{unstuffed, octets_sent}
 use Rattle.lapd_bits.specs.Stream.{Event, dropped, judged, since_flag, has_abort, text_event, gap_event, room_for, heard_at, heard_until}
 use Rattle.lapd_bits.specs.Heard.{flag_front, closing_event, event_in}
 use Rattle.lapd_bits.specs.Steps.{one_more, IsKept, IsStuffed, closed_event, IsYoung, with_bits}

@@ -1,6 +1,6 @@
 -- What a deframer's answers say, seen without references.
 use Rattle.std.specs.Prelude.{ℕ, Bool, true, false, List, [], ◌∷◌, Option, Some, None, length, take, if◌then◌else◌}
-use Rattle.lapd_bits.specs.Stuffing.{same_bits}
+use Rattle.lapd_bits.specs.Bits.{same_bits}
 use Rattle.lapd_bits.specs.Stream.{Event, frame, overlong, dropped, judged}
 use Rattle.lapd_bits.specs.declared.heard.Heard.{Heard}
 use Rattle.lapd_bits.specs.declared.heard.Heard.TheVariants as heard

@@ -14,7 +14,7 @@ use std::alloc::Global;
 /// stands between (Q.921 clauses 2.2 to 2.10). Frames may begin and end at any bit of an octet.
 ///
 /// All its memory is taken by [`Deframer::start`].
-#[derive(Drop)]
+#[derive(Drop, Debug)]
 pub struct Deframer {
     octets: Vec<u8>,
     /// The contiguous 1s up to now; 7 stands for 7 and more, and for no bit at all.

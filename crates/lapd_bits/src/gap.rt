@@ -17,7 +17,7 @@ const OVERLONG_KEPT: usize = 4;
 
 /// What has come since the latest flag: the bits of an open gap, of which the whole octets lie in the
 /// deframer's room. The bits of the flag that will close it are among them until that flag's last bit.
-#[derive(Clone, Copy)]
+#[derive(Clone, Copy, Debug)]
 pub(crate) struct Gap {
     /// The bits since the flag, stuffed 0s among them; 8 stands for 8 and more.
     since: u8,

@@ -12,9 +12,9 @@ pub enum Cause {
     Short,
     /// The frame check tells of an error (clause 2.7).
     Fcs,
-    /// An address whose extension bits are not those of two octets (clause 3.3.1).
+    /// An address whose extension bits are not those of two octets (clauses 2.9 and 3.3.1).
     Extension,
-    /// A SAPI that is not served (clause 3.3.3).
+    /// A SAPI that is not served (clauses 2.9 and 3.3.3).
     Sapi,
     /// A TEI that is not on the line (clause 3.3.4).
     Tei,

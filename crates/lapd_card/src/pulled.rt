@@ -2,8 +2,7 @@
 
 ghost use Rattle.std.specs.Prelude.{◌≡◌, []};
 
-use crate::orders::Orders;
-use lapd_frame::Order;
+use lapd_frame::{Order, ShortList};
 
 /// What a pull gives.
 #[derive(Clone, Copy)]
@@ -12,7 +11,7 @@ pub struct Pulled {
     pub octet: u8,
     /// Whether this pull took a frame that waited.
     pub begun: bool,
-    orders: Orders,
+    orders: ShortList<Order>,
 }
 
 impl Pulled {
@@ -26,7 +25,7 @@ impl Pulled {
         Pulled {
             octet,
             begun,
-            orders: Orders::none(),
+            orders: ShortList::none(),
         }
     }
 

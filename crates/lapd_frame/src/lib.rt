@@ -27,6 +27,7 @@ mod overlong;
 mod reading;
 mod refusals;
 mod services;
+mod short_lists;
 mod timers;
 mod writing;
 
@@ -40,6 +41,7 @@ pub use overlong::{Long, read_long};
 pub use reading::read;
 pub use refusals::Refusal;
 pub use services::Service;
+pub use short_lists::ShortList;
 pub use timers::{Order, Timer};
 pub use writing::write;
 

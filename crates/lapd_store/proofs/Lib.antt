@@ -1,4 +1,5 @@
 pub mod Entries
+pub mod Focus
 pub mod Ownership
 pub mod Queues
 pub mod StoreLemmas

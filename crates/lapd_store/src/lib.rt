@@ -16,6 +16,7 @@
 #![tactic(auto)]
 
 mod fault;
+mod releases;
 mod shelf;
 mod slab_shelf;
 mod slot;

@@ -15,4 +15,5 @@ pub mod FramerLoad
 pub mod RoundTripPlaces
 pub mod RoundTripFrame
 pub mod OneEvent
+pub mod StreamLengths
 pub mod ReferenceSteps

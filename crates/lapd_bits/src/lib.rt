@@ -7,7 +7,7 @@
 //! - `framer`, over `stuffer`: from frames to octets.
 //! - `start_fault`: why neither could be started.
 //! - `check`: the frame check sequence.
-//! - `stuffing`, `one_event`, `round_trip`: laws, as functions with no effect.
+//! - `stuffing`, `one_event`, `heard_within`, `round_trip`: laws, as functions with no effect.
 //! - `reference`: for tests, a plain program that hears by the definitions.
 #![tactic(auto)]
 
@@ -16,6 +16,7 @@ mod deframer;
 mod framer;
 mod gap;
 mod heard;
+mod heard_within;
 mod one_event;
 #[cfg(test)]
 mod reference;
@@ -28,6 +29,7 @@ pub use check::{fcs, only_check};
 pub use deframer::Deframer;
 pub use framer::Framer;
 pub use heard::{Cause, Heard};
+pub use heard_within::heard_within_stream;
 pub use one_event::one_event_an_octet;
 pub use round_trip::frames_round_trip;
 pub use start_fault::StartFault;

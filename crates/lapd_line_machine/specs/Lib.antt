@@ -14,3 +14,4 @@ pub mod Stored
 pub mod Counts
 pub mod Deliveries
 pub mod Worked
+pub mod Sound

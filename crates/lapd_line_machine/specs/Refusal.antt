@@ -5,8 +5,8 @@ use Rattle.lapd_frame.specs.declared.refusals.Refusal.{Refusal}
 use Rattle.lapd_frame.specs.declared.refusals.Refusal.TheVariants.{BadTei, NoLink, WrongState, TooLong, QueueFull, PoolFull, TeiTaken, TableFull, CheckRunning, ControlFull}
 use Rattle.lapd_link_machine.specs.Events as link
 use Rattle.lapd_link_machine.specs.Requests.{serves, is_queue_full}
+use Rattle.lapd_tei.specs.Machine.{messages_limit}
 use Rattle.lapd_tei.specs.Table.{free_place}
-use Rattle.lapd_tei.specs.Words.{is_full}
 use Rattle.lapd_line_machine.specs.declared.config.Config.{Config}
 use Rattle.lapd_line_machine.specs.Request.{Request, Establish, Release, Data, Unit, Assign, Remove, Check, SetBusy, ClearBusy}
 use Rattle.lapd_line_machine.specs.Line.{Line, terms, has_tei, link_of}
@@ -61,7 +61,7 @@ abbrev pub check_running : Line → Row
 check_running l = record { why = CheckRunning; holds = is_some l.management.check }
 
 abbrev pub control_full : Line → Row
-control_full l = record { why = ControlFull; holds = is_full l.management }
+control_full l = record { why = ControlFull; holds = nat_le messages_limit (length l.management.waiting) }
 
 -- The rows that apply to a request, in order, while the card's pool is full or not.
 abbrev pub rows : Config → Bool → Request → Line → List Row

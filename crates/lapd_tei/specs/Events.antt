@@ -5,7 +5,7 @@ use Rattle.lapd_frame.specs.declared.refusals.Refusal.TheVariants.{NoLink, TeiTa
 use Rattle.lapd_tei.specs.Messages.{heard_in, frame_of}
 use Rattle.lapd_tei.specs.Table.{is_on, free_place}
 use Rattle.lapd_tei.specs.Machine.{Management, Told}
-use Rattle.lapd_tei.specs.Words.{Course, begun, Step, is_full, begin_check}
+use Rattle.lapd_tei.specs.Words.{Course, begun, Step, no_room, begin_check}
 use Rattle.lapd_tei.specs.Rows.{serve, expire, put_on, take_off}
 
 -- The information of a UI frame of SAPI 63 to the group TEI; the expiry of T201; and the requests of layer management, of a TEI of
@@ -25,9 +25,9 @@ unfoldable pub refusal : Event → Management → Option Refusal
 refusal (message octets) m = None
 refusal expiry m = None
 refusal (assign tei) m = refusal_if (is_on tei m.places) TeiTaken (refusal_if (not (is_some (free_place m.places))) TableFull None)
-refusal (remove tei) m = refusal_if (not (is_on tei m.places)) NoLink (refusal_if (is_full m) ControlFull None)
+refusal (remove tei) m = refusal_if (not (is_on tei m.places)) NoLink (refusal_if (no_room m.waiting) ControlFull None)
 refusal (check tei) m =
-    refusal_if (not (is_on tei m.places)) NoLink (refusal_if (is_some m.check) CheckRunning (refusal_if (is_full m) ControlFull None))
+    refusal_if (not (is_on tei m.places)) NoLink (refusal_if (is_some m.check) CheckRunning (refusal_if (no_room m.waiting) ControlFull None))
 
 -- What an event does that is not refused.
 abbrev pub step : Event → Step

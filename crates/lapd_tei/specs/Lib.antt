@@ -5,4 +5,6 @@ pub mod Machine
 pub mod Words
 pub mod Rows
 pub mod Events
+pub mod Outcome
+pub mod Sound
 pub mod Worked

@@ -21,6 +21,13 @@ information_of (IdentityDenied ri) = information ri 3 127
 information_of (IdentityCheckRequest tei) = information 0 4 tei
 information_of (IdentityRemove tei) = information 0 6 tei
 
+-- the action indicator
+abbrev pub action_of : Message → ℕ
+action_of (IdentityAssigned ri tei) = tei
+action_of (IdentityDenied ri) = 127
+action_of (IdentityCheckRequest tei) = tei
+action_of (IdentityRemove tei) = tei
+
 -- Each goes to the group in a UI command of SAPI 63 with P 0 (clause 5.3.1).
 abbrev pub frame_of : Message → List ℕ
 frame_of message =

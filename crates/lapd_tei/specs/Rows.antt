@@ -1,5 +1,5 @@
 -- The table of TEI management (Q.921 clause 5.3): one equation for each row.
-use Rattle.std.specs.Prelude.{ℕ, ◌+◌, Bool, false, not, ◌&&◌, ◌==◌, nat_le, Option, Some, None, is_some, option_map, if◌then◌else◌}
+use Rattle.std.specs.Prelude.{ℕ, ◌+◌, Bool, false, not, ◌&&◌, ◌==◌, nat_le, List, Option, Some, None, is_some, option_map, if◌then◌else◌}
 use Rattle.std.specs.List.{find}
 use Rattle.lapd_frame.specs.declared.notes.Note.TheVariants.{Assigned, Removed, Doubled}
 use Rattle.lapd_frame.specs.declared.timers.Order.TheVariants.{Start}
@@ -7,7 +7,7 @@ use Rattle.lapd_frame.specs.declared.timers.Timer.TheVariants.{T201}
 use Rattle.lapd_tei.specs.Messages.{IdentityAssigned, IdentityDenied, IdentityCheckRequest, IdentityRemove, Heard, IdentityRequest, IdentityCheckResponse, IdentityVerify}
 use Rattle.lapd_tei.specs.Table.{is_on, free_place, free_tei}
 use Rattle.lapd_tei.specs.Machine.{Management, Remembered, Check, Period, First, Second}
-use Rattle.lapd_tei.specs.Words.{Step, ◌then◌, is_full, send, lose_one, note, order, unserved, join, remember, leave, check_is, begin_check, end_check}
+use Rattle.lapd_tei.specs.Words.{Step, ◌then◌, no_room, send, lose_one, note, order, unserved, join, remember, leave, check_is, begin_check, end_check}
 
 -- An identity request for any TEI (clause 5.3.2) is served by the first case that holds (profile).
 
@@ -18,8 +18,8 @@ is_for ri r = r.ri == ri
 abbrev pub tei_in : Remembered → ℕ
 tei_in r = r.tei
 
-abbrev pub remembered_for : ℕ → Management → Option ℕ
-remembered_for ri m = option_map tei_in (find (is_for ri) m.remembered)
+abbrev pub remembered_in : ℕ → List Remembered → Option ℕ
+remembered_in ri remembered = option_map tei_in (find (is_for ri) remembered)
 
 -- A place is free, and a TEI: the lowest of both. Else the request is denied. (A table that has a free place and fewer than 64 has a
 -- free TEI too.)
@@ -36,7 +36,7 @@ assign ri None c = assign_new ri (free_place c.now.places) (free_tei c.now.place
 
 -- There is no room for an answer: nothing is assigned, and the answer is lost.
 abbrev pub request : ℕ → Step
-request ri c = (if is_full c.now then lose_one else assign ri (remembered_for ri c.now)) c
+request ri c = (if no_room c.now.waiting then lose_one else assign ri (remembered_in ri c.now.remembered)) c
 
 -- A verify asks for a check of a TEI (clause 5.3.5): one that is on the line, while no check runs.
 abbrev pub may_be_checked : ℕ → Management → Bool
@@ -59,12 +59,12 @@ responses check = elim check.period [ First ↦ check.first | Second ↦ check.s
 abbrev pub doubled : ℕ → Step
 doubled tei = note (Doubled tei) then send (IdentityRemove tei) then end_check then leave tei
 
-abbrev pub count : Check → Step
-count check = if nat_le 2 (responses check) then doubled check.tei else check_is (Some check)
+abbrev pub count : ℕ → Check → Step
+count tei check = if nat_le 2 (responses check) then doubled tei else check_is (Some check)
 
 abbrev pub respond : ℕ → Option Check → Step
 respond tei None = unserved
-respond tei (Some check) = if check.tei == tei then count (counted check) else unserved
+respond tei (Some check) = if check.tei == tei then count tei (counted check) else unserved
 
 -- What a message of a terminal leads to.
 abbrev pub serve : Option Heard → Step

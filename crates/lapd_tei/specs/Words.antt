@@ -1,5 +1,5 @@
 -- The words of which the rows of the table are made. Each is a step of an event that is under way.
-use Rattle.std.specs.Prelude.{ℕ, ◌+◌, ◌-◌, Bool, true, not, ◌==◌, nat_lt, List, [], ◌∷◌, ◌++◌, length, drop, filter, Option, Some, None, option_map, set, if◌then◌else◌}
+use Rattle.std.specs.Prelude.{ℕ, ◌+◌, ◌-◌, Bool, true, not, ◌==◌, nat_le, List, [], ◌∷◌, ◌++◌, length, drop, filter, Option, Some, None, option_map, set, if◌then◌else◌}
 use Rattle.lapd_frame.specs.declared.notes.Note.{Note}
 use Rattle.lapd_frame.specs.declared.timers.Order.{Order}
 use Rattle.lapd_frame.specs.declared.timers.Order.TheVariants.{Start, Stop}
@@ -25,22 +25,22 @@ abbrev pub ◌then◌ : Step → Step → Step
 (first then second) c = second (first c)
 
 -- A message is sent: it waits, or it is lost where as many wait as may (profile).
-abbrev pub is_full : Management → Bool
-is_full m = not (nat_lt (length m.waiting) messages_limit)
+abbrev pub no_room : List Message → Bool
+no_room waiting = nat_le messages_limit (length waiting)
 
-abbrev pub with_sent : Message → Management → List Message
-with_sent message m = if is_full m then m.waiting else m.waiting ++ message ∷ []
+abbrev pub with_message : Message → List Message → List Message
+with_message message waiting = if no_room waiting then waiting else waiting ++ message ∷ []
 
-abbrev pub lost_by_sending : Management → ℕ
-lost_by_sending m = if is_full m then 1 else 0
+abbrev pub lost_after : List Message → ℕ → ℕ
+lost_after waiting lost = if no_room waiting then lost + 1 else lost
 
 abbrev pub send : Message → Step
 send message c = record c {
-  now = record c.now { waiting = with_sent message c.now };
-  told = record c.told { lost = c.told.lost + lost_by_sending c.now };
+  now = record c.now { waiting = with_message message c.now.waiting };
+  told = record c.told { lost = lost_after c.now.waiting c.told.lost };
 }
 
--- a message that is not even made counts as lost
+-- A message that would find no room is not made, and counts as lost.
 abbrev pub lose_one : Step
 lose_one c = record c { told = record c.told { lost = c.told.lost + 1 } }
 

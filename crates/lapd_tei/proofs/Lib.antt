@@ -1,0 +1,4 @@
+pub mod Lists
+pub mod Tables
+pub mod Memories
+pub mod SoundWords

@@ -1,7 +1,6 @@
 //! What goes out on a line (clauses 2.2, 2.6 and 2.7): frames, and idle flags between them.
 ghost use Rattle.std.specs.Prelude.{◌≡◌, ℕ, ◌+◌, ◌<◌, ◌≤◌, ◌↔◌, Bool, List, [], ◌∷◌, ◌++◌, length, take, min, IsTrue, IfOk, if◌then◌else◌};
-ghost use Rattle.lapd_bits.specs.Bits.{low_bits, flag};
-ghost use Rattle.lapd_bits.specs.Stuffing.{number_of};
+ghost use Rattle.lapd_bits.specs.Bits.{low_bits, flag, number_of};
 ghost use Rattle.lapd_bits.specs.Sent.{Item, frame, item_text};
 ghost use Rattle.lapd_bits.specs.Framer.{Framing, Stands, refilled, with_idle, still_held};
 ghost use Rattle.lapd_bits.specs.FramerText.{begun};

@@ -7,12 +7,13 @@
 //! - `framer`, over `stuffer`: from frames to octets.
 //! - `start_fault`: why neither could be started.
 //! - `check`: the frame check sequence.
-//! - `stuffing`, `one_event`, `heard_within`, `round_trip`: laws, as functions with no effect.
+//! - `stuffing`, `one_event`, `heard_within`, `flag_places`, `round_trip`: laws, as functions with no effect.
 //! - `reference`: for tests, a plain program that hears by the definitions.
 #![tactic(auto)]
 
 mod check;
 mod deframer;
+mod flag_places;
 mod framer;
 mod gap;
 mod heard;
@@ -27,8 +28,9 @@ mod stuffing;
 
 pub use check::{fcs, only_check};
 pub use deframer::Deframer;
+pub use flag_places::{abort_after_flag, flag_after_flag};
 pub use framer::Framer;
-pub use heard::{Cause, Heard};
+pub use heard::{Cause, Ended, Heard};
 pub use heard_within::heard_within_stream;
 pub use one_event::one_event_an_octet;
 pub use round_trip::frames_round_trip;

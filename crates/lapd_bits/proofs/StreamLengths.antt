@@ -69,9 +69,6 @@ pub record IsWeight (room : ℕ) (w : Event → ℕ) : Type 0 where
   pub within : (octets : List ℕ) → w (judged room octets) ≤ length octets + 1
 
 module _ (room : ℕ) (w : Event → ℕ) (is : IsWeight room w) where
-
-
-
   text_weight : (text : List Bool) (o : Option (List ℕ)) → octets_sent text ≡ o → 8 * w (text_event room o) ≤ length text + 8
   text_weight text None e = omega (arith, is.free Ragged)
   text_weight text (Some octets) e = omega (arith, is.within octets, octets_within_text text octets e)

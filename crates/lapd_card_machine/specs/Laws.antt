@@ -41,10 +41,10 @@ StoredWithinLimit = (card : Card) → IsSound card → stored card ≤ limit car
 -- nothing changes.
 pub record RefusedByTheTable : Type 0 where
   pub refused_exactly : (card : Card) (number : ℕ) (r : Request) (why : Refusal) →
-    (answer (at number (request r)) card ≡ refused why)
-    ↔ (refusal card.config (is_full card) r (line_at number card) ≡ Some why)
+      (answer (at number (request r)) card ≡ refused why)
+      ↔ (refusal card.config (is_full card) r (line_at number card) ≡ Some why)
   pub unchanged : (card : Card) (number : ℕ) (r : Request) →
-    IsSome (refusal card.config (is_full card) r (line_at number card)) → after (at number (request r)) card ≡ card
+      IsSome (refusal card.config (is_full card) r (line_at number card)) → after (at number (request r)) card ≡ card
 
 -- The frames sent, and those that may still be sent, rise by at most two for each frame that is recognised, by one for each
 -- request that is accepted, by k + 1 for each expiry of a running timer, and by k for each REJ with a valid N(R). Pulls, drops and
@@ -72,10 +72,10 @@ FramesLinear =
 -- Each link's deliveries are numbered, from 0 on since its establishment.
 pub record DeliveriesNumbered : Type 0 where
   pub numbered : (card : Card) (events : List Event) (name : LinkName) →
-    IsSound card → AreAtLines card events → name.line < card.config.lines → name.number < link_count card.config →
-    let h = history name card (moments card events) in AreNumbered h.first h.shares
+      IsSound card → AreAtLines card events → name.line < card.config.lines → name.number < link_count card.config →
+      let h = history name card (moments card events) in AreNumbered h.first h.shares
   pub from_zero : (c : Config) (events : List Event) (name : LinkName) → IsInRange c → AreAtLines (fresh c) events →
-    name.line < c.lines → name.number < link_count c → (history name (fresh c) (moments (fresh c) events)).first ≡ 0
+      name.line < c.lines → name.number < link_count c → (history name (fresh c) (moments (fresh c) events)).first ≡ 0
 
 -- The octets pulled of a line go on with its text.
 abbrev pub TextGoesOn : Type 0

@@ -63,6 +63,6 @@ contents_of i (Some frame) = if frame.ns.value == i % 128 then Some frame.conten
 abbrev pub AreNumbered : ℕ → List Share → Type 0
 AreNumbered i [] = Unit {0}
 AreNumbered i (share ∷ shares) = elim (contents_of i share.arrived) [
-    None ↦ (share.delivered ≡ None) × AreNumbered i shares
+  | None ↦ (share.delivered ≡ None) × AreNumbered i shares
   | Some contents ↦ (share.delivered ≡ Some contents) × AreNumbered (i + 1) shares
-  ]
+]

@@ -51,7 +51,7 @@ pull_on_0 = at 0 pull
 ua_is_pulled :
     answers_after usual up (pull_on_0 ∷ pull_on_0 ∷ pull_on_0 ∷ pull_on_0 ∷ pull_on_0 ∷ pull_on_0 ∷ pull_on_0 ∷ [])
     ≡ pulled 0x7E false [] ∷ pulled 0x00 true [] ∷ pulled 0x81 false [] ∷ pulled 0x73 false [] ∷ pulled 0xC4 false []
-      ∷ pulled 0x12 false [] ∷ pulled 0x7E false [] ∷ []
+    ∷ pulled 0x12 false [] ∷ pulled 0x7E false [] ∷ []
 unfolding lines.after lines.answer lines.takes_slot reading header_of control_of unnumbered_of teis.course teis.refusal low_bits
 ua_is_pulled = refl
 

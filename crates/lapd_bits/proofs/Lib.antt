@@ -17,3 +17,4 @@ pub mod FramerLoad
 pub mod RoundTripPlaces
 pub mod RoundTripFrame
 pub mod OneEvent
+pub mod StreamLengths

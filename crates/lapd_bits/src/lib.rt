@@ -11,7 +11,7 @@
 //! - `framer`, over `stuffer`: from frames to octets.
 //! - `start_fault`: why neither could be started.
 //! - `check`: the frame check sequence.
-//! - `stuffing`, `one_event`, `flag_places`, `round_trip`: laws, as functions with no effect.
+//! - `stuffing`, `one_event`, `heard_within`, `flag_places`, `round_trip`: laws, as functions with no effect.
 #![tactic(auto)]
 
 mod check;
@@ -20,6 +20,7 @@ mod flag_places;
 mod framer;
 mod gap;
 mod heard;
+mod heard_within;
 mod one_event;
 mod round_trip;
 mod start_fault;
@@ -31,6 +32,7 @@ pub use deframer::Deframer;
 pub use flag_places::{abort_after_flag, flag_after_flag};
 pub use framer::Framer;
 pub use heard::{Cause, Ended, Heard};
+pub use heard_within::heard_within_stream;
 pub use one_event::one_event_an_octet;
 pub use round_trip::frames_round_trip;
 pub use start_fault::StartFault;

@@ -8,3 +8,7 @@ pub mod SoundEvents
 pub mod Owes
 pub mod RiseRows
 pub mod RiseEvents
+pub mod Counting
+pub mod CountRows
+pub mod Delivering
+pub mod Numbering

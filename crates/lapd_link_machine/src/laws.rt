@@ -1,10 +1,12 @@
 //! What holds of the machine itself. Each law is the contract of a call that does nothing.
 
-ghost use Rattle.std.specs.Prelude.{◌≤◌, ◌+◌, ◌*◌, List};
+ghost use Rattle.std.specs.Prelude.{◌≡◌, ℕ, ◌+◌, ◌*◌, ◌%◌, ◌≤◌, List};
 ghost use Rattle.lapd_link_machine.specs.declared.terms.Terms.{Terms};
 ghost use Rattle.lapd_link_machine.specs.Link.{Link, fresh};
 ghost use Rattle.lapd_link_machine.specs.Events.{Event, offer};
-ghost use Rattle.lapd_link_machine.specs.Machine.{after, after_all};
+ghost use Rattle.lapd_link_machine.specs.Machine.{after, after_all, told};
+ghost use Rattle.lapd_link_machine.specs.Deliveries.{Arrived, eligible};
+ghost use Rattle.lapd_link_machine.specs.Numbered.{History, nothing_yet, with_event, with_all, IsNumbered};
 ghost use Rattle.lapd_link_machine.specs.Rises.{waiting, sent, price, sent_in_all, price_of_all};
 ghost use Rattle.lapd_link_machine.specs.Sound.{IsInRange, IsSound};
 
@@ -30,4 +32,19 @@ pub fn rises()
     // For a list of events it is the sum of their prices.
     ensures list { (t : Terms) (es : List Event) (l : Link) → IsInRange t → IsSound t l →
         sent_in_all t es l + waiting t (after_all t es l) ≤ waiting t l + price_of_all t es l }
+{}
+
+/// What a link delivers since an establishment are, in order, the contents of the first eligible
+/// I-frame with N(S) 0, of the first after it with N(S) 1, and so on modulo 128; after the last
+/// one, no eligible frame has the next number. V(R) counts them (Q.921 clauses 3.5.2.4 to
+/// 3.5.2.6). An I-frame is eligible where it has at most N201 octets and meets state 7 or 8 with
+/// own busy off; an establishment is an event in which the numbers are set to zero, or the link is
+/// cleared.
+pub fn numbered()
+    ensures begins { IsNumbered nothing_yet fresh }
+    ensures each { (t : Terms) (e : Event) (l : Link) (h : History) → IsNumbered h l → IsNumbered (with_event t e l h) (after t e l) }
+    // Contents are delivered in the event that brings their frame.
+    ensures at_once { (t : Terms) (e : Event) (l : Link) (contents : List ℕ) → (told t e l).delivered ≡ Some contents →
+        (i : Arrived) × (eligible t e l ≡ Some i) × (i.contents ≡ contents) × (i.ns.value ≡ l.r % 128) }
+    ensures always { (t : Terms) (es : List Event) → IsNumbered (with_all t es fresh nothing_yet) (after_all t es fresh) }
 {}

@@ -6,6 +6,8 @@ pub mod StuffingOctets
 pub mod StuffingClosed
 pub mod Places
 pub mod Hearing
+pub mod FlagPlaces
+pub mod Latest
 pub mod Assembly
 pub mod BitSteps
 pub mod FramerBits

@@ -1,8 +1,8 @@
 -- The plain program of the tests against the patterns of the definitions.
 use Rattle.std.proofs.Common.{◌≡◌, ℕ, zero, suc, ◌+◌, ◌-◌, ◌/◌, ◌%◌, ◌<◌, ◌≤◌, Bool, true, false, List, [], ◌∷◌, ◌++◌, length, take, drop, nat_eq, Option, Some, option_and_then, if◌then◌else◌, refl, ap, sym, ◌∙◌, add-one, arith, length-drop}
 use Rattle.std.proofs.Math.Seq.{take-length}
-use Rattle.lapd_bits.specs.Bits.{low_bits, flag}
-use Rattle.lapd_bits.specs.Stuffing.{stuffed, unstuffed, number_of, octets_of}
+use Rattle.lapd_bits.specs.Bits.{low_bits, flag, number_of, octets_of}
+use Rattle.lapd_bits.specs.Stuffing.{stuffed, unstuffed}
 use Rattle.lapd_bits.specs.Stream.{ends_flag, since_flag, given_up, closed_by_flag, heard_at}
 use Rattle.lapd_bits.specs.Reference.{begins}
 

@@ -1,7 +1,6 @@
 //! What goes out on a line (clauses 2.2, 2.6 and 2.7): frames, and idle flags between them.
 ghost use Rattle.std.specs.Prelude.{◌≡◌, ℕ, ◌+◌, ◌<◌, ◌≤◌, ◌↔◌, Bool, List, [], ◌∷◌, ◌++◌, length, take, min, IsTrue, IfOk, if◌then◌else◌};
-ghost use Rattle.lapd_bits.specs.Bits.{low_bits, flag};
-ghost use Rattle.lapd_bits.specs.Stuffing.{number_of};
+ghost use Rattle.lapd_bits.specs.Bits.{low_bits, flag, number_of};
 ghost use Rattle.lapd_bits.specs.Sent.{Item, frame, item_text};
 ghost use Rattle.lapd_bits.specs.Framer.{Framing, Stands, refilled, with_idle, still_held};
 ghost use Rattle.lapd_bits.specs.FramerText.{begun};
@@ -19,7 +18,7 @@ const FLAG_BITS: u8 = 8;
 /// closing flag, and idle flags where no frame waits (Q.921 clauses 2.2, 2.6 and 2.7).
 ///
 /// All its memory is taken by [`Framer::start`].
-#[derive(Drop)]
+#[derive(Drop, Debug)]
 pub struct Framer {
     /// The frame in hand with its check; empty where none is.
     frame: Vec<u8>,
@@ -91,7 +90,11 @@ impl Framer {
         }
     }
 
-    /// Takes the frame of these octets, without its check: `head`, and then `info`. It follows what is left.
+    /// Takes the frame of these octets, without its check: `head`, its address and control field, and then `info`, its
+    /// information. It goes out after the bits that are left, with its check and a closing flag.
+    ///
+    /// Fewer than eight bits may be left ([`Framer::busy`] is false). `head` has at most 4 octets, `info` at most the
+    /// `n201` of the start, and both together at least 3.
     pub fn load(&mut self, head: &[u8], info: &[u8])
         requires not_busy { length self.old.left < 8 }
         requires head { length head.now ≤ 4 }

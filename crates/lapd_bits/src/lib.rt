@@ -3,16 +3,21 @@
 //! A [`Deframer`] hears the frames in the octets of a line, and a [`Framer`] gives the octets for frames to be
 //! sent. Both take all their memory when they start.
 //!
+//! A *gap* is what stands between two flags that follow one another. The *open gap* is what has come since the latest
+//! flag, as long as no seven 1s have given it up. An *item* is what is sent after a line's opening flag: an idle flag, or
+//! a stuffed frame with its check and its closing flag.
+//!
 //! - `deframer`, over `gap`: from octets to frames; `heard`: what it answers.
 //! - `framer`, over `stuffer`: from frames to octets.
 //! - `start_fault`: why neither could be started.
 //! - `check`: the frame check sequence.
-//! - `stuffing`, `one_event`, `round_trip`: laws, as functions with no effect.
+//! - `stuffing`, `one_event`, `flag_places`, `round_trip`: laws, as functions with no effect.
 //! - `reference`: for tests, a plain program that hears by the definitions.
 #![tactic(auto)]
 
 mod check;
 mod deframer;
+mod flag_places;
 mod framer;
 mod gap;
 mod heard;
@@ -26,8 +31,9 @@ mod stuffing;
 
 pub use check::{fcs, only_check};
 pub use deframer::Deframer;
+pub use flag_places::{abort_after_flag, flag_after_flag};
 pub use framer::Framer;
-pub use heard::{Cause, Heard};
+pub use heard::{Cause, Ended, Heard};
 pub use one_event::one_event_an_octet;
 pub use round_trip::frames_round_trip;
 pub use start_fault::StartFault;

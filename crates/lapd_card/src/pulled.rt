@@ -5,7 +5,7 @@ ghost use Rattle.std.specs.Prelude.{◌≡◌, []};
 use lapd_frame::{Order, ShortList};
 
 /// What a pull gives.
-#[derive(Clone, Copy)]
+#[derive(Clone, Copy, PartialEq, Eq, Debug)]
 pub struct Pulled {
     /// The next octet of the line.
     pub octet: u8,

@@ -7,7 +7,7 @@ use lapd_bits::Cause;
 use lapd_frame::{Note, Order, Refusal, ShortList};
 
 /// What an octet or an accepted request led to.
-#[derive(Clone, Copy)]
+#[derive(Clone, Copy, PartialEq, Eq, Debug)]
 pub struct Report<'a> {
     notes: ShortList<Note>,
     orders: ShortList<Order>,
@@ -91,7 +91,7 @@ impl<'a> Report<'a> {
 }
 
 /// The answer to an event.
-#[derive(Clone, Copy)]
+#[derive(Clone, Copy, PartialEq, Eq, Debug)]
 pub enum Reply<'a> {
     /// To an octet, or to a request that was accepted.
     Report(Report<'a>),

@@ -10,7 +10,7 @@
 //! - `overlong`: `read_long`, what the first four octets tell of a frame that is too long to keep.
 //! - `writing`: `write`, from a frame to octets.
 //! - `laws`: `one_spelling`, what holds of the grammar itself.
-//! - `services`, `timers`, `notes`, `refusals`: the types that links, lines and their users share.
+//! - `services`, `timers`, `notes`, `refusals`, `short_lists`: the types that links, lines and their users share.
 //!
 //! The grammar stands in `specs/Grammar.antt`, one equation for each row of table 5. No call takes
 //! memory, and nothing is copied but by `write`.

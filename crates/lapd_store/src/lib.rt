@@ -11,8 +11,8 @@
 //! - [`SlabShelf`]: a shelf over a slab of octet vectors;
 //! - [`SlotQueue`]: a ring of slots of fixed capacity;
 //! - `specs/Store.antt`: a shelf as a finite map, with which the contracts speak of it;
-//! - `specs/Ownership.antt`: how several owners share a shelf, with its laws in `proofs/Ownership.antt` and, for an owner
-//!   that is a queue of slots, in `proofs/Queues.antt`.
+//! - `specs/Ownership.antt`: how several owners share a shelf, with its laws in `proofs/Ownership.antt`; for an owner that
+//!   is a queue of slots in `proofs/Queues.antt`, and for one of many owners in `proofs/Focus.antt`.
 #![tactic(auto)]
 
 mod fault;

@@ -1,5 +1,5 @@
 use Rattle.std.proofs.Common.{◌≡◌, ℕ, List, ◌∷◌, take, drop, IfOk, ap, sym, ◌∙◌, subst}
-use Rattle.lapd_bits.specs.Stuffing.{number_of, octets_of}
+use Rattle.lapd_bits.specs.Bits.{number_of, octets_of}
 use Rattle.lapd_bits.proofs.ReferenceSteps.{octets_of-more, take-rest}
 use Rattle.lapd_bits.proofs.reference.+octets_in.Goals as goal
 

@@ -4,8 +4,8 @@ use Rattle.lapd_bits.specs.Deframer.{HoldsPast}
 use Rattle.lapd_bits.specs.Ended.{FitsIn}
 use Rattle.lapd_bits.specs.Heard.{event_in}
 use Rattle.lapd_bits.specs.Steps.{IsYoung, with_bits}
-use Rattle.lapd_bits.specs.declared.gap.Ended.TheVariants as ended
-use Rattle.lapd_bits.proofs.deframer.Deframer.step.Given as goal
+use Rattle.lapd_bits.specs.declared.heard.Ended.TheVariants as ended
+use Rattle.lapd_bits.proofs.deframer.Deframer.hear.Given as goal
 
 abbrev pub invariant-loop-place : goal.invariant-loop-place
 invariant-loop-place l =

@@ -19,7 +19,7 @@ frame_in_5 t (Disc p) = send t (response (Dm p))
 frame_in_5 t (Ua true) =
     depending_on is_asked (establish_confirm t) (depending_on has_outstanding (discard then establish_indication t) nothing)
     then zero_numbers then start T203 then enter Established
--- appendix II
+-- clause 5.8.7
 frame_in_5 t (Ua false) = error t code.D
 -- clause 5.5.1.2
 frame_in_5 t (Dm true) = discard then release_indication t then no_timer then enter TeiAssigned

@@ -18,7 +18,7 @@ frame_in_6 t (Disc p) = send t (response (Ua p))
 -- clause 5.5.3.2
 frame_in_6 t (Ua true) = release_confirm t then no_timer then enter TeiAssigned
 frame_in_6 t (Dm true) = release_confirm t then no_timer then enter TeiAssigned
--- appendix II
+-- clause 5.8.7
 frame_in_6 t (Ua false) = error t code.D
 -- clause 5.5.3.2; DM with F=0 is among them
 frame_in_6 t other = refuse_frame

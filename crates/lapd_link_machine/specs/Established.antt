@@ -37,7 +37,7 @@ acknowledged_by_rnr_in_7 n = acknowledge n then start T200
 abbrev pub acknowledged_by_rej_in_7 : ℕ → Step
 acknowledged_by_rej_in_7 n = acknowledge n then send_again_from n then start T203
 
--- A response with F=1 that no command asked for: error A (appendix II).
+-- A response with F=1 that no command asked for: error A (clause 5.8.7).
 abbrev pub unsolicited : Terms → Bool → Bool → Step
 unsolicited t is_command pf = by_bit (is_final is_command pf) (error t code.A) nothing
 
@@ -56,9 +56,9 @@ frame_in_7 t is_command octets (Reject nr pf) =
     peer_busy_is false then answered t is_command pf then unsolicited t is_command pf then by_number t nr acknowledged_by_rej_in_7
 -- clauses 5.5.1.2 and 5.7
 frame_in_7 t is_command octets (Sabme p) = sabme_in_7_8 t p
--- clause 5.5.3.1
+-- clause 5.5.3.2
 frame_in_7 t is_command octets (Disc p) = disc_in_7_8 t p
--- appendix II
+-- clause 5.8.7
 frame_in_7 t is_command octets (Ua f) = ua_in_7_8 t f
 frame_in_7 t is_command octets (Dm true) = error t code.B
 -- clause 5.7.1

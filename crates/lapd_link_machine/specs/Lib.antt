@@ -16,3 +16,7 @@ pub mod Machine
 pub mod Sound
 pub mod Rises
 pub mod Deliveries
+pub mod Worked
+pub mod WorkedRelease
+pub mod WorkedTransfer
+pub mod WorkedRuns

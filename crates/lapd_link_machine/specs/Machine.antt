@@ -27,7 +27,7 @@ use Rattle.lapd_link_machine.specs.Offers.{offer_step}
 
 -- What comes from the terminal.
 
--- In every state a UI of at most N201 octets is told (clause 5.2.2); a longer one is not served (profile).
+-- In every state a UI of at most N201 octets is told (clause 5.2.3); a longer one is not served (profile).
 abbrev pub unit_data : Terms → List ℕ → Step
 unit_data t octets = by_bit (nat_lt t.n201 (length octets)) refuse_frame (deliver_unit t octets)
 
@@ -56,7 +56,7 @@ frame_step t is_command octets (Ua f) c = frame_in c.link.state t is_command oct
 frame_step t is_command octets (Dm f) c = frame_in c.link.state t is_command octets (Dm f) c
 frame_step t is_command octets (Frmr f) c = frame_in c.link.state t is_command octets (Frmr f) c
 
--- Frames that the grammar doesn't have, or that were too long to keep (clauses 5.8.4 and 5.8.5).
+-- Frames that the grammar doesn't have, or that were too long to keep (clause 5.8.5).
 abbrev pub malformed_in : State → Terms → ErrorCode → Step
 malformed_in TeiAssigned t e = malformed_in_4
 malformed_in AwaitingEstablishment t e = malformed_in_5
@@ -93,7 +93,7 @@ expire_running timer t c = expired_in c.link.state timer t c
 abbrev pub expired_step : Terms → LinkTimer → Step
 expired_step t timer = depending_on (is_running timer) (expire_running timer t) nothing
 
--- The TEI leaves the line (clause 5.5.3, MDL-REMOVE): layer 3 is told as the state has it, and the link is as one that begins.
+-- The TEI leaves the line (clause 5.3.4, MDL-REMOVE request): layer 3 is told as the state has it, and the link is as one that begins.
 abbrev pub told_of_clearing : State → Terms → Step
 told_of_clearing TeiAssigned t = nothing
 told_of_clearing AwaitingEstablishment t = release_indication t

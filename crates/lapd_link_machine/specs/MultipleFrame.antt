@@ -15,7 +15,7 @@ use Rattle.lapd_link_machine.specs.Words.{error, deliver, establish_indication, 
 
 -- Requests of layer 3.
 
--- clause 5.5.3.1
+-- clause 5.5.3.2
 abbrev pub release_in_7_8 : Terms → Step
 release_in_7_8 t =
     discard then pending_is false then send t (command (Disc true)) then repeats_are 0 then start T200 then enter AwaitingRelease
@@ -44,17 +44,17 @@ sabme_in_7_8 t p =
     then depending_on has_outstanding (discard then establish_indication t) nothing
     then zero_numbers then start T203 then enter Established
 
--- DISC: the terminal releases the link (clause 5.5.3.1)
+-- DISC: the terminal releases the link (clause 5.5.3.2)
 abbrev pub disc_in_7_8 : Terms → Bool → Step
 disc_in_7_8 t p =
     discard then pending_is false then send t (response (Ua p)) then release_indication t then no_timer then enter TeiAssigned
 
--- UA: error C with F=1, D with F=0 (appendix II)
+-- UA: error C with F=1, D with F=0 (clause 5.8.7)
 abbrev pub ua_in_7_8 : Terms → Bool → Step
 ua_in_7_8 t f = by_bit f (error t code.C) (error t code.D)
 
 -- An error that is told, and after which the link is established again: DM with F=0 (E), FRMR (K), an undefined frame (L),
--- one of wrong size (N), an I-frame over N201 (O) (clauses 5.7.1, 5.8.4 and 5.8.5, appendix II).
+-- one of wrong size (N), an I-frame over N201 (O) (clauses 5.7.1, 5.8.5 and 5.8.6, appendix II).
 abbrev pub failed : Terms → ErrorCode → Step
 failed t e = error t e then re_establish t
 
@@ -68,7 +68,7 @@ is_next ns l = ns.value == (seq l.r).value
 abbrev pub dropped : Terms → Bool → Step
 dropped t p = by_bit p (answer t) nothing
 
--- N(S) = V(R): the contents are delivered (clause 5.6.2.1).
+-- N(S) = V(R): the contents are delivered (clause 5.6.2).
 abbrev pub in_sequence : Terms → Bool → List ℕ → Step
 in_sequence t p octets =
     count_received then rejecting_is false then deliver t octets then by_bit p (answer t) (pending_is true)
@@ -86,7 +86,7 @@ abbrev pub information_in_7_8 : Terms → Seq → Seq → Bool → List ℕ → 
 information_in_7_8 t ns nr p octets effect =
     by_bit (nat_lt t.n201 (length octets)) (failed t code.O) (contents_in_7_8 t ns p octets then by_number t nr effect)
 
--- Supervisory frames: a command with P=1 is answered (clause 5.6.2, 5.6.5).
+-- Supervisory frames: a command with P=1 is answered (clauses 5.6.3 to 5.6.5).
 abbrev pub answered : Terms → Bool → Bool → Step
 answered t is_command pf = by_bit (is_command && pf) (answer t) nothing
 

@@ -58,7 +58,7 @@ send_information =
     give_information then changed with_one_sent then pending_is false
     then depending_on is_awaiting_acknowledgement nothing (start T200)
 
--- The acknowledgement that is owed: RR with F=0 (clause 5.6.2.1).
+-- The acknowledgement that is owed: RR with F=0 (clause 5.6.3.1).
 abbrev pub is_pending : Link → Bool
 is_pending l = l.pending
 

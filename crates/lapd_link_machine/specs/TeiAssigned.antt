@@ -15,7 +15,7 @@ frame_in_4 t (Sabme p) =
     send t (response (Ua p)) then clear_flags then zero_numbers then start T203 then establish_indication t then enter Established
 -- clause 5.5.4
 frame_in_4 t (Disc p) = send t (response (Dm p))
--- appendix II
+-- clause 5.8.7
 frame_in_4 t (Ua true) = error t code.C
 frame_in_4 t (Ua false) = error t code.D
 -- clause 5.5.4; for DM with F=0 the profile

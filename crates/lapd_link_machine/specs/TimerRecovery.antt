@@ -35,9 +35,9 @@ frame_in_8 t is_command octets (Reject nr pf) =
     peer_busy_is false then answered t is_command pf then by_number t nr (acknowledged_in_8 (is_final is_command pf) T203)
 -- clauses 5.5.1.2 and 5.7
 frame_in_8 t is_command octets (Sabme p) = sabme_in_7_8 t p
--- clause 5.5.3.1
+-- clause 5.5.3.2
 frame_in_8 t is_command octets (Disc p) = disc_in_7_8 t p
--- appendix II
+-- clause 5.8.7
 frame_in_8 t is_command octets (Ua f) = ua_in_7_8 t f
 -- clause 5.7.1
 frame_in_8 t is_command octets (Dm true) = failed t code.B

@@ -174,7 +174,7 @@ ready_to_receive pf l = cond l.own_busy (ReceiveNotReady (seq l.r) pf) (ReceiveR
 abbrev pub enquire : Terms → Step
 enquire t c = (send t (command (ready_to_receive true c.link)) then pending_is false) c
 
--- The answer to a command with P (clauses 5.6.2 and 5.8.1).
+-- The answer to a command with P (clauses 5.6.2.1 and 5.6.3).
 abbrev pub answer : Terms → Step
 answer t c = (send t (response (ready_to_receive true c.link)) then pending_is false) c
 
@@ -186,12 +186,12 @@ report_ready t c = (send t (response (ready_to_receive false c.link)) then pendi
 abbrev pub reject : Terms → Bool → Step
 reject t f c = (send t (response (Reject (seq c.link.r) f)) then pending_is false) c
 
--- The establishment is begun again (clause 5.7).
+-- The establishment is begun again (clause 5.7.2).
 abbrev pub re_establish : Terms → Step
 re_establish t =
     clear_flags then send t (command (Sabme true)) then repeats_are 0 then start T200 then asked_is false
     then enter AwaitingEstablishment
 
--- An N(R) means the one number of a..=s with that remainder; where there is none, it is invalid (clause 5.8.5).
+-- An N(R) means the one number of a..=s with that remainder; where there is none, it is invalid (clause 5.8.2).
 abbrev pub by_number : Terms → Seq → (ℕ → Step) → Step
 by_number t nr step c = elim (named c.link.a c.link.s nr) [ None ↦ (error t code.J then re_establish t) c | Some n ↦ step n c ]

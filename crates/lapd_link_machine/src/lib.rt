@@ -15,14 +15,18 @@
 //! - `timers`: `LinkTimer`, T200 and T203.
 //! - `frames`: `ControlFrame`, a frame without information that waits to be sent.
 //! - `terms`: `Terms`, the parameters of a link.
+//!
+//! - `laws`: what holds of the machine itself.
 #![tactic(auto)]
 
 mod frames;
+mod laws;
 mod states;
 mod terms;
 mod timers;
 
 pub use frames::ControlFrame;
+pub use laws::stays_sound;
 pub use states::State;
 pub use terms::Terms;
 pub use timers::LinkTimer;

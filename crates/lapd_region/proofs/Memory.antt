@@ -3,11 +3,11 @@ use Rattle.std.proofs.Common.{◌≡◌, ℕ, zero, suc, ◌+◌, ◌<◌, ◌�
 use Rattle.std.specs.Borrow.{full_share, u8}
 use seplogic.Ra.Ura.{Ura}
 use base.Logic.{ent, sep, wand, via, snd∗, id⊢, mono_r, apply∗}
-use base.Fml.{Lft, Fml, fat, froom}
+use base.Fml.{Lft, froom}
 use mir.Syntax.{ty_int, w8, ty_array}
 use mir.Val.{vint}
 use types.Logic.{Logic, sem}
-use types.Kit.{‵, raw, ◌⊛◌, ◌$◌, ◌∵◌, !, qed, by, move, keep, use1, use2, split, fsplit, fjoin, rewrite, frame, assume, done}
+use types.Kit.{‵, raw, ◌⊛◌, ◌$◌, ◌∵◌, !, qed, by, move, keep, use1, use2, split, fjoin, rewrite, frame, assume, done}
 use denote.Plain.{uint_out}
 use denote.Slice.{elements_shared}
 use Rattle.lapd_region.specs.Memory.{octet, octets, octet_lent, lent}

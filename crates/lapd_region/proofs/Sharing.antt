@@ -3,7 +3,6 @@ use Rattle.std.specs.Prelude.{ℕ, ◌+◌, List, [], ◌∷◌, Option, Some, N
 use Rattle.std.specs.Borrow.{u8}
 use seplogic.Ra.Ura.{Ura}
 use base.Fml.{Lft, Incl, ftrue, ffalse}
-use mir.Syntax.{w8}
 use types.Logic.{Logic}
 use denote.Param.Laws.{Laws, of_field}
 use denote.Param.Shared.{copy_shared}

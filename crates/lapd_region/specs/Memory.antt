@@ -1,9 +1,8 @@
 -- What the memory of a region owns and lends. No public clause cites this file.
 use Rattle.std.specs.Prelude.{ℕ, ◌+◌, List, [], ◌∷◌, Option, Some, None}
 use Rattle.std.specs.Borrow.{full_share, u8}
-use base.Fml.{Lft, Fml, ftrue, ffalse, fsep, fat, froom}
+use base.Fml.{Lft, Fml, ftrue, ffalse, fsep, froom}
 use mir.Syntax.{Ty, ty_int, w8, ty_array}
-use mir.Val.{vint}
 use denote.Memory.{part_at, shared_of}
 use denote.Sharing.{nothing, said, beside}
 use denote.RawPtr.{Ptr, block_ptr, null_ptr}

@@ -1,18 +1,17 @@
 -- A region of slots as a store.
-use Rattle.std.proofs.Common.{◌≡◌, ◌≢◌, ℕ, zero, suc, ◌+◌, ◌*◌, ◌/◌, ◌%◌, ◌<◌, ◌≤◌, ◌⊎◌, inl, inr, Option, Some, None, List, [], ◌∷◌, map, length, take, drop, set, get_or, slice_get, replicate, refl, sym, ap, subst, ◌∙◌, arith, length-set, cond}
+use Rattle.std.proofs.Common.{◌≡◌, ◌≢◌, ℕ, zero, suc, ◌+◌, ◌*◌, ◌/◌, ◌%◌, ◌<◌, ◌≤◌, ◌⊎◌, inl, inr, Option, Some, None, List, [], ◌∷◌, map, length, get_or, refl, sym, ap, ◌∙◌, arith}
 use native.Mathlib.Nat.{zero-mul, suc-mul}
 use Rattle.std.specs.FinMap as finmap
 use Rattle.std.specs.FinMap.Entries.{find}
 use Rattle.std.specs.List.{filter_map}
 use Rattle.std.specs.Ordering.{nat_cmp}
 use Rattle.std.specs.Cmp.{nat_cmp_total}
-use Rattle.std.proofs.lemmas.Bool.{cases_eq, cond-true, cond-false, ne_eqb, eq-eqb}
-use Rattle.std.proofs.lemmas.List.{get_or_past, get_or-replicate, get_or-set_same, get_or-set_other, length-replicate}
+use Rattle.std.proofs.lemmas.Bool.{cond-true, cond-false, ne_eqb, eq-eqb}
 use Rattle.std.proofs.lemmas.Grind.{get_or_default_zero}
 use Rattle.slab.specs.Slab.{entries_from}
 use Rattle.lapd_region.specs.Region.{Holds, SameOutside}
 use Rattle.lapd_region.proofs.Runs.{run_of}
-use Rattle.lapd_store.specs.RawStore.{free_mark, list_end, link, octets_at, slot_contents, contents_from, IsApart, IsFreeList, IsFilled}
+use Rattle.lapd_store.specs.RawStore.{free_mark, link, octets_at, slot_contents, contents_from, IsApart, IsFreeList}
 use Rattle.lapd_store.proofs.Entries.{find-head, find-tail}
 
 -- the entries of a list of places, found by their number

@@ -1,12 +1,12 @@
 -- `give_back` makes one room of the octets, and hands it back with the token.
-use Rattle.std.proofs.Common.{◌≡◌, ℕ, ◌*◌, ◌^◌, ◌<◌, List, [], ◌∷◌, ◌++◌, length, T, refl, sym, ap, subst, ◌∙◌, arith, lit<, w64}
+use Rattle.std.proofs.Common.{◌≡◌, ℕ, ◌*◌, ◌^◌, ◌<◌, List, [], ◌∷◌, ◌++◌, length, refl, sym, ap, subst, ◌∙◌, arith, lit<, w64}
 use Rattle.std.proofs.raw_atomic.Walks.{proved_at, leaves}
 use Rattle.std.proofs.alloc.Calls.{Al, seen, Goes-blank, Gives, at_gives, Gives-goes, Gives-Gives}
 use Rattle.std.proofs.alloc.Shapes.{after}
 use base.Logic.{SProp, never, emp, id⊢}
 use base.Fml.{Lft, Share, ftrue, flft, froom}
 use contract.BorrowLft.{◌⊑◌, ⊑_trans}
-use contract.Monad.{fact, fact_i}
+use contract.Monad.{fact}
 use contract.Running.{tables}
 use denote.Param.{bounded}
 use denote.RattleType.{owns}

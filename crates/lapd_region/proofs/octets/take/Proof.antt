@@ -1,8 +1,7 @@
 -- `take` is given a block and cuts it into octets that were not written.
-use Rattle.std.proofs.Common.{◌≡◌, ℕ, ◌*◌, ◌^◌, ◌<◌, List, [], ◌∷◌, ◌++◌, length, replicate, None, true, false, refl, ◌∙◌, arith, lit<, w64}
-use Rattle.std.specs.Prelude.{Ok, Err, IfOk}
+use Rattle.std.proofs.Common.{◌≡◌, ℕ, ◌*◌, ◌^◌, ◌<◌, List, [], ◌∷◌, ◌++◌, replicate, None, true, false, refl, ◌∙◌, arith, lit<, w64}
+use Rattle.std.specs.Prelude.{Ok, Err}
 use Rattle.std.specs.contracts.alloc.AllocError as error
-use Rattle.std.specs.contracts.result.Result as RS
 use Rattle.std.proofs.raw_atomic.Walks.{proved_at, leaves}
 use Rattle.std.proofs.alloc.Calls.{Al, seen, Takes, at_takes, Answered, Answer-typed, Takes-goes, Takes-gives, answers}
 use Rattle.std.proofs.alloc.Shapes.{after, head, arm_body}
@@ -17,7 +16,7 @@ use denote.Laws.{Is}
 use denote.Param.{param, bounded, layout}
 use denote.RattleType.{RattleType, owns}
 use denote.RawPtr.{Ptr, block_ptr}
-use denote.Signature.{plain, types_at, type_at}
+use denote.Signature.{types_at, type_at}
 use denote.Steps.{nothing, heard, owned}
 use denote.Struct.Declared as Declared
 use denote.Struct.Struct.{Struct, Struct-Makes}
@@ -32,7 +31,7 @@ use mir.Val.{Val, vint, vptr, vstruct, vcons, vnil}
 use prog.Capped.{capped_is}
 use prog.Wp.{Env, WpFn, Wp, after_seq, at_return}
 use types.ByLocal.{alloc_all, pass_all, free_all, look_at, get, get_in, get_tag, sets, sets_last, lands_as, env}
-use types.Kit.{Post as After, any_q, ‵, raw, ◌⊛◌, later, prop, at_ret, ◌$◌, ◌∵◌, !, qed, by, move, keep, drop, use0, use1, use2, use3, split, join, regoal, fsplit, fjoin, await}
+use types.Kit.{Post as After, any_q, ‵, raw, ◌⊛◌, later, prop, at_ret, ◌$◌, ◌∵◌, !, qed, by, move, drop, use0, use1, use2, use3, split, join, regoal, fsplit, fjoin, await}
 use types.Match.{live, vrt, in_variant}
 use types.Part.{whole, agg}
 use types.Run.{stop, fld, lit, of_opd, no_more, and_then, first, switches_on, exec, returns, enter}

@@ -5,7 +5,7 @@ use Rattle.std.specs.Borrow.{full_share, u8}
 use Rattle.std.proofs.raw_atomic.Walks.{proved_at, leaves}
 use Rattle.std.proofs.alloc.Shapes.{after}
 use base.Logic.{SProp, never, emp, id⊢}
-use base.Fml.{Lft, Share, ftrue, fat, flft}
+use base.Fml.{Lft, Share, fat}
 use contract.Monad.{fact, fact_i}
 use contract.Running.{tables}
 use denote.Exit.{yes}
@@ -23,7 +23,7 @@ use mir.Syntax.{named}
 use mir.Val.{Val, vint, vptr}
 use prog.Wp.{WpFn, Env}
 use types.ByLocal.{alloc_all, pass_all, free_all, look_at, get, get_in, sets, sets_last, take_at, give_at, env}
-use types.Kit.{‵, raw, ◌⊛◌, prop, at_ret, ◌$◌, ◌∵◌, !, qed, by, move, keep, drop as skip, use0, use1, split, join, rewrite, regoal, fsplit, fjoin, feq_i, flt_i}
+use types.Kit.{‵, raw, ◌⊛◌, prop, at_ret, ◌$◌, ◌∵◌, !, qed, by, move, keep, drop as skip, use0, use1, split, rewrite, regoal, fsplit, fjoin, feq_i, flt_i}
 use types.Part.{whole, sub, agg}
 use types.Run.{stop, fld, bin, of_opd, and_then, no_more, first, blocks, exec, returns, enter}
 use Rattle.lapd_region.specs.Memory.{octets_lent}

@@ -3,7 +3,7 @@ use Rattle.std.proofs.Common.{◌≡◌, ℕ, ◌+◌, ◌<◌, List, [], ◌∷
 use Rattle.std.specs.Borrow.{full_share, u8}
 use Rattle.std.proofs.raw_atomic.Walks.{proved_at, leaves}
 use Rattle.std.proofs.alloc.Shapes.{after}
-use base.Logic.{SProp, sep, wand, never, emp, id⊢, apply∗}
+use base.Logic.{SProp, wand, never, emp, id⊢, apply∗}
 use base.Fml.{Lft, Share, ftrue, fat, flft, froom}
 use contract.Monad.{fact, fact_i}
 use contract.Running.{tables}
@@ -22,7 +22,7 @@ use mir.Val.{Val, vint, vptr, vunit}
 use prog.Wp.{WpFn, Env}
 use types.Logic.{sem}
 use types.ByLocal.{alloc_all, pass_all, free_all, look_at, get, get_in, through, sets, take_at, give_at, env}
-use types.Kit.{‵, raw, ◌⊛◌, prop, at_ret, ◌$◌, ◌∵◌, !, qed, by, move, keep, drop, use0, use1, use2, split, join, rewrite, regoal, fsplit, fsplit3, fjoin, fjoin3, feq_i, feq_l}
+use types.Kit.{‵, raw, ◌⊛◌, prop, at_ret, ◌$◌, ◌∵◌, !, qed, by, move, keep, use0, use1, use2, split, join, rewrite, regoal, fsplit, fsplit3, fjoin, fjoin3, feq_i, feq_l}
 use types.Part.{whole, sub}
 use types.Run.{stop, fld, init, bin, of_opd, unit_lit, assigns_last, first, blocks, exec, returns, enter}
 use Rattle.lapd_region.specs.Memory.{octet, octets, octets_own}

@@ -1,10 +1,10 @@
 //! Two queues that share a shelf, through the bound on it.
 ghost use Rattle.std.specs.Prelude.{◌≡◌, ◌≤◌};
-ghost use Rattle.lapd_store.specs.Store.{SameLimits};
+ghost use Rattle.lapd_store.specs.Store.{SameLimits, empty_store};
 ghost use Rattle.lapd_rows_store.specs.Outbox.{Waits, Shares};
 
 use crate::outbox::{oldest, post, retire};
-use lapd_store::{Shelf, SlabShelf, SlotQueue};
+use lapd_store::{RawShelf, Shelf, SlabShelf, SlotQueue};
 use std::alloc::Global;
 use std::process::Abort;
 use std::test::Fail;
@@ -139,44 +139,38 @@ fn take_mixed<S: Shelf>(
     }
 }
 
-#[test]
-fn every_slot_serves_again_whatever_the_order(rt: HostRuntime) -> Result<(), Fail> {
-    let mut shelf = SlabShelf::start(rt.alloc(), 8192, 8)?;
-    let mut first = SlotQueue::start(rt.alloc(), 8192)?;
-    let mut second = SlotQueue::start(rt.alloc(), 8192)?;
+// Fills the 8192 slots of a shelf, frees some of them in a mixed order, fills them again, and frees all.
+fn serves_again<S: Shelf>(rt: &impl Abort, alloc: Global, mut shelf: S) -> Result<(), Fail>
+    requires { S.store shelf ≡ empty_store 8192 8 }
+{
+    let mut first = SlotQueue::start(alloc, 8192)?;
+    let mut second = SlotQueue::start(alloc, 8192)?;
     let mut expected = Expected::new();
-    fill(&rt, &mut first, &mut second, &mut shelf, 0, 8192);
-    assert!(rt; shelf.used() == 8192);
-    assert!(rt; shelf.octets() == 4 * 8192);
+    fill(rt, &mut first, &mut second, &mut shelf, 0, 8192);
+    assert!(rt; shelf.used() == 8192 && shelf.octets() == 4 * 8192);
     assert!(rt; shelf.put(b"more".as_slice()).is_none());
-    take_mixed(
-        &rt,
-        &mut first,
-        &mut second,
-        &mut shelf,
-        &mut expected,
-        3000,
-    );
+    take_mixed(rt, &mut first, &mut second, &mut shelf, &mut expected, 3000);
     assert!(rt; shelf.used() == 5192);
-    fill(&rt, &mut first, &mut second, &mut shelf, 8192, 11192);
+    fill(rt, &mut first, &mut second, &mut shelf, 8192, 11192);
     assert!(rt; shelf.used() == 8192);
     assert!(rt; shelf.put(b"more".as_slice()).is_none());
-    take_mixed(
-        &rt,
-        &mut first,
-        &mut second,
-        &mut shelf,
-        &mut expected,
-        8192,
-    );
-    assert!(rt; shelf.used() == 0);
-    assert!(rt; shelf.octets() == 0);
+    take_mixed(rt, &mut first, &mut second, &mut shelf, &mut expected, 8192);
+    assert!(rt; shelf.used() == 0 && shelf.octets() == 0);
     Ok(())
 }
 
-// Starts a shelf and two queues, posts so many messages and takes them all.
-fn serve(rt: &impl Abort, alloc: Global, count: u32) -> Result<(), Fail> {
-    let mut shelf = SlabShelf::start(alloc, 8192, 8)?;
+#[test]
+fn every_slot_serves_again_whatever_the_order(rt: HostRuntime) -> Result<(), Fail> {
+    let slab = SlabShelf::start(rt.alloc(), 8192, 8)?;
+    serves_again(&rt, rt.alloc(), slab)?;
+    let raw = RawShelf::start(rt.alloc(), 8192, 8)?;
+    serves_again(&rt, rt.alloc(), raw)
+}
+
+// Posts so many messages on a shelf through two queues, and takes them all.
+fn serve<S: Shelf>(rt: &impl Abort, alloc: Global, mut shelf: S, count: u32) -> Result<(), Fail>
+    requires { S.store shelf ≡ empty_store 8192 8 }
+{
     let mut first = SlotQueue::start(alloc, 8192)?;
     let mut second = SlotQueue::start(alloc, 8192)?;
     let mut expected = Expected::new();
@@ -196,10 +190,25 @@ fn serve(rt: &impl Abort, alloc: Global, count: u32) -> Result<(), Fail> {
 /// `tests/memory` has this test and the next make the same number of allocations.
 #[test]
 fn ten_messages(rt: HostRuntime) -> Result<(), Fail> {
-    serve(&rt, rt.alloc(), 10)
+    let shelf = SlabShelf::start(rt.alloc(), 8192, 8)?;
+    serve(&rt, rt.alloc(), shelf, 10)
 }
 
 #[test]
 fn eight_thousand_messages(rt: HostRuntime) -> Result<(), Fail> {
-    serve(&rt, rt.alloc(), 8000)
+    let shelf = SlabShelf::start(rt.alloc(), 8192, 8)?;
+    serve(&rt, rt.alloc(), shelf, 8000)
+}
+
+/// `tests/memory` does the same with this test and the next.
+#[test]
+fn ten_messages_in_a_region(rt: HostRuntime) -> Result<(), Fail> {
+    let shelf = RawShelf::start(rt.alloc(), 8192, 8)?;
+    serve(&rt, rt.alloc(), shelf, 10)
+}
+
+#[test]
+fn eight_thousand_messages_in_a_region(rt: HostRuntime) -> Result<(), Fail> {
+    let shelf = RawShelf::start(rt.alloc(), 8192, 8)?;
+    serve(&rt, rt.alloc(), shelf, 8000)
 }

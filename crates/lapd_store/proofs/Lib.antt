@@ -4,4 +4,6 @@ pub mod Ownership
 pub mod Queues
 pub mod StoreLemmas
 mod SlabLemmas
+mod RawLemmas
+mod RawSound
 mod Worked

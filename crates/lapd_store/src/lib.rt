@@ -9,6 +9,7 @@
 //!
 //! - [`Shelf`]: what a shelf does, by a trait, so that its users are proved once for every shelf;
 //! - [`SlabShelf`]: a shelf over a slab of octet vectors;
+//! - [`RawShelf`]: a shelf over one region of octets, for less memory;
 //! - [`SlotQueue`]: a ring of slots of fixed capacity;
 //! - `specs/Store.antt`: a shelf as a finite map, with which the contracts speak of it;
 //! - `specs/Ownership.antt`: how several owners share a shelf, with its laws in `proofs/Ownership.antt`; for an owner that
@@ -16,6 +17,7 @@
 #![tactic(auto)]
 
 mod fault;
+mod raw_shelf;
 mod releases;
 mod shelf;
 mod slab_shelf;
@@ -23,6 +25,7 @@ mod slot;
 mod slot_queue;
 
 pub use fault::StartFault;
+pub use raw_shelf::RawShelf;
 pub use shelf::Shelf;
 pub use slab_shelf::SlabShelf;
 pub use slot::Slot;

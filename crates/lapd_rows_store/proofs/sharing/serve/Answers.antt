@@ -4,7 +4,7 @@ use Rattle.lapd_rows_store.proofs.sharing.serve.Goals as goal
 
 pub fill-requires-clause-shares : goal.fill-requires-clause-shares
 fill-requires-clause-shares g c =
-    rw (c.in_ok-shelf.ensures, c.in_ok-first.ensures, c.in_ok-second.ensures)
+    rw (c.requires, c.in_ok-first.ensures, c.in_ok-second.ensures)
     (record {
       first_messages = [];
       second_messages = [];

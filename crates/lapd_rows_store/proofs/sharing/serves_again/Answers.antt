@@ -1,10 +1,10 @@
 use Rattle.std.proofs.Common.{[], refl}
 use Rattle.lapd_store.proofs.Ownership.{Holds-empty}
-use Rattle.lapd_rows_store.proofs.sharing.every_slot_serves_again_whatever_the_order.Goals as goal
+use Rattle.lapd_rows_store.proofs.sharing.serves_again.Goals as goal
 
 pub fill-requires-clause-shares : goal.fill-requires-clause-shares
 fill-requires-clause-shares g c =
-    rw (c.in_ok-shelf.ensures, c.in_ok-first.ensures, c.in_ok-second.ensures)
+    rw (c.requires, c.in_ok-first.ensures, c.in_ok-second.ensures)
     (record {
       first_messages = [];
       second_messages = [];

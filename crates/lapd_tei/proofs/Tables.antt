@@ -8,6 +8,7 @@ use Rattle.std.proofs.lemmas.Option.{none-some, same_Some}
 use Rattle.lapd_tei.specs.Table.{Places, is_free, has, is_on, is_off, place_of, free_place, free_tei, automatic}
 use Rattle.lapd_tei.specs.Words.{freed}
 use Rattle.lapd_tei.specs.Sound.{IsAt, IsSoundTable}
+use Rattle.lapd_tei.specs.Laws.{IsLowestFree}
 use Rattle.lapd_tei.proofs.Lists.{found-passes, first-found}
 
 same_number : (a b : ℕ) → (a == b) ≡ true → a ≡ b
@@ -148,14 +149,8 @@ on-freed places tei other apart on =
 pub on-range : (places : Places) (tei : ℕ) → IsSoundTable places → is_on tei places ≡ true → tei ≤ 126
 on-range places tei sound on = let (i, there) = at-is_on places tei on in sound.range i tei there
 
--- The TEI that is assigned is the lowest of 64 to 126 that is not on the line.
-pub record IsLowest (places : Places) (tei : ℕ) : Type 0 where
-  pub least : 64 ≤ tei
-  pub most : tei ≤ 126
-  pub off : is_on tei places ≡ false
-  pub lower : (other : ℕ) → 64 ≤ other → other < tei → is_on other places ≡ true
-
-not_not : (b : Bool) → not b ≡ false → b ≡ true
+-- The TEI that is found is the lowest.
+pub not_not : (b : Bool) → not b ≡ false → b ≡ true
 not_not true e = refl
 not_not false e = sym e
 
@@ -163,7 +158,7 @@ not_true : (b : Bool) → not b ≡ true → b ≡ false
 not_true true e = sym e
 not_true false e = refl
 
-pub free_tei-is : (places : Places) (tei : ℕ) → free_tei places ≡ Some tei → IsLowest places tei
+pub free_tei-is : (places : Places) (tei : ℕ) → free_tei places ≡ Some tei → IsLowestFree places tei
 free_tei-is places tei e =
     let first = first-found (is_off places) 64 63 tei e in
     record {

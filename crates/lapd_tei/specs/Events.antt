@@ -38,8 +38,12 @@ step (remove tei) = take_off tei
 step (check tei) = begin_check tei
 
 -- What an event leaves, and what is told of it. A refused request changes nothing.
+abbrev pub unless_refused : Option Refusal → Step → Management → Course
+unless_refused None does m = does (begun m)
+unless_refused (Some why) does m = begun m
+
 unfoldable pub course : Event → Management → Course
-course e m = elim (refusal e m) [ None ↦ step e (begun m) | Some why ↦ begun m ]
+course e m = unless_refused (refusal e m) (step e) m
 
 abbrev pub after : Event → Management → Management
 after e m = (course e m).now

@@ -7,4 +7,5 @@ pub mod Rows
 pub mod Events
 pub mod Outcome
 pub mod Sound
+pub mod Laws
 pub mod Worked

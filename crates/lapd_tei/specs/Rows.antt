@@ -21,8 +21,8 @@ tei_in r = r.tei
 abbrev pub remembered_in : ℕ → List Remembered → Option ℕ
 remembered_in ri remembered = option_map tei_in (find (is_for ri) remembered)
 
--- A place is free, and a TEI: the lowest of both. Else the request is denied. (A table that has a free place and fewer than 64 has a
--- free TEI too.)
+-- The lowest place that is free, and the lowest TEI. Where no place is free, the request is denied. (A table of fewer than 63 places
+-- always has a free TEI.)
 abbrev pub assign_new : ℕ → Option ℕ → Option ℕ → Step
 assign_new ri (Some place) (Some tei) =
     join tei place then remember ri tei then send (IdentityAssigned ri tei) then note (Assigned tei)

@@ -5,3 +5,6 @@ pub mod Numbers
 pub mod Settled
 pub mod SoundRows
 pub mod SoundEvents
+pub mod Owes
+pub mod RiseRows
+pub mod RiseEvents

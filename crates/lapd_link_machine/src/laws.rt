@@ -1,10 +1,11 @@
 //! What holds of the machine itself. Each law is the contract of a call that does nothing.
 
-ghost use Rattle.std.specs.Prelude.{List};
+ghost use Rattle.std.specs.Prelude.{◌≤◌, ◌+◌, ◌*◌, List};
 ghost use Rattle.lapd_link_machine.specs.declared.terms.Terms.{Terms};
 ghost use Rattle.lapd_link_machine.specs.Link.{Link, fresh};
-ghost use Rattle.lapd_link_machine.specs.Events.{Event};
+ghost use Rattle.lapd_link_machine.specs.Events.{Event, offer};
 ghost use Rattle.lapd_link_machine.specs.Machine.{after, after_all};
+ghost use Rattle.lapd_link_machine.specs.Rises.{waiting, sent, price, sent_in_all, price_of_all};
 ghost use Rattle.lapd_link_machine.specs.Sound.{IsInRange, IsSound};
 
 /// A link is sound as it begins, and every event keeps it sound: its numbers are in order and
@@ -14,4 +15,19 @@ pub fn stays_sound()
     ensures begins { (t : Terms) → IsInRange t → IsSound t fresh }
     ensures each { (t : Terms) (e : Event) (l : Link) → IsInRange t → IsSound t l → IsSound t (after t e l) }
     ensures always { (t : Terms) (es : List Event) → IsInRange t → IsSound t (after_all t es fresh) }
+{}
+
+/// What a link may still send without anything else happening rises by no more than an event's
+/// price, what the event sends included: 2 for a frame, and k more for an REJ with a valid N(R) in
+/// state 7 or 8; k + 1 for the expiry of the running timer; 1 for an accepted request; else 0. So
+/// no terminal can make a link a source of frames.
+pub fn rises()
+    ensures event { (t : Terms) (e : Event) (l : Link) → IsInRange t → IsSound t l →
+        sent t e l + waiting t (after t e l) ≤ waiting t l + price t e l }
+    // A frame that goes was waiting, with at most one other that it makes needless.
+    ensures offer { (t : Terms) (l : Link) → IsInRange t → IsSound t l →
+        waiting t l ≤ waiting t (after t offer l) + 2 * sent t offer l }
+    // For a list of events it is the sum of their prices.
+    ensures list { (t : Terms) (es : List Event) (l : Link) → IsInRange t → IsSound t l →
+        sent_in_all t es l + waiting t (after_all t es l) ≤ waiting t l + price_of_all t es l }
 {}

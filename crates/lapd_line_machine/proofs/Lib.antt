@@ -7,3 +7,4 @@ pub mod Offered
 pub mod PullSound
 pub mod TextGoesOn
 pub mod LineSound
+pub mod StoredBounds

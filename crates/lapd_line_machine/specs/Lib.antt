@@ -15,3 +15,4 @@ pub mod Counts
 pub mod Deliveries
 pub mod Worked
 pub mod Sound
+pub mod Laws

@@ -11,10 +11,13 @@
 //!
 //! - `config`: `Config`, the sizes and limits of a card.
 //! - `requests`: `Request`, what layer 3 and management ask of a line.
+//! - `laws`: what holds of the machine itself, as calls without effect.
 #![tactic(auto)]
 
 mod config;
+mod laws;
 mod requests;
 
 pub use config::{Config, Field};
+pub use laws::lines_stay_sound;
 pub use requests::Request;

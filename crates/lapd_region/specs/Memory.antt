@@ -21,18 +21,22 @@ abbrev pub octets : ℕ → ℕ → List (Option ℕ) → Fml
 octets b o [] = ftrue
 octets b o (c ∷ cs) = fsep (octet b o c) (octets b (o + 1) cs)
 
+-- what a `&` to an octet holds: nothing where it was not written, so none can be read there
 abbrev pub octet_lent : ℕ → ℕ → Option ℕ → Lft → Fml
 octet_lent b o (Some x) = shared_of u8 x b o
 octet_lent b o None = nothing
 
+-- and to octets side by side
 abbrev pub lent : ℕ → ℕ → List (Option ℕ) → Lft → Fml
 lent b o [] = nothing
 lent b o (c ∷ cs) = beside (octet_lent b o c) (lent b (o + 1) cs)
 
+-- what the owner of the octets from a pointer on owns
 abbrev pub octets_own : Ptr → List (Option ℕ) → Fml
 octets_own (block_ptr b o) cs = octets b o cs
 octets_own null_ptr cs = ffalse
 
+-- and what a `&` to it holds
 abbrev pub octets_lent : Ptr → List (Option ℕ) → Lft → Fml
 octets_lent (block_ptr b o) cs = lent b o cs
 octets_lent null_ptr cs = said ffalse

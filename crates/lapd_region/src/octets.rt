@@ -37,6 +37,7 @@ impl<A: Allocator> Model for Deed<A> {
     ghost also_owns = { λ d. A.dealloc_token d.alloc (block_of d.size) d.at };
 }
 
+/// Takes a block of `size` octets, none of them written.
 pub(crate) fn take<A: Allocator>(
     alloc: &A,
     size: usize,
@@ -53,6 +54,7 @@ pub(crate) fn take<A: Allocator>(
     }
 }
 
+/// Gives the block back, whatever was written there. The owner and the deed end with it, so this happens once.
 pub(crate) fn give_back<A: Allocator>(
     alloc: &A,
     base: Base,
@@ -68,6 +70,7 @@ pub(crate) fn give_back<A: Allocator>(
 }
 
 impl Octets {
+    /// Writes the octet at an index, over whatever was there.
     pub(crate) fn write(&mut self, base: Base, index: usize, octet: u8)
         requires { (base.ptr ≡ self.old.at) × (index < length self.old.written) }
         ensures { (self.new.at ≡ self.old.at) × (self.new.written ≡ slice_set self.old.written index (Some octet)) }
@@ -75,6 +78,7 @@ impl Octets {
         unsafe { *base.ptr.add(index) = octet };
     }
 
+    /// Lends the `len` octets from `from` on, all of which were written.
     pub(crate) fn lend(&self, base: Base, from: usize, len: usize) -> &[u8]
         requires { (base.ptr ≡ self.now.at) × (from + len ≤ length self.now.written) × ((octets : List ℕ) × (take len (drop from self.now.written) ≡ map Some octets)) × (length self.now.written < 2 ^ 63) }
         ensures { take len (drop from self.now.written) ≡ map Some result.now }

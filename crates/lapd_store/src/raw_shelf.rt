@@ -19,6 +19,7 @@ const END: u16 = 0xFFFF;
 /// Its start takes the region uninitialised, `width` octets for each slot, and two octets for each slot's length. A free
 /// slot holds the number of the next free one in its own first two octets. The time of a call does not depend on the
 /// number of slots.
+#[derive(Drop)]
 pub struct RawShelf {
     region: Region,
     lengths: Vec<u16>,
@@ -162,20 +163,5 @@ impl Shelf for RawShelf {
             self.first,
         );
         self.first = number as u16;
-    }
-}
-
-impl Drop for RawShelf {
-    fn drop(self) {
-        let RawShelf {
-            region,
-            lengths,
-            octets: _,
-            used: _,
-            first: _,
-            width: _,
-        } = self;
-        drop(lengths);
-        drop(region);
     }
 }

@@ -9,7 +9,8 @@ use Rattle.lapd_tei.specs.Table.{is_on, free_place, free_tei}
 use Rattle.lapd_tei.specs.Machine.{Management, Remembered, Check, Period, First, Second}
 use Rattle.lapd_tei.specs.Words.{Step, ◌then◌, no_room, send, lose_one, note, order, unserved, join, remember, leave, check_is, begin_check, end_check}
 
--- An identity request for any TEI (clause 5.3.2) is served by the first case that holds (profile).
+-- An identity request for any TEI (clause 5.3.2) is served by the first case that holds (profile); the cases stand here from the last
+-- to the first.
 
 -- Which TEI was assigned for this Ri, as far as it is remembered.
 abbrev pub is_for : ℕ → Remembered → Bool
@@ -21,7 +22,7 @@ tei_in r = r.tei
 abbrev pub remembered_in : ℕ → List Remembered → Option ℕ
 remembered_in ri remembered = option_map tei_in (find (is_for ri) remembered)
 
--- The lowest place that is free, and the lowest TEI. Where no place is free, the request is denied. (A table of fewer than 63 places
+-- Third: a place is free. The lowest TEI is put at the lowest place. Else: the request is denied. (A table of fewer than 63 places
 -- always has a free TEI.)
 abbrev pub assign_new : ℕ → Option ℕ → Option ℕ → Step
 assign_new ri (Some place) (Some tei) =
@@ -29,12 +30,12 @@ assign_new ri (Some place) (Some tei) =
 assign_new ri (Some place) None = send (IdentityDenied ri)
 assign_new ri None tei = send (IdentityDenied ri)
 
--- The Ri is remembered: the request came again, and gets the same answer again.
+-- Second: its Ri is remembered. The request came again, and gets the same answer again.
 abbrev pub assign : ℕ → Option ℕ → Step
 assign ri (Some tei) c = send (IdentityAssigned ri tei) c
 assign ri None c = assign_new ri (free_place c.now.places) (free_tei c.now.places) c
 
--- There is no room for an answer: nothing is assigned, and the answer is lost.
+-- First: there is no room for an answer. Nothing is assigned, and the answer is lost.
 abbrev pub request : ℕ → Step
 request ri c = (if no_room c.now.waiting then lose_one else assign ri (remembered_in ri c.now.remembered)) c
 

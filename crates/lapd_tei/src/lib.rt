@@ -1,4 +1,17 @@
-//! TEI management.
+//! TEI management of one line, the network's side (Q.921 clause 5.3): which TEIs are on the line, which of them a
+//! terminal is assigned, and whether two terminals have the same one.
+//!
+//! - `teis`: [`Teis`], all of it; each call is one event, and answers a [`TeiOutcome`].
+//! - `outcome`: what an event led to.
+//! - `table`: the TEIs of a line, each at a place.
+//! - `remembered`: the latest assignments, for requests that come again.
+//! - `check`: the check of a TEI that runs.
+//! - `queue`: the messages that wait to be sent.
+//! - `messages`, `heard`: the messages of the network and of the terminals.
+//! - `laws`: what holds of the table of events itself.
+//!
+//! The events and their effects stand in `specs/Rows.antt` and `specs/Events.antt`, one equation for each row, and in
+//! our words in `docs/MACHINE.md`. No call but `Teis::start` takes memory.
 #![tactic(auto)]
 
 mod check;

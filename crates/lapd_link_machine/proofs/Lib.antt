@@ -12,3 +12,6 @@ pub mod Counting
 pub mod CountRows
 pub mod Delivering
 pub mod Numbering
+pub mod Slots
+pub mod Telling
+pub mod TellRows

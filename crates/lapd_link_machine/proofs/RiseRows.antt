@@ -184,7 +184,7 @@ module _ (t : Terms) (r : IsInRange t) (total : ℕ) where
   contents_cost ns b octets = search words depth 12 fits 4000
 
   acknowledge_free : {p : Purse} (m : ℕ) → Leads (Owes t total (names m) p) (Words.acknowledge m) (Owes t total (names m) p)
-  acknowledge_free m = free (acknowledge_keeps t r m) (λ c h. le_refl (owed t c))
+  acknowledge_free m = free (acknowledge_keeps t r.tei m) (λ c h. le_refl (owed t c))
 
   -- by the N(R): an invalid one costs a frame, SABME
   by-number : {X : Claim} {Y : ℕ → Claim} {p : Purse} (nr : Seq) (f : ℕ → Step)

@@ -3,3 +3,4 @@ pub mod Steps
 pub mod Giving
 pub mod Queue
 pub mod Tests
+pub mod Resting

@@ -4,11 +4,11 @@ use Rattle.lapd_seq.specs.Numbers.{seq}
 use Rattle.lapd_seq.specs.Windows as window
 use Rattle.lapd_frame.specs.ShortLists.{listed}
 use Rattle.lapd_link_machine.specs.declared.terms.Terms.{Terms}
-use Rattle.lapd_link_machine.specs.Link.{fresh}
+use Rattle.lapd_link_machine.specs.Link.{Link, fresh}
 use Rattle.lapd_link_machine.specs.Steps.{Sent, Step}
 use Rattle.lapd_link_rows.specs.declared.entity.Entity.{Entity}
 use Rattle.lapd_link_rows.specs.Past.{Past, link_of, course_of, Fits}
-use Rattle.lapd_link_rows.specs.Does.{Agrees}
+use Rattle.lapd_link_rows.specs.Does.{Agrees, Does}
 use Rattle.lapd_link_rows.specs.declared.told.Told.{Told}
 use Rattle.lapd_link_rows.specs.declared.offers.Given.{Given}
 
@@ -46,3 +46,19 @@ pub record IsFresh (control : ℕ) (e : Entity) : Type 0 where
 pub record Gives (terms : Terms) (f : Step) (queued : ℕ) (e : Entity) (t : Told) (e' : Entity) (t' : Told) (given : Option Given) : Type 0 where
   pub step : (info : List ℕ) (messages : List (List ℕ)) (p : Past) → length messages ≡ queued → t.released ≡ 0 → p.sent ≡ None → Fits terms messages e t p → Agrees terms info messages (f (course_of info e t p)) e' t'
   pub sent : (info : List ℕ) (messages : List (List ℕ)) (p : Past) → length messages ≡ queued → t.released ≡ 0 → p.sent ≡ None → Fits terms messages e t p → (f (course_of info e t p)).sent ≡ given_of messages given
+
+-- A link as it is between two events, and the entity that holds all of it but its past.
+abbrev pub past_at : Link → Past
+past_at m = record { contents = m.contents; a = m.a; s = m.s; r = m.r; sent = None; zeroed = false }
+
+pub record Rests (terms : Terms) (e : Entity) (m : Link) : Type 0 where
+  pub window : window.Stands e.window m.a m.s
+  pub received : e.vr ≡ seq m.r
+  pub ring : e.waiting.capacity ≡ terms.control
+  pub is : link_of e (past_at m) ≡ m
+
+-- A call that began with nothing told did this step.
+pub record Took (terms : Terms) (info : List ℕ) (f : Step) (e : Entity) (e' : Entity) (t : Told) : Type 0 where
+  pub none : Told
+  pub nothing : IsNothing none
+  pub does : Does terms info f e none e' t

@@ -23,4 +23,5 @@ mod words;
 
 pub use entity::Entity;
 pub use offers::Given;
+pub use timers::is_the;
 pub use told::Told;

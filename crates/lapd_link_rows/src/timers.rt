@@ -9,6 +9,17 @@ use crate::entity::Entity;
 use crate::told::Told;
 use lapd_link_machine::{LinkTimer, State, Terms};
 
+/// Whether the one that runs, or the one that was started, is this timer.
+pub fn is_the(timer: LinkTimer, other: Option<LinkTimer>) -> bool
+    ensures { result ≡ runs timer other }
+{
+    match (other, timer) {
+        (Some(LinkTimer::T200), LinkTimer::T200) => true,
+        (Some(LinkTimer::T203), LinkTimer::T203) => true,
+        _ => false,
+    }
+}
+
 impl Entity {
     /// A timer expires. One that does not run changes nothing.
     pub fn expire(&mut self, terms: Terms, told: &mut Told, timer: LinkTimer)
@@ -21,15 +32,11 @@ impl Entity {
         }
     }
 
-    /// Whether the timer runs.
-    pub fn runs(&self, timer: LinkTimer) -> bool
+    // Whether the timer runs.
+    pub(crate) fn runs(&self, timer: LinkTimer) -> bool
         ensures { result ≡ runs timer self.now.running }
     {
-        match (self.running, timer) {
-            (Some(LinkTimer::T200), LinkTimer::T200) => true,
-            (Some(LinkTimer::T203), LinkTimer::T203) => true,
-            _ => false,
-        }
+        is_the(timer, self.running)
     }
 
     fn expire_running(&mut self, terms: Terms, told: &mut Told, timer: LinkTimer)

@@ -48,8 +48,8 @@ impl Entity {
         self.enter(State::AwaitingRelease);
     }
 
-    // Layer 3 can take no more contents,
-    pub(crate) fn set_busy_in_7_8(&mut self, terms: Terms, told: &mut Told)
+    /// Layer 3 can take no more contents, in states 7 and 8.
+    pub fn set_busy_in_7_8(&mut self, terms: Terms, told: &mut Told)
         requires { HasRoom 0 1 told.old }
         ensures tells { Tells 0 1 told.old told.new }
         ensures does { (info : List ℕ) → Does terms info (row.set_busy_in_7_8 terms) self.old told.old self.new told.new }
@@ -61,8 +61,8 @@ impl Entity {
         self.report_ready(terms, told);
     }
 
-    // or can take them again.
-    pub(crate) fn clear_busy_in_7_8(&mut self, terms: Terms, told: &mut Told)
+    /// Layer 3 can take contents again, in states 7 and 8.
+    pub fn clear_busy_in_7_8(&mut self, terms: Terms, told: &mut Told)
         requires { HasRoom 0 1 told.old }
         ensures tells { Tells 0 1 told.old told.new }
         ensures does { (info : List ℕ) → Does terms info (row.clear_busy_in_7_8 terms) self.old told.old self.new told.new }

@@ -39,8 +39,8 @@ impl Entity {
         self.enter(State::Established);
     }
 
-    // Layer 3 asks for the establishment.
-    pub(crate) fn establish_in_4(&mut self, terms: Terms, told: &mut Told)
+    /// Layer 3 asks for the establishment, in state 4.
+    pub fn establish_in_4(&mut self, terms: Terms, told: &mut Told)
         requires { HasRoom 0 1 told.old }
         ensures tells { Tells 0 1 told.old told.new }
         ensures does { (info : List ℕ) → Does terms info (row.establish_in_4 terms) self.old told.old self.new told.new }

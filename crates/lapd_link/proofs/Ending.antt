@@ -1,0 +1,48 @@
+-- How an event ends.
+use Rattle.std.proofs.Common.{◌≡◌, ℕ, ◌≤◌, List, length, sym, ap, subst, ◌∙◌, arith}
+use Rattle.lapd_store.specs.Store.{Store, SameLimits}
+use Rattle.lapd_store.specs.Ownership.{Owned}
+use Rattle.lapd_link_machine.specs.declared.terms.Terms.{Terms}
+use Rattle.lapd_link_machine.specs.Link as machine
+use Rattle.lapd_link_machine.specs.Events.{Event}
+use Rattle.lapd_link_machine.specs.Steps.{begun, Step}
+use Rattle.lapd_link_machine.specs.Machine.{course, after, told, told_of}
+use Rattle.lapd_link_machine.specs.Sound.{IsInRange, IsSound}
+use Rattle.lapd_link_machine.proofs.SoundEvents.{sound-after}
+use Rattle.lapd_link_rows.specs.declared.entity.Entity.{Entity}
+use Rattle.lapd_link_rows.specs.declared.told.Told.{Told}
+use Rattle.lapd_link_rows.specs.Does.{Agrees}
+use Rattle.lapd_link_rows.specs.Done.{Rests, Took}
+use Rattle.lapd_link_rows.proofs.Resting.{took-course}
+use Rattle.lapd_link.specs.declared.link.Link.{Link}
+use Rattle.lapd_link.specs.declared.outcome.Answer.{Answer}
+use Rattle.lapd_link.specs.Outcome.{told_with}
+use Rattle.lapd_link.specs.Stands.{Stands, Reaches, Stays, terms_of}
+
+-- the timer that runs is the machine's
+pub running-at : {terms : Terms} {e : Entity} {m : machine.Link} → Rests terms e m → e.running ≡ m.running
+running-at rests = ap (λ (l : machine.Link). l.running) rests.is
+
+-- few contents are queued
+pub few : {link : Link} {store : Store} {others : List Owned} {m : machine.Link} → Stands link store others m → length (machine.queue_of m) ≤ 127
+few s = omega (arith, s.sound.queue, s.range.queue_high)
+
+-- what rows did is the course of the event
+pub reached : {link : Link} {store : Store} {others : List Owned} {m : machine.Link} {info : List ℕ} {f : Step} {e' : Entity} {t : Told} → Took (terms_of link) info f link.entity e' t → Stands link store others m → Agrees (terms_of link) info (machine.queue_of m) (f (begun m)) e' t
+reached took s = took-course took s.rests (few s)
+
+-- a link that reaches the end of an event stands for the machine's link after it
+pub stands-after : {link link' : Link} {store store' : Store} {others : List Owned} {m : machine.Link} {info : List ℕ} {answer : Answer} (e : Event) → Stands link store others m → Stays link link' → SameLimits store store' → Reaches info m (course (terms_of link) e m) link' store' others answer → Stands link' store' others (after (terms_of link) e m)
+stands-after {link} {link'} {store} {store'} {m = m} e s stays limits reaches =
+    record {
+      range = subst IsInRange (sym stays.terms) s.range;
+      width = subst (λ (t : Terms). t.n201 ≤ store'.width) (sym stays.terms) (subst (λ (w : ℕ). (terms_of link).n201 ≤ w) (sym limits.width) s.width);
+      sound = subst (λ (t : Terms). IsSound t (after (terms_of link) e m)) (sym stays.terms) (sound-after (terms_of link) s.range e m s.sound);
+      rests = reaches.rests;
+      capacity = stays.capacity ∙ s.capacity ∙ ap (λ (t : Terms). t.queue) (sym stays.terms);
+      kept = reaches.kept;
+    }
+
+-- and tells what the machine tells
+pub told-after : {link link' : Link} {store' : Store} {others : List Owned} {m : machine.Link} {info : List ℕ} {answer : Answer} (e : Event) → Stays link link' → Reaches info m (course (terms_of link) e m) link' store' others answer → told_with info answer ≡ told (terms_of link) e m
+told-after {link} {m = m} e stays reaches = reaches.told ∙ ap (λ (t : Terms). told_of t m (course (terms_of link) e m)) stays.terms

@@ -1,0 +1,4 @@
+-- Lemmas of this crate.
+pub mod Ending
+pub mod Asking
+pub mod Offering

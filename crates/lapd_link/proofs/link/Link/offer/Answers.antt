@@ -1,0 +1,31 @@
+use Rattle.std.proofs.Common.{Option, sym, ap, ◌∙◌}
+use Rattle.lapd_link_machine.specs.declared.timers.LinkTimer.{LinkTimer}
+use Rattle.lapd_link_machine.specs.Link.{queue_of}
+use Rattle.lapd_link_machine.specs.Events.{offer}
+use Rattle.lapd_link_machine.specs.Told.{orders_for}
+use Rattle.lapd_link_machine.specs.Steps.{Sent}
+use Rattle.lapd_link_machine.specs.Machine.{course, given_of}
+use Rattle.lapd_link_rows.specs.Done as rows
+use Rattle.lapd_link.specs.Stands.{terms_of}
+use Rattle.lapd_link.proofs.Ending.{running-at}
+use Rattle.lapd_link.proofs.Offering.{offered, offered-sent, stands-offered, given-offered, slot-contents}
+use Rattle.lapd_link.proofs.link.Link.offer.Goals as goal
+
+pub returns-in-None-clause-stands : goal.returns-in-None-clause-stands
+returns-in-None-clause-stands c = λ store others m s. stands-offered s (offered s c.nothing-told.ensures c.len.ensures.count c.offer.ensures)
+
+pub returns-in-None-clause-given : goal.returns-in-None-clause-given
+returns-in-None-clause-given c = λ store others m s.
+    sym (ap (λ (o : Option Sent). given_of (terms_of c.args.self.now) m (course (terms_of c.args.self.now) offer m) o) (offered-sent s c.nothing-told.ensures c.len.ensures.count c.offer.ensures ∙ ap (rows.given_of (queue_of m)) c.in-None.is))
+
+pub returns-in-Some-clause-stands : goal.returns-in-Some-clause-stands
+returns-in-Some-clause-stands c = λ store others m s. stands-offered s (offered s c.nothing-told.ensures c.len.ensures.count c.offer.ensures)
+
+pub returns-in-Some-clause-given : goal.returns-in-Some-clause-given
+returns-in-Some-clause-given c = λ store others m s.
+    given-offered (terms_of c.args.self.now) m c.in-Some.given.frame (rows.contents_at (queue_of m) c.in-Some.given.place) _ _ (offered s c.nothing-told.ensures c.len.ensures.count c.offer.ensures)
+    (offered-sent s c.nothing-told.ensures c.len.ensures.count c.offer.ensures ∙ ap (rows.given_of (queue_of m)) c.in-Some.is)
+    (slot-contents c.in-Some.given.place c.slot_at.result c.slot_at.ensures s.kept)
+    (c.orders.ensures
+    ∙ ap (λ (before : Option LinkTimer). orders_for (terms_of c.args.self.now) before c.offer.new.told.started c.running.result) (c.running-before.ensures ∙ running-at s.rests)
+    ∙ ap (λ (running : Option LinkTimer). orders_for (terms_of c.args.self.now) m.running c.offer.new.told.started running) c.running.ensures)

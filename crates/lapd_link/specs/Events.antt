@@ -1,0 +1,28 @@
+-- What is handed to a link, as events of the machine.
+use Rattle.std.specs.Prelude.{ℕ, List, [], Option, Some, None}
+use Rattle.lapd_frame.specs.Grammar.{parts_of}
+use Rattle.lapd_link_machine.specs.Events as machine
+use Rattle.lapd_link.specs.declared.received.Received.{Received}
+use Rattle.lapd_link.specs.declared.received.Received.TheVariants.{Frame, Undefined, WrongSize, Overlong}
+use Rattle.lapd_link.specs.declared.requests.LinkRequest.{LinkRequest}
+use Rattle.lapd_link.specs.declared.requests.LinkRequest.TheVariants.{Establish, Release, Data, SetBusy, ClearBusy}
+
+abbrev pub received_of : Received → machine.Received
+received_of (Frame frame) = machine.frame (parts_of frame)
+received_of Undefined = machine.undefined
+received_of WrongSize = machine.wrong_size
+received_of Overlong = machine.overlong
+
+-- the information that came with it
+abbrev pub info_of : Received → List ℕ
+info_of (Frame frame) = frame.info.now
+info_of Undefined = []
+info_of WrongSize = []
+info_of Overlong = []
+
+abbrev pub request_of : LinkRequest → machine.Request
+request_of Establish = machine.establish
+request_of Release = machine.release
+request_of (Data octets) = machine.transfer octets.now
+request_of SetBusy = machine.set_busy
+request_of ClearBusy = machine.clear_busy

@@ -1,0 +1,43 @@
+-- What a link answers, as the machine tells it.
+use Rattle.std.specs.Prelude.{ℕ, Bool, List, Option, Some, None, option_map, if◌then◌else◌}
+use Rattle.std.specs.Borrow.{Bor}
+use Rattle.lapd_store.specs.Store.{Store, contents_of}
+use Rattle.lapd_frame.specs.ShortLists.{listed}
+use Rattle.lapd_link_machine.specs.Told.{Told, Given}
+use Rattle.lapd_link.specs.declared.outcome.Answer.{Answer}
+use Rattle.lapd_link.specs.declared.outcome.Outcome.{Outcome}
+use Rattle.lapd_link.specs.declared.offers.Offer.{Offer}
+
+-- of an answer, with the information that came with the frame
+abbrev pub told_with : List ℕ → Answer → Told
+told_with info answer = record {
+  notes = listed answer.notes;
+  delivered = if answer.delivered then Some info else None;
+  unit = if answer.unit then Some info else None;
+  orders = listed answer.orders;
+  lost = answer.lost;
+  unserved = answer.unserved;
+}
+
+-- of an outcome that lends it
+abbrev pub lent : Option (Bor (List ℕ)) → Option (List ℕ)
+lent o = option_map (λ octets. octets.now) o
+
+abbrev pub told_of : Outcome → Told
+told_of outcome = record {
+  notes = listed outcome.notes;
+  delivered = lent outcome.delivered;
+  unit = lent outcome.unit;
+  orders = listed outcome.orders;
+  lost = outcome.lost;
+  unserved = outcome.unserved;
+}
+
+-- of an offer, whose contents lie on the shelf
+abbrev pub contents_in : Store → Option ℕ → Option (List ℕ)
+contents_in store None = None
+contents_in store (Some slot) = contents_of store slot
+
+abbrev pub given_by : Store → Option Offer → Option Given
+given_by store None = None
+given_by store (Some offer) = Some (record { frame = offer.frame; contents = contents_in store offer.contents; orders = listed offer.orders })

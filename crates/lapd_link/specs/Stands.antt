@@ -1,0 +1,55 @@
+-- What a link stands for.
+use Rattle.std.specs.Prelude.{◌≡◌, ℕ, ◌<◌, ◌≤◌, Bool, false, List, length}
+use Rattle.lapd_store.specs.Store.{Store, used_slots}
+use Rattle.lapd_store.specs.Ownership.{Owned, Keeps}
+use Rattle.lapd_link_machine.specs.declared.terms.Terms.{Terms}
+use Rattle.lapd_link_machine.specs.Link as machine
+use Rattle.lapd_link_machine.specs.Events.{Request, establish, release, transfer, set_busy, clear_busy}
+use Rattle.lapd_link_machine.specs.Steps.{Course}
+use Rattle.lapd_link_machine.specs.Machine as answers
+use Rattle.lapd_link_machine.specs.Sound.{IsInRange, IsSound}
+use Rattle.lapd_link_rows.specs.Done.{Rests}
+use Rattle.lapd_link.specs.declared.link.Link.{Link}
+use Rattle.lapd_link.specs.declared.outcome.Answer.{Answer}
+use Rattle.lapd_link.specs.Outcome.{told_with}
+
+-- the terms under which a link works
+abbrev pub terms_of : Link → Terms
+terms_of link = link.terms
+
+-- A link stands for a link of the machine, beside what others own on the shelf: it holds what the machine's link is but for
+-- its past, its numbers being the remainders; the shelf keeps the contents of the machine's queue in the slots of the link's,
+-- and what others own, and nothing else; and the machine's link is sound, so that the bounds hold from any link on.
+pub record Stands (link : Link) (store : Store) (others : List Owned) (m : machine.Link) : Type 0 where
+  pub range : IsInRange (terms_of link)
+  pub width : (terms_of link).n201 ≤ store.width
+  pub sound : IsSound (terms_of link) m
+  pub rests : Rests (terms_of link) link.entity m
+  pub capacity : link.queue.capacity ≡ (terms_of link).queue
+  pub kept : Keeps store link.queue.slots (machine.queue_of m) others
+
+-- A link and its answer stand for the end of an event, whatever the event was.
+pub record Reaches (info : List ℕ) (before : machine.Link) (c : Course) (link : Link) (store : Store) (others : List Owned) (answer : Answer) : Type 0 where
+  pub rests : Rests (terms_of link) link.entity c.link
+  pub kept : Keeps store link.queue.slots (machine.queue_of c.link) others
+  pub told : told_with info answer ≡ answers.told_of (terms_of link) before c
+
+-- What stays through every event: the terms, and the capacity of the queue.
+pub record Stays (old new : Link) : Type 0 where
+  pub terms : terms_of new ≡ terms_of old
+  pub capacity : new.queue.capacity ≡ old.queue.capacity
+
+-- What a request needs that is not refused: contents that fit, a place in the queue, and a free slot on the shelf.
+abbrev pub HasRoom : Request → Link → Bool → Type 0
+HasRoom establish link pool_is_full = Unit {0}
+HasRoom release link pool_is_full = Unit {0}
+HasRoom (transfer octets) link pool_is_full = (length octets ≤ (terms_of link).n201) × (length link.queue.slots < (terms_of link).queue) × (pool_is_full ≡ false)
+HasRoom set_busy link pool_is_full = Unit {0}
+HasRoom clear_busy link pool_is_full = Unit {0}
+
+abbrev pub HasPlace : Request → Link → Store → Type 0
+HasPlace establish link store = Unit {0}
+HasPlace release link store = Unit {0}
+HasPlace (transfer octets) link store = (length octets ≤ store.width) × (length link.queue.slots < link.queue.capacity) × (used_slots store < store.slots)
+HasPlace set_busy link store = Unit {0}
+HasPlace clear_busy link store = Unit {0}

@@ -1,0 +1,131 @@
+//! Frames, timers, and the end of the TEI.
+
+ghost use Rattle.std.specs.Prelude.{◌≡◌, ℕ, List, [], drop};
+ghost use Rattle.lapd_store.specs.Store.{SameLimits};
+ghost use Rattle.lapd_store.specs.Ownership.{Owned, Keeps};
+ghost use Rattle.lapd_link_machine.specs.Link as machine;
+ghost use Rattle.lapd_link_machine.specs.Events as event;
+ghost use Rattle.lapd_link_machine.specs.Steps.{Course};
+ghost use Rattle.lapd_link_machine.specs.Machine.{after, told, received_step};
+ghost use Rattle.lapd_link_rows.specs.Does.{Agrees};
+ghost use Rattle.lapd_link_rows.specs.Done.{Took};
+ghost use Rattle.lapd_link.specs.Events.{info_of, received_of};
+
+use crate::link::Link;
+use crate::orders::orders;
+use crate::outcome::{Answer, Outcome};
+use crate::received::Received;
+use lapd_frame::ErrorCode;
+use lapd_link_machine::{LinkTimer, Terms};
+use lapd_link_rows::{Entity, Told};
+use lapd_store::Shelf;
+
+impl Link {
+    ghost use Rattle.lapd_link.specs.Stands.{Stands, Stays, Reaches, terms_of};
+    ghost use Rattle.lapd_link.specs.Outcome.{told_with, told_of};
+
+    /// Something came from the terminal with the link's address. What is delivered is lent from the frame.
+    pub fn frame<'a, S: Shelf>(&mut self, received: Received<'a>, shelf: &mut S) -> Outcome<'a>
+        requires { (others : List Owned) × (m : machine.Link) × Stands self.old (S.store shelf.old) others m }
+        ensures stands { (others : List Owned) (m : machine.Link) → Stands self.old (S.store shelf.old) others m →
+            Stands self.new (S.store shelf.new) others (after (terms_of self.old) (event.received (received_of received.entry)) m) }
+        ensures told { (others : List Owned) (m : machine.Link) → Stands self.old (S.store shelf.old) others m →
+            told_of result ≡ told (terms_of self.old) (event.received (received_of received.entry)) m }
+        ensures terms { terms_of self.new ≡ terms_of self.old }
+        ensures limits { SameLimits (S.store shelf.old) (S.store shelf.new) }
+    {
+        self.receive(received, shelf).lend(received.information())
+    }
+
+    /// The same without lending anything: the answer says whether the frame's information is delivered.
+    pub fn receive<S: Shelf>(&mut self, received: Received<'_>, shelf: &mut S) -> Answer
+        requires { (others : List Owned) × (m : machine.Link) × Stands self.old (S.store shelf.old) others m }
+        ensures stands { (others : List Owned) (m : machine.Link) → Stands self.old (S.store shelf.old) others m →
+            Stands self.new (S.store shelf.new) others (after (terms_of self.old) (event.received (received_of received.entry)) m) }
+        ensures told { (others : List Owned) (m : machine.Link) → Stands self.old (S.store shelf.old) others m →
+            told_with (info_of received.entry) result ≡ told (terms_of self.old) (event.received (received_of received.entry)) m }
+        ensures terms { terms_of self.new ≡ terms_of self.old }
+        ensures limits { SameLimits (S.store shelf.old) (S.store shelf.new) }
+    {
+        let before = self.entity.running();
+        let told = take(&mut self.entity, self.terms, received);
+        self.settle(before, told, shelf)
+    }
+
+    /// A timer expires. One that does not run changes nothing.
+    pub fn expire<S: Shelf>(&mut self, timer: LinkTimer, shelf: &mut S) -> Answer
+        requires { (others : List Owned) × (m : machine.Link) × Stands self.old (S.store shelf.old) others m }
+        ensures stands { (others : List Owned) (m : machine.Link) → Stands self.old (S.store shelf.old) others m →
+            Stands self.new (S.store shelf.new) others (after (terms_of self.old) (event.expired timer) m) }
+        ensures told { (others : List Owned) (m : machine.Link) → Stands self.old (S.store shelf.old) others m →
+            told_with [] result ≡ told (terms_of self.old) (event.expired timer) m }
+        ensures terms { terms_of self.new ≡ terms_of self.old }
+        ensures limits { SameLimits (S.store shelf.old) (S.store shelf.new) }
+    {
+        let before = self.entity.running();
+        let mut told = Told::nothing();
+        self.entity.expire(self.terms, &mut told, timer);
+        self.settle(before, told, shelf)
+    }
+
+    /// The link's TEI leaves the line: its contents are released, and it is as one that begins.
+    pub fn clear<S: Shelf>(&mut self, shelf: &mut S) -> Answer
+        requires { (others : List Owned) × (m : machine.Link) × Stands self.old (S.store shelf.old) others m }
+        ensures stands { (others : List Owned) (m : machine.Link) → Stands self.old (S.store shelf.old) others m →
+            Stands self.new (S.store shelf.new) others (after (terms_of self.old) event.cleared m) }
+        ensures told { (others : List Owned) (m : machine.Link) → Stands self.old (S.store shelf.old) others m →
+            told_with [] result ≡ told (terms_of self.old) event.cleared m }
+        ensures terms { terms_of self.new ≡ terms_of self.old }
+        ensures limits { SameLimits (S.store shelf.old) (S.store shelf.new) }
+    {
+        let before = self.entity.running();
+        let mut told = Told::nothing();
+        self.entity.clear(self.terms, &mut told);
+        self.settle(before, told, shelf)
+    }
+
+    // Ends an event: what it released goes from the shelf, and what it told is answered.
+    pub(crate) fn settle<S: Shelf>(
+        &mut self,
+        before: Option<LinkTimer>,
+        told: Told,
+        shelf: &mut S,
+    ) -> Answer
+        requires { (messages : List (List ℕ)) × (others : List Owned) × Keeps (S.store shelf.old) self.old.queue.slots messages others }
+        ensures reaches { (info : List ℕ) (messages : List (List ℕ)) (others : List Owned) (m : machine.Link) (c : Course) →
+            Keeps (S.store shelf.old) self.old.queue.slots messages others → before ≡ m.running →
+            Agrees (terms_of self.old) info messages c self.old.entity told → Reaches info m c self.new (S.store shelf.new) others result }
+        ensures stays { Stays self.old self.new }
+        ensures limits { SameLimits (S.store shelf.old) (S.store shelf.new) }
+    {
+        self.queue.release_oldest(usize::from(told.released), shelf);
+        Answer {
+            notes: told.notes,
+            delivered: told.delivered,
+            unit: told.unit,
+            orders: orders(self.terms, before, told.started, self.entity.running()),
+            lost: told.lost,
+            unserved: told.unserved,
+        }
+    }
+}
+
+// What comes goes to its rows.
+fn take(entity: &mut Entity, terms: Terms, received: Received<'_>) -> Told
+    ensures { Took terms (info_of received.entry) (received_step terms (received_of received.entry)) entity.old entity.new result }
+{
+    let mut told = Told::nothing();
+    match received {
+        Received::Frame(frame) => entity.frame(
+            terms,
+            &mut told,
+            frame.address.command,
+            frame.control,
+            frame.info.len(),
+        ),
+        Received::Undefined => entity.malformed(terms, &mut told, ErrorCode::L),
+        Received::WrongSize => entity.malformed(terms, &mut told, ErrorCode::N),
+        Received::Overlong => entity.malformed(terms, &mut told, ErrorCode::O),
+    }
+    told
+}

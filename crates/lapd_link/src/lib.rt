@@ -1,0 +1,32 @@
+//! One data link: the acknowledged exchange of contents with one terminal for one service (Q.921 clause 5, states 4 to 8 of
+//! annex B, network side, modulo 128).
+//!
+//! A [`Link`] takes what happens to it one event at a time and answers what its user is told:
+//!
+//! - [`Link::frame`]: something came from the terminal; [`Link::receive`] is the same without lending its contents on;
+//! - [`Link::expire`]: a timer expired;
+//! - [`Link::request`]: layer 3 asks for something;
+//! - [`Link::offer`]: the next frame to be sent;
+//! - [`Link::open`], [`Link::clear`]: its TEI comes to the line, or leaves it.
+//!
+//! What it is proved to be is the machine of `lapd_link_machine`: `specs/Stands.antt` says what a link stands for. The contents
+//! that layer 3 gives lie in slots of a shelf that other links use too. They are copied there once, and freed when they are
+//! acknowledged or given up. After the start no call takes memory.
+#![tactic(auto)]
+
+mod events;
+mod fault;
+mod link;
+mod offers;
+mod orders;
+mod outcome;
+mod received;
+mod requests;
+
+pub use fault::StartFault;
+pub use lapd_link_machine::LinkTimer;
+pub use link::Link;
+pub use offers::Offer;
+pub use outcome::{Answer, Outcome};
+pub use received::Received;
+pub use requests::LinkRequest;

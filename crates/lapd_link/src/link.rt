@@ -1,0 +1,93 @@
+//! A link.
+
+ghost use Rattle.std.specs.Prelude.{◌≡◌, ℕ, List, ◌≤◌, IfOk};
+ghost use Rattle.lapd_store.specs.Store.{Store};
+ghost use Rattle.lapd_store.specs.Ownership.{Owned, Holds};
+ghost use Rattle.lapd_link_machine.specs.declared.states.State.TheVariants.{TeiAssigned};
+ghost use Rattle.lapd_link_machine.specs.Link as machine;
+
+use crate::fault::StartFault;
+use lapd_frame::Service;
+use lapd_link_machine::Terms;
+use lapd_link_rows::Entity;
+use lapd_store::SlotQueue;
+use std::alloc::Global;
+
+/// A data link of one TEI and one service.
+#[derive(Drop)]
+pub struct Link {
+    pub(crate) terms: Terms,
+    pub(crate) entity: Entity,
+    // The slots of the contents that are not acknowledged.
+    pub(crate) queue: SlotQueue,
+}
+
+impl Link {
+    ghost use Rattle.lapd_link.specs.Stands.{Stands, terms_of};
+
+    /// A link that is down, with room for `queue` contents (1 to 127) and `control` control frames that wait (2 to 16). It is
+    /// opened before it serves.
+    ///
+    /// # Errors
+    ///
+    /// `OutOfMemory` where there is no room for them.
+    pub fn start(alloc: Global, queue: u8, control: u8) -> Result<Link, StartFault>
+        requires queue_low { 1 ≤ queue }
+        requires queue_high { queue ≤ 127 }
+        requires control_low { 2 ≤ control }
+        requires control_high { control ≤ 16 }
+        ensures fresh { IfOk result (λ link. (store : Store) (others : List Owned) → 8 ≤ store.width → Holds store others → Stands link store others machine.fresh) }
+        ensures queue { IfOk result (λ link. (terms_of link).queue ≡ queue) }
+        ensures control { IfOk result (λ link. (terms_of link).control ≡ control) }
+    {
+        let entity = Entity::start(alloc, usize::from(control))?;
+        let slots = SlotQueue::start(alloc, usize::from(queue))?;
+        Ok(Link {
+            terms: Terms {
+                service: Service::Call,
+                tei: 0,
+                k: 1,
+                n201: 8,
+                n200: 0,
+                queue,
+                control,
+            },
+            entity,
+            queue: slots,
+        })
+    }
+
+    /// The link's TEI (0 to 126) comes to the line: the link is as one that begins, with a window of `k` (1 to its queue's
+    /// capacity), `n200` repeats (0 to 10) and at most `n201` octets of information (8 to 260, no wider than the shelf).
+    ///
+    /// The link is in state 4.
+    pub fn open(&mut self, service: Service, tei: u8, k: u8, n200: u8, n201: u16)
+        requires tei { tei ≤ 126 }
+        requires k_low { 1 ≤ k }
+        requires k_high { k ≤ (terms_of self.old).queue }
+        requires n200 { n200 ≤ 10 }
+        requires n201_low { 8 ≤ n201 }
+        requires n201_high { n201 ≤ 260 }
+        requires down { self.old.entity.state ≡ TeiAssigned }
+        ensures terms { terms_of self.new ≡ record (terms_of self.old) { service = service; tei = tei; k = k; n200 = n200; n201 = n201 } }
+        ensures fresh { (store : Store) (others : List Owned) (m : machine.Link) → n201 ≤ store.width → Stands self.old store others m → Stands self.new store others machine.fresh }
+    {
+        self.terms = Terms {
+            service,
+            tei,
+            k,
+            n201,
+            n200,
+            queue: self.terms.queue,
+            control: self.terms.control,
+        };
+        self.entity.begin();
+    }
+
+    /// The link's state, 4 to 8 (annex B).
+    pub fn state(&self) -> u8
+        ensures { (store : Store) (others : List Owned) (m : machine.Link) → Stands self.now store others m → result ≡ machine.state_number m.state }
+    {
+        self.entity.state().number()
+    }
+}

@@ -1,0 +1,61 @@
+//! The next frame that is sent.
+
+ghost use Rattle.std.specs.Prelude.{◌≡◌, ℕ, List, None, Some, slice_get, MatchOption};
+ghost use Rattle.lapd_store.specs.Store.{Store};
+ghost use Rattle.lapd_store.specs.Ownership.{Owned};
+ghost use Rattle.lapd_link_machine.specs.Link as machine;
+ghost use Rattle.lapd_link_machine.specs.Events as event;
+ghost use Rattle.lapd_link_machine.specs.Machine.{after, given};
+
+use crate::link::Link;
+use crate::orders::orders;
+use lapd_frame::{Order, ShortList};
+use lapd_link_machine::ControlFrame;
+use lapd_link_rows::Told;
+use lapd_store::Slot;
+
+/// A frame that a link gives to be sent.
+#[derive(Clone, Copy, PartialEq, Eq, Debug)]
+pub struct Offer {
+    /// Command or response, and the control field.
+    pub frame: ControlFrame,
+    /// Where on the shelf the contents of an I-frame lie. They stay there until the link's next event.
+    pub contents: Option<Slot>,
+    /// What is to be done with T200 and then T203.
+    pub orders: ShortList<Order>,
+}
+
+impl Link {
+    ghost use Rattle.lapd_link.specs.Stands.{Stands, terms_of};
+    ghost use Rattle.lapd_link.specs.Outcome.{given_by};
+
+    /// The next frame to be sent, if there is one: the control frame that has waited longest; else, in state 7, an I-frame
+    /// with the first contents that are unsent, where the terminal is not busy and the window is open; else the
+    /// acknowledgement that is owed.
+    pub fn offer(&mut self) -> Option<Offer>
+        requires { (store : Store) × (others : List Owned) × (m : machine.Link) × Stands self.old store others m }
+        ensures stands { (store : Store) (others : List Owned) (m : machine.Link) → Stands self.old store others m →
+            Stands self.new store others (after (terms_of self.old) event.offer m) }
+        ensures given { (store : Store) (others : List Owned) (m : machine.Link) → Stands self.old store others m →
+            given_by store result ≡ given (terms_of self.old) m }
+        ensures terms { terms_of self.new ≡ terms_of self.old }
+    {
+        let before = self.entity.running();
+        let mut told = Told::nothing();
+        match self.entity.offer(self.terms, &mut told, self.queue.len()) {
+            None => None,
+            Some(given) => Some(Offer {
+                frame: given.frame,
+                contents: self.slot_at(given.place),
+                orders: orders(self.terms, before, told.started, self.entity.running()),
+            }),
+        }
+    }
+
+    // The slot at a place of the queue.
+    fn slot_at(&self, place: Option<usize>) -> Option<Slot>
+        ensures { MatchOption place (result ≡ None) (λ at. result ≡ slice_get self.now.queue.slots at) }
+    {
+        self.queue.get(place?)
+    }
+}

@@ -1,0 +1,57 @@
+//! What an event is answered with.
+
+ghost use Rattle.std.specs.Prelude.{◌≡◌};
+
+use lapd_frame::{Note, Order, ShortList};
+
+/// What an event told, without the contents that it delivered.
+#[derive(Clone, Copy, PartialEq, Eq, Debug)]
+pub struct Answer {
+    /// What layer 3 and layer management are told, in order: at most two notes.
+    pub notes: ShortList<Note>,
+    /// Whether the information of the frame is delivered, as that of an I-frame.
+    pub delivered: bool,
+    /// Whether it is told as unit data, as that of a UI frame.
+    pub unit: bool,
+    /// What is to be done with T200 and then T203, at most one order each.
+    pub orders: ShortList<Order>,
+    /// How many control frames found no place to wait: they are lost, as if on the line. At most two.
+    pub lost: u8,
+    /// Whether the state does not serve the frame.
+    pub unserved: bool,
+}
+
+/// What an event told, with the contents that it delivered, lent from the frame.
+#[derive(Clone, Copy, PartialEq, Eq, Debug)]
+pub struct Outcome<'a> {
+    /// What layer 3 and layer management are told, in order: at most two notes.
+    pub notes: ShortList<Note>,
+    /// The contents of an I-frame that are delivered.
+    pub delivered: Option<&'a [u8]>,
+    /// The contents of a UI frame.
+    pub unit: Option<&'a [u8]>,
+    /// What is to be done with T200 and then T203, at most one order each.
+    pub orders: ShortList<Order>,
+    /// How many control frames found no place to wait: they are lost, as if on the line. At most two.
+    pub lost: u8,
+    /// Whether the state does not serve the frame.
+    pub unserved: bool,
+}
+
+impl Answer {
+    ghost use Rattle.lapd_link.specs.Outcome.{told_with, told_of};
+
+    /// The answer with the frame's information lent where it is delivered.
+    pub fn lend<'a>(&self, information: &'a [u8]) -> Outcome<'a>
+        ensures { told_of result ≡ told_with information.now self.now }
+    {
+        Outcome {
+            notes: self.notes,
+            delivered: self.delivered.then_some(information),
+            unit: self.unit.then_some(information),
+            orders: self.orders,
+            lost: self.lost,
+            unserved: self.unserved,
+        }
+    }
+}

@@ -1,0 +1,236 @@
+//! What layer 3 asks for.
+
+ghost use Rattle.std.specs.Prelude.{◌≡◌, ℕ, ◌<◌, ◌≤◌, nat_le, false, List, [], length, None, Some, ◌++◌, ◌∷◌, IfOk, IfErr, IfNone, OnOk, OnErr};
+ghost use Rattle.lapd_store.specs.Store.{Store, used_slots, SameLimits};
+ghost use Rattle.lapd_store.specs.Ownership.{Owned, Keeps};
+ghost use Rattle.lapd_frame.specs.declared.refusals.Refusal.{Refusal};
+ghost use Rattle.lapd_link_machine.specs.Link as machine;
+ghost use Rattle.lapd_link_machine.specs.Events as event;
+ghost use Rattle.lapd_link_machine.specs.Steps.{begun};
+ghost use Rattle.lapd_link_machine.specs.Requests as asked;
+ghost use Rattle.lapd_link_machine.specs.Machine.{after, told};
+ghost use Rattle.lapd_link_machine.specs.TeiAssigned.{establish_in_4};
+ghost use Rattle.lapd_link_machine.specs.MultipleFrame.{transfer_in_7_8, set_busy_in_7_8, clear_busy_in_7_8};
+
+use crate::link::Link;
+use crate::outcome::Answer;
+use lapd_frame::Refusal;
+use lapd_link_machine::State;
+use lapd_link_rows::Told;
+use lapd_store::Shelf;
+
+/// What layer 3 asks of a link (Q.921 clauses 4.1.1 and 5.6.6).
+#[derive(Clone, Copy, PartialEq, Eq, Debug)]
+pub enum LinkRequest<'a> {
+    /// DL-ESTABLISH request.
+    Establish,
+    /// DL-RELEASE request.
+    Release,
+    /// DL-DATA request: these contents are to be sent.
+    Data(&'a [u8]),
+    /// Layer 3 can take no more contents,
+    SetBusy,
+    /// or can take them again.
+    ClearBusy,
+}
+
+impl Link {
+    ghost use Rattle.lapd_link.specs.Stands.{Stands, Stays, Reaches, HasRoom, HasPlace, terms_of};
+    ghost use Rattle.lapd_link.specs.Events.{request_of};
+    ghost use Rattle.lapd_link.specs.Outcome.{told_with};
+
+    /// Layer 3 asks for something, where all users of the shelf together may hold `slots` contents, at most as many as the
+    /// shelf has slots.
+    ///
+    /// # Errors
+    ///
+    /// The first of these that holds; then nothing changes, neither link nor shelf. `WrongState`: `Establish` not in state 4,
+    /// `Release` not in 4, 7 or 8, the others not in 7 or 8. `TooLong`: contents over N201. `QueueFull`: the link keeps as many
+    /// contents as it may. `PoolFull`: `slots` contents are held.
+    pub fn request<S: Shelf>(
+        &mut self,
+        request: LinkRequest<'_>,
+        shelf: &mut S,
+        slots: u32,
+    ) -> Result<Answer, Refusal>
+        requires stands { (others : List Owned) × (m : machine.Link) × Stands self.old (S.store shelf.old) others m }
+        requires slots { slots ≤ (S.store shelf.old).slots }
+        ensures refused { IfErr result (λ refusal. (others : List Owned) (m : machine.Link) → Stands self.old (S.store shelf.old) others m →
+            asked.refusal (terms_of self.old) m (nat_le slots (used_slots (S.store shelf.old))) (request_of request.entry) ≡ Some refusal) }
+        ensures unchanged { OnErr result (self.new ≡ self.old) }
+        ensures shelf_unchanged { OnErr result (shelf.new ≡ shelf.old) }
+        ensures granted { OnOk result ((others : List Owned) (m : machine.Link) → Stands self.old (S.store shelf.old) others m →
+            asked.refusal (terms_of self.old) m (nat_le slots (used_slots (S.store shelf.old))) (request_of request.entry) ≡ None) }
+        ensures stands { OnOk result ((others : List Owned) (m : machine.Link) → Stands self.old (S.store shelf.old) others m →
+            Stands self.new (S.store shelf.new) others (after (terms_of self.old) (event.requested (request_of request.entry) (nat_le slots (used_slots (S.store shelf.old)))) m)) }
+        ensures told { IfOk result (λ answer. (others : List Owned) (m : machine.Link) → Stands self.old (S.store shelf.old) others m →
+            told_with [] answer ≡ told (terms_of self.old) (event.requested (request_of request.entry) (nat_le slots (used_slots (S.store shelf.old)))) m) }
+        ensures terms { terms_of self.new ≡ terms_of self.old }
+        ensures limits { SameLimits (S.store shelf.old) (S.store shelf.new) }
+    {
+        match self.refusal(request, slots <= shelf.used()) {
+            Some(refusal) => Err(refusal),
+            None => Ok(self.grant(request, shelf)),
+        }
+    }
+
+    // Why a request is refused.
+    fn refusal(&self, request: LinkRequest<'_>, pool_is_full: bool) -> Option<Refusal>
+        ensures machine { (store : Store) (others : List Owned) (m : machine.Link) → Stands self.now store others m →
+            result ≡ asked.refusal (terms_of self.now) m pool_is_full (request_of request.entry) }
+        ensures room { IfNone result (HasRoom (request_of request.entry) self.now pool_is_full) }
+    {
+        if !serves(self.entity.state(), request) {
+            return Some(Refusal::WrongState);
+        }
+        match request {
+            LinkRequest::Data(octets) => self.refusal_of_contents(octets.len(), pool_is_full),
+            _ => None,
+        }
+    }
+
+    // Why so many octets of contents are refused.
+    fn refusal_of_contents(&self, octets: usize, pool_is_full: bool) -> Option<Refusal>
+        ensures machine { (store : Store) (others : List Owned) (m : machine.Link) (contents : List ℕ) → Stands self.now store others m → length contents ≡ octets →
+            result ≡ asked.refusal_of_contents (terms_of self.now) m pool_is_full contents }
+        ensures room { IfNone result ((octets ≤ (terms_of self.now).n201) × (length self.now.queue.slots < (terms_of self.now).queue) × (pool_is_full ≡ false)) }
+    {
+        if usize::from(self.terms.n201) < octets {
+            return Some(Refusal::TooLong);
+        }
+        if usize::from(self.terms.queue) <= self.queue.len() {
+            return Some(Refusal::QueueFull);
+        }
+        if pool_is_full {
+            return Some(Refusal::PoolFull);
+        }
+        None
+    }
+
+    // Does what is asked for, which is not refused.
+    fn grant<S: Shelf>(&mut self, request: LinkRequest<'_>, shelf: &mut S) -> Answer
+        requires stands { (others : List Owned) × (m : machine.Link) × Stands self.old (S.store shelf.old) others m }
+        requires place { HasPlace (request_of request) self.old (S.store shelf.old) }
+        ensures reaches { (others : List Owned) (m : machine.Link) → Stands self.old (S.store shelf.old) others m →
+            Reaches [] m (asked.granted (terms_of self.old) (request_of request.entry) (begun m)) self.new (S.store shelf.new) others result }
+        ensures stays { Stays self.old self.new }
+        ensures limits { SameLimits (S.store shelf.old) (S.store shelf.new) }
+    {
+        match request {
+            LinkRequest::Establish => self.establish(shelf),
+            LinkRequest::Release => self.release(shelf),
+            LinkRequest::Data(octets) => self.transfer(octets, shelf),
+            LinkRequest::SetBusy => self.set_busy(shelf),
+            LinkRequest::ClearBusy => self.clear_busy(shelf),
+        }
+    }
+
+    fn establish<S: Shelf>(&mut self, shelf: &mut S) -> Answer
+        requires { (others : List Owned) × (m : machine.Link) × Stands self.old (S.store shelf.old) others m }
+        ensures reaches { (others : List Owned) (m : machine.Link) → Stands self.old (S.store shelf.old) others m →
+            Reaches [] m (establish_in_4 (terms_of self.old) (begun m)) self.new (S.store shelf.new) others result }
+        ensures stays { Stays self.old self.new }
+        ensures limits { SameLimits (S.store shelf.old) (S.store shelf.new) }
+    {
+        let before = self.entity.running();
+        let mut told = Told::nothing();
+        self.entity.establish_in_4(self.terms, &mut told);
+        self.settle(before, told, shelf)
+    }
+
+    fn release<S: Shelf>(&mut self, shelf: &mut S) -> Answer
+        requires { (others : List Owned) × (m : machine.Link) × Stands self.old (S.store shelf.old) others m }
+        ensures reaches { (others : List Owned) (m : machine.Link) → Stands self.old (S.store shelf.old) others m →
+            Reaches [] m (asked.release_in m.state (terms_of self.old) (begun m)) self.new (S.store shelf.new) others result }
+        ensures stays { Stays self.old self.new }
+        ensures limits { SameLimits (S.store shelf.old) (S.store shelf.new) }
+    {
+        let before = self.entity.running();
+        let mut told = Told::nothing();
+        self.entity.release(self.terms, &mut told);
+        self.settle(before, told, shelf)
+    }
+
+    fn set_busy<S: Shelf>(&mut self, shelf: &mut S) -> Answer
+        requires { (others : List Owned) × (m : machine.Link) × Stands self.old (S.store shelf.old) others m }
+        ensures reaches { (others : List Owned) (m : machine.Link) → Stands self.old (S.store shelf.old) others m →
+            Reaches [] m (set_busy_in_7_8 (terms_of self.old) (begun m)) self.new (S.store shelf.new) others result }
+        ensures stays { Stays self.old self.new }
+        ensures limits { SameLimits (S.store shelf.old) (S.store shelf.new) }
+    {
+        let before = self.entity.running();
+        let mut told = Told::nothing();
+        self.entity.set_busy_in_7_8(self.terms, &mut told);
+        self.settle(before, told, shelf)
+    }
+
+    fn clear_busy<S: Shelf>(&mut self, shelf: &mut S) -> Answer
+        requires { (others : List Owned) × (m : machine.Link) × Stands self.old (S.store shelf.old) others m }
+        ensures reaches { (others : List Owned) (m : machine.Link) → Stands self.old (S.store shelf.old) others m →
+            Reaches [] m (clear_busy_in_7_8 (terms_of self.old) (begun m)) self.new (S.store shelf.new) others result }
+        ensures stays { Stays self.old self.new }
+        ensures limits { SameLimits (S.store shelf.old) (S.store shelf.new) }
+    {
+        let before = self.entity.running();
+        let mut told = Told::nothing();
+        self.entity.clear_busy_in_7_8(self.terms, &mut told);
+        self.settle(before, told, shelf)
+    }
+
+    // The contents go to the end of the queue.
+    fn transfer<S: Shelf>(&mut self, octets: &[u8], shelf: &mut S) -> Answer
+        requires stands { (others : List Owned) × (m : machine.Link) × Stands self.old (S.store shelf.old) others m }
+        requires place { HasPlace (event.transfer octets.now) self.old (S.store shelf.old) }
+        ensures reaches { (others : List Owned) (m : machine.Link) → Stands self.old (S.store shelf.old) others m →
+            Reaches [] m (transfer_in_7_8 octets.now (begun m)) self.new (S.store shelf.new) others result }
+        ensures stays { Stays self.old self.new }
+        ensures limits { SameLimits (S.store shelf.old) (S.store shelf.new) }
+    {
+        let before = self.entity.running();
+        self.keep(octets, shelf);
+        self.settle(before, Told::nothing(), shelf)
+    }
+
+    fn keep<S: Shelf>(&mut self, octets: &[u8], shelf: &mut S)
+        requires { HasPlace (event.transfer octets.now) self.old (S.store shelf.old) }
+        ensures kept { (messages : List (List ℕ)) (others : List Owned) → Keeps (S.store shelf.old) self.old.queue.slots messages others →
+            Keeps (S.store shelf.new) self.new.queue.slots (messages ++ octets.now ∷ []) others }
+        ensures entity { self.new.entity ≡ self.old.entity }
+        ensures stays { Stays self.old self.new }
+        ensures limits { SameLimits (S.store shelf.old) (S.store shelf.new) }
+    {
+        if let Some(slot) = shelf.put(octets) {
+            self.queue.push(slot);
+        }
+    }
+}
+
+ghost use Rattle.lapd_link.specs.Events.{request_of};
+
+// Whether the state serves the request.
+fn serves(state: State, request: LinkRequest<'_>) -> bool
+    ensures { result ≡ asked.serves state (request_of request.entry) }
+{
+    match request {
+        LinkRequest::Establish => is_down(state),
+        LinkRequest::Release => is_down(state) || is_multiple_frame(state),
+        LinkRequest::Data(_) => is_multiple_frame(state),
+        LinkRequest::SetBusy => is_multiple_frame(state),
+        LinkRequest::ClearBusy => is_multiple_frame(state),
+    }
+}
+
+fn is_down(state: State) -> bool
+    ensures { result ≡ asked.is_down state }
+{
+    matches!(state, State::TeiAssigned)
+}
+
+fn is_multiple_frame(state: State) -> bool
+    ensures { result ≡ machine.is_multiple_frame state }
+{
+    match state {
+        State::Established | State::TimerRecovery => true,
+        State::TeiAssigned | State::AwaitingEstablishment | State::AwaitingRelease => false,
+    }
+}

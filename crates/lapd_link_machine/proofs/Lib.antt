@@ -8,3 +8,10 @@ pub mod SoundEvents
 pub mod Owes
 pub mod RiseRows
 pub mod RiseEvents
+pub mod Counting
+pub mod CountRows
+pub mod Delivering
+pub mod Numbering
+pub mod Slots
+pub mod Telling
+pub mod TellRows

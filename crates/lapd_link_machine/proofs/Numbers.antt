@@ -11,7 +11,7 @@ use Rattle.lapd_link_machine.specs.declared.timers.LinkTimer.{LinkTimer}
 use Rattle.lapd_link_machine.specs.declared.frames.ControlFrame.{ControlFrame}
 use Rattle.lapd_link_machine.specs.declared.terms.Terms.{Terms}
 use Rattle.lapd_link_machine.specs.Link.{Link}
-use Rattle.lapd_link_machine.specs.Sound.{IsInRange, IsWaitingFrame}
+use Rattle.lapd_link_machine.specs.Sound.{IsWaitingFrame}
 use Rattle.lapd_link_machine.specs.Steps.{Course, ◌then◌}
 use Rattle.lapd_link_machine.specs.Words
 use Rattle.lapd_link_machine.proofs.Leads.{Leads, keeping_then}
@@ -109,7 +109,7 @@ send_keeps t X f g =
       leads = λ c h. record { bounded = sending t f c.link.contents c.link.a c.link.s c.link.waiting g h.bounded; claim = h.claim };
     }
 
-module _ (t : Terms) (r : IsInRange t) (X : Claim) where
+module _ (t : Terms) (r : t.tei ≤ 126) (X : Claim) where
   pub ua_keeps : (f : Bool) → Leads (Bound t X) (Words.send t (Words.response (Ua f))) (Bound t X)
   ua_keeps f = send_keeps t X (Words.response (Ua f)) (ua_waits t r f)
 

@@ -200,25 +200,25 @@ module _ (t : Terms) (total : ℕ) (X : Claim) (p : Purse) where
 
 module _ (t : Terms) (r : IsInRange t) (total : ℕ) (X : Claim) (p : Purse) where
   pub ua_paid : (f : Bool) → Leads (Owes t total X (coin p)) (Words.send t (Words.response (Ua f))) (Owes t total X p)
-  ua_paid f = send_paid t total X p (Words.response (Ua f)) (ua_keeps t r X f)
+  ua_paid f = send_paid t total X p (Words.response (Ua f)) (ua_keeps t r.tei X f)
 
   pub dm_paid : (f : Bool) → Leads (Owes t total X (coin p)) (Words.send t (Words.response (Dm f))) (Owes t total X p)
-  dm_paid f = send_paid t total X p (Words.response (Dm f)) (dm_keeps t r X f)
+  dm_paid f = send_paid t total X p (Words.response (Dm f)) (dm_keeps t r.tei X f)
 
   pub sabme_paid : (b : Bool) → Leads (Owes t total X (coin p)) (Words.send t (Words.command (Sabme b))) (Owes t total X p)
-  sabme_paid b = send_paid t total X p (Words.command (Sabme b)) (sabme_keeps t r X b)
+  sabme_paid b = send_paid t total X p (Words.command (Sabme b)) (sabme_keeps t r.tei X b)
 
   pub disc_paid : (b : Bool) → Leads (Owes t total X (coin p)) (Words.send t (Words.command (Disc b))) (Owes t total X p)
-  disc_paid b = send_paid t total X p (Words.command (Disc b)) (disc_keeps t r X b)
+  disc_paid b = send_paid t total X p (Words.command (Disc b)) (disc_keeps t r.tei X b)
 
   pub enquire_paid : Leads (Owes t total X (coin p)) (Words.enquire t) (Owes t total X p)
-  enquire_paid = moment_paid t total X p (λ l. Words.command (Words.ready_to_receive true l)) (enquire_keeps t r X)
+  enquire_paid = moment_paid t total X p (λ l. Words.command (Words.ready_to_receive true l)) (enquire_keeps t r.tei X)
 
   pub answer_paid : Leads (Owes t total X (coin p)) (Words.answer t) (Owes t total X p)
-  answer_paid = moment_paid t total X p (λ l. Words.response (Words.ready_to_receive true l)) (answer_keeps t r X)
+  answer_paid = moment_paid t total X p (λ l. Words.response (Words.ready_to_receive true l)) (answer_keeps t r.tei X)
 
   pub report_paid : Leads (Owes t total X (coin p)) (Words.report_ready t) (Owes t total X p)
-  report_paid = moment_paid t total X p (λ l. Words.response (Words.ready_to_receive false l)) (report_keeps t r X)
+  report_paid = moment_paid t total X p (λ l. Words.response (Words.ready_to_receive false l)) (report_keeps t r.tei X)
 
   pub reject_paid : (f : Bool) → Leads (Owes t total X (coin p)) (Words.reject t f) (Owes t total X p)
-  reject_paid f = moment_paid t total X p (λ l. Words.response (Reject (seq l.r) f)) (reject_keeps t r X f)
+  reject_paid f = moment_paid t total X p (λ l. Words.response (Reject (seq l.r) f)) (reject_keeps t r.tei X f)

@@ -184,7 +184,7 @@ module _ (t : Terms) (r : IsInRange t) (total : ℕ) where
   contents_cost ns b octets = search words depth 12 fits 4000
 
   acknowledge_free : {p : Purse} (m : ℕ) → Leads (Owes t total (names m) p) (Words.acknowledge m) (Owes t total (names m) p)
-  acknowledge_free m = free (acknowledge_keeps t r m) (λ c h. le_refl (owed t c))
+  acknowledge_free m = free (acknowledge_keeps t r.tei m) (λ c h. le_refl (owed t c))
 
   -- by the N(R): an invalid one costs a frame, SABME
   by-number : {X : Claim} {Y : ℕ → Claim} {p : Purse} (nr : Seq) (f : ℕ → Step)
@@ -263,7 +263,7 @@ module _ (t : Terms) (r : IsInRange t) (total : ℕ) where
   -- state 8
   pub information_in_8 : {p : Purse} (ns nr : Seq) (b : Bool) (octets : List ℕ)
       → Leads (Owes t total in_8 (coin (coin p))) (MultipleFrame.information_in_7_8 t ns nr b octets Words.acknowledge) (Within t total)
-  information_in_8 ns nr b octets = information_costs ns nr b octets Words.acknowledge (search (rows, number_in_8, recovered_ends) depth 12 fits 4000)
+  information_in_8 ns nr b octets = information_costs ns nr b octets Words.acknowledge (search (rows, number_in_8) depth 12 fits 4000)
 
   pub supervisory_in_8 : {p : Purse} (b : Bool) (octets : List ℕ) (nr : Seq) (pf : Bool)
       → Leads (Owes t total in_8 (coin (coin p))) (TimerRecovery.frame_in_8 t b octets (ReceiveReady nr pf)) (Within t total)

@@ -92,7 +92,7 @@ sound-bound t c h =
       frames = h.bounded.frames;
     }
 
-module _ (t : Terms) (r : IsInRange t) where
+module _ (t : Terms) (r : t.tei ≤ 126) where
   -- A step that is chosen by the state, from each state.
   by-state : (f : State → Step) → ((here : State) → Leads (Bound t (start here)) (f here) (Bound t settled))
       → (c : Course) → Bound t settled c → (here : State) → c.link.state ≡ here → Bound t settled (f here c)
@@ -223,7 +223,7 @@ with-room t full octets l e =
     let free = not-first (nat_le t.queue (length (queue_of l))) _ QueueFull small.1 in
     (ltb-false t.n201 (length octets) small.0, leb-false t.queue (length (queue_of l)) free.0)
 
-module _ (t : Terms) (r : IsInRange t) where
+module _ (t : Terms) (r : t.tei ≤ 126) where
   transferring : (octets : List ℕ) (c : Course) → Bound t settled c → IsTrue (is_multiple_frame c.link.state)
       → length octets ≤ t.n201 → length (drop c.link.a c.link.contents) < t.queue → Bound t settled (transfer_in_7_8 octets c)
   transferring octets c h m small free =
@@ -349,16 +349,20 @@ module _ (t : Terms) (r : IsInRange t) where
   steps_lead Events.offer = record { leads = λ c h. offering c h c.link.waiting refl }
   steps_lead Events.cleared = cleared_leads t r
 
-  pub sound-after : (e : Events.Event) (l : Link) → IsSound t l → IsSound t (Machine.after t e l)
-  sound-after e l h = sound-bound t (Machine.course t e l) ((steps_lead e).leads (begun l) (bound-sound t l h))
+-- A sound link stays sound.
+pub sound-step : (t : Terms) → t.tei ≤ 126 → (e : Events.Event) (l : Link) → IsSound t l → IsSound t (Machine.after t e l)
+sound-step t r e l h = sound-bound t (Machine.course t e l) ((steps_lead t r e).leads (begun l) (bound-sound t l h))
 
-  pub sound-fresh : IsSound t fresh
-  sound-fresh = sound-bound t (Words.begin_anew (begun fresh)) ((begins_anew t r settled).leads (begun fresh) (record {
-    bounded = record { ordered = omega arith; accepted = omega arith; within = omega arith; queue = omega arith; ring = omega arith; sizes = All-nil (λ octets. length octets ≤ t.n201); frames = All-nil (IsWaitingFrame t) };
-    claim = refl;
-  }))
+pub sound-after : (t : Terms) → IsInRange t → (e : Events.Event) (l : Link) → IsSound t l → IsSound t (Machine.after t e l)
+sound-after t r e l h = sound-step t r.tei e l h
 
-  pub sound-all : (es : List Events.Event) (l : Link) → IsSound t l → IsSound t (Machine.after_all t es l)
-  unfolding Machine.after_all
-  sound-all [] l h = h
-  sound-all (e ∷ es) l h = sound-all es (Machine.after t e l) (sound-after e l h)
+pub sound-fresh : (t : Terms) → IsInRange t → IsSound t fresh
+sound-fresh t r = sound-bound t (Words.begin_anew (begun fresh)) ((begins_anew t r.tei settled).leads (begun fresh) (record {
+  bounded = record { ordered = omega arith; accepted = omega arith; within = omega arith; queue = omega arith; ring = omega arith; sizes = All-nil (λ octets. length octets ≤ t.n201); frames = All-nil (IsWaitingFrame t) };
+  claim = refl;
+}))
+
+pub sound-all : (t : Terms) → IsInRange t → (es : List Events.Event) (l : Link) → IsSound t l → IsSound t (Machine.after_all t es l)
+unfolding Machine.after_all
+sound-all t r [] l h = h
+sound-all t r (e ∷ es) l h = sound-all t r es (Machine.after t e l) (sound-after t r e l h)

@@ -12,7 +12,6 @@ use Rattle.lapd_frame.specs.declared.notes.ErrorCode.TheVariants as code
 use Rattle.lapd_link_machine.specs.declared.states.State.TheVariants.{TeiAssigned, AwaitingRelease}
 use Rattle.lapd_link_machine.specs.declared.frames.ControlFrame.{ControlFrame}
 use Rattle.lapd_link_machine.specs.declared.terms.Terms.{Terms}
-use Rattle.lapd_link_machine.specs.Sound.{IsInRange}
 use Rattle.lapd_link_machine.specs.Steps.{Course, Step, ◌then◌}
 use Rattle.lapd_link_machine.specs.Words
 use Rattle.lapd_link_machine.specs.TeiAssigned.{frame_in_4, establish_in_4}
@@ -42,7 +41,7 @@ named-within a s m nr e =
     let same : a + distance_of (seq a) nr ≡ m = h.1 in
     (omega arith, omega arith)
 
-module _ (t : Terms) (r : IsInRange t) where
+module _ (t : Terms) (r : t.tei ≤ 126) where
   pub re_establish_leads : (X : Claim) → Leads (Bound t X) (Words.re_establish t) (Bound t settled)
   re_establish_leads X = search entries depth 12
 
@@ -108,7 +107,7 @@ module _ (t : Terms) (r : IsInRange t) where
 
 ruleset ends = (entries, multiple_ends, names_ends, down_ends, awaiting_ends)
 
-module _ (t : Terms) (r : IsInRange t) where
+module _ (t : Terms) (r : t.tei ≤ 126) where
   -- a row that goes on whatever it has led to
   anything_ends : {X : Claim} {f : Step} → Leads (Bound t X) f (Bound t X) → Leads (Bound t X) f (Bound t anything)
   anything_ends {X} x = to_less (weaker t X anything (λ a s n state asked h. tt)) x

@@ -11,7 +11,7 @@ use Rattle.lapd_frame.specs.Services.{sapi_of}
 use Rattle.lapd_link_machine.specs.declared.terms.Terms.{Terms}
 use Rattle.lapd_link_machine.specs.declared.frames.ControlFrame.{ControlFrame}
 use Rattle.lapd_link_machine.specs.Link.{Link, frame_of}
-use Rattle.lapd_link_machine.specs.Sound.{IsInRange, IsWaitingFrame}
+use Rattle.lapd_link_machine.specs.Sound.{IsWaitingFrame}
 use Rattle.lapd_link_machine.specs.Words.{command, response, ready_to_receive}
 
 sapi-small : (service : Service) → sapi_of service < 64
@@ -19,14 +19,13 @@ sapi-small Call = omega arith
 sapi-small Packet = omega arith
 
 -- a frame of a row of table 5 without information
-waits : (t : Terms) (f : ControlFrame) → IsInRange t → IsTrue (allows (row f.control).kind f.command) → IsTrue (takes (row f.control).info 0)
+waits : (t : Terms) (f : ControlFrame) → t.tei ≤ 126 → IsTrue (allows (row f.control).kind f.command) → IsTrue (takes (row f.control).info 0)
     → length (spelling Network (frame_of t f)) ≤ 4 → IsWaitingFrame t f
 waits t f r kind size small =
     let sapi : sapi_of t.service < 64 = sapi-small t.service in
-    let tei : t.tei ≤ 126 = r.tei in
     record { is_frame = record { sapi = sapi; tei = omega arith; kind = kind; size = size }; octets = small }
 
-module _ (t : Terms) (r : IsInRange t) where
+module _ (t : Terms) (r : t.tei ≤ 126) where
   pub ua_waits : (f : Bool) → IsWaitingFrame t (response (Ua f))
   ua_waits f = waits t (response (Ua f)) r refl refl (omega arith)
 

@@ -16,6 +16,8 @@ pub mod Machine
 pub mod Sound
 pub mod Rises
 pub mod Deliveries
+pub mod Numbered
+pub mod Notes
 pub mod Worked
 pub mod WorkedRelease
 pub mod WorkedTransfer

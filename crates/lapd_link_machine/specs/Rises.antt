@@ -10,7 +10,7 @@ use Rattle.lapd_link_machine.specs.declared.states.State.{State}
 use Rattle.lapd_link_machine.specs.declared.states.State.TheVariants.{TeiAssigned, AwaitingEstablishment, AwaitingRelease, Established, TimerRecovery}
 use Rattle.lapd_link_machine.specs.declared.terms.Terms.{Terms}
 use Rattle.lapd_link_machine.specs.Link.{Link, unsent, is_multiple_frame, frame_of}
-use Rattle.lapd_link_machine.specs.Events.{frame, undefined, wrong_size, overlong, Event, received, expired, requested, offer, cleared}
+use Rattle.lapd_link_machine.specs.Events.{frame, undefined, wrong_size, overlong, establish, release, transfer, set_busy, clear_busy, Event, received, expired, requested, offer, cleared}
 use Rattle.lapd_link_machine.specs.Requests.{refusal}
 use Rattle.lapd_link_machine.specs.Machine.{is_running, course, after}
 
@@ -70,6 +70,18 @@ price t (expired timer) l = if is_running timer l then t.k + 1 else 0
 price t (requested request pool_is_full) l = if is_some (refusal t l pool_is_full request) then 0 else 1
 price t offer l = 0
 price t cleared l = 0
+
+-- By how many slots of the shelf an event lets the link's contents grow: contents that are not refused take one.
+abbrev pub grows : Terms → Event → Link → ℕ
+grows t (received r) l = 0
+grows t (expired timer) l = 0
+grows t (requested establish pool_is_full) l = 0
+grows t (requested release pool_is_full) l = 0
+grows t (requested (transfer octets) pool_is_full) l = if is_some (refusal t l pool_is_full (transfer octets)) then 0 else 1
+grows t (requested set_busy pool_is_full) l = 0
+grows t (requested clear_busy pool_is_full) l = 0
+grows t offer l = 0
+grows t cleared l = 0
 
 -- The same of a list of events.
 unfoldable pub sent_in_all : Terms → List Event → Link → ℕ

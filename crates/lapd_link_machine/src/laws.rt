@@ -1,11 +1,18 @@
 //! What holds of the machine itself. Each law is the contract of a call that does nothing.
 
-ghost use Rattle.std.specs.Prelude.{◌≤◌, ◌+◌, ◌*◌, List};
+ghost use Rattle.std.specs.Prelude.{◌≡◌, ℕ, ◌+◌, ◌*◌, ◌%◌, ◌≤◌, ◌⊎◌, List, length, None, is_some};
+ghost use Rattle.std.specs.List.{list_any};
+ghost use Rattle.std.specs.Prelude.{Option};
 ghost use Rattle.lapd_link_machine.specs.declared.terms.Terms.{Terms};
-ghost use Rattle.lapd_link_machine.specs.Link.{Link, fresh};
-ghost use Rattle.lapd_link_machine.specs.Events.{Event, offer};
-ghost use Rattle.lapd_link_machine.specs.Machine.{after, after_all};
-ghost use Rattle.lapd_link_machine.specs.Rises.{waiting, sent, price, sent_in_all, price_of_all};
+ghost use Rattle.lapd_link_machine.specs.Link.{Link, fresh, queue_of};
+ghost use Rattle.lapd_link_machine.specs.Events.{Event, offer, cleared};
+ghost use Rattle.lapd_link_machine.specs.Machine.{after, after_all, told};
+ghost use Rattle.lapd_link_machine.specs.Notes.{is_data};
+ghost use Rattle.lapd_link_machine.specs.Told.{orders_for};
+ghost use Rattle.lapd_link_machine.specs.declared.timers.LinkTimer.{LinkTimer};
+ghost use Rattle.lapd_link_machine.specs.Deliveries.{Arrived, eligible};
+ghost use Rattle.lapd_link_machine.specs.Numbered.{History, nothing_yet, with_event, with_all, IsNumbered};
+ghost use Rattle.lapd_link_machine.specs.Rises.{waiting, grows, sent, price, sent_in_all, price_of_all};
 ghost use Rattle.lapd_link_machine.specs.Sound.{IsInRange, IsSound};
 
 /// A link is sound as it begins, and every event keeps it sound: its numbers are in order and
@@ -15,6 +22,9 @@ pub fn stays_sound()
     ensures begins { (t : Terms) → IsInRange t → IsSound t fresh }
     ensures each { (t : Terms) (e : Event) (l : Link) → IsInRange t → IsSound t l → IsSound t (after t e l) }
     ensures always { (t : Terms) (es : List Event) → IsInRange t → IsSound t (after_all t es fresh) }
+    // The queue grows only by contents that are not refused, each time by one.
+    ensures queue { (t : Terms) (e : Event) (l : Link) → IsInRange t → IsSound t l →
+        length (queue_of (after t e l)) ≤ length (queue_of l) + grows t e l }
 {}
 
 /// What a link may still send without anything else happening rises by no more than an event's
@@ -30,4 +40,30 @@ pub fn rises()
     // For a list of events it is the sum of their prices.
     ensures list { (t : Terms) (es : List Event) (l : Link) → IsInRange t → IsSound t l →
         sent_in_all t es l + waiting t (after_all t es l) ≤ waiting t l + price_of_all t es l }
+{}
+
+/// What a link delivers since an establishment are, in order, the contents of the first eligible
+/// I-frame with N(S) 0, of the first after it with N(S) 1, and so on modulo 128; after the last
+/// one, no eligible frame has the next number. V(R) counts them (Q.921 clauses 3.5.2.4 to
+/// 3.5.2.6). An I-frame is eligible where it has at most N201 octets and meets state 7 or 8 with
+/// own busy off; an establishment is an event in which the numbers are set to zero, or the link is
+/// cleared.
+pub fn numbered()
+    ensures begins { IsNumbered nothing_yet fresh }
+    ensures each { (t : Terms) (e : Event) (l : Link) (h : History) → IsNumbered h l → IsNumbered (with_event t e l h) (after t e l) }
+    // Contents are delivered in the event that brings their frame.
+    ensures at_once { (t : Terms) (e : Event) (l : Link) (contents : List ℕ) → (told t e l).delivered ≡ Some contents →
+        (i : Arrived) × (eligible t e l ≡ Some i) × (i.contents ≡ contents) × (i.ns.value ≡ l.r % 128) }
+    ensures always { (t : Terms) (es : List Event) → IsNumbered (with_all t es fresh nothing_yet) (after_all t es fresh) }
+{}
+
+/// An event tells at most two notes and gives at most two orders, and the clearing of a link at
+/// most one of each. There is a note of data exactly where contents are delivered, and no event
+/// delivers both contents and unit data.
+pub fn tells_little()
+    ensures notes { (t : Terms) (e : Event) (l : Link) → length (told t e l).notes ≤ 2 }
+    ensures data { (t : Terms) (e : Event) (l : Link) → list_any is_data (told t e l).notes ≡ is_some (told t e l).delivered }
+    ensures unit { (t : Terms) (e : Event) (l : Link) → ((told t e l).delivered ≡ None) ⊎ ((told t e l).unit ≡ None) }
+    ensures orders { (t : Terms) (before started after : Option LinkTimer) → length (orders_for t before started after) ≤ 2 }
+    ensures clearing { (t : Terms) (l : Link) → (length (told t cleared l).notes ≤ 1) × (length (told t cleared l).orders ≤ 1) }
 {}

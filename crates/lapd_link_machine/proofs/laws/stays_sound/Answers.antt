@@ -1,5 +1,6 @@
 use Rattle.lapd_link_machine.specs.Link.{fresh}
 use Rattle.lapd_link_machine.proofs.SoundEvents.{sound-after, sound-fresh, sound-all}
+use Rattle.lapd_link_machine.proofs.Slots.{queue-after}
 use Rattle.lapd_link_machine.proofs.laws.stays_sound.Goals as goal
 
 pub returns-clause-begins : goal.returns-clause-begins
@@ -10,3 +11,6 @@ returns-clause-each c = λ t e l r h. sound-after t r e l h
 
 pub returns-clause-always : goal.returns-clause-always
 returns-clause-always c = λ t es r. sound-all t r es fresh (sound-fresh t r)
+
+pub returns-clause-queue : goal.returns-clause-queue
+returns-clause-queue c = λ t e l r h. queue-after t r.tei e l h

@@ -2,13 +2,17 @@
 //! pool of slots for contents (profile).
 //!
 //! `specs/` has the card and its events (`Card`, `Event`), what each event makes of it and what it answers
-//! (`Machine`), whole lists of events (`Run`), and what is counted of them (`Counts`, `Stored`).
+//! (`Machine`), whole lists of events (`Run`), what is counted of them (`Counts`, `Stored`), what a link delivers
+//! (`Numbered`), what pulls give (`Pulled`), one line beside the others (`Isolation`), and the laws of all that (`Laws`).
 //!
 //! The code of a card stands above, in another crate. Here is the type that it shares with the definitions:
 //!
 //! - `events`: `Event`, what happens at a card.
+//! - `laws`: what holds of whole runs, as calls without effect.
 #![tactic(auto)]
 
 mod events;
+mod laws;
 
 pub use events::Event;
+pub use laws::{frames_amortised, refused_by_the_table, run_is_moments, stored_within_limit};

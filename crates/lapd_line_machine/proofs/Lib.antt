@@ -8,3 +8,7 @@ pub mod PullSound
 pub mod TextGoesOn
 pub mod LineSound
 pub mod StoredBounds
+pub mod AimsRise
+pub mod LineRises
+pub mod PullRises
+pub mod EventsRise

@@ -25,7 +25,7 @@ use Rattle.lapd_line_machine.proofs.PullSound.{TakesSoundly, taken_sound}
 use Rattle.lapd_line_machine.proofs.TextGoesOn.{IsReady, left_is, one_given, one_item, text_of_ready}
 
 -- what is received changes nothing else
-received_sound : (c : Config) (value : ℕ) (l : Line) → IsSound c l → IsSound c (with_received value l)
+pub received_sound : (c : Config) (value : ℕ) (l : Line) → IsSound c l → IsSound c (with_received value l)
 received_sound c value l s = record {
   management = s.management;
   places = s.places;

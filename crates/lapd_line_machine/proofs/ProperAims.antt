@@ -22,9 +22,10 @@ use Rattle.lapd_frame.specs.Services.{service_of}
 use Rattle.lapd_link_machine.specs.Events as link
 use Rattle.lapd_link_machine.specs.declared.timers.LinkTimer.{LinkTimer}
 use Rattle.lapd_link_machine.specs.declared.timers.LinkTimer.TheVariants as link_timer
+use Rattle.lapd_tei.specs.Events as teis
 use Rattle.lapd_tei.proofs.Tables.{place_of-is}
 use Rattle.lapd_line_machine.specs.declared.config.Config.{Config}
-use Rattle.lapd_line_machine.specs.Answer.{nothing}
+use Rattle.lapd_line_machine.specs.Answer.{Told, nothing}
 use Rattle.lapd_line_machine.specs.Line.{Line, place_in}
 use Rattle.lapd_line_machine.specs.Request.{Request, Establish, Release, Data, Unit, Assign, Remove, Check, SetBusy, ClearBusy}
 use Rattle.lapd_line_machine.specs.Outcome.{Aim, at_none, at_link, at_management, at_units}
@@ -35,68 +36,75 @@ use Rattle.lapd_line_machine.specs.Refusal.{refusal}
 use Rattle.lapd_line_machine.specs.Machine.{unless_refused}
 use Rattle.lapd_line_machine.proofs.AimsSound.{IsProper}
 
-module _ (c : Config) (l : Line) where
-  at_place_proper : (service : Service) (tei : ℕ) (what : link.Received) (o : Option ℕ) → place_in l tei ≡ o → IsProper c l (at_place service tei what o)
-  at_place_proper service tei what None e = tt
-  at_place_proper service tei what (Some place) e = (place_of-is l.management.places tei place e).1
+-- What holds of the aims that frames have: none, a link of a TEI on the line, or TEI management.
+module _ (l : Line) (P : Aim → Type 0) (none : (what : Told) → P (at_none what))
+    (to_its_link : (service : Service) (tei place : ℕ) (what : link.Received) → place_in l tei ≡ Some place → P (at_link service tei place (link.received what)))
+    (to_management : (info : List ℕ) → P (at_management (teis.message info))) where
+  at_place_aims : (service : Service) (tei : ℕ) (what : link.Received) (o : Option ℕ) → place_in l tei ≡ o → P (at_place service tei what o)
+  at_place_aims service tei what None e = none _
+  at_place_aims service tei what (Some place) e = to_its_link service tei place what e
 
-  to_service_proper : (tei : ℕ) (what : link.Received) (o : Option Service) → IsProper c l (to_service l tei what o)
-  to_service_proper tei what None = tt
-  to_service_proper tei what (Some service) = at_place_proper service tei what (place_in l tei) refl
+  to_service_aims : (tei : ℕ) (what : link.Received) (o : Option Service) → P (to_service l tei what o)
+  to_service_aims tei what None = none _
+  to_service_aims tei what (Some service) = at_place_aims service tei what (place_in l tei) refl
 
-  addressed_proper : (address : Address) (what : link.Received) (message : Aim) → IsProper c l message → IsProper c l (addressed l address what message)
-  addressed_proper address what message proper = go (address.sapi == management_sapi) (address.tei == group_tei)
+  addressed_aims : (address : Address) (what : link.Received) (message : Aim) → P message → P (addressed l address what message)
+  addressed_aims address what message p = go (address.sapi == management_sapi) (address.tei == group_tei)
     where
-      go : (known group : Bool) → IsProper c l (cond known (cond group message (drop_for Tei)) (to_service l address.tei what (service_of address.sapi)))
-      go true true = proper
-      go true false = tt
-      go false group = to_service_proper address.tei what (service_of address.sapi)
+      go : (known group : Bool) → P (cond known (cond group message (drop_for Tei)) (to_service l address.tei what (service_of address.sapi)))
+      go true true = p
+      go true false = none _
+      go false group = to_service_aims address.tei what (service_of address.sapi)
 
-  message_proper : (k : Control) (info : List ℕ) → IsProper c l (message_of k info)
-  message_proper (control.Information ns nr p) info = tt
-  message_proper (control.ReceiveReady nr pf) info = tt
-  message_proper (control.ReceiveNotReady nr pf) info = tt
-  message_proper (control.Reject nr pf) info = tt
-  message_proper (control.Sabme p) info = tt
-  message_proper (control.Disc p) info = tt
-  message_proper (control.Ui p) info = tt
-  message_proper (control.Ua f) info = tt
-  message_proper (control.Dm f) info = tt
-  message_proper (control.Frmr f) info = tt
-  message_proper (control.Xid pf) info = tt
+  message_aims : (k : Control) (info : List ℕ) → P (message_of k info)
+  message_aims (control.Information ns nr p) info = none _
+  message_aims (control.ReceiveReady nr pf) info = none _
+  message_aims (control.ReceiveNotReady nr pf) info = none _
+  message_aims (control.Reject nr pf) info = none _
+  message_aims (control.Sabme p) info = none _
+  message_aims (control.Disc p) info = none _
+  message_aims (control.Ui p) info = to_management info
+  message_aims (control.Ua f) info = none _
+  message_aims (control.Dm f) info = none _
+  message_aims (control.Frmr f) info = none _
+  message_aims (control.Xid pf) info = none _
 
-  reading_proper : (r : Result Parts ReadFault) → IsProper c l (aim_of_reading l r)
-  reading_proper (Ok parts) = addressed_proper parts.address (link.frame parts) (message_of parts.control parts.info) (message_proper parts.control parts.info)
-  reading_proper (Err BadExtension) = tt
-  reading_proper (Err (Undefined address)) = addressed_proper address link.undefined (drop_for Unserved) tt
-  reading_proper (Err (WrongSize address)) = addressed_proper address link.wrong_size (drop_for Unserved) tt
-  reading_proper (Err Short) = tt
+  reading_aims : (r : Result Parts ReadFault) → P (aim_of_reading l r)
+  reading_aims (Ok parts) = addressed_aims parts.address (link.frame parts) (message_of parts.control parts.info) (message_aims parts.control parts.info)
+  reading_aims (Err BadExtension) = none _
+  reading_aims (Err (Undefined address)) = addressed_aims address link.undefined (drop_for Unserved) (none _)
+  reading_aims (Err (WrongSize address)) = addressed_aims address link.wrong_size (drop_for Unserved) (none _)
+  reading_aims (Err Short) = none _
 
-  unless_proper : (aim : Aim) → IsProper c l aim → IsProper c l (unless_at_link aim)
-  unless_proper (at_none what) proper = tt
-  unless_proper (at_link service tei place event) proper = tt
-  unless_proper (at_management event) proper = proper
-  unless_proper (at_units unit) proper = proper
+  unless_aims : (aim : Aim) → P aim → P (unless_at_link aim)
+  unless_aims (at_none what) p = p
+  unless_aims (at_link service tei place event) p = none _
+  unless_aims (at_management event) p = p
+  unless_aims (at_units unit) p = p
 
-  long_proper : (r : Result Long ReadFault) → IsProper c l (aim_of_long l r)
-  long_proper (Ok (long.Information address)) = addressed_proper address link.overlong (drop_for Unserved) tt
-  long_proper (Ok (long.Unnumbered address)) = unless_proper _ (addressed_proper address link.overlong (drop_for Unserved) tt)
-  long_proper (Err BadExtension) = tt
-  long_proper (Err (Undefined address)) = addressed_proper address link.undefined (drop_for Unserved) tt
-  long_proper (Err (WrongSize address)) = addressed_proper address link.wrong_size (drop_for Unserved) tt
-  long_proper (Err Short) = tt
+  long_aims : (r : Result Long ReadFault) → P (aim_of_long l r)
+  long_aims (Ok (long.Information address)) = addressed_aims address link.overlong (drop_for Unserved) (none _)
+  long_aims (Ok (long.Unnumbered address)) =
+      unless_aims (addressed l address link.overlong (drop_for Unserved)) (addressed_aims address link.overlong (drop_for Unserved) (none _))
+  long_aims (Err BadExtension) = none _
+  long_aims (Err (Undefined address)) = addressed_aims address link.undefined (drop_for Unserved) (none _)
+  long_aims (Err (WrongSize address)) = addressed_aims address link.wrong_size (drop_for Unserved) (none _)
+  long_aims (Err Short) = none _
 
-  heard_proper : (e : stream.Event) → IsProper c l (aim_of_heard l e)
-  heard_proper (stream.frame octets) = reading_proper (reading User octets)
-  heard_proper (stream.overlong head) = long_proper (long_reading User head)
-  heard_proper (stream.dropped cause) = tt
+  pub heard_aims : (e : stream.Event) → P (aim_of_heard l e)
+  heard_aims (stream.frame octets) = reading_aims (reading User octets)
+  heard_aims (stream.overlong head) = long_aims (long_reading User head)
+  heard_aims (stream.dropped cause) = none _
 
+module _ (c : Config) (l : Line) where
   pub octet_proper : (value : ℕ) → IsProper c l (aim_of_octet c value l)
   octet_proper value = go (gained c.n201 l.received value)
     where
       go : (o : Option stream.Event) → IsProper c l (option_map_or (aim_of_heard l) o (at_none nothing))
       go None = tt
-      go (Some e) = heard_proper e
+      go (Some e) =
+          heard_aims l (IsProper c l) (λ what. tt) (λ service tei place what at. (place_of-is l.management.places tei place at).1)
+          (λ info. tt) e
 
   timer_proper : (service : Service) (tei : ℕ) (timer : LinkTimer) (o : Option ℕ) → place_in l tei ≡ o → IsProper c l (at_timer service tei timer o)
   timer_proper service tei timer None e = tt

@@ -29,6 +29,7 @@ pub record TakesSoundly (c : Config) (l : Line) (t : Taken) : Type 0 where
   pub size : length t.frame ≤ c.n201 + 4
   pub items : t.line.items ≡ l.items
   pub given : t.line.given ≡ l.given
+  pub received : t.line.received ≡ l.received
 
 message_length : (m : Message) → length (frame_of m) ≡ 8
 message_length (IdentityAssigned ri tei) = refl
@@ -57,6 +58,7 @@ module _ (c : Config) (ranged : IsInRange c) where
         size = omega (arith, message_length m, (ranges_of c ranged).n201.least);
         items = refl;
         given = refl;
+        received = refl;
       }
 
   unit_sound : (l : Line) → IsSound c l → IfSome (unit_taken l) (TakesSoundly c l)
@@ -80,6 +82,7 @@ module _ (c : Config) (ranged : IsInRange c) where
         size = omega (arith, (All-head (IsUnitData c) u us all).size);
         items = refl;
         given = refl;
+        received = refl;
       }
 
   link_sound : (l : Line) → IsSound c l → (n : ℕ) → n < link_count c → IfSome (link_taken c l n) (TakesSoundly c l)
@@ -109,6 +112,7 @@ module _ (c : Config) (ranged : IsInRange c) where
         size = omega (arith, same, short);
         items = refl;
         given = refl;
+        received = refl;
       }
 
       known : (o : Option ℕ) → tei_at (place_at n) l ≡ o → IsSoundAt c n (link_at n l) o

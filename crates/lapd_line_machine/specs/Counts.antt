@@ -1,5 +1,5 @@
 -- What is counted of a line.
-use Rattle.std.specs.Prelude.{ℕ, ◌+◌, nat_le, Bool, true, false, length, count_by}
+use Rattle.std.specs.Prelude.{ℕ, ◌+◌, nat_le, Bool, true, false, length, count_by, if◌then◌else◌}
 use Rattle.lapd_bits.specs.Stream as stream
 use Rattle.lapd_frame.specs.declared.refusals.Refusal.{Refusal}
 use Rattle.lapd_frame.specs.declared.refusals.Refusal.TheVariants as refusals
@@ -12,6 +12,10 @@ use Rattle.lapd_line_machine.specs.Stored.{sum_of_links}
 use Rattle.lapd_line_machine.specs.Expiry.{is_running}
 use Rattle.lapd_line_machine.specs.Outcome.{Aim, at_none, at_link, at_management, at_units}
 use Rattle.lapd_line_machine.specs.Machine.{aim_of}
+
+-- A test, counted.
+abbrev pub one : Bool → ℕ
+one b = if b then 1 else 0
 
 -- What may be sent without anything else happening: management messages, unit data, and what each link may send.
 abbrev pub waiting_at_link : Config → Line → ℕ → ℕ

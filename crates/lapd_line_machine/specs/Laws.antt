@@ -1,11 +1,31 @@
 -- Laws of a line.
+use Rattle.std.specs.Prelude.{ℕ, ◌+◌, ◌*◌, ◌≤◌, max}
 use Rattle.lapd_line_machine.specs.declared.config.Config.{Config}
 use Rattle.lapd_line_machine.specs.Answer.{Event}
 use Rattle.lapd_line_machine.specs.Line.{Line, fresh_line}
-use Rattle.lapd_line_machine.specs.Machine.{after}
+use Rattle.lapd_line_machine.specs.Counts.{one, waiting, frames_heard, long_frames_heard, is_begun, is_accepted, is_running_expiry, rejects}
+use Rattle.lapd_line_machine.specs.Machine.{after, answer}
 use Rattle.lapd_line_machine.specs.Sound.{IsInRange, IsSound}
 
 -- A line is sound as it begins, and each event keeps it so.
 pub record LinesStaySound : Type 0 where
   pub begins : (c : Config) → IsInRange c → IsSound c (fresh_line c)
   pub each : (c : Config) (e : Event) (l : Line) → IsInRange c → IsSound c l → IsSound c (after c e l)
+
+-- What a line has sent, and may still send without anything else happening, rises by no more than two for each frame
+-- that is recognised, one for an accepted request, k + 1 for the expiry of a running timer, and k for an REJ with a valid
+-- N(R), where k is the greater of both windows.
+abbrev pub Rises : Config → Event → Line → Type 0
+Rises c e l =
+    let k = max c.k c.k16 in
+    one (is_begun (answer c e l)) + waiting c (after c e l) + 2 * frames_heard c l
+    ≤ waiting c l + 2 * frames_heard c (after c e l) + one (is_accepted e (answer c e l))
+    + (k + 1) * one (is_running_expiry e l) + k * one (rejects c e l)
+
+-- An REJ is a frame of four octets.
+abbrev pub IsRejectHeard : Config → Event → Line → Type 0
+IsRejectHeard c e l = one (rejects c e l) + long_frames_heard c l ≤ long_frames_heard c (after c e l)
+
+pub record LinesRise : Type 0 where
+  pub rises : (c : Config) (e : Event) (l : Line) → IsInRange c → IsSound c l → Rises c e l
+  pub rejects : (c : Config) (e : Event) (l : Line) → IsRejectHeard c e l

@@ -1,0 +1,5 @@
+pub mod Steps
+pub mod Amortised
+pub mod Stored
+pub mod Fold
+pub mod Refusals

@@ -1,0 +1,28 @@
+//! What holds of whole runs of the machine. Each law is the contract of a call that does nothing; it holds for every list
+//! of events, and so for every front of a list.
+
+ghost use Rattle.lapd_card_machine.specs.Laws.{FramesAmortised, RefusedByTheTable, RunIsMoments, StoredWithinLimit};
+
+/// A run as one fold is its moments, one after the other.
+pub fn run_is_moments()
+    ensures { RunIsMoments }
+{}
+
+/// A sound card never stores more octets than its limit, which its configuration alone tells.
+pub fn stored_within_limit()
+    ensures { StoredWithinLimit }
+{}
+
+/// From any sound card on, whatever the number of pulls: the frames sent, and those that may still be sent, are at most
+/// those that could be sent before, two for each frame recognised, one for each accepted request, k + 1 for each expiry of
+/// a running timer, and k for each REJ with a valid N(R), where k is the greater of both windows. So no terminal can make a
+/// card a source of frames.
+pub fn frames_amortised()
+    ensures { FramesAmortised }
+{}
+
+/// A request is refused exactly where a row of the table of refusals holds, for the reason of the first that does. So it is
+/// refused for want of room exactly where its place is full; and then nothing changes.
+pub fn refused_by_the_table()
+    ensures { RefusedByTheTable }
+{}

@@ -7,8 +7,7 @@ use Rattle.std.proofs.lemmas.Nat.{pow_pos, pow_below}
 use Rattle.std.proofs.Math.ListN.{length-set}
 use Rattle.std.proofs.Math.Seq.{take-length}
 use Rattle.std.proofs.Math.Nat.{add-mul-mod_self_left, add-mul-div_left, mod-eq_of_lt, div-eq_of_lt, mul-one, one-mul, zero-add}
-use Rattle.lapd_bits.specs.Bits.{bits, low_bits}
-use Rattle.lapd_bits.specs.Stuffing.{same_bits}
+use Rattle.lapd_bits.specs.Bits.{bits, low_bits, same_bits}
 use Rattle.lapd_bits.specs.Check.{is_good}
 use Rattle.lapd_bits.specs.Register.{HoldsDivision}
 use Rattle.lapd_bits.specs.Stream.{frame, overlong, dropped, is_short, judged}

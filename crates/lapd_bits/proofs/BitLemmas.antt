@@ -3,8 +3,7 @@ use Rattle.std.proofs.Common.{◌≡◌, ℕ, suc, zero, ◌+◌, ◌*◌, ◌/�
 use Rattle.std.proofs.Math.Nat.{pow-suc, pow-succ', pow-zero, suc-add, zero-add, div-div-eq-div-mul, div-one, mod-eq_of_lt}
 use Rattle.std.proofs.lemmas.Bool.{eqb-true, eqb-false}
 use Rattle.std.proofs.lemmas.Nat.{mod-pow-add}
-use Rattle.lapd_bits.specs.Bits.{low_bits, bits}
-use Rattle.lapd_bits.specs.Stuffing.{bit_value, number_of, same_bits}
+use Rattle.lapd_bits.specs.Bits.{low_bits, bits, bit_value, number_of, same_bits}
 
 -- ---- the lowest bit
 

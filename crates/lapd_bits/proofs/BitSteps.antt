@@ -3,15 +3,15 @@ use Rattle.std.proofs.Common.{◌≡◌, ◌≢◌, ℕ, ◌+◌, ◌*◌, ◌/�
 use Rattle.std.specs.Option.{option_map_or}
 use Rattle.std.proofs.lemmas.Bool.{le-ltb}
 use Rattle.std.proofs.lemmas.List.{reverse-append, append-nil}
-use Rattle.lapd_bits.specs.Bits.{bits, low_bits}
-use Rattle.lapd_bits.specs.Stuffing.{unstuffed, octets_sent, same_bits}
+use Rattle.lapd_bits.specs.Bits.{bits, low_bits, same_bits}
+use Rattle.lapd_bits.specs.Stuffing.{unstuffed, octets_sent}
 use Rattle.lapd_bits.specs.Stream.{Event, dropped, judged, since_flag, has_abort, text_event, gap_event, room_for, heard_at, heard_until}
 use Rattle.lapd_bits.specs.Heard.{flag_front, closing_event, event_in}
 use Rattle.lapd_bits.specs.Steps.{one_more, IsKept, IsStuffed, closed_event, IsYoung, with_bits}
 use Rattle.lapd_bits.specs.Deframer.{run_of, open_gap, kept_count, KeepsIn, HoldsGap, HoldsPast, octets_held}
 use Rattle.lapd_bits.specs.declared.gap.Gap.{Gap}
-use Rattle.lapd_bits.specs.declared.gap.Ended.{Ended}
-use Rattle.lapd_bits.specs.declared.gap.Ended.TheVariants as ended
+use Rattle.lapd_bits.specs.declared.heard.Ended.{Ended}
+use Rattle.lapd_bits.specs.declared.heard.Ended.TheVariants as ended
 use Rattle.lapd_bits.specs.declared.heard.Cause.TheVariants.{Ragged}
 use Rattle.lapd_bits.proofs.BitLemmas.{length-bits, length-low_bits, bits-push}
 use Rattle.lapd_bits.proofs.Division.Holds.{low_bits-next}

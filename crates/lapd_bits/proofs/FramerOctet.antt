@@ -4,8 +4,7 @@ use Rattle.std.proofs.lemmas.Bool.{lt-ltb, le-ltb, cases_lt}
 use Rattle.std.proofs.Math.Nat.{pow-suc, mod-eq_of_lt}
 use Rattle.std.proofs.lemmas.Nat.{mod-mul-add, div-mul-add, pow_below}
 use Rattle.std.specs.Int.Bits.{or_shifted_r}
-use Rattle.lapd_bits.specs.Bits.{flag, low_bits}
-use Rattle.lapd_bits.specs.Stuffing.{bit_value}
+use Rattle.lapd_bits.specs.Bits.{flag, low_bits, bit_value}
 use Rattle.lapd_bits.specs.Framer.{Framing, refilled, still_held}
 use Rattle.lapd_bits.specs.FramerText.{begun}
 use Rattle.lapd_bits.proofs.BitLemmas.{low_bits-add, low_bits-mod}

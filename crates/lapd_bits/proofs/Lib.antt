@@ -6,6 +6,8 @@ pub mod StuffingOctets
 pub mod StuffingClosed
 pub mod Places
 pub mod Hearing
+pub mod FlagPlaces
+pub mod Latest
 pub mod Assembly
 pub mod BitSteps
 pub mod FramerBits
@@ -15,4 +17,4 @@ pub mod FramerLoad
 pub mod RoundTripPlaces
 pub mod RoundTripFrame
 pub mod OneEvent
-pub mod ReferenceSteps
+pub mod StreamLengths

@@ -4,8 +4,8 @@ use Rattle.std.proofs.lemmas.List.{take_at, get_or_append_left}
 use Rattle.std.proofs.lemmas.Bool.{le-ltb, ne_eqb, eq-eqb, or_from, and_left, and_right}
 use Rattle.std.proofs.lemmas.List.Elements.{All-nil, All-cons, All-append}
 use mathlib.Core.List.{reverse_aux}
-use Rattle.lapd_bits.specs.Bits.{bits, flag}
-use Rattle.lapd_bits.specs.Stuffing.{stuffed, number_of, octets_sent}
+use Rattle.lapd_bits.specs.Bits.{bits, flag, number_of}
+use Rattle.lapd_bits.specs.Stuffing.{stuffed, octets_sent}
 use Rattle.lapd_bits.specs.StuffingLaws.{AreOctets}
 use Rattle.lapd_bits.specs.Check.{check, is_good}
 use Rattle.lapd_bits.specs.Stream as stream

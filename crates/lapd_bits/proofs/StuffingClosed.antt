@@ -3,8 +3,8 @@
 use Rattle.std.proofs.Common.{◌≡◌, refl, ◌+◌, ◌↔◌, ℕ, ◌<◌, ◌≤◌, Bool, true, false, List, [], ◌∷◌, ◌++◌, Some, ap, sym, ◌∙◌, subst, arith, ⊎_elim, append_assoc, length, ◌*◌, drop, None, cond, length-append}
 use Rattle.std.proofs.lemmas.Bool.{cases_Bool, false≢true, lt-ltb, le-ltb, cases_lt}
 use Rattle.std.proofs.lemmas.List.{drop_at, append_cancel_right, append-nil}
-use Rattle.lapd_bits.specs.Bits.{bits}
-use Rattle.lapd_bits.specs.Stuffing.{stuffed, unstuffed, same_bits, octets_sent}
+use Rattle.lapd_bits.specs.Bits.{bits, same_bits}
+use Rattle.lapd_bits.specs.Stuffing.{stuffed, unstuffed, octets_sent}
 use Rattle.lapd_bits.specs.StuffingLaws.{AreOctets}
 use Rattle.lapd_bits.proofs.StuffingCounted.{ones_after, unstuffed_after, NoSix, unstuffed-counted, ones_after-append, unstuffed_after-append, ones_after-unstuffed_after}
 use Rattle.lapd_bits.proofs.StuffingShape.{ones_after-stuffed, stuffed-unstuffed, unstuffed-stuffed}

@@ -2,7 +2,7 @@
 -- A polynomial is the list of its coefficients, the highest power first, which is the order of a line.
 use Rattle.std.specs.Prelude.{Bool, true, false, not, List, [], ◌∷◌, ◌++◌, length, replicate, map, fold}
 use Rattle.std.specs.Bool.{beq}
-use Rattle.lapd_bits.specs.Stuffing.{same_bits}
+use Rattle.lapd_bits.specs.Bits.{same_bits}
 
 -- The sum of two polynomials with as many coefficients, modulo 2.
 abbrev pub plus : List Bool → List Bool → List Bool

@@ -1,10 +1,11 @@
 -- What a deframer holds of the octets that a line has brought so far.
-use Rattle.std.specs.Prelude.{◌≡◌, ℕ, ◌+◌, ◌<◌, ◌/◌, Bool, true, false, List, [], ◌∷◌, ◌++◌, length, take, reverse, min, All, Option, Some, None, option_and_then, nat_lt, if◌then◌else◌}
+use Rattle.std.specs.Prelude.{◌≡◌, ℕ, ◌+◌, ◌<◌, ◌/◌, Bool, true, false, List, [], ◌∷◌, ◌++◌, length, take, reverse, min, All, Option, Some, None, option_and_then, option_to_list, nat_lt, if◌then◌else◌}
 use Rattle.std.specs.Option.{option_map_or}
 use Rattle.lapd_bits.specs.Bits.{low_bits, bits}
 use Rattle.lapd_bits.specs.Stuffing.{unstuffed}
 use Rattle.lapd_bits.specs.Register.{HoldsDivision}
-use Rattle.lapd_bits.specs.Stream.{since_flag, has_abort, room_for}
+use Rattle.lapd_bits.specs.Stream.{Event, heard_in, since_flag, has_abort, room_for}
+use Rattle.lapd_bits.specs.Heard.{event_in}
 use Rattle.lapd_bits.specs.declared.gap.Gap.{Gap}
 use Rattle.lapd_bits.specs.declared.deframer.Deframer.{Deframer}
 
@@ -61,10 +62,17 @@ pub record HoldsPast (octets : List ℕ) (ones : ℕ) (gap : Option Gap) (past :
   pub run : ones ≡ run_of past
   pub open_is : HoldsGap octets gap (open_gap past)
 
--- A deframer for information fields of `n201` octets stands for the octets that a line has brought so far.
+-- What a deframer lends until its next octet: what the latest octet ended.
+abbrev pub latest_of : Deframer → Option Event
+latest_of deframer = event_in deframer.octets.items deframer.ended
+
+-- A deframer for information fields of `n201` octets stands for the octets that a line has brought so far, and
+-- still has what the latest of them brought.
 pub record Stands (n201 : ℕ) (deframer : Deframer) (octets : List ℕ) : Type 0 where
   pub room : length deframer.octets.items ≡ room_for n201
   pub holds : HoldsPast deframer.octets.items deframer.ones deframer.gap (reverse (bits octets))
+  pub latest : (past : List ℕ) (octet : ℕ) → octets ≡ past ++ octet ∷ []
+      → heard_in n201 octets ≡ heard_in n201 past ++ option_to_list (latest_of deframer)
 
 -- How many of a line's octets a deframer holds after them: the whole octets of the open gap, or the first
 -- four where they are more than there is room for; none where no gap is open. The bits of a flag that has

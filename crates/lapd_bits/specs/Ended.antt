@@ -1,11 +1,15 @@
 -- What the deframer's private calls say has ended, against the octets that it holds.
 use Rattle.std.specs.Prelude.{ℕ, ◌≤◌}
-use Rattle.lapd_bits.specs.declared.gap.Ended.{Ended}
-use Rattle.lapd_bits.specs.declared.gap.Ended.TheVariants.{Nothing, Dropped, Frame, Overlong}
+use Rattle.lapd_bits.specs.declared.heard.Ended.{Ended}
+use Rattle.lapd_bits.specs.declared.heard.Ended.TheVariants.{Nothing, Dropped, Frame, Overlong}
+
+-- how many octets of a frame have ended
+abbrev pub frame_len : Ended → ℕ
+frame_len Nothing = 0
+frame_len (Dropped _) = 0
+frame_len (Frame len) = len
+frame_len Overlong = 0
 
 -- a frame that has ended lies in room for `n` octets
 abbrev pub FitsIn : ℕ → Ended → Type 0
-FitsIn n Nothing = Unit {0}
-FitsIn n (Dropped _) = Unit {0}
-FitsIn n (Frame len) = len ≤ n
-FitsIn n Overlong = Unit {0}
+FitsIn n ended = frame_len ended ≤ n

@@ -1,12 +1,12 @@
 -- What a deframer's answers say, seen without references.
-use Rattle.std.specs.Prelude.{ℕ, Bool, true, false, List, [], ◌∷◌, Option, Some, None, take, if◌then◌else◌}
-use Rattle.lapd_bits.specs.Stuffing.{same_bits}
+use Rattle.std.specs.Prelude.{ℕ, Bool, true, false, List, [], ◌∷◌, Option, Some, None, length, take, if◌then◌else◌}
+use Rattle.lapd_bits.specs.Bits.{same_bits}
 use Rattle.lapd_bits.specs.Stream.{Event, frame, overlong, dropped, judged}
 use Rattle.lapd_bits.specs.declared.heard.Heard.{Heard}
 use Rattle.lapd_bits.specs.declared.heard.Heard.TheVariants as heard
 use Rattle.lapd_bits.specs.declared.heard.Cause.TheVariants.{Ragged}
-use Rattle.lapd_bits.specs.declared.gap.Ended.{Ended}
-use Rattle.lapd_bits.specs.declared.gap.Ended.TheVariants as ended
+use Rattle.lapd_bits.specs.declared.heard.Ended.{Ended}
+use Rattle.lapd_bits.specs.declared.heard.Ended.TheVariants as ended
 
 -- the event that is told, or none
 abbrev pub heard_of : Heard → Option Event
@@ -21,6 +21,13 @@ event_in octets ended.Nothing = None
 event_in octets (ended.Dropped cause) = Some (dropped cause)
 event_in octets (ended.Frame len) = Some (frame (take len octets))
 event_in octets ended.Overlong = Some (overlong (take 4 octets))
+
+-- an event without its octets: how many they are, where it is a frame
+abbrev pub without_octets : Option Event → Ended
+without_octets None = ended.Nothing
+without_octets (Some (dropped cause)) = ended.Dropped cause
+without_octets (Some (frame octets)) = ended.Frame (length octets)
+without_octets (Some (overlong head)) = ended.Overlong
 
 -- a flag without its last bit
 abbrev pub flag_front : List Bool

@@ -6,6 +6,7 @@ pub mod CheckLaws
 pub mod Register
 pub mod Stream
 pub mod StreamLaws
+pub mod FlagLaws
 pub mod Sent
 pub mod Vectors
 pub mod Deframer
@@ -16,4 +17,3 @@ pub mod Framer
 pub mod FramerText
 pub mod FramerFields
 pub mod RoundTrip
-pub mod Reference

@@ -7,8 +7,8 @@ use Rattle.lapd_bits.specs.Deframer.{HoldsPast}
 use Rattle.lapd_bits.specs.Heard.{event_in}
 use Rattle.lapd_bits.specs.declared.heard.Cause.TheVariants.{Abort}
 use Rattle.lapd_bits.specs.declared.gap.Gap.{Gap}
-use Rattle.lapd_bits.specs.declared.gap.Ended.{Ended}
-use Rattle.lapd_bits.specs.declared.gap.Ended.TheVariants.{Nothing}
+use Rattle.lapd_bits.specs.declared.heard.Ended.{Ended}
+use Rattle.lapd_bits.specs.declared.heard.Ended.TheVariants.{Nothing}
 use Rattle.lapd_bits.specs.declared.deframer.Deframer.{Deframer}
 
 -- an open gap's bits, the latest first, with one more

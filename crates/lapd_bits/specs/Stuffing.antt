@@ -1,7 +1,6 @@
 -- Transparency (Q.921 clause 2.6): what keeps the bits between two flags from looking like a flag.
-use Rattle.std.specs.Prelude.{ℕ, ◌+◌, ◌*◌, Bool, true, false, ◌&&◌, List, [], ◌∷◌, Option, Some, None, if◌then◌else◌}
-use Rattle.std.specs.Bool.{beq}
-use Rattle.lapd_bits.specs.Bits.{bits}
+use Rattle.std.specs.Prelude.{ℕ, Bool, true, false, List, [], ◌∷◌, Option, Some, None, if◌then◌else◌}
+use Rattle.lapd_bits.specs.Bits.{bits, octets_of, same_bits}
 
 -- What a sender makes of bits: a 0 goes after every five contiguous 1s, also where they are the last bits.
 abbrev pub stuffed : List Bool → List Bool
@@ -14,26 +13,6 @@ abbrev pub unstuffed : List Bool → List Bool
 unstuffed (true ∷ true ∷ true ∷ true ∷ true ∷ false ∷ b) = true ∷ true ∷ true ∷ true ∷ true ∷ unstuffed b
 unstuffed (x ∷ b) = x ∷ unstuffed b
 unstuffed [] = []
-
--- A bit as a number, and bits as a number, the lowest first.
-abbrev pub bit_value : Bool → ℕ
-bit_value false = 0
-bit_value true = 1
-
-abbrev pub number_of : List Bool → ℕ
-number_of [] = 0
-number_of (b ∷ bs) = bit_value b + 2 * number_of bs
-
--- The whole octets of bits. Fewer than eight bits at the end are no octet.
-abbrev pub octets_of : List Bool → List ℕ
-octets_of (a ∷ b ∷ c ∷ d ∷ e ∷ f ∷ g ∷ h ∷ bs) = number_of (a ∷ b ∷ c ∷ d ∷ e ∷ f ∷ g ∷ h ∷ []) ∷ octets_of bs
-octets_of _ = []
-
--- Whether two lists of bits are the same.
-abbrev pub same_bits : List Bool → List Bool → Bool
-same_bits [] [] = true
-same_bits (a ∷ as_) (b ∷ bs) = beq a b && same_bits as_ bs
-same_bits _ _ = false
 
 -- The octets of which a sender makes this text, or none where it is not what a sender makes of octets.
 abbrev pub octets_sent : List Bool → Option (List ℕ)

@@ -65,31 +65,3 @@ fn with_bit(register: u16, bit: bool) -> u16
         shifted ^ GENERATOR
     }
 }
-
-#[cfg(test)]
-mod tests {
-    use super::*;
-
-    #[test]
-    fn the_published_value(rt: HostRuntime) {
-        assert_eq!(rt; fcs(b"123456789"), 0x906E);
-    }
-
-    #[test]
-    fn of_nothing(rt: HostRuntime) {
-        assert_eq!(rt; fcs(&[]), 0x0000);
-    }
-
-    // A SABME of the terminal with TEI 64, and the check that goes after it.
-    #[test]
-    fn a_frame_with_its_check(rt: HostRuntime) {
-        let frame = [0x00, 0x81, 0x7F, 0xA8, 0xD8];
-        let mut register = PRESET;
-        for octet in &frame {
-            register = divided(register, *octet);
-        }
-        assert!(rt; shows_no_error(register));
-        assert!(rt; !shows_no_error(PRESET));
-        only_check();
-    }
-}

@@ -2,10 +2,11 @@
 ghost use Rattle.std.specs.Prelude.{◌≡◌, ◌≢◌, ◌⊎◌, ℕ, ◌<◌, ◌≤◌, ◌-◌, ◌+◌, Bool, true, false, List, [], ◌∷◌, ◌++◌, length, vec_len, IfOk, IfSome, Option, Some, None, option_to_list, take};
 ghost use Rattle.std.specs.Option.{ForSome};
 ghost use Rattle.lapd_bits.specs.Bits.{low_bits};
+ghost use Rattle.lapd_bits.specs.Ended.{FitsIn};
 ghost use Rattle.lapd_bits.specs.Stream.{heard_in, heard_until, heard_at};
 
-use crate::gap::{Ended, Gap};
-use crate::heard::{Cause, Heard};
+use crate::gap::Gap;
+use crate::heard::{Cause, Ended, Heard};
 use crate::start_fault::StartFault;
 use std::alloc::Global;
 
@@ -13,25 +14,27 @@ use std::alloc::Global;
 /// stands between (Q.921 clauses 2.2 to 2.10). Frames may begin and end at any bit of an octet.
 ///
 /// All its memory is taken by [`Deframer::start`].
-#[derive(Drop)]
+#[derive(Drop, Debug)]
 pub struct Deframer {
     octets: Vec<u8>,
     /// The contiguous 1s up to now; 7 stands for 7 and more, and for no bit at all.
     ones: u8,
     gap: Option<Gap>,
+    /// What the latest octet ended. It lies in `octets` until the next.
+    ended: Ended,
     ghost room: { 6 ≤ vec_len octets },
     ghost room_counts: { vec_len octets ≤ 1030 },
     ghost ones_counted: { ones ≤ 7 },
     ghost gap_fits: { ForSome gap (λ g. g.count ≤ vec_len octets) },
+    ghost ended_fits: { FitsIn (vec_len octets) ended },
 }
 
 impl Deframer {
     ghost use Rattle.std.specs.Borrow.{sem};
     ghost use Rattle.std.specs.Io.BufRead.{Rests};
     ghost use Rattle.lapd_bits.specs.contracts.deframer.Deframer.{the_row};
-    ghost use Rattle.lapd_bits.specs.Deframer.{Stands, HoldsPast, HoldsGap, run_of, open_gap, octets_held};
-    ghost use Rattle.lapd_bits.specs.Ended.{FitsIn};
-    ghost use Rattle.lapd_bits.specs.Heard.{heard_of, event_in};
+    ghost use Rattle.lapd_bits.specs.Deframer.{Stands, HoldsPast, HoldsGap, run_of, open_gap, octets_held, latest_of};
+    ghost use Rattle.lapd_bits.specs.Heard.{heard_of, event_in, without_octets};
     ghost use Rattle.lapd_bits.specs.Steps.{Hears, Ages, one_more, IsKept, IsStuffed, IsYoung, given_up_event, closed_event, with_bits};
 
     /// A deframer for frames with information fields of `n201` octets at most, which is 1,024 at most. Its line
@@ -48,6 +51,7 @@ impl Deframer {
             octets,
             ones: 7,
             gap: None,
+            ended: Ended::Nothing,
         })
     }
 
@@ -63,8 +67,42 @@ impl Deframer {
     {
         // All changes are made in a step that answers without references, since the toolchain proves no loan
         // beside a later write.
-        let ended = self.step(octet);
-        self.lent(ended)
+        self.step(octet);
+        self.latest()
+    }
+
+    /// Takes the next octet of the line as [`Deframer::octet`] does, and answers without references, for a caller
+    /// that has more to change before it looks at a frame. [`Deframer::latest`] lends what the octet ended.
+    pub fn step(&mut self, octet: u8) -> Ended
+        // What is heard in all the octets so far has gained exactly what the deframer lends now,
+        ensures heard { (n201 : ℕ) (past : List ℕ) → Stands n201 self.old past
+            → heard_in n201 (past ++ octet ∷ []) ≡ heard_in n201 past ++ option_to_list (latest_of self.new) }
+        // for which the deframer stands for the octets with this one.
+        ensures after { (n201 : ℕ) (past : List ℕ) → Stands n201 self.old past → Stands n201 self.new (past ++ octet ∷ []) }
+        // The answer tells what it is, and how long where it is a frame.
+        ensures told { result ≡ without_octets (latest_of self.new) }
+    {
+        let ended = self.hear(octet);
+        self.ended = ended;
+        ended
+    }
+
+    /// Lends again what the latest octet ended, until the next octet; nothing where no octet has come.
+    pub fn latest(&self) -> Heard<'_>
+        ensures lent { heard_of result ≡ latest_of self.now }
+        // It is what the latest octet brought.
+        ensures heard { (n201 : ℕ) (past : List ℕ) (octet : ℕ) → Stands n201 self.now (past ++ octet ∷ [])
+            → heard_in n201 (past ++ octet ∷ []) ≡ heard_in n201 past ++ option_to_list (heard_of result) }
+    {
+        match self.ended {
+            Ended::Nothing => Heard::Nothing,
+            Ended::Dropped(cause) => Heard::Dropped(cause),
+            Ended::Frame(len) => Heard::Frame(&self.octets[..len]),
+            Ended::Overlong => {
+                let octets = &self.octets;
+                Heard::Overlong([octets[0], octets[1], octets[2], octets[3]])
+            }
+        }
     }
 
     /// How many whole octets of the open gap are kept, four once there are too many to keep; 0 where none is open.
@@ -77,22 +115,7 @@ impl Deframer {
         }
     }
 
-    fn lent(&self, ended: Ended) -> Heard<'_>
-        requires fits { FitsIn (vec_len self.now.octets) ended }
-        ensures { heard_of result ≡ event_in self.now.octets.items ended }
-    {
-        match ended {
-            Ended::Nothing => Heard::Nothing,
-            Ended::Dropped(cause) => Heard::Dropped(cause),
-            Ended::Frame(len) => Heard::Frame(&self.octets[..len]),
-            Ended::Overlong => {
-                let octets = &self.octets;
-                Heard::Overlong([octets[0], octets[1], octets[2], octets[3]])
-            }
-        }
-    }
-
-    fn step(&mut self, octet: u8) -> Ended
+    fn hear(&mut self, octet: u8) -> Ended
         ensures fits { FitsIn (vec_len self.new.octets) result }
         ensures room { length self.new.octets.items ≡ length self.old.octets.items }
         ensures stands { (past : List Bool) → HoldsPast self.old.octets.items self.old.ones self.old.gap past
@@ -242,6 +265,3 @@ impl Deframer {
         ended
     }
 }
-
-#[cfg(test)]
-mod tests;

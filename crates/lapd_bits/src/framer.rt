@@ -1,7 +1,6 @@
 //! What goes out on a line (clauses 2.2, 2.6 and 2.7): frames, and idle flags between them.
 ghost use Rattle.std.specs.Prelude.{◌≡◌, ℕ, ◌+◌, ◌<◌, ◌≤◌, ◌↔◌, Bool, List, [], ◌∷◌, ◌++◌, length, take, min, IsTrue, IfOk, if◌then◌else◌};
-ghost use Rattle.lapd_bits.specs.Bits.{low_bits, flag};
-ghost use Rattle.lapd_bits.specs.Stuffing.{number_of};
+ghost use Rattle.lapd_bits.specs.Bits.{low_bits, flag, number_of};
 ghost use Rattle.lapd_bits.specs.Sent.{Item, frame, item_text};
 ghost use Rattle.lapd_bits.specs.Framer.{Framing, Stands, refilled, with_idle, still_held};
 ghost use Rattle.lapd_bits.specs.FramerText.{begun};
@@ -19,7 +18,7 @@ const FLAG_BITS: u8 = 8;
 /// closing flag, and idle flags where no frame waits (Q.921 clauses 2.2, 2.6 and 2.7).
 ///
 /// All its memory is taken by [`Framer::start`].
-#[derive(Drop)]
+#[derive(Drop, Debug)]
 pub struct Framer {
     /// The frame in hand with its check; empty where none is.
     frame: Vec<u8>,
@@ -91,7 +90,11 @@ impl Framer {
         }
     }
 
-    /// Takes the frame of these octets, without its check: `head`, and then `info`. It follows what is left.
+    /// Takes the frame of these octets, without its check: `head`, its address and control field, and then `info`, its
+    /// information. It goes out after the bits that are left, with its check and a closing flag.
+    ///
+    /// Fewer than eight bits may be left ([`Framer::busy`] is false). `head` has at most 4 octets, `info` at most the
+    /// `n201` of the start, and both together at least 3.
     pub fn load(&mut self, head: &[u8], info: &[u8])
         requires not_busy { length self.old.left < 8 }
         requires head { length head.now ≤ 4 }
@@ -152,127 +155,5 @@ impl Framer {
             self.flag = FLAG_BITS;
         }
         bit
-    }
-}
-
-#[cfg(test)]
-mod tests {
-    use super::*;
-    use std::process::Abort;
-    use std::test::Fail;
-
-    // The next octets of a framer are these.
-    fn expect(rt: &impl Abort, framer: &mut Framer, octets: &[u8])
-        ensures { framer.new.room ≡ framer.old.room }
-    {
-        for octet in octets {
-            assert_eq!(rt; framer.octet(), *octet);
-        }
-    }
-
-    // A UA with its check, between two flags.
-    #[test]
-    fn a_frame(rt: HostRuntime) -> Result<(), Fail> {
-        let mut framer = Framer::start(rt.alloc(), 260)?;
-        assert!(rt; framer.busy());
-        assert_eq!(rt; framer.held(), 0);
-        expect(&rt, &mut framer, &[0x7E]);
-        assert!(rt; !framer.busy());
-        assert_eq!(rt; framer.left(), 0);
-        framer.load(&[0x00, 0x81, 0x73], &[]);
-        assert!(rt; framer.busy());
-        assert_eq!(rt; framer.left(), 8);
-        expect(&rt, &mut framer, &[0x00, 0x81, 0x73, 0xC4, 0x12]);
-        assert_eq!(rt; framer.held(), 3);
-        expect(&rt, &mut framer, &[0x7E]);
-        assert_eq!(rt; framer.held(), 0);
-        expect(&rt, &mut framer, &[0x7E, 0x7E]);
-        Ok(())
-    }
-
-    // A SABME of the terminal, whose closing flag ends in the first bit of the last octet.
-    #[test]
-    fn a_terminals_sabme(rt: HostRuntime) -> Result<(), Fail> {
-        let mut framer = Framer::start(rt.alloc(), 260)?;
-        expect(&rt, &mut framer, &[0x7E]);
-        assert!(rt; !framer.busy());
-        framer.load(&[0x00, 0x81, 0x7F], &[]);
-        assert_eq!(rt; framer.held(), 3);
-        expect(
-            &rt,
-            &mut framer,
-            &[0x00, 0x81, 0xEF, 0x50, 0xB1, 0xFD, 0xFC],
-        );
-        Ok(())
-    }
-
-    // A SABME of the network, whose stuffed 0s leave the idle flags after it across octets.
-    #[test]
-    fn idle_flags_across_octets(rt: HostRuntime) -> Result<(), Fail> {
-        let mut framer = Framer::start(rt.alloc(), 260)?;
-        expect(&rt, &mut framer, &[0x7E]);
-        assert!(rt; !framer.busy());
-        framer.load(&[0x02, 0x81], &[0x7F]);
-        expect(
-            &rt,
-            &mut framer,
-            &[0x02, 0x81, 0xEF, 0x20, 0xDA, 0xFC, 0xFC],
-        );
-        Ok(())
-    }
-
-    // A UI whose check ends in five 1s, which have a stuffed 0 after them too.
-    #[test]
-    fn a_last_stuffed_zero(rt: HostRuntime) -> Result<(), Fail> {
-        let mut framer = Framer::start(rt.alloc(), 260)?;
-        expect(&rt, &mut framer, &[0x7E]);
-        assert!(rt; !framer.busy());
-        framer.load(&[0x00, 0x81, 0x03], &[0xCB]);
-        assert_eq!(rt; framer.held(), 4);
-        expect(
-            &rt,
-            &mut framer,
-            &[0x00, 0x81, 0x03, 0xCB, 0x59, 0xF8, 0xFC, 0xFC],
-        );
-        Ok(())
-    }
-
-    // A second frame follows the last four bits of an idle flag.
-    #[test]
-    fn within_an_idle_flag(rt: HostRuntime) -> Result<(), Fail> {
-        let mut framer = Framer::start(rt.alloc(), 260)?;
-        expect(&rt, &mut framer, &[0x7E]);
-        assert!(rt; !framer.busy());
-        framer.load(&[0x00, 0x81, 0x03], &[0xFF, 0xFF]);
-        expect(
-            &rt,
-            &mut framer,
-            &[0x00, 0x81, 0x03, 0xDF, 0xF7, 0xF5, 0x15, 0xEE, 0xE7],
-        );
-        assert_eq!(rt; framer.left(), 4);
-        assert!(rt; !framer.busy());
-        framer.load(&[0x00, 0x81, 0x73], &[]);
-        assert_eq!(rt; framer.held(), 3);
-        expect(
-            &rt,
-            &mut framer,
-            &[0x07, 0x10, 0x38, 0x47, 0x2C, 0xE1, 0xE7],
-        );
-        Ok(())
-    }
-
-    // The longest frame: an I-frame with 260 octets of information.
-    #[test]
-    fn the_longest_frame(rt: HostRuntime) -> Result<(), Fail> {
-        let mut framer = Framer::start(rt.alloc(), 260)?;
-        expect(&rt, &mut framer, &[0x7E]);
-        assert!(rt; !framer.busy());
-        framer.load(&[0x00, 0x81, 0x00, 0x00], &[0x55; 260]);
-        assert_eq!(rt; framer.held(), 264);
-        expect(&rt, &mut framer, &[0x00, 0x81, 0x00, 0x00]);
-        expect(&rt, &mut framer, &[0x55; 260]);
-        assert_eq!(rt; framer.held(), 264);
-        expect(&rt, &mut framer, &[0xAF, 0x2E, 0x7E, 0x7E]);
-        Ok(())
     }
 }

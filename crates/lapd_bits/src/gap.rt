@@ -4,7 +4,7 @@ ghost use Rattle.lapd_bits.specs.Bits.{low_bits};
 ghost use Rattle.lapd_bits.specs.Stream.{is_short};
 
 use crate::check::{PRESET, divided, shows_no_error};
-use crate::heard::Cause;
+use crate::heard::{Cause, Ended};
 
 /// A closing flag without its last bit, as it lies in the octet that was being put together: a 0 and six 1s.
 const FLAG_BEGUN: u8 = 0b111_1110;
@@ -17,7 +17,7 @@ const OVERLONG_KEPT: usize = 4;
 
 /// What has come since the latest flag: the bits of an open gap, of which the whole octets lie in the
 /// deframer's room. The bits of the flag that will close it are among them until that flag's last bit.
-#[derive(Clone, Copy)]
+#[derive(Clone, Copy, Debug)]
 pub(crate) struct Gap {
     /// The bits since the flag, stuffed 0s among them; 8 stands for 8 and more.
     since: u8,
@@ -33,15 +33,6 @@ pub(crate) struct Gap {
     ghost no_octet: { filled < 8 },
     ghost filled_since: { filled ≤ since },
     ghost partial_filled: { partial < 2 ^ filled },
-}
-
-/// What a bit or an octet of a line has ended. The octets themselves lie in the deframer's room.
-#[derive(Clone, Copy)]
-pub(crate) enum Ended {
-    Nothing,
-    Dropped(Cause),
-    Frame(usize),
-    Overlong,
 }
 
 impl Gap {

@@ -12,9 +12,9 @@ pub enum Cause {
     Short,
     /// The frame check tells of an error (clause 2.7).
     Fcs,
-    /// An address whose extension bits are not those of two octets (clause 3.3.1).
+    /// An address whose extension bits are not those of two octets (clauses 2.9 and 3.3.1).
     Extension,
-    /// A SAPI that is not served (clause 3.3.3).
+    /// A SAPI that is not served (clauses 2.9 and 3.3.3).
     Sapi,
     /// A TEI that is not on the line (clause 3.3.4).
     Tei,
@@ -22,8 +22,22 @@ pub enum Cause {
     Unserved,
 }
 
+/// What a bit or an octet of a line ended, without references: at most one event. The octets of a frame lie with
+/// the deframer until its next octet, and [`Deframer::latest`](crate::Deframer::latest) lends them.
+#[derive(Clone, Copy, PartialEq, Eq, Debug)]
+pub enum Ended {
+    /// Nothing has ended.
+    Nothing,
+    /// What stood since the latest flag is dropped, for one of the first four causes.
+    Dropped(Cause),
+    /// A frame of so many octets, without its check.
+    Frame(usize),
+    /// A frame that is longer than the deframer's room, but otherwise good.
+    Overlong,
+}
+
 /// What an octet of a line brought: at most one event.
-#[derive(Clone, Copy)]
+#[derive(Clone, Copy, PartialEq, Eq, Debug)]
 pub enum Heard<'a> {
     /// Nothing has ended.
     Nothing,

@@ -3,22 +3,25 @@
 //! A [`Deframer`] hears the frames in the octets of a line, and a [`Framer`] gives the octets for frames to be
 //! sent. Both take all their memory when they start.
 //!
+//! A *gap* is what stands between two flags that follow one another. The *open gap* is what has come since the latest
+//! flag, as long as no seven 1s have given it up. An *item* is what is sent after a line's opening flag: an idle flag, or
+//! a stuffed frame with its check and its closing flag.
+//!
 //! - `deframer`, over `gap`: from octets to frames; `heard`: what it answers.
 //! - `framer`, over `stuffer`: from frames to octets.
 //! - `start_fault`: why neither could be started.
 //! - `check`: the frame check sequence.
-//! - `stuffing`, `one_event`, `round_trip`: laws, as functions with no effect.
-//! - `reference`: for tests, a plain program that hears by the definitions.
+//! - `stuffing`, `one_event`, `heard_within`, `flag_places`, `round_trip`: laws, as functions with no effect.
 #![tactic(auto)]
 
 mod check;
 mod deframer;
+mod flag_places;
 mod framer;
 mod gap;
 mod heard;
+mod heard_within;
 mod one_event;
-#[cfg(test)]
-mod reference;
 mod round_trip;
 mod start_fault;
 mod stuffer;
@@ -26,8 +29,10 @@ mod stuffing;
 
 pub use check::{fcs, only_check};
 pub use deframer::Deframer;
+pub use flag_places::{abort_after_flag, flag_after_flag};
 pub use framer::Framer;
-pub use heard::{Cause, Heard};
+pub use heard::{Cause, Ended, Heard};
+pub use heard_within::heard_within_stream;
 pub use one_event::one_event_an_octet;
 pub use round_trip::frames_round_trip;
 pub use start_fault::StartFault;

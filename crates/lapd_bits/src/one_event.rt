@@ -7,13 +7,3 @@ ghost use Rattle.lapd_bits.specs.StreamLaws.{OneEventAnOctet};
 pub fn one_event_an_octet()
     ensures { OneEventAnOctet }
 {}
-
-#[cfg(test)]
-mod tests {
-    use super::*;
-
-    #[test]
-    fn the_law_can_be_cited() {
-        one_event_an_octet();
-    }
-}

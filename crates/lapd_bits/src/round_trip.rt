@@ -8,13 +8,3 @@ ghost use Rattle.lapd_bits.specs.RoundTrip.{FramesRoundTrip};
 pub fn frames_round_trip()
     ensures { FramesRoundTrip }
 {}
-
-#[cfg(test)]
-mod tests {
-    use super::*;
-
-    #[test]
-    fn the_law_can_be_cited() {
-        frames_round_trip();
-    }
-}

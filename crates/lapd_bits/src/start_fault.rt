@@ -8,16 +8,3 @@ pub enum StartFault {
     #[error("out of memory")]
     OutOfMemory = 1,
 }
-
-#[cfg(test)]
-mod tests {
-    use super::*;
-    use std::test::Fail;
-
-    #[test]
-    fn its_text(rt: HostRuntime) -> Result<(), Fail> {
-        let text = format!(in rt.alloc(); "{}", StartFault::OutOfMemory)?;
-        assert_eq!(rt; text.as_str(), "out of memory");
-        Ok(())
-    }
-}

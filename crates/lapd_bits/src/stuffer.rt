@@ -3,7 +3,7 @@ ghost use Rattle.std.specs.Prelude.{◌≡◌, ◌<◌, ◌≤◌, ◌∷◌, []
 ghost use Rattle.lapd_bits.specs.FramerText.{text_from};
 
 /// A place in the stuffed text of octets.
-#[derive(Clone, Copy)]
+#[derive(Clone, Copy, Debug)]
 pub(crate) struct Stuffer {
     /// The next of the octets' bits.
     next: usize,

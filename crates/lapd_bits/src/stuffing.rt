@@ -21,15 +21,3 @@ pub fn octets_of_a_text()
     ensures octets { OctetsAreThoseSent }
     ensures none { NoneWhereNoneSent }
 {}
-
-#[cfg(test)]
-mod tests {
-    use super::*;
-
-    #[test]
-    fn the_laws_can_be_cited() {
-        one_stuffed_text();
-        stuffed_texts();
-        octets_of_a_text();
-    }
-}

@@ -3,8 +3,7 @@ use Rattle.std.proofs.Common.{◌≡◌, ℕ, ◌<◌, ◌≤◌, Bool, true, fa
 use Rattle.std.specs.Prelude.{if◌then◌else◌}
 use Rattle.std.proofs.lemmas.Bool.{lt-ltb, le-ltb}
 use Rattle.std.proofs.lemmas.List.{flat_map_more, drop_at, append_cancel_left}
-use Rattle.lapd_bits.specs.Bits.{bits, flag}
-use Rattle.lapd_bits.specs.Stuffing.{number_of}
+use Rattle.lapd_bits.specs.Bits.{bits, flag, number_of}
 use Rattle.lapd_bits.specs.Sent.{Item, idle, frame, frame_text, item_text, line_text}
 use Rattle.lapd_bits.specs.Framer.{Framing, runs_low, refilled, with_idle}
 use Rattle.lapd_bits.specs.Framer as framer

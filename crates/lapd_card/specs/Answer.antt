@@ -1,5 +1,5 @@
 -- What an event is answered with, as plain values.
-use Rattle.std.specs.Prelude.{ℕ, Bool, List, [], Option, Some, None}
+use Rattle.std.specs.Prelude.{ℕ, Bool, List, [], ◌∷◌, Option, Some, None}
 use Rattle.lapd_bits.specs.declared.heard.Cause.{Cause}
 use Rattle.lapd_frame.specs.declared.notes.Note.{Note}
 use Rattle.lapd_frame.specs.declared.timers.Order.{Order}
@@ -23,6 +23,10 @@ pub data Answer : Type 0 where
 -- Nothing happened.
 abbrev pub nothing : Told
 nothing = record { notes = []; delivered = None; cause = None; orders = []; lost = 0 }
+
+-- One thing is told, one timer is ordered, and so many control frames were lost.
+abbrev pub served : Note → Order → ℕ → Told
+served note order lost = record nothing { notes = note ∷ []; orders = order ∷ []; lost = lost }
 
 -- Something was dropped without effect.
 abbrev pub dropped : Cause → Told

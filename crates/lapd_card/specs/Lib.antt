@@ -1,9 +1,7 @@
 pub mod Config
-pub mod Notes
 pub mod Frames
 pub mod Answer
 pub mod Link
-pub mod Outcome
 pub mod Reply
 pub mod Sink
 pub mod Card

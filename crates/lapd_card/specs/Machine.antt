@@ -1,7 +1,6 @@
 -- The first card as a machine: what its line's whole past is, and what each event makes of it.
 use Rattle.std.specs.Prelude.{ℕ, length, Bool, ◌&&◌, List, [], ◌∷◌, ◌++◌, take, drop, slice_get, Option, Some, None, is_some, option_map, if◌then◌else◌}
-use Rattle.lapd_bits.specs.Bits.{bits}
-use Rattle.lapd_bits.specs.Stuffing.{number_of}
+use Rattle.lapd_bits.specs.Bits.{bits, number_of}
 use Rattle.lapd_bits.specs.Stream as stream
 use Rattle.lapd_bits.specs.Framer.{runs_low}
 use Rattle.lapd_bits.specs.Sent.{Item, idle, frame, line_text}

@@ -6,7 +6,6 @@ ghost use Rattle.lapd_card.specs.Config.{start_fault};
 use crate::config::{CardFault, Config, Field};
 use crate::events::{Event, Request};
 use crate::link::Link;
-use crate::outcome::Outcome;
 use crate::pulled::Pulled;
 use crate::recognise::{Recognised, recognise, recognise_overlong};
 use crate::reports::Report;
@@ -31,7 +30,6 @@ impl Card {
     ghost use Rattle.std.specs.Io.BufRead.{Rests};
     ghost use Rattle.lapd_card.specs.contracts.card.Card.{the_row};
     ghost use Rattle.lapd_card.specs.Answer.{nothing};
-    ghost use Rattle.lapd_card.specs.Outcome.{told_of};
     ghost use Rattle.lapd_card.specs.Reply.{report_told, pulled_orders, answer_of_result};
     ghost use Rattle.lapd_card.specs.Answer.{told, pulled};
     ghost use Rattle.lapd_card.specs.Frames.{IsTeiBelow};
@@ -129,14 +127,14 @@ impl Card {
         }
     }
 
-    fn hear(&mut self, octet: u8) -> Outcome
-        ensures told { (m : Machine) → Stands self.old m → told_of result ≡ told_of_octet octet m }
+    fn hear(&mut self, octet: u8) -> Report<'static>
+        ensures told { (m : Machine) → Stands self.old m → report_told result ≡ told_of_octet octet m }
         ensures lines { line_count self.new ≡ line_count self.old }
         ensures after { (m : Machine) → Stands self.old m → Stands self.new (after_octet octet m) }
     {
         match self.read(octet) {
             Some(recognised) => self.serve(recognised),
-            None => Outcome::nothing(),
+            None => Report::nothing(),
         }
     }
 
@@ -156,27 +154,27 @@ impl Card {
         }
     }
 
-    fn serve(&mut self, recognised: Recognised) -> Outcome
+    fn serve(&mut self, recognised: Recognised) -> Report<'static>
         requires { IsTeiBelow 128 recognised }
-        ensures told { told_of result ≡ told_of_brought (Some recognised) self.old.link }
+        ensures told { report_told result ≡ told_of_brought (Some recognised) self.old.link }
         ensures after { self.new ≡ record self.old { link = link_after_brought (Some recognised) self.old.link } }
     {
         match recognised {
             Recognised::Sabme { tei, poll } => self.link.sabme(tei, poll),
-            Recognised::Dropped(cause) => Outcome::dropped(cause),
+            Recognised::Dropped(cause) => Report::dropped(cause),
         }
     }
 
-    fn grant(&mut self, request: Request) -> Result<Outcome, Refusal>
+    fn grant(&mut self, request: Request) -> Result<Report<'static>, Refusal>
         ensures refused { IfErr result (λ r. refusal request (link_of self.old) ≡ Some r) }
         ensures accepted { OnOk result (refusal request (link_of self.old) ≡ None) }
-        ensures told { IfOk result (λ outcome. told_of outcome ≡ nothing) }
+        ensures told { IfOk result (λ outcome. report_told outcome ≡ nothing) }
         ensures after { self.new ≡ after_request request self.old }
     {
         match request {
             Request::Assign(tei) => self.link.assign(tei)?,
         }
-        Ok(Outcome::nothing())
+        Ok(Report::nothing())
     }
 
     /// Loads the frame that has waited longest, where the line runs low and a frame waits.
@@ -197,9 +195,9 @@ impl Card {
 
     // The report borrows from the card, so that no event can come while contents are lent. Whatever the event
     // changed was changed in a step before this one: no loan is proved beside a later write.
-    fn lent(&self, outcome: Outcome) -> Report<'_>
-        ensures { report_told result ≡ told_of outcome }
+    fn lent(&self, outcome: Report<'static>) -> Report<'_>
+        ensures { report_told result ≡ report_told outcome.entry }
     {
-        Report::of(outcome)
+        outcome
     }
 }

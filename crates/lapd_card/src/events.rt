@@ -1,7 +1,7 @@
 //! What happens at a card.
 
 /// An event at a card. The first number is the line that it is at, from 0.
-#[derive(Clone, Copy)]
+#[derive(Clone, Copy, PartialEq, Eq, Debug)]
 pub enum Event {
     /// An octet came from the line.
     Octet(usize, u8),
@@ -12,7 +12,7 @@ pub enum Event {
 }
 
 /// What layer 3 asks of a line.
-#[derive(Clone, Copy)]
+#[derive(Clone, Copy, PartialEq, Eq, Debug)]
 pub enum Request {
     /// Puts a TEI on the line, 0 to 126.
     Assign(u8),

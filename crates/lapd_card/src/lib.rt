@@ -7,8 +7,7 @@
 //!
 //! - `config`: the sizes and limits of a card, and why a start fails.
 //! - `events`: what happens at a card: octets received, requests of layer 3, octets to send.
-//! - `reports`, `pulled`: what events are answered with; `notes` and `orders` are the short lists in them, and
-//!   `outcome` is an answer before it is lent.
+//! - `reports`, `pulled`: what events are answered with.
 //! - `recognise`, `link`, `states`: how a received frame is read, and the one link.
 //! - `card`: the card, one call an event; `drive` with `sink`: whole lists of events; `counts`: a law of them.
 #![tactic(auto)]
@@ -19,9 +18,6 @@ mod counts;
 mod drive;
 mod events;
 mod link;
-mod notes;
-mod orders;
-mod outcome;
 mod pulled;
 mod recognise;
 mod reports;
@@ -35,6 +31,3 @@ pub use events::{Event, Request};
 pub use pulled::Pulled;
 pub use reports::{Reply, Report};
 pub use sink::{Sink, SinkFailed, SinkFault};
-
-#[cfg(test)]
-mod tests;

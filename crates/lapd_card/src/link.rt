@@ -2,11 +2,9 @@
 
 ghost use Rattle.std.specs.Prelude.{◌≡◌, ◌<◌, ◌∷◌, [], None, IfOk, IfErr, OnOk, OnErr};
 ghost use Rattle.lapd_card.specs.Link.{LinkState, fresh_link, with_tei, assign_refusal, after_sabme, told_of_sabme, first_waiting, without_first, ua};
-ghost use Rattle.lapd_card.specs.Outcome.{told_of};
+ghost use Rattle.lapd_card.specs.Reply.{report_told};
 
-use crate::notes::Notes;
-use crate::orders::Orders;
-use crate::outcome::Outcome;
+use crate::reports::Report;
 use crate::states::State;
 use circular_buffer::HeapCircularBuffer;
 use lapd_frame::{
@@ -81,9 +79,9 @@ impl Link {
     }
 
     /// Serves a SABME of the terminal.
-    pub fn sabme(&mut self, tei: u8, poll: bool) -> Outcome
+    pub fn sabme(&mut self, tei: u8, poll: bool) -> Report<'static>
         requires { tei < 128 }
-        ensures told { told_of result ≡ told_of_sabme tei self.old }
+        ensures told { report_told result ≡ told_of_sabme tei self.old }
         ensures after { self.new ≡ after_sabme tei poll self.old }
     {
         let note = match self.state {
@@ -98,12 +96,7 @@ impl Link {
             Ok(()) => 0,
             Err(_) => 1,
         };
-        Outcome {
-            notes: Notes::one(note),
-            cause: None,
-            orders: Orders::one(Order::Start(Timer::T203(Service::Call, tei))),
-            lost,
-        }
+        Report::served(note, Order::Start(Timer::T203(Service::Call, tei)), lost)
     }
 
     /// Takes the frame that has waited longest.

@@ -2,17 +2,16 @@
 
 ghost use Rattle.std.specs.Prelude.{◌≡◌, []};
 
-use crate::orders::Orders;
-use lapd_frame::Order;
+use lapd_frame::{Order, ShortList};
 
 /// What a pull gives.
-#[derive(Clone, Copy)]
+#[derive(Clone, Copy, PartialEq, Eq, Debug)]
 pub struct Pulled {
     /// The next octet of the line.
     pub octet: u8,
     /// Whether this pull took a frame that waited.
     pub begun: bool,
-    orders: Orders,
+    orders: ShortList<Order>,
 }
 
 impl Pulled {
@@ -26,7 +25,7 @@ impl Pulled {
         Pulled {
             octet,
             begun,
-            orders: Orders::none(),
+            orders: ShortList::none(),
         }
     }
 

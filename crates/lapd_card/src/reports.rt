@@ -2,18 +2,15 @@
 
 ghost use Rattle.std.specs.Prelude.{◌≡◌, IfSome};
 
-use crate::notes::Notes;
-use crate::orders::Orders;
-use crate::outcome::Outcome;
 use crate::pulled::Pulled;
 use lapd_bits::Cause;
-use lapd_frame::{Note, Order, Refusal};
+use lapd_frame::{Note, Order, Refusal, ShortList};
 
 /// What an octet or an accepted request led to.
-#[derive(Clone, Copy)]
+#[derive(Clone, Copy, PartialEq, Eq, Debug)]
 pub struct Report<'a> {
-    notes: Notes,
-    orders: Orders,
+    notes: ShortList<Note>,
+    orders: ShortList<Order>,
     /// The contents that a frame delivered, lent until the card's next event. The first card delivers none.
     pub delivered: Option<&'a [u8]>,
     /// Why something was dropped.
@@ -23,24 +20,46 @@ pub struct Report<'a> {
 }
 
 impl<'a> Report<'a> {
-    ghost use Rattle.lapd_card.specs.Outcome.{told_of};
+    ghost use Rattle.lapd_card.specs.Answer.{nothing, dropped, served};
     ghost use Rattle.lapd_card.specs.Reply.{report_told, report_notes, report_orders};
 
-    pub(crate) fn of(outcome: Outcome) -> Report<'a>
-        ensures { report_told result ≡ told_of outcome }
+    /// Nothing happened.
+    pub(crate) fn nothing() -> Report<'a>
+        ensures { report_told result ≡ nothing }
     {
         Report {
-            notes: outcome.notes,
-            orders: outcome.orders,
+            notes: ShortList::none(),
+            orders: ShortList::none(),
             delivered: None,
-            cause: outcome.cause,
-            lost: outcome.lost,
+            cause: None,
+            lost: 0,
+        }
+    }
+
+    /// Something was dropped without effect.
+    pub(crate) fn dropped(cause: Cause) -> Report<'a>
+        ensures { report_told result ≡ dropped cause }
+    {
+        Report {
+            cause: Some(cause),
+            ..Report::nothing()
+        }
+    }
+
+    /// One thing is told, one timer is ordered, and so many control frames were lost.
+    pub(crate) fn served(note: Note, order: Order, lost: u8) -> Report<'a>
+        ensures { report_told result ≡ served note order lost }
+    {
+        Report {
+            notes: ShortList::one(note),
+            orders: ShortList::one(order),
+            lost,
+            ..Report::nothing()
         }
     }
 
     /// The report for as long as one likes, where it lends no contents.
-    #[cfg(test)]
-    pub(crate) fn without_contents(&self) -> Option<Report<'static>>
+    pub fn without_contents(&self) -> Option<Report<'static>>
         ensures { IfSome result (λ kept. report_told kept ≡ report_told self.now) }
     {
         if self.delivered.is_some() {
@@ -71,7 +90,7 @@ impl<'a> Report<'a> {
 }
 
 /// The answer to an event.
-#[derive(Clone, Copy)]
+#[derive(Clone, Copy, PartialEq, Eq, Debug)]
 pub enum Reply<'a> {
     /// To an octet, or to a request that was accepted.
     Report(Report<'a>),

@@ -5,3 +5,4 @@ pub mod Running
 pub mod First
 pub mod Calls
 pub mod TimeUntil
+pub mod Moments

@@ -82,7 +82,7 @@ IsOneEach-put_in_order e (x ∷ xs) others h =
     (λ _. (All-put_in_order is_before (λ other. is_of x.line x.timer other ≡ false) e xs (other_way e x others.0) h.0, IsOneEach-put_in_order e xs others.1 h.1))
     (λ _. (others, h))
 
-none_of-without : (line : ℕ) (timer : Timer) (es : List Expiry) → AllByRecursion (λ other. is_of line timer other ≡ false) (without line timer es)
+pub none_of-without : (line : ℕ) (timer : Timer) (es : List Expiry) → AllByRecursion (λ other. is_of line timer other ≡ false) (without line timer es)
 none_of-without line timer [] = tt
 none_of-without line timer (e ∷ es) =
     (elim (is_of line timer e) as (λ b. is_of line timer e ≡ b → AllByRecursion (λ other. is_of line timer other ≡ false) (cond (not b) (e ∷ without line timer es) (without line timer es))) [

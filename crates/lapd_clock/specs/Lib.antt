@@ -4,3 +4,4 @@ pub mod Worked
 pub mod InOrder
 pub mod Sound
 pub mod Places
+pub mod Moments

@@ -10,6 +10,7 @@
 //! - `lines`, `line`: which line's timer falls due first, and the timers of one line.
 //! - `timers`: how long each timer runs, and which goes first at one moment.
 //! - `fault`: `StartFault`, why there is no clock.
+//! - `laws`: what an order does to the moments of all timers.
 //!
 //! What each call answers and does is defined in `specs/Timers.antt` on the set of running timers.
 //!
@@ -24,11 +25,11 @@
 
 mod clock;
 mod fault;
+mod laws;
 mod line;
 mod lines;
-#[cfg(test)]
-mod tests;
 mod timers;
 
 pub use clock::Clock;
 pub use fault::StartFault;
+pub use laws::orders_move_one_timer;

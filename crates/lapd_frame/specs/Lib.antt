@@ -4,4 +4,5 @@ pub mod Grammar
 pub mod Overlong
 pub mod Reading
 pub mod Services
+pub mod ShortLists
 pub mod Worked

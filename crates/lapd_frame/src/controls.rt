@@ -112,8 +112,9 @@ impl Control {
         }
     }
 
-    // Where the information of such a frame begins: behind the address and the control field.
-    pub(crate) fn start(&self) -> usize
+    /// Where the information of such a frame begins, in octets from the frame's first: behind the address and the
+    /// control field, so 3 or 4.
+    pub fn start(&self) -> usize
         ensures value { result ≡ start_of self.now }
         ensures bound { result ≤ 4 }
     {

@@ -1,7 +1,8 @@
 //! A whole frame.
 
-ghost use Rattle.std.specs.Prelude.{◌≡◌, ◌++◌, take};
-ghost use Rattle.lapd_frame.specs.Grammar.{address_field, row, parts_of, IsFrame};
+ghost use Rattle.std.specs.Prelude.{◌≡◌, ◌++◌, length, take};
+ghost use Rattle.lapd_frame.specs.declared.addresses.Side.{Side};
+ghost use Rattle.lapd_frame.specs.Grammar.{address_field, row, parts_of, spelling, IsFrame};
 ghost use Rattle.lapd_frame.specs.Reading.{start_of};
 
 use crate::addresses::{Address, Side};
@@ -20,6 +21,14 @@ pub struct Frame<'a> {
 }
 
 impl Frame<'_> {
+    /// How many octets [`write`](crate::write) makes of the frame, for either side: 3 or 4, and the information.
+    pub fn len(&self) -> usize
+        requires { IsFrame (parts_of self.now) }
+        ensures { (side : Side) → result ≡ length (spelling side (parts_of self.now)) }
+    {
+        self.control.start() + self.info.len()
+    }
+
     // The octets before the information, and 0 up to four.
     pub(crate) fn head(&self, side: Side) -> [u8; 4]
         requires { IsFrame (parts_of self.now) }

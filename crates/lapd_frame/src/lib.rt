@@ -10,7 +10,7 @@
 //! - `overlong`: `read_long`, what the first four octets tell of a frame that is too long to keep.
 //! - `writing`: `write`, from a frame to octets.
 //! - `laws`: `one_spelling`, what holds of the grammar itself.
-//! - `services`, `timers`, `notes`, `refusals`: the types that links, lines and their users share.
+//! - `services`, `timers`, `notes`, `refusals`, `short_lists`: the types that links, lines and their users share.
 //!
 //! The grammar stands in `specs/Grammar.antt`, one equation for each row of table 5. No call takes
 //! memory, and nothing is copied but by `write`.
@@ -27,6 +27,7 @@ mod overlong;
 mod reading;
 mod refusals;
 mod services;
+mod short_lists;
 mod timers;
 mod writing;
 
@@ -40,10 +41,6 @@ pub use overlong::{Long, read_long};
 pub use reading::read;
 pub use refusals::Refusal;
 pub use services::Service;
+pub use short_lists::ShortList;
 pub use timers::{Order, Timer};
 pub use writing::write;
-
-#[cfg(test)]
-mod table_tests;
-#[cfg(test)]
-mod tests;

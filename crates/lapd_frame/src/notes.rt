@@ -40,15 +40,17 @@ pub enum Note {
 /// used (profile).
 #[derive(Clone, Copy, PartialEq, Eq, Debug)]
 pub enum ErrorCode {
-    /// A supervisory response with F=1 that no command asked for.
+    /// A supervisory response with F=1 that no command asked for: in state 7, multiple frame established.
     A,
-    /// A DM response with F=1 that no command asked for.
+    /// A DM response with F=1 that no command asked for: in states 7 and 8, multiple frame established and timer
+    /// recovery. In states 5 and 6 it answers the command that is out.
     B,
-    /// A UA response with F=1 that no command asked for.
+    /// A UA response with F=1 that no command asked for: in states 4, 7 and 8. In states 5 and 6 it answers the command
+    /// that is out.
     C,
-    /// A UA response with F=0 that no command asked for.
+    /// A UA response with F=0, in every state, 4 to 8: the commands that ask for a UA have P=1.
     D,
-    /// A DM response with F=0.
+    /// A DM response with F=0, in states 7 and 8; it is not served in the others.
     E,
     /// The terminal established an established link again.
     F,

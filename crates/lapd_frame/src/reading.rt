@@ -1,6 +1,6 @@
 //! From octets to a frame.
 
-ghost use Rattle.std.specs.Prelude.{◌≡◌, ◌↔◌, IfOk, IsOkAnd, drop};
+ghost use Rattle.std.specs.Prelude.{◌≡◌, ◌+◌, ◌↔◌, IfOk, IsOkAnd, drop, length};
 ghost use Rattle.lapd_frame.specs.declared.faults.ReadFault.{ReadFault};
 ghost use Rattle.lapd_frame.specs.Faults.{IsFault};
 ghost use Rattle.lapd_frame.specs.Grammar.{Parts, parts_of, Spells};
@@ -13,13 +13,15 @@ use crate::headers::{header, is_short};
 
 /// Reads a frame that `side` sent, without its frame check.
 ///
-/// The information is lent from `octets`, of which it is the tail. The faults are tested in this
+/// The information is lent from `octets`, of which it is the tail from [`Control::start`] on: so it can be lent again
+/// from there. The faults are tested in this
 /// order: `Short`, `BadExtension`, `Undefined`, `WrongSize`.
 pub fn read(side: Side, octets: &[u8]) -> Result<Frame<'_>, ReadFault>
     // A frame is answered exactly where the octets spell it,
     ensures spelled { IfOk result (λ frame. Spells side (parts_of frame) octets.now) }
     ensures only { (frame : Parts) → Spells side frame octets.now → IsOkAnd result (λ read. parts_of read ≡ frame) }
     ensures tail { IfOk result (λ frame. frame.info.now ≡ drop (start_of frame.control) octets.now) }
+    ensures whole { IfOk result (λ frame. start_of frame.control + length frame.info.now ≡ length octets.now) }
 
     // and a fault exactly where it is the first that holds.
     ensures fault { (fault : ReadFault) → (result ≡ Err fault) ↔ IsFault side octets.now fault }
@@ -34,6 +36,7 @@ pub fn read(side: Side, octets: &[u8]) -> Result<Frame<'_>, ReadFault>
 #[tactic(auto, unfolding(crate::specs::Reading::reading))]
 fn parse(side: Side, octets: &[u8]) -> Result<Frame<'_>, ReadFault>
     ensures tail { IfOk result (λ frame. frame.info.now ≡ drop (start_of frame.control) octets.now) }
+    ensures whole { IfOk result (λ frame. start_of frame.control + length frame.info.now ≡ length octets.now) }
     ensures reading { outcome_of result ≡ reading side octets.now }
 {
     if is_short(octets) {

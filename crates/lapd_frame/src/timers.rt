@@ -18,6 +18,7 @@ pub enum Timer {
 pub enum Order {
     /// Start the timer; if it runs, start it anew.
     Start(Timer),
-    /// Stop the timer, which ran before the event. After its own expiry it is stopped already.
+    /// Stop the timer: it ran before the event and does not run after it. A timer whose own expiry is the event counts
+    /// as running before it, so an expiry that starts its timer anew gives `Start`, and any other gives `Stop`.
     Stop(Timer),
 }

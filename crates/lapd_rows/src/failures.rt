@@ -1,8 +1,8 @@
 //! Each read and each write failing in turn.
 
-use crate::fakes::{Page, Pieces, run_from};
-use crate::transcripts::{ESTABLISHED, TRANSCRIPT};
+use crate::fakes::{ESTABLISHED, Page, Pieces, TRANSCRIPT, plays};
 use lapd_sim::{PlayFault, play, serve};
+use std::alloc::Global;
 
 /// The octets of the script up to the line feed of its third line, which establishes the link.
 const THREE_LINES: usize = 60;
@@ -21,6 +21,13 @@ fn answered(given: usize) -> &'static [u8] {
     }
 }
 
+/// Whether a script ends with a failed read after so many good ones, with the answers of the lines that had come.
+fn fails_after(alloc: Global, piece: usize, good_reads: usize) -> bool {
+    let mut source = Pieces::failing(ESTABLISHED, piece, good_reads);
+    let given = ESTABLISHED.len().min(piece.saturating_mul(good_reads));
+    plays(alloc, &mut source, answered(given), b"read failed\n")
+}
+
 /// A read fails, after reads of an octet each, or of more than a line: the lines whose line feed had come were
 /// answered.
 #[test]
@@ -28,21 +35,13 @@ fn each_read_fails_in_turn(rt: HostRuntime) {
     for piece in [1usize, 7, 30, 61] {
         let reads = ESTABLISHED.len().div_ceil(piece);
         for good_reads in 0..=reads {
-            let mut source = Pieces::failing(ESTABLISHED, piece, good_reads);
-            let outcome = run_from(rt.alloc(), &mut source);
-            let given = ESTABLISHED.len().saturating_sub(source.left());
-            assert_eq!(rt;
-                outcome.transcript.text(),
-                answered(given),
+            assert!(rt;
+                fails_after(rt.alloc(), piece, good_reads),
                 "{good_reads} reads of {piece}"
             );
-            assert_eq!(rt; outcome.faults.text(), b"read failed\n".as_slice());
-            assert_eq!(rt; outcome.status, 1);
         }
         let mut source = Pieces::failing(ESTABLISHED, piece, reads.saturating_add(1));
-        let outcome = run_from(rt.alloc(), &mut source);
-        assert_eq!(rt; outcome.transcript.text(), TRANSCRIPT);
-        assert_eq!(rt; outcome.status, 0);
+        assert!(rt; plays(rt.alloc(), &mut source, TRANSCRIPT, b""), "{piece}");
     }
 }
 
@@ -59,14 +58,14 @@ fn each_write_fails_in_turn(rt: HostRuntime) {
         let mut faults = Page::new(rt.alloc());
         let mut source = Pieces::of(ESTABLISHED, 1);
         let status = serve(rt.alloc(), &["run"], &mut source, &mut target, &mut faults);
-        assert_eq!(rt; target.text(), written);
-        assert_eq!(rt; faults.text(), b"write failed\n".as_slice());
-        assert_eq!(rt; status, 1);
+        assert!(rt; target.text() == written);
+        assert!(rt; faults.text() == b"write failed\n".as_slice());
+        assert!(rt; status == 1);
     }
     let mut target = Page::failing(rt.alloc(), 3);
     let outcome = play(rt.alloc(), &mut Pieces::of(ESTABLISHED, 1), &mut target);
-    assert_eq!(rt; outcome, Ok(()));
-    assert_eq!(rt; target.text(), TRANSCRIPT);
+    assert!(rt; outcome == Ok(()));
+    assert!(rt; target.text() == TRANSCRIPT);
 }
 
 /// A fault line that can't be written changes nothing.
@@ -77,8 +76,8 @@ fn faults_that_cannot_be_told(rt: HostRuntime) {
         let mut target = Page::new(rt.alloc());
         let mut source = Pieces::of(b"walk\n", 5);
         let answer = serve(rt.alloc(), &[words], &mut source, &mut target, &mut faults);
-        assert_eq!(rt; answer, status);
-        assert_eq!(rt; faults.text(), b"".as_slice());
+        assert!(rt; answer == status);
+        assert!(rt; faults.text() == b"".as_slice());
     }
 }
 
@@ -88,7 +87,35 @@ fn answers_before_it_reads_on(rt: HostRuntime) {
     let mut source = Pieces::failing(ESTABLISHED, 1, THREE_LINES);
     let mut target = Page::new(rt.alloc());
     let outcome = play(rt.alloc(), &mut source, &mut target);
-    assert_eq!(rt; outcome, Err(PlayFault::Read));
-    assert_eq!(rt; source.left(), ESTABLISHED.len() - THREE_LINES);
-    assert_eq!(rt; target.text(), &TRANSCRIPT[..FIRST_ANSWER]);
+    assert!(rt; outcome == Err(PlayFault::Read));
+    assert!(rt; source.left() == ESTABLISHED.len() - THREE_LINES);
+    assert!(rt; target.text() == &TRANSCRIPT[..FIRST_ANSWER]);
+}
+
+/// Whether words that ask for nothing that there is end with a status of 2 and a line on standard error, without a read
+/// or a write.
+fn is_refused(alloc: Global, words: &[&str]) -> bool {
+    let mut source = Pieces::failing(b"card\n", 5, 0);
+    let mut target = Page::failing(alloc, 0);
+    let mut faults = Page::new(alloc);
+    let status = serve(alloc, words, &mut source, &mut target, &mut faults);
+    status == 2
+        && faults.text() == b"usage\n".as_slice()
+        && target.text().is_empty()
+        && source.left() == 5
+}
+
+#[test]
+fn refuses_other_words(rt: HostRuntime) {
+    let words: [&[&str]; 6] = [
+        &[],
+        &["Run"],
+        &["run", "run"],
+        &["run "],
+        &[""],
+        &["frame", "00817F"],
+    ];
+    for words in words {
+        assert!(rt; is_refused(rt.alloc(), words));
+    }
 }

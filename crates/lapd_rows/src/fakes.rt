@@ -93,27 +93,24 @@ impl Target for Page {
     }
 }
 
-/// What `lapdsim run` left: its exit status, and the texts on its standard output and standard error.
-#[derive(Drop)]
-pub struct Outcome {
-    pub status: u8,
-    pub transcript: Page,
-    pub faults: Page,
-}
+/// A terminal establishes its link, and is answered.
+pub const ESTABLISHED: &[u8] = b"card 1 8 7 8 4 4 64 260 3
+assign 0 64
+rx 0 7E0081EF50B1FDFC
+pull 0 7
+";
 
-/// Runs a script that comes in one piece.
-pub fn run(alloc: Global, script: &[u8]) -> Outcome {
-    run_from(alloc, &mut Pieces::of(script, usize::MAX))
-}
+/// What that script answers.
+pub const TRANSCRIPT: &[u8] = b"0 establish-indication 64
+0 tx 7E008173C4127E
+0 frame 008173
+";
 
-/// Runs the script that a source gives.
-pub fn run_from(alloc: Global, source: &mut Pieces<'_>) -> Outcome {
-    let mut transcript = Page::new(alloc);
+/// Whether `run` over a source writes this transcript and this fault line, and ends with the status that goes with them.
+pub fn plays(alloc: Global, source: &mut Pieces<'_>, transcript: &[u8], fault: &[u8]) -> bool {
+    let mut written = Page::new(alloc);
     let mut faults = Page::new(alloc);
-    let status = serve(alloc, &["run"], source, &mut transcript, &mut faults);
-    Outcome {
-        status,
-        transcript,
-        faults,
-    }
+    let status = serve(alloc, &["run"], source, &mut written, &mut faults);
+    let is_told = written.text() == transcript && faults.text() == fault;
+    is_told && status == u8::from(!fault.is_empty())
 }

@@ -1,7 +1,6 @@
 //! Readers and writers of std as sources and targets.
 
-use crate::fakes::Page;
-use crate::transcripts::{ESTABLISHED, TRANSCRIPT};
+use crate::fakes::{ESTABLISHED, Page, TRANSCRIPT};
 use lapd_sim::{
     PlayFault, ReadFailed, ReadFrom, Source, Target, WriteFailed, WriteTo, play, refuse,
 };
@@ -76,19 +75,19 @@ impl Write for Buffered {
 fn reads_from_a_reader(rt: HostRuntime) {
     let mut source = ReadFrom::new(Shaky { reads: 0 });
     let mut octets = [0; 4];
-    assert_eq!(rt; source.read(&mut octets), Ok(1));
-    assert_eq!(rt; octets, [7, 0, 0, 0]);
-    assert_eq!(rt; source.read(&mut octets), Err(ReadFailed));
-    assert_eq!(rt; source.read(&mut octets), Err(ReadFailed));
+    assert!(rt; source.read(&mut octets) == Ok(1));
+    assert!(rt; octets == [7, 0, 0, 0]);
+    assert!(rt; source.read(&mut octets) == Err(ReadFailed));
+    assert!(rt; source.read(&mut octets) == Err(ReadFailed));
 }
 
 #[test]
 fn writes_to_a_writer(rt: HostRuntime) {
     let mut target = WriteTo::new(Narrow { room: 5 });
-    assert_eq!(rt; target.write(b"abc"), Ok(()));
-    assert_eq!(rt; target.write(b""), Ok(()));
-    assert_eq!(rt; target.write(b"abc"), Err(WriteFailed));
-    assert_eq!(rt; target.write(b"a"), Err(WriteFailed));
+    assert!(rt; target.write(b"abc") == Ok(()));
+    assert!(rt; target.write(b"") == Ok(()));
+    assert!(rt; target.write(b"abc") == Err(WriteFailed));
+    assert!(rt; target.write(b"a") == Err(WriteFailed));
 }
 
 #[test]
@@ -97,9 +96,9 @@ fn flushes_each_write(rt: HostRuntime) {
         writes: 0,
         flushes: 0,
     });
-    assert_eq!(rt; target.write(b"a"), Ok(()));
-    assert_eq!(rt; target.write(b"b"), Err(WriteFailed));
-    assert_eq!(rt; target.write(b"c"), Ok(()));
+    assert!(rt; target.write(b"a") == Ok(()));
+    assert!(rt; target.write(b"b") == Err(WriteFailed));
+    assert!(rt; target.write(b"c") == Ok(()));
 }
 
 #[test]
@@ -110,25 +109,25 @@ fn plays_from_a_reader_to_a_writer(rt: HostRuntime) {
         &mut ReadFrom::new(ESTABLISHED),
         &mut WriteTo::new(&mut text),
     );
-    assert_eq!(rt; outcome, Ok(()));
-    assert_eq!(rt; text.as_slice(), TRANSCRIPT);
+    assert!(rt; outcome == Ok(()));
+    assert!(rt; text.as_slice() == TRANSCRIPT);
     let outcome = play(
         rt.alloc(),
         &mut ReadFrom::new(ESTABLISHED),
         &mut WriteTo::new(Narrow { room: 30 }),
     );
-    assert_eq!(rt; outcome, Err(PlayFault::Write));
+    assert!(rt; outcome == Err(PlayFault::Write));
     let outcome = play(
         rt.alloc(),
         &mut ReadFrom::new(Shaky { reads: 0 }),
         &mut Page::new(rt.alloc()),
     );
-    assert_eq!(rt; outcome, Err(PlayFault::Read));
+    assert!(rt; outcome == Err(PlayFault::Read));
 }
 
 #[test]
 fn tells_of_refused_memory(rt: HostRuntime) {
     let mut faults = Page::new(rt.alloc());
-    assert_eq!(rt; refuse(PlayFault::OutOfMemory, &mut faults), 1);
-    assert_eq!(rt; faults.text(), b"out of memory\n".as_slice());
+    assert!(rt; refuse(PlayFault::OutOfMemory, &mut faults) == 1);
+    assert!(rt; faults.text() == b"out of memory\n".as_slice());
 }

@@ -1,6 +1,7 @@
 //! Two and three sequence numbers on their circle.
 
 ghost use Rattle.std.specs.Prelude.{◌≡◌, ℕ, ◌+◌, ◌<◌, ◌↔◌, IsTrue, false, MatchOption};
+ghost use Rattle.lapd_seq.specs.declared.numbers.Seq.{Seq};
 ghost use Rattle.lapd_seq.specs.Circle.{distance_of, AreNumbers, IsValid, IsNamed, named};
 
 use crate::numbers::Seq;
@@ -10,6 +11,9 @@ pub fn distance(from: Seq, to: Seq) -> u8
     ensures circle { result ≡ distance_of from to }
     ensures bound { result < 128 }
     ensures plain { (a s : ℕ) → AreNumbers from to a s → a + result ≡ s }
+
+    // From V(A) it leads to the plain number that an N(R) names.
+    ensures named { (vs : Seq) (a s n : ℕ) → AreNumbers from vs a s → IsNamed a s to n → a + result ≡ n }
 {
     (128 + to.value - from.value) % 128
 }

@@ -74,6 +74,7 @@ fn a_full_window(rt: HostRuntime) {
     assert_eq!(rt; window.vs(), Seq::new(4));
     assert_eq!(rt; window.outstanding(), 127);
     assert!(rt; !window.may_send(127));
+    assert!(rt; !window.is_settled());
     assert_eq!(rt; count_valid(&window), 128);
     let first = Seq::new(5);
     assert!(rt; takes(&window, first));
@@ -82,9 +83,12 @@ fn a_full_window(rt: HostRuntime) {
     }
     assert_eq!(rt; window.outstanding(), 127);
     let last = Seq::new(4);
+    assert!(rt; window.names_next(last) && !window.names_next(first));
     if takes(&window, last) {
+        assert_eq!(rt; window.acknowledged_by(last), 127);
         window.acknowledge(last);
     }
+    assert!(rt; window.is_settled());
     assert_eq!(rt; window.outstanding(), 0);
     assert_eq!(rt; window.va(), Seq::new(4));
     assert_eq!(rt; window.vs(), Seq::new(4));

@@ -1,6 +1,6 @@
 //! The I-frames that were sent and are not yet acknowledged.
 
-ghost use Rattle.std.specs.Prelude.{◌≡◌, ℕ, ◌+◌, ◌<◌, ◌↔◌, IsTrue};
+ghost use Rattle.std.specs.Prelude.{◌≡◌, ℕ, ◌+◌, ◌<◌, ◌≤◌, ◌↔◌, IsTrue};
 ghost use Rattle.lapd_seq.specs.Numbers.{seq};
 ghost use Rattle.lapd_seq.specs.Circle.{distance_of, IsValid, IsNamed};
 ghost use Rattle.lapd_seq.specs.Windows.{va_of, vs_of, outstanding_of, Stands};
@@ -58,6 +58,31 @@ impl Window {
         ensures stands { Stands self.now (va_of self.now).value ((va_of self.now).value + result) }
     {
         distance(self.va, self.vs)
+    }
+
+    /// Whether every I-frame that was sent is acknowledged: V(A) is V(S).
+    pub fn is_settled(&self) -> bool
+        ensures held { IsTrue result ↔ (outstanding_of self.now ≡ 0) }
+        ensures plain { (a s : ℕ) → Stands self.now a s → (IsTrue result ↔ (a ≡ s)) }
+    {
+        self.outstanding() == 0
+    }
+
+    /// Whether a valid `nr` names the next I-frame to be sent, and so acknowledges all that were sent: N(R) is V(S).
+    pub fn names_next(&self, nr: Seq) -> bool
+        ensures plain { (a s n : ℕ) → Stands self.now a s → IsNamed a s nr n → (IsTrue result ↔ (n ≡ s)) }
+    {
+        distance(nr, self.vs) == 0
+    }
+
+    /// How many I-frames a valid `nr` acknowledges.
+    pub fn acknowledged_by(&self, nr: Seq) -> u8
+        requires { IsValid (va_of self.now) nr (vs_of self.now) }
+        ensures held { result ≡ distance_of (va_of self.now) nr }
+        ensures within { result ≤ outstanding_of self.now }
+        ensures plain { (a s n : ℕ) → Stands self.now a s → IsNamed a s nr n → a + result ≡ n }
+    {
+        distance(self.va, nr)
     }
 
     /// Whether one more I-frame may be sent where at most `k` may be outstanding (Q.921 clause

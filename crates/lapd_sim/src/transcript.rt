@@ -8,7 +8,7 @@ use crate::script::MOST_PULLS;
 use crate::streams::Target;
 use lapd_bits::Cause;
 use lapd_card::Report;
-use lapd_frame::{ErrorCode, Note, Refusal, Service};
+use lapd_frame::{Note, Refusal, Service};
 use std::alloc::{AllocError, Global};
 
 /// Room for the longest line: the octets of the most pulls, two digits each, and the words before them.
@@ -120,7 +120,7 @@ impl Transcript {
             }
             Note::Error(service, tei, code) => {
                 self.of_link(line, "error", service, tei)?;
-                let letter = letter(code);
+                let letter = code.letter();
                 write!(self.text, " {letter}")
             }
             Note::Assigned(tei) => write!(self.text, "{line} assigned {tei}"),
@@ -196,24 +196,5 @@ fn refusal_name(refusal: Refusal) -> &'static str {
         Refusal::TableFull => "table-full",
         Refusal::CheckRunning => "check-running",
         Refusal::ControlFull => "control-full",
-    }
-}
-
-fn letter(code: ErrorCode) -> char {
-    match code {
-        ErrorCode::A => 'A',
-        ErrorCode::B => 'B',
-        ErrorCode::C => 'C',
-        ErrorCode::D => 'D',
-        ErrorCode::E => 'E',
-        ErrorCode::F => 'F',
-        ErrorCode::G => 'G',
-        ErrorCode::H => 'H',
-        ErrorCode::I => 'I',
-        ErrorCode::J => 'J',
-        ErrorCode::K => 'K',
-        ErrorCode::L => 'L',
-        ErrorCode::N => 'N',
-        ErrorCode::O => 'O',
     }
 }

@@ -1,10 +1,12 @@
 -- Laws of ownership for a queue of slots: it owns each of its slots with the message in it, and others own the rest. As in
 -- `Ownership`, each law takes the clauses of the calls that it is about as its premises.
-use Rattle.std.proofs.Common.{◌≡◌, ℕ, zero, suc, Some, IsSome, List, [], ◌∷◌, ◌++◌, length, drop, set, refl, sym, ap, subst, ◌∙◌, arith}
+use Rattle.std.proofs.Common.{◌≡◌, ℕ, ◌+◌, zero, suc, Some, IsSome, List, [], ◌∷◌, ◌++◌, length, drop, set, refl, sym, ap, subst, ◌∙◌, arith, length-append, length-drop}
+use Rattle.std.proofs.lemmas.List.{drop-drop}
 use Rattle.std.proofs.lemmas.Option.{none-some, same_Some}
 use Rattle.std.proofs.lemmas.Slice.Zip.{length-zip, seconds-zip}
 use Rattle.std.specs.List.{slice_get, sum_by, zip}
-use Rattle.lapd_store.specs.Ownership.{Owned, Holds, owned_octets, pairs_of}
+use Rattle.lapd_store.specs.Ownership.{Owned, Holds, Keeps, owned_octets, pairs_of}
+use Rattle.lapd_store.specs.SlotRing.{SlotRing, without_oldest_ones}
 use Rattle.lapd_store.specs.Store.{Store, contents_of, IsUsed, IsFree, with_contents, without}
 use Rattle.lapd_store.proofs.Ownership.{values_octets, Holds-put_newest, Holds-release, contents_of-at}
 
@@ -62,3 +64,40 @@ Holds-queue_release (s ∷ ss) [] others slot same is released held = absurd (om
 Holds-queue_release {old} (s ∷ ss) (m ∷ ms) others slot same is released held =
     Holds-release slot m (pairs_of ss ms ++ others) released
     (subst (λ n. Holds old ((n, m) ∷ (pairs_of ss ms ++ others))) (same_Some s slot is) held)
+
+-- The same of a queue whose messages a store keeps.
+
+-- a slot of the queue is in use
+pub Keeps-used : {s : Store} (slots : List ℕ) (messages : List (List ℕ)) (others : List Owned) (i slot : ℕ) → slice_get slots i ≡ Some slot → Keeps s slots messages others → IsUsed s slot
+Keeps-used slots messages others i slot is kept = IsUsed-queue slots messages others i slot kept.lengths is kept.held
+
+-- and has the message at its place
+pub Keeps-at : {s : Store} (slots : List ℕ) (messages : List (List ℕ)) (others : List Owned) (i slot : ℕ) → slice_get slots i ≡ Some slot → Keeps s slots messages others → contents_of s slot ≡ slice_get messages i
+Keeps-at slots messages others i slot is kept = contents_of-queue slots messages others i slot kept.lengths is kept.held
+
+-- after a `put` whose slot is pushed, one message more is kept
+pub Keeps-put : {old new : Store} (slots : List ℕ) (messages : List (List ℕ)) (others : List Owned) (slot : ℕ) (octets : List ℕ) → IsFree old slot → new ≡ with_contents old slot octets → Keeps old slots messages others → Keeps new (slots ++ slot ∷ []) (messages ++ octets ∷ []) others
+Keeps-put slots messages others slot octets free stored kept =
+    record {
+      lengths = omega (arith, kept.lengths, length-append slots (slot ∷ []), length-append messages (octets ∷ []));
+      held = Holds-queue_put slots messages others slot octets kept.lengths free stored kept.held;
+    }
+
+-- after a `release` of the slot that was popped, the messages but the oldest are kept
+pub Keeps-release : {old new : Store} (slots : List ℕ) (messages : List (List ℕ)) (others : List Owned) (slot : ℕ) → slice_get slots 0 ≡ Some slot → new ≡ without old slot → Keeps old slots messages others → Keeps new (drop 1 slots) (drop 1 messages) others
+Keeps-release slots messages others slot is released kept =
+    record {
+      lengths = omega (arith, kept.lengths, length-drop 1 slots, length-drop 1 messages);
+      held = Holds-queue_release slots messages others slot kept.lengths is released kept.held;
+    }
+
+-- a fresh queue keeps no message
+pub Keeps-none : {s : Store} (others : List Owned) → Holds s others → Keeps s [] [] others
+Keeps-none others held = record { lengths = refl; held = held }
+
+-- so many are gone, and one more
+pub Keeps-one_less : {s : Store} (slots : List ℕ) (messages : List (List ℕ)) (others : List Owned) (n : ℕ) → Keeps s slots (drop 1 (drop n messages)) others → Keeps s slots (drop (n + 1) messages) others
+Keeps-one_less {s} slots messages others n = subst (λ l. Keeps s slots l others) (drop-drop 1 n messages)
+
+pub without-one_less : (old mid new : SlotRing) (n : ℕ) → mid ≡ without_oldest_ones n old → new ≡ without_oldest_ones 1 mid → new ≡ without_oldest_ones (n + 1) old
+without-one_less old mid new n first second = second ∙ ap (without_oldest_ones 1) first ∙ ap (λ l. record old { slots = l }) (drop-drop 1 n old.slots)

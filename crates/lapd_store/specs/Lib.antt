@@ -1,4 +1,5 @@
 pub mod Store
 pub mod Ownership
 pub mod SlabStore
+pub mod RawStore
 pub mod SlotRing

@@ -9,19 +9,23 @@
 //!
 //! - [`Shelf`]: what a shelf does, by a trait, so that its users are proved once for every shelf;
 //! - [`SlabShelf`]: a shelf over a slab of octet vectors;
+//! - [`RawShelf`]: a shelf over one region of octets, for less memory;
 //! - [`SlotQueue`]: a ring of slots of fixed capacity;
 //! - `specs/Store.antt`: a shelf as a finite map, with which the contracts speak of it;
-//! - `specs/Ownership.antt`: how several owners share a shelf, with its laws in `proofs/Ownership.antt` and, for an owner
-//!   that is a queue of slots, in `proofs/Queues.antt`.
+//! - `specs/Ownership.antt`: how several owners share a shelf, with its laws in `proofs/Ownership.antt`; for an owner that
+//!   is a queue of slots in `proofs/Queues.antt`, and for one of many owners in `proofs/Focus.antt`.
 #![tactic(auto)]
 
 mod fault;
+mod raw_shelf;
+mod releases;
 mod shelf;
 mod slab_shelf;
 mod slot;
 mod slot_queue;
 
 pub use fault::StartFault;
+pub use raw_shelf::RawShelf;
 pub use shelf::Shelf;
 pub use slab_shelf::SlabShelf;
 pub use slot::Slot;

@@ -15,7 +15,7 @@ const WIDEST: usize = 260;
 ///
 /// Its start takes the memory of all slots in one block, about 280 octets for each slot whatever the width. The time of
 /// a call does not depend on the number of slots.
-#[derive(Drop)]
+#[derive(Drop, Debug)]
 pub struct SlabShelf {
     contents: Slab<ArrayVec<u8, WIDEST>>,
     octets: u64,

@@ -7,7 +7,7 @@ use std::alloc::Global;
 use std::marker::Model;
 
 /// A ring of slots, the oldest first, of a capacity that is fixed at its start.
-#[derive(Drop)]
+#[derive(Drop, Debug)]
 pub struct SlotQueue {
     ring: HeapCircularBuffer<Slot>,
 }

@@ -4,8 +4,7 @@ use Rattle.std.specs.Prelude.{bit_and, bit_xor}
 use Rattle.std.specs.Bool.{beq}
 use Rattle.std.proofs.lemmas.List.{take_more}
 use Rattle.std.proofs.lemmas.Nat.{and_mask}
-use Rattle.lapd_bits.specs.Bits.{low_bits, bits}
-use Rattle.lapd_bits.specs.Stuffing.{same_bits}
+use Rattle.lapd_bits.specs.Bits.{low_bits, bits, same_bits}
 use Rattle.lapd_bits.specs.Check.{plus, generator, brought_down, remainder, dividend, check, residue, is_good}
 use Rattle.lapd_bits.specs.Register.{HoldsDivision}
 use Rattle.lapd_bits.proofs.BitLemmas.{low_bits-add, bits-push, same_bits-low_bits}

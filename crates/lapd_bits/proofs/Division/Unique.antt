@@ -3,7 +3,7 @@ use Rattle.std.proofs.Common.{◌≡◌, ℕ, suc, zero, Bool, true, false, not,
 use Rattle.std.specs.List.{fold}
 use Rattle.std.proofs.lemmas.List.{same_from_push, length-map}
 use Rattle.std.proofs.lemmas.List.Sums.{fold-append}
-use Rattle.lapd_bits.specs.Stuffing.{same_bits}
+use Rattle.lapd_bits.specs.Bits.{same_bits}
 use Rattle.lapd_bits.specs.Check.{plus, generator, brought_down, remainder, dividend, check, residue, is_good}
 use Rattle.lapd_bits.specs.CheckLaws.{OnlyCheck}
 use Rattle.lapd_bits.proofs.BitLemmas.{same_from_test}

@@ -1,6 +1,6 @@
 -- Each bit goes on with the octet, and the eight of them are its bits.
 use Rattle.std.proofs.Common.{◌∙◌, ◌∷◌, sym, ap, take, true, false, arith}
-use Rattle.lapd_bits.specs.Stuffing.{number_of}
+use Rattle.lapd_bits.specs.Bits.{number_of}
 use Rattle.lapd_bits.proofs.BitLemmas.{number_of-octet}
 use Rattle.lapd_bits.proofs.FramerOctet.{GoesOn-none, GoesOn-more, GoesOn-all, bit_set}
 use Rattle.lapd_bits.proofs.FramerStands.{Stands-octet}

@@ -1,0 +1,38 @@
+-- What a deframer lends until its next octet.
+use Rattle.std.proofs.Common.{◌≡◌, ℕ, List, [], ◌∷◌, ◌++◌, Option, length, reverse, option_to_list, refl, sym, ap, subst, ◌∙◌, length-append, arith}
+use Rattle.std.proofs.lemmas.List.{same_from_push, length-take-le}
+use Rattle.lapd_bits.specs.Bits.{bits}
+use Rattle.lapd_bits.specs.Stream.{Event, heard_until, heard_in, room_for}
+use Rattle.lapd_bits.specs.Ended.{FitsIn}
+use Rattle.lapd_bits.specs.Heard.{event_in, without_octets}
+use Rattle.lapd_bits.specs.Steps.{with_bits}
+use Rattle.lapd_bits.specs.declared.heard.Ended.{Ended}
+use Rattle.lapd_bits.specs.declared.heard.Ended.TheVariants as ended
+use Rattle.lapd_bits.proofs.BitSteps.{with_bits-octet}
+
+-- what the bits of an octet bring, it brings
+pub heard_more : (n201 : ℕ) (past : List ℕ) (octet room : ℕ) (e : Option Event) → room ≡ room_for n201
+    → heard_until room (with_bits 8 octet (reverse (bits past))) ≡ heard_until room (reverse (bits past)) ++ option_to_list e
+    → heard_in n201 (past ++ octet ∷ []) ≡ heard_in n201 past ++ option_to_list e
+heard_more n201 past octet room e is told =
+    ap (heard_until (room_for n201)) (with_bits-octet past octet)
+    ∙ subst (λ r. heard_until r (with_bits 8 octet (reverse (bits past))) ≡ heard_until r (reverse (bits past)) ++ option_to_list e) is told
+
+-- octets end in one octet only
+pub latest_more : (n201 : ℕ) (past : List ℕ) (octet : ℕ) (e : Option Event) → heard_in n201 (past ++ octet ∷ []) ≡ heard_in n201 past ++ option_to_list e
+    → (front : List ℕ) (last : ℕ) → past ++ octet ∷ [] ≡ front ++ last ∷ [] → heard_in n201 (past ++ octet ∷ []) ≡ heard_in n201 front ++ option_to_list e
+latest_more n201 past octet e heard front last same =
+    heard ∙ ap (λ p. heard_in n201 p ++ option_to_list e) (same_from_push past front octet last same).0
+
+-- and no octets in none
+pub none_latest : {P : Type 0} (front : List ℕ) (last : ℕ) → [] ≡ front ++ last ∷ [] → P
+none_latest front last same =
+    let one : 0 ≡ length (front ++ last ∷ []) = ap length same in
+    absurd (omega (arith, one, length-append front (last ∷ [])))
+
+-- what has ended, without its octets
+pub told_is : (octets : List ℕ) (e : Ended) → FitsIn (length octets) e → e ≡ without_octets (event_in octets e)
+told_is octets ended.Nothing fits = refl
+told_is octets (ended.Dropped cause) fits = refl
+told_is octets (ended.Frame len) fits = ap ended.Frame (sym (length-take-le len octets fits))
+told_is octets ended.Overlong fits = refl

@@ -1,0 +1,19 @@
+//! A law of what is heard in a stream: what it takes of the stream.
+
+ghost use Rattle.lapd_bits.specs.StreamLaws.{HeardWithinStream};
+
+/// A law: all frames that are heard in octets, each with its check and one flag, are no longer than the octets. Flags
+/// that share a zero are no exception, since a gap of fewer than eight bits is none (Q.921 clauses 2.2, 2.7 and 2.9).
+pub fn heard_within_stream()
+    ensures { HeardWithinStream }
+{}
+
+#[cfg(test)]
+mod tests {
+    use super::*;
+
+    #[test]
+    fn the_law_can_be_cited() {
+        heard_within_stream();
+    }
+}

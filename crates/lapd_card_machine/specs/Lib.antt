@@ -1,0 +1,13 @@
+-- The machine of a card.
+pub mod Event
+pub mod Card
+pub mod Machine
+pub mod Run
+pub mod Sound
+pub mod Stored
+pub mod Counts
+pub mod Numbered
+pub mod Pulled
+pub mod Isolation
+pub mod Laws
+pub mod Worked

@@ -1,0 +1,10 @@
+pub mod Ranges
+pub mod Numbers
+pub mod LinksSound
+pub mod AimsSound
+pub mod ProperAims
+pub mod Offered
+pub mod PullSound
+pub mod TextGoesOn
+pub mod LineSound
+pub mod StoredBounds

@@ -1,0 +1,143 @@
+-- Each event is something that a line can have.
+use Rattle.std.proofs.Common.{◌≡◌, ℕ, ◌≤◌, Bool, true, false, ◌==◌, List, length, nat_lt, Option, Some, None, Result, Ok, Err, refl, cond}
+use Rattle.std.specs.Option.{option_map_or}
+use Rattle.std.proofs.lemmas.Bool.{ltb-false, leb-false}
+use Rattle.lapd_bits.specs.Stream as stream
+use Rattle.lapd_bits.specs.declared.heard.Cause.TheVariants.{Tei, Unserved}
+use Rattle.lapd_frame.specs.declared.addresses.Address.{Address}
+use Rattle.lapd_frame.specs.declared.addresses.Side.TheVariants.{User}
+use Rattle.lapd_frame.specs.declared.controls.Control.{Control}
+use Rattle.lapd_frame.specs.declared.controls.Control.TheVariants as control
+use Rattle.lapd_frame.specs.declared.faults.ReadFault.{ReadFault}
+use Rattle.lapd_frame.specs.declared.faults.ReadFault.TheVariants.{BadExtension, Undefined, WrongSize, Short}
+use Rattle.lapd_frame.specs.declared.overlong.Long.{Long}
+use Rattle.lapd_frame.specs.declared.overlong.Long.TheVariants as long
+use Rattle.lapd_frame.specs.declared.refusals.Refusal.{Refusal}
+use Rattle.lapd_frame.specs.declared.services.Service.{Service}
+use Rattle.lapd_frame.specs.declared.timers.Timer.{Timer}
+use Rattle.lapd_frame.specs.declared.timers.Timer.TheVariants.{T200, T203, T201}
+use Rattle.lapd_frame.specs.Grammar.{Parts}
+use Rattle.lapd_frame.specs.Reading.{reading, long_reading}
+use Rattle.lapd_frame.specs.Services.{service_of}
+use Rattle.lapd_link_machine.specs.Events as link
+use Rattle.lapd_link_machine.specs.declared.timers.LinkTimer.{LinkTimer}
+use Rattle.lapd_link_machine.specs.declared.timers.LinkTimer.TheVariants as link_timer
+use Rattle.lapd_tei.proofs.Tables.{place_of-is}
+use Rattle.lapd_line_machine.specs.declared.config.Config.{Config}
+use Rattle.lapd_line_machine.specs.Answer.{nothing}
+use Rattle.lapd_line_machine.specs.Line.{Line, place_in}
+use Rattle.lapd_line_machine.specs.Request.{Request, Establish, Release, Data, Unit, Assign, Remove, Check, SetBusy, ClearBusy}
+use Rattle.lapd_line_machine.specs.Outcome.{Aim, at_none, at_link, at_management, at_units}
+use Rattle.lapd_line_machine.specs.Octet.{gained, management_sapi, group_tei, drop_for, at_place, to_service, addressed, message_of, aim_of_reading, unless_at_link, aim_of_long, aim_of_heard, aim_of_octet}
+use Rattle.lapd_line_machine.specs.Expiry.{at_timer, aim_of_expiry}
+use Rattle.lapd_line_machine.specs.Requested.{at_requested, aim_of_request}
+use Rattle.lapd_line_machine.specs.Refusal.{refusal}
+use Rattle.lapd_line_machine.specs.Machine.{unless_refused}
+use Rattle.lapd_line_machine.proofs.AimsSound.{IsProper}
+
+module _ (c : Config) (l : Line) where
+  at_place_proper : (service : Service) (tei : ℕ) (what : link.Received) (o : Option ℕ) → place_in l tei ≡ o → IsProper c l (at_place service tei what o)
+  at_place_proper service tei what None e = tt
+  at_place_proper service tei what (Some place) e = (place_of-is l.management.places tei place e).1
+
+  to_service_proper : (tei : ℕ) (what : link.Received) (o : Option Service) → IsProper c l (to_service l tei what o)
+  to_service_proper tei what None = tt
+  to_service_proper tei what (Some service) = at_place_proper service tei what (place_in l tei) refl
+
+  addressed_proper : (address : Address) (what : link.Received) (message : Aim) → IsProper c l message → IsProper c l (addressed l address what message)
+  addressed_proper address what message proper = go (address.sapi == management_sapi) (address.tei == group_tei)
+    where
+      go : (known group : Bool) → IsProper c l (cond known (cond group message (drop_for Tei)) (to_service l address.tei what (service_of address.sapi)))
+      go true true = proper
+      go true false = tt
+      go false group = to_service_proper address.tei what (service_of address.sapi)
+
+  message_proper : (k : Control) (info : List ℕ) → IsProper c l (message_of k info)
+  message_proper (control.Information ns nr p) info = tt
+  message_proper (control.ReceiveReady nr pf) info = tt
+  message_proper (control.ReceiveNotReady nr pf) info = tt
+  message_proper (control.Reject nr pf) info = tt
+  message_proper (control.Sabme p) info = tt
+  message_proper (control.Disc p) info = tt
+  message_proper (control.Ui p) info = tt
+  message_proper (control.Ua f) info = tt
+  message_proper (control.Dm f) info = tt
+  message_proper (control.Frmr f) info = tt
+  message_proper (control.Xid pf) info = tt
+
+  reading_proper : (r : Result Parts ReadFault) → IsProper c l (aim_of_reading l r)
+  reading_proper (Ok parts) = addressed_proper parts.address (link.frame parts) (message_of parts.control parts.info) (message_proper parts.control parts.info)
+  reading_proper (Err BadExtension) = tt
+  reading_proper (Err (Undefined address)) = addressed_proper address link.undefined (drop_for Unserved) tt
+  reading_proper (Err (WrongSize address)) = addressed_proper address link.wrong_size (drop_for Unserved) tt
+  reading_proper (Err Short) = tt
+
+  unless_proper : (aim : Aim) → IsProper c l aim → IsProper c l (unless_at_link aim)
+  unless_proper (at_none what) proper = tt
+  unless_proper (at_link service tei place event) proper = tt
+  unless_proper (at_management event) proper = proper
+  unless_proper (at_units unit) proper = proper
+
+  long_proper : (r : Result Long ReadFault) → IsProper c l (aim_of_long l r)
+  long_proper (Ok (long.Information address)) = addressed_proper address link.overlong (drop_for Unserved) tt
+  long_proper (Ok (long.Unnumbered address)) = unless_proper _ (addressed_proper address link.overlong (drop_for Unserved) tt)
+  long_proper (Err BadExtension) = tt
+  long_proper (Err (Undefined address)) = addressed_proper address link.undefined (drop_for Unserved) tt
+  long_proper (Err (WrongSize address)) = addressed_proper address link.wrong_size (drop_for Unserved) tt
+  long_proper (Err Short) = tt
+
+  heard_proper : (e : stream.Event) → IsProper c l (aim_of_heard l e)
+  heard_proper (stream.frame octets) = reading_proper (reading User octets)
+  heard_proper (stream.overlong head) = long_proper (long_reading User head)
+  heard_proper (stream.dropped cause) = tt
+
+  pub octet_proper : (value : ℕ) → IsProper c l (aim_of_octet c value l)
+  octet_proper value = go (gained c.n201 l.received value)
+    where
+      go : (o : Option stream.Event) → IsProper c l (option_map_or (aim_of_heard l) o (at_none nothing))
+      go None = tt
+      go (Some e) = heard_proper e
+
+  timer_proper : (service : Service) (tei : ℕ) (timer : LinkTimer) (o : Option ℕ) → place_in l tei ≡ o → IsProper c l (at_timer service tei timer o)
+  timer_proper service tei timer None e = tt
+  timer_proper service tei timer (Some place) e = (place_of-is l.management.places tei place e).1
+
+  pub expiry_proper : (timer : Timer) → IsProper c l (aim_of_expiry timer l)
+  expiry_proper (T200 service tei) = timer_proper service tei link_timer.T200 (place_in l tei) refl
+  expiry_proper (T203 service tei) = timer_proper service tei link_timer.T203 (place_in l tei) refl
+  expiry_proper T201 = tt
+
+  -- a row that does not hold is passed over
+  skipped : (b : Bool) (why : Refusal) (o : Option Refusal) → cond b (Some why) o ≡ None → (b ≡ false) × (o ≡ None)
+  skipped true why o e = cc
+  skipped false why o e = (refl, e)
+
+  requested_proper : (service : Service) (tei : ℕ) (what : link.Request) (o : Option ℕ) → place_in l tei ≡ o → IsProper c l (at_requested service tei what o)
+  requested_proper service tei what None e = tt
+  requested_proper service tei what (Some place) e = (place_of-is l.management.places tei place e).1
+
+  low : (n tei : ℕ) → nat_lt n tei ≡ false → tei ≤ n
+  low n tei e = ltb-false n tei e
+
+  granted_proper : (r : Request) → refusal c false r l ≡ None → IsProper c l (aim_of_request r l)
+  granted_proper (Establish service tei) e = requested_proper service tei link.establish (place_in l tei) refl
+  granted_proper (Release service tei) e = requested_proper service tei link.release (place_in l tei) refl
+  granted_proper (Data service tei contents) e = requested_proper service tei (link.transfer contents) (place_in l tei) refl
+  granted_proper (Unit service tei contents) e =
+      let bad = skipped _ _ _ e in
+      let unknown = skipped _ _ _ bad.1 in
+      let long = skipped _ _ _ unknown.1 in
+      let full = skipped _ _ _ long.1 in
+      (record { tei = low 127 tei bad.0; size = low c.n201 (length contents) long.0 }, leb-false c.unit_queue (length l.units) full.0)
+  granted_proper (Assign tei) e = low 126 tei (skipped _ _ _ e).0
+  granted_proper (Remove tei) e = low 126 tei (skipped _ _ _ e).0
+  granted_proper (Check tei) e = low 126 tei (skipped _ _ _ e).0
+  granted_proper (SetBusy service tei) e = requested_proper service tei link.set_busy (place_in l tei) refl
+  granted_proper (ClearBusy service tei) e = requested_proper service tei link.clear_busy (place_in l tei) refl
+
+  pub request_proper : (r : Request) → IsProper c l (unless_refused (refusal c false r l) (aim_of_request r l))
+  request_proper r = go (refusal c false r l) refl
+    where
+      go : (o : Option Refusal) → refusal c false r l ≡ o → IsProper c l (unless_refused o (aim_of_request r l))
+      go None e = granted_proper r e
+      go (Some why) e = tt

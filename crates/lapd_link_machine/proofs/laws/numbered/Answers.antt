@@ -1,0 +1,16 @@
+use Rattle.lapd_link_machine.specs.Link.{fresh}
+use Rattle.lapd_link_machine.specs.Numbered.{nothing_yet}
+use Rattle.lapd_link_machine.proofs.Numbering.{numbered-after, numbered-fresh, numbered-all, delivered-at_once}
+use Rattle.lapd_link_machine.proofs.laws.numbered.Goals as goal
+
+pub returns-clause-begins : goal.returns-clause-begins
+returns-clause-begins c = numbered-fresh
+
+pub returns-clause-each : goal.returns-clause-each
+returns-clause-each c = λ t e l w h. numbered-after t e l w h
+
+pub returns-clause-at_once : goal.returns-clause-at_once
+returns-clause-at_once c = λ t e l contents d. delivered-at_once t e l contents d
+
+pub returns-clause-always : goal.returns-clause-always
+returns-clause-always c = λ t es. numbered-all t es fresh nothing_yet numbered-fresh

@@ -1,0 +1,12 @@
+use Rattle.lapd_link_machine.specs.Link.{fresh}
+use Rattle.lapd_link_machine.proofs.SoundEvents.{sound-after, sound-fresh, sound-all}
+use Rattle.lapd_link_machine.proofs.laws.stays_sound.Goals as goal
+
+pub returns-clause-begins : goal.returns-clause-begins
+returns-clause-begins c = λ t r. sound-fresh t r
+
+pub returns-clause-each : goal.returns-clause-each
+returns-clause-each c = λ t e l r h. sound-after t r e l h
+
+pub returns-clause-always : goal.returns-clause-always
+returns-clause-always c = λ t es r. sound-all t r es fresh (sound-fresh t r)

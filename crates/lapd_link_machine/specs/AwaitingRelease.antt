@@ -1,0 +1,34 @@
+-- State 6, awaiting release: DISC was sent.
+use Rattle.std.specs.Prelude.{true, false}
+use Rattle.lapd_frame.specs.declared.controls.Control.{Control}
+use Rattle.lapd_frame.specs.declared.controls.Control.TheVariants.{Sabme, Disc, Ua, Dm}
+use Rattle.lapd_frame.specs.declared.notes.ErrorCode.TheVariants as code
+use Rattle.lapd_link_machine.specs.declared.states.State.TheVariants.{TeiAssigned}
+use Rattle.lapd_link_machine.specs.declared.timers.LinkTimer.TheVariants.{T200}
+use Rattle.lapd_link_machine.specs.declared.terms.Terms.{Terms}
+use Rattle.lapd_link_machine.specs.Link.{may_repeat}
+use Rattle.lapd_link_machine.specs.Steps.{Step, ◌then◌, depending_on}
+use Rattle.lapd_link_machine.specs.Words.{error, release_confirm, refuse_frame, repeated, start, no_timer, enter, send, command, response}
+
+abbrev pub frame_in_6 : Terms → Control → Step
+-- clause 5.5.5.2
+frame_in_6 t (Sabme p) = send t (response (Dm p))
+-- clause 5.5.5.1
+frame_in_6 t (Disc p) = send t (response (Ua p))
+-- clause 5.5.3.2
+frame_in_6 t (Ua true) = release_confirm t then no_timer then enter TeiAssigned
+frame_in_6 t (Dm true) = release_confirm t then no_timer then enter TeiAssigned
+-- clause 5.8.7
+frame_in_6 t (Ua false) = error t code.D
+-- clause 5.5.3.2; DM with F=0 is among them
+frame_in_6 t other = refuse_frame
+
+-- Frames of wrong size, undefined ones and overlong I-frames (profile).
+abbrev pub malformed_in_6 : Step
+malformed_in_6 = refuse_frame
+
+-- T200 expires (clause 5.5.3.3).
+abbrev pub t200_in_6 : Terms → Step
+t200_in_6 t =
+    depending_on (may_repeat t) (send t (command (Disc true)) then repeated then start T200)
+    (error t code.H then release_confirm t then no_timer then enter TeiAssigned)

@@ -1,0 +1,49 @@
+-- What holds of every link between two events.
+use Rattle.std.specs.Prelude.{◌≡◌, ◌+◌, ◌≤◌, IsTrue, length, All}
+use Rattle.lapd_frame.specs.declared.addresses.Side.TheVariants.{Network}
+use Rattle.lapd_frame.specs.Grammar.{IsFrame, spelling}
+use Rattle.lapd_link_machine.specs.declared.states.State.{State}
+use Rattle.lapd_link_machine.specs.declared.states.State.TheVariants.{TeiAssigned, AwaitingEstablishment, AwaitingRelease, Established, TimerRecovery}
+use Rattle.lapd_link_machine.specs.declared.frames.ControlFrame.{ControlFrame}
+use Rattle.lapd_link_machine.specs.declared.terms.Terms.{Terms}
+use Rattle.lapd_link_machine.specs.Link.{Link, queue_of, frame_of}
+
+-- The ranges of a link's parameters (clause 5.9; for the capacities the profile).
+pub record IsInRange (t : Terms) : Type 0 where
+  pub tei : t.tei ≤ 126
+  pub k_low : 1 ≤ t.k
+  pub k_high : t.k ≤ 127
+  pub n201_low : 8 ≤ t.n201
+  pub n201_high : t.n201 ≤ 260
+  pub n200 : t.n200 ≤ 10
+  pub queue_low : t.k ≤ t.queue
+  pub queue_high : t.queue ≤ 127
+  pub control_low : 2 ≤ t.control
+  pub control_high : t.control ≤ 16
+
+-- Nothing is queued in states 4 and 6, nor in state 5 where layer 3 asked for the establishment.
+abbrev pub IsSettledIn : State → Link → Type 0
+IsSettledIn TeiAssigned l = length l.contents ≡ l.a
+IsSettledIn AwaitingEstablishment l = IsTrue l.asked → length l.contents ≡ l.a
+IsSettledIn AwaitingRelease l = length l.contents ≡ l.a
+IsSettledIn Established l = Unit {0}
+IsSettledIn TimerRecovery l = Unit {0}
+
+-- A frame that waits is one of the exchange, and has at most four octets.
+pub record IsWaitingFrame (t : Terms) (f : ControlFrame) : Type 0 where
+  pub is_frame : IsFrame (frame_of t f)
+  pub octets : length (spelling Network (frame_of t f)) ≤ 4
+
+pub record IsSound (t : Terms) (l : Link) : Type 0 where
+  -- V(A) is not beyond V(S), nor V(S) beyond what was accepted; at most k are outstanding (clause 5.6.1)
+  pub ordered : l.a ≤ l.s
+  pub accepted : l.s ≤ length l.contents
+  pub within : l.s ≤ l.a + t.k
+  pub settled : IsSettledIn l.state l
+  -- the queue and the control frames keep within their capacities
+  pub queue : length (queue_of l) ≤ t.queue
+  pub ring : length l.waiting ≤ t.control
+  -- contents have at most N201 octets
+  pub sizes : All (λ octets. length octets ≤ t.n201) l.contents
+  -- what waits are frames
+  pub frames : All (IsWaitingFrame t) l.waiting

@@ -1,0 +1,32 @@
+//! The machine of one data link, as definitions: what each event of a link of one TEI and one
+//! service does to it, and what it answers (Q.921 clause 5, states 4 to 8 of annex B, network
+//! side, multiple-frame operation modulo 128).
+//!
+//! `specs/` has the machine, one equation for each row of its tables, and worked values. It reads
+//! from the link's state and its events (`Link`, `Events`) by what is answered (`Told`) and the
+//! words of the tables (`Steps`, `Words`) to the rows of each state (`TeiAssigned`,
+//! `AwaitingEstablishment`, `AwaitingRelease`, `MultipleFrame`, `Established`, `TimerRecovery`), to
+//! requests and offers (`Requests`, `Offers`), and to the whole (`Machine`).
+//!
+//! The code of a link stands above, in other crates. Here are the plain types that it shares with
+//! the definitions:
+//!
+//! - `states`: `State`, 4 to 8.
+//! - `timers`: `LinkTimer`, T200 and T203.
+//! - `frames`: `ControlFrame`, a frame without information that waits to be sent.
+//! - `terms`: `Terms`, the parameters of a link.
+//!
+//! - `laws`: what holds of the machine itself.
+#![tactic(auto)]
+
+mod frames;
+mod laws;
+mod states;
+mod terms;
+mod timers;
+
+pub use frames::ControlFrame;
+pub use laws::{numbered, rises, stays_sound};
+pub use states::State;
+pub use terms::Terms;
+pub use timers::LinkTimer;

@@ -1,0 +1,5 @@
+-- Lemmas of this crate.
+pub mod Steps
+pub mod Giving
+pub mod Queue
+pub mod Tests

@@ -1,0 +1,9 @@
+-- What the tests of the tables answer.
+use Rattle.std.proofs.Common.{◌≡◌, ℕ, true, false, not, eqb, inl, inr, ap}
+use Rattle.std.proofs.lemmas.Bool.Decides.{eqb_tells}
+
+pub ne-eqb : (a b : ℕ) → (a ≡ b → ⊥) → eqb a b ≡ false
+ne-eqb a b differ = elim (eqb_tells a b) [ inl same ↦ absurd (differ same.1) | inr other ↦ other.0 ]
+
+pub not_same : (a b : ℕ) → (a ≡ b → ⊥) → not (eqb a b) ≡ true
+not_same a b differ = ap not (ne-eqb a b differ)

@@ -1,0 +1,5 @@
+-- The definitions by which the contracts of this crate are stated.
+pub mod Past
+pub mod Does
+pub mod Parts
+pub mod Done

@@ -1,0 +1,4 @@
+mod Memory
+mod Sharing
+mod Values
+pub mod Runs

@@ -1,0 +1,11 @@
+//! A region of octets that is taken once, uninitialised.
+//!
+//! [`Region`] is one block of memory. Nothing is written in it when it is taken, and the contracts know at each moment
+//! which octets were written since and with what: a read asks that what it lends was written. Its drop gives the block
+//! back. Raw pointers stand in `src/octets.rt` alone, behind four functions that are proved by hand.
+#![tactic(auto)]
+
+mod octets;
+mod region;
+
+pub use region::Region;

@@ -1,0 +1,325 @@
+//! Worked frames and faults, and the texts of both.
+
+ghost use Rattle.std.specs.Prelude.{◌≡◌};
+ghost use Rattle.lapd_frame.specs.Grammar.{Spells, parts_of};
+
+use lapd_frame::{
+    Address, Control, ErrorCode, Frame, Long, ReadFault, Refusal, Service, Side, one_spelling,
+    read, read_long, write,
+};
+use lapd_seq::Seq;
+use std::process::Abort;
+use std::test::Fail;
+
+const TERMINAL: Address = Address {
+    sapi: 0,
+    command: true,
+    tei: 64,
+};
+
+const ANSWER: Address = Address {
+    sapi: 0,
+    command: false,
+    tei: 64,
+};
+
+// Each kind of frame from a terminal with TEI 64, and its fields.
+#[test]
+fn frames_of_each_kind(rt: HostRuntime) {
+    let information = Control::Information {
+        ns: Seq::new(1),
+        nr: Seq::new(2),
+        pf: false,
+    };
+    expect_command(&rt, &[0x00, 0x81, 0x02, 0x04], information, &[]);
+    expect_command(&rt, &[0x00, 0x81, 0x02, 0x04, 0x41], information, &[0x41]);
+    let last = Control::Information {
+        ns: Seq::new(127),
+        nr: Seq::new(127),
+        pf: true,
+    };
+    expect_command(
+        &rt,
+        &[0x00, 0x81, 0xFE, 0xFF, 0x41, 0x42],
+        last,
+        &[0x41, 0x42],
+    );
+    expect_command(&rt, &[0x00, 0x81, 0x7F], Control::Sabme { pf: true }, &[]);
+    expect_command(&rt, &[0x00, 0x81, 0x6F], Control::Sabme { pf: false }, &[]);
+    expect_command(&rt, &[0x00, 0x81, 0x53], Control::Disc { pf: true }, &[]);
+    expect_command(
+        &rt,
+        &[0x00, 0x81, 0x03, 0xCB],
+        Control::Ui { pf: false },
+        &[0xCB],
+    );
+    expect_command(&rt, &[0x00, 0x81, 0xBF], Control::Xid { pf: true }, &[]);
+    expect_response(&rt, &[0x02, 0x81, 0x73], Control::Ua { pf: true }, &[]);
+    expect_response(&rt, &[0x02, 0x81, 0x0F], Control::Dm { pf: false }, &[]);
+    let reason = [0x11, 0x22, 0x33, 0x44, 0x55];
+    let rejection = [0x02, 0x81, 0x97, 0x11, 0x22, 0x33, 0x44, 0x55];
+    expect_response(&rt, &rejection, Control::Frmr { pf: true }, &reason);
+    expect_response(
+        &rt,
+        &[0x02, 0x81, 0xAF, 0x82],
+        Control::Xid { pf: false },
+        &[0x82],
+    );
+}
+
+#[test]
+fn supervisory_frames(rt: HostRuntime) {
+    let nr = Seq::new(1);
+    let ready = Control::ReceiveReady { nr, pf: false };
+    expect_response(&rt, &[0x02, 0x81, 0x01, 0x02], ready, &[]);
+    let polled = Control::ReceiveReady { nr, pf: true };
+    expect_command(&rt, &[0x00, 0x81, 0x01, 0x03], polled, &[]);
+    let busy = Control::ReceiveNotReady { nr, pf: false };
+    expect_command(&rt, &[0x00, 0x81, 0x05, 0x02], busy, &[]);
+    let again = Control::Reject {
+        nr: Seq::new(127),
+        pf: true,
+    };
+    expect_response(&rt, &[0x02, 0x81, 0x09, 0xFF], again, &[]);
+}
+
+// The network's C/R bit is the other way round, and every SAPI and TEI is read.
+#[test]
+fn addresses_of_both_sides(rt: HostRuntime) {
+    let control = Control::Ui { pf: false };
+    expect(
+        &rt,
+        Side::Network,
+        &[0xFE, 0xFF, 0x03],
+        address(63, true, 127),
+        control,
+        &[],
+    );
+    expect(
+        &rt,
+        Side::User,
+        &[0xFC, 0xFF, 0x03],
+        address(63, true, 127),
+        control,
+        &[],
+    );
+    expect(
+        &rt,
+        Side::Network,
+        &[0x42, 0xFF, 0x03],
+        address(16, true, 127),
+        control,
+        &[],
+    );
+    expect(
+        &rt,
+        Side::User,
+        &[0x40, 0x01, 0x03],
+        address(16, true, 0),
+        control,
+        &[],
+    );
+    expect(
+        &rt,
+        Side::User,
+        &[0x80, 0xFD, 0x03],
+        address(32, true, 126),
+        control,
+        &[],
+    );
+    let accepted = Control::Ua { pf: true };
+    expect(
+        &rt,
+        Side::Network,
+        &[0x00, 0x81, 0x73],
+        ANSWER,
+        accepted,
+        &[],
+    );
+}
+
+#[test]
+fn faults_in_their_order(rt: HostRuntime) {
+    expect_fault(&rt, &[], ReadFault::Short);
+    expect_fault(&rt, &[0x00, 0x81], ReadFault::Short);
+    expect_fault(&rt, &[0x00, 0x81, 0x01], ReadFault::Short);
+    expect_fault(&rt, &[0x00, 0x81, 0x02], ReadFault::Short);
+    // Too few octets come before a wrong extension bit, and that before all others.
+    expect_fault(&rt, &[0x01, 0x80, 0x02], ReadFault::Short);
+    expect_fault(&rt, &[0x01, 0x81, 0x7F], ReadFault::BadExtension);
+    expect_fault(&rt, &[0x00, 0x80, 0x7F], ReadFault::BadExtension);
+    expect_fault(&rt, &[0x01, 0x81, 0x11, 0x00], ReadFault::BadExtension);
+    // A SABME as a response, a UA as a command, a reserved bit.
+    expect_fault(&rt, &[0x02, 0x81, 0x7F], ReadFault::Undefined(ANSWER));
+    expect_fault(&rt, &[0x00, 0x81, 0x73], ReadFault::Undefined(TERMINAL));
+    expect_fault(
+        &rt,
+        &[0x00, 0x81, 0x11, 0x00],
+        ReadFault::Undefined(TERMINAL),
+    );
+    // An undefined frame is not of wrong size, whatever its length.
+    expect_fault(
+        &rt,
+        &[0x02, 0x81, 0x7F, 0x00, 0x00],
+        ReadFault::Undefined(ANSWER),
+    );
+    expect_fault(
+        &rt,
+        &[0x00, 0x81, 0x01, 0x02, 0x00],
+        ReadFault::WrongSize(TERMINAL),
+    );
+    expect_fault(
+        &rt,
+        &[0x00, 0x81, 0x7F, 0x00],
+        ReadFault::WrongSize(TERMINAL),
+    );
+    expect_fault(
+        &rt,
+        &[0x02, 0x81, 0x87, 0, 0, 0, 0],
+        ReadFault::WrongSize(ANSWER),
+    );
+    expect_fault(
+        &rt,
+        &[0x02, 0x81, 0x87, 0, 0, 0, 0, 0, 0],
+        ReadFault::WrongSize(ANSWER),
+    );
+}
+
+#[test]
+fn frames_too_long_to_keep(rt: HostRuntime) {
+    let information = read_long(Side::User, &[0x00, 0x81, 0x02, 0x04]);
+    assert!(rt; information == Ok(Long::Information(TERMINAL)));
+    let unnumbered = read_long(Side::User, &[0x00, 0x81, 0x03, 0x04]);
+    assert!(rt; unnumbered == Ok(Long::Unnumbered(TERMINAL)));
+    let identification = read_long(Side::User, &[0x02, 0x81, 0xBF, 0x04]);
+    assert!(rt; identification == Ok(Long::Unnumbered(ANSWER)));
+    let ready = read_long(Side::User, &[0x00, 0x81, 0x01, 0x04]);
+    assert!(rt; ready == Err(ReadFault::WrongSize(TERMINAL)));
+    let rejection = read_long(Side::User, &[0x02, 0x81, 0x87, 0x04]);
+    assert!(rt; rejection == Err(ReadFault::WrongSize(ANSWER)));
+    let response = read_long(Side::User, &[0x02, 0x81, 0x02, 0x04]);
+    assert!(rt; response == Err(ReadFault::Undefined(ANSWER)));
+    let extension = read_long(Side::User, &[0x01, 0x81, 0x02, 0x04]);
+    assert!(rt; extension == Err(ReadFault::BadExtension));
+    let reserved = read_long(Side::User, &[0x01, 0x81, 0x11, 0x04]);
+    assert!(rt; reserved == Err(ReadFault::BadExtension));
+    let of_network = read_long(Side::Network, &[0x02, 0x81, 0x02, 0x04]);
+    assert!(rt; of_network == Ok(Long::Information(TERMINAL)));
+}
+
+#[test]
+fn services_and_refusals(rt: HostRuntime) {
+    assert!(rt; Service::with_sapi(0) == Some(Service::Call));
+    assert!(rt; Service::with_sapi(16) == Some(Service::Packet));
+    assert!(rt; Service::with_sapi(63).is_none());
+    assert!(rt; Service::Packet.sapi() == 16);
+    assert!(rt; Refusal::BadTei as u8 == 1);
+    assert!(rt; Refusal::ControlFull as u8 == 10);
+}
+
+/// Each error with its letter in appendix II of Q.921.
+const LETTERS: [(ErrorCode, char); 14] = [
+    (ErrorCode::A, 'A'),
+    (ErrorCode::B, 'B'),
+    (ErrorCode::C, 'C'),
+    (ErrorCode::D, 'D'),
+    (ErrorCode::E, 'E'),
+    (ErrorCode::F, 'F'),
+    (ErrorCode::G, 'G'),
+    (ErrorCode::H, 'H'),
+    (ErrorCode::I, 'I'),
+    (ErrorCode::J, 'J'),
+    (ErrorCode::K, 'K'),
+    (ErrorCode::L, 'L'),
+    (ErrorCode::N, 'N'),
+    (ErrorCode::O, 'O'),
+];
+
+#[test]
+fn letters_of_errors(rt: HostRuntime) {
+    for (error, letter) in LETTERS.iter() {
+        assert!(rt; error.letter() == *letter);
+    }
+}
+
+#[test]
+fn faults_in_words(rt: HostRuntime) -> Result<(), Fail> {
+    let alloc = rt.alloc();
+    let undefined = ReadFault::Undefined(TERMINAL);
+    assert!(rt; undefined.to_string(alloc)?.as_str() == "undefined");
+    let wrong_size = ReadFault::WrongSize(TERMINAL);
+    assert!(rt; wrong_size.to_string(alloc)?.as_str() == "wrong size");
+    assert!(rt; ReadFault::Short.to_string(alloc)?.as_str() == "short");
+    let extension = ReadFault::BadExtension.to_string(alloc)?;
+    assert!(rt; extension.as_str() == "bad extension");
+    Ok(())
+}
+
+#[test]
+fn a_frame_is_written_to_the_front(rt: HostRuntime) {
+    one_spelling();
+    let mut out = [0xEE; 6];
+    let frame = Frame {
+        address: address(16, true, 1),
+        control: Control::Information {
+            ns: Seq::new(127),
+            nr: Seq::new(3),
+            pf: true,
+        },
+        info: &[0x41],
+    };
+    let len = write(Side::Network, &frame, &mut out);
+    assert!(rt; len == 5);
+    assert!(rt; out == [0x42, 0x03, 0xFE, 0x07, 0x41, 0xEE]);
+}
+
+fn address(sapi: u8, command: bool, tei: u8) -> Address
+    ensures { result ≡ record { sapi = sapi; command = command; tei = tei } }
+{
+    Address { sapi, command, tei }
+}
+
+fn expect_command(rt: &impl Abort, octets: &[u8], control: Control, info: &[u8]) {
+    expect(rt, Side::User, octets, TERMINAL, control, info);
+}
+
+fn expect_response(rt: &impl Abort, octets: &[u8], control: Control, info: &[u8]) {
+    expect(rt, Side::User, octets, ANSWER, control, info);
+}
+
+// The octets are read as this frame, and the frame is written as the octets.
+fn expect(
+    rt: &impl Abort,
+    side: Side,
+    octets: &[u8],
+    address: Address,
+    control: Control,
+    info: &[u8],
+) {
+    match read(side, octets) {
+        Ok(frame) => {
+            assert!(rt; frame.address == address);
+            assert!(rt; frame.control == control);
+            assert!(rt; frame.info == info);
+            expect_written(rt, side, &frame, octets);
+        }
+        Err(fault) => panic!(rt; "{fault:?}"),
+    }
+}
+
+fn expect_written(rt: &impl Abort, side: Side, frame: &Frame<'_>, octets: &[u8])
+    requires { Spells side (parts_of frame.now) octets.now }
+{
+    let mut out = [0xEE; 12];
+    assert!(rt; octets.len() <= 12);
+    let len = write(side, frame, &mut out);
+    assert!(rt; out.get(..len) == Some(octets));
+    assert!(rt; out[len..].iter().all(|octet| *octet == 0xEE));
+}
+
+fn expect_fault(rt: &impl Abort, octets: &[u8], fault: ReadFault) {
+    match read(Side::User, octets) {
+        Ok(_) => panic!(rt; "read"),
+        Err(found) => assert!(rt; found == fault),
+    }
+}

@@ -1,0 +1,320 @@
+-- A shelf over a region stays sound: after a put, a release and at the start.
+use Rattle.std.proofs.Common.{◌≡◌, ◌≢◌, ℕ, zero, suc, ◌+◌, ◌*◌, ◌^◌, ◌<◌, ◌≤◌, Option, Some, None, IsSome, List, [], ◌∷◌, length, replicate, set, get_or, refl, sym, ap, subst, ◌∙◌, arith, inl, inr, length-set}
+use Rattle.std.specs.FinMap as finmap
+use Rattle.std.specs.Ordering.{nat_cmp}
+use Rattle.std.proofs.lemmas.Bool.{cases_eq, cond-true, cond-false, le-ltb, lt-ltb}
+use Rattle.std.proofs.lemmas.List.{get_or-replicate, length-replicate, get_or-set_same, get_or-set_other}
+use Rattle.slab.specs.Slab.{entries_from}
+use Rattle.lapd_region.specs.Region.{Holds, SameOutside}
+use Rattle.lapd_store.specs.RawStore.{free_mark, list_end, or_end, link, slot_contents, contents_from, raw_store, IsApart, IsFreeList, IsFilled, IsSound}
+use Rattle.lapd_store.specs.Store.{Store, empty_store, contents_of, IsUsed, IsFree, used_slots, stored_octets, with_contents, without, IsWithinLimits}
+use Rattle.lapd_store.specs.declared.raw_shelf.RawShelf.TheInside.{Inside}
+use Rattle.lapd_store.proofs.Entries.{each_key, same_entries, get-insert_same, get-insert_other, get-remove_same, get-remove_other}
+use Rattle.lapd_store.proofs.RawLemmas.{get_raw, times_le, slot_ends, kept, contents_held, contents_free, marked, marked_within, used_within, apart_used, list_kept}
+use Rattle.lapd_store.proofs.StoreLemmas.{used_slots-empty, stored_octets-empty, IsWithinLimits-empty, used_slots-with_contents, stored_octets-with_contents, IsWithinLimits-with_contents, used_slots-without, stored_octets-without, IsWithinLimits-without, stored_octets_bound}
+
+-- the first slot of a free list that is not at its end, and the rest of the list
+pub record Taken (region : List (Option ℕ)) (lens : List ℕ) (width first count : ℕ) : Type 0 where
+  pub rest : List ℕ
+  pub next : ℕ
+  pub mark : get_or lens first 0 ≡ free_mark
+  pub apart : IsApart first rest
+  pub holds : Holds region (first * width) (link next)
+  pub list : IsFreeList region lens width rest next
+  pub more : count ≡ length rest + 1
+
+taken : (region : List (Option ℕ)) (lens : List ℕ) (width : ℕ) (free : List ℕ) (first : ℕ) → IsFreeList region lens width free first → first ≢ list_end → Taken region lens width first (length free)
+taken region lens width [] first list ne = absurd (ne list)
+taken region lens width (slot ∷ rest) first list ne =
+    subst (λ k. Taken region lens width k (suc (length rest))) (sym list.0)
+    (record { rest = rest; next = list.3.0; mark = list.1; apart = list.2; holds = list.3.1; list = list.3.2; more = omega arith })
+
+none_used : IsSome {T = List ℕ} None → ⊥
+none_used e = cc
+
+-- a slot that is used as a caller sees it
+pub is_used : (a : Inside) (s : Store) (n m : ℕ) → raw_store a ≡ s → n ≡ m → IsUsed s m → IsUsed (raw_store a) n
+is_used a s n m view same used = subst (IsUsed (raw_store a)) (sym same) (subst (λ t. IsUsed t m) (sym view) used)
+
+module _ (a : Inside) (sound : IsSound a) where
+  pub contents_of-raw : (slot : ℕ) → contents_of (raw_store a) slot ≡ slot_contents a.region a.width slot (get_or a.lengths.items slot free_mark)
+  contents_of-raw slot = get_raw a.region a.width a.lengths.items slot
+
+  -- where the free list is not at its end, its first slot
+  pub first_slot : a.first ≢ list_end → Taken a.region a.lengths.items a.width a.first (length sound.free)
+  first_slot ne = taken a.region a.lengths.items a.width sound.free a.first sound.linked ne
+
+  -- a used slot has a length
+  pub used_mark : (slot : ℕ) → IsUsed (raw_store a) slot → get_or a.lengths.items slot free_mark ≢ free_mark
+  used_mark slot used e = none_used (subst IsSome (contents_of-raw slot ∙ contents_free a.region a.width slot _ e) used)
+
+  pub slot_within : (slot : ℕ) → slot < length a.lengths.items → slot * a.width + a.width ≤ length a.region
+  slot_within slot lt = omega (arith, slot_ends slot (length a.lengths.items) a.width lt, sound.covered)
+
+  -- the region is small enough for every sum
+  pub small : length a.region ≤ 2129920
+  small = omega (arith, sound.covered, times_le (length a.lengths.items) 8192 a.width sound.few, sound.most)
+
+  -- octets that lie in a used slot are its contents
+  pub held : (slot : ℕ) (xs : List ℕ) → get_or a.lengths.items slot free_mark ≢ free_mark → length xs ≡ get_or a.lengths.items slot free_mark → length xs ≤ a.width → Holds a.region (slot * a.width) xs → contents_of (raw_store a) slot ≡ Some xs
+  held slot xs used long fits holds =
+      contents_of-raw slot ∙ contents_held a.region a.width slot _ xs long used (omega (arith, slot_within slot (used_within a.lengths.items slot used), fits)) holds
+
+  -- a used slot's contents
+  pub used_held : (slot : ℕ) (used : get_or a.lengths.items slot free_mark ≢ free_mark) → contents_of (raw_store a) slot ≡ Some (sound.filled slot used).octets
+  used_held slot used = let f = sound.filled slot used in held slot f.octets used f.long f.fits f.holds
+
+  -- a used slot makes the counts more than nothing
+  pub used_counts : (slot : ℕ) (used : get_or a.lengths.items slot free_mark ≢ free_mark) → (1 ≤ a.used) × (get_or a.lengths.items slot free_mark ≤ a.octets)
+  used_counts slot used =
+      let fewer = used_slots-without (raw_store a) slot _ (used_held slot used) in
+      let less = stored_octets-without (raw_store a) slot _ (used_held slot used) in
+      (omega (arith, fewer, sound.counted), omega (arith, less, sound.measured, (sound.filled slot used).long))
+
+  -- at the end of the free list every slot is used
+  pub full_at_end : a.first ≡ list_end → used_slots (raw_store a) ≡ length a.lengths.items
+  full_at_end end = all_used sound.free sound.linked sound.total where
+    all_used : (free : List ℕ) → IsFreeList a.region a.lengths.items a.width free a.first → length free + a.used ≡ length a.lengths.items → used_slots (raw_store a) ≡ length a.lengths.items
+    all_used [] list total = omega (arith, total, sound.counted)
+    all_used (slot ∷ slots) list total = absurd (omega (arith, end, list.0, marked_within a.lengths.items slot list.1, sound.few))
+
+  -- the octets with those of one message more are no more than a count of 64 bits can hold
+  pub octets_fit : (more : ℕ) → more ≤ a.width → a.octets + more < 2 ^ 64
+  octets_fit more fits =
+      let bound = stored_octets_bound (raw_store a) 260 sound.most sound.within in
+      omega (arith, bound, sound.measured, sound.within.count, sound.few, sound.most, fits)
+
+  pub first_within : (ne : a.first ≢ list_end) → a.first < length a.lengths.items
+  first_within ne = marked_within a.lengths.items a.first (first_slot ne).mark
+
+  pub first_free : a.first ≢ list_end → IsFree (raw_store a) a.first
+  first_free ne = contents_of-raw a.first ∙ contents_free a.region a.width a.first _ (marked a.lengths.items a.first (first_slot ne).mark)
+
+  module _ (b : Inside) (slot len : ℕ) (same : SameOutside a.region b.region (slot * a.width) len) (short : len ≤ a.width) where
+    -- another slot's contents stay
+    same_slot : (q : ℕ) → q ≢ slot → slot_contents b.region a.width q (get_or a.lengths.items q free_mark) ≡ slot_contents a.region a.width q (get_or a.lengths.items q free_mark)
+    same_slot q ne =
+        let m = get_or a.lengths.items q free_mark in
+        elim (cases_eq m free_mark) [
+          | inl e ↦ contents_free b.region a.width q m e ∙ sym (contents_free a.region a.width q m e)
+          | inr used ↦
+              let f = sound.filled q used in
+              let within = slot_within q (used_within a.lengths.items q used) in
+              contents_held b.region a.width q m f.octets f.long used (omega (arith, within, f.fits, same.size)) (kept a.region b.region a.width slot q len f.octets same short ne f.fits f.holds)
+              ∙ sym (contents_held a.region a.width q m f.octets f.long used (omega (arith, within, f.fits)) f.holds)
+        ]
+
+    module _ (mark : ℕ) (items : b.lengths.items ≡ set a.lengths.items slot mark) (wide : b.width ≡ a.width) where
+      get-new : (q : ℕ) → finmap.get (finmap.from_entries {R = nat_cmp} (entries_from 0 (contents_from b.region b.width 0 b.lengths.items))) q ≡ slot_contents b.region a.width q (get_or (set a.lengths.items slot mark) q free_mark)
+      get-new q = get_raw b.region b.width b.lengths.items q ∙ (λ i. slot_contents b.region (wide i) q (get_or (items i) q free_mark))
+
+      get-others : (q : ℕ) → q ≢ slot → finmap.get (finmap.from_entries {R = nat_cmp} (entries_from 0 (contents_from b.region b.width 0 b.lengths.items))) q ≡ slot_contents a.region a.width q (get_or a.lengths.items q free_mark)
+      get-others q ne = get-new q ∙ ap (slot_contents b.region a.width q) (get_or-set_other a.lengths.items slot q mark free_mark ne) ∙ same_slot q ne
+
+      -- the slots that were used before keep their octets
+      filled-others : (q : ℕ) → q ≢ slot → get_or (set a.lengths.items slot mark) q free_mark ≢ free_mark → IsFilled b.region (set a.lengths.items slot mark) a.width q
+      filled-others q ne used =
+          let is = get_or-set_other a.lengths.items slot q mark free_mark ne in
+          let f = sound.filled q (λ e. used (is ∙ e)) in
+          record { octets = f.octets; long = f.long ∙ sym is; fits = f.fits; holds = kept a.region b.region a.width slot q len f.octets same short ne f.fits f.holds }
+
+      covered-new : length b.region ≡ length b.lengths.items * b.width
+      covered-new = same.size ∙ sound.covered ∙ (λ i. (sym (ap length items ∙ length-set a.lengths.items slot mark)) i * sym wide i)
+
+      as_long : length b.lengths.items ≡ length a.lengths.items
+      as_long = ap length items ∙ length-set a.lengths.items slot mark
+
+      list-new : (free : List ℕ) (first : ℕ) → IsApart slot free → IsFreeList a.region a.lengths.items a.width free first → IsFreeList b.region b.lengths.items b.width free first
+      list-new free first apart list =
+          subst (λ (u : List ℕ × ℕ). IsFreeList b.region u.0 u.1 free first) (λ i. (sym items i, sym wide i))
+          (list_kept a.region b.region a.lengths.items (set a.lengths.items slot mark) a.width slot len same short (omega (arith, sound.least))
+          (λ q ne. get_or-set_other a.lengths.items slot q mark 0 ne) free first apart list)
+
+-- a put in the first free slot
+module _ (a b : Inside) (sound : IsSound a) (ne : a.first ≢ list_end) (xs : List ℕ) (same : SameOutside a.region b.region (a.first * a.width) (length xs)) (holds : Holds b.region (a.first * a.width) xs)
+    (short : length xs ≤ a.width) (items : b.lengths.items ≡ set a.lengths.items a.first (length xs)) (wide : b.width ≡ a.width) where
+  inside : a.first < length a.lengths.items
+  inside = first_within a sound ne
+
+  in_place : slot_contents b.region a.width a.first (length xs) ≡ Some xs
+  in_place =
+      let within = slot_within a sound a.first inside in
+      contents_held b.region a.width a.first (length xs) xs refl (λ e. omega (arith, e, short, sound.most)) (omega (arith, within, short, same.size)) holds
+
+  pub raw_store-put : raw_store b ≡ with_contents (raw_store a) a.first xs
+  raw_store-put =
+      let contents = same_entries _ _ (each_key _ a.first
+      (get-new a sound b a.first (length xs) same short (length xs) items wide a.first
+      ∙ ap (slot_contents b.region a.width a.first) (get_or-set_same a.lengths.items a.first (length xs) free_mark inside) ∙ in_place ∙ sym (get-insert_same _ a.first xs))
+      (λ q other. get-others a sound b a.first (length xs) same short (length xs) items wide q other ∙ sym (get-insert_other _ a.first xs q other ∙ contents_of-raw a sound q))) in
+      λ i. record { contents = contents i; slots = as_long a sound b a.first (length xs) same short (length xs) items wide i; width = wide i }
+
+  module _ (octets : b.octets ≡ a.octets + length xs) (used : b.used ≡ a.used + 1) (first : b.first ≡ (first_slot a sound ne).next) where
+    pub IsSound-put : IsSound b
+    IsSound-put =
+        let t = first_slot a sound ne in
+        let is = raw_store-put in
+        let long = as_long a sound b a.first (length xs) same short (length xs) items wide in
+        let room : used_slots (raw_store a) < length a.lengths.items = omega (arith, sound.total, sound.counted, t.more) in
+        record {
+          free = t.rest;
+          linked = subst (IsFreeList b.region b.lengths.items b.width t.rest) (sym first) (list-new a sound b a.first (length xs) same short (length xs) items wide t.rest t.next t.apart t.list);
+          filled = subst (λ (u : List ℕ × ℕ). (q : ℕ) → get_or u.0 q free_mark ≢ free_mark → IsFilled b.region u.0 u.1 q) (λ i. (sym items i, sym wide i)) (λ q mark.
+              elim (cases_eq q a.first) [
+                | inl e ↦ subst (λ k. IsFilled b.region (set a.lengths.items a.first (length xs)) a.width k) (sym e)
+                    (record { octets = xs; long = sym (get_or-set_same a.lengths.items a.first (length xs) free_mark inside); fits = short; holds = holds })
+                | inr other ↦ filled-others a sound b a.first (length xs) same short (length xs) items wide q other mark
+              ]);
+          total = omega (arith, sound.total, used, long, t.more);
+          counted = used ∙ ap (λ n. n + 1) sound.counted ∙ sym (ap used_slots is ∙ used_slots-with_contents (raw_store a) a.first xs (first_free a sound ne));
+          measured = octets ∙ ap (λ n. n + length xs) sound.measured ∙ sym (ap stored_octets is ∙ stored_octets-with_contents (raw_store a) a.first xs (first_free a sound ne));
+          within = subst IsWithinLimits (sym is) (IsWithinLimits-with_contents (raw_store a) a.first xs (first_free a sound ne) room short sound.within);
+          covered = covered-new a sound b a.first (length xs) same short (length xs) items wide;
+          few = omega (arith, sound.few, long);
+          least = omega (arith, sound.least, wide);
+          most = omega (arith, sound.most, wide);
+        }
+
+-- a release of a used slot
+module _ (a b : Inside) (sound : IsSound a) (slot : ℕ) (was : IsUsed (raw_store a) slot) (same : SameOutside a.region b.region (slot * a.width) 2) (holds : Holds b.region (slot * a.width) (link a.first))
+    (items : b.lengths.items ≡ set a.lengths.items slot free_mark) (wide : b.width ≡ a.width) where
+  abbrev mark : get_or a.lengths.items slot free_mark ≢ free_mark
+  mark = used_mark a sound slot was
+
+  two : 2 ≤ a.width
+  two = omega (arith, sound.least)
+
+  was_within : slot < length a.lengths.items
+  was_within = used_within a.lengths.items slot mark
+
+  abbrev contents : List ℕ
+  contents = (sound.filled slot mark).octets
+
+  was_held : contents_of (raw_store a) slot ≡ Some contents
+  was_held = used_held a sound slot mark
+
+  now_free : get_or (set a.lengths.items slot free_mark) slot free_mark ≡ free_mark
+  now_free = get_or-set_same a.lengths.items slot free_mark free_mark was_within
+
+  pub raw_store-release : raw_store b ≡ without (raw_store a) slot
+  raw_store-release =
+      let all = same_entries _ _ (each_key _ slot
+      (get-new a sound b slot 2 same two free_mark items wide slot ∙ contents_free b.region a.width slot _ now_free ∙ sym (get-remove_same _ slot))
+      (λ q other. get-others a sound b slot 2 same two free_mark items wide q other ∙ sym (get-remove_other _ slot q other ∙ contents_of-raw a sound q))) in
+      λ i. record { contents = all i; slots = as_long a sound b slot 2 same two free_mark items wide i; width = wide i }
+
+  module _ (octets : b.octets + get_or a.lengths.items slot free_mark ≡ a.octets) (used : b.used + 1 ≡ a.used) (first : b.first ≡ slot) where
+    pub IsSound-release : IsSound b
+    IsSound-release =
+        let is = raw_store-release in
+        let long = as_long a sound b slot 2 same two free_mark items wide in
+        let apart = apart_used a.region a.lengths.items a.width sound.free a.first slot mark sound.linked in
+        let fewer = used_slots-without (raw_store a) slot contents was_held in
+        let less = stored_octets-without (raw_store a) slot contents was_held in
+        record {
+          free = slot ∷ sound.free;
+          linked = (
+            first,
+            ap (λ l. get_or l slot 0) items ∙ get_or-set_same a.lengths.items slot free_mark 0 was_within,
+            apart,
+            (a.first, subst (λ w. Holds b.region (slot * w) (link a.first)) (sym wide) holds, list-new a sound b slot 2 same two free_mark items wide sound.free a.first apart sound.linked),
+          );
+          filled = subst (λ (u : List ℕ × ℕ). (q : ℕ) → get_or u.0 q free_mark ≢ free_mark → IsFilled b.region u.0 u.1 q) (λ i. (sym items i, sym wide i)) (λ q other_mark.
+              filled-others a sound b slot 2 same two free_mark items wide q (λ e. other_mark (ap (λ k. get_or (set a.lengths.items slot free_mark) k free_mark) e ∙ now_free)) other_mark);
+          total = omega (arith, sound.total, used, long);
+          counted = omega (arith, ap used_slots is, fewer, used, sound.counted);
+          measured = omega (arith, ap stored_octets is, less, octets, sound.measured, (sound.filled slot mark).long);
+          within = subst IsWithinLimits (sym is) (IsWithinLimits-without (raw_store a) slot contents was_held sound.within);
+          covered = covered-new a sound b slot 2 same two free_mark items wide;
+          few = omega (arith, sound.few, long);
+          least = omega (arith, sound.least, wide);
+          most = omega (arith, sound.most, wide);
+        }
+
+-- the two as the code reaches them: by a number, and a width that was cast
+module _ (a b : Inside) (sound : IsSound a) (number from : ℕ) (wide_from : from ≡ a.width) (wide : b.width ≡ a.width) where
+  module _ (ne : a.first ≢ list_end) (is_first : number ≡ a.first) (xs : List ℕ) (same : SameOutside a.region b.region (number * from) (length xs)) (holds : Holds b.region (number * from) xs) (short : length xs ≤ a.width) (items : b.lengths.items ≡ set a.lengths.items number (length xs)) where
+    place : number * from ≡ a.first * a.width
+    place i = is_first i * wide_from i
+
+    same_there : SameOutside a.region b.region (a.first * a.width) (length xs)
+    same_there = subst (λ k. SameOutside a.region b.region k (length xs)) place same
+
+    holds_there : Holds b.region (a.first * a.width) xs
+    holds_there = subst (λ k. Holds b.region k xs) place holds
+
+    items_there : b.lengths.items ≡ set a.lengths.items a.first (length xs)
+    items_there = items ∙ ap (λ k. set a.lengths.items k (length xs)) is_first
+
+    pub put_stored : raw_store b ≡ with_contents (raw_store a) number xs
+    put_stored = raw_store-put a b sound ne xs same_there holds_there short items_there wide ∙ ap (λ k. with_contents (raw_store a) k xs) (sym is_first)
+
+    pub put_sound : b.octets ≡ a.octets + length xs → b.used ≡ a.used + 1 → ((next : ℕ) → Holds a.region (number * from) (link next) → b.first ≡ next) → IsSound b
+    put_sound octets used read =
+        let t = first_slot a sound ne in
+        IsSound-put a b sound ne xs same_there holds_there short items_there wide octets used (read t.next (subst (λ k. Holds a.region k (link t.next)) (sym place) t.holds))
+
+  module _ (was : IsUsed (raw_store a) number) (same : SameOutside a.region b.region (number * from) 2) (holds : Holds b.region (number * from) (link a.first)) (items : b.lengths.items ≡ set a.lengths.items number free_mark) where
+    same_here : SameOutside a.region b.region (number * a.width) 2
+    same_here = subst (λ w. SameOutside a.region b.region (number * w) 2) wide_from same
+
+    holds_here : Holds b.region (number * a.width) (link a.first)
+    holds_here = subst (λ w. Holds b.region (number * w) (link a.first)) wide_from holds
+
+    pub release_stored : raw_store b ≡ without (raw_store a) number
+    release_stored = raw_store-release a b sound number was same_here holds_here items wide
+
+    pub release_sound : b.octets + get_or a.lengths.items number free_mark ≡ a.octets → b.used + 1 ≡ a.used → b.first ≡ number → IsSound b
+    release_sound = IsSound-release a b sound number was same_here holds_here items wide
+
+-- a start: every slot is free, by rising number
+abbrev count_from : ℕ → ℕ → List ℕ
+count_from k zero = []
+count_from k (suc m) = k ∷ count_from (k + 1) m
+
+apart_above : (k j m : ℕ) → k < j → IsApart k (count_from j m)
+apart_above k j zero lt = tt
+apart_above k j (suc m) lt = ((λ same. omega (arith, same, lt)), apart_above k (j + 1) m (omega arith))
+
+length-count_from : (k m : ℕ) → length (count_from k m) ≡ m
+length-count_from k zero = refl
+length-count_from k (suc m) = ap suc (length-count_from (k + 1) m)
+
+module _ (region : List (Option ℕ)) (lens : List ℕ) (width slots : ℕ) (links : (slot : ℕ) → slot < slots → Holds region (slot * width) (link (or_end (slot + 1) slots))) (marks : (slot : ℕ) → slot < slots → get_or lens slot 0 ≡ free_mark) where
+  linked_from : (k m : ℕ) → k + m ≡ slots → IsFreeList region lens width (count_from k m) (or_end k slots)
+  linked_from k zero all = cond-false _ _ _ (le-ltb k slots (omega arith))
+  linked_from k (suc m) all =
+      let lt : k < slots = omega arith in
+      (cond-true _ _ _ (lt-ltb k slots lt), marks k lt, apart_above k (k + 1) m (omega arith), (or_end (k + 1) slots, links k lt, linked_from (k + 1) m (omega arith)))
+
+unmarked : (n slot : ℕ) → get_or (replicate n free_mark) slot free_mark ≡ free_mark
+unmarked zero slot = refl
+unmarked (suc n) zero = refl
+unmarked (suc n) (suc slot) = unmarked n slot
+
+module _ (b : Inside) (slots : ℕ) (items : b.lengths.items ≡ replicate slots free_mark) where
+  pub start_store : raw_store b ≡ empty_store slots b.width
+  start_store =
+      let none = same_entries _ finmap.empty (λ q. get_raw b.region b.width b.lengths.items q
+      ∙ contents_free b.region b.width q _ (ap (λ l. get_or l q free_mark) items ∙ unmarked slots q) ∙ sym (finmap.get-empty nat_cmp q)) in
+      λ i. record { contents = none i; slots = (ap length items ∙ length-replicate slots free_mark) i; width = b.width }
+
+  pub start_sound : length b.region ≡ slots * b.width → ((slot : ℕ) → slot < slots → Holds b.region (slot * b.width) (link (or_end (slot + 1) slots)))
+      → b.first ≡ or_end 0 slots → b.octets ≡ 0 → b.used ≡ 0 → slots ≤ 8192 → 8 ≤ b.width → b.width ≤ 260 → IsSound b
+  start_sound size links first octets used few least most =
+      let long = ap length items ∙ length-replicate slots free_mark in
+      let is = start_store in
+      record {
+        free = count_from 0 slots;
+        linked = subst (IsFreeList b.region b.lengths.items b.width (count_from 0 slots)) (sym first)
+            (linked_from b.region b.lengths.items b.width slots links (λ slot lt. ap (λ l. get_or l slot 0) items ∙ get_or-replicate slots slot free_mark 0 lt) 0 slots (omega arith));
+        filled = λ slot mark. absurd (mark (ap (λ l. get_or l slot free_mark) items ∙ unmarked slots slot));
+        total = omega (arith, length-count_from 0 slots, used, long);
+        counted = used ∙ sym (ap used_slots is ∙ used_slots-empty slots b.width);
+        measured = octets ∙ sym (ap stored_octets is ∙ stored_octets-empty slots b.width);
+        within = subst IsWithinLimits (sym is) (IsWithinLimits-empty slots b.width);
+        covered = size ∙ ap (λ n. n * b.width) (sym long);
+        few = omega (arith, few, long);
+        least = least;
+        most = most;
+      }

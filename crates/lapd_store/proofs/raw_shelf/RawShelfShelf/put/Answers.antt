@@ -1,0 +1,71 @@
+use Rattle.std.proofs.Common.{◌+◌, ◌*◌, ◌≤◌, length, refl, sym, ap, subst, ◌∙◌, arith}
+use Rattle.std.specs.Vec.{with_item}
+use Rattle.lapd_region.specs.Region.{Holds}
+use Rattle.lapd_store.specs.RawStore.{link}
+use Rattle.lapd_store.specs.Store.{IsFull, IsFree, contents_of}
+use Rattle.lapd_store.proofs.RawSound.{first_slot, first_within, first_free, slot_within, full_at_end, octets_fit, put_stored, put_sound}
+use Rattle.lapd_store.proofs.StoreLemmas.{contents_of-with_contents}
+use Rattle.lapd_store.proofs.raw_shelf.RawShelfShelf.put.Goals as goal
+
+pub returns-then-self-clause-full : goal.returns-then-self-clause-full
+returns-then-self-clause-full c =
+    let full = subst IsFull c.self.view_is (full_at_end c.self.inside c.self.invariant c.if-self.true) in
+    ((λ _. full), (λ _. refl))
+
+pub read_link-self-inside-requires-clause-within : goal.read_link-self-inside-requires-clause-within
+read_link-self-inside-requires-clause-within c =
+    let a = c.self.inside in
+    let within = slot_within a c.self.invariant a.first (first_within a c.self.invariant c.if-self.false) in
+    let two : a.first * a.width + 2 ≤ length a.region = omega (arith, within, c.self.invariant.least) in
+    subst (λ k. k + 2 ≤ length a.region) (λ i. sym c.from-number.ensures i * sym c.from.ensures i) two
+
+pub read_link-self-inside-requires-clause-linked : goal.read_link-self-inside-requires-clause-linked
+read_link-self-inside-requires-clause-linked c =
+    let a = c.self.inside in
+    let t = first_slot a c.self.invariant c.if-self.false in
+    (t.next, subst (λ k. Holds a.region k (link t.next)) (λ i. sym c.from-number.ensures i * sym c.from.ensures i) t.holds)
+
+pub write-requires : goal.write-requires
+write-requires c =
+    let a = c.self.inside in
+    let within = slot_within a c.self.invariant a.first (first_within a c.self.invariant c.if-self.false) in
+    let fits = subst (λ s. length c.args.octets.now ≤ s.width) (sym c.self.view_is) c.requires in
+    let room : a.first * a.width + length c.args.octets.now ≤ length a.region = omega (arith, within, fits) in
+    record { within = subst (λ k. k + length c.args.octets.now ≤ length a.region) (λ i. sym c.from-number.ensures i * sym c.from.ensures i) room }
+
+pub index_mut-requires : goal.index_mut-requires
+index_mut-requires c =
+    let a = c.self.inside in
+    omega (arith, first_within a c.self.invariant c.if-self.false, a.lengths.ok.0, c.from-number.ensures)
+
+pub overflow_add-self : goal.overflow_add-self
+overflow_add-self c = record { fits = octets_fit c.self.inside c.self.invariant (length c.args.octets.now) (subst (λ s. length c.args.octets.now ≤ s.width) (sym c.self.view_is) c.requires) }
+
+pub invariant_of-self : goal.invariant_of-self
+invariant_of-self c =
+    let a = c.self.inside in
+    let fits = subst (λ s. length c.args.octets.now ≤ s.width) (sym c.self.view_is) c.requires in
+    put_sound a _ c.self.invariant c.from-number.result c.from.result c.from.ensures refl c.if-self.false c.from-number.ensures
+    c.args.octets.now c.write.ensures.others c.write.ensures.written fits refl refl refl c.read_link-self-inside.ensures
+
+pub returns-clause-free : goal.returns-clause-free
+returns-clause-free c =
+    let free = subst (λ s. IsFree s c.self.inside.first) c.self.view_is (first_free c.self.inside c.self.invariant c.if-self.false) in
+    subst (IsFree c.args.self.now) (sym c.from-number.ensures) free
+
+pub returns-clause-stored : goal.returns-clause-stored
+returns-clause-stored c =
+    let a = c.self.inside in
+    let fits = subst (λ s. length c.args.octets.now ≤ s.width) (sym c.self.view_is) c.requires in
+    rw (← c.self.view_is)
+    (put_stored a (record { region = c.write.new.self; lengths = with_item a.lengths c.from-number.result (length c.args.octets.now); octets = a.octets + length c.args.octets.now; used = a.used + 1; first = c.read_link-self-inside.result; width = a.width })
+    c.self.invariant c.from-number.result c.from.result c.from.ensures refl c.if-self.false c.from-number.ensures
+    c.args.octets.now c.write.ensures.others c.write.ensures.written fits refl)
+
+pub returns-clause-held : goal.returns-clause-held
+returns-clause-held c =
+    ap (λ s. contents_of s c.from-number.result) (returns-clause-stored c)
+    ∙ contents_of-with_contents c.args.self.now c.from-number.result c.args.octets.now
+
+pub returns-clause-within : goal.returns-clause-within
+returns-clause-within c = (invariant_of-self c).within

@@ -1,0 +1,8 @@
+pub mod Lists
+pub mod Tables
+pub mod Memories
+pub mod SoundWords
+pub mod Served
+pub mod Counted
+pub mod Pigeonholes
+pub mod LawLemmas

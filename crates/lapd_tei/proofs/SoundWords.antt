@@ -1,0 +1,78 @@
+-- What the words of the table keep.
+use Rattle.std.proofs.Common.{◌≡◌, ℕ, zero, suc, ◌+◌, ◌≤◌, nat_le, true, false, cond, List, [], ◌∷◌, ◌++◌, length, drop, set, replicate, Option, Some, None, IfSome, refl, arith, length-append, length-drop}
+use Rattle.std.specs.List.{IsDistinct}
+use Rattle.std.proofs.lemmas.Bool.Decides.{nat_tests}
+use Rattle.std.proofs.lemmas.List.Elements.{All-nil, All-cons, All-append, All-drop}
+use Rattle.std.proofs.lemmas.Option.{none-some}
+use Rattle.lapd_tei.specs.Messages.{Message, action_of}
+use Rattle.lapd_tei.specs.Table.{Places, is_on, place_of, free_place}
+use Rattle.lapd_tei.specs.Machine.{Check, Period, First, Second}
+use Rattle.lapd_tei.specs.Words.{no_room, with_message, freed}
+use Rattle.lapd_tei.specs.Rows.{counted, responses, is_checked}
+use Rattle.lapd_tei.specs.Sound.{IsAt, IsSoundTable, IsSoundMemory, IsSoundCheck, IsSoundQueue}
+use Rattle.lapd_tei.proofs.Tables.{on-put, on-freed}
+
+has_room : (n : ℕ) → nat_le 4 n ≡ false → n + 1 ≤ 4
+has_room n e = grind (arith, nat_tests)
+
+abbrev names_one : Message → Type 0
+names_one message = action_of message ≤ 127
+
+pub queue-sent : (message : Message) (waiting : List Message) → IsSoundQueue waiting → action_of message ≤ 127 → IsSoundQueue (with_message message waiting)
+queue-sent message waiting sound low =
+    elim (no_room waiting) as (λ b. no_room waiting ≡ b → IsSoundQueue (cond b waiting (waiting ++ message ∷ []))) [
+      | true ↦ λ e. sound
+      | false ↦ λ e. record {
+        few = omega (arith, has_room (length waiting) e, length-append waiting (message ∷ []));
+        actions = All-append names_one waiting (message ∷ []) sound.actions (All-cons names_one message [] low (All-nil names_one));
+      }
+    ] refl
+
+pub queue-rest : (waiting : List Message) → IsSoundQueue waiting → IsSoundQueue (drop 1 waiting)
+queue-rest waiting sound = record {
+  few = omega (arith, length-drop 1 waiting, sound.few);
+  actions = All-drop names_one 1 waiting sound.actions;
+}
+
+pub check-put : (places : Places) (check : Option Check) (place tei : ℕ) → free_place places ≡ Some place → IfSome check (IsSoundCheck places) → IfSome check (IsSoundCheck (set places place (Some tei)))
+check-put places None place tei at sound = sound
+check-put places (Some check) place tei at sound = record { on_line = on-put places place tei check.tei at sound.on_line; first = sound.first; second = sound.second }
+
+pub check-freed : (places : Places) (check : Option Check) (tei : ℕ) → is_checked tei check ≡ false → IfSome check (IsSoundCheck places) → IfSome check (IsSoundCheck (freed places (place_of tei places)))
+check-freed places None tei other sound = sound
+check-freed places (Some check) tei other sound = record { on_line = on-freed places tei check.tei other sound.on_line; first = sound.first; second = sound.second }
+
+pub check-begun : (places : Places) (tei : ℕ) → is_on tei places ≡ true → IsSoundCheck places (record { tei = tei; period = First; first = 0; second = 0 })
+check-begun places tei on = record { on_line = on; first = omega arith; second = omega arith }
+
+pub check-again : (places : Places) (check : Check) → IsSoundCheck places check → IsSoundCheck places (record check { period = Second })
+check-again places check sound = record { on_line = sound.on_line; first = sound.first; second = sound.second }
+
+below_two : (n : ℕ) → nat_le 2 n ≡ false → n ≤ 1
+below_two n e = grind (arith, nat_tests)
+
+pub check-counted : (places : Places) (check : Check) → IsSoundCheck places check → nat_le 2 (responses (counted check)) ≡ false → IsSoundCheck places (counted check)
+check-counted places check sound few = go check.period check.tei check.first check.second sound.on_line sound.first sound.second few
+  where
+    go : (period : Period) (tei first second : ℕ) → is_on tei places ≡ true → first ≤ 1 → second ≤ 1 → nat_le 2 (responses (counted (record { tei = tei; period = period; first = first; second = second }))) ≡ false → IsSoundCheck places (counted (record { tei = tei; period = period; first = first; second = second }))
+    go First tei first second on a b e = record { on_line = on; first = below_two (first + 1) e; second = b }
+    go Second tei first second on a b e = record { on_line = on; first = a; second = below_two (second + 1) e }
+
+-- as things begin
+nowhere : (places i tei : ℕ) → IsAt (replicate places None) i tei → ⊥
+nowhere zero i tei e = none-some tei e
+nowhere (suc places) zero tei e = none-some tei e
+nowhere (suc places) (suc i) tei e = nowhere places i tei e
+
+pub table-empty : (places : ℕ) → IsSoundTable (replicate places None)
+table-empty places = record {
+  once = λ i j tei a b. absurd (nowhere places i tei a);
+  range = λ i tei a. absurd (nowhere places i tei a);
+}
+
+pub memory-empty : (places : Places) → IsSoundMemory places []
+unfolding IsDistinct
+memory-empty places = record { few = omega arith; one_ri = tt; one_tei = tt; on_line = All-nil (λ r. is_on r.tei places ≡ true) }
+
+pub queue-empty : IsSoundQueue []
+queue-empty = record { few = omega arith; actions = All-nil names_one }

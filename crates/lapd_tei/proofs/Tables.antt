@@ -1,0 +1,169 @@
+-- The table of the TEIs: what stands where, after a TEI came and after one left.
+use Rattle.std.proofs.Common.{◌≡◌, ℕ, zero, suc, ◌<◌, ◌≤◌, ◌⊎◌, inl, inr, ◌==◌, ◌||◌, Bool, true, false, not, [], ◌∷◌, length, set, get_or, Option, Some, None, subst, ◌∙◌, refl, sym, ap, arith}
+use Rattle.std.proofs.lemmas.Bool.{false≢true, cases_order}
+use Rattle.std.proofs.lemmas.Bool.Decides.{nat_tests}
+use Rattle.std.proofs.lemmas.List.{get_or-set_same, get_or-set_other}
+use Rattle.std.proofs.lemmas.List.Quantifiers.{position-Some}
+use Rattle.std.proofs.lemmas.Option.{none-some, same_Some}
+use Rattle.lapd_tei.specs.Table.{Places, is_free, has, is_on, is_off, place_of, free_place, free_tei, automatic}
+use Rattle.lapd_tei.specs.Words.{freed}
+use Rattle.lapd_tei.specs.Sound.{IsAt, IsSoundTable}
+use Rattle.lapd_tei.specs.Laws.{IsLowestFree}
+use Rattle.lapd_tei.proofs.Lists.{found-passes, first-found}
+
+same_number : (a b : ℕ) → (a == b) ≡ true → a ≡ b
+same_number a b e = grind (arith, nat_tests)
+
+is_same : (a b : ℕ) → a ≡ b → (a == b) ≡ true
+is_same a b e = grind (arith, nat_tests)
+
+-- a TEI that is at a place is on the line, and the other way round
+pub is_on-at : (places : Places) (i tei : ℕ) → IsAt places i tei → is_on tei places ≡ true
+is_on-at [] i tei e = absurd (none-some tei e)
+is_on-at (None ∷ places) zero tei e = absurd (none-some tei e)
+is_on-at (Some own ∷ places) zero tei e = ap (λ b. b || is_on tei places) (is_same own tei (same_Some own tei e))
+is_on-at (None ∷ places) (suc i) tei e = is_on-at places i tei e
+is_on-at (Some own ∷ places) (suc i) tei e = ap (λ b. (own == tei) || b) (is_on-at places i tei e) ∙ or_true (own == tei)
+  where
+    or_true : (b : Bool) → (b || true) ≡ true
+    or_true true = refl
+    or_true false = refl
+
+later : (o : Option ℕ) (places : Places) (tei : ℕ) → (i : ℕ) × IsAt places i tei → (i : ℕ) × IsAt (o ∷ places) i tei
+later o places tei found = (suc found.0, found.1)
+
+pub at-is_on : (places : Places) (tei : ℕ) → is_on tei places ≡ true → (i : ℕ) × IsAt places i tei
+at-is_on [] tei e = absurd (false≢true e)
+at-is_on (None ∷ places) tei e = later None places tei (at-is_on places tei e)
+at-is_on (Some own ∷ places) tei e =
+    elim (own == tei) as (λ b. (own == tei) ≡ b → (i : ℕ) × IsAt (Some own ∷ places) i tei) [
+      | true ↦ λ is. (0, ap Some (same_number own tei is))
+      | false ↦ λ is. later (Some own) places tei (at-is_on places tei (sym (ap (λ b. b || is_on tei places) is) ∙ e))
+    ] refl
+
+-- a TEI that is not on the line is at no place
+pub at-off : (places : Places) (i tei : ℕ) → is_on tei places ≡ false → IsAt places i tei → ⊥
+at-off places i tei off e = false≢true (sym off ∙ is_on-at places i tei e)
+
+-- a place that has a TEI is one of the table's
+pub at-within : (places : Places) (i tei : ℕ) → IsAt places i tei → i < length places
+at-within [] i tei e = absurd (none-some tei e)
+at-within (o ∷ places) zero tei e = omega arith
+at-within (o ∷ places) (suc i) tei e = omega (arith, at-within places i tei e)
+
+-- the place that is found is free, or has the TEI
+nobody : (o : Option ℕ) → is_free o ≡ true → o ≡ None
+nobody None e = refl
+nobody (Some own) e = absurd (false≢true e)
+
+holder : (tei : ℕ) (o : Option ℕ) → has tei o ≡ true → o ≡ Some tei
+holder tei None e = absurd (false≢true e)
+holder tei (Some own) e = ap Some (same_number own tei e)
+
+pub free_place-is : (places : Places) (place : ℕ) → free_place places ≡ Some place → (place < length places) × (get_or places place None ≡ None)
+free_place-is places place e =
+    let found = position-Some is_free places place None e in
+    (found.0, nobody _ found.1)
+
+pub place_of-is : (places : Places) (tei place : ℕ) → place_of tei places ≡ Some place → (place < length places) × IsAt places place tei
+place_of-is places tei place e =
+    let found = position-Some (has tei) places place None e in
+    (found.0, holder tei _ found.1)
+
+-- At a place is what was put there, and at each other place what was there before.
+at_put : (places : Places) (place i tei : ℕ) (o : Option ℕ) → place < length places → IsAt (set places place o) i tei → ((i ≡ place) × (o ≡ Some tei)) ⊎ ((i ≡ place → ⊥) × IsAt places i tei)
+at_put places place i tei o within e =
+    elim (cases_order i place) as (λ _. ((i ≡ place) × (o ≡ Some tei)) ⊎ ((i ≡ place → ⊥) × IsAt places i tei)) [
+      | inl same ↦ inl (same, sym (get_or-set_same places place o None within) ∙ subst (λ k. IsAt (set places place o) k tei) same e)
+      | inr other ↦
+          let apart : i ≡ place → ⊥ = elim other as (λ _. i ≡ place → ⊥) [ inl less ↦ λ same. absurd (omega arith) | inr more ↦ λ same. absurd (omega arith) ] in
+          inr (apart, sym (get_or-set_other places place i o None apart) ∙ e)
+    ]
+
+pub table-put : (places : Places) (place tei : ℕ) → IsSoundTable places → is_on tei places ≡ false → free_place places ≡ Some place → tei ≤ 126 → IsSoundTable (set places place (Some tei))
+table-put places place tei sound off at low =
+    let within = (free_place-is places place at).0 in
+    record {
+      once = λ i j t a b. once i j t (at_put places place i t (Some tei) within a) (at_put places place j t (Some tei) within b);
+      range = λ i t a. range i t (at_put places place i t (Some tei) within a);
+    }
+  where
+    Stood : ℕ → ℕ → Type 0
+    Stood i t = ((i ≡ place) × (Some tei ≡ Some t)) ⊎ ((i ≡ place → ⊥) × IsAt places i t)
+
+    newcomer : (j t : ℕ) → Some tei ≡ Some t → IsAt places j t → ⊥
+    newcomer j t same b = at-off places j tei off (subst (IsAt places j) (sym (same_Some tei t same)) b)
+
+    once : (i j t : ℕ) → Stood i t → Stood j t → i ≡ j
+    once i j t (inl a) (inl b) = a.0 ∙ sym b.0
+    once i j t (inl a) (inr b) = absurd (newcomer j t a.1 b.1)
+    once i j t (inr a) (inl b) = absurd (newcomer i t b.1 a.1)
+    once i j t (inr a) (inr b) = sound.once i j t a.1 b.1
+
+    range : (i t : ℕ) → Stood i t → t ≤ 126
+    range i t (inl a) = subst (λ n. n ≤ 126) (same_Some tei t a.1) low
+    range i t (inr a) = sound.range i t a.1
+
+table_cleared : (places : Places) (place : ℕ) → IsSoundTable places → place < length places → IsSoundTable (set places place None)
+table_cleared places place sound within = record {
+  once = λ i j t a b. sound.once i j t (stays i t (at_put places place i t None within a)) (stays j t (at_put places place j t None within b));
+  range = λ i t a. sound.range i t (stays i t (at_put places place i t None within a));
+}
+  where
+    stays : (i t : ℕ) → ((i ≡ place) × (None ≡ Some t)) ⊎ ((i ≡ place → ⊥) × IsAt places i t) → IsAt places i t
+    stays i t (inl a) = absurd (none-some t a.1)
+    stays i t (inr a) = a.1
+
+pub table-freed : (places : Places) (tei : ℕ) → IsSoundTable places → IsSoundTable (freed places (place_of tei places))
+table-freed places tei sound =
+    elim (place_of tei places) as (λ o. place_of tei places ≡ o → IsSoundTable (freed places o)) [
+      | None ↦ λ e. sound
+      | Some place ↦ λ e. table_cleared places place sound (place_of-is places tei place e).0
+    ] refl
+
+-- a TEI that is on the line stays while another comes, and while another leaves
+on_set : (places : Places) (place i tei : ℕ) (o : Option ℕ) → (i ≡ place → ⊥) → IsAt places i tei → is_on tei (set places place o) ≡ true
+on_set places place i tei o apart at = is_on-at (set places place o) i tei (get_or-set_other places place i o None apart ∙ at)
+
+pub on-put : (places : Places) (place tei other : ℕ) → free_place places ≡ Some place → is_on other places ≡ true → is_on other (set places place (Some tei)) ≡ true
+on-put places place tei other at on =
+    let (i, there) = at-is_on places other on in
+    on_set places place i other (Some tei) (λ same. none-some other (sym (free_place-is places place at).1 ∙ subst (λ k. IsAt places k other) same there)) there
+
+pub on-newcomer : (places : Places) (place tei : ℕ) → free_place places ≡ Some place → is_on tei (set places place (Some tei)) ≡ true
+on-newcomer places place tei at = is_on-at (set places place (Some tei)) place tei (get_or-set_same places place (Some tei) None (free_place-is places place at).0)
+
+on_cleared : (places : Places) (place tei other : ℕ) → IsAt places place tei → (other == tei) ≡ false → is_on other places ≡ true → is_on other (set places place None) ≡ true
+on_cleared places place tei other at apart on =
+    let (i, there) = at-is_on places other on in
+    on_set places place i other None (λ same. false≢true (sym apart ∙ is_same other tei (same_Some other tei (sym (subst (λ k. IsAt places k other) same there) ∙ at)))) there
+
+pub on-freed : (places : Places) (tei other : ℕ) → (other == tei) ≡ false → is_on other places ≡ true → is_on other (freed places (place_of tei places)) ≡ true
+on-freed places tei other apart on =
+    elim (place_of tei places) as (λ o. place_of tei places ≡ o → is_on other (freed places o) ≡ true) [
+      | None ↦ λ e. on
+      | Some place ↦ λ e. on_cleared places place tei other (place_of-is places tei place e).1 apart on
+    ] refl
+
+-- a TEI that is on the line is at most 126
+pub on-range : (places : Places) (tei : ℕ) → IsSoundTable places → is_on tei places ≡ true → tei ≤ 126
+on-range places tei sound on = let (i, there) = at-is_on places tei on in sound.range i tei there
+
+-- The TEI that is found is the lowest.
+pub not_not : (b : Bool) → not b ≡ false → b ≡ true
+not_not true e = refl
+not_not false e = sym e
+
+not_true : (b : Bool) → not b ≡ true → b ≡ false
+not_true true e = sym e
+not_true false e = refl
+
+pub free_tei-is : (places : Places) (tei : ℕ) → free_tei places ≡ Some tei → IsLowestFree places tei
+free_tei-is places tei e =
+    let first = first-found (is_off places) 64 63 tei e in
+    record {
+      least = first.least;
+      most = omega (arith, first.within);
+      off = not_true _ (found-passes (is_off places) automatic tei e);
+      lower = λ other l h. not_not _ (first.before other l h);
+    }

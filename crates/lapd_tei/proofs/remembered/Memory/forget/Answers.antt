@@ -1,0 +1,9 @@
+use Rattle.std.proofs.Common.{rules, ◌∙◌, ap}
+use Rattle.std.specs.List.{filter}
+use Rattle.lapd_tei.specs.Words.{is_of_other}
+use Rattle.lapd_tei.proofs.Lists.{retained}
+use Rattle.lapd_tei.proofs.remembered.Memory.forget.Goals as goal
+
+pub returns : goal.returns
+returns c =
+    retained _ (is_of_other c.args.tei) _ (λ x b t y r. search rules) _ _ c.retain.ensures.filtered ∙ ap (filter (is_of_other c.args.tei)) c.self.view_is

@@ -1,0 +1,17 @@
+use Rattle.std.proofs.Common.{◌≡◌, true, sym, subst, arith}
+use Rattle.lapd_tei.specs.Table.{is_on}
+use Rattle.lapd_tei.specs.Sound.{IsSoundCheck, IsSoundQueue}
+use Rattle.lapd_tei.proofs.Tables.{on-range}
+use Rattle.lapd_tei.proofs.SoundWords.{queue-sent, check-begun}
+use Rattle.lapd_tei.proofs.teis.Teis.begin_check.Goals as goal
+
+pub invariant_of-self : goal.invariant_of-self
+invariant_of-self c =
+    let sound = c.self.invariant in
+    let on : is_on c.args.tei c.self.inside.table ≡ true = subst (λ m. is_on c.args.tei m.places ≡ true) (sym c.self.view_is) c.requires in
+    record {
+      table = sound.table;
+      memory = sound.memory;
+      checked = subst (IsSoundCheck c.self.inside.table) (sym c.begun.ensures) (check-begun _ c.args.tei on);
+      queue = subst IsSoundQueue (sym c.send-lost.ensures.waits) (queue-sent _ _ sound.queue (omega (arith, on-range _ _ sound.table on)));
+    }

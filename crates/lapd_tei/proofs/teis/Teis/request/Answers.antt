@@ -1,0 +1,43 @@
+use Rattle.std.proofs.Common.{IfSome, sym, subst, ◌∙◌, arith}
+use Rattle.lapd_tei.specs.Sound.{IsSoundTable, IsSoundMemory, IsSoundCheck, IsSoundQueue}
+use Rattle.lapd_tei.proofs.Tables.{table-put, on-newcomer, free_tei-is}
+use Rattle.lapd_tei.proofs.Memories.{memory-put, memory-remember, remembered-range}
+use Rattle.lapd_tei.proofs.SoundWords.{queue-sent, check-put}
+use Rattle.lapd_tei.proofs.teis.Teis.request.Goals as goal
+
+pub invariant_of-self : goal.invariant_of-self
+invariant_of-self c =
+    let sound = c.self.invariant in
+    record {
+      table = sound.table;
+      memory = sound.memory;
+      checked = sound.checked;
+      queue = subst IsSoundQueue (sym c.send.ensures.waits)
+          (queue-sent _ _ sound.queue (remembered-range _ _ c.args.ri _ sound.table sound.memory (sym c.tei_for.ensures ∙ c.in-Some.is)));
+    }
+
+pub invariant_of-self-in_default-free_tei : goal.invariant_of-self-in_default-free_tei
+invariant_of-self-in_default-free_tei c =
+    let sound = c.self.invariant in
+    record {
+      table = sound.table;
+      memory = sound.memory;
+      checked = sound.checked;
+      queue = subst IsSoundQueue (sym c.send-in_default-free_tei.ensures.waits) (queue-sent _ _ sound.queue (omega arith));
+    }
+
+pub invariant_of-self-2 : goal.invariant_of-self-2
+invariant_of-self-2 c =
+    let sound = c.self.invariant in
+    let at = sym c.free_place.ensures.place ∙ c.in-Some-free_place.is in
+    let free = free_tei-is c.self.inside.table c.in-Some-free_tei.tei (sym c.free_tei.ensures ∙ c.in-Some-free_tei.is) in
+    let new = sym c.tei_for.ensures ∙ c.in_default.is in
+    record {
+      table = subst IsSoundTable (sym c.put.ensures) (table-put _ _ _ sound.table free.off at free.most);
+      memory =
+          subst (λ places. IsSoundMemory places c.remember.new.self) (sym c.put.ensures)
+          (subst (IsSoundMemory _) (sym c.remember.ensures)
+          (memory-remember _ _ _ c.args.ri _ sound.memory (memory-put _ _ _ _ at sound.memory) new free.off (on-newcomer _ _ _ at)));
+      checked = subst (λ places. IfSome c.self.inside.check (IsSoundCheck places)) (sym c.put.ensures) (check-put _ _ _ _ at sound.checked);
+      queue = subst IsSoundQueue (sym c.send-2.ensures.waits) (queue-sent _ _ sound.queue (omega (arith, free.most)));
+    }

@@ -1,0 +1,28 @@
+use Rattle.std.proofs.Common.{◌≡◌, true, sym, subst, arith}
+use Rattle.lapd_tei.specs.Table.{is_on}
+use Rattle.lapd_tei.specs.Sound.{IsSoundQueue}
+use Rattle.lapd_tei.proofs.Tables.{on-range}
+use Rattle.lapd_tei.proofs.SoundWords.{queue-sent}
+use Rattle.lapd_tei.proofs.teis.Teis.take_off.Goals as goal
+
+pub invariant_of-self : goal.invariant_of-self
+invariant_of-self c =
+    let sound = c.self.invariant in
+    let on : is_on c.args.tei c.self.inside.table ≡ true = subst (λ m. is_on c.args.tei m.places ≡ true) (sym c.self.view_is) c.requires in
+    record {
+      table = sound.table;
+      memory = sound.memory;
+      checked = tt;
+      queue = subst IsSoundQueue (sym c.send-lost.ensures.waits) (queue-sent _ _ sound.queue (omega (arith, on-range _ _ sound.table on)));
+    }
+
+pub invariant_of-self-else-is_checked : goal.invariant_of-self-else-is_checked
+invariant_of-self-else-is_checked c =
+    let sound = c.self.invariant in
+    let on : is_on c.args.tei c.self.inside.table ≡ true = subst (λ m. is_on c.args.tei m.places ≡ true) (sym c.self.view_is) c.requires in
+    record {
+      table = sound.table;
+      memory = sound.memory;
+      checked = sound.checked;
+      queue = subst IsSoundQueue (sym c.send-lost.ensures.waits) (queue-sent _ _ sound.queue (omega (arith, on-range _ _ sound.table on)));
+    }

@@ -1,0 +1,59 @@
+-- The events of TEI management, which requests are refused, and what each event leaves and tells.
+use Rattle.std.specs.Prelude.{ℕ, Bool, not, List, drop, slice_get, Option, Some, None, is_some, option_map, if◌then◌else◌}
+use Rattle.lapd_frame.specs.declared.refusals.Refusal.{Refusal}
+use Rattle.lapd_frame.specs.declared.refusals.Refusal.TheVariants.{NoLink, TeiTaken, TableFull, CheckRunning, ControlFull}
+use Rattle.lapd_tei.specs.Messages.{heard_in, frame_of}
+use Rattle.lapd_tei.specs.Table.{is_on, free_place}
+use Rattle.lapd_tei.specs.Machine.{Management, Told}
+use Rattle.lapd_tei.specs.Words.{Course, begun, Step, no_room, begin_check}
+use Rattle.lapd_tei.specs.Rows.{serve, expire, put_on, take_off}
+
+-- The information of a UI frame of SAPI 63 to the group TEI; the expiry of T201; and the requests of layer management, of a TEI of
+-- at most 126.
+pub data Event : Type 0 where
+  message : List ℕ → Event
+  expiry : Event
+  assign : ℕ → Event
+  remove : ℕ → Event
+  check : ℕ → Event
+
+-- Why a request is refused: the first that holds (profile).
+abbrev pub refusal_if : Bool → Refusal → Option Refusal → Option Refusal
+refusal_if test why others = if test then Some why else others
+
+unfoldable pub refusal : Event → Management → Option Refusal
+refusal (message octets) m = None
+refusal expiry m = None
+refusal (assign tei) m = refusal_if (is_on tei m.places) TeiTaken (refusal_if (not (is_some (free_place m.places))) TableFull None)
+refusal (remove tei) m = refusal_if (not (is_on tei m.places)) NoLink (refusal_if (no_room m.waiting) ControlFull None)
+refusal (check tei) m =
+    refusal_if (not (is_on tei m.places)) NoLink (refusal_if (is_some m.check) CheckRunning (refusal_if (no_room m.waiting) ControlFull None))
+
+-- What an event does that is not refused.
+abbrev pub step : Event → Step
+step (message octets) = serve (heard_in octets)
+step expiry = expire
+step (assign tei) = put_on tei
+step (remove tei) = take_off tei
+step (check tei) = begin_check tei
+
+-- What an event leaves, and what is told of it. A refused request changes nothing.
+abbrev pub unless_refused : Option Refusal → Step → Management → Course
+unless_refused None does m = does (begun m)
+unless_refused (Some why) does m = begun m
+
+unfoldable pub course : Event → Management → Course
+course e m = unless_refused (refusal e m) (step e) m
+
+abbrev pub after : Event → Management → Management
+after e m = (course e m).now
+
+abbrev pub told : Event → Management → Told
+told e m = (course e m).told
+
+-- A pull takes the message that has waited longest.
+abbrev pub offered : Management → Option (List ℕ)
+offered m = option_map frame_of (slice_get m.waiting 0)
+
+abbrev pub after_offer : Management → Management
+after_offer m = record m { waiting = drop 1 m.waiting }

@@ -1,0 +1,99 @@
+-- What holds of the table of TEI management, beside what its rows say.
+use Rattle.std.specs.Prelude.{◌≡◌, ℕ, ◌+◌, ◌≤◌, ◌<◌, true, false, List, [], ◌∷◌, length, set, get_or, Option, Some, None, IsSome}
+use Rattle.lapd_tei.specs.Table.{Places, is_on, free_place, free_tei}
+use Rattle.lapd_tei.specs.Machine.{Management, empty, waiting, nothing, Change, Gained, Left}
+use Rattle.lapd_tei.specs.Events.{Event, message, expiry, assign, remove, check, after, told, offered, after_offer}
+use Rattle.lapd_tei.specs.Sound.{IsAt, IsSound}
+
+-- A request names a TEI that a terminal can have.
+abbrev pub IsInRange : Event → Type 0
+IsInRange (message octets) = Unit {0}
+IsInRange expiry = Unit {0}
+IsInRange (assign tei) = tei ≤ 126
+IsInRange (remove tei) = tei ≤ 126
+IsInRange (check tei) = tei ≤ 126
+
+-- Events and pulls, in any order.
+pub data Act : Type 0 where
+  event : Event → Act
+  pull : Act
+
+abbrev pub IsActInRange : Act → Type 0
+IsActInRange (event e) = IsInRange e
+IsActInRange pull = Unit {0}
+
+abbrev pub AreInRange : List Act → Type 0
+AreInRange [] = Unit {0}
+AreInRange (act ∷ acts) = IsActInRange act × AreInRange acts
+
+abbrev pub after_act : Act → Management → Management
+after_act (event e) m = after e m
+after_act pull m = after_offer m
+
+abbrev pub after_acts : List Act → Management → Management
+after_acts [] m = m
+after_acts (act ∷ acts) m = after_acts acts (after_act act m)
+
+-- From the empty table on, things are sound at all times.
+abbrev pub IsSoundThroughout : Type 0
+IsSoundThroughout = (terminals : ℕ) (acts : List Act) → AreInRange acts → IsSound (after_acts acts (empty terminals))
+
+-- What a change says of the table before and after: a TEI that was not on the line has taken the lowest free place; a TEI has left
+-- its place free; or the table stays as it was.
+pub record HasJoined (old new : Places) (tei place : ℕ) : Type 0 where
+  pub lowest : free_place old ≡ Some place
+  pub within : place < length old
+  pub was_free : get_or old place None ≡ None
+  pub was_off : is_on tei old ≡ false
+  pub range : tei ≤ 126
+  pub is_there : new ≡ set old place (Some tei)
+
+pub record HasLeft (old new : Places) (tei place : ℕ) : Type 0 where
+  pub within : place < length old
+  pub was_there : IsAt old place tei
+  pub is_free : new ≡ set old place None
+
+abbrev pub Moves : Places → Option Change → Places → Type 0
+Moves old None new = new ≡ old
+Moves old (Some (Gained tei place)) new = HasJoined old new tei place
+Moves old (Some (Left tei place)) new = HasLeft old new tei place
+
+abbrev pub ChangesAreTold : Type 0
+ChangesAreTold = (e : Event) (m : Management) → IsInRange e → IsSound m → Moves m.places (told e m).change (after e m).places
+
+-- The TEI that a terminal is assigned is the lowest of 64 to 126: it is not on the line, and each lower one is.
+pub record IsLowestFree (places : Places) (tei : ℕ) : Type 0 where
+  pub least : 64 ≤ tei
+  pub most : tei ≤ 126
+  pub off : is_on tei places ≡ false
+  pub lower : (other : ℕ) → 64 ≤ other → other < tei → is_on other places ≡ true
+
+abbrev pub AssignsLowest : Places → Option Change → Type 0
+AssignsLowest places None = Unit {0}
+AssignsLowest places (Some (Gained tei place)) = IsLowestFree places tei
+AssignsLowest places (Some (Left tei place)) = Unit {0}
+
+abbrev pub LowestIsAssigned : Type 0
+LowestIsAssigned = (octets : List ℕ) (m : Management) → AssignsLowest m.places (told (message octets) m).change
+
+-- In a table of fewer than 63 places one of these is always free.
+abbrev pub OneIsFree : Type 0
+OneIsFree = (places : Places) → length places < 63 → IsSome (free_tei places)
+
+-- An event lets at most one message more wait, and loses at most one; a pull lets one fewer wait, or finds none.
+abbrev pub OneMoreWaits : Type 0
+OneMoreWaits = (e : Event) (m : Management) → waiting (after e m) ≤ waiting m + 1
+
+abbrev pub OneIsLost : Type 0
+OneIsLost = (e : Event) (m : Management) → (told e m).lost ≤ 1
+
+abbrev pub taken : Option (List ℕ) → ℕ
+taken None = 0
+taken (Some octets) = 1
+
+abbrev pub OneFewerWaits : Type 0
+OneFewerWaits = (m : Management) → waiting (after_offer m) + taken (offered m) ≡ waiting m
+
+-- A message that is not served changes nothing, and nothing else is told of it.
+abbrev pub UnservedChangesNothing : Type 0
+UnservedChangesNothing = (e : Event) (m : Management) → (told e m).unserved ≡ true → (after e m ≡ m) × (told e m ≡ record nothing { unserved = true })

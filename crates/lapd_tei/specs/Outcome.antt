@@ -1,0 +1,16 @@
+-- What the code's values stand for.
+use Rattle.lapd_frame.specs.ShortLists.{listed}
+use Rattle.lapd_tei.specs.declared.outcome.TeiOutcome.{TeiOutcome}
+use Rattle.lapd_tei.specs.declared.teis.Teis.TheInside.{Inside}
+use Rattle.lapd_tei.specs.Machine.{Management, Told}
+use Rattle.lapd_tei.specs.Words.{Course}
+
+abbrev pub told_of : TeiOutcome → Told
+told_of o = record { notes = listed o.notes; change = o.change; orders = listed o.orders; lost = o.lost; unserved = o.unserved }
+
+abbrev pub management_of : Inside → Management
+management_of t = record { places = t.table; remembered = t.memory; check = t.check; waiting = t.queue }
+
+-- where an event has led, as an outcome tells it
+abbrev pub led_to : Management → TeiOutcome → Course
+led_to m o = record { now = m; told = told_of o }

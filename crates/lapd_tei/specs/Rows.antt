@@ -1,0 +1,117 @@
+-- The table of TEI management (Q.921 clause 5.3): one equation for each row.
+use Rattle.std.specs.Prelude.{ℕ, ◌+◌, Bool, false, not, ◌&&◌, ◌==◌, nat_le, List, Option, Some, None, is_some, option_map, if◌then◌else◌}
+use Rattle.std.specs.List.{find}
+use Rattle.lapd_frame.specs.declared.notes.Note.TheVariants.{Assigned, Removed, Doubled}
+use Rattle.lapd_frame.specs.declared.timers.Order.TheVariants.{Start}
+use Rattle.lapd_frame.specs.declared.timers.Timer.TheVariants.{T201}
+use Rattle.lapd_tei.specs.Messages.{IdentityAssigned, IdentityDenied, IdentityCheckRequest, IdentityRemove, Heard, IdentityRequest, IdentityCheckResponse, IdentityVerify}
+use Rattle.lapd_tei.specs.Table.{is_on, free_place, free_tei}
+use Rattle.lapd_tei.specs.Machine.{Management, Remembered, Check, Period, First, Second}
+use Rattle.lapd_tei.specs.Words.{Step, ◌then◌, no_room, send, lose_one, note, order, unserved, join, remember, leave, check_is, begin_check, end_check}
+
+-- An identity request for any TEI (clause 5.3.2) is served by the first case that holds (profile).
+
+-- Which TEI was assigned for this Ri, as far as it is remembered.
+abbrev pub is_for : ℕ → Remembered → Bool
+is_for ri r = r.ri == ri
+
+abbrev pub tei_in : Remembered → ℕ
+tei_in r = r.tei
+
+abbrev pub remembered_in : ℕ → List Remembered → Option ℕ
+remembered_in ri remembered = option_map tei_in (find (is_for ri) remembered)
+
+-- The lowest place that is free, and the lowest TEI. Where no place is free, the request is denied. (A table of fewer than 63 places
+-- always has a free TEI.)
+abbrev pub assign_new : ℕ → Option ℕ → Option ℕ → Step
+assign_new ri (Some place) (Some tei) =
+    join tei place then remember ri tei then send (IdentityAssigned ri tei) then note (Assigned tei)
+assign_new ri (Some place) None = send (IdentityDenied ri)
+assign_new ri None tei = send (IdentityDenied ri)
+
+-- The Ri is remembered: the request came again, and gets the same answer again.
+abbrev pub assign : ℕ → Option ℕ → Step
+assign ri (Some tei) c = send (IdentityAssigned ri tei) c
+assign ri None c = assign_new ri (free_place c.now.places) (free_tei c.now.places) c
+
+-- There is no room for an answer: nothing is assigned, and the answer is lost.
+abbrev pub request : ℕ → Step
+request ri c = (if no_room c.now.waiting then lose_one else assign ri (remembered_in ri c.now.remembered)) c
+
+-- A verify asks for a check of a TEI (clause 5.3.5): one that is on the line, while no check runs.
+abbrev pub may_be_checked : ℕ → Management → Bool
+may_be_checked tei m = is_on tei m.places && not (is_some m.check)
+
+abbrev pub verify : ℕ → Step
+verify tei c = (if may_be_checked tei c.now then begin_check tei else unserved) c
+
+-- A check response of the TEI under check (clause 5.3.3.2) counts in the period that runs.
+abbrev pub counted : Check → Check
+counted check = elim check.period [
+  | First ↦ record check { first = check.first + 1 }
+  | Second ↦ record check { second = check.second + 1 }
+]
+
+abbrev pub responses : Check → ℕ
+responses check = elim check.period [ First ↦ check.first | Second ↦ check.second ]
+
+-- The second response of one period tells of a second terminal with the TEI, which leaves the line (clause 5.3.4).
+abbrev pub doubled : ℕ → Step
+doubled tei = note (Doubled tei) then send (IdentityRemove tei) then end_check then leave tei
+
+abbrev pub count : ℕ → Check → Step
+count tei check = if nat_le 2 (responses check) then doubled tei else check_is (Some check)
+
+abbrev pub respond : ℕ → Option Check → Step
+respond tei None = unserved
+respond tei (Some check) = if check.tei == tei then count tei (counted check) else unserved
+
+-- What a message of a terminal leads to.
+abbrev pub serve : Option Heard → Step
+serve (Some (IdentityRequest ri)) c = request ri c
+serve (Some (IdentityVerify tei)) c = verify tei c
+serve (Some (IdentityCheckResponse tei)) c = respond tei c.now.check c
+serve None c = unserved c
+
+-- T201 has expired (clause 5.3.3.2). In the first period the check is asked for again. At the end of the second the check ends, and
+-- a TEI without a response in either period leaves the line. Where no check runs, T201 does not run.
+abbrev pub removed : ℕ → Step
+removed tei = end_check then note (Removed tei) then leave tei
+
+abbrev pub is_unanswered : Check → Bool
+is_unanswered check = check.first == 0 && check.second == 0
+
+abbrev pub expire_period : Check → Period → Step
+expire_period check First =
+    send (IdentityCheckRequest check.tei) then order (Start T201) then check_is (Some (record check { period = Second }))
+expire_period check Second = if is_unanswered check then removed check.tei else end_check
+
+abbrev pub nothing_happens : Step
+nothing_happens c = c
+
+abbrev pub expire_check : Option Check → Step
+expire_check None = nothing_happens
+expire_check (Some check) = expire_period check check.period
+
+abbrev pub expire : Step
+expire c = expire_check c.now.check c
+
+-- A request of layer management to put a TEI on the line: at the lowest place that is free.
+abbrev pub join_at : ℕ → Option ℕ → Step
+join_at tei (Some place) = join tei place
+join_at tei None = nothing_happens
+
+abbrev pub put_on : ℕ → Step
+put_on tei c = join_at tei (free_place c.now.places) c
+
+-- A request to take a TEI off the line (clause 5.3.4): the terminals with it are told so, once (profile: the standard says it
+-- twice), and a check of it ends.
+abbrev pub is_checked : ℕ → Option Check → Bool
+is_checked tei None = false
+is_checked tei (Some check) = check.tei == tei
+
+abbrev pub end_check_of : ℕ → Step
+end_check_of tei c = (if is_checked tei c.now.check then end_check else nothing_happens) c
+
+abbrev pub take_off : ℕ → Step
+take_off tei = send (IdentityRemove tei) then end_check_of tei then leave tei

@@ -1,0 +1,45 @@
+-- What holds of TEI management at all times, from an empty table on.
+use Rattle.std.specs.Prelude.{◌≡◌, ℕ, ◌≤◌, ◌==◌, Bool, true, List, length, get_or, All, Some, None, IfSome}
+use Rattle.std.specs.List.{IsDistinct}
+use Rattle.lapd_tei.specs.Messages.{Message, action_of}
+use Rattle.lapd_tei.specs.Table.{Places, is_on}
+use Rattle.lapd_tei.specs.Machine.{Management, Remembered, Check}
+
+-- the TEI is at the place
+abbrev pub IsAt : Places → ℕ → ℕ → Type 0
+IsAt places place tei = get_or places place None ≡ Some tei
+
+-- No TEI stands twice in the table, and each is one that a terminal can have.
+pub record IsSoundTable (places : Places) : Type 0 where
+  pub once : (i j tei : ℕ) → IsAt places i tei → IsAt places j tei → i ≡ j
+  pub range : (i tei : ℕ) → IsAt places i tei → tei ≤ 126
+
+-- At most four assignments are remembered. None has the Ri or the TEI of another, and each TEI is on the line.
+abbrev pub same_ri : Remembered → Remembered → Bool
+same_ri r other = r.ri == other.ri
+
+abbrev pub same_tei : Remembered → Remembered → Bool
+same_tei r other = r.tei == other.tei
+
+pub record IsSoundMemory (places : Places) (remembered : List Remembered) : Type 0 where
+  pub few : length remembered ≤ 4
+  pub one_ri : IsDistinct same_ri remembered
+  pub one_tei : IsDistinct same_tei remembered
+  pub on_line : All (λ r. is_on r.tei places ≡ true) remembered
+
+-- A check is of a TEI that is on the line, and has at most one response in each period: the second ends it.
+pub record IsSoundCheck (places : Places) (check : Check) : Type 0 where
+  pub on_line : is_on check.tei places ≡ true
+  pub first : check.first ≤ 1
+  pub second : check.second ≤ 1
+
+-- At most four messages wait, and each names a TEI or the group.
+pub record IsSoundQueue (waiting : List Message) : Type 0 where
+  pub few : length waiting ≤ 4
+  pub actions : All (λ message. action_of message ≤ 127) waiting
+
+pub record IsSound (m : Management) : Type 0 where
+  pub table : IsSoundTable m.places
+  pub memory : IsSoundMemory m.places m.remembered
+  pub checked : IfSome m.check (IsSoundCheck m.places)
+  pub queue : IsSoundQueue m.waiting

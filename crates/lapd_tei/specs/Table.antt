@@ -1,0 +1,38 @@
+-- The TEIs of a line, each at a place of a table.
+use Rattle.std.specs.Prelude.{ℕ, Bool, true, false, not, ◌==◌, List, Option, Some, None}
+use Rattle.std.specs.List.{find, position, list_any, range_with_len}
+
+-- the TEI at each place, `None` where the place is free
+abbrev pub Places : Type 0
+Places = List (Option ℕ)
+
+abbrev pub is_free : Option ℕ → Bool
+is_free None = true
+is_free (Some own) = false
+
+-- this TEI is at the place
+abbrev pub has : ℕ → Option ℕ → Bool
+has tei None = false
+has tei (Some own) = own == tei
+
+abbrev pub is_on : ℕ → Places → Bool
+is_on tei places = list_any (has tei) places
+
+-- the place of a TEI, `None` where it is not on the line
+abbrev pub place_of : ℕ → Places → Option ℕ
+place_of tei places = position (has tei) places
+
+-- the lowest place that is free
+abbrev pub free_place : Places → Option ℕ
+free_place places = position is_free places
+
+-- The TEIs that the network assigns: 64 to 126 (clause 3.3.4.2).
+abbrev pub automatic : List ℕ
+automatic = range_with_len 64 63
+
+abbrev pub is_off : Places → ℕ → Bool
+is_off places tei = not (is_on tei places)
+
+-- the lowest of them that is not on the line
+abbrev pub free_tei : Places → Option ℕ
+free_tei places = find (is_off places) automatic

@@ -1,0 +1,103 @@
+-- The words of which the rows of the table are made. Each is a step of an event that is under way.
+use Rattle.std.specs.Prelude.{ℕ, ◌+◌, ◌-◌, Bool, true, not, ◌==◌, nat_le, List, [], ◌∷◌, ◌++◌, length, drop, filter, Option, Some, None, option_map, set, if◌then◌else◌}
+use Rattle.lapd_frame.specs.declared.notes.Note.{Note}
+use Rattle.lapd_frame.specs.declared.timers.Order.{Order}
+use Rattle.lapd_frame.specs.declared.timers.Order.TheVariants.{Start, Stop}
+use Rattle.lapd_frame.specs.declared.timers.Timer.TheVariants.{T201}
+use Rattle.lapd_tei.specs.Messages.{Message, IdentityCheckRequest}
+use Rattle.lapd_tei.specs.Table.{Places, place_of}
+use Rattle.lapd_tei.specs.Machine.{Management, Told, nothing, Remembered, Check, First, Change, Gained, Left, messages_limit, remembered_limit}
+
+-- an event under way: where things stand, and what is told so far
+pub record Course : Type 0 where
+  pub now : Management
+  pub told : Told
+
+abbrev pub begun : Management → Course
+begun m = record { now = m; told = nothing }
+
+abbrev pub Step : Type 0
+Step = Course → Course
+
+-- one step after another
+infixl 40 ◌then◌
+abbrev pub ◌then◌ : Step → Step → Step
+(first then second) c = second (first c)
+
+-- A message is sent: it waits, or it is lost where as many wait as may (profile).
+abbrev pub no_room : List Message → Bool
+no_room waiting = nat_le messages_limit (length waiting)
+
+abbrev pub with_message : Message → List Message → List Message
+with_message message waiting = if no_room waiting then waiting else waiting ++ message ∷ []
+
+abbrev pub lost_after : List Message → ℕ → ℕ
+lost_after waiting lost = if no_room waiting then lost + 1 else lost
+
+abbrev pub send : Message → Step
+send message c = record c {
+  now = record c.now { waiting = with_message message c.now.waiting };
+  told = record c.told { lost = lost_after c.now.waiting c.told.lost };
+}
+
+-- A message that would find no room is not made, and counts as lost.
+abbrev pub lose_one : Step
+lose_one c = record c { told = record c.told { lost = c.told.lost + 1 } }
+
+abbrev pub note : Note → Step
+note n c = record c { told = record c.told { notes = c.told.notes ++ n ∷ [] } }
+
+abbrev pub order : Order → Step
+order o c = record c { told = record c.told { orders = c.told.orders ++ o ∷ [] } }
+
+abbrev pub unserved : Step
+unserved c = record c { told = record c.told { unserved = true } }
+
+-- A TEI comes to the line, at a place that is free.
+abbrev pub join : ℕ → ℕ → Step
+join tei place c = record c {
+  now = record c.now { places = set c.now.places place (Some tei) };
+  told = record c.told { change = Some (Gained tei place) };
+}
+
+-- An assignment is remembered; with as many remembered as may be, the oldest is forgotten.
+abbrev pub latest : List Remembered → List Remembered
+latest all = drop (length all - remembered_limit) all
+
+abbrev pub remember : ℕ → ℕ → Step
+remember ri tei c =
+    record c { now = record c.now { remembered = latest (c.now.remembered ++ record { ri = ri; tei = tei } ∷ []) } }
+
+-- A TEI leaves the line: its place is free again, and its assignment is forgotten.
+abbrev pub is_of_other : ℕ → Remembered → Bool
+is_of_other tei r = not (r.tei == tei)
+
+abbrev pub freed : Places → Option ℕ → Places
+freed places None = places
+freed places (Some place) = set places place None
+
+abbrev pub left : ℕ → ℕ → Change
+left tei place = Left tei place
+
+abbrev pub leave : ℕ → Step
+leave tei c = record c {
+  now = record c.now {
+    places = freed c.now.places (place_of tei c.now.places);
+    remembered = filter (is_of_other tei) c.now.remembered;
+  };
+  told = record c.told { change = option_map (left tei) (place_of tei c.now.places) };
+}
+
+-- A check is on.
+abbrev pub check_is : Option Check → Step
+check_is check c = record c { now = record c.now { check = check } }
+
+-- A check of a TEI begins: it is asked for in the first of two periods, without responses so far (clause 5.3.3.2).
+abbrev pub begin_check : ℕ → Step
+begin_check tei =
+    send (IdentityCheckRequest tei) then order (Start T201)
+    then check_is (Some (record { tei = tei; period = First; first = 0; second = 0 }))
+
+-- A check ends, and with it T201.
+abbrev pub end_check : Step
+end_check = check_is None then order (Stop T201)

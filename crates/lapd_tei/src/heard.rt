@@ -1,0 +1,38 @@
+//! The messages of the terminals.
+
+ghost use Rattle.std.specs.Prelude.{◌≡◌};
+ghost use Rattle.lapd_tei.specs.Messages.{heard_in};
+
+/// A message of TEI management that a terminal sends (Q.921 clause 5.3.1, table 8).
+#[derive(Clone, Copy, PartialEq, Eq, Debug)]
+pub(crate) enum Heard {
+    /// A terminal asks for any TEI, by a reference number Ri of its choice (clause 5.3.2).
+    IdentityRequest { ri: u16 },
+    /// A terminal has this TEI (clause 5.3.3).
+    IdentityCheckResponse { tei: u8 },
+    /// A terminal asks for a check of its TEI (clause 5.3.5).
+    IdentityVerify { tei: u8 },
+}
+
+impl Heard {
+    /// Which message the information of a UI frame is.
+    pub fn read(information: &[u8]) -> Option<Heard>
+        ensures { result ≡ heard_in information.now }
+    {
+        let &[entity, high, low, kind, last] = information else {
+            return None;
+        };
+        if entity != 0x0F || last % 2 != 1 {
+            return None;
+        }
+        let tei = last / 2;
+        match kind {
+            1 if tei == 127 => Some(Heard::IdentityRequest {
+                ri: u16::from_be_bytes([high, low]),
+            }),
+            5 => Some(Heard::IdentityCheckResponse { tei }),
+            7 => Some(Heard::IdentityVerify { tei }),
+            _ => None,
+        }
+    }
+}

@@ -1,0 +1,58 @@
+//! The messages of the network.
+
+ghost use Rattle.std.specs.Prelude.{◌≡◌, ◌<◌};
+ghost use Rattle.lapd_tei.specs.Messages.{action_of, information_of, frame_of};
+
+use lapd_frame::{Address, Control, Frame, Side, write};
+
+/// A message of TEI management that the network sends to the terminals of a line (Q.921 clause
+/// 5.3.1, table 8).
+#[derive(Clone, Copy, PartialEq, Eq, Debug)]
+pub enum Message {
+    /// The TEI is assigned to the terminal that asked for one with this reference number Ri (clause
+    /// 5.3.2).
+    IdentityAssigned { ri: u16, tei: u8 },
+    /// No TEI can be assigned to the terminal that asked with this Ri (clause 5.3.2).
+    IdentityDenied { ri: u16 },
+    /// Each terminal with this TEI is to answer (clause 5.3.3).
+    IdentityCheckRequest { tei: u8 },
+    /// Each terminal with this TEI is to give it up (clause 5.3.4).
+    IdentityRemove { tei: u8 },
+}
+
+impl Message {
+    // The frame of the message, without its frame check.
+    pub(crate) fn frame(self) -> [u8; 8]
+        requires { action_of self < 128 }
+        ensures { result ≡ frame_of self }
+    {
+        let information = self.information();
+        let frame = Frame {
+            address: Address {
+                sapi: 63,
+                command: true,
+                tei: 127,
+            },
+            control: Control::Ui { pf: false },
+            info: &information,
+        };
+        let mut octets = [0; 8];
+        let _ = write(Side::Network, &frame, &mut octets);
+        octets
+    }
+
+    // Its information field: entity identifier, Ri with the high octet first, type, and Ai.
+    fn information(self) -> [u8; 5]
+        requires { action_of self < 128 }
+        ensures { result ≡ information_of self }
+    {
+        let (ri, kind, action) = match self {
+            Message::IdentityAssigned { ri, tei } => (ri, 2, tei),
+            Message::IdentityDenied { ri } => (ri, 3, 127),
+            Message::IdentityCheckRequest { tei } => (0, 4, tei),
+            Message::IdentityRemove { tei } => (0, 6, tei),
+        };
+        let [high, low] = ri.to_be_bytes();
+        [0x0F, high, low, kind, 2 * action + 1]
+    }
+}

@@ -1,0 +1,56 @@
+//! What an event led to.
+
+use lapd_frame::{Note, Order, ShortList};
+
+/// A change of the line's TEIs. A TEI is 0 to 126; its place is that in the table, from 0 on.
+#[derive(Clone, Copy, PartialEq, Eq, Debug)]
+pub enum Change {
+    /// The TEI is on the line now: its links begin, in state 4.
+    Gained { tei: u8, place: usize },
+    /// The TEI is no longer on the line: its links are to be cleared.
+    Left { tei: u8, place: usize },
+}
+
+/// What an event led to.
+#[derive(Clone, Copy, PartialEq, Eq, Debug)]
+pub struct TeiOutcome {
+    /// The notes of TEI management, which come before those of links that are cleared: at most one.
+    pub notes: ShortList<Note>,
+    /// The TEI that came to the line or left it.
+    pub change: Option<Change>,
+    /// What is ordered of T201: at most one order.
+    pub orders: ShortList<Order>,
+    /// How many messages were lost, as they found no room to wait: at most one.
+    pub lost: u8,
+    /// Whether a message is one that is not served. Then nothing else has happened.
+    pub unserved: bool,
+}
+
+impl TeiOutcome {
+    ghost use Rattle.std.specs.Prelude.{◌≡◌, true};
+    ghost use Rattle.lapd_tei.specs.Outcome.{told_of};
+    ghost use Rattle.lapd_tei.specs.Machine.{nothing};
+
+    // Nothing happened.
+    pub(crate) fn nothing() -> TeiOutcome
+        ensures { told_of result ≡ nothing }
+    {
+        TeiOutcome {
+            notes: ShortList::none(),
+            change: None,
+            orders: ShortList::none(),
+            lost: 0,
+            unserved: false,
+        }
+    }
+
+    // A message that is not served.
+    pub(crate) fn unserved() -> TeiOutcome
+        ensures { told_of result ≡ record nothing { unserved = true } }
+    {
+        TeiOutcome {
+            unserved: true,
+            ..TeiOutcome::nothing()
+        }
+    }
+}

@@ -1,0 +1,73 @@
+//! The messages that wait to be sent.
+
+ghost use Rattle.std.specs.Prelude.{◌≡◌, ◌≤◌, [], length, drop, slice_get, IfOk};
+ghost use Rattle.lapd_tei.specs.Words.{no_room, with_message, lost_after};
+
+use crate::messages::Message;
+use circular_buffer::HeapCircularBuffer;
+use std::alloc::{AllocError, Global};
+use std::marker::Model;
+
+// How many messages may wait (profile).
+const LIMIT: usize = 4;
+
+/// The messages that wait, the oldest first: at most four.
+#[derive(Drop)]
+pub(crate) struct Queue {
+    messages: HeapCircularBuffer<Message>,
+}
+
+impl Model for Queue {
+    ghost use Rattle.std.specs.Prelude.{◌≡◌, List};
+    ghost use Rattle.lapd_tei.specs.declared.messages.Message.{Message};
+
+    ghost Value = { List Message };
+
+    ghost view = { λ q. q.messages.items };
+
+    ghost invariant = { λ q. q.messages.capacity ≡ 4 };
+}
+
+impl Queue {
+    /// No message, and room for four.
+    pub fn start(alloc: Global) -> Result<Queue, AllocError>
+        ensures { IfOk result (λ queue. queue ≡ []) }
+    {
+        let messages = HeapCircularBuffer::with_capacity(alloc, LIMIT)?;
+        Ok(Queue { messages })
+    }
+
+    /// How many messages wait.
+    pub fn len(&self) -> usize
+        ensures len { result ≡ length self.now }
+        ensures few { result ≤ 4 }
+    {
+        self.messages.len()
+    }
+
+    /// Whether there is no room for one more.
+    pub fn is_full(&self) -> bool
+        ensures { result ≡ no_room self.now }
+    {
+        self.messages.len() >= LIMIT
+    }
+
+    /// Sends a message: it waits, or it is lost where there is no room. Answers how many were lost.
+    pub fn send(&mut self, message: Message) -> u8
+        ensures lost { result ≡ lost_after self.old 0 }
+        ensures waits { self.new ≡ with_message message self.old }
+    {
+        match self.messages.try_push_back(message) {
+            Ok(()) => 0,
+            Err(_) => 1,
+        }
+    }
+
+    /// Takes the message that has waited longest.
+    pub fn take(&mut self) -> Option<Message>
+        ensures oldest { result ≡ slice_get self.old 0 }
+        ensures rest { self.new ≡ drop 1 self.old }
+    {
+        self.messages.pop_front()
+    }
+}

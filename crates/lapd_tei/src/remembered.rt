@@ -1,0 +1,74 @@
+//! The assignments that are remembered.
+
+ghost use Rattle.std.specs.Prelude.{◌≡◌, ◌≤◌, List, [], ◌∷◌, ◌++◌, length, filter};
+ghost use Rattle.lapd_tei.specs.Rows.{remembered_in};
+ghost use Rattle.lapd_tei.specs.Words.{latest, is_of_other};
+
+use arrayvec::ArrayVec;
+use std::marker::Model;
+
+/// The TEI that was assigned to a request with this reference number Ri.
+#[derive(Clone, Copy, PartialEq, Eq, Debug, Default)]
+pub struct Remembered {
+    pub ri: u16,
+    pub tei: u8,
+}
+
+/// The latest assignments of a line, the oldest first: at most four.
+#[derive(Drop)]
+pub(crate) struct Memory {
+    latest: ArrayVec<Remembered, 4>,
+}
+
+impl Model for Memory {
+    ghost use Rattle.std.specs.Prelude.{List};
+    ghost use Rattle.lapd_tei.specs.declared.remembered.Remembered.{Remembered};
+
+    ghost Value = { List Remembered };
+
+    ghost view = { λ m. m.latest.items };
+}
+
+impl Memory {
+    /// Nothing remembered.
+    pub fn new() -> Memory
+        ensures { result ≡ [] }
+    {
+        Memory {
+            latest: ArrayVec::new(),
+        }
+    }
+
+    /// How many assignments are remembered.
+    pub fn len(&self) -> usize
+        ensures len { result ≡ length self.now }
+        ensures few { result ≤ 4 }
+    {
+        self.latest.as_slice().len()
+    }
+
+    /// The TEI that was assigned to a request with this Ri.
+    pub fn tei_for(&self, ri: u16) -> Option<u8>
+        ensures { result ≡ remembered_in ri self.now }
+    {
+        let found = self.latest.as_slice().iter().find(|one| one.ri == ri)?;
+        Some(found.tei)
+    }
+
+    /// Remembers an assignment, and forgets the oldest where there is no room for one more.
+    pub fn remember(&mut self, ri: u16, tei: u8)
+        ensures { self.new ≡ latest (self.old ++ record { ri = ri; tei = tei } ∷ []) }
+    {
+        if self.latest.is_full() {
+            self.latest.remove(0);
+        }
+        self.latest.push(Remembered { ri, tei });
+    }
+
+    /// Forgets the assignment of a TEI.
+    pub fn forget(&mut self, tei: u8)
+        ensures { self.new ≡ filter (is_of_other tei) self.old }
+    {
+        self.latest.retain(|one| one.tei != tei);
+    }
+}

@@ -1,0 +1,87 @@
+//! The table of the TEIs of a line.
+
+ghost use Rattle.std.specs.Prelude.{◌≡◌, ◌<◌, ◌≤◌, Some, None, length, replicate, set, IfSome};
+ghost use Rattle.lapd_tei.specs.Table.{Places, is_on, place_of, free_place, free_tei};
+ghost use Rattle.lapd_tei.specs.Words.{freed};
+
+use arrayvec::ArrayVec;
+use std::marker::Model;
+
+const MOST: usize = 8;
+
+/// The TEI at each place, `None` where it is free.
+#[derive(Drop)]
+pub(crate) struct Table {
+    places: ArrayVec<Option<u8>, MOST>,
+}
+
+impl Model for Table {
+    ghost use Rattle.lapd_tei.specs.Table.{Places};
+
+    ghost Value = { Places };
+
+    ghost view = { λ t. t.places.items };
+}
+
+impl Table {
+    /// A table whose places are all free, at most eight.
+    pub fn empty(places: usize) -> Table
+        requires { places ≤ 8 }
+        ensures { result ≡ replicate places None }
+    {
+        let mut all = ArrayVec::from([None; MOST]);
+        all.truncate(places);
+        Table { places: all }
+    }
+
+    /// Whether the TEI is on the line.
+    pub fn is_on(&self, tei: u8) -> bool
+        ensures { result ≡ is_on tei self.now }
+    {
+        self.places.as_slice().iter().any(|own| *own == Some(tei))
+    }
+
+    /// The place of a TEI.
+    pub fn place_of(&self, tei: u8) -> Option<usize>
+        ensures place { result ≡ place_of tei self.now }
+        ensures within { IfSome result (λ place. place < length self.now) }
+    {
+        self.places
+            .as_slice()
+            .iter()
+            .position(|own| *own == Some(tei))
+    }
+
+    /// The lowest place that is free.
+    pub fn free_place(&self) -> Option<usize>
+        ensures place { result ≡ free_place self.now }
+        ensures within { IfSome result (λ place. place < length self.now) }
+    {
+        self.places.as_slice().iter().position(|own| own.is_none())
+    }
+
+    /// The lowest TEI of 64 to 126 that is not on the line.
+    pub fn free_tei(&self) -> Option<u8>
+        ensures { result ≡ free_tei self.now }
+    {
+        (64..127).find(|tei| !self.is_on(*tei))
+    }
+
+    /// Puts a TEI at a place.
+    pub fn put(&mut self, place: usize, tei: u8)
+        requires { place < length self.old }
+        ensures { self.new ≡ set self.old place (Some tei) }
+    {
+        self.places[place] = Some(tei);
+    }
+
+    /// Takes a TEI out, and answers its place.
+    pub fn take(&mut self, tei: u8) -> Option<usize>
+        ensures place { result ≡ place_of tei self.old }
+        ensures freed { self.new ≡ freed self.old (place_of tei self.old) }
+    {
+        let place = self.place_of(tei)?;
+        self.places[place] = None;
+        Some(place)
+    }
+}

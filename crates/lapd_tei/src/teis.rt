@@ -1,0 +1,377 @@
+//! TEI management of one line.
+
+ghost use Rattle.std.specs.Prelude.{◌≡◌, ◌≤◌, ◌<◌, true, Some, None, length, option_map, false, IfOk, IfErr, IfSome, OnOk, OnErr};
+ghost use Rattle.lapd_tei.specs.Machine.{empty, place, held, First, Second};
+ghost use Rattle.lapd_tei.specs.Table.{is_on};
+ghost use Rattle.lapd_tei.specs.Words.{begun, begin_check, leave, left};
+ghost use Rattle.lapd_tei.specs.Rows.{request, verify, respond, doubled, expire, expire_period, take_off, is_checked};
+ghost use Rattle.lapd_tei.specs.Events.{message, expiry, assign, remove, check, refusal, after, told, offered, after_offer};
+ghost use Rattle.lapd_tei.specs.Outcome.{told_of, led_to};
+
+use crate::check::{Check, Period};
+use crate::fault::StartFault;
+use crate::heard::Heard;
+use crate::messages::Message;
+use crate::outcome::{Change, TeiOutcome};
+use crate::queue::Queue;
+use crate::remembered::Memory;
+use crate::table::Table;
+use lapd_frame::{Note, Order, Refusal, ShortList, Timer};
+use std::alloc::Global;
+use std::marker::Model;
+
+/// TEI management of one line (Q.921 clause 5.3), the network's side.
+///
+/// A line has a table of at most `terminals` TEIs, each at a place; remembers the latest
+/// assignments, at most four; and runs at most one check of a TEI at a time. Its messages wait for
+/// the line, at most four. No call but `start` takes memory.
+#[derive(Drop)]
+pub struct Teis {
+    table: Table,
+    memory: Memory,
+    check: Option<Check>,
+    queue: Queue,
+}
+
+impl Model for Teis {
+    ghost use Rattle.lapd_tei.specs.Machine.{Management};
+
+    ghost Value = { Management };
+
+    ghost use Rattle.lapd_tei.specs.Outcome.{management_of};
+    ghost use Rattle.lapd_tei.specs.Sound.{IsSound};
+
+    ghost view = { management_of };
+
+    ghost invariant = { λ t. IsSound (management_of t) };
+}
+
+impl Teis {
+    /// TEI management of a line on which no TEI is, with room for `terminals` TEIs, 1 to 8.
+    ///
+    /// # Errors
+    ///
+    /// `OutOfMemory` where there is no memory for the messages that wait.
+    pub fn start(alloc: Global, terminals: usize) -> Result<Teis, StartFault>
+        requires { 1 ≤ terminals × terminals ≤ 8 }
+        ensures { IfOk result (λ teis. teis ≡ empty terminals) }
+    {
+        Ok(Teis {
+            table: Table::empty(terminals),
+            memory: Memory::new(),
+            check: None,
+            queue: Queue::start(alloc)?,
+        })
+    }
+
+    /// Serves a message of a terminal: the information of a UI command with SAPI 63 and the group
+    /// TEI.
+    #[tactic(auto, unfolding(crate::specs::Events::course, crate::specs::Events::refusal))]
+    pub fn message(&mut self, information: &[u8]) -> TeiOutcome
+        ensures told { told_of result ≡ told (message information.now) self.old }
+        ensures after { self.new ≡ after (message information.now) self.old }
+    {
+        match Heard::read(information) {
+            Some(Heard::IdentityRequest { ri }) => self.request(ri),
+            Some(Heard::IdentityVerify { tei }) => self.verify(tei),
+            Some(Heard::IdentityCheckResponse { tei }) => self.respond(tei),
+            None => TeiOutcome::unserved(),
+        }
+    }
+
+    /// T201 has expired. Where no check runs, T201 does not run, and nothing happens.
+    #[tactic(auto, unfolding(crate::specs::Events::course, crate::specs::Events::refusal))]
+    pub fn expire_t201(&mut self) -> TeiOutcome
+        ensures told { told_of result ≡ told expiry self.old }
+        ensures after { self.new ≡ after expiry self.old }
+    {
+        match self.check {
+            Some(check) => self.expire(check),
+            None => TeiOutcome::nothing(),
+        }
+    }
+
+    /// Puts a TEI on the line, at the lowest place that is free. The TEI is at most 126.
+    ///
+    /// # Errors
+    ///
+    /// `TeiTaken` where it is on the line, else `TableFull` where no place is free.
+    #[tactic(auto, unfolding(crate::specs::Events::course, crate::specs::Events::refusal))]
+    pub fn assign(&mut self, tei: u8) -> Result<TeiOutcome, Refusal>
+        requires { tei ≤ 126 }
+        ensures told { IfOk result (λ outcome. told_of outcome ≡ told (assign tei) self.old) }
+        ensures accepted { OnOk result (refusal (assign tei) self.old ≡ None) }
+        ensures refused { IfErr result (λ why. refusal (assign tei) self.old ≡ Some why) }
+        ensures after { self.new ≡ after (assign tei) self.old }
+        ensures unchanged { OnErr result (self.new ≡ self.old) }
+    {
+        if self.table.is_on(tei) {
+            return Err(Refusal::TeiTaken);
+        }
+        let Some(place) = self.table.free_place() else {
+            return Err(Refusal::TableFull);
+        };
+        self.table.put(place, tei);
+        Ok(TeiOutcome {
+            change: Some(Change::Gained { tei, place }),
+            ..TeiOutcome::nothing()
+        })
+    }
+
+    /// Takes a TEI off the line: the terminals with it are told so, and a check of it ends. The TEI
+    /// is at most 126.
+    ///
+    /// # Errors
+    ///
+    /// `NoLink` where it is not on the line, else `ControlFull` where no message more may wait.
+    #[tactic(auto, unfolding(crate::specs::Events::course, crate::specs::Events::refusal))]
+    pub fn remove(&mut self, tei: u8) -> Result<TeiOutcome, Refusal>
+        requires { tei ≤ 126 }
+        ensures told { IfOk result (λ outcome. told_of outcome ≡ told (remove tei) self.old) }
+        ensures accepted { OnOk result (refusal (remove tei) self.old ≡ None) }
+        ensures refused { IfErr result (λ why. refusal (remove tei) self.old ≡ Some why) }
+        ensures after { self.new ≡ after (remove tei) self.old }
+        ensures unchanged { OnErr result (self.new ≡ self.old) }
+    {
+        if !self.table.is_on(tei) {
+            return Err(Refusal::NoLink);
+        }
+        if self.queue.is_full() {
+            return Err(Refusal::ControlFull);
+        }
+        Ok(self.take_off(tei))
+    }
+
+    /// Begins a check of a TEI: its terminals are asked to answer. The TEI is at most 126.
+    ///
+    /// # Errors
+    ///
+    /// `NoLink` where it is not on the line, else `CheckRunning` where a check runs, else
+    /// `ControlFull` where no message more may wait.
+    #[tactic(auto, unfolding(crate::specs::Events::course, crate::specs::Events::refusal))]
+    pub fn check(&mut self, tei: u8) -> Result<TeiOutcome, Refusal>
+        requires { tei ≤ 126 }
+        ensures told { IfOk result (λ outcome. told_of outcome ≡ told (check tei) self.old) }
+        ensures accepted { OnOk result (refusal (check tei) self.old ≡ None) }
+        ensures refused { IfErr result (λ why. refusal (check tei) self.old ≡ Some why) }
+        ensures after { self.new ≡ after (check tei) self.old }
+        ensures unchanged { OnErr result (self.new ≡ self.old) }
+    {
+        if !self.table.is_on(tei) {
+            return Err(Refusal::NoLink);
+        }
+        if self.check.is_some() {
+            return Err(Refusal::CheckRunning);
+        }
+        if self.queue.is_full() {
+            return Err(Refusal::ControlFull);
+        }
+        Ok(self.begin_check(tei))
+    }
+
+    /// The place of a TEI in the table, `None` where it is not on the line.
+    pub fn place(&self, tei: u8) -> Option<usize>
+        ensures place { result ≡ place tei self.now }
+        ensures within { IfSome result (λ place. place < length self.now.places) }
+    {
+        self.table.place_of(tei)
+    }
+
+    /// Takes the message that has waited longest: the octets of its frame, without the frame check.
+    pub fn offer(&mut self) -> Option<[u8; 8]>
+        ensures offered { result ≡ offered self.old }
+        ensures after { self.new ≡ after_offer self.old }
+    {
+        let message = self.queue.take()?;
+        Some(message.frame())
+    }
+
+    /// How many octets are held: eight for each message that waits, three for each assignment that
+    /// is remembered.
+    pub fn held(&self) -> u32
+        ensures { result ≡ held self.now }
+    {
+        8 * self.queue.len() as u32 + 3 * self.memory.len() as u32
+    }
+
+    // An identity request for any TEI.
+    fn request(&mut self, ri: u16) -> TeiOutcome
+        ensures led { led_to self.new result ≡ request ri (begun self.old) }
+    {
+        if self.queue.is_full() {
+            return TeiOutcome {
+                lost: 1,
+                ..TeiOutcome::nothing()
+            };
+        }
+        if let Some(tei) = self.memory.tei_for(ri) {
+            self.queue.send(Message::IdentityAssigned { ri, tei });
+            return TeiOutcome::nothing();
+        }
+        let Some(place) = self.table.free_place() else {
+            self.queue.send(Message::IdentityDenied { ri });
+            return TeiOutcome::nothing();
+        };
+        let Some(tei) = self.table.free_tei() else {
+            self.queue.send(Message::IdentityDenied { ri });
+            return TeiOutcome::nothing();
+        };
+        self.table.put(place, tei);
+        self.memory.remember(ri, tei);
+        self.queue.send(Message::IdentityAssigned { ri, tei });
+        TeiOutcome {
+            notes: ShortList::one(Note::Assigned(tei)),
+            change: Some(Change::Gained { tei, place }),
+            ..TeiOutcome::nothing()
+        }
+    }
+
+    // A terminal asks for a check of its TEI.
+    fn verify(&mut self, tei: u8) -> TeiOutcome
+        ensures led { led_to self.new result ≡ verify tei (begun self.old) }
+    {
+        if !self.table.is_on(tei) || self.check.is_some() {
+            return TeiOutcome::unserved();
+        }
+        self.begin_check(tei)
+    }
+
+    // A check of a TEI on the line begins.
+    fn begin_check(&mut self, tei: u8) -> TeiOutcome
+        requires { is_on tei self.old.places ≡ true }
+        ensures led { led_to self.new result ≡ begin_check tei (begun self.old) }
+    {
+        let lost = self.queue.send(Message::IdentityCheckRequest { tei });
+        self.check = Some(Check::begun(tei));
+        TeiOutcome {
+            orders: ShortList::one(Order::Start(Timer::T201)),
+            lost,
+            ..TeiOutcome::nothing()
+        }
+    }
+
+    // A terminal answers a check.
+    fn respond(&mut self, tei: u8) -> TeiOutcome
+        ensures led { led_to self.new result ≡ respond tei self.old.check (begun self.old) }
+    {
+        let Some(check) = self.check else {
+            return TeiOutcome::unserved();
+        };
+        if check.tei != tei {
+            return TeiOutcome::unserved();
+        }
+        let counted = check.counted();
+        if counted.responses() >= 2 {
+            return self.doubled(tei);
+        }
+        self.check = Some(counted);
+        TeiOutcome::nothing()
+    }
+
+    // Two terminals have the TEI under check.
+    fn doubled(&mut self, tei: u8) -> TeiOutcome
+        requires { is_on tei self.old.places ≡ true }
+        ensures led { led_to self.new result ≡ doubled tei (begun self.old) }
+    {
+        let lost = self.queue.send(Message::IdentityRemove { tei });
+        self.check = None;
+        let place = self.leave(tei);
+        TeiOutcome {
+            notes: ShortList::one(Note::Doubled(tei)),
+            change: left(tei, place),
+            orders: ShortList::one(Order::Stop(Timer::T201)),
+            lost,
+            unserved: false,
+        }
+    }
+
+    // T201 has expired in a check.
+    fn expire(&mut self, check: Check) -> TeiOutcome
+        requires { self.old.check ≡ Some check }
+        ensures led { led_to self.new result ≡ expire (begun self.old) }
+    {
+        match check.period {
+            Period::First => self.ask_again(check),
+            Period::Second => self.end_check(check),
+        }
+    }
+
+    // A check's first period is over.
+    fn ask_again(&mut self, check: Check) -> TeiOutcome
+        requires { self.old.check ≡ Some check }
+        ensures led { led_to self.new result ≡ expire_period check First (begun self.old) }
+    {
+        let lost = self
+            .queue
+            .send(Message::IdentityCheckRequest { tei: check.tei });
+        self.check = Some(Check {
+            period: Period::Second,
+            ..check
+        });
+        TeiOutcome {
+            orders: ShortList::one(Order::Start(Timer::T201)),
+            lost,
+            ..TeiOutcome::nothing()
+        }
+    }
+
+    // A check's second period is over.
+    fn end_check(&mut self, check: Check) -> TeiOutcome
+        requires { self.old.check ≡ Some check }
+        ensures led { led_to self.new result ≡ expire_period check Second (begun self.old) }
+    {
+        self.check = None;
+        let stopped = TeiOutcome {
+            orders: ShortList::one(Order::Stop(Timer::T201)),
+            ..TeiOutcome::nothing()
+        };
+        if !check.is_unanswered() {
+            return stopped;
+        }
+        let place = self.leave(check.tei);
+        TeiOutcome {
+            notes: ShortList::one(Note::Removed(check.tei)),
+            change: left(check.tei, place),
+            ..stopped
+        }
+    }
+
+    // A TEI is taken off the line by request.
+    fn take_off(&mut self, tei: u8) -> TeiOutcome
+        requires { is_on tei self.old.places ≡ true }
+        ensures led { led_to self.new result ≡ take_off tei (begun self.old) }
+    {
+        let lost = self.queue.send(Message::IdentityRemove { tei });
+        let is_checked = self.check.is_some_and(|check| check.tei == tei);
+        let orders = if is_checked {
+            self.check = None;
+            ShortList::one(Order::Stop(Timer::T201))
+        } else {
+            ShortList::none()
+        };
+        let place = self.leave(tei);
+        TeiOutcome {
+            change: left(tei, place),
+            orders,
+            lost,
+            ..TeiOutcome::nothing()
+        }
+    }
+
+    // A TEI that is not under check leaves the table, and its assignment is forgotten.
+    fn leave(&mut self, tei: u8) -> Option<usize>
+        requires { is_checked tei self.old.check ≡ false }
+        ensures place { result ≡ place tei self.old }
+        ensures left { self.new ≡ (leave tei (begun self.old)).now }
+    {
+        self.memory.forget(tei);
+        self.table.take(tei)
+    }
+}
+
+// The change of a TEI that was at this place.
+fn left(tei: u8, place: Option<usize>) -> Option<Change>
+    ensures { result ≡ option_map (left tei) place }
+{
+    Some(Change::Left { tei, place: place? })
+}

@@ -1,0 +1,158 @@
+-- What is read of words that stand in references, and of lines with too many.
+use Rattle.std.proofs.Common.{◌≡◌, ℕ, Bool, true, false, cond, eqb, List, [], ◌∷◌, length, take, drop, get_or, Some, None, Ok, Err, Result, Option, refl, sym, ap, ◌∙◌, Bor, arith}
+use Rattle.std.specs.Prelude.{IsErr, IsErrAnd}
+use Rattle.std.proofs.lemmas.Bool.{false≢true}
+use Rattle.lapd_script.specs.declared.kind.FaultKind.{FaultKind}
+use Rattle.lapd_script.specs.declared.kind.FaultKind.TheVariants.{BadNumberOfWords, UnknownWord}
+use Rattle.lapd_script.specs.declared.command.CardNumbers.{CardNumbers}
+use Rattle.lapd_script.specs.declared.word.Word.{Word}
+use Rattle.lapd_script.specs.declared.word.Word.TheVariants.{Card, Rx, In, Pull, Wait, Stored, Ask}
+use Rattle.lapd_script.specs.Words.{words_of, texts}
+use Rattle.lapd_script.specs.Word.{word_named, carries_octets}
+use Rattle.lapd_script.specs.Number.{number}
+use Rattle.lapd_script.specs.Meaning.{skip}
+use Rattle.lapd_script.specs.Read.{read, read_words, read_after, read_as, card_numbers, nine_numbers, three_numbers, with_k16, ◌>>=◌}
+
+abbrev nowhere : Bor (List ℕ)
+nowhere = record { ref_ptr = (0, 0); now = [] }
+
+abbrev at : List (Bor (List ℕ)) → ℕ → List ℕ
+at words i = (get_or words i nowhere).now
+
+abbrev grouped : Result (ℕ × ℕ × ℕ) FaultKind → Result (ℕ × ℕ × ℕ) FaultKind → Result (ℕ × ℕ × ℕ) FaultKind → Result CardNumbers FaultKind
+grouped ra rb rc = do
+  a ← ra
+  b ← rb
+  c ← rc
+  Ok (record { lines = a.0; terminals = a.1; k = a.2; queue = b.0; unit_queue = b.1; control = b.2; slots = c.0; n201 = c.1; n200 = c.2; k16 = a.2 })
+
+-- nine words,
+pub nine_given : (words : List (Bor (List ℕ))) → length words ≡ 9
+    → nine_numbers (texts words) ≡ grouped (three_numbers (at words 0) (at words 1) (at words 2)) (three_numbers (at words 3) (at words 4) (at words 5)) (three_numbers (at words 6) (at words 7) (at words 8))
+nine_given (a ∷ b ∷ c ∷ d ∷ e ∷ f ∷ g ∷ h ∷ i ∷ []) n = refl
+nine_given (a ∷ b ∷ c ∷ d ∷ e ∷ f ∷ g ∷ h ∷ i ∷ j ∷ more) n = absurd (omega (arith, n))
+nine_given [] n = absurd (omega (arith, n))
+nine_given (a ∷ []) n = absurd (omega (arith, n))
+nine_given (a ∷ b ∷ []) n = absurd (omega (arith, n))
+nine_given (a ∷ b ∷ c ∷ []) n = absurd (omega (arith, n))
+nine_given (a ∷ b ∷ c ∷ d ∷ []) n = absurd (omega (arith, n))
+nine_given (a ∷ b ∷ c ∷ d ∷ e ∷ []) n = absurd (omega (arith, n))
+nine_given (a ∷ b ∷ c ∷ d ∷ e ∷ f ∷ []) n = absurd (omega (arith, n))
+nine_given (a ∷ b ∷ c ∷ d ∷ e ∷ f ∷ g ∷ []) n = absurd (omega (arith, n))
+nine_given (a ∷ b ∷ c ∷ d ∷ e ∷ f ∷ g ∷ h ∷ []) n = absurd (omega (arith, n))
+
+pub nine_grouped : (words : List (Bor (List ℕ))) (ra rb rc : Result (ℕ × ℕ × ℕ) FaultKind) → length words ≡ 9
+    → ra ≡ three_numbers (at words 0) (at words 1) (at words 2) → rb ≡ three_numbers (at words 3) (at words 4) (at words 5) → rc ≡ three_numbers (at words 6) (at words 7) (at words 8)
+    → grouped ra rb rc ≡ nine_numbers (texts words)
+nine_grouped words ra rb rc n ea eb ec =
+    ap (λ r. grouped r rb rc) ea ∙ ap (λ r. grouped (three_numbers (at words 0) (at words 1) (at words 2)) r rc) eb
+    ∙ ap (λ r. grouped (three_numbers (at words 0) (at words 1) (at words 2)) (three_numbers (at words 3) (at words 4) (at words 5)) r) ec
+    ∙ sym (nine_given words n)
+
+-- and ten
+abbrev tenth : Result CardNumbers FaultKind → Result ℕ FaultKind → Result CardNumbers FaultKind
+tenth rn rk = do
+  numbers ← rn
+  k16 ← rk
+  Ok (with_k16 k16 numbers)
+
+pub ten_given : (words : List (Bor (List ℕ))) → length words ≡ 10 → tenth (nine_numbers (texts (take 9 words))) (number 0 65535 (at words 9)) ≡ card_numbers (texts words)
+ten_given (a ∷ b ∷ c ∷ d ∷ e ∷ f ∷ g ∷ h ∷ i ∷ j ∷ []) n = refl
+ten_given (a ∷ b ∷ c ∷ d ∷ e ∷ f ∷ g ∷ h ∷ i ∷ j ∷ k ∷ more) n = absurd (omega (arith, n))
+ten_given [] n = absurd (omega (arith, n))
+ten_given (a ∷ []) n = absurd (omega (arith, n))
+ten_given (a ∷ b ∷ []) n = absurd (omega (arith, n))
+ten_given (a ∷ b ∷ c ∷ []) n = absurd (omega (arith, n))
+ten_given (a ∷ b ∷ c ∷ d ∷ []) n = absurd (omega (arith, n))
+ten_given (a ∷ b ∷ c ∷ d ∷ e ∷ []) n = absurd (omega (arith, n))
+ten_given (a ∷ b ∷ c ∷ d ∷ e ∷ f ∷ []) n = absurd (omega (arith, n))
+ten_given (a ∷ b ∷ c ∷ d ∷ e ∷ f ∷ g ∷ []) n = absurd (omega (arith, n))
+ten_given (a ∷ b ∷ c ∷ d ∷ e ∷ f ∷ g ∷ h ∷ []) n = absurd (omega (arith, n))
+ten_given (a ∷ b ∷ c ∷ d ∷ e ∷ f ∷ g ∷ h ∷ i ∷ []) n = absurd (omega (arith, n))
+
+pub ten_grouped : (words : List (Bor (List ℕ))) (rn : Result CardNumbers FaultKind) (rk : Result ℕ FaultKind) → length words ≡ 10
+    → rn ≡ nine_numbers (texts (take 9 words)) → rk ≡ number 0 65535 (at words 9) → tenth rn rk ≡ card_numbers (texts words)
+ten_grouped words rn rk n en ek =
+    ap (λ r. tenth r rk) en ∙ ap (λ r. tenth (nine_numbers (texts (take 9 words))) r) ek ∙ ten_given words n
+
+pub not_ten : (words : List (Bor (List ℕ))) → (length words ≡ 10 → ⊥) → nine_numbers (texts words) ≡ card_numbers (texts words)
+not_ten [] n = refl
+not_ten (a ∷ []) n = refl
+not_ten (a ∷ b ∷ []) n = refl
+not_ten (a ∷ b ∷ c ∷ []) n = refl
+not_ten (a ∷ b ∷ c ∷ d ∷ []) n = refl
+not_ten (a ∷ b ∷ c ∷ d ∷ e ∷ []) n = refl
+not_ten (a ∷ b ∷ c ∷ d ∷ e ∷ f ∷ []) n = refl
+not_ten (a ∷ b ∷ c ∷ d ∷ e ∷ f ∷ g ∷ []) n = refl
+not_ten (a ∷ b ∷ c ∷ d ∷ e ∷ f ∷ g ∷ h ∷ []) n = refl
+not_ten (a ∷ b ∷ c ∷ d ∷ e ∷ f ∷ g ∷ h ∷ i ∷ []) n = refl
+not_ten (a ∷ b ∷ c ∷ d ∷ e ∷ f ∷ g ∷ h ∷ i ∷ j ∷ []) n = absurd (n refl)
+not_ten (a ∷ b ∷ c ∷ d ∷ e ∷ f ∷ g ∷ h ∷ i ∷ j ∷ k ∷ more) n = refl
+
+either : {A : Type 0} (t : Bool) (x : A) → cond t x x ≡ x
+either true x = refl
+either false x = refl
+
+-- eleven words are too many for each first word, and so are more
+too_many : (word : Word) (a b c d e f g h i j k : List ℕ) (more : List (List ℕ)) → read_as word (a ∷ b ∷ c ∷ d ∷ e ∷ f ∷ g ∷ h ∷ i ∷ j ∷ k ∷ more) ≡ Err BadNumberOfWords
+too_many Card a b c d e f g h i j k more = refl
+too_many Rx a b c d e f g h i j k more = refl
+too_many In a b c d e f g h i j k more = refl
+too_many Pull a b c d e f g h i j k more = refl
+too_many Wait a b c d e f g h i j k more = refl
+too_many Stored a b c d e f g h i j k more = refl
+too_many (Ask what) a b c d e f g h i j k more = either (carries_octets what) (Err BadNumberOfWords)
+
+pub taken_words : (word : Word) (words : List (List ℕ)) → read_as word (take 11 words) ≡ read_as word words
+taken_words word [] = refl
+taken_words word (a ∷ []) = refl
+taken_words word (a ∷ b ∷ []) = refl
+taken_words word (a ∷ b ∷ c ∷ []) = refl
+taken_words word (a ∷ b ∷ c ∷ d ∷ []) = refl
+taken_words word (a ∷ b ∷ c ∷ d ∷ e ∷ []) = refl
+taken_words word (a ∷ b ∷ c ∷ d ∷ e ∷ f ∷ []) = refl
+taken_words word (a ∷ b ∷ c ∷ d ∷ e ∷ f ∷ g ∷ []) = refl
+taken_words word (a ∷ b ∷ c ∷ d ∷ e ∷ f ∷ g ∷ h ∷ []) = refl
+taken_words word (a ∷ b ∷ c ∷ d ∷ e ∷ f ∷ g ∷ h ∷ i ∷ []) = refl
+taken_words word (a ∷ b ∷ c ∷ d ∷ e ∷ f ∷ g ∷ h ∷ i ∷ j ∷ []) = refl
+taken_words word (a ∷ b ∷ c ∷ d ∷ e ∷ f ∷ g ∷ h ∷ i ∷ j ∷ k ∷ more) = too_many word a b c d e f g h i j k [] ∙ sym (too_many word a b c d e f g h i j k more)
+
+abbrev first_word : List (List ℕ) → List ℕ
+first_word [] = []
+first_word (name ∷ more) = name
+
+taken_after : (word : Option Word) (words : List (List ℕ)) → read_after word (take 11 words) ≡ read_after word words
+taken_after None words = refl
+taken_after (Some word) words = taken_words word words
+
+-- where the first twelve words are these, they say what all the words say
+pub read_taken : (all : List (List ℕ)) (name : List ℕ) (words : List (List ℕ)) (word : Option Word) → name ∷ words ≡ take 12 all → word ≡ word_named name → read_after word words ≡ read_words all
+read_taken [] name words word e w = cc
+read_taken (first ∷ more) name words word e w =
+    let same : name ≡ first = ap first_word e in
+    let rest : words ≡ take 11 more = ap (λ list. drop 1 list) e in
+    ap (λ list. read_after word list) rest
+    ∙ ap (λ one. read_after one (take 11 more)) (w ∙ ap word_named same)
+    ∙ by_word (word_named first) more
+  where
+    by_word : (one : Option Word) (list : List (List ℕ)) → read_after one (take 11 list) ≡ read_after one list
+    by_word None list = refl
+    by_word (Some it) list = taken_words it list
+
+pub read_none : (all : List (List ℕ)) → [] ≡ take 12 all → Err UnknownWord ≡ read_words all
+read_none [] e = refl
+read_none (first ∷ more) e = cc
+
+unskipped : {A : Type 0} (t : Bool) (x y : A) → (t ≡ true → ⊥) → y ≡ cond t x y
+unskipped true x y h = absurd (h refl)
+unskipped false x y h = refl
+
+-- lines that are not skipped
+pub read_unskipped : (line : List ℕ) → (length line ≡ 0 → ⊥) → (get_or line 0 0 ≡ 35 → ⊥) → read_words (words_of line) ≡ read line
+read_unskipped [] full first = absurd (full refl)
+read_unskipped (octet ∷ more) full first = unskipped (eqb octet 35) (Ok skip) (read_words (words_of (octet ∷ more))) (λ e. first (grind (arith, e)))
+
+-- the exit of a `?`
+pub err_is : {A : Type 0} (r : Result A FaultKind) (kind : FaultKind) → IsErr r × IsErrAnd r (λ why. why ≡ kind) → r ≡ Err kind
+err_is (Ok a) kind h = absurd (false≢true h.0)
+err_is (Err why) kind h = ap (λ one. Err one) h.1

@@ -1,0 +1,56 @@
+-- How words are split off.
+use Rattle.std.proofs.Common.{◌≡◌, ℕ, ◌+◌, ◌<◌, ◌≤◌, Bool, true, false, cond, ltb, List, [], ◌∷◌, ◌++◌, length, take, drop, Some, None, Option, refl, sym, ap, ◌∙◌, arith, rules, eqb, subst, map, append_assoc, Bor, take_all, ◌-◌, length-drop, length-append}
+use Rattle.std.specs.List.{position, position_or_len}
+use Rattle.std.proofs.lemmas.List.Splits.{slice_split_first, slice_split_none}
+use Rattle.std.proofs.lemmas.List.Sums.{position_or_len_is, fails_before_first}
+use Rattle.std.proofs.lemmas.List.Quantifiers.{position-Some}
+use Rattle.std.proofs.lemmas.List.{map-append, length-map}
+use Rattle.std.proofs.Math.Seq.{take-append_seam}
+use Rattle.std.proofs.lemmas.Grind.{common_steps}
+use Rattle.lapd_script.specs.Words.{words_of, texts}
+
+abbrev is_space : ℕ → Bool
+is_space octet = eqb octet 32
+
+-- the first word ends at the first space,
+pub words_split : (rest : List ℕ) (end : ℕ) → Some end ≡ position is_space rest → words_of rest ≡ take end rest ∷ words_of (take (length rest - (end + 1)) (drop (end + 1) rest))
+words_split rest end e =
+    let whole : take (length rest - (end + 1)) (drop (end + 1) rest) ≡ drop (end + 1) rest = take_all _ _ (rw length-drop (omega arith)) in
+    let h : (end < length rest) × (is_space (Rattle.std.proofs.Common.get_or rest end 0) ≡ true) × ((k : ℕ) → k < end → is_space (Rattle.std.proofs.Common.get_or rest k 0) ≡ false) = position-Some is_space rest end 0 (sym e) in
+    let here : position_or_len is_space rest ≡ end = position_or_len_is is_space rest end 0 (omega (arith, h.0)) h.2 (λ _. h.1) in
+    let before : position_or_len is_space rest < length rest = rw here h.0 in
+    rw whole (subst (λ (n : ℕ). words_of rest ≡ take n rest ∷ words_of (drop (n + 1) rest)) here (slice_split_first is_space rest 0 before))
+
+none_before : (n : ℕ) (rest : List ℕ) → cond (ltb n (length rest)) (Some n) None ≡ None → length rest ≤ n
+none_before n rest e = grind (arith, common_steps)
+
+-- and where there is no space, there is one word
+pub words_unsplit : (rest : List ℕ) → None ≡ position is_space rest → words_of rest ≡ rest ∷ []
+words_unsplit rest e =
+    slice_split_none is_space rest (λ k d h. fails_before_first is_space rest k d (omega (arith, h, none_before (position_or_len is_space rest) rest (sym e))))
+
+-- one word more
+pub texts_push : (words : List (Bor (List ℕ))) (word : Bor (List ℕ)) (more : List (List ℕ)) → texts (words ++ word ∷ []) ++ more ≡ texts words ++ word.now ∷ more
+texts_push words word more = rw map-append (append_assoc (texts words) (word.now ∷ []) more)
+
+length-texts : (words : List (Bor (List ℕ))) → length (texts words) ≡ length words
+length-texts words = length-map words (λ (word : Bor (List ℕ)). word.now)
+
+-- where twelve words are taken, those past them are left out,
+pub texts_full : (words : List (Bor (List ℕ))) (more all : List (List ℕ)) → texts words ++ more ≡ all → length words ≡ 12 → texts words ≡ take 12 all
+texts_full words more all e n =
+    subst (λ list. texts words ≡ take 12 list) e
+    (subst (λ (k : ℕ). texts words ≡ take k (texts words ++ more)) (length-texts words ∙ n) (sym (take-append_seam (texts words) more)))
+
+-- and where there are fewer, all of them are taken
+pub texts_all : (words : List (Bor (List ℕ))) (all : List (List ℕ)) → texts words ≡ all → length words ≤ 12 → texts words ≡ take 12 all
+texts_all words all e short = subst (λ list. texts words ≡ take 12 list) e (sym (take_all 12 (texts words) (rw length-texts short)))
+
+pub twelve : (n : ℕ) → true ≡ eqb n 12 → n ≡ 12
+twelve n h = grind (arith, h)
+
+pub fewer : (words : List (Bor (List ℕ))) (word : Bor (List ℕ)) → false ≡ eqb (length words) 12 → length words ≤ 12 → length (words ++ word ∷ []) ≤ 12
+fewer words word h fits = rw length-append (grind (arith, h, fits))
+
+pub texts_last : (words : List (Bor (List ℕ))) (word : Bor (List ℕ)) → texts (words ++ word ∷ []) ≡ texts words ++ word.now ∷ []
+texts_last words word = map-append (λ (one : Bor (List ℕ)). one.now) words (word ∷ [])

@@ -1,0 +1,11 @@
+use Rattle.std.proofs.Common.{Some, sym, ap, ◌∙◌}
+use Rattle.lapd_script.specs.Words.{texts}
+use Rattle.lapd_script.proofs.ReadLemmas.{read_taken}
+use Rattle.lapd_script.proofs.read.read_words.Goals as goal
+
+pub returns-in-Some-named : goal.returns-in-Some-named
+returns-in-Some-named c = record {
+  read = λ all e. c.read_as.ensures.read
+      ∙ read_taken all c.in-Some.name.now.now (texts c.in-Some.words.now) (Some c.in-Some-named.word)
+      (sym (ap texts c.in-Some.ensures.cases.0) ∙ e) c.in-Some-named.ensures;
+}

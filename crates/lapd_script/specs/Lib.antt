@@ -1,0 +1,7 @@
+pub mod Words
+pub mod Number
+pub mod Octets
+pub mod Word
+pub mod Meaning
+pub mod Read
+pub mod Worked

@@ -1,0 +1,40 @@
+-- What a line of a script says.
+use Rattle.std.specs.Prelude.{ℕ, List, take, Result, Ok, Err}
+use Rattle.lapd_script.specs.declared.kind.FaultKind.{FaultKind}
+use Rattle.lapd_script.specs.declared.command.Asked.{Asked}
+use Rattle.lapd_script.specs.declared.command.CardNumbers.{CardNumbers}
+use Rattle.lapd_script.specs.declared.command.Command.{Command}
+use Rattle.lapd_script.specs.declared.command.Command.TheVariants.{Skip, Card, Rx, In, Pull, Wait, Stored, Ask}
+
+pub data Meaning : Type 0 where
+  -- nothing: the line is skipped
+  skip : Meaning
+  -- a card is started with these numbers
+  card : CardNumbers → Meaning
+  -- these octets come from the line of the card
+  rx : ℕ → List ℕ → Meaning
+  -- the line's terminal sends the frame of these octets
+  into : ℕ → List ℕ → Meaning
+  -- the line takes so many octets
+  pull : ℕ → ℕ → Meaning
+  -- so many milliseconds pass
+  wait : ℕ → Meaning
+  -- what the card holds is shown
+  stored : Meaning
+  -- for a line and a TEI this is asked, with the octets that it carries
+  ask : ℕ → ℕ → Asked → List ℕ → Meaning
+
+-- A command counts the octets of its line, which stand at the beginning of a buffer.
+abbrev pub meant : List ℕ → Command → Meaning
+meant buffer Skip = skip
+meant buffer (Card numbers) = card numbers
+meant buffer (Rx line count) = rx line (take count buffer)
+meant buffer (In line count) = into line (take count buffer)
+meant buffer (Pull line count) = pull line count
+meant buffer (Wait milliseconds) = wait milliseconds
+meant buffer Stored = stored
+meant buffer (Ask line tei what count) = ask line tei what (take count buffer)
+
+abbrev pub meant_by : List ℕ → Result Command FaultKind → Result Meaning FaultKind
+meant_by buffer (Ok command) = Ok (meant buffer command)
+meant_by buffer (Err kind) = Err kind

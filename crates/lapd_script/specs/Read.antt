@@ -1,0 +1,110 @@
+-- How a line of a script is read: what each first word takes, and what can be wrong with the words by themselves.
+use Rattle.std.specs.Prelude.{ℕ, ◌==◌, if◌then◌else◌, List, [], ◌∷◌, take, drop, Option, Some, None, Result, Ok, Err}
+use Rattle.lapd_script.specs.declared.kind.FaultKind.{FaultKind}
+use Rattle.lapd_script.specs.declared.kind.FaultKind.TheVariants.{UnknownWord, BadNumberOfWords}
+use Rattle.lapd_script.specs.declared.command.CardNumbers.{CardNumbers}
+use Rattle.lapd_script.specs.declared.word.Word.{Word}
+use Rattle.lapd_script.specs.declared.word.Word.TheVariants.{Card, Rx, In, Pull, Wait, Stored, Ask}
+use Rattle.lapd_script.specs.Words.{words_of, no_words, one_word, two_words, three_words}
+use Rattle.lapd_script.specs.Number.{number}
+use Rattle.lapd_script.specs.Octets.{octets}
+use Rattle.lapd_script.specs.Word.{word_named, carries_octets}
+use Rattle.lapd_script.specs.Meaning.{Meaning, skip, card, rx, into, pull, wait, stored, ask}
+
+-- the second step, where the first one found no fault
+infixl 10 ◌>>=◌
+abbrev pub ◌>>=◌ : {A B : Type 0} → Result A FaultKind → (A → Result B FaultKind) → Result B FaultKind
+Ok x >>= f = f x
+Err kind >>= f = Err kind
+
+-- LINE and TEI: their ranges as numbers of a script
+abbrev pub line_number : List ℕ → Result ℕ FaultKind
+line_number word = number 0 65535 word
+
+abbrev pub tei_number : List ℕ → Result ℕ FaultKind
+tei_number word = number 0 255 word
+
+-- the nine numbers of a card line, where the window of packet links is that of call control
+abbrev pub three_numbers : List ℕ → List ℕ → List ℕ → Result (ℕ × ℕ × ℕ) FaultKind
+three_numbers first second third = do
+  a ← number 0 65535 first
+  b ← number 0 65535 second
+  c ← number 0 65535 third
+  Ok (a, b, c)
+
+abbrev pub nine_numbers : List (List ℕ) → Result CardNumbers FaultKind
+nine_numbers (lines ∷ terminals ∷ k ∷ queue ∷ unit_queue ∷ control ∷ slots ∷ n201 ∷ n200 ∷ []) = do
+  a ← three_numbers lines terminals k
+  b ← three_numbers queue unit_queue control
+  c ← three_numbers slots n201 n200
+  Ok (record { lines = a.0; terminals = a.1; k = a.2; queue = b.0; unit_queue = b.1; control = b.2; slots = c.0; n201 = c.1; n200 = c.2; k16 = a.2 })
+nine_numbers _ = Err BadNumberOfWords
+
+-- nine numbers, or ten: the tenth is the window of packet links
+abbrev pub with_k16 : ℕ → CardNumbers → CardNumbers
+with_k16 k16 numbers = record numbers { k16 = k16 }
+
+abbrev pub ten_numbers : List (List ℕ) → List (List ℕ) → Result CardNumbers FaultKind
+ten_numbers nine [] = nine_numbers nine
+ten_numbers nine (k16 ∷ []) = do
+  numbers ← nine_numbers nine
+  k16 ← number 0 65535 k16
+  Ok (with_k16 k16 numbers)
+ten_numbers nine (k16 ∷ more ∷ words) = Err BadNumberOfWords
+
+abbrev pub card_numbers : List (List ℕ) → Result CardNumbers FaultKind
+card_numbers words = ten_numbers (take 9 words) (drop 9 words)
+
+-- what each first word takes after it
+abbrev pub read_as : Word → List (List ℕ) → Result Meaning FaultKind
+read_as Card words = do
+  numbers ← card_numbers words
+  Ok (card numbers)
+read_as Rx words = do
+  word ← two_words words
+  line ← line_number word.0
+  octets ← octets word.1
+  Ok (rx line octets)
+read_as In words = do
+  word ← two_words words
+  line ← line_number word.0
+  octets ← octets word.1
+  Ok (into line octets)
+read_as Pull words = do
+  word ← two_words words
+  line ← line_number word.0
+  count ← number 1 4096 word.1
+  Ok (pull line count)
+read_as Wait words = do
+  word ← one_word words
+  milliseconds ← number 0 3600000 word
+  Ok (wait milliseconds)
+read_as Stored words = do
+  none ← no_words words
+  Ok stored
+read_as (Ask what) words = if carries_octets what
+    then (do
+      word ← three_words words
+      line ← line_number word.0
+      tei ← tei_number word.1
+      octets ← octets word.2
+      Ok (ask line tei what octets))
+    else (do
+      word ← two_words words
+      line ← line_number word.0
+      tei ← tei_number word.1
+      Ok (ask line tei what []))
+
+abbrev pub read_after : Option Word → List (List ℕ) → Result Meaning FaultKind
+read_after None words = Err UnknownWord
+read_after (Some word) words = read_as word words
+
+abbrev pub read_words : List (List ℕ) → Result Meaning FaultKind
+read_words [] = Err UnknownWord
+read_words (name ∷ words) = read_after (word_named name) words
+
+-- What a line says, or the first thing that is wrong with it by itself: empty lines and those that begin with `#` are
+-- skipped.
+abbrev pub read : List ℕ → Result Meaning FaultKind
+read [] = Ok skip
+read (octet ∷ more) = if octet == 35 then Ok skip else read_words (words_of (octet ∷ more))

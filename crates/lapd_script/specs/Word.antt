@@ -1,0 +1,49 @@
+-- The first words of the lines.
+use Rattle.std.specs.Prelude.{ℕ, Bool, true, false, if◌then◌else◌, List, codes, bytes_eq, Option, Some, None, option_map}
+use Rattle.lapd_frame.specs.declared.services.Service.TheVariants.{Call, Packet}
+use Rattle.lapd_script.specs.declared.command.Asked.{Asked}
+use Rattle.lapd_script.specs.declared.command.Asked.TheVariants.{Assign, Remove, Check, Establish, Release, SetBusy, ClearBusy, Data, Unit}
+use Rattle.lapd_script.specs.declared.word.Word.{Word}
+use Rattle.lapd_script.specs.declared.word.Word.TheVariants.{Card, Rx, In, Pull, Wait, Stored, Ask}
+
+-- what is asked for, of a line and a TEI; for packet links (SAPI 16) with 16 after the word
+abbrev pub asked_named : List ℕ → Option Asked
+asked_named name =
+    if bytes_eq name (codes "assign") then Some Assign
+    else if bytes_eq name (codes "remove") then Some Remove
+    else if bytes_eq name (codes "check") then Some Check
+    else if bytes_eq name (codes "establish") then Some (Establish Call)
+    else if bytes_eq name (codes "establish16") then Some (Establish Packet)
+    else if bytes_eq name (codes "release") then Some (Release Call)
+    else if bytes_eq name (codes "release16") then Some (Release Packet)
+    else if bytes_eq name (codes "busy") then Some (SetBusy Call)
+    else if bytes_eq name (codes "busy16") then Some (SetBusy Packet)
+    else if bytes_eq name (codes "ready") then Some (ClearBusy Call)
+    else if bytes_eq name (codes "ready16") then Some (ClearBusy Packet)
+    else if bytes_eq name (codes "data") then Some («Data» Call)
+    else if bytes_eq name (codes "data16") then Some («Data» Packet)
+    else if bytes_eq name (codes "unit") then Some (Unit Call)
+    else if bytes_eq name (codes "unit16") then Some (Unit Packet)
+    else None
+
+abbrev pub word_named : List ℕ → Option Word
+word_named name =
+    if bytes_eq name (codes "card") then Some Card
+    else if bytes_eq name (codes "rx") then Some Rx
+    else if bytes_eq name (codes "in") then Some In
+    else if bytes_eq name (codes "pull") then Some Pull
+    else if bytes_eq name (codes "wait") then Some Wait
+    else if bytes_eq name (codes "stored") then Some Stored
+    else option_map Ask (asked_named name)
+
+-- whether octets follow the TEI
+abbrev pub carries_octets : Asked → Bool
+carries_octets Assign = false
+carries_octets Remove = false
+carries_octets Check = false
+carries_octets (Establish service) = false
+carries_octets (Release service) = false
+carries_octets (SetBusy service) = false
+carries_octets (ClearBusy service) = false
+carries_octets (Data service) = true
+carries_octets (Unit service) = true

@@ -1,0 +1,91 @@
+-- The definitions on worked lines: each fact holds by computing.
+use Rattle.std.specs.Prelude.{◌≡◌, [], ◌∷◌, codes, Ok, Err, refl}
+use Rattle.hex.specs.Hex.{decode_pairs}
+use Rattle.lapd_frame.specs.declared.services.Service.TheVariants.{Call, Packet}
+use Rattle.lapd_script.specs.declared.kind.FaultKind.TheVariants.{UnknownWord, BadNumberOfWords, BadNumber, BadOctets}
+use Rattle.lapd_script.specs.declared.command.Asked as asked
+use Rattle.lapd_script.specs.Meaning.{skip, card, rx, into, pull, wait, stored, ask}
+use Rattle.lapd_script.specs.Read.{read}
+
+empty : read [] ≡ Ok skip
+empty = refl
+
+comment : read (codes "# anything") ≡ Ok skip
+comment = refl
+
+nine : read (codes "card 1 8 7 8 4 4 64 260 3") ≡ Ok (card (record { lines = 1; terminals = 8; k = 7; queue = 8; unit_queue = 4; control = 4; slots = 64; n201 = 260; n200 = 3; k16 = 7 }))
+nine = refl
+
+ten : read (codes "card 1 8 7 8 4 4 64 260 3 015") ≡ Ok (card (record { lines = 1; terminals = 8; k = 7; queue = 8; unit_queue = 4; control = 4; slots = 64; n201 = 260; n200 = 3; k16 = 15 }))
+ten = refl
+
+octets_from_line : read (codes "rx 0 7e0081EF") ≡ Ok (rx 0 (126 ∷ 0 ∷ 129 ∷ 239 ∷ []))
+unfolding decode_pairs
+octets_from_line = refl
+
+no_octets : read (codes "rx 0 -") ≡ Ok (rx 0 [])
+unfolding decode_pairs
+no_octets = refl
+
+no_digits : read (codes "rx 0 ") ≡ Ok (rx 0 [])
+unfolding decode_pairs
+no_digits = refl
+
+a_frame : read (codes "in 63 00817F") ≡ Ok (into 63 (0 ∷ 129 ∷ 127 ∷ []))
+unfolding decode_pairs
+a_frame = refl
+
+pulls : read (codes "pull 0 4096") ≡ Ok (pull 0 4096)
+pulls = refl
+
+an_hour : read (codes "wait 3600000") ≡ Ok (wait 3600000)
+an_hour = refl
+
+shown : read (codes "stored") ≡ Ok stored
+shown = refl
+
+assigned : read (codes "assign 0 64") ≡ Ok (ask 0 64 asked.TheVariants.Assign [])
+assigned = refl
+
+packet_data : read (codes "data16 0 64 41") ≡ Ok (ask 0 64 (asked.TheVariants.«Data» Packet) (65 ∷ []))
+unfolding decode_pairs
+packet_data = refl
+
+ready : read (codes "ready 0 255") ≡ Ok (ask 0 255 (asked.TheVariants.ClearBusy Call) [])
+ready = refl
+
+-- the first fault that holds
+no_such_word : read (codes "foo bar") ≡ Err UnknownWord
+no_such_word = refl
+
+space_first : read (codes " stored") ≡ Err UnknownWord
+space_first = refl
+
+one_too_many : read (codes "rx x 7 8") ≡ Err BadNumberOfWords
+one_too_many = refl
+
+space_last : read (codes "stored ") ≡ Err BadNumberOfWords
+space_last = refl
+
+empty_number : read (codes "assign  64") ≡ Err BadNumber
+empty_number = refl
+
+signed : read (codes "assign +0 64") ≡ Err BadNumber
+signed = refl
+
+big_tei : read (codes "assign 0 256") ≡ Err BadNumber
+big_tei = refl
+
+number_first : read (codes "rx 65536 7") ≡ Err BadNumber
+number_first = refl
+
+no_pull : read (codes "pull 0 0") ≡ Err BadNumber
+no_pull = refl
+
+odd_digits : read (codes "rx 0 7E0") ≡ Err BadOctets
+unfolding decode_pairs
+odd_digits = refl
+
+no_hexadecimal : read (codes "rx 0 7G") ≡ Err BadOctets
+unfolding decode_pairs
+no_hexadecimal = refl

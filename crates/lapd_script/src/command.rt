@@ -1,0 +1,78 @@
+//! What a line of a script says.
+
+use lapd_frame::Service;
+
+/// The numbers of a card line, in its order; `k16` stands last there, and is `k` where it is left out.
+#[derive(Clone, Copy, PartialEq, Eq, Debug)]
+pub struct CardNumbers {
+    pub lines: u16,
+    pub terminals: u16,
+    pub k: u16,
+    pub queue: u16,
+    pub unit_queue: u16,
+    pub control: u16,
+    pub slots: u16,
+    pub n201: u16,
+    pub n200: u16,
+    pub k16: u16,
+}
+
+/// What layer 3 asks for, in a line that names a card's line and a TEI.
+#[derive(Clone, Copy, PartialEq, Eq, Debug)]
+pub enum Asked {
+    /// `assign`: puts the TEI on the line.
+    Assign,
+    /// `remove`: takes it from the line.
+    Remove,
+    /// `check`: asks the terminals of the line who has it.
+    Check,
+    /// `establish`, `establish16`: the link's establishment.
+    Establish(Service),
+    /// `release`, `release16`: its release.
+    Release(Service),
+    /// `busy`, `busy16`: the receiver is not ready.
+    SetBusy(Service),
+    /// `ready`, `ready16`: it is ready again.
+    ClearBusy(Service),
+    /// `data`, `data16`: contents for the link.
+    Data(Service),
+    /// `unit`, `unit16`: contents without acknowledgement.
+    Unit(Service),
+}
+
+/// What a line of a script says. A line of the card is its number, from 0.
+#[derive(Clone, Copy, PartialEq, Eq, Debug)]
+pub enum Command {
+    /// Nothing: the line is empty, or begins with `#`.
+    Skip,
+    /// `card`: starts the card.
+    Card(CardNumbers),
+    /// `rx LINE HEX`: octets come from the line.
+    Rx {
+        line: u16,
+        octets: usize,
+    },
+    /// `in LINE HEX`: the line's terminal sends a frame.
+    In {
+        line: u16,
+        octets: usize,
+    },
+    /// `pull LINE N`: the line takes 1 to 4,096 octets.
+    Pull {
+        line: u16,
+        count: u32,
+    },
+    /// `wait MS`: so many milliseconds pass, at most 3,600,000.
+    Wait {
+        milliseconds: u32,
+    },
+    /// `stored`: shows what the card holds.
+    Stored,
+    /// A request of layer 3, and the octets that it carries: those of `data` and `unit`, else none.
+    Ask {
+        line: u16,
+        tei: u8,
+        what: Asked,
+        octets: usize,
+    },
+}

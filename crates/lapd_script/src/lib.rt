@@ -1,0 +1,22 @@
+//! The language of scripts, in which a line card is played: what a line says, and what can be wrong with it.
+//! `docs/FORMAT.md` describes it for those who write scripts.
+//!
+//! - `kind`: what can be wrong with a line.
+//! - `command`: what a line says.
+//! - `word`: the first words.
+//! - `words`: the words of a line, and how many a line takes.
+//! - `number`, `octets`: words that stand for numbers and for octets.
+//! - `read`: reads a line.
+#![tactic(auto)]
+
+mod command;
+mod kind;
+mod number;
+mod octets;
+mod read;
+mod word;
+mod words;
+
+pub use command::{Asked, CardNumbers, Command};
+pub use kind::FaultKind;
+pub use read::read_line;

@@ -1,0 +1,22 @@
+//! Words that stand for octets.
+
+ghost use Rattle.std.specs.Prelude.{◌≡◌, ◌*◌, ◌≤◌, length, take, MatchResult};
+ghost use Rattle.lapd_script.specs.Octets.{octets};
+
+use crate::kind::FaultKind;
+
+/// Puts the octets that a word of hexadecimal digits stands for into the beginning of `room`, and tells how many.
+/// `-` stands for no octets, as a word without digits does.
+pub(crate) fn octets(word: &[u8], room: &mut [u8]) -> Result<usize, FaultKind>
+    requires { length word.now ≤ 2 * length room.old }
+    ensures { MatchResult result (λ count. octets word.now ≡ Ok (take count room.new)) (λ kind. octets word.now ≡ Err kind) }
+{
+    if word == b"-".as_slice() {
+        return Ok(0);
+    }
+    let count = word.len() / 2;
+    match hex::decode_to_slice(word, &mut room[..count]) {
+        Ok(()) => Ok(count),
+        Err(_) => Err(FaultKind::BadOctets),
+    }
+}

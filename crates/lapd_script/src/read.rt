@@ -1,0 +1,168 @@
+//! Reads a line of a script.
+
+ghost use Rattle.std.specs.Prelude.{◌≡◌, ◌*◌, ◌≤◌, ℕ, List, take, length, All};
+ghost use Rattle.lapd_script.specs.Words.{texts};
+ghost use Rattle.lapd_script.specs.Meaning.{meant_by};
+ghost use Rattle.lapd_script.specs.Read.{read, read_words, read_as, card_numbers, nine_numbers, three_numbers};
+ghost use Rattle.lapd_script.specs.declared.word.Word.TheVariants.{Ask};
+
+use crate::command::{Asked, CardNumbers, Command};
+use crate::kind::FaultKind;
+use crate::number::{number, octet, short};
+use crate::octets::octets;
+use crate::word::Word;
+use crate::words::{none, one, three, two, words_of};
+
+/// What a line of a script says, without its line feed.
+///
+/// The octets that a word of hexadecimal digits stands for are put into the beginning of `room`, and the command tells
+/// how many they are; `room` has at least half as many places as the line has octets.
+///
+/// # Errors
+///
+/// The first that holds of `UnknownWord`, `BadNumberOfWords`, `BadNumber` and `BadOctets`, which are what can be
+/// wrong with a line by itself.
+pub fn read_line(line: &[u8], room: &mut [u8]) -> Result<Command, FaultKind>
+    requires room { length line.now ≤ 2 * length room.old }
+    ensures read { meant_by room.new result ≡ read line.now }
+{
+    if line.is_empty() || line[0] == b'#' {
+        return Ok(Command::Skip);
+    }
+    let words = words_of(line);
+    read_words(words.as_slice(), room)
+}
+
+/// What the words of a line say, of which those past the twelfth may be left out.
+fn read_words(words: &[&[u8]], room: &mut [u8]) -> Result<Command, FaultKind>
+    requires room { All (λ word. length word.now ≤ 2 * length room.old) words.now }
+    ensures read { (all : List (List ℕ)) → texts words.now ≡ take 12 all → meant_by room.new result ≡ read_words all }
+{
+    let Some((name, words)) = words.split_first() else {
+        return Err(FaultKind::UnknownWord);
+    };
+    match Word::named(name) {
+        Some(word) => read_as(word, words, room),
+        None => Err(FaultKind::UnknownWord),
+    }
+}
+
+fn read_as(word: Word, words: &[&[u8]], room: &mut [u8]) -> Result<Command, FaultKind>
+    requires room { All (λ word. length word.now ≤ 2 * length room.old) words.now }
+    ensures read { meant_by room.new result ≡ read_as word (texts words.now) }
+{
+    match word {
+        Word::Card => Ok(Command::Card(card_numbers(words)?)),
+        Word::Rx => {
+            let (line, digits) = two(words)?;
+            let line = short(line)?;
+            let octets = octets(digits, room)?;
+            Ok(Command::Rx { line, octets })
+        }
+        Word::In => {
+            let (line, digits) = two(words)?;
+            let line = short(line)?;
+            let octets = octets(digits, room)?;
+            Ok(Command::In { line, octets })
+        }
+        Word::Pull => {
+            let (line, count) = two(words)?;
+            let line = short(line)?;
+            let count = number(1, 4096, count)?;
+            Ok(Command::Pull { line, count })
+        }
+        Word::Wait => {
+            let milliseconds = number(0, 3_600_000, one(words)?)?;
+            Ok(Command::Wait { milliseconds })
+        }
+        Word::Stored => {
+            none(words)?;
+            Ok(Command::Stored)
+        }
+        Word::Ask(what) => ask(what, words, room),
+    }
+}
+
+/// A request: LINE and TEI, and the octets that it carries.
+fn ask(what: Asked, words: &[&[u8]], room: &mut [u8]) -> Result<Command, FaultKind>
+    requires room { All (λ word. length word.now ≤ 2 * length room.old) words.now }
+    ensures read { meant_by room.new result ≡ read_as (Ask what) (texts words.now) }
+{
+    if what.carries_octets() {
+        let (line, tei, digits) = three(words)?;
+        let line = short(line)?;
+        let tei = octet(tei)?;
+        let octets = octets(digits, room)?;
+        return Ok(Command::Ask {
+            line,
+            tei,
+            what,
+            octets,
+        });
+    }
+    let (line, tei) = two(words)?;
+    let line = short(line)?;
+    let tei = octet(tei)?;
+    Ok(Command::Ask {
+        line,
+        tei,
+        what,
+        octets: 0,
+    })
+}
+
+/// The nine or ten numbers of a card line.
+fn card_numbers(words: &[&[u8]]) -> Result<CardNumbers, FaultKind>
+    ensures read { result ≡ card_numbers (texts words.now) }
+{
+    if words.len() != 10 {
+        return nine_numbers(words);
+    }
+    let mut numbers = nine_numbers(&words[..9])?;
+    numbers.k16 = short(words[9])?;
+    Ok(numbers)
+}
+
+/// Nine numbers, where the window of packet links is that of call control.
+fn nine_numbers(words: &[&[u8]]) -> Result<CardNumbers, FaultKind>
+    ensures read { result ≡ nine_numbers (texts words.now) }
+{
+    let [
+        lines,
+        terminals,
+        k,
+        queue,
+        unit_queue,
+        control,
+        slots,
+        n201,
+        n200,
+    ] = words
+    else {
+        return Err(FaultKind::BadNumberOfWords);
+    };
+    let first = three_numbers(lines, terminals, k)?;
+    let second = three_numbers(queue, unit_queue, control)?;
+    let third = three_numbers(slots, n201, n200)?;
+    Ok(CardNumbers {
+        lines: first.0,
+        terminals: first.1,
+        k: first.2,
+        queue: second.0,
+        unit_queue: second.1,
+        control: second.2,
+        slots: third.0,
+        n201: third.1,
+        n200: third.2,
+        k16: first.2,
+    })
+}
+
+fn three_numbers(a: &[u8], b: &[u8], c: &[u8]) -> Result<(u16, u16, u16), FaultKind>
+    ensures { result ≡ three_numbers a.now b.now c.now }
+{
+    let a = short(a)?;
+    let b = short(b)?;
+    let c = short(c)?;
+    Ok((a, b, c))
+}

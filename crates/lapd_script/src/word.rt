@@ -1,0 +1,90 @@
+//! The first words of the lines.
+
+ghost use Rattle.std.specs.Prelude.{◌≡◌};
+ghost use Rattle.lapd_script.specs.Word.{word_named, asked_named, carries_octets};
+
+use crate::command::Asked;
+use lapd_frame::Service;
+
+/// The first word of a line.
+#[derive(Clone, Copy)]
+pub(crate) enum Word {
+    Card,
+    Rx,
+    In,
+    Pull,
+    Wait,
+    Stored,
+    Ask(Asked),
+}
+
+impl Word {
+    /// The word of this name.
+    pub(crate) fn named(name: &[u8]) -> Option<Word>
+        ensures { result ≡ word_named name.now }
+    {
+        if name == b"card".as_slice() {
+            Some(Word::Card)
+        } else if name == b"rx".as_slice() {
+            Some(Word::Rx)
+        } else if name == b"in".as_slice() {
+            Some(Word::In)
+        } else if name == b"pull".as_slice() {
+            Some(Word::Pull)
+        } else if name == b"wait".as_slice() {
+            Some(Word::Wait)
+        } else if name == b"stored".as_slice() {
+            Some(Word::Stored)
+        } else {
+            Asked::named(name).map(Word::Ask)
+        }
+    }
+}
+
+impl Asked {
+    /// What the word of this name asks for.
+    fn named(name: &[u8]) -> Option<Asked>
+        ensures { result ≡ asked_named name.now }
+    {
+        if name == b"assign".as_slice() {
+            Some(Asked::Assign)
+        } else if name == b"remove".as_slice() {
+            Some(Asked::Remove)
+        } else if name == b"check".as_slice() {
+            Some(Asked::Check)
+        } else if name == b"establish".as_slice() {
+            Some(Asked::Establish(Service::Call))
+        } else if name == b"establish16".as_slice() {
+            Some(Asked::Establish(Service::Packet))
+        } else if name == b"release".as_slice() {
+            Some(Asked::Release(Service::Call))
+        } else if name == b"release16".as_slice() {
+            Some(Asked::Release(Service::Packet))
+        } else if name == b"busy".as_slice() {
+            Some(Asked::SetBusy(Service::Call))
+        } else if name == b"busy16".as_slice() {
+            Some(Asked::SetBusy(Service::Packet))
+        } else if name == b"ready".as_slice() {
+            Some(Asked::ClearBusy(Service::Call))
+        } else if name == b"ready16".as_slice() {
+            Some(Asked::ClearBusy(Service::Packet))
+        } else if name == b"data".as_slice() {
+            Some(Asked::Data(Service::Call))
+        } else if name == b"data16".as_slice() {
+            Some(Asked::Data(Service::Packet))
+        } else if name == b"unit".as_slice() {
+            Some(Asked::Unit(Service::Call))
+        } else if name == b"unit16".as_slice() {
+            Some(Asked::Unit(Service::Packet))
+        } else {
+            None
+        }
+    }
+
+    /// Whether octets follow the TEI.
+    pub(crate) fn carries_octets(self) -> bool
+        ensures { result ≡ carries_octets self }
+    {
+        matches!(self, Asked::Data(_) | Asked::Unit(_))
+    }
+}

@@ -1,0 +1,4 @@
+use Rattle.lapd_transcript.proofs.output.+decimal.Given as goal
+
+abbrev pub decreases-decimal : goal.decreases-decimal
+decreases-decimal l = l.number

@@ -1,0 +1,39 @@
+-- What a write to a target leaves.
+use Rattle.std.specs.Prelude.{◌≡◌, ℕ, ◌+◌, ◌-◌, ◌^◌, ◌++◌, min, List, take, flat_map, Option, Result, Ok, Err}
+use Rattle.std.specs.Borrow.{Bor}
+use Rattle.lapd_transcript.specs.declared.streams.WriteFailed.{WriteFailed}
+use Rattle.std.specs.Io.KnownBytes.{Appends}
+
+-- A count of failures is a number of 64 bits, which stays at its greatest value.
+abbrev pub one_failure_more : ℕ → ℕ
+one_failure_more count = min (count + 1) (2 ^ 64 - 1)
+
+-- What a target has taken, where it tells, and how many of its writes have failed.
+pub record Taken : Type 0 where
+  pub contents : Option (List ℕ)
+  pub failures : ℕ
+
+-- the text has been appended, and no write has failed
+pub record IsWritten (old new : Taken) (text : List ℕ) : Type 0 where
+  pub whole : Appends old.contents new.contents text
+  pub steady : new.failures ≡ old.failures
+
+-- one write has failed, and a beginning of the text has been appended
+pub record IsBroken (old new : Taken) (text : List ℕ) : Type 0 where
+  pub begun : (n : ℕ) × Appends old.contents new.contents (take n text)
+  pub failed : new.failures ≡ one_failure_more old.failures
+
+abbrev pub Writes : {A E : Type 0} → Result A E → Taken → Taken → List ℕ → Type 0
+Writes (Ok _) old new text = IsWritten old new text
+Writes (Err _) old new text = IsBroken old new text
+
+-- What stands in a page is on its way to a target. After a text was put, whatever is written next follows it;
+-- where a write failed, a beginning has been appended of the page, the text, and whatever was to follow.
+abbrev pub Puts : Result Unit WriteFailed → Taken → List ℕ → Taken → List ℕ → List ℕ → Type 0
+Puts (Ok _) old page new next text =
+    (later : Result Unit WriteFailed) (end : Taken) (more : List ℕ) → Writes later new end (next ++ more) → Writes later old end (page ++ (text ++ more))
+Puts (Err _) old page new next text = (more : List ℕ) → IsBroken old new (page ++ (text ++ more))
+
+-- pieces of text, joined
+abbrev pub joined : List (Bor (List ℕ)) → List ℕ
+joined pieces = flat_map (λ (piece : Bor (List ℕ)). piece.now) pieces

@@ -5,6 +5,7 @@ ghost use Rattle.lapd_store.specs.Store.{Store};
 ghost use Rattle.lapd_store.specs.Ownership.{Owned, Holds};
 ghost use Rattle.lapd_link_machine.specs.declared.states.State.TheVariants.{TeiAssigned};
 ghost use Rattle.lapd_link_machine.specs.Link as machine;
+ghost use Rattle.lapd_link_machine.specs.Rises.{held};
 
 use crate::fault::StartFault;
 use lapd_frame::Service;
@@ -89,5 +90,13 @@ impl Link {
         ensures { (store : Store) (others : List Owned) (m : machine.Link) → Stands self.now store others m → result ≡ machine.state_number m.state }
     {
         self.entity.state().number()
+    }
+
+    /// The octets of the control frames that wait, without frame checks: 3 or 4 each.
+    pub fn held(&self) -> u32
+        requires { (store : Store) × (others : List Owned) × (m : machine.Link) × Stands self.now store others m }
+        ensures { (store : Store) (others : List Owned) (m : machine.Link) → Stands self.now store others m → result ≡ held (terms_of self.now) m }
+    {
+        self.entity.held()
     }
 }

@@ -1,11 +1,12 @@
 //! The next frame that is sent.
 
-ghost use Rattle.std.specs.Prelude.{◌≡◌, ℕ, List, None, Some, slice_get, MatchOption};
+ghost use Rattle.std.specs.Prelude.{◌≡◌, ℕ, ◌+◌, ◌*◌, ◌≤◌, List, None, Some, slice_get, MatchOption};
 ghost use Rattle.lapd_store.specs.Store.{Store};
 ghost use Rattle.lapd_store.specs.Ownership.{Owned};
 ghost use Rattle.lapd_link_machine.specs.Link as machine;
 ghost use Rattle.lapd_link_machine.specs.Events as event;
 ghost use Rattle.lapd_link_machine.specs.Machine.{after, given};
+ghost use Rattle.lapd_link_machine.specs.Rises.{sent, waiting, price};
 
 use crate::link::Link;
 use crate::orders::orders;
@@ -38,6 +39,11 @@ impl Link {
             Stands self.new store others (after (terms_of self.old) event.offer m) }
         ensures given { (store : Store) (others : List Owned) (m : machine.Link) → Stands self.old store others m →
             given_by store result ≡ given (terms_of self.old) m }
+        ensures frames { (store : Store) (others : List Owned) (m : machine.Link) → Stands self.old store others m →
+            sent (terms_of self.old) (event.offer) m + waiting (terms_of self.old) (after (terms_of self.old) (event.offer) m) ≤ waiting (terms_of self.old) m + price (terms_of self.old) (event.offer) m }
+        // A frame that goes was waiting, with at most one other that it makes needless.
+        ensures falls { (store : Store) (others : List Owned) (m : machine.Link) → Stands self.old store others m →
+            waiting (terms_of self.old) m ≤ waiting (terms_of self.old) (after (terms_of self.old) event.offer m) + 2 * sent (terms_of self.old) event.offer m }
         ensures terms { terms_of self.new ≡ terms_of self.old }
     {
         let before = self.entity.running();

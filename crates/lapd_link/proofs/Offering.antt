@@ -1,9 +1,10 @@
 -- Offers.
 use Rattle.std.proofs.Common.{◌≡◌, ℕ, suc, zero, ◌≤◌, Bool, true, false, cond, List, [], ◌∷◌, length, Option, Some, None, MatchOption, refl, sym, ap, subst, ◌∙◌, arith}
+use Rattle.std.specs.Prelude.{IfSome}
 use Rattle.std.specs.List.{slice_get}
-use Rattle.lapd_store.specs.Store.{Store}
+use Rattle.lapd_store.specs.Store.{Store, IsUsed}
 use Rattle.lapd_store.specs.Ownership.{Owned, Keeps}
-use Rattle.lapd_store.proofs.Queues.{Keeps-at}
+use Rattle.lapd_store.proofs.Queues.{Keeps-at, Keeps-used}
 use Rattle.lapd_frame.specs.declared.timers.Order.{Order}
 use Rattle.lapd_link_machine.specs.declared.frames.ControlFrame.{ControlFrame}
 use Rattle.lapd_link_machine.specs.declared.timers.LinkTimer.TheVariants.{T200}
@@ -55,6 +56,15 @@ contents-found {slots = slots} {messages} {others} place (Some n) is kept = Keep
 pub slot-contents : {store : Store} {slots : List ℕ} {messages : List (List ℕ)} {others : List Owned} (place slot : Option ℕ) → MatchOption place (slot ≡ None) (λ n. slot ≡ slice_get slots n) → Keeps store slots messages others → contents_in store slot ≡ done.contents_at messages place
 slot-contents {store} None slot is kept = ap (contents_in store) is
 slot-contents {store} (Some n) slot is kept = contents-found n slot (sym is) kept
+
+-- A slot of the queue is in use.
+used-found : {store : Store} {slots : List ℕ} {messages : List (List ℕ)} {others : List Owned} (place : ℕ) (slot : Option ℕ) → slice_get slots place ≡ slot → Keeps store slots messages others → IfSome slot (λ n. IsUsed store n)
+used-found place None is kept = tt
+used-found {slots = slots} {messages} {others} place (Some n) is kept = Keeps-used slots messages others place n is kept
+
+pub slot-used : {store : Store} {slots : List ℕ} {messages : List (List ℕ)} {others : List Owned} (place slot : Option ℕ) → MatchOption place (slot ≡ None) (λ n. slot ≡ slice_get slots n) → Keeps store slots messages others → IfSome slot (λ n. IsUsed store n)
+slot-used {store} None slot is kept = subst (λ (o : Option ℕ). IfSome o (λ n. IsUsed store n)) (sym is) tt
+slot-used (Some n) slot is kept = used-found n slot (sym is) kept
 
 -- The course of an offer,
 pub offered : {link : Link} {store : Store} {others : List Owned} {m : machine.Link} {queued : ℕ} {none : Told} {e' : Entity} {t' : Told} {given : Option rows.Given} → Stands link store others m → done.IsNothing none → queued ≡ length link.queue.slots → done.Gives (terms_of link) (offers.offer_step (terms_of link)) queued link.entity none e' t' given → Agrees (terms_of link) [] (machine.queue_of m) (course (terms_of link) event.offer m) e' t'

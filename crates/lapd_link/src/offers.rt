@@ -1,7 +1,7 @@
 //! The next frame that is sent.
 
-ghost use Rattle.std.specs.Prelude.{◌≡◌, ℕ, ◌+◌, ◌*◌, ◌≤◌, List, None, Some, slice_get, MatchOption};
-ghost use Rattle.lapd_store.specs.Store.{Store};
+ghost use Rattle.std.specs.Prelude.{◌≡◌, ℕ, ◌+◌, ◌*◌, ◌≤◌, List, None, Some, slice_get, IfSome, MatchOption};
+ghost use Rattle.lapd_store.specs.Store.{Store, IsUsed};
 ghost use Rattle.lapd_store.specs.Ownership.{Owned};
 ghost use Rattle.lapd_link_machine.specs.Link as machine;
 ghost use Rattle.lapd_link_machine.specs.Events as event;
@@ -39,6 +39,9 @@ impl Link {
             Stands self.new store others (after (terms_of self.old) event.offer m) }
         ensures given { (store : Store) (others : List Owned) (m : machine.Link) → Stands self.old store others m →
             given_by store result ≡ given (terms_of self.old) m }
+        // The contents of an I-frame lie in a slot that is in use.
+        ensures used { (store : Store) (others : List Owned) (m : machine.Link) → Stands self.old store others m →
+            IfSome result (λ offer. IfSome offer.contents (λ slot. IsUsed store slot)) }
         ensures frames { (store : Store) (others : List Owned) (m : machine.Link) → Stands self.old store others m →
             sent (terms_of self.old) (event.offer) m + waiting (terms_of self.old) (after (terms_of self.old) (event.offer) m) ≤ waiting (terms_of self.old) m + price (terms_of self.old) (event.offer) m }
         // A frame that goes was waiting, with at most one other that it makes needless.

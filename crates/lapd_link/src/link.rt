@@ -69,7 +69,7 @@ impl Link {
         requires n200 { n200 ≤ 10 }
         requires n201_low { 8 ≤ n201 }
         requires n201_high { n201 ≤ 260 }
-        requires down { self.old.entity.state ≡ TeiAssigned }
+        requires down { (store : Store) × (others : List Owned) × (m : machine.Link) × Stands self.old store others m × (m.state ≡ TeiAssigned) }
         ensures terms { terms_of self.new ≡ record (terms_of self.old) { service = service; tei = tei; k = k; n200 = n200; n201 = n201 } }
         ensures fresh { (store : Store) (others : List Owned) (m : machine.Link) → n201 ≤ store.width → Stands self.old store others m → Stands self.new store others machine.fresh }
     {

@@ -35,13 +35,13 @@ transferred {m = m} octets s place nothing =
     record {
       fits =
           record {
-            window = s.rests.window;
-            received = s.rests.received;
-            ring = s.rests.ring;
+            window = s.fits.rests.window;
+            received = s.fits.rests.received;
+            ring = s.fits.rests.ring;
             queue =
                 ap (λ (n : ℕ). drop n (machine.queue_of m ++ octets ∷ [])) nothing.released
-                ∙ sym (drop-append-le m.a m.contents (octets ∷ []) (omega (arith, s.sound.ordered, s.sound.accepted)));
-            few = omega (arith, length-append (machine.queue_of m) (octets ∷ []), s.kept.lengths, place, s.capacity, s.range.queue_high);
+                ∙ sym (drop-append-le m.a m.contents (octets ∷ []) (omega (arith, s.fits.sound.ordered, s.fits.sound.accepted)));
+            few = omega (arith, length-append (machine.queue_of m) (octets ∷ []), s.kept.lengths, place, s.fits.capacity, s.fits.range.queue_high);
           };
-      is = ap (λ (c : Course). transfer_in_7_8 octets c) (begun-resting [] s.rests nothing);
+      is = ap (λ (c : Course). transfer_in_7_8 octets c) (begun-resting [] s.fits.rests nothing);
     }

@@ -25,21 +25,24 @@ running-at rests = ap (λ (l : machine.Link). l.running) rests.is
 
 -- few contents are queued
 pub few : {link : Link} {store : Store} {others : List Owned} {m : machine.Link} → Stands link store others m → length (machine.queue_of m) ≤ 127
-few s = omega (arith, s.sound.queue, s.range.queue_high)
+few s = omega (arith, s.fits.sound.queue, s.fits.range.queue_high)
 
 -- what rows did is the course of the event
 pub reached : {link : Link} {store : Store} {others : List Owned} {m : machine.Link} {info : List ℕ} {f : Step} {e' : Entity} {t : Told} → Took (terms_of link) info f link.entity e' t → Stands link store others m → Agrees (terms_of link) info (machine.queue_of m) (f (begun m)) e' t
-reached took s = took-course took s.rests (few s)
+reached took s = took-course took s.fits.rests (few s)
 
 -- a link that reaches the end of an event stands for the machine's link after it
 pub stands-after : {link link' : Link} {store store' : Store} {others : List Owned} {m : machine.Link} {info : List ℕ} {answer : Answer} (e : Event) → Stands link store others m → Stays link link' → SameLimits store store' → Reaches info m (course (terms_of link) e m) link' store' others answer → Stands link' store' others (after (terms_of link) e m)
 stands-after {link} {link'} {store} {store'} {m = m} e s stays limits reaches =
     record {
-      range = subst IsInRange (sym stays.terms) s.range;
-      width = subst (λ (t : Terms). t.n201 ≤ store'.width) (sym stays.terms) (subst (λ (w : ℕ). (terms_of link).n201 ≤ w) (sym limits.width) s.width);
-      sound = subst (λ (t : Terms). IsSound t (after (terms_of link) e m)) (sym stays.terms) (sound-after (terms_of link) s.range e m s.sound);
-      rests = reaches.rests;
-      capacity = stays.capacity ∙ s.capacity ∙ ap (λ (t : Terms). t.queue) (sym stays.terms);
+      fits =
+          record {
+            range = subst IsInRange (sym stays.terms) s.fits.range;
+            sound = subst (λ (t : Terms). IsSound t (after (terms_of link) e m)) (sym stays.terms) (sound-after (terms_of link) s.fits.range e m s.fits.sound);
+            rests = reaches.rests;
+            capacity = stays.capacity ∙ s.fits.capacity ∙ ap (λ (t : Terms). t.queue) (sym stays.terms);
+          };
+      wide = subst (λ (t : Terms). t.n201 ≤ store'.width) (sym stays.terms) (subst (λ (w : ℕ). (terms_of link).n201 ≤ w) (sym limits.width) s.wide);
       kept = reaches.kept;
     }
 

@@ -1,9 +1,20 @@
 -- Offers.
-use Rattle.std.proofs.Common.{◌≡◌, ℕ, suc, zero, ◌≤◌, Bool, true, false, cond, List, [], ◌∷◌, length, Option, Some, None, MatchOption, refl, sym, ap, subst, ◌∙◌, arith}
+use Rattle.std.proofs.Common.{◌≡◌, ℕ, suc, zero, ◌+◌, ◌<◌, ◌≤◌, Bool, true, false, IsTrue, cond, List, [], ◌∷◌, length, drop, get_or, Option, Some, None, MatchOption, refl, sym, ap, subst, ◌∙◌, arith, length-drop}
+use Rattle.std.specs.Prelude.{IfSome, IsSome, All}
 use Rattle.std.specs.List.{slice_get}
-use Rattle.lapd_store.specs.Store.{Store}
+use Rattle.std.proofs.lemmas.List.{get_or-drop}
+use Rattle.std.proofs.lemmas.Option.{slice_get_within, get_or_from_slice_get}
+use Rattle.lapd_seq.specs.Numbers.{seq}
+use Rattle.lapd_frame.specs.declared.controls.Control.TheVariants.{ReceiveReady}
+use Rattle.lapd_frame.specs.Grammar.{IsFrame, allows, takes, row}
+use Rattle.lapd_frame.specs.Services.{sapi_of}
+use Rattle.lapd_frame.specs.declared.services.Service.{Service}
+use Rattle.lapd_frame.specs.declared.services.Service.TheVariants.{Call, Packet}
+use Rattle.lapd_link_machine.specs.Link.{frame_of}
+use Rattle.lapd_link_machine.specs.Sound.{IsInRange, IsWaitingFrame}
+use Rattle.lapd_store.specs.Store.{Store, IsUsed, contents_of}
 use Rattle.lapd_store.specs.Ownership.{Owned, Keeps}
-use Rattle.lapd_store.proofs.Queues.{Keeps-at}
+use Rattle.lapd_store.proofs.Queues.{Keeps-at, Keeps-used}
 use Rattle.lapd_frame.specs.declared.timers.Order.{Order}
 use Rattle.lapd_link_machine.specs.declared.frames.ControlFrame.{ControlFrame}
 use Rattle.lapd_link_machine.specs.declared.timers.LinkTimer.TheVariants.{T200}
@@ -12,7 +23,7 @@ use Rattle.lapd_link_machine.specs.Link as machine
 use Rattle.lapd_link_machine.specs.Events as event
 use Rattle.lapd_link_machine.specs.Told.{orders_for}
 use Rattle.lapd_link_machine.specs.Steps.{Sent, Course, begun, ◌then◌, changed}
-use Rattle.lapd_link_machine.specs.Words.{pending_is, start}
+use Rattle.lapd_link_machine.specs.Words.{pending_is, response, start}
 use Rattle.lapd_link_machine.specs.Offers as offers
 use Rattle.lapd_link_machine.specs.Machine.{course, after, given, given_of}
 use Rattle.lapd_link_machine.proofs.SoundEvents.{sound-after}
@@ -23,7 +34,7 @@ use Rattle.lapd_link_rows.specs.Does.{Agrees}
 use Rattle.lapd_link_rows.specs.Done as done
 use Rattle.lapd_link_rows.proofs.Resting.{fits-resting, begun-resting, rests-after}
 use Rattle.lapd_link.specs.declared.link.Link.{Link}
-use Rattle.lapd_link.specs.Outcome.{contents_in}
+use Rattle.lapd_link.specs.Outcome.{contents_in, HasMessage}
 use Rattle.lapd_link.specs.Stands.{Stands, terms_of}
 use Rattle.lapd_link.proofs.Ending.{few}
 
@@ -56,28 +67,92 @@ pub slot-contents : {store : Store} {slots : List ℕ} {messages : List (List �
 slot-contents {store} None slot is kept = ap (contents_in store) is
 slot-contents {store} (Some n) slot is kept = contents-found n slot (sym is) kept
 
+-- A slot of the queue is in use.
+used-found : {store : Store} {slots : List ℕ} {messages : List (List ℕ)} {others : List Owned} (place : ℕ) (slot : Option ℕ) → slice_get slots place ≡ slot → Keeps store slots messages others → IfSome slot (λ n. IsUsed store n)
+used-found place None is kept = tt
+used-found {slots = slots} {messages} {others} place (Some n) is kept = Keeps-used slots messages others place n is kept
+
+pub slot-used : {store : Store} {slots : List ℕ} {messages : List (List ℕ)} {others : List Owned} (place slot : Option ℕ) → MatchOption place (slot ≡ None) (λ n. slot ≡ slice_get slots n) → Keeps store slots messages others → IfSome slot (λ n. IsUsed store n)
+slot-used {store} None slot is kept = subst (λ (o : Option ℕ). IfSome o (λ n. IsUsed store n)) (sym is) tt
+slot-used (Some n) slot is kept = used-found n slot (sym is) kept
+
+-- It holds contents, of which none is longer than N201.
+not-longer : (contents : List (List ℕ)) (a place n : ℕ) (octets : List ℕ) → All (λ x. length x ≤ n) contents → slice_get (drop a contents) place ≡ Some octets → length octets ≤ n
+not-longer contents a place n octets short is =
+    let within : place < length (drop a contents) = slice_get_within (drop a contents) place octets is in
+    let found : get_or contents (a + place) [] ≡ octets = sym (get_or-drop a contents place []) ∙ get_or_from_slice_get (drop a contents) place octets [] is in
+    subst (λ (x : List ℕ). length x ≤ n) found (short (a + place) [] (omega (arith, within, length-drop a contents)))
+
+message-of : (store : Store) (contents : List (List ℕ)) (a place n slot : ℕ) (o : Option (List ℕ)) → contents_of store slot ≡ o → IsSome o → All (λ x. length x ≤ n) contents → contents_of store slot ≡ slice_get (drop a contents) place → HasMessage store n slot
+message-of store contents a place n slot None is some short found = absurd (cc)
+message-of store contents a place n slot (Some octets) is some short found = (octets, is, not-longer contents a place n octets short (sym found ∙ is))
+
+message-found : {store : Store} {slots : List ℕ} {others : List Owned} (contents : List (List ℕ)) (a place n : ℕ) (slot : Option ℕ) → slice_get slots place ≡ slot → Keeps store slots (drop a contents) others → All (λ x. length x ≤ n) contents → IfSome slot (HasMessage store n)
+message-found contents a place n None is kept short = tt
+message-found {store} {slots} {others} contents a place n (Some k) is kept short =
+    message-of store contents a place n k (contents_of store k) refl (Keeps-used slots (drop a contents) others place k is kept) short (Keeps-at slots (drop a contents) others place k is kept)
+
+pub slot-message : {store : Store} {slots : List ℕ} {others : List Owned} (contents : List (List ℕ)) (a n : ℕ) (place slot : Option ℕ) → MatchOption place (slot ≡ None) (λ k. slot ≡ slice_get slots k) → Keeps store slots (drop a contents) others → All (λ x. length x ≤ n) contents → IfSome slot (HasMessage store n)
+slot-message {store} contents a n None slot is kept short = subst (λ (o : Option ℕ). IfSome o (HasMessage store n)) (sym is) tt
+slot-message contents a n (Some k) slot is kept short = message-found contents a k n slot (sym is) kept short
+
+-- What an offer gives is a frame.
+Good : Terms → Option Sent → Type 0
+Good t sent = IfSome sent (λ x. IsFrame (frame_of t x.frame))
+
+sapi-small : (service : Service) → sapi_of service < 64
+sapi-small Call = omega arith
+sapi-small Packet = omega arith
+
+is-frame : (t : Terms) (f : ControlFrame) → IsInRange t → IsTrue (allows (row f.control).kind f.command) → IsTrue (takes (row f.control).info 0) → IsFrame (frame_of t f)
+is-frame t f range kind size =
+    let sapi : sapi_of t.service < 64 = sapi-small t.service in
+    let tei : t.tei ≤ 126 = range.tei in
+    record { sapi = sapi; tei = omega arith; kind = kind; size = size }
+
+good-by : (t : Terms) (b : Bool) (x y : Course) → Good t x.sent → Good t y.sent → Good t (cond {A = Course} b x y).sent
+good-by t true x y first second = first
+good-by t false x y first second = second
+
+frames-sent : (t : Terms) (fs : List ControlFrame) (c : Course) → IsInRange t → All (IsWaitingFrame t) fs → Good t c.sent → Good t (offers.offer_among t fs c).sent
+unfolding Good
+frames-sent t (f ∷ fs) c range frames begins = (frames 0 f (omega arith)).is_frame
+frames-sent t [] c range frames begins =
+    let sent : Course = (offers.give_information then changed offers.with_one_sent then pending_is false) c in
+    good-by t (offers.may_send_information t c.link) (offers.send_information c) _
+    (good-by t (offers.is_awaiting_acknowledgement sent.link) sent (start T200 sent) (is-frame t (offers.next_information c.link) range refl refl) (is-frame t (offers.next_information c.link) range refl refl))
+    (good-by t c.link.pending (offers.send_acknowledgement c) c (is-frame t (response (ReceiveReady (seq c.link.r) false)) range refl refl) begins)
+
+pub frame-offered : {link : Link} {store : Store} {others : List Owned} {m : machine.Link} (given : rows.Given) → Stands link store others m → (course (terms_of link) event.offer m).sent ≡ done.given_of (machine.queue_of m) (Some given) → IsFrame (frame_of (terms_of link) given.frame)
+unfolding Good
+frame-offered {link} {m = m} given s sent =
+    subst (Good (terms_of link)) sent (frames-sent (terms_of link) m.waiting (begun m) s.fits.range s.fits.sound.frames tt)
+
 -- The course of an offer,
 pub offered : {link : Link} {store : Store} {others : List Owned} {m : machine.Link} {queued : ℕ} {none : Told} {e' : Entity} {t' : Told} {given : Option rows.Given} → Stands link store others m → done.IsNothing none → queued ≡ length link.queue.slots → done.Gives (terms_of link) (offers.offer_step (terms_of link)) queued link.entity none e' t' given → Agrees (terms_of link) [] (machine.queue_of m) (course (terms_of link) event.offer m) e' t'
 offered {link} {m = m} {e' = e'} {t'} s nothing many gives =
     subst (λ (c : Course). Agrees (terms_of link) [] (machine.queue_of m) (offers.offer_step (terms_of link) c) e' t')
-    (begun-resting [] s.rests nothing)
-    (gives.step [] (machine.queue_of m) (done.past_at m) (omega (arith, many, s.kept.lengths)) nothing.released refl (fits-resting s.rests (few s) nothing))
+    (begun-resting [] s.fits.rests nothing)
+    (gives.step [] (machine.queue_of m) (done.past_at m) (omega (arith, many, s.kept.lengths)) nothing.released refl (fits-resting s.fits.rests (few s) nothing))
 
 -- what it sends,
 pub offered-sent : {link : Link} {store : Store} {others : List Owned} {m : machine.Link} {queued : ℕ} {none : Told} {e' : Entity} {t' : Told} {given : Option rows.Given} → Stands link store others m → done.IsNothing none → queued ≡ length link.queue.slots → done.Gives (terms_of link) (offers.offer_step (terms_of link)) queued link.entity none e' t' given → (course (terms_of link) event.offer m).sent ≡ done.given_of (machine.queue_of m) given
 offered-sent {link} {m = m} s nothing many gives =
-    ap (λ (c : Course). (offers.offer_step (terms_of link) c).sent) (sym (begun-resting [] s.rests nothing))
-    ∙ gives.sent [] (machine.queue_of m) (done.past_at m) (omega (arith, many, s.kept.lengths)) nothing.released refl (fits-resting s.rests (few s) nothing)
+    ap (λ (c : Course). (offers.offer_step (terms_of link) c).sent) (sym (begun-resting [] s.fits.rests nothing))
+    ∙ gives.sent [] (machine.queue_of m) (done.past_at m) (omega (arith, many, s.kept.lengths)) nothing.released refl (fits-resting s.fits.rests (few s) nothing)
 
 -- and what the link stands for afterwards
 pub stands-offered : {link : Link} {store : Store} {others : List Owned} {m : machine.Link} {e' : Entity} {t' : Told} → Stands link store others m → Agrees (terms_of link) [] (machine.queue_of m) (course (terms_of link) event.offer m) e' t' → Stands (record link { entity = e' }) store others (after (terms_of link) event.offer m)
 stands-offered {link} {store} {others} {m} s agrees =
     record {
-      range = s.range;
-      width = s.width;
-      sound = sound-after (terms_of link) s.range event.offer m s.sound;
-      rests = rests-after agrees;
-      capacity = s.capacity;
+      fits =
+          record {
+            range = s.fits.range;
+            sound = sound-after (terms_of link) s.fits.range event.offer m s.fits.sound;
+            rests = rests-after agrees;
+            capacity = s.fits.capacity;
+          };
+      wide = s.wide;
       kept = subst (λ (q : List (List ℕ)). Keeps store link.queue.slots q others) (sym (queue-offered (terms_of link) m.waiting (begun m))) s.kept;
     }
 

@@ -1,5 +1,5 @@
 -- What a link answers, as the machine tells it.
-use Rattle.std.specs.Prelude.{ℕ, Bool, List, Option, Some, None, option_map, if◌then◌else◌}
+use Rattle.std.specs.Prelude.{◌≡◌, ℕ, ◌≤◌, Bool, List, length, Option, Some, None, option_map, if◌then◌else◌}
 use Rattle.std.specs.Borrow.{Bor}
 use Rattle.lapd_store.specs.Store.{Store, contents_of}
 use Rattle.lapd_frame.specs.ShortLists.{listed}
@@ -41,3 +41,7 @@ contents_in store (Some slot) = contents_of store slot
 abbrev pub given_by : Store → Option Offer → Option Given
 given_by store None = None
 given_by store (Some offer) = Some (record { frame = offer.frame; contents = contents_in store offer.contents; orders = listed offer.orders })
+
+-- a slot in use, with at most so many octets
+abbrev pub HasMessage : Store → ℕ → ℕ → Type 0
+HasMessage store most slot = (octets : List ℕ) × (contents_of store slot ≡ Some octets) × (length octets ≤ most)

@@ -17,21 +17,29 @@ use Rattle.lapd_link.specs.Outcome.{told_with}
 abbrev pub terms_of : Link → Terms
 terms_of link = link.terms
 
--- A link stands for a link of the machine, beside what others own on the shelf: it holds what the machine's link is but for
--- its past, its numbers being the remainders; the shelf keeps the contents of the machine's queue in the slots of the link's,
--- and what others own, and nothing else; and the machine's link is sound, so that the bounds hold from any link on.
-pub record Stands (link : Link) (store : Store) (others : List Owned) (m : machine.Link) : Type 0 where
+-- the slots of the contents that it keeps, the oldest first
+abbrev pub slots_of : Link → List ℕ
+slots_of link = link.queue.slots
+
+-- A link holds what a link of the machine is, but for its past: its numbers are the remainders of the machine's. The machine's
+-- link is sound, so that the bounds hold from any link on.
+pub record Fits (link : Link) (m : machine.Link) : Type 0 where
   pub range : IsInRange (terms_of link)
-  pub width : (terms_of link).n201 ≤ store.width
   pub sound : IsSound (terms_of link) m
   pub rests : Rests (terms_of link) link.entity m
   pub capacity : link.queue.capacity ≡ (terms_of link).queue
-  pub kept : Keeps store link.queue.slots (machine.queue_of m) others
+
+-- A link stands for a link of the machine, beside what others own on the shelf: the shelf keeps the contents of the machine's
+-- queue in the slots of the link's, and what others own, and nothing else.
+pub record Stands (link : Link) (store : Store) (others : List Owned) (m : machine.Link) : Type 0 where
+  pub fits : Fits link m
+  pub wide : (terms_of link).n201 ≤ store.width
+  pub kept : Keeps store (slots_of link) (machine.queue_of m) others
 
 -- A link and its answer stand for the end of an event, whatever the event was.
 pub record Reaches (info : List ℕ) (before : machine.Link) (c : Course) (link : Link) (store : Store) (others : List Owned) (answer : Answer) : Type 0 where
   pub rests : Rests (terms_of link) link.entity c.link
-  pub kept : Keeps store link.queue.slots (machine.queue_of c.link) others
+  pub kept : Keeps store (slots_of link) (machine.queue_of c.link) others
   pub told : told_with info answer ≡ answers.told_of (terms_of link) before c
 
 -- What stays through every event: the terms, and the capacity of the queue.

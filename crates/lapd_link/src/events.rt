@@ -1,12 +1,13 @@
 //! Frames, timers, and the end of the TEI.
 
-ghost use Rattle.std.specs.Prelude.{◌≡◌, ℕ, List, [], drop};
+ghost use Rattle.std.specs.Prelude.{◌≡◌, ℕ, ◌+◌, ◌≤◌, List, [], drop};
 ghost use Rattle.lapd_store.specs.Store.{SameLimits};
 ghost use Rattle.lapd_store.specs.Ownership.{Owned, Keeps};
 ghost use Rattle.lapd_link_machine.specs.Link as machine;
 ghost use Rattle.lapd_link_machine.specs.Events as event;
 ghost use Rattle.lapd_link_machine.specs.Steps.{Course};
 ghost use Rattle.lapd_link_machine.specs.Machine.{after, told, received_step};
+ghost use Rattle.lapd_link_machine.specs.Rises.{sent, waiting, price};
 ghost use Rattle.lapd_link_rows.specs.Does.{Agrees};
 ghost use Rattle.lapd_link_rows.specs.Done.{Took};
 ghost use Rattle.lapd_link.specs.Events.{info_of, received_of};
@@ -31,6 +32,8 @@ impl Link {
             Stands self.new (S.store shelf.new) others (after (terms_of self.old) (event.received (received_of received.entry)) m) }
         ensures told { (others : List Owned) (m : machine.Link) → Stands self.old (S.store shelf.old) others m →
             told_of result ≡ told (terms_of self.old) (event.received (received_of received.entry)) m }
+        ensures frames { (others : List Owned) (m : machine.Link) → Stands self.old (S.store shelf.old) others m →
+            sent (terms_of self.old) (event.received (received_of received.entry)) m + waiting (terms_of self.old) (after (terms_of self.old) (event.received (received_of received.entry)) m) ≤ waiting (terms_of self.old) m + price (terms_of self.old) (event.received (received_of received.entry)) m }
         ensures terms { terms_of self.new ≡ terms_of self.old }
         ensures limits { SameLimits (S.store shelf.old) (S.store shelf.new) }
     {
@@ -44,6 +47,8 @@ impl Link {
             Stands self.new (S.store shelf.new) others (after (terms_of self.old) (event.received (received_of received.entry)) m) }
         ensures told { (others : List Owned) (m : machine.Link) → Stands self.old (S.store shelf.old) others m →
             told_with (info_of received.entry) result ≡ told (terms_of self.old) (event.received (received_of received.entry)) m }
+        ensures frames { (others : List Owned) (m : machine.Link) → Stands self.old (S.store shelf.old) others m →
+            sent (terms_of self.old) (event.received (received_of received.entry)) m + waiting (terms_of self.old) (after (terms_of self.old) (event.received (received_of received.entry)) m) ≤ waiting (terms_of self.old) m + price (terms_of self.old) (event.received (received_of received.entry)) m }
         ensures terms { terms_of self.new ≡ terms_of self.old }
         ensures limits { SameLimits (S.store shelf.old) (S.store shelf.new) }
     {
@@ -59,6 +64,8 @@ impl Link {
             Stands self.new (S.store shelf.new) others (after (terms_of self.old) (event.expired timer) m) }
         ensures told { (others : List Owned) (m : machine.Link) → Stands self.old (S.store shelf.old) others m →
             told_with [] result ≡ told (terms_of self.old) (event.expired timer) m }
+        ensures frames { (others : List Owned) (m : machine.Link) → Stands self.old (S.store shelf.old) others m →
+            sent (terms_of self.old) (event.expired timer) m + waiting (terms_of self.old) (after (terms_of self.old) (event.expired timer) m) ≤ waiting (terms_of self.old) m + price (terms_of self.old) (event.expired timer) m }
         ensures terms { terms_of self.new ≡ terms_of self.old }
         ensures limits { SameLimits (S.store shelf.old) (S.store shelf.new) }
     {

@@ -5,6 +5,7 @@ ghost use Rattle.lapd_store.specs.Store.{Store};
 ghost use Rattle.lapd_store.specs.Ownership.{Owned, Holds};
 ghost use Rattle.lapd_link_machine.specs.declared.states.State.TheVariants.{TeiAssigned};
 ghost use Rattle.lapd_link_machine.specs.Link as machine;
+ghost use Rattle.lapd_link_machine.specs.Rises.{held};
 
 use crate::fault::StartFault;
 use lapd_frame::Service;
@@ -68,7 +69,7 @@ impl Link {
         requires n200 { n200 ≤ 10 }
         requires n201_low { 8 ≤ n201 }
         requires n201_high { n201 ≤ 260 }
-        requires down { self.old.entity.state ≡ TeiAssigned }
+        requires down { (store : Store) × (others : List Owned) × (m : machine.Link) × Stands self.old store others m × (m.state ≡ TeiAssigned) }
         ensures terms { terms_of self.new ≡ record (terms_of self.old) { service = service; tei = tei; k = k; n200 = n200; n201 = n201 } }
         ensures fresh { (store : Store) (others : List Owned) (m : machine.Link) → n201 ≤ store.width → Stands self.old store others m → Stands self.new store others machine.fresh }
     {
@@ -89,5 +90,13 @@ impl Link {
         ensures { (store : Store) (others : List Owned) (m : machine.Link) → Stands self.now store others m → result ≡ machine.state_number m.state }
     {
         self.entity.state().number()
+    }
+
+    /// The octets of the control frames that wait, without frame checks: 3 or 4 each.
+    pub fn held(&self) -> u32
+        requires { (store : Store) × (others : List Owned) × (m : machine.Link) × Stands self.now store others m }
+        ensures { (store : Store) (others : List Owned) (m : machine.Link) → Stands self.now store others m → result ≡ held (terms_of self.now) m }
+    {
+        self.entity.held()
     }
 }

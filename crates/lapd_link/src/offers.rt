@@ -1,11 +1,14 @@
 //! The next frame that is sent.
 
-ghost use Rattle.std.specs.Prelude.{◌≡◌, ℕ, List, None, Some, slice_get, MatchOption};
-ghost use Rattle.lapd_store.specs.Store.{Store};
+ghost use Rattle.std.specs.Prelude.{◌≡◌, ℕ, ◌+◌, ◌*◌, ◌≤◌, List, None, Some, slice_get, IfSome, MatchOption};
+ghost use Rattle.lapd_store.specs.Store.{Store, IsUsed};
 ghost use Rattle.lapd_store.specs.Ownership.{Owned};
+ghost use Rattle.lapd_frame.specs.Grammar.{IsFrame};
 ghost use Rattle.lapd_link_machine.specs.Link as machine;
+ghost use Rattle.lapd_link_machine.specs.Link.{frame_of};
 ghost use Rattle.lapd_link_machine.specs.Events as event;
 ghost use Rattle.lapd_link_machine.specs.Machine.{after, given};
+ghost use Rattle.lapd_link_machine.specs.Rises.{sent, waiting, price};
 
 use crate::link::Link;
 use crate::orders::orders;
@@ -27,7 +30,7 @@ pub struct Offer {
 
 impl Link {
     ghost use Rattle.lapd_link.specs.Stands.{Stands, terms_of};
-    ghost use Rattle.lapd_link.specs.Outcome.{given_by};
+    ghost use Rattle.lapd_link.specs.Outcome.{given_by, HasMessage};
 
     /// The next frame to be sent, if there is one: the control frame that has waited longest; else, in state 7, an I-frame
     /// with the first contents that are unsent, where the terminal is not busy and the window is open; else the
@@ -38,6 +41,18 @@ impl Link {
             Stands self.new store others (after (terms_of self.old) event.offer m) }
         ensures given { (store : Store) (others : List Owned) (m : machine.Link) → Stands self.old store others m →
             given_by store result ≡ given (terms_of self.old) m }
+        // It is a frame, and the contents of an I-frame lie in a slot that is in use.
+        ensures frame { (store : Store) (others : List Owned) (m : machine.Link) → Stands self.old store others m →
+            IfSome result (λ offer. IsFrame (frame_of (terms_of self.old) offer.frame)) }
+        ensures slot { (store : Store) (others : List Owned) (m : machine.Link) → Stands self.old store others m →
+            IfSome result (λ offer. IfSome offer.contents (HasMessage store (terms_of self.old).n201)) }
+        ensures used { (store : Store) (others : List Owned) (m : machine.Link) → Stands self.old store others m →
+            IfSome result (λ offer. IfSome offer.contents (λ slot. IsUsed store slot)) }
+        ensures frames { (store : Store) (others : List Owned) (m : machine.Link) → Stands self.old store others m →
+            sent (terms_of self.old) (event.offer) m + waiting (terms_of self.old) (after (terms_of self.old) (event.offer) m) ≤ waiting (terms_of self.old) m + price (terms_of self.old) (event.offer) m }
+        // A frame that goes was waiting, with at most one other that it makes needless.
+        ensures falls { (store : Store) (others : List Owned) (m : machine.Link) → Stands self.old store others m →
+            waiting (terms_of self.old) m ≤ waiting (terms_of self.old) (after (terms_of self.old) event.offer m) + 2 * sent (terms_of self.old) event.offer m }
         ensures terms { terms_of self.new ≡ terms_of self.old }
     {
         let before = self.entity.running();

@@ -1,6 +1,6 @@
 //! What layer 3 asks for.
 
-ghost use Rattle.std.specs.Prelude.{◌≡◌, ℕ, ◌<◌, ◌≤◌, nat_le, false, List, [], length, None, Some, ◌++◌, ◌∷◌, IfOk, IfErr, IfNone, OnOk, OnErr};
+ghost use Rattle.std.specs.Prelude.{◌≡◌, ℕ, ◌+◌, ◌<◌, ◌≤◌, nat_le, false, List, [], length, None, Some, ◌++◌, ◌∷◌, IfOk, IfErr, IfNone, OnOk, OnErr};
 ghost use Rattle.lapd_store.specs.Store.{Store, used_slots, SameLimits};
 ghost use Rattle.lapd_store.specs.Ownership.{Owned, Keeps};
 ghost use Rattle.lapd_frame.specs.declared.refusals.Refusal.{Refusal};
@@ -9,6 +9,7 @@ ghost use Rattle.lapd_link_machine.specs.Events as event;
 ghost use Rattle.lapd_link_machine.specs.Steps.{begun};
 ghost use Rattle.lapd_link_machine.specs.Requests as asked;
 ghost use Rattle.lapd_link_machine.specs.Machine.{after, told};
+ghost use Rattle.lapd_link_machine.specs.Rises.{sent, waiting, price};
 ghost use Rattle.lapd_link_machine.specs.TeiAssigned.{establish_in_4};
 ghost use Rattle.lapd_link_machine.specs.MultipleFrame.{transfer_in_7_8, set_busy_in_7_8, clear_busy_in_7_8};
 
@@ -65,6 +66,8 @@ impl Link {
             Stands self.new (S.store shelf.new) others (after (terms_of self.old) (event.requested (request_of request.entry) (nat_le slots (used_slots (S.store shelf.old)))) m)) }
         ensures told { IfOk result (λ answer. (others : List Owned) (m : machine.Link) → Stands self.old (S.store shelf.old) others m →
             told_with [] answer ≡ told (terms_of self.old) (event.requested (request_of request.entry) (nat_le slots (used_slots (S.store shelf.old)))) m) }
+        ensures frames { (others : List Owned) (m : machine.Link) → Stands self.old (S.store shelf.old) others m →
+            sent (terms_of self.old) (event.requested (request_of request.entry) (nat_le slots (used_slots (S.store shelf.old)))) m + waiting (terms_of self.old) (after (terms_of self.old) (event.requested (request_of request.entry) (nat_le slots (used_slots (S.store shelf.old)))) m) ≤ waiting (terms_of self.old) m + price (terms_of self.old) (event.requested (request_of request.entry) (nat_le slots (used_slots (S.store shelf.old)))) m }
         ensures terms { terms_of self.new ≡ terms_of self.old }
         ensures limits { SameLimits (S.store shelf.old) (S.store shelf.new) }
     {

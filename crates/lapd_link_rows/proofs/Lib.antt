@@ -4,3 +4,4 @@ pub mod Giving
 pub mod Queue
 pub mod Tests
 pub mod Resting
+pub mod Sizes

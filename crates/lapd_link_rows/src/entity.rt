@@ -65,3 +65,36 @@ impl Entity {
         self.running
     }
 }
+
+impl Entity {
+    ghost use Rattle.std.specs.Prelude.{◌≡◌, ◌≤◌, length, slice_get, Some, sum_by};
+    ghost use Rattle.lapd_frame.specs.declared.addresses.Side.TheVariants.{Network};
+    ghost use Rattle.lapd_frame.specs.Grammar.{spelling};
+    ghost use Rattle.lapd_frame.specs.Reading.{start_of};
+    ghost use Rattle.lapd_link_machine.specs.declared.frames.ControlFrame.{ControlFrame};
+    ghost use Rattle.lapd_link_machine.specs.declared.terms.Terms.{Terms};
+    ghost use Rattle.lapd_link_machine.specs.Link.{frame_of};
+
+    /// The octets of the control frames that wait, of which there are at most 16.
+    pub fn held(&self) -> u32
+        requires { length self.now.waiting.items ≤ 16 }
+        ensures { (terms : Terms) → result ≡ sum_by (λ f. length (spelling Network (frame_of terms f))) self.now.waiting.items }
+    {
+        let mut octets = 0;
+        for place in 0..self.waiting.len() {
+            octets += self.octets_at(place);
+        }
+        octets
+    }
+
+    // The octets of the frame at a place of the ring.
+    fn octets_at(&self, place: usize) -> u32
+        ensures octets { (frame : ControlFrame) → slice_get self.now.waiting.items place ≡ Some frame → result ≡ start_of frame.control }
+        ensures bound { result ≤ 4 }
+    {
+        match self.waiting.get(place) {
+            Some(frame) => frame.control.start() as u32,
+            None => 0,
+        }
+    }
+}

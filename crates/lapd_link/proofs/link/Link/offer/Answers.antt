@@ -8,7 +8,7 @@ use Rattle.lapd_link_machine.specs.Machine.{course, given_of}
 use Rattle.lapd_link_rows.specs.Done as rows
 use Rattle.lapd_link.specs.Stands.{terms_of}
 use Rattle.lapd_link.proofs.Ending.{running-at}
-use Rattle.lapd_link.proofs.Offering.{offered, offered-sent, stands-offered, given-offered, slot-contents}
+use Rattle.lapd_link.proofs.Offering.{offered, offered-sent, slot-used, slot-message, frame-offered, stands-offered, given-offered, slot-contents}
 use Rattle.lapd_link.proofs.link.Link.offer.Goals as goal
 
 pub returns-in-None-clause-stands : goal.returns-in-None-clause-stands
@@ -27,5 +27,16 @@ returns-in-Some-clause-given c = λ store others m s.
     (offered-sent s c.nothing-told.ensures c.len.ensures.count c.offer.ensures ∙ ap (rows.given_of (queue_of m)) c.in-Some.is)
     (slot-contents c.in-Some.given.place c.slot_at.result c.slot_at.ensures s.kept)
     (c.orders.ensures
-    ∙ ap (λ (before : Option LinkTimer). orders_for (terms_of c.args.self.now) before c.offer.new.told.started c.running.result) (c.running-before.ensures ∙ running-at s.rests)
+    ∙ ap (λ (before : Option LinkTimer). orders_for (terms_of c.args.self.now) before c.offer.new.told.started c.running.result) (c.running-before.ensures ∙ running-at s.fits.rests)
     ∙ ap (λ (running : Option LinkTimer). orders_for (terms_of c.args.self.now) m.running c.offer.new.told.started running) c.running.ensures)
+
+pub returns-in-Some-clause-used : goal.returns-in-Some-clause-used
+returns-in-Some-clause-used c = λ store others m s. slot-used c.in-Some.given.place c.slot_at.result c.slot_at.ensures s.kept
+
+pub returns-in-Some-clause-frame : goal.returns-in-Some-clause-frame
+returns-in-Some-clause-frame c = λ store others m s.
+    frame-offered c.in-Some.given s (offered-sent s c.nothing-told.ensures c.len.ensures.count c.offer.ensures ∙ ap (rows.given_of (queue_of m)) c.in-Some.is)
+
+pub returns-in-Some-clause-slot : goal.returns-in-Some-clause-slot
+returns-in-Some-clause-slot c = λ store others m s.
+    slot-message m.contents m.a (terms_of c.args.self.now).n201 c.in-Some.given.place c.slot_at.result c.slot_at.ensures s.kept s.fits.sound.sizes

@@ -12,7 +12,7 @@ use Rattle.lapd_link.proofs.link.Link.refusal.Goals as goal
 pub returns-in-Data-clause-machine : goal.returns-in-Data-clause-machine
 returns-in-Data-clause-machine c = λ store others m s.
     let does : serves m.state (request_of c.args.request) ≡ true =
-    ap (λ (state : State). serves state (request_of c.args.request)) (sym (c.state.ensures ∙ ap (λ (l : Link). l.state) s.rests.is))
+    ap (λ (state : State). serves state (request_of c.args.request)) (sym (c.state.ensures ∙ ap (λ (l : Link). l.state) s.fits.rests.is))
     ∙ sym c.serves.ensures
     ∙ c.if-not-serves.false in
     c.refusal_of_contents.ensures.machine store others m c.in-Data.octets.now s refl

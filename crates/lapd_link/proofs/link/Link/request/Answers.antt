@@ -1,3 +1,4 @@
+use Rattle.lapd_link_machine.proofs.RiseEvents.{event-rises}
 use Rattle.std.proofs.Common.{◌≡◌, ℕ, [], None, sym, ap, subst, ◌∙◌}
 use Rattle.std.specs.Prelude.{nat_le}
 use Rattle.lapd_store.specs.Store.{used_slots}
@@ -44,3 +45,6 @@ returns-in-None-clause-told g c = λ others m s.
     (granted-course (terms_of c.args.self.now) (request_of c.args.request) (nat_le c.args.slots (used_slots (g.S.Shelf.store c.args.shelf.now))) m none)
     (c.grant.ensures.reaches others m s) in
     told-after {link = c.args.self.now} (requested (request_of c.args.request) (nat_le c.args.slots (used_slots (g.S.Shelf.store c.args.shelf.now)))) c.grant.ensures.stays reaches
+
+pub returns-in-None-clause-frames : goal.returns-in-None-clause-frames
+returns-in-None-clause-frames g c = λ others m s. event-rises (terms_of c.args.self.now) s.fits.range m s.fits.sound (requested (request_of c.args.request) (nat_le c.args.slots (used_slots (g.S.Shelf.store c.args.shelf.now))))

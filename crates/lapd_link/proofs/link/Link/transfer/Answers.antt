@@ -14,7 +14,7 @@ pub returns-clause-reaches : goal.returns-clause-reaches
 returns-clause-reaches g c = λ others m s.
     c.settle.ensures.reaches [] (queue_of m ++ c.args.octets.now ∷ []) others m (transfer_in_7_8 c.args.octets.now (begun m))
     (c.keep.ensures.kept (queue_of m) others s.kept)
-    (c.running-before.ensures ∙ running-at s.rests)
+    (c.running-before.ensures ∙ running-at s.fits.rests)
     (subst (λ (t : Terms). Agrees t [] (queue_of m ++ c.args.octets.now ∷ []) (transfer_in_7_8 c.args.octets.now (begun m)) c.keep.new.self.entity c.nothing.result) (sym c.keep.ensures.stays.terms)
     (subst (λ (e : Entity). Agrees (terms_of c.args.self.now) [] (queue_of m ++ c.args.octets.now ∷ []) (transfer_in_7_8 c.args.octets.now (begun m)) e c.nothing.result) (sym c.keep.ensures.entity)
     (transferred c.args.octets.now s c.requires.place.1 c.nothing.ensures)))

@@ -1,9 +1,11 @@
 -- By how many slots a line's contents grow.
-use Rattle.std.proofs.Common.{◌≡◌, ℕ, ◌+◌, ◌*◌, ◌≤◌, ◌<◌, Bool, true, false, not, ◌&&◌, List, [], ◌∷◌, ◌++◌, length, drop, slice_get, get_or, set, Option, Some, None, is_some, option_map, IfSome, refl, ap, sym, ◌∙◌, subst, cond, arith, length-append, length-set, length-drop}
+use Rattle.std.proofs.Common.{◌≡◌, ℕ, zero, suc, ⊎_elim, replicate, ◌+◌, ◌*◌, ◌≤◌, ◌<◌, Bool, true, false, not, ◌&&◌, List, [], ◌∷◌, ◌++◌, length, drop, slice_get, get_or, set, Option, Some, None, is_some, option_map, IfSome, refl, ap, sym, ◌∙◌, subst, cond, arith, length-append, length-set, length-drop}
 use Rattle.std.specs.Prelude.{sum_by, All}
 use Rattle.std.specs.List.{range_with_len}
 use Rattle.std.specs.Option.{option_or, option_map_or, unwrap_or}
-use Rattle.std.proofs.lemmas.List.{get_or-set_same, get_or-set_other}
+use Rattle.std.proofs.lemmas.Bool.{cases_lt}
+use Rattle.std.proofs.lemmas.List.{get_or-set_same, get_or-set_other, get_or-replicate, get_or_past, length-replicate}
+use Rattle.std.proofs.lemmas.List.Sums.{sum_by-cons}
 use Rattle.std.proofs.lemmas.List.Elements.{All-head, All-tail}
 use Rattle.lapd_bits.specs.Stream as stream
 use Rattle.lapd_frame.specs.declared.services.Service.{Service}
@@ -36,7 +38,7 @@ use Rattle.lapd_line_machine.specs.declared.config.Config.{Config}
 use Rattle.lapd_line_machine.specs.Answer.{Told, nothing, Event, octet, expiry, request, pull}
 use Rattle.lapd_line_machine.specs.Counts.{one}
 use Rattle.lapd_line_machine.specs.Expiry.{at_timer, aim_of_expiry}
-use Rattle.lapd_line_machine.specs.Line.{Line, UnitData, link_number, link_count, service_at, place_at, place_in, tei_at, link_at, link_in, with_link, terms}
+use Rattle.lapd_line_machine.specs.Line.{Line, UnitData, fresh_line, link_number, link_count, service_at, place_at, place_in, tei_at, link_at, link_in, with_link, terms}
 use Rattle.lapd_line_machine.specs.Machine.{after, takes_slot, unless_refused}
 use Rattle.lapd_line_machine.specs.Octet.{gained, aim_of_heard, aim_of_octet, with_received}
 use Rattle.lapd_line_machine.specs.Outcome.{Aim, at_none, at_link, at_management, at_units, told_of_management, of_link, of_change, of_management, of_aim}
@@ -228,3 +230,18 @@ slots_grow c (expiry timer) l ranged s =
     omega (arith, aim_grows c ranged l (aim_of_expiry timer l) s (expiry_proper c l timer), expiry_takes c l timer)
 slots_grow c (request r) l ranged s = request_grows c ranged r l s
 slots_grow c pull l ranged s = omega (arith, pull_grows c ranged l s)
+
+-- a line that begins has none
+always_fresh : (n i : ℕ) → get_or (replicate n fresh) i fresh ≡ fresh
+always_fresh n i =
+    ⊎_elim (λ few. get_or-replicate n i fresh fresh few)
+    (λ past. get_or_past (replicate n fresh) i fresh (omega (arith, past, length-replicate n fresh))) (cases_lt i n)
+
+none_kept : (c : Config) (a n : ℕ) → sum_by (slots_by_link (fresh_line c)) (range_with_len a n) ≡ 0
+none_kept c a zero = refl
+none_kept c a (suc n) =
+    let head : slots_by_link (fresh_line c) a ≡ 0 = ap (λ (x : Link). length (queue_of x)) (always_fresh (link_count c) a) in
+    omega (arith, head, none_kept c (a + 1) n, sum_by-cons (slots_by_link (fresh_line c)) a (range_with_len (a + 1) n))
+
+pub fresh_slots : (c : Config) → slots_of c (fresh_line c) ≡ 0
+fresh_slots c = omega (arith, none_kept c 0 (link_count c))

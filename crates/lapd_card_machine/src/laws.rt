@@ -1,11 +1,16 @@
 //! What holds of whole runs of the machine. Each law is the contract of a call that does nothing; it holds for every list
 //! of events, and so for every front of a list.
 
-ghost use Rattle.lapd_card_machine.specs.Laws.{FramesAmortised, RefusedByTheTable, RunIsMoments, StoredWithinLimit};
+ghost use Rattle.lapd_card_machine.specs.Laws.{CardsStaySound, FramesAmortised, RefusedByTheTable, RunIsMoments, StoredWithinLimit};
 
 /// A run as one fold is its moments, one after the other.
 pub fn run_is_moments()
     ensures { RunIsMoments }
+{}
+
+/// A card is sound as it begins, and each event keeps it so: each line is, and no more slots are in use than there are.
+pub fn cards_stay_sound()
+    ensures { CardsStaySound }
 {}
 
 /// A sound card never stores more octets than its limit, which its configuration alone tells.

@@ -12,3 +12,4 @@ pub mod AimsRise
 pub mod LineRises
 pub mod PullRises
 pub mod EventsRise
+pub mod SlotsGrow

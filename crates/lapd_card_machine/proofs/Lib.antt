@@ -3,3 +3,4 @@ pub mod Amortised
 pub mod Stored
 pub mod Fold
 pub mod Refusals
+pub mod TextGoesOn

@@ -31,16 +31,20 @@ pub event_within : (card : Card) (e : Event) → HasLines card → IsAtLine card
     + k * line.one (line.rejects card.config e.what (line_at e.line card))
 event_within card e h within =
     by_room (λ ls a.
-      line.one (line.is_begun a) + sum_by (line.waiting card.config) ls + 2 * frames_heard card
-      ≤ waiting card + 2 * sum_by (line.frames_heard card.config) ls + line.one (line.is_accepted e.what a)
-      + (window card.config + 1) * line.one (line.is_running_expiry e.what (line_at e.line card))
-      + window card.config * line.one (line.rejects card.config e.what (line_at e.line card))) e card
+    line.one (line.is_begun a) + sum_by (line.waiting card.config) ls + 2 * frames_heard card
+    ≤ waiting card + 2 * sum_by (line.frames_heard card.config) ls + line.one (line.is_accepted e.what a)
+    + (window card.config + 1) * line.one (line.is_running_expiry e.what (line_at e.line card))
+    + window card.config * line.one (line.rejects card.config e.what (line_at e.line card))) e card
     (λ full. omega arith)
     (λ served.
-      let l = line_at e.line card in
-      let x = lines.after card.config e.what l in
-      omega (arith, event_rises card.config e.what l h.config (line_sound card e.line h within),
-        one_line (line.waiting card.config) card e.line x h within, one_line (line.frames_heard card.config) card e.line x h within))
+    let l = line_at e.line card in
+    let x = lines.after card.config e.what l in
+    omega (
+      arith,
+      event_rises card.config e.what l h.config (line_sound card e.line h within),
+      one_line (line.waiting card.config) card e.line x h within,
+      one_line (line.frames_heard card.config) card e.line x h within,
+    ))
 
 -- The bound over a run, by its counts.
 record Within (k w w' f f' s a x j : ℕ) : Type 0 where

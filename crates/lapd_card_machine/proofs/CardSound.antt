@@ -35,11 +35,15 @@ slots_within card e s within =
     by_room (λ ls a. sum_by (slots_of card.config) ls ≤ card.config.slots) e card
     (λ full. s.slots)
     (λ served.
-      let l = line_at e.line card in
-      let h = has_lines card s in
-      let room = room_found (lines.takes_slot card.config e.what l) card.config.slots (used card) served s.slots in
-      omega (arith, room, slots_grow card.config e.what l s.config (line_sound card e.line h within),
-        one_line (slots_of card.config) card e.line (lines.after card.config e.what l) h within))
+    let l = line_at e.line card in
+    let h = has_lines card s in
+    let room = room_found (lines.takes_slot card.config e.what l) card.config.slots (used card) served s.slots in
+    omega (
+      arith,
+      room,
+      slots_grow card.config e.what l s.config (line_sound card e.line h within),
+      one_line (slots_of card.config) card e.line (lines.after card.config e.what l) h within,
+    ))
 
 pub after_is_sound : (card : Card) (e : Event) → IsSound card → IsAtLine card e → IsSound (after e card)
 after_is_sound card e s within =

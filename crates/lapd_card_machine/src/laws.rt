@@ -1,7 +1,7 @@
 //! What holds of whole runs of the machine. Each law is the contract of a call that does nothing; it holds for every list
 //! of events, and so for every front of a list.
 
-ghost use Rattle.lapd_card_machine.specs.Laws.{CardsStaySound, FramesAmortised, RefusedByTheTable, RunIsMoments, StoredWithinLimit};
+ghost use Rattle.lapd_card_machine.specs.Laws.{CardsStaySound, FramesAmortised, RefusedByTheTable, RunIsMoments, StoredWithinLimit, TextGoesOn};
 
 /// A run as one fold is its moments, one after the other.
 pub fn run_is_moments()
@@ -30,4 +30,12 @@ pub fn frames_amortised()
 /// refused for want of room exactly where its place is full; and then nothing changes.
 pub fn refused_by_the_table()
     ensures { RefusedByTheTable }
+{}
+
+/// The octets pulled of a line are a beginning of one text: that of the items before and of those that the pulls put on
+/// the line, closed by flags, whose frames are exactly those that the pulls began, in order. So what a line gives is
+/// flags and whole frames with bits stuffed (Q.921 clause 2), from the first octet on, and no other event, at this line
+/// or at another, puts a bit into it.
+pub fn text_goes_on()
+    ensures { TextGoesOn }
 {}

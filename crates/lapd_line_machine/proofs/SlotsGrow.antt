@@ -56,7 +56,6 @@ use Rattle.lapd_line_machine.proofs.Offered.{fresh_gives_nothing}
 use Rattle.lapd_line_machine.proofs.ProperAims.{heard_aims, octet_proper, expiry_proper, request_proper}
 use Rattle.lapd_line_machine.proofs.PullSound.{round_below}
 
-
 -- one link is another
 one_kept : (c : Config) (all : List Link) (n : ℕ) (x : Link) → length all ≡ link_count c → n < link_count c
     → sum_of_links c (λ i. length (queue_of (get_or (set all n x) i fresh))) + length (queue_of (get_or all n fresh))
@@ -104,8 +103,11 @@ module _ (c : Config) (ranged : IsInRange c) where
   aim_grows l (at_none what) s proper = omega arith
   aim_grows l (at_link service tei place event) s proper = link_grows l s service tei place event proper
   aim_grows l (at_management event) s proper =
-      omega (arith, change_grows l (teis.after event l.management) (teis.after event l.management).places (teis.told event l.management).change
-        (told_of_management (teis.told event l.management)) s (tei_lemmas.changes_are_told event l.management proper s.management))
+      omega (
+        arith,
+        change_grows l (teis.after event l.management) (teis.after event l.management).places (teis.told event l.management).change
+            (told_of_management (teis.told event l.management)) s (tei_lemmas.changes_are_told event l.management proper s.management),
+      )
   aim_grows l (at_units unit) s proper = omega (arith, length-append l.units (unit ∷ []))
 
 -- frames take none
@@ -224,8 +226,11 @@ unfolding after takes_slot
 slots_grow c (octet value) l ranged s =
     let aim = aim_of_octet c value l in
     let m = with_received value l in
-    omega (arith, aim_grows c ranged m aim (received_sound c value l s) (proper_later c value l aim (octet_proper c l value)),
-      octet_takes c l m (gained c.n201 l.received value))
+    omega (
+      arith,
+      aim_grows c ranged m aim (received_sound c value l s) (proper_later c value l aim (octet_proper c l value)),
+      octet_takes c l m (gained c.n201 l.received value),
+    )
 slots_grow c (expiry timer) l ranged s =
     omega (arith, aim_grows c ranged l (aim_of_expiry timer l) s (expiry_proper c l timer), expiry_takes c l timer)
 slots_grow c (request r) l ranged s = request_grows c ranged r l s

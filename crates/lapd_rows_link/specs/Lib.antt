@@ -1,0 +1,2 @@
+-- What a link on its bench is.
+pub mod Works

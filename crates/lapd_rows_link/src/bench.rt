@@ -1,0 +1,88 @@
+//! A link with its shelf.
+
+ghost use Rattle.std.specs.Prelude.{◌≡◌, ◌≤◌, IfOk};
+
+use lapd_frame::{Address, Control, Frame, Refusal, Service};
+use lapd_link::{Answer, Link, LinkRequest, LinkTimer, Offer, Received, StartFault};
+use lapd_store::{Shelf, SlabShelf};
+use std::alloc::Global;
+
+/// A link of TEI 64 for call control, with a shelf of its own.
+#[derive(Drop)]
+pub struct Bench {
+    pub link: Link,
+    pub shelf: SlabShelf,
+}
+
+impl Bench {
+    ghost use Rattle.lapd_rows_link.specs.Works.{Works};
+
+    /// A link that was opened, with a window and a queue of `k` contents of at most 8 octets, over as many slots.
+    pub fn start(alloc: Global, k: u8, slots: u32) -> Result<Bench, StartFault>
+        requires low { 1 ≤ k }
+        requires high { k ≤ 127 }
+        ensures { IfOk result (Works slots) }
+    {
+        let mut link = Link::start(alloc, k, 4)?;
+        let shelf = SlabShelf::start(alloc, slots, 8)?;
+        link.open(Service::Call, 64, k, 3, 8);
+        Ok(Bench { link, shelf })
+    }
+
+    /// The link hears a frame of its terminal.
+    pub fn hear(&mut self, slots: u32, command: bool, control: Control, info: &[u8]) -> Answer
+        requires { Works slots self.old }
+        ensures { Works slots self.new }
+    {
+        let address = Address {
+            sapi: 0,
+            command,
+            tei: 64,
+        };
+        let frame = Frame {
+            address,
+            control,
+            info,
+        };
+        self.link.receive(Received::Frame(frame), &mut self.shelf)
+    }
+
+    /// Layer 3 asks for something.
+    pub fn ask(&mut self, slots: u32, request: LinkRequest<'_>) -> Result<Answer, Refusal>
+        requires { Works slots self.old }
+        ensures { Works slots self.new }
+    {
+        self.link.request(request, &mut self.shelf, slots)
+    }
+
+    /// A timer expires.
+    pub fn expire(&mut self, slots: u32, timer: LinkTimer) -> Answer
+        requires { Works slots self.old }
+        ensures { Works slots self.new }
+    {
+        self.link.expire(timer, &mut self.shelf)
+    }
+
+    /// The next frame is sent.
+    pub fn offer(&mut self, slots: u32) -> Option<Offer>
+        requires { Works slots self.old }
+        ensures { Works slots self.new }
+    {
+        self.link.offer()
+    }
+
+    /// The TEI leaves the line.
+    pub fn clear(&mut self, slots: u32) -> Answer
+        requires { Works slots self.old }
+        ensures { Works slots self.new }
+    {
+        self.link.clear(&mut self.shelf)
+    }
+
+    /// The octets of its control frames, and of the contents on its shelf.
+    pub fn stored(&self, slots: u32) -> (u32, u64)
+        requires { Works slots self.now }
+    {
+        (self.link.held(), self.shelf.octets())
+    }
+}

@@ -1,0 +1,18 @@
+//! Tests of data links over a shelf; there is nothing to call but what the tests stand on.
+//!
+//! - `bench`: a link with its shelf.
+//! - `life`: each call of a link once, from the establishment to the end of its TEI.
+//! - `refusals`: each refusal once, with the link and the shelf as before.
+//! - `recovery`: an I-frame that is lost between two links comes again after REJ.
+#![tactic(auto)]
+
+mod bench;
+
+pub use bench::Bench;
+
+#[cfg(test)]
+mod life;
+#[cfg(test)]
+mod recovery;
+#[cfg(test)]
+mod refusals;

@@ -15,3 +15,6 @@ pub mod Numbering
 pub mod Slots
 pub mod Telling
 pub mod TellRows
+pub mod Lines
+pub mod Facing
+pub mod Giving

@@ -52,7 +52,7 @@ pub record Reports (r : ℕ) (before after : List ControlFrame) : Type 0 where
   pub more : after ≡ before ++ news
   pub are : AreReports r news
 
-no-reports : (r : ℕ) (ws : List ControlFrame) → Reports r ws ws
+pub no-reports : (r : ℕ) (ws : List ControlFrame) → Reports r ws ws
 no-reports r ws = record { news = []; more = sym (append-nil ws); are = tt }
 
 reported : (r : ℕ) (before after : List ControlFrame) (f : ControlFrame) (b : Bool) → IsReport r f.control → Reports r before after

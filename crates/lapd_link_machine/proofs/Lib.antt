@@ -18,3 +18,5 @@ pub mod TellRows
 pub mod Lines
 pub mod Facing
 pub mod Giving
+pub mod FacingInformation
+pub mod Direction

@@ -1,6 +1,7 @@
 -- One direction between two ends: what the sender's contents become on the line and at the receiver.
-use Rattle.std.proofs.Common.{◌≡◌, ℕ, ◌+◌, ◌%◌, ◌<◌, ◌≤◌, List, [], ◌∷◌, ◌++◌, length, take, Some, refl, sym, ap, subst, ◌∙◌, append_assoc, append-nil, arith}
+use Rattle.std.proofs.Common.{length-append, ◌≡◌, ℕ, ◌+◌, ◌%◌, ◌<◌, ◌≤◌, List, [], ◌∷◌, ◌++◌, length, take, Some, refl, sym, drop, ap, subst, ◌∙◌, append_assoc, append-nil, arith}
 use Rattle.std.specs.Prelude.{slice_get}
+use Rattle.std.proofs.lemmas.List.{take-append-le}
 use Rattle.lapd_seq.specs.declared.numbers.Seq.{Seq}
 use Rattle.lapd_seq.specs.Numbers.{seq}
 use Rattle.lapd_seq.proofs.Callers.{seq-value}
@@ -9,9 +10,9 @@ use Rattle.lapd_frame.specs.declared.controls.Control.TheVariants.{Information, 
 use Rattle.lapd_frame.specs.Grammar.{Parts}
 use Rattle.lapd_link_machine.specs.declared.frames.ControlFrame.{ControlFrame}
 use Rattle.lapd_link_machine.specs.declared.terms.Terms.{Terms}
-use Rattle.lapd_link_machine.specs.Link.{frame_of}
+use Rattle.lapd_link_machine.specs.Link.{Link, frame_of}
 use Rattle.lapd_link_machine.specs.TwoEnds.{End}
-use Rattle.lapd_link_machine.proofs.Lines.{Carries, Piece, Carried, Means, Rising, carried-push, rising-push}
+use Rattle.lapd_link_machine.proofs.Lines.{Carries, Piece, Carried, Means, Rising, carried-more, carried-lower, carried-push, rising-lower, rising-push}
 use Rattle.lapd_link_machine.proofs.Facing.{IsReport, AreReports, Reports}
 
 -- The frames that wait, as they will go.
@@ -99,3 +100,62 @@ carries-next contents high r top a k ns octets e small low h next =
     let below : h.number < high = h.below in
     let same : h.number ≡ r = omega arith in
     (subst (λ i. slice_get contents i ≡ Some octets) same h.same, subst (λ i. i + 1 ≤ top) same h.next)
+
+-- The sender goes on: more contents may be accepted, and reports may wait.
+pub sender-goes : (n m : End) (l : Link) (more : List (List ℕ)) (r : ℕ) → l.contents ≡ n.link.contents ++ more → l.a ≡ n.link.a
+    → Reports r n.link.waiting l.waiting → Direction n m → Direction (record n { link = l }) m
+sender-goes n m l more r same still reports h =
+    let line = line-grows n.terms n.way n.link.waiting l.waiting r reports in
+    let c1 = carried-more n.link.contents more (n.link.a + n.terms.k) m.link.r (line_of n) h.carried in
+    let c2 = carried-reports n.terms (n.link.contents ++ more) (n.link.a + n.terms.k) m.link.r r (line_of n) reports.news reports.are c1 in
+    record {
+      carried =
+          subst (λ fs. Carried l.contents (l.a + n.terms.k) m.link.r fs) (sym line)
+          (subst (λ cs. Carried cs (l.a + n.terms.k) m.link.r (line_of n ++ frames_of n.terms reports.news)) (sym same)
+          (subst (λ a. Carried (n.link.contents ++ more) (a + n.terms.k) m.link.r (line_of n ++ frames_of n.terms reports.news)) (sym still) c2));
+      rising = subst (λ a. Rising a m.link.r (line_of m)) (sym still) h.rising;
+      delivered = h.delivered ∙ sym (ap (λ cs. take m.link.r cs) same ∙ take-append-le m.link.r n.link.contents more h.accepted);
+      accepted = subst (λ cs. m.link.r ≤ length cs) (sym same) (let size : length (n.link.contents ++ more) ≡ length n.link.contents + length more = length-append n.link.contents more in let here : m.link.r ≤ length n.link.contents = h.accepted in omega arith);
+    }
+
+-- The receiver goes on: it delivers nothing, and reports its V(R).
+pub receiver-goes : (n m : End) (l : Link) → l.r ≡ m.link.r → Reports m.link.r m.link.waiting l.waiting → Direction n m
+    → Direction n (record m { link = l })
+receiver-goes n m l same reports h =
+    let line = line-grows m.terms m.way m.link.waiting l.waiting m.link.r reports in
+    record {
+      carried = subst (λ r. Carried n.link.contents (n.link.a + n.terms.k) r (line_of n)) (sym same) h.carried;
+      rising =
+          subst (λ r. Rising n.link.a r (m.way ++ frames_of m.terms l.waiting)) (sym same)
+          (subst (Rising n.link.a m.link.r) (sym line) (rising-reports m.terms n.link.a m.link.r (line_of m) reports.news reports.are h.rising));
+      delivered = h.delivered ∙ ap (λ r. take r n.link.contents) (sym same);
+      accepted = subst (λ r. r ≤ length n.link.contents) (sym same) h.accepted;
+    }
+
+-- The first frame of a way is lost.
+lost-carried : (contents : List (List ℕ)) (high r : ℕ) (way rest : List Parts) → Carried contents high r (way ++ rest)
+    → Carried contents high r (drop 1 way ++ rest)
+lost-carried contents high r [] rest h = h
+lost-carried contents high r (f ∷ fs) rest (top, up, piece, h) = carried-lower contents high top r (fs ++ rest) up h
+
+lost-rising : (a r : ℕ) (way rest : List Parts) → Rising a r (way ++ rest) → Rising a r (drop 1 way ++ rest)
+lost-rising a r [] rest h = h
+lost-rising a r (f ∷ fs) rest (m, up, means, h) = rising-lower m a r (fs ++ rest) up h
+
+pub sender-loses : (n m : End) → Direction n m → Direction (record n { way = drop 1 n.way }) m
+sender-loses n m h =
+    record {
+      carried = lost-carried n.link.contents (n.link.a + n.terms.k) m.link.r n.way (frames_of n.terms n.link.waiting) h.carried;
+      rising = h.rising;
+      delivered = h.delivered;
+      accepted = h.accepted;
+    }
+
+pub receiver-loses : (n m : End) → Direction n m → Direction n (record m { way = drop 1 m.way })
+receiver-loses n m h =
+    record {
+      carried = h.carried;
+      rising = lost-rising n.link.a m.link.r m.way (frames_of m.terms m.link.waiting) h.rising;
+      delivered = h.delivered;
+      accepted = h.accepted;
+    }

@@ -15,3 +15,8 @@ pub mod Numbering
 pub mod Slots
 pub mod Telling
 pub mod TellRows
+pub mod Lines
+pub mod Facing
+pub mod Giving
+pub mod FacingInformation
+pub mod Direction

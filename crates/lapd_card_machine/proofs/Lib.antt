@@ -4,3 +4,5 @@ pub mod Stored
 pub mod Fold
 pub mod Refusals
 pub mod TextGoesOn
+pub mod NumberedForms
+pub mod Numbering

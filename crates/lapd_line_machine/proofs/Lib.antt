@@ -12,3 +12,5 @@ pub mod AimsRise
 pub mod LineRises
 pub mod PullRises
 pub mod EventsRise
+pub mod Numbered
+pub mod NumberedEvents

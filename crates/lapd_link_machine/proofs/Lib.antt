@@ -15,3 +15,4 @@ pub mod Numbering
 pub mod Slots
 pub mod Telling
 pub mod TellRows
+pub mod OwnNotes

@@ -13,3 +13,4 @@ pub mod LineRises
 pub mod PullRises
 pub mod EventsRise
 pub mod SlotsGrow
+pub mod NotPool

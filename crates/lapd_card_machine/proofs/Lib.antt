@@ -4,3 +4,4 @@ pub mod Stored
 pub mod Fold
 pub mod Refusals
 pub mod CardSound
+pub mod Isolated

@@ -1,7 +1,7 @@
 //! What holds of whole runs of the machine. Each law is the contract of a call that does nothing; it holds for every list
 //! of events, and so for every front of a list.
 
-ghost use Rattle.lapd_card_machine.specs.Laws.{CardsStaySound, FramesAmortised, RefusedByTheTable, RunIsMoments, StoredWithinLimit};
+ghost use Rattle.lapd_card_machine.specs.Laws.{CardsStaySound, FramesAmortised, LinesIsolated, RefusedByTheTable, RunIsMoments, StoredWithinLimit};
 
 /// A run as one fold is its moments, one after the other.
 pub fn run_is_moments()
@@ -30,4 +30,10 @@ pub fn frames_amortised()
 /// refused for want of room exactly where its place is full; and then nothing changes.
 pub fn refused_by_the_table()
     ensures { RefusedByTheTable }
+{}
+
+/// From a fresh card on, for each line: its answers but for a full pool, octets pulled among them, are those of a fresh card
+/// of the same configuration on which only the events at that line happened, without the requests that found the pool full.
+pub fn lines_isolated()
+    ensures { LinesIsolated }
 {}

@@ -14,3 +14,4 @@ pub mod PullRises
 pub mod EventsRise
 pub mod SlotsGrow
 pub mod NotPool
+pub mod Rejects

@@ -15,3 +15,4 @@ pub mod EventsRise
 pub mod SlotsGrow
 pub mod NotPool
 pub mod Rejects
+pub mod RejectsHeard

@@ -27,11 +27,12 @@ use Rattle.lapd_line_machine.proofs.ProperAims.{heard_aims, octet_proper}
 
 -- ---- what an octet brings
 
-record Brings (c : Config) (l : Line) (value : ℕ) : Type 0 where
-  event : Option stream.Event
-  gains : gained c.n201 l.received value ≡ event
-  frames : frames_heard c (with_received value l) ≡ frames_heard c l + count_by is_frame (option_to_list event)
-  long_frames : long_frames_heard c (with_received value l) ≡ long_frames_heard c l + count_by is_long_frame (option_to_list event)
+pub record Brings (c : Config) (l : Line) (value : ℕ) : Type 0 where
+  pub event : Option stream.Event
+  pub heard : stream.heard_in c.n201 (l.received ++ value ∷ []) ≡ stream.heard_in c.n201 l.received ++ option_to_list event
+  pub gains : gained c.n201 l.received value ≡ event
+  pub frames : frames_heard c (with_received value l) ≡ frames_heard c l + count_by is_frame (option_to_list event)
+  pub long_frames : long_frames_heard c (with_received value l) ≡ long_frames_heard c l + count_by is_long_frame (option_to_list event)
 
 next_of : {X : Type 0} (xs : List X) (o : Option X) → slice_get (xs ++ option_to_list o) (length xs) ≡ o
 next_of [] None = refl
@@ -41,12 +42,13 @@ next_of (y ∷ xs) o = next_of xs o
 count_both : {X : Type 0} (p : X → Bool) (xs ys : List X) → count_by p (xs ++ ys) ≡ count_by p xs + count_by p ys
 count_both p xs ys = sum_by-append (λ x. cond (p x) 1 0) xs ys
 
-brings : (c : Config) (l : Line) (value : ℕ) → Brings c l value
+pub brings : (c : Config) (l : Line) (value : ℕ) → Brings c l value
 brings c l value =
     let heard = stream.heard_in c.n201 l.received in
     let one_more = one_event_an_octet c.n201 l.received value in
     record {
       event = one_more.0;
+      heard = one_more.1;
       gains = ap (λ xs. slice_get xs (length heard)) one_more.1 ∙ next_of heard one_more.0;
       frames = ap (count_by is_frame) one_more.1 ∙ count_both is_frame heard (option_to_list one_more.0);
       long_frames = ap (count_by is_long_frame) one_more.1 ∙ count_both is_long_frame heard (option_to_list one_more.0);

@@ -5,3 +5,4 @@ pub mod Fold
 pub mod Refusals
 pub mod CardSound
 pub mod Isolated
+pub mod Linear

@@ -1,7 +1,7 @@
 //! What holds of whole runs of the machine. Each law is the contract of a call that does nothing; it holds for every list
 //! of events, and so for every front of a list.
 
-ghost use Rattle.lapd_card_machine.specs.Laws.{CardsStaySound, FramesAmortised, LinesIsolated, RefusedByTheTable, RunIsMoments, StoredWithinLimit};
+ghost use Rattle.lapd_card_machine.specs.Laws.{CardsStaySound, FramesAmortised, FramesLinear, LinesIsolated, RefusedByTheTable, RunIsMoments, StoredWithinLimit};
 
 /// A run as one fold is its moments, one after the other.
 pub fn run_is_moments()
@@ -36,4 +36,10 @@ pub fn refused_by_the_table()
 /// of the same configuration on which only the events at that line happened, without the requests that found the pool full.
 pub fn lines_isolated()
     ensures { LinesIsolated }
+{}
+
+/// From a fresh card on, the frames sent are linear in the octets received, the accepted requests and the expiries of running
+/// timers: each frame takes six octets of its line at least, and each REJ seven.
+pub fn frames_linear()
+    ensures { FramesLinear }
 {}

@@ -16,3 +16,4 @@ pub mod SlotsGrow
 pub mod NotPool
 pub mod Rejects
 pub mod RejectsHeard
+pub mod EventsReject

@@ -28,4 +28,4 @@ IsRejectHeard c e l = one (rejects c e l) + long_frames_heard c l ≤ long_frame
 
 pub record LinesRise : Type 0 where
   pub rises : (c : Config) (e : Event) (l : Line) → IsInRange c → IsSound c l → Rises c e l
-  pub rejects : (c : Config) (e : Event) (l : Line) → IsRejectHeard c e l
+  pub rejects : (c : Config) (e : Event) (l : Line) → IsInRange c → IsSound c l → IsRejectHeard c e l

@@ -1,11 +1,9 @@
 -- The frames sent, amortised.
-use Rattle.std.proofs.Common.{◌≡◌, ℕ, ◌+◌, ◌*◌, ◌≤◌, ◌<◌, Bool, true, false, List, [], ◌∷◌, length, max, refl, ap, sym, ◌∙◌, subst, cond, arith}
-use Rattle.std.specs.Prelude.{sum_by, count_by, All}
+use Rattle.std.proofs.Common.{◌≡◌, ℕ, ◌+◌, ◌*◌, ◌≤◌, false, List, [], ◌∷◌, refl, sym, subst, arith}
+use Rattle.std.specs.Prelude.{sum_by}
 use Rattle.std.proofs.lemmas.List.Elements.{All-head, All-tail}
 use Rattle.lapd_frame.specs.declared.refusals.Refusal.TheVariants.{PoolFull}
-use Rattle.lapd_line_machine.specs.declared.config.Config.{Config}
-use Rattle.lapd_line_machine.specs.Answer.{Answer, Event as LineEvent, octet, expiry, request, pull, refused}
-use Rattle.lapd_line_machine.specs.Line.{Line}
+use Rattle.lapd_line_machine.specs.Answer.{Event as LineEvent, octet, expiry, request, pull, refused}
 use Rattle.lapd_line_machine.specs.Machine as lines
 use Rattle.lapd_line_machine.specs.Counts as line
 use Rattle.lapd_line_machine.proofs.EventsRise.{event_rises}
@@ -31,16 +29,20 @@ pub event_within : (card : Card) (e : Event) → HasLines card → IsAtLine card
     + k * line.one (line.rejects card.config e.what (line_at e.line card))
 event_within card e h within =
     by_room (λ ls a.
-      line.one (line.is_begun a) + sum_by (line.waiting card.config) ls + 2 * frames_heard card
-      ≤ waiting card + 2 * sum_by (line.frames_heard card.config) ls + line.one (line.is_accepted e.what a)
-      + (window card.config + 1) * line.one (line.is_running_expiry e.what (line_at e.line card))
-      + window card.config * line.one (line.rejects card.config e.what (line_at e.line card))) e card
+    line.one (line.is_begun a) + sum_by (line.waiting card.config) ls + 2 * frames_heard card
+    ≤ waiting card + 2 * sum_by (line.frames_heard card.config) ls + line.one (line.is_accepted e.what a)
+    + (window card.config + 1) * line.one (line.is_running_expiry e.what (line_at e.line card))
+    + window card.config * line.one (line.rejects card.config e.what (line_at e.line card))) e card
     (λ full. omega arith)
     (λ served.
-      let l = line_at e.line card in
-      let x = lines.after card.config e.what l in
-      omega (arith, event_rises card.config e.what l h.config (line_sound card e.line h within),
-        one_line (line.waiting card.config) card e.line x h within, one_line (line.frames_heard card.config) card e.line x h within))
+    let l = line_at e.line card in
+    let x = lines.after card.config e.what l in
+    omega (
+      arith,
+      event_rises card.config e.what l h.config (line_sound card e.line h within),
+      one_line (line.waiting card.config) card e.line x h within,
+      one_line (line.frames_heard card.config) card e.line x h within,
+    ))
 
 -- The bound over a run, by its counts.
 record Within (k w w' f f' s a x j : ℕ) : Type 0 where

@@ -1,20 +1,17 @@
 -- A card is sound as it begins, and each event keeps it so.
-use Rattle.std.proofs.Common.{◌≡◌, ℕ, zero, suc, ◌+◌, ◌*◌, ◌≤◌, ◌<◌, Bool, true, false, ◌&&◌, List, [], ◌∷◌, length, replicate, set, nat_le, refl, ap, sym, ◌∙◌, subst, cond, arith}
-use Rattle.std.specs.Prelude.{sum_by, All}
-use Rattle.std.specs.List.{range_with_len}
-use Rattle.std.proofs.lemmas.Bool.{leb-false, true≢false}
+use Rattle.std.proofs.Common.{◌≡◌, ℕ, ◌+◌, ◌*◌, ◌≤◌, ◌<◌, Bool, true, false, ◌&&◌, List, [], ◌∷◌, nat_le, ap, ◌∙◌, arith}
+use Rattle.std.specs.Prelude.{sum_by}
+use Rattle.std.proofs.lemmas.Bool.{leb-false}
 use Rattle.std.proofs.lemmas.List.Elements.{All-head, All-tail}
 use Rattle.std.proofs.lemmas.List.Folds.{sum_by-replicate}
-use Rattle.lapd_link_machine.specs.Link.{fresh as fresh_link, queue_of}
 use Rattle.lapd_line_machine.specs.declared.config.Config.{Config}
-use Rattle.lapd_line_machine.specs.Answer.{Answer}
 use Rattle.lapd_line_machine.specs.Counts.{one}
-use Rattle.lapd_line_machine.specs.Line.{Line, fresh_line}
+use Rattle.lapd_line_machine.specs.Line.{fresh_line}
 use Rattle.lapd_line_machine.specs.Machine as lines
 use Rattle.lapd_line_machine.specs.Sound as line
 use Rattle.lapd_line_machine.specs.Stored.{slots_of}
 use Rattle.lapd_line_machine.proofs.SlotsGrow.{slots_grow, fresh_slots}
-use Rattle.lapd_card_machine.specs.Card.{Card, fresh, line_at, used, is_full}
+use Rattle.lapd_card_machine.specs.Card.{Card, fresh, line_at, used}
 use Rattle.lapd_card_machine.specs.Event.{Event}
 use Rattle.lapd_card_machine.specs.Laws.{CardsStaySound}
 use Rattle.lapd_card_machine.specs.Machine.{after}
@@ -35,11 +32,15 @@ slots_within card e s within =
     by_room (λ ls a. sum_by (slots_of card.config) ls ≤ card.config.slots) e card
     (λ full. s.slots)
     (λ served.
-      let l = line_at e.line card in
-      let h = has_lines card s in
-      let room = room_found (lines.takes_slot card.config e.what l) card.config.slots (used card) served s.slots in
-      omega (arith, room, slots_grow card.config e.what l s.config (line_sound card e.line h within),
-        one_line (slots_of card.config) card e.line (lines.after card.config e.what l) h within))
+    let l = line_at e.line card in
+    let h = has_lines card s in
+    let room = room_found (lines.takes_slot card.config e.what l) card.config.slots (used card) served s.slots in
+    omega (
+      arith,
+      room,
+      slots_grow card.config e.what l s.config (line_sound card e.line h within),
+      one_line (slots_of card.config) card e.line (lines.after card.config e.what l) h within,
+    ))
 
 pub after_is_sound : (card : Card) (e : Event) → IsSound card → IsAtLine card e → IsSound (after e card)
 after_is_sound card e s within =

@@ -1,26 +1,23 @@
 -- What a card does at one line, beside what happens at the others.
-use Rattle.std.proofs.Common.{◌≡◌, ◌≢◌, ℕ, zero, suc, ◌+◌, ◌*◌, ◌≤◌, ◌<◌, ◌==◌, Bool, true, false, not, ◌&&◌, List, [], ◌∷◌, length, get_or, set, nat_le, refl, ap, sym, ◌∙◌, subst, cond, arith, ◌⊎◌, inl, inr, ⊎_elim, length-set}
-use Rattle.std.specs.Prelude.{sum_by, All, map, filter}
+use Rattle.std.proofs.Common.{◌≡◌, ◌≢◌, ℕ, ◌≤◌, ◌<◌, ◌==◌, Bool, true, false, not, ◌&&◌, List, [], ◌∷◌, length, get_or, set, nat_le, refl, ap, sym, ◌∙◌, subst, cond, arith, ◌⊎◌, inl, inr, ⊎_elim, length-set}
+use Rattle.std.specs.Prelude.{sum_by, map, filter}
 use Rattle.std.proofs.lemmas.Bool.{leb-false, lt-leb, and_parts, true≢false, eqb-true, eq-eqb, cases_eq}
 use Rattle.std.proofs.lemmas.List.{get_or-set_same, get_or-set_other, get_or-replicate}
-use Rattle.std.proofs.lemmas.List.Elements.{All-head, All-tail}
 use Rattle.std.proofs.lemmas.List.Sums.{get_or-le-sum_by, sum_by-set}
 use Rattle.lapd_frame.specs.declared.refusals.Refusal.TheVariants.{PoolFull}
-use Rattle.lapd_line_machine.specs.declared.config.Config.{Config}
 use Rattle.lapd_line_machine.specs.Answer.{Answer, refused}
 use Rattle.lapd_line_machine.specs.Counts.{is_pool_full}
 use Rattle.lapd_line_machine.specs.Line.{Line, fresh_line}
 use Rattle.lapd_line_machine.specs.Machine as lines
-use Rattle.lapd_line_machine.specs.Sound as line
 use Rattle.lapd_line_machine.specs.Stored.{slots_of}
 use Rattle.lapd_line_machine.proofs.NotPool.{line_not_pool}
 use Rattle.lapd_line_machine.proofs.SlotsGrow.{fresh_slots}
-use Rattle.lapd_card_machine.specs.Card.{Card, fresh, line_at, used, is_full}
+use Rattle.lapd_card_machine.specs.Card.{Card, fresh, line_at, used}
 use Rattle.lapd_card_machine.specs.Event.{Event}
 use Rattle.lapd_card_machine.specs.Isolation.{is_served_at, event_in, answer_in, events_at, answers_at}
 use Rattle.lapd_card_machine.specs.Laws.{LinesIsolated}
 use Rattle.lapd_card_machine.specs.Machine.{wants_room, after, answer}
-use Rattle.lapd_card_machine.specs.Run.{Moment, moments, IsAtLine, AreAtLines}
+use Rattle.lapd_card_machine.specs.Run.{moments}
 use Rattle.lapd_card_machine.proofs.CardSound.{fresh_used}
 use Rattle.lapd_card_machine.proofs.Steps.{by_room, fresh_lines}
 
@@ -67,15 +64,15 @@ other_line number card ls e other a =
     by_room (λ all answer'. Alone number (with_lines card all) ls) e card
     (λ full. record { inside = a.inside; inside_alone = a.inside_alone; same = a.same; own = a.own })
     (λ served.
-      let x = lines.after card.config e.what (line_at e.line card) in
-      let kept : get_or (set card.lines e.line x) number (fresh_line card.config) ≡ line_at number card =
-      get_or-set_other card.lines e.line number x (fresh_line card.config) other in
-      record {
-        inside = omega (arith, a.inside, length-set card.lines e.line x);
-        inside_alone = a.inside_alone;
-        same = a.same ∙ sym kept;
-        own = a.own ∙ ap (slots_of card.config) (sym kept);
-      })
+    let x = lines.after card.config e.what (line_at e.line card) in
+    let kept : get_or (set card.lines e.line x) number (fresh_line card.config) ≡ line_at number card =
+    get_or-set_other card.lines e.line number x (fresh_line card.config) other in
+    record {
+      inside = omega (arith, a.inside, length-set card.lines e.line x);
+      inside_alone = a.inside_alone;
+      same = a.same ∙ sym kept;
+      own = a.own ∙ ap (slots_of card.config) (sym kept);
+    })
 
 -- an event at the line that is served is served there too
 room_alone : (takes : Bool) (slots in_use own : ℕ) → (takes && nat_le slots in_use) ≡ false → own ≤ in_use → (takes && nat_le slots own) ≡ false
@@ -130,16 +127,16 @@ passed_over : (number : ℕ) (card : Card) (ls : List Line) (e : Event)
 passed_over number card ls e p a =
     ⊎_elim
     (λ same.
-      ⊎_elim
-      (λ refused'. subst (λ (k : Card). Alone number k ls) (sym refused'.stays) a)
-      (λ served.
-        let at : (e.line == number) ≡ true = eq-eqb e.line number same in
-        let own : is_pool_full (answer e card) ≡ false =
-        ap is_pool_full served.answers ∙ line_not_pool card.config e.what (line_at e.line card) in
-        let yes : ((e.line == number) && not (is_pool_full (answer e card))) ≡ true =
-        ap (λ b. b && not (is_pool_full (answer e card))) at ∙ ap (λ b. not b) own in
-        absurd (true≢false (sym yes ∙ p)))
-      (which e card))
+    ⊎_elim
+    (λ refused'. subst (λ (k : Card). Alone number k ls) (sym refused'.stays) a)
+    (λ served.
+    let at : (e.line == number) ≡ true = eq-eqb e.line number same in
+    let own : is_pool_full (answer e card) ≡ false =
+    ap is_pool_full served.answers ∙ line_not_pool card.config e.what (line_at e.line card) in
+    let yes : ((e.line == number) && not (is_pool_full (answer e card))) ≡ true =
+    ap (λ b. b && not (is_pool_full (answer e card))) at ∙ ap (λ b. not b) own in
+    absurd (true≢false (sym yes ∙ p)))
+    (which e card))
     (λ other. other_line number card ls e (λ x. other (sym x)) a)
     (cases_eq e.line number)
 
@@ -151,11 +148,11 @@ taken_in number card ls e p a =
     let at : e.line ≡ number = eqb-true e.line number both.0 in
     subst (λ n. Alike n card ls e) at
     (⊎_elim
-      (λ refused'.
-        let full : is_pool_full (answer e card) ≡ true = ap is_pool_full refused'.refusal in
-        absurd (true≢false (sym both.1 ∙ ap (λ b. not b) full)))
-      (λ served. served_alike card ls e served (subst (λ n. Alone n card ls) (sym at) a))
-      (which e card))
+    (λ refused'.
+    let full : is_pool_full (answer e card) ≡ true = ap is_pool_full refused'.refusal in
+    absurd (true≢false (sym both.1 ∙ ap (λ b. not b) full)))
+    (λ served. served_alike card ls e served (subst (λ n. Alone n card ls) (sym at) a))
+    (which e card))
 
 isolated : (number : ℕ) (events : List Event) (card : Card) (ls : List Line) → Alone number card ls
     → answers_at number (moments card events) ≡ map answer_in (moments (with_lines card ls) (events_at number (moments card events)))
@@ -167,8 +164,8 @@ isolated number (e ∷ events) card ls a =
   where
     go : (b : Bool) → ((e.line == number) && not (is_pool_full (answer e card))) ≡ b
         → ((next : List Line) → Alone number (after e card) next
-          → map answer_in (filter (is_served_at number) (moments (after e card) events))
-          ≡ map answer_in (moments (with_lines card next) (map event_in (filter (is_served_at number) (moments (after e card) events)))))
+        → map answer_in (filter (is_served_at number) (moments (after e card) events))
+        ≡ map answer_in (moments (with_lines card next) (map event_in (filter (is_served_at number) (moments (after e card) events)))))
         → map answer_in (cond b (record { card = card; event = e; answer = answer e card } ∷ filter (is_served_at number) (moments (after e card) events)) (filter (is_served_at number) (moments (after e card) events)))
         ≡ map answer_in (moments (with_lines card ls) (map event_in (cond b (record { card = card; event = e; answer = answer e card } ∷ filter (is_served_at number) (moments (after e card) events)) (filter (is_served_at number) (moments (after e card) events)))))
     go false p later = later ls (passed_over number card ls e p a)

@@ -1,13 +1,12 @@
 -- The frames sent are linear in the octets received.
-use Rattle.std.proofs.Common.{◌≡◌, ℕ, ◌+◌, ◌*◌, ◌≤◌, ◌<◌, Bool, true, false, List, [], ◌∷◌, length, max, refl, ap, sym, ◌∙◌, subst, cond, arith}
-use Rattle.std.specs.Prelude.{sum_by, count_by, All}
+use Rattle.std.proofs.Common.{◌≡◌, ℕ, ◌+◌, ◌*◌, ◌≤◌, List, [], ◌∷◌, ap, sym, ◌∙◌, subst, arith}
+use Rattle.std.specs.Prelude.{sum_by}
 use Rattle.std.proofs.lemmas.Bool.{and_parts}
 use Rattle.std.proofs.lemmas.List.Elements.{All-head, All-tail}
 use Rattle.std.proofs.lemmas.List.Folds.{sum_by-replicate}
 use Rattle.std.proofs.lemmas.List.Sums.{sum_by-cons}
 use Rattle.std.proofs.Math.Nat.{mul-le-mul_left}
 use Rattle.lapd_line_machine.specs.declared.config.Config.{Config}
-use Rattle.lapd_line_machine.specs.Answer.{Answer}
 use Rattle.lapd_line_machine.specs.Line.{Line, fresh_line}
 use Rattle.lapd_line_machine.specs.Machine as lines
 use Rattle.lapd_line_machine.specs.Counts as line
@@ -30,11 +29,14 @@ event_heard card e h within =
     let l = line_at e.line card in
     by_room (λ ls a. line.one (line.rejects card.config e.what l) + long_frames_heard card ≤ sum_by (line.long_frames_heard card.config) ls) e card
     (λ full.
-      let takes = (and_parts (lines.takes_slot card.config e.what l) (is_full card) full).0 in
-      omega (arith, ap line.one (takes_no_reject card.config e.what l takes)))
+    let takes = (and_parts (lines.takes_slot card.config e.what l) (is_full card) full).0 in
+    omega (arith, ap line.one (takes_no_reject card.config e.what l takes)))
     (λ served.
-      omega (arith, event_rejects card.config e.what l h.config (line_sound card e.line h within),
-        one_line (line.long_frames_heard card.config) card e.line (lines.after card.config e.what l) h within))
+    omega (
+      arith,
+      event_rejects card.config e.what l h.config (line_sound card e.line h within),
+      one_line (line.long_frames_heard card.config) card e.line (lines.after card.config e.what l) h within,
+    ))
 
 run_heard : (card : Card) (events : List Event) → HasLines card → AreAtLines card events
     → rejected (moments card events) + long_frames_heard card ≤ long_frames_heard (after_all card events)

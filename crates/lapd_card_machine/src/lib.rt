@@ -15,4 +15,7 @@ mod events;
 mod laws;
 
 pub use events::Event;
-pub use laws::{cards_stay_sound, frames_amortised, frames_linear, lines_isolated, refused_by_the_table, run_is_moments, stored_within_limit};
+pub use laws::{
+    cards_stay_sound, frames_amortised, frames_linear, lines_isolated, refused_by_the_table,
+    run_is_moments, stored_within_limit,
+};

@@ -1,5 +1,5 @@
 -- Each event that brings an REJ with a valid N(R) is heard as a frame of four octets.
-use Rattle.std.proofs.Common.{◌≡◌, ℕ, ◌+◌, ◌≤◌, Bool, true, false, List, Option, Some, None, IfSome, refl, ap, subst, cond, arith}
+use Rattle.std.proofs.Common.{◌≡◌, ℕ, Bool, true, false, Option, Some, None, IfSome, refl, ap, cond, arith}
 use Rattle.std.specs.Prelude.{count_by}
 use Rattle.std.proofs.lemmas.Bool.{false≢true}
 use Rattle.lapd_bits.specs.Stream as stream
@@ -19,7 +19,7 @@ use Rattle.lapd_line_machine.specs.Line.{Line, place_in}
 use Rattle.lapd_line_machine.specs.Machine.{after, takes_slot, unless_refused}
 use Rattle.lapd_line_machine.specs.Octet.{aim_of_octet, with_received}
 use Rattle.lapd_line_machine.specs.Outcome.{Aim, of_aim}
-use Rattle.lapd_line_machine.specs.Pull.{Taken, taken, is_due, with_item, with_due}
+use Rattle.lapd_line_machine.specs.Pull.{Taken, taken, is_due, with_item}
 use Rattle.lapd_line_machine.specs.Refusal.{refusal}
 use Rattle.lapd_line_machine.specs.Request.{Request, Establish, Release, Data, Unit, Assign, Remove, Check, SetBusy, ClearBusy}
 use Rattle.lapd_line_machine.specs.Requested.{at_requested, aim_of_request}

@@ -1,29 +1,25 @@
 -- By how much an event lets rise what a line sends and may still send.
-use Rattle.std.proofs.Common.{◌≡◌, ℕ, zero, suc, ◌+◌, ◌*◌, ◌≤◌, ◌<◌, Bool, true, false, List, [], ◌∷◌, ◌++◌, length, slice_get, max, Option, Some, None, is_some, option_map, option_to_list, refl, ap, sym, ◌∙◌, subst, cond, arith, append-nil}
-use Rattle.std.specs.Prelude.{count_by, sum_by}
+use Rattle.std.proofs.Common.{◌≡◌, ℕ, ◌+◌, ◌*◌, ◌≤◌, Bool, true, false, List, [], ◌∷◌, ◌++◌, length, slice_get, max, Option, Some, None, option_to_list, refl, ap, sym, ◌∙◌, subst, cond, arith}
+use Rattle.std.specs.Prelude.{count_by}
 use Rattle.std.specs.Option.{option_map_or}
 use Rattle.std.proofs.lemmas.List.Sums.{sum_by-append}
 use Rattle.lapd_bits.specs.Stream as stream
 use Rattle.lapd_bits.proofs.OneEvent.{one_event_an_octet}
 use Rattle.lapd_frame.specs.declared.services.Service.{Service}
 use Rattle.lapd_frame.specs.declared.services.Service.TheVariants.{Call, Packet}
-use Rattle.lapd_frame.specs.declared.refusals.Refusal.{Refusal}
-use Rattle.lapd_frame.specs.declared.timers.Timer.{Timer}
 use Rattle.lapd_link_machine.specs.Events as link
 use Rattle.lapd_link_machine.specs.Rises as rises
 use Rattle.lapd_line_machine.specs.declared.config.Config.{Config}
-use Rattle.lapd_line_machine.specs.Counts.{one, waiting, is_frame, frames_heard, is_long_frame, long_frames_heard, rejects_aimed, rejects}
-use Rattle.lapd_line_machine.specs.Line.{Line, window, link_in, terms}
+use Rattle.lapd_line_machine.specs.Counts.{one, is_frame, frames_heard, is_long_frame, long_frames_heard, rejects_aimed}
+use Rattle.lapd_line_machine.specs.Line.{Line, window, link_in}
 use Rattle.lapd_line_machine.specs.Octet.{gained, aim_of_heard, aim_of_octet, with_received}
 use Rattle.lapd_line_machine.specs.Outcome.{Aim, at_none, at_link, at_management, at_units, told_of_management, of_change, of_aim}
 use Rattle.lapd_line_machine.specs.Answer.{Told, nothing}
-use Rattle.lapd_line_machine.specs.Sound.{IsInRange, IsSound}
 use Rattle.lapd_tei.specs.Events as teis
 use Rattle.lapd_tei.specs.declared.outcome.Change.{Change}
 use Rattle.lapd_tei.specs.declared.outcome.Change.TheVariants.{Gained, Left}
-use Rattle.lapd_line_machine.proofs.AimsRise.{price_at, aim_rises}
-use Rattle.lapd_line_machine.proofs.LineSound.{received_sound}
-use Rattle.lapd_line_machine.proofs.ProperAims.{heard_aims, octet_proper}
+use Rattle.lapd_line_machine.proofs.AimsRise.{price_at}
+use Rattle.lapd_line_machine.proofs.ProperAims.{heard_aims}
 
 -- ---- what an octet brings
 

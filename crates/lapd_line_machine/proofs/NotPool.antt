@@ -3,7 +3,7 @@ use Rattle.std.proofs.Common.{◌≡◌, ℕ, Bool, true, false, List, [], ◌�
 use Rattle.lapd_frame.specs.declared.refusals.Refusal.{Refusal}
 use Rattle.lapd_link_machine.specs.Events as link
 use Rattle.lapd_line_machine.specs.declared.config.Config.{Config}
-use Rattle.lapd_line_machine.specs.Answer.{Event, octet, expiry, request, pull, Answer}
+use Rattle.lapd_line_machine.specs.Answer.{Event, octet, expiry, request, pull}
 use Rattle.lapd_line_machine.specs.Counts.{is_pool, is_pool_full}
 use Rattle.lapd_line_machine.specs.Line.{Line}
 use Rattle.lapd_line_machine.specs.Machine.{answer, unless_refused_told, of_request}

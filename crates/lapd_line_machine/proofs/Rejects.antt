@@ -1,8 +1,6 @@
 -- An REJ is a frame of four octets, and frames take their octets of the stream.
-use Rattle.std.proofs.Common.{◌≡◌, ℕ, zero, suc, ◌+◌, ◌*◌, ◌%◌, ◌/◌, ◌≤◌, ◌<◌, ◌==◌, Bool, true, false, not, ◌&&◌, List, [], ◌∷◌, ◌++◌, length, drop, take, nat_le, slice_index, Option, Some, None, is_some, option_to_list, Result, Ok, Err, refl, ap, sym, ◌∙◌, subst, cond, arith, max}
-use Rattle.std.specs.Prelude.{count_by, sum_by, All}
-use Rattle.std.specs.Option.{option_map_or}
-use Rattle.std.proofs.lemmas.Bool.{leb-false, ne_eqb, not-false, eqb-true, le-leb, true≢false}
+use Rattle.std.proofs.Common.{◌≡◌, ℕ, ◌%◌, ◌/◌, ◌==◌, Bool, true, false, not, List, [], ◌∷◌, length, drop, slice_index, Option, Some, None, Result, Ok, Err, refl, ap, sym, ◌∙◌, subst, cond, arith}
+use Rattle.std.proofs.lemmas.Bool.{ne_eqb, eqb-true}
 use Rattle.lapd_frame.specs.declared.addresses.Address.{Address}
 use Rattle.lapd_frame.specs.declared.addresses.Side.TheVariants.{User}
 use Rattle.lapd_frame.specs.declared.controls.Control.{Control}
@@ -46,7 +44,7 @@ field_of_three third fourth e =
     let odd : (third % 2 == 0) ≡ false = ne_eqb (third % 2) 0 (λ h. omega (arith, e, h)) in
     let not_supervisory : (third % 4 == 1) ≡ false = ne_eqb (third % 4) 1 (λ h. omega (arith, e, h)) in
     ap (λ b. cond b (Some (control.Information (seq (third / 2)) (seq (fourth / 2)) (fourth % 2 == 1)))
-      (cond (third % 4 == 1) (supervisory_of third (seq (fourth / 2)) (fourth % 2 == 1)) (unnumbered_of third))) odd
+    (cond (third % 4 == 1) (supervisory_of third (seq (fourth / 2)) (fourth % 2 == 1)) (unnumbered_of third))) odd
     ∙ ap (λ b. cond b (supervisory_of third (seq (fourth / 2)) (fourth % 2 == 1)) (unnumbered_of third)) not_supervisory
 
 sized_no_reject : (address : Address) (k : Control) (info : List ℕ) → reject_number k ≡ None → NoReject (sized address k info)

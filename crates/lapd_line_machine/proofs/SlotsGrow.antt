@@ -1,5 +1,5 @@
 -- By how many slots a line's contents grow.
-use Rattle.std.proofs.Common.{◌≡◌, ℕ, zero, suc, ⊎_elim, replicate, ◌+◌, ◌*◌, ◌≤◌, ◌<◌, Bool, true, false, not, ◌&&◌, List, [], ◌∷◌, ◌++◌, length, drop, slice_get, get_or, set, Option, Some, None, is_some, option_map, IfSome, refl, ap, sym, ◌∙◌, subst, cond, arith, length-append, length-set, length-drop}
+use Rattle.std.proofs.Common.{◌≡◌, ℕ, zero, suc, ⊎_elim, replicate, ◌+◌, ◌≤◌, ◌<◌, Bool, true, false, not, ◌&&◌, List, [], ◌∷◌, length, drop, slice_get, get_or, set, Option, Some, None, is_some, option_map, IfSome, refl, ap, sym, ◌∙◌, subst, cond, arith, length-append, length-set, length-drop}
 use Rattle.std.specs.Prelude.{sum_by, All}
 use Rattle.std.specs.List.{range_with_len}
 use Rattle.std.specs.Option.{option_or, option_map_or, unwrap_or}
@@ -18,30 +18,26 @@ use Rattle.lapd_link_machine.specs.Link.{Link, fresh, queue_of}
 use Rattle.lapd_link_machine.specs.Machine as links
 use Rattle.lapd_link_machine.specs.Requests as requests
 use Rattle.lapd_link_machine.specs.Rises as rises
-use Rattle.lapd_link_machine.specs.Told.{Given}
 use Rattle.lapd_link_machine.specs.declared.timers.LinkTimer.{LinkTimer}
 use Rattle.lapd_link_machine.specs.declared.timers.LinkTimer.TheVariants as link_timer
 use Rattle.lapd_link_machine.proofs.Slots.{queue-after}
 use Rattle.lapd_tei.specs.Events as teis
-use Rattle.lapd_tei.specs.Laws as tei_laws
 use Rattle.lapd_tei.specs.Laws.{Moves}
 use Rattle.lapd_tei.specs.Machine.{Management}
-use Rattle.lapd_tei.specs.Messages.{frame_of}
 use Rattle.lapd_tei.specs.Sound.{IsAt}
 use Rattle.lapd_tei.specs.Table.{Places}
 use Rattle.lapd_tei.specs.declared.outcome.Change.{Change}
 use Rattle.lapd_tei.specs.declared.outcome.Change.TheVariants.{Gained, Left}
-use Rattle.lapd_tei.specs.declared.messages.Message.{Message}
 use Rattle.lapd_tei.proofs.LawLemmas as tei_lemmas
 use Rattle.lapd_tei.proofs.Tables.{at-within}
 use Rattle.lapd_line_machine.specs.declared.config.Config.{Config}
 use Rattle.lapd_line_machine.specs.Answer.{Told, nothing, Event, octet, expiry, request, pull}
 use Rattle.lapd_line_machine.specs.Counts.{one}
 use Rattle.lapd_line_machine.specs.Expiry.{at_timer, aim_of_expiry}
-use Rattle.lapd_line_machine.specs.Line.{Line, UnitData, fresh_line, link_number, link_count, service_at, place_at, place_in, tei_at, link_at, link_in, with_link, terms}
+use Rattle.lapd_line_machine.specs.Line.{Line, fresh_line, link_number, link_count, service_at, place_at, place_in, tei_at, link_at, link_in, terms}
 use Rattle.lapd_line_machine.specs.Machine.{after, takes_slot, unless_refused}
 use Rattle.lapd_line_machine.specs.Octet.{gained, aim_of_heard, aim_of_octet, with_received}
-use Rattle.lapd_line_machine.specs.Outcome.{Aim, at_none, at_link, at_management, at_units, told_of_management, of_link, of_change, of_management, of_aim}
+use Rattle.lapd_line_machine.specs.Outcome.{Aim, at_none, at_link, at_management, at_units, told_of_management, of_link, of_change, of_aim}
 use Rattle.lapd_line_machine.specs.Pull.{Taken, with_message, message_taken, unit_frame, unit_taken, with_given_frame, link_taken, first_taken, round, taken, is_due, with_item, with_due}
 use Rattle.lapd_line_machine.specs.Refusal.{refusal}
 use Rattle.lapd_line_machine.specs.Request.{Request, Establish, Release, Data, Unit, Assign, Remove, Check, SetBusy, ClearBusy}
@@ -55,7 +51,6 @@ use Rattle.lapd_line_machine.proofs.Numbers.{number_within, sum_changed}
 use Rattle.lapd_line_machine.proofs.Offered.{fresh_gives_nothing}
 use Rattle.lapd_line_machine.proofs.ProperAims.{heard_aims, octet_proper, expiry_proper, request_proper}
 use Rattle.lapd_line_machine.proofs.PullSound.{round_below}
-
 
 -- one link is another
 one_kept : (c : Config) (all : List Link) (n : ℕ) (x : Link) → length all ≡ link_count c → n < link_count c
@@ -104,8 +99,11 @@ module _ (c : Config) (ranged : IsInRange c) where
   aim_grows l (at_none what) s proper = omega arith
   aim_grows l (at_link service tei place event) s proper = link_grows l s service tei place event proper
   aim_grows l (at_management event) s proper =
-      omega (arith, change_grows l (teis.after event l.management) (teis.after event l.management).places (teis.told event l.management).change
-        (told_of_management (teis.told event l.management)) s (tei_lemmas.changes_are_told event l.management proper s.management))
+      omega (
+        arith,
+        change_grows l (teis.after event l.management) (teis.after event l.management).places (teis.told event l.management).change
+            (told_of_management (teis.told event l.management)) s (tei_lemmas.changes_are_told event l.management proper s.management),
+      )
   aim_grows l (at_units unit) s proper = omega (arith, length-append l.units (unit ∷ []))
 
 -- frames take none
@@ -224,8 +222,11 @@ unfolding after takes_slot
 slots_grow c (octet value) l ranged s =
     let aim = aim_of_octet c value l in
     let m = with_received value l in
-    omega (arith, aim_grows c ranged m aim (received_sound c value l s) (proper_later c value l aim (octet_proper c l value)),
-      octet_takes c l m (gained c.n201 l.received value))
+    omega (
+      arith,
+      aim_grows c ranged m aim (received_sound c value l s) (proper_later c value l aim (octet_proper c l value)),
+      octet_takes c l m (gained c.n201 l.received value),
+    )
 slots_grow c (expiry timer) l ranged s =
     omega (arith, aim_grows c ranged l (aim_of_expiry timer l) s (expiry_proper c l timer), expiry_takes c l timer)
 slots_grow c (request r) l ranged s = request_grows c ranged r l s

@@ -1,5 +1,5 @@
 -- Laws of a line.
-use Rattle.std.specs.Prelude.{ℕ, ◌+◌, ◌*◌, ◌≤◌, max}
+use Rattle.std.specs.Prelude.{◌+◌, ◌*◌, ◌≤◌, max}
 use Rattle.lapd_line_machine.specs.declared.config.Config.{Config}
 use Rattle.lapd_line_machine.specs.Answer.{Event}
 use Rattle.lapd_line_machine.specs.Line.{Line, fresh_line}

@@ -6,3 +6,6 @@ pub mod Refusals
 pub mod TextGoesOn
 pub mod NumberedForms
 pub mod Numbering
+pub mod CardSound
+pub mod Isolated
+pub mod Linear

@@ -1,11 +1,16 @@
 //! What holds of whole runs of the machine. Each law is the contract of a call that does nothing; it holds for every list
 //! of events, and so for every front of a list.
 
-ghost use Rattle.lapd_card_machine.specs.Laws.{DeliveriesNumbered, FramesAmortised, RefusedByTheTable, RunIsMoments, StoredWithinLimit, TextGoesOn};
+ghost use Rattle.lapd_card_machine.specs.Laws.{CardsStaySound, DeliveriesNumbered, FramesAmortised, FramesLinear, LinesIsolated, RefusedByTheTable, RunIsMoments, StoredWithinLimit, TextGoesOn};
 
 /// A run as one fold is its moments, one after the other.
 pub fn run_is_moments()
     ensures { RunIsMoments }
+{}
+
+/// A card is sound as it begins, and each event keeps it so: each line is, and no more slots are in use than there are.
+pub fn cards_stay_sound()
+    ensures { CardsStaySound }
 {}
 
 /// A sound card never stores more octets than its limit, which its configuration alone tells.
@@ -43,4 +48,16 @@ pub fn text_goes_on()
 /// cleared. On a card that began fresh the first number is 0.
 pub fn deliveries_numbered()
     ensures { DeliveriesNumbered }
+{}
+
+/// From a fresh card on, for each line: its answers but for a full pool, octets pulled among them, are those of a fresh card
+/// of the same configuration on which only the events at that line happened, without the requests that found the pool full.
+pub fn lines_isolated()
+    ensures { LinesIsolated }
+{}
+
+/// From a fresh card on, the frames sent are linear in the octets received, the accepted requests and the expiries of running
+/// timers: each frame takes six octets of its line at least, and each REJ seven.
+pub fn frames_linear()
+    ensures { FramesLinear }
 {}

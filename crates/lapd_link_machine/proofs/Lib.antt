@@ -16,3 +16,8 @@ pub mod Slots
 pub mod Telling
 pub mod TellRows
 pub mod OwnNotes
+pub mod Lines
+pub mod Facing
+pub mod Giving
+pub mod FacingInformation
+pub mod Direction

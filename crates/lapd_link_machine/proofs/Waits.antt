@@ -19,7 +19,7 @@ sapi-small Call = omega arith
 sapi-small Packet = omega arith
 
 -- a frame of a row of table 5 without information
-waits : (t : Terms) (f : ControlFrame) → t.tei ≤ 126 → IsTrue (allows (row f.control).kind f.command) → IsTrue (takes (row f.control).info 0)
+pub waits : (t : Terms) (f : ControlFrame) → t.tei ≤ 126 → IsTrue (allows (row f.control).kind f.command) → IsTrue (takes (row f.control).info 0)
     → length (spelling Network (frame_of t f)) ≤ 4 → IsWaitingFrame t f
 waits t f r kind size small =
     let sapi : sapi_of t.service < 64 = sapi-small t.service in

@@ -18,7 +18,9 @@ pub mod Rises
 pub mod Deliveries
 pub mod Numbered
 pub mod Notes
+pub mod TwoEnds
 pub mod Worked
 pub mod WorkedRelease
 pub mod WorkedTransfer
 pub mod WorkedRuns
+pub mod WorkedEnds

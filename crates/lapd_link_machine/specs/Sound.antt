@@ -1,5 +1,5 @@
 -- What holds of every link between two events.
-use Rattle.std.specs.Prelude.{◌≡◌, ◌+◌, ◌≤◌, IsTrue, length, All}
+use Rattle.std.specs.Prelude.{◌≡◌, ℕ, ◌+◌, ◌≤◌, IsTrue, List, [], length, All, Option, IfSome, unwrap_or}
 use Rattle.lapd_frame.specs.declared.addresses.Side.TheVariants.{Network}
 use Rattle.lapd_frame.specs.Grammar.{IsFrame, spelling}
 use Rattle.lapd_link_machine.specs.declared.states.State.{State}
@@ -47,3 +47,9 @@ pub record IsSound (t : Terms) (l : Link) : Type 0 where
   pub sizes : All (λ octets. length octets ≤ t.n201) l.contents
   -- what waits are frames
   pub frames : All (IsWaitingFrame t) l.waiting
+
+-- What an offer gives is a frame of the exchange, of at most four octets and contents that fit.
+pub record IsGiven (t : Terms) (f : ControlFrame) (contents : Option (List ℕ)) : Type 0 where
+  pub waits : IsWaitingFrame t f
+  pub size : IfSome contents (λ octets. length octets ≤ t.n201)
+  pub whole : IsFrame (record (frame_of t f) { info = unwrap_or contents [] })

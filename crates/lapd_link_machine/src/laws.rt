@@ -1,19 +1,19 @@
 //! What holds of the machine itself. Each law is the contract of a call that does nothing.
 
-ghost use Rattle.std.specs.Prelude.{◌≡◌, ℕ, ◌+◌, ◌*◌, ◌%◌, ◌≤◌, ◌⊎◌, List, length, None, is_some};
+ghost use Rattle.std.specs.Prelude.{◌≡◌, ℕ, ◌+◌, ◌*◌, ◌%◌, ◌≤◌, ◌⊎◌, List, length, None, is_some, IfSome};
 ghost use Rattle.std.specs.List.{list_any};
 ghost use Rattle.std.specs.Prelude.{Option};
 ghost use Rattle.lapd_link_machine.specs.declared.terms.Terms.{Terms};
 ghost use Rattle.lapd_link_machine.specs.Link.{Link, fresh, queue_of};
 ghost use Rattle.lapd_link_machine.specs.Events.{Event, offer, cleared};
-ghost use Rattle.lapd_link_machine.specs.Machine.{after, after_all, told};
+ghost use Rattle.lapd_link_machine.specs.Machine.{after, after_all, told, given};
 ghost use Rattle.lapd_link_machine.specs.Notes.{is_data};
 ghost use Rattle.lapd_link_machine.specs.Told.{orders_for};
 ghost use Rattle.lapd_link_machine.specs.declared.timers.LinkTimer.{LinkTimer};
 ghost use Rattle.lapd_link_machine.specs.Deliveries.{Arrived, eligible};
 ghost use Rattle.lapd_link_machine.specs.Numbered.{History, nothing_yet, with_event, with_all, IsNumbered};
 ghost use Rattle.lapd_link_machine.specs.Rises.{waiting, grows, sent, price, sent_in_all, price_of_all};
-ghost use Rattle.lapd_link_machine.specs.Sound.{IsInRange, IsSound};
+ghost use Rattle.lapd_link_machine.specs.Sound.{IsInRange, IsSound, IsGiven};
 
 /// A link is sound as it begins, and every event keeps it sound: its numbers are in order and
 /// within the window (Q.921 clause 5.6.1), nothing is queued where it must not be, and its contents
@@ -22,6 +22,8 @@ pub fn stays_sound()
     ensures begins { (t : Terms) → IsInRange t → IsSound t fresh }
     ensures each { (t : Terms) (e : Event) (l : Link) → IsInRange t → IsSound t l → IsSound t (after t e l) }
     ensures always { (t : Terms) (es : List Event) → IsInRange t → IsSound t (after_all t es fresh) }
+    // What an offer gives is a frame.
+    ensures given { (t : Terms) (l : Link) → IsInRange t → IsSound t l → IfSome (given t l) (λ g. IsGiven t g.frame g.contents) }
     // The queue grows only by contents that are not refused, each time by one.
     ensures queue { (t : Terms) (e : Event) (l : Link) → IsInRange t → IsSound t l →
         length (queue_of (after t e l)) ≤ length (queue_of l) + grows t e l }

@@ -1,6 +1,7 @@
 use Rattle.lapd_link_machine.specs.Link.{fresh}
 use Rattle.lapd_link_machine.proofs.SoundEvents.{sound-after, sound-fresh, sound-all}
 use Rattle.lapd_link_machine.proofs.Slots.{queue-after}
+use Rattle.lapd_link_machine.proofs.Giving.{given_is_frame}
 use Rattle.lapd_link_machine.proofs.laws.stays_sound.Goals as goal
 
 pub returns-clause-begins : goal.returns-clause-begins
@@ -14,3 +15,6 @@ returns-clause-always c = λ t es r. sound-all t r es fresh (sound-fresh t r)
 
 pub returns-clause-queue : goal.returns-clause-queue
 returns-clause-queue c = λ t e l r h. queue-after t r.tei e l h
+
+pub returns-clause-given : goal.returns-clause-given
+returns-clause-given c = λ t l r h. given_is_frame t r l h

@@ -39,7 +39,7 @@ not_short octets h =
     ltb-false (length octets) 5 few
 
 -- how octets are judged, by its four outcomes
-judged_as : (P : Event → Type 0) (room : ℕ) (octets : List ℕ)
+pub judged_as : (P : Event → Type 0) (room : ℕ) (octets : List ℕ)
     → ((cause : Cause) → P (dropped cause))
     → (5 ≤ length octets → room < length octets → P (overlong (take 4 octets)))
     → (5 ≤ length octets → P (frame (take (length octets - 2) octets)))

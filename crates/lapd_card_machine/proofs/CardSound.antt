@@ -1,20 +1,17 @@
 -- A card is sound as it begins, and each event keeps it so.
-use Rattle.std.proofs.Common.{◌≡◌, ℕ, zero, suc, ◌+◌, ◌*◌, ◌≤◌, ◌<◌, Bool, true, false, ◌&&◌, List, [], ◌∷◌, length, replicate, set, nat_le, refl, ap, sym, ◌∙◌, subst, cond, arith}
-use Rattle.std.specs.Prelude.{sum_by, All}
-use Rattle.std.specs.List.{range_with_len}
-use Rattle.std.proofs.lemmas.Bool.{leb-false, true≢false}
+use Rattle.std.proofs.Common.{◌≡◌, ℕ, ◌+◌, ◌*◌, ◌≤◌, ◌<◌, Bool, true, false, ◌&&◌, List, [], ◌∷◌, nat_le, ap, ◌∙◌, arith}
+use Rattle.std.specs.Prelude.{sum_by}
+use Rattle.std.proofs.lemmas.Bool.{leb-false}
 use Rattle.std.proofs.lemmas.List.Elements.{All-head, All-tail}
 use Rattle.std.proofs.lemmas.List.Folds.{sum_by-replicate}
-use Rattle.lapd_link_machine.specs.Link.{fresh as fresh_link, queue_of}
 use Rattle.lapd_line_machine.specs.declared.config.Config.{Config}
-use Rattle.lapd_line_machine.specs.Answer.{Answer}
 use Rattle.lapd_line_machine.specs.Counts.{one}
-use Rattle.lapd_line_machine.specs.Line.{Line, fresh_line}
+use Rattle.lapd_line_machine.specs.Line.{fresh_line}
 use Rattle.lapd_line_machine.specs.Machine as lines
 use Rattle.lapd_line_machine.specs.Sound as line
 use Rattle.lapd_line_machine.specs.Stored.{slots_of}
 use Rattle.lapd_line_machine.proofs.SlotsGrow.{slots_grow, fresh_slots}
-use Rattle.lapd_card_machine.specs.Card.{Card, fresh, line_at, used, is_full}
+use Rattle.lapd_card_machine.specs.Card.{Card, fresh, line_at, used}
 use Rattle.lapd_card_machine.specs.Event.{Event}
 use Rattle.lapd_card_machine.specs.Laws.{CardsStaySound}
 use Rattle.lapd_card_machine.specs.Machine.{after}

@@ -1,12 +1,10 @@
 -- A run as one fold is its moments.
-use Rattle.std.proofs.Common.{◌≡◌, ℕ, List, [], ◌∷◌, ◌++◌, refl, ap, sym, ◌∙◌, append_assoc, append-nil}
+use Rattle.std.proofs.Common.{◌≡◌, List, [], ◌∷◌, ◌++◌, refl, sym, ◌∙◌, append_assoc, append-nil}
 use Rattle.std.specs.Prelude.{fold, map}
-use Rattle.lapd_line_machine.specs.Answer.{Answer}
 use Rattle.lapd_card_machine.specs.Event.{Event}
-use Rattle.lapd_card_machine.specs.Card.{Card}
 use Rattle.lapd_card_machine.specs.Laws.{reply_of, RunIsMoments}
 use Rattle.lapd_card_machine.specs.Machine.{after, answer}
-use Rattle.lapd_card_machine.specs.Run.{Run, one_more, run, moments, after_all}
+use Rattle.lapd_card_machine.specs.Run.{Run, one_more, moments, after_all}
 
 folded_card : (events : List Event) (r : Run) → (fold one_more r events).card ≡ after_all r.card events
 unfolding after_all

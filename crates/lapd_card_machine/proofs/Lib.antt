@@ -5,3 +5,7 @@ pub mod Fold
 pub mod Refusals
 pub mod CardSound
 pub mod TextGoesOn
+pub mod NumberedForms
+pub mod Numbering
+pub mod Isolated
+pub mod Linear

@@ -6,7 +6,7 @@ use Rattle.lapd_frame.specs.declared.refusals.Refusal.{Refusal}
 use Rattle.lapd_frame.specs.declared.refusals.Refusal.TheVariants.{PoolFull}
 use Rattle.lapd_link_machine.specs.Events as link
 use Rattle.lapd_line_machine.specs.declared.config.Config.{Config}
-use Rattle.lapd_line_machine.specs.Answer.{Answer, request, told, refused}
+use Rattle.lapd_line_machine.specs.Answer.{Answer, request, refused}
 use Rattle.lapd_line_machine.specs.Line.{Line, fresh_line}
 use Rattle.lapd_line_machine.specs.Machine as lines
 use Rattle.lapd_line_machine.specs.Machine.{unless_refused, unless_refused_told}
@@ -14,10 +14,10 @@ use Rattle.lapd_line_machine.specs.Outcome.{Outcome, of_aim}
 use Rattle.lapd_line_machine.specs.Refusal.{Row, first_that_holds, bad_tei, no_link, bad_tei_or_group, no_link_nor_group, wrong_state, too_long, queue_full, unit_queue_full, pool_full, refusal}
 use Rattle.lapd_line_machine.specs.Request.{Request, Establish, Release, Data, Unit, Assign, Remove, Check, SetBusy, ClearBusy}
 use Rattle.lapd_line_machine.specs.Requested.{aim_of_request, carries_contents}
-use Rattle.lapd_card_machine.specs.Event.{Event, at}
+use Rattle.lapd_card_machine.specs.Event.{at}
 use Rattle.lapd_card_machine.specs.Card.{Card, line_at, is_full}
 use Rattle.lapd_card_machine.specs.Laws.{RefusedByTheTable}
-use Rattle.lapd_card_machine.specs.Machine.{wants_room, after, answer}
+use Rattle.lapd_card_machine.specs.Machine.{after, answer}
 
 -- A full pool refuses after all other rows, and contents alone.
 abbrev pool_refusal : Bool → Option Refusal

@@ -1,5 +1,5 @@
 -- An event at a card is one at one of its lines, or finds the pool full.
-use Rattle.std.proofs.Common.{◌≡◌, ℕ, ◌+◌, ◌≤◌, ◌<◌, Bool, true, false, List, [], ◌∷◌, length, get_or, set, refl, ap, sym, ◌∙◌, subst, cond, arith, length-set}
+use Rattle.std.proofs.Common.{◌≡◌, ℕ, ◌+◌, ◌<◌, Bool, true, false, List, ◌∷◌, length, set, refl, ◌∙◌, cond, arith, length-set}
 use Rattle.std.specs.Prelude.{sum_by, count_by, All}
 use Rattle.std.proofs.lemmas.List.{length-replicate}
 use Rattle.std.proofs.lemmas.List.Elements.{All-set, All-get_or, All-replicate}
@@ -13,7 +13,7 @@ use Rattle.lapd_line_machine.specs.Sound as line
 use Rattle.lapd_line_machine.proofs.LineSound.{after_sound, fresh_sound}
 use Rattle.lapd_card_machine.specs.Event.{Event}
 use Rattle.lapd_card_machine.specs.Card.{Card, fresh, line_at}
-use Rattle.lapd_card_machine.specs.Machine.{wants_room, with_line, after, answer}
+use Rattle.lapd_card_machine.specs.Machine.{wants_room, after, answer}
 
 -- A card of sound lines.
 pub record HasLines (card : Card) : Type 0 where

@@ -1,5 +1,5 @@
 -- The octets stored, and their limit.
-use Rattle.std.proofs.Common.{◌≡◌, ℕ, suc, ◌+◌, ◌*◌, ◌≤◌, List, [], ◌∷◌, length, refl, ap, sym, ◌∙◌, subst, arith}
+use Rattle.std.proofs.Common.{◌≡◌, ℕ, suc, ◌+◌, ◌*◌, ◌≤◌, List, [], ◌∷◌, length, sym, subst, arith}
 use Rattle.std.specs.Prelude.{sum_by, All}
 use Rattle.std.proofs.lemmas.List.Elements.{All-head, All-tail}
 use Rattle.std.proofs.lemmas.List.Sums.{sum_by-cons}
@@ -9,10 +9,9 @@ use Rattle.lapd_line_machine.specs.Line.{Line}
 use Rattle.lapd_line_machine.specs.Sound as line
 use Rattle.lapd_line_machine.specs.Stored.{slots_of, stored_in}
 use Rattle.lapd_line_machine.proofs.StoredBounds.{stored_few}
-use Rattle.lapd_card_machine.specs.Card.{Card, used}
+use Rattle.lapd_card_machine.specs.Card.{used}
 use Rattle.lapd_card_machine.specs.Laws.{StoredWithinLimit}
-use Rattle.lapd_card_machine.specs.Sound.{IsSound}
-use Rattle.lapd_card_machine.specs.Stored.{stored, limit_in, limit}
+use Rattle.lapd_card_machine.specs.Stored.{limit_in}
 
 stored_by_lines : (c : Config) (ls : List Line) → All (line.IsSound c) ls
     → sum_by (stored_in c) ls ≤ length ls * limit_in c + sum_by (slots_of c) ls * c.n201

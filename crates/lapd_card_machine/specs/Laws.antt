@@ -1,6 +1,7 @@
 -- Laws of whole runs. Each holds for every list of events, and so for every front of a list.
-use Rattle.std.specs.Prelude.{◌≡◌, ◌↔◌, ℕ, ◌+◌, ◌*◌, ◌≤◌, ◌<◌, false, Some, IsSome, List, map, All}
+use Rattle.std.specs.Prelude.{◌≡◌, ◌↔◌, ℕ, ◌+◌, ◌*◌, ◌≤◌, ◌<◌, false, Some, IsSome, List, length, map, All}
 use Rattle.lapd_frame.specs.declared.refusals.Refusal.{Refusal}
+use Rattle.lapd_link_machine.specs.Numbered.{Numbered}
 use Rattle.lapd_line_machine.specs.declared.config.Config.{Config}
 use Rattle.lapd_line_machine.specs.Answer.{Answer, request, refused}
 use Rattle.lapd_line_machine.specs.Counts.{is_pool_full}
@@ -16,7 +17,7 @@ use Rattle.lapd_card_machine.specs.Sound.{IsSound}
 use Rattle.lapd_card_machine.specs.Stored.{stored, limit}
 use Rattle.lapd_card_machine.specs.Counts.{waiting, frames_heard, octets_received, window, sent, accepted, expired, rejected}
 use Rattle.lapd_card_machine.specs.Isolation.{events_at, answers_at, answer_in}
-use Rattle.lapd_card_machine.specs.Numbered.{LinkName, history, AreNumbered}
+use Rattle.lapd_card_machine.specs.Numbered.{LinkName, received_by, history, frames_of, deliveries_of, AreNumbered}
 use Rattle.lapd_card_machine.specs.Pulled.{octets_pulled, frames_begun, GoesOn}
 
 -- A run as one fold is its moments.
@@ -69,13 +70,22 @@ FramesLinear =
     (6 * frames_heard (after_all (fresh c) events) ≤ octets) × (7 * rejected ms ≤ octets)
     × (21 * sent ms ≤ (7 + 3 * k) * octets + 21 * accepted ms + 21 * (k + 1) * expired ms)
 
--- Each link's deliveries are numbered, from 0 on since its establishment.
+-- Each link's deliveries are numbered without gap since its establishment, each told in the moment of its frame; and on a card
+-- that began fresh from 0 on.
+abbrev pub HasLink : Card → LinkName → Type 0
+HasLink card name = (name.line < card.config.lines) × (name.number < link_count card.config)
+
 pub record DeliveriesNumbered : Type 0 where
-  pub numbered : (card : Card) (events : List Event) (name : LinkName) →
-      IsSound card → AreAtLines card events → name.line < card.config.lines → name.number < link_count card.config →
+  pub numbered : (card : Card) (events : List Event) (name : LinkName) → IsSound card → AreAtLines card events → HasLink card name →
+      let h = history name card (moments card events) in Numbered h.first (frames_of h.shares) (deliveries_of h.shares)
+  pub at_once : (card : Card) (events : List Event) (name : LinkName) → IsSound card → AreAtLines card events → HasLink card name →
       let h = history name card (moments card events) in AreNumbered h.first h.shares
+  -- V(R) counts them.
+  pub counted : (card : Card) (events : List Event) (name : LinkName) → IsSound card → AreAtLines card events → HasLink card name →
+      let h = history name card (moments card events) in
+      received_by name (after_all card events) ≡ h.first + length (deliveries_of h.shares)
   pub from_zero : (c : Config) (events : List Event) (name : LinkName) → IsInRange c → AreAtLines (fresh c) events →
-      name.line < c.lines → name.number < link_count c → (history name (fresh c) (moments (fresh c) events)).first ≡ 0
+      HasLink (fresh c) name → (history name (fresh c) (moments (fresh c) events)).first ≡ 0
 
 -- The octets pulled of a line go on with its text.
 abbrev pub TextGoesOn : Type 0

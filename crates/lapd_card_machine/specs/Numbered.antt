@@ -1,5 +1,5 @@
 -- Numbered deliveries (Q.921 clause 5.6.2): what a link delivers since its establishment.
-use Rattle.std.specs.Prelude.{◌≡◌, ℕ, ◌+◌, ◌%◌, ◌==◌, ◌&&◌, Bool, List, [], ◌∷◌, ◌++◌, Option, Some, None, fold, if◌then◌else◌}
+use Rattle.std.specs.Prelude.{◌≡◌, ℕ, ◌+◌, ◌%◌, ◌==◌, ◌&&◌, Bool, List, [], ◌∷◌, ◌++◌, Option, Some, None, fold, flat_map, option_to_list, if◌then◌else◌}
 use Rattle.lapd_link_machine.specs.Deliveries.{Arrived}
 use Rattle.lapd_line_machine.specs.Deliveries as line
 use Rattle.lapd_line_machine.specs.Line.{link_at}
@@ -57,9 +57,24 @@ abbrev pub contents_of : ℕ → Option Arrived → Option (List ℕ)
 contents_of i None = None
 contents_of i (Some frame) = if frame.ns.value == i % 128 then Some frame.contents else None
 
--- Deliveries are numbered from i on: the next delivery is the contents of the first eligible frame whose N(S) is i modulo
--- 128, in that frame's moment; the deliveries after it are numbered from i + 1 on. A moment that brings no such frame delivers
--- nothing.
+-- The eligible frames that came, in order, and what was delivered. That the deliveries of a history are numbered is said of
+-- these two lists as a link's law says it: delivery i is the contents of the first frame after that of delivery i - 1 whose
+-- N(S) is i modulo 128, and after the last one no frame has the next number.
+abbrev pub frame_of : Share → List Arrived
+frame_of share = option_to_list share.arrived
+
+abbrev pub frames_of : List Share → List Arrived
+frames_of shares = flat_map frame_of shares
+
+abbrev pub delivery_of : Share → List (List ℕ)
+delivery_of share = option_to_list share.delivered
+
+abbrev pub deliveries_of : List Share → List (List ℕ)
+deliveries_of shares = flat_map delivery_of shares
+
+-- And moment by moment, so that each delivery is told in the moment of its frame: from number i on, the next delivery is the
+-- contents of the first eligible frame whose N(S) is i modulo 128, in that frame's moment, and the deliveries after it are
+-- numbered from i + 1 on. A moment that brings no such frame delivers nothing.
 abbrev pub AreNumbered : ℕ → List Share → Type 0
 AreNumbered i [] = Unit {0}
 AreNumbered i (share ∷ shares) = elim (contents_of i share.arrived) [

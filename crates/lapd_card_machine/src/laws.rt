@@ -1,7 +1,7 @@
 //! What holds of whole runs of the machine. Each law is the contract of a call that does nothing; it holds for every list
 //! of events, and so for every front of a list.
 
-ghost use Rattle.lapd_card_machine.specs.Laws.{CardsStaySound, FramesAmortised, RefusedByTheTable, RunIsMoments, StoredWithinLimit, TextGoesOn};
+ghost use Rattle.lapd_card_machine.specs.Laws.{CardsStaySound, DeliveriesNumbered, FramesAmortised, FramesLinear, LinesIsolated, RefusedByTheTable, RunIsMoments, StoredWithinLimit, TextGoesOn};
 
 /// A run as one fold is its moments, one after the other.
 pub fn run_is_moments()
@@ -38,4 +38,26 @@ pub fn refused_by_the_table()
 /// or at another, puts a bit into it.
 pub fn text_goes_on()
     ensures { TextGoesOn }
+{}
+
+/// From any sound card on, what each link delivers since its establishment is numbered without gap: delivery i is the
+/// contents of the first eligible I-frame after that of delivery i - 1 whose N(S) is i modulo 128, it is told in the answer
+/// to the octet that ended this frame, and after the last delivery no eligible frame had the next number. V(R) counts them
+/// (Q.921 clauses 3.5.2.4 to 3.5.2.6 and 5.6.2). An I-frame is eligible where it has at most N201 octets and meets state 7
+/// or 8 with own busy off. An establishment is an event in which the tables set the link's numbers to zero, or the link is
+/// cleared. On a card that began fresh the first number is 0.
+pub fn deliveries_numbered()
+    ensures { DeliveriesNumbered }
+{}
+
+/// From a fresh card on, for each line: its answers but for a full pool, octets pulled among them, are those of a fresh card
+/// of the same configuration on which only the events at that line happened, without the requests that found the pool full.
+pub fn lines_isolated()
+    ensures { LinesIsolated }
+{}
+
+/// From a fresh card on, the frames sent are linear in the octets received, the accepted requests and the expiries of running
+/// timers: each frame takes six octets of its line at least, and each REJ seven.
+pub fn frames_linear()
+    ensures { FramesLinear }
 {}

@@ -16,6 +16,6 @@ mod laws;
 
 pub use events::Event;
 pub use laws::{
-    cards_stay_sound, frames_amortised, refused_by_the_table, run_is_moments, stored_within_limit,
-    text_goes_on,
+    cards_stay_sound, deliveries_numbered, frames_amortised, frames_linear, lines_isolated,
+    refused_by_the_table, run_is_moments, stored_within_limit, text_goes_on,
 };

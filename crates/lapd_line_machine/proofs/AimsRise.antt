@@ -1,6 +1,10 @@
 -- By how much an aim lets rise what a line may still send.
-use Rattle.std.proofs.Common.{◌≡◌, ℕ, ◌+◌, ◌≤◌, ◌<◌, List, [], ◌∷◌, length, get_or, set, Option, Some, None, ap, ◌∙◌, arith, length-append, length-set}
-use Rattle.std.proofs.lemmas.List.{get_or-set_same, get_or-set_other}
+use Rattle.std.proofs.Common.{◌≡◌, ℕ, ◌+◌, ◌≤◌, ◌<◌, List, [], ◌∷◌, length, get_or, set, Option, Some, None, ap, ◌∙◌, arith, length-append, length-set, refl, zero, suc, replicate, ⊎_elim}
+use Rattle.std.specs.Prelude.{sum_by}
+use Rattle.std.specs.List.{range_with_len}
+use Rattle.std.proofs.lemmas.Bool.{cases_lt}
+use Rattle.std.proofs.lemmas.List.{get_or-set_same, get_or-set_other, get_or-replicate, get_or_past, length-replicate}
+use Rattle.std.proofs.lemmas.List.Sums.{sum_by-cons}
 use Rattle.lapd_frame.specs.declared.services.Service.{Service}
 use Rattle.lapd_frame.specs.declared.services.Service.TheVariants.{Call, Packet}
 use Rattle.lapd_link_machine.specs.Events as link
@@ -21,8 +25,8 @@ use Rattle.lapd_tei.proofs.LawLemmas as tei_lemmas
 use Rattle.lapd_tei.proofs.Tables.{at-within}
 use Rattle.lapd_line_machine.specs.declared.config.Config.{Config}
 use Rattle.lapd_line_machine.specs.Answer.{Told}
-use Rattle.lapd_line_machine.specs.Counts.{waiting}
-use Rattle.lapd_line_machine.specs.Line.{Line, link_number, link_count, service_at, link_at, link_in, terms}
+use Rattle.lapd_line_machine.specs.Counts.{waiting, waiting_at_link}
+use Rattle.lapd_line_machine.specs.Line.{Line, fresh_line, link_number, link_count, service_at, link_at, link_in, terms, terms_at}
 use Rattle.lapd_line_machine.specs.Outcome.{Aim, at_none, at_link, at_management, at_units, of_link, of_change, of_management, of_aim}
 use Rattle.lapd_line_machine.specs.Sound.{IsInRange, IsSound}
 use Rattle.lapd_line_machine.specs.Stored.{sum_of_links}
@@ -105,3 +109,19 @@ module _ (c : Config) (ranged : IsInRange c) where
   aim_rises l (at_link service tei place event) s proper = omega (arith, link_rises l s service tei place event proper)
   aim_rises l (at_management event) s proper = management_rises l event s proper
   aim_rises l (at_units unit) s proper = omega (arith, length-append l.units (unit ∷ []))
+
+-- a line that begins has nothing to send
+always_fresh : (n i : ℕ) → get_or (replicate n fresh) i fresh ≡ fresh
+always_fresh n i =
+    ⊎_elim (λ few. get_or-replicate n i fresh fresh few)
+    (λ past. get_or_past (replicate n fresh) i fresh (omega (arith, past, length-replicate n fresh))) (cases_lt i n)
+
+none_waits : (c : Config) (a n : ℕ) → sum_by (waiting_at_link c (fresh_line c)) (range_with_len a n) ≡ 0
+none_waits c a zero = refl
+none_waits c a (suc n) =
+    let head : waiting_at_link c (fresh_line c) a ≡ 0 =
+    ap (rises.waiting (terms_at c a (fresh_line c))) (always_fresh (link_count c) a) in
+    omega (arith, head, none_waits c (a + 1) n, sum_by-cons (waiting_at_link c (fresh_line c)) a (range_with_len (a + 1) n))
+
+pub fresh_waiting : (c : Config) → waiting c (fresh_line c) ≡ 0
+fresh_waiting c = omega (arith, none_waits c 0 (link_count c))

@@ -1,35 +1,31 @@
 -- By how much an event lets rise what a line sends and may still send.
-use Rattle.std.proofs.Common.{◌≡◌, ℕ, ◌+◌, ◌*◌, ◌≤◌, Bool, true, false, List, [], ◌∷◌, length, max, Option, Some, None, is_some, option_to_list, IfSome, refl, ap, sym, ◌∙◌, subst, cond, arith}
+use Rattle.std.proofs.Common.{◌≡◌, ℕ, ◌+◌, ◌*◌, ◌≤◌, Bool, true, false, max, Option, Some, None, is_some, IfSome, refl, ap, sym, subst, cond, arith}
 use Rattle.std.specs.Prelude.{count_by}
-use Rattle.std.specs.Option.{option_map_or}
 use Rattle.lapd_bits.specs.Stream as stream
 use Rattle.lapd_frame.specs.declared.services.Service.{Service}
 use Rattle.lapd_frame.specs.declared.refusals.Refusal.{Refusal}
 use Rattle.lapd_frame.specs.declared.timers.Timer.{Timer}
 use Rattle.lapd_frame.specs.declared.timers.Timer.TheVariants.{T200, T203, T201}
 use Rattle.lapd_link_machine.specs.Events as link
-use Rattle.lapd_link_machine.specs.Link.{Link}
 use Rattle.lapd_link_machine.specs.Machine as links
 use Rattle.lapd_link_machine.specs.Requests as requests
-use Rattle.lapd_link_machine.specs.Rises as rises
 use Rattle.lapd_link_machine.specs.declared.timers.LinkTimer.{LinkTimer}
 use Rattle.lapd_link_machine.specs.declared.timers.LinkTimer.TheVariants as link_timer
-use Rattle.lapd_link_machine.specs.declared.terms.Terms.{Terms}
 use Rattle.lapd_tei.specs.Events as teis
 use Rattle.lapd_tei.specs.Machine.{Management}
 use Rattle.lapd_tei.specs.Rows.{expire_check}
 use Rattle.lapd_tei.specs.Words.{Course, begun}
 use Rattle.lapd_tei.specs.declared.check.Check as checks
 use Rattle.lapd_line_machine.specs.declared.config.Config.{Config}
-use Rattle.lapd_line_machine.specs.Answer.{Event, octet, expiry, request, pull, Answer, told}
-use Rattle.lapd_line_machine.specs.Counts.{one, waiting, frames_heard, long_frames_heard, is_frame, is_accepted, is_begun, is_running_expiry, rejects, rejects_aimed}
-use Rattle.lapd_line_machine.specs.Expiry.{at_timer, aim_of_expiry, runs_at, is_running}
-use Rattle.lapd_line_machine.specs.Laws.{Rises, IsRejectHeard}
+use Rattle.lapd_line_machine.specs.Answer.{Event, octet, expiry, request, pull}
+use Rattle.lapd_line_machine.specs.Counts.{one, waiting, frames_heard, is_frame, is_accepted, is_begun, rejects_aimed}
+use Rattle.lapd_line_machine.specs.Expiry.{at_timer, aim_of_expiry, runs_at}
+use Rattle.lapd_line_machine.specs.Laws.{Rises}
 use Rattle.lapd_line_machine.specs.Line.{Line, window, place_in, link_in, terms}
-use Rattle.lapd_line_machine.specs.Machine.{after, answer, unless_refused, unless_refused_told, of_request}
+use Rattle.lapd_line_machine.specs.Machine.{after, answer, unless_refused, unless_refused_told}
 use Rattle.lapd_line_machine.specs.Octet.{aim_of_octet, with_received}
-use Rattle.lapd_line_machine.specs.Outcome.{Aim, at_none, at_link, at_management, at_units, Outcome, told_of_management, of_change, of_management, of_aim}
-use Rattle.lapd_line_machine.specs.Pull.{Taken, taken, begun as begun_by, with_item, with_due, is_due}
+use Rattle.lapd_line_machine.specs.Outcome.{Aim, at_none, at_link, at_management, at_units, told_of_management, of_change, of_management, of_aim}
+use Rattle.lapd_line_machine.specs.Pull.{Taken, taken, with_item, with_due, is_due}
 use Rattle.lapd_line_machine.specs.Refusal.{refusal}
 use Rattle.lapd_line_machine.specs.Request.{Request, Establish, Release, Data, Unit, Assign, Remove, Check, SetBusy, ClearBusy}
 use Rattle.lapd_line_machine.specs.Requested.{at_requested, aim_of_request}

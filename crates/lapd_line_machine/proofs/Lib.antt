@@ -12,4 +12,10 @@ pub mod AimsRise
 pub mod LineRises
 pub mod PullRises
 pub mod EventsRise
+pub mod Numbered
+pub mod NumberedEvents
 pub mod SlotsGrow
+pub mod NotPool
+pub mod Rejects
+pub mod RejectsHeard
+pub mod EventsReject

@@ -1,37 +1,34 @@
 -- By how much an event lets rise what a line sends and may still send.
-use Rattle.std.proofs.Common.{◌≡◌, ℕ, zero, suc, ◌+◌, ◌*◌, ◌≤◌, ◌<◌, Bool, true, false, List, [], ◌∷◌, ◌++◌, length, slice_get, max, Option, Some, None, is_some, option_map, option_to_list, refl, ap, sym, ◌∙◌, subst, cond, arith, append-nil}
-use Rattle.std.specs.Prelude.{count_by, sum_by}
+use Rattle.std.proofs.Common.{◌≡◌, ℕ, ◌+◌, ◌*◌, ◌≤◌, Bool, true, false, List, [], ◌∷◌, ◌++◌, length, slice_get, max, Option, Some, None, option_to_list, refl, ap, sym, ◌∙◌, subst, cond, arith}
+use Rattle.std.specs.Prelude.{count_by}
 use Rattle.std.specs.Option.{option_map_or}
 use Rattle.std.proofs.lemmas.List.Sums.{sum_by-append}
 use Rattle.lapd_bits.specs.Stream as stream
 use Rattle.lapd_bits.proofs.OneEvent.{one_event_an_octet}
 use Rattle.lapd_frame.specs.declared.services.Service.{Service}
 use Rattle.lapd_frame.specs.declared.services.Service.TheVariants.{Call, Packet}
-use Rattle.lapd_frame.specs.declared.refusals.Refusal.{Refusal}
-use Rattle.lapd_frame.specs.declared.timers.Timer.{Timer}
 use Rattle.lapd_link_machine.specs.Events as link
 use Rattle.lapd_link_machine.specs.Rises as rises
 use Rattle.lapd_line_machine.specs.declared.config.Config.{Config}
-use Rattle.lapd_line_machine.specs.Counts.{one, waiting, is_frame, frames_heard, is_long_frame, long_frames_heard, rejects_aimed, rejects}
-use Rattle.lapd_line_machine.specs.Line.{Line, window, link_in, terms}
+use Rattle.lapd_line_machine.specs.Counts.{one, is_frame, frames_heard, is_long_frame, long_frames_heard, rejects_aimed}
+use Rattle.lapd_line_machine.specs.Line.{Line, window, link_in}
 use Rattle.lapd_line_machine.specs.Octet.{gained, aim_of_heard, aim_of_octet, with_received}
 use Rattle.lapd_line_machine.specs.Outcome.{Aim, at_none, at_link, at_management, at_units, told_of_management, of_change, of_aim}
 use Rattle.lapd_line_machine.specs.Answer.{Told, nothing}
-use Rattle.lapd_line_machine.specs.Sound.{IsInRange, IsSound}
 use Rattle.lapd_tei.specs.Events as teis
 use Rattle.lapd_tei.specs.declared.outcome.Change.{Change}
 use Rattle.lapd_tei.specs.declared.outcome.Change.TheVariants.{Gained, Left}
-use Rattle.lapd_line_machine.proofs.AimsRise.{price_at, aim_rises}
-use Rattle.lapd_line_machine.proofs.LineSound.{received_sound}
-use Rattle.lapd_line_machine.proofs.ProperAims.{heard_aims, octet_proper}
+use Rattle.lapd_line_machine.proofs.AimsRise.{price_at}
+use Rattle.lapd_line_machine.proofs.ProperAims.{heard_aims}
 
 -- ---- what an octet brings
 
-record Brings (c : Config) (l : Line) (value : ℕ) : Type 0 where
-  event : Option stream.Event
-  gains : gained c.n201 l.received value ≡ event
-  frames : frames_heard c (with_received value l) ≡ frames_heard c l + count_by is_frame (option_to_list event)
-  long_frames : long_frames_heard c (with_received value l) ≡ long_frames_heard c l + count_by is_long_frame (option_to_list event)
+pub record Brings (c : Config) (l : Line) (value : ℕ) : Type 0 where
+  pub event : Option stream.Event
+  pub heard : stream.heard_in c.n201 (l.received ++ value ∷ []) ≡ stream.heard_in c.n201 l.received ++ option_to_list event
+  pub gains : gained c.n201 l.received value ≡ event
+  pub frames : frames_heard c (with_received value l) ≡ frames_heard c l + count_by is_frame (option_to_list event)
+  pub long_frames : long_frames_heard c (with_received value l) ≡ long_frames_heard c l + count_by is_long_frame (option_to_list event)
 
 next_of : {X : Type 0} (xs : List X) (o : Option X) → slice_get (xs ++ option_to_list o) (length xs) ≡ o
 next_of [] None = refl
@@ -41,12 +38,13 @@ next_of (y ∷ xs) o = next_of xs o
 count_both : {X : Type 0} (p : X → Bool) (xs ys : List X) → count_by p (xs ++ ys) ≡ count_by p xs + count_by p ys
 count_both p xs ys = sum_by-append (λ x. cond (p x) 1 0) xs ys
 
-brings : (c : Config) (l : Line) (value : ℕ) → Brings c l value
+pub brings : (c : Config) (l : Line) (value : ℕ) → Brings c l value
 brings c l value =
     let heard = stream.heard_in c.n201 l.received in
     let one_more = one_event_an_octet c.n201 l.received value in
     record {
       event = one_more.0;
+      heard = one_more.1;
       gains = ap (λ xs. slice_get xs (length heard)) one_more.1 ∙ next_of heard one_more.0;
       frames = ap (count_by is_frame) one_more.1 ∙ count_both is_frame heard (option_to_list one_more.0);
       long_frames = ap (count_by is_long_frame) one_more.1 ∙ count_both is_long_frame heard (option_to_list one_more.0);

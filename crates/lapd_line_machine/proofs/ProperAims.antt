@@ -3,6 +3,7 @@ use Rattle.std.proofs.Common.{◌≡◌, ℕ, ◌≤◌, Bool, true, false, ◌=
 use Rattle.std.specs.Option.{option_map_or}
 use Rattle.std.proofs.lemmas.Bool.{ltb-false, leb-false}
 use Rattle.lapd_bits.specs.Stream as stream
+use Rattle.lapd_bits.specs.declared.heard.Cause.{Cause}
 use Rattle.lapd_bits.specs.declared.heard.Cause.TheVariants.{Tei, Unserved}
 use Rattle.lapd_frame.specs.declared.addresses.Address.{Address}
 use Rattle.lapd_frame.specs.declared.addresses.Side.TheVariants.{User}
@@ -37,7 +38,7 @@ use Rattle.lapd_line_machine.specs.Machine.{unless_refused}
 use Rattle.lapd_line_machine.proofs.AimsSound.{IsProper}
 
 -- What holds of the aims that frames have: none, a link of a TEI on the line, or TEI management.
-module _ (l : Line) (P : Aim → Type 0) (none : (what : Told) → P (at_none what))
+module _ (l : Line) (P : Aim → Type 0) (none : (cause : Cause) → P (drop_for cause))
     (to_its_link : (service : Service) (tei place : ℕ) (what : link.Received) → place_in l tei ≡ Some place → P (at_link service tei place (link.received what)))
     (to_management : (info : List ℕ) → P (at_management (teis.message info))) where
   at_place_aims : (service : Service) (tei : ℕ) (what : link.Received) (o : Option ℕ) → place_in l tei ≡ o → P (at_place service tei what o)

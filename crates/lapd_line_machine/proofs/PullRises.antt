@@ -1,10 +1,10 @@
 -- A frame that a pull takes is no longer among those that may be sent.
-use Rattle.std.proofs.Common.{◌≡◌, ℕ, ◌+◌, ◌≤◌, ◌<◌, Bool, true, false, List, [], ◌∷◌, ◌++◌, length, drop, slice_get, get_or, Option, Some, None, is_some, option_map, IfSome, refl, ap, sym, ◌∙◌, subst, cond, arith}
+use Rattle.std.proofs.Common.{◌≡◌, ℕ, ◌+◌, ◌≤◌, ◌<◌, Bool, true, false, List, [], ◌∷◌, length, drop, slice_get, Option, Some, None, is_some, option_map, IfSome, refl, ap, sym, ◌∙◌, subst, cond, arith}
 use Rattle.std.specs.Prelude.{All}
 use Rattle.std.specs.Option.{option_or, unwrap_or}
 use Rattle.std.proofs.lemmas.List.Elements.{All-head, All-tail}
 use Rattle.lapd_link_machine.specs.Events as link
-use Rattle.lapd_link_machine.specs.Link.{Link, fresh}
+use Rattle.lapd_link_machine.specs.Link.{Link}
 use Rattle.lapd_link_machine.specs.Machine as links
 use Rattle.lapd_link_machine.specs.Rises as rises
 use Rattle.lapd_link_machine.specs.Steps.{Sent}
@@ -16,7 +16,7 @@ use Rattle.lapd_tei.specs.declared.messages.Message.{Message}
 use Rattle.lapd_line_machine.specs.declared.config.Config.{Config}
 use Rattle.lapd_line_machine.specs.Counts.{one, waiting}
 use Rattle.lapd_line_machine.specs.Line.{Line, UnitData, link_count, service_at, place_at, tei_at, terms, link_at}
-use Rattle.lapd_line_machine.specs.Pull.{Taken, message_taken, unit_frame, unit_taken, with_given_frame, link_taken, first_taken, round, taken, is_due, begun, with_item, with_due, after_pull}
+use Rattle.lapd_line_machine.specs.Pull.{Taken, message_taken, unit_frame, unit_taken, with_given_frame, link_taken, first_taken, round, taken, is_due, begun, with_item, after_pull}
 use Rattle.lapd_line_machine.specs.Sound.{IsInRange, IsSoundAt, IsSound}
 use Rattle.lapd_line_machine.proofs.AimsRise.{one_changed}
 use Rattle.lapd_line_machine.proofs.Offered.{fresh_gives_nothing}

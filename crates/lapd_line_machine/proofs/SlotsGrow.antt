@@ -1,5 +1,5 @@
 -- By how many slots a line's contents grow.
-use Rattle.std.proofs.Common.{◌≡◌, ℕ, zero, suc, ⊎_elim, replicate, ◌+◌, ◌*◌, ◌≤◌, ◌<◌, Bool, true, false, not, ◌&&◌, List, [], ◌∷◌, ◌++◌, length, drop, slice_get, get_or, set, Option, Some, None, is_some, option_map, IfSome, refl, ap, sym, ◌∙◌, subst, cond, arith, length-append, length-set, length-drop}
+use Rattle.std.proofs.Common.{◌≡◌, ℕ, zero, suc, ⊎_elim, replicate, ◌+◌, ◌≤◌, ◌<◌, Bool, true, false, not, ◌&&◌, List, [], ◌∷◌, length, drop, slice_get, get_or, set, Option, Some, None, is_some, option_map, IfSome, refl, ap, sym, ◌∙◌, subst, cond, arith, length-append, length-set, length-drop}
 use Rattle.std.specs.Prelude.{sum_by, All}
 use Rattle.std.specs.List.{range_with_len}
 use Rattle.std.specs.Option.{option_or, option_map_or, unwrap_or}
@@ -18,30 +18,26 @@ use Rattle.lapd_link_machine.specs.Link.{Link, fresh, queue_of}
 use Rattle.lapd_link_machine.specs.Machine as links
 use Rattle.lapd_link_machine.specs.Requests as requests
 use Rattle.lapd_link_machine.specs.Rises as rises
-use Rattle.lapd_link_machine.specs.Told.{Given}
 use Rattle.lapd_link_machine.specs.declared.timers.LinkTimer.{LinkTimer}
 use Rattle.lapd_link_machine.specs.declared.timers.LinkTimer.TheVariants as link_timer
 use Rattle.lapd_link_machine.proofs.Slots.{queue-after}
 use Rattle.lapd_tei.specs.Events as teis
-use Rattle.lapd_tei.specs.Laws as tei_laws
 use Rattle.lapd_tei.specs.Laws.{Moves}
 use Rattle.lapd_tei.specs.Machine.{Management}
-use Rattle.lapd_tei.specs.Messages.{frame_of}
 use Rattle.lapd_tei.specs.Sound.{IsAt}
 use Rattle.lapd_tei.specs.Table.{Places}
 use Rattle.lapd_tei.specs.declared.outcome.Change.{Change}
 use Rattle.lapd_tei.specs.declared.outcome.Change.TheVariants.{Gained, Left}
-use Rattle.lapd_tei.specs.declared.messages.Message.{Message}
 use Rattle.lapd_tei.proofs.LawLemmas as tei_lemmas
 use Rattle.lapd_tei.proofs.Tables.{at-within}
 use Rattle.lapd_line_machine.specs.declared.config.Config.{Config}
 use Rattle.lapd_line_machine.specs.Answer.{Told, nothing, Event, octet, expiry, request, pull}
 use Rattle.lapd_line_machine.specs.Counts.{one}
 use Rattle.lapd_line_machine.specs.Expiry.{at_timer, aim_of_expiry}
-use Rattle.lapd_line_machine.specs.Line.{Line, UnitData, fresh_line, link_number, link_count, service_at, place_at, place_in, tei_at, link_at, link_in, with_link, terms}
+use Rattle.lapd_line_machine.specs.Line.{Line, fresh_line, link_number, link_count, service_at, place_at, place_in, tei_at, link_at, link_in, terms}
 use Rattle.lapd_line_machine.specs.Machine.{after, takes_slot, unless_refused}
 use Rattle.lapd_line_machine.specs.Octet.{gained, aim_of_heard, aim_of_octet, with_received}
-use Rattle.lapd_line_machine.specs.Outcome.{Aim, at_none, at_link, at_management, at_units, told_of_management, of_link, of_change, of_management, of_aim}
+use Rattle.lapd_line_machine.specs.Outcome.{Aim, at_none, at_link, at_management, at_units, told_of_management, of_link, of_change, of_aim}
 use Rattle.lapd_line_machine.specs.Pull.{Taken, with_message, message_taken, unit_frame, unit_taken, with_given_frame, link_taken, first_taken, round, taken, is_due, with_item, with_due}
 use Rattle.lapd_line_machine.specs.Refusal.{refusal}
 use Rattle.lapd_line_machine.specs.Request.{Request, Establish, Release, Data, Unit, Assign, Remove, Check, SetBusy, ClearBusy}

@@ -1,5 +1,5 @@
 -- Laws of a line.
-use Rattle.std.specs.Prelude.{ℕ, ◌+◌, ◌*◌, ◌≤◌, max}
+use Rattle.std.specs.Prelude.{◌+◌, ◌*◌, ◌≤◌, max}
 use Rattle.lapd_line_machine.specs.declared.config.Config.{Config}
 use Rattle.lapd_line_machine.specs.Answer.{Event}
 use Rattle.lapd_line_machine.specs.Line.{Line, fresh_line}
@@ -28,4 +28,4 @@ IsRejectHeard c e l = one (rejects c e l) + long_frames_heard c l ≤ long_frame
 
 pub record LinesRise : Type 0 where
   pub rises : (c : Config) (e : Event) (l : Line) → IsInRange c → IsSound c l → Rises c e l
-  pub rejects : (c : Config) (e : Event) (l : Line) → IsRejectHeard c e l
+  pub rejects : (c : Config) (e : Event) (l : Line) → IsInRange c → IsSound c l → IsRejectHeard c e l

@@ -1,10 +1,16 @@
 //! What holds of the machine of a line itself. Each law is the contract of a call that does nothing.
 
-ghost use Rattle.lapd_line_machine.specs.Laws.{LinesStaySound};
+ghost use Rattle.lapd_line_machine.specs.Laws.{LinesRise, LinesStaySound};
 
 /// A line is sound as it begins, and each event keeps it so: TEI management and the links are, the links of free
 /// places are as they begin, no queue holds more than it may, and the octets given are a beginning of the text of the
 /// items, of which none is longer than the longest frame.
 pub fn lines_stay_sound()
     ensures { LinesStaySound }
+{}
+
+/// What a line has sent, and may still send without anything else happening, rises by no more than an event's price; and
+/// an REJ with a valid N(R) is a frame of four octets.
+pub fn lines_rise()
+    ensures { LinesRise }
 {}

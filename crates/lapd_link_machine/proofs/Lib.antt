@@ -15,6 +15,7 @@ pub mod Numbering
 pub mod Slots
 pub mod Telling
 pub mod TellRows
+pub mod OwnNotes
 pub mod Lines
 pub mod Facing
 pub mod Giving

@@ -1,0 +1,87 @@
+-- The frames sent are linear in the octets received.
+use Rattle.std.proofs.Common.{◌≡◌, ℕ, ◌+◌, ◌*◌, ◌≤◌, List, [], ◌∷◌, ap, sym, ◌∙◌, subst, arith}
+use Rattle.std.specs.Prelude.{sum_by}
+use Rattle.std.proofs.lemmas.Bool.{and_parts}
+use Rattle.std.proofs.lemmas.List.Elements.{All-head, All-tail}
+use Rattle.std.proofs.lemmas.List.Folds.{sum_by-replicate}
+use Rattle.std.proofs.lemmas.List.Sums.{sum_by-cons}
+use Rattle.std.proofs.Math.Nat.{mul-le-mul_left}
+use Rattle.lapd_line_machine.specs.declared.config.Config.{Config}
+use Rattle.lapd_line_machine.specs.Line.{Line, fresh_line}
+use Rattle.lapd_line_machine.specs.Machine as lines
+use Rattle.lapd_line_machine.specs.Counts as line
+use Rattle.lapd_line_machine.proofs.EventsReject.{event_rejects, takes_no_reject}
+use Rattle.lapd_line_machine.proofs.AimsRise.{fresh_waiting}
+use Rattle.lapd_line_machine.proofs.RejectsHeard.{frames_within, long_frames_within}
+use Rattle.lapd_card_machine.specs.Event.{Event}
+use Rattle.lapd_card_machine.specs.Card.{Card, fresh, line_at, is_full}
+use Rattle.lapd_card_machine.specs.Counts.{octets_of_line, octets_received, waiting, frames_heard, long_frames_heard, window, sent, accepted, expired, rejected, is_reject}
+use Rattle.lapd_card_machine.specs.Laws.{FramesLinear}
+use Rattle.lapd_card_machine.specs.Machine.{after, answer}
+use Rattle.lapd_card_machine.specs.Run.{Moment, moments, after_all, IsAtLine, AreAtLines}
+use Rattle.lapd_card_machine.proofs.Amortised.{frames_amortised}
+use Rattle.lapd_card_machine.proofs.Steps.{HasLines, by_room, line_sound, after_lines, fresh_lines, one_line, count_cons}
+
+-- REJ frames are among the frames of four octets or more
+event_heard : (card : Card) (e : Event) → HasLines card → IsAtLine card e
+    → line.one (line.rejects card.config e.what (line_at e.line card)) + long_frames_heard card ≤ long_frames_heard (after e card)
+event_heard card e h within =
+    let l = line_at e.line card in
+    by_room (λ ls a. line.one (line.rejects card.config e.what l) + long_frames_heard card ≤ sum_by (line.long_frames_heard card.config) ls) e card
+    (λ full.
+    let takes = (and_parts (lines.takes_slot card.config e.what l) (is_full card) full).0 in
+    omega (arith, ap line.one (takes_no_reject card.config e.what l takes)))
+    (λ served.
+    omega (
+      arith,
+      event_rejects card.config e.what l h.config (line_sound card e.line h within),
+      one_line (line.long_frames_heard card.config) card e.line (lines.after card.config e.what l) h within,
+    ))
+
+run_heard : (card : Card) (events : List Event) → HasLines card → AreAtLines card events
+    → rejected (moments card events) + long_frames_heard card ≤ long_frames_heard (after_all card events)
+unfolding moments after_all
+run_heard card [] h within = omega arith
+run_heard card (e ∷ events) h within =
+    let m : Moment = record { card = card; event = e; answer = answer e card } in
+    let here = All-head (IsAtLine card) e events within in
+    let first = event_heard card e h here in
+    let rest = run_heard (after e card) events (after_lines e card h here) (All-tail (IsAtLine card) e events within) in
+    omega (arith, first, rest, count_cons is_reject m (moments (after e card) events))
+
+-- frames take their octets
+sum_within : (f g : Line → ℕ) (n : ℕ) (ls : List Line) → ((l : Line) → n * f l ≤ g l) → n * sum_by f ls ≤ sum_by g ls
+sum_within f g n [] h = omega arith
+sum_within f g n (l ∷ ls) h =
+    go (sum_by f (l ∷ ls)) (sum_by-cons f l ls) (h l) (sum_within f g n ls h)
+  where
+    go : (total : ℕ) → total ≡ f l + sum_by f ls → n * f l ≤ g l → n * sum_by f ls ≤ sum_by g ls → n * total ≤ sum_by g (l ∷ ls)
+    go total e head rest = subst (λ k. n * k ≤ sum_by g (l ∷ ls)) (sym e) (omega (arith, head, rest, sum_by-cons g l ls))
+
+frames_few : (card : Card) → 6 * frames_heard card ≤ octets_received card
+frames_few card = sum_within (line.frames_heard card.config) octets_of_line 6 card.lines (λ l. frames_within card.config l)
+
+long_frames_few : (card : Card) → 7 * long_frames_heard card ≤ octets_received card
+long_frames_few card = sum_within (line.long_frames_heard card.config) octets_of_line 7 card.lines (λ l. long_frames_within card.config l)
+
+fresh_waits : (c : Config) → waiting (fresh c) ≡ 0
+fresh_waits c = sum_by-replicate (line.waiting c) c.lines (fresh_line c) ∙ omega (arith, ap (λ x. c.lines * x) (fresh_waiting c))
+
+bound : (s w f a x j k o : ℕ) → s + w ≤ 2 * f + a + (k + 1) * x + k * j → 6 * f ≤ o → 7 * j ≤ o
+    → 21 * s ≤ (7 + 3 * k) * o + 21 * a + 21 * (k + 1) * x
+bound s w f a x j k o amortised frames rejects =
+    let scaled = mul-le-mul_left (3 * k) rejects in
+    omega (arith, amortised, frames, scaled)
+
+pub frames_linear : FramesLinear
+frames_linear c events ranged within =
+    let card = fresh c in
+    let ms = moments card events in
+    let end = after_all card events in
+    let h = fresh_lines c ranged in
+    let k = window c in
+    let frames = frames_few end in
+    let rejects : 7 * rejected ms ≤ octets_received end = omega (arith, run_heard card events h within, long_frames_few end) in
+    let amortised : sent ms + waiting end ≤ 2 * frames_heard end + accepted ms + (k + 1) * expired ms + k * rejected ms =
+    omega (arith, frames_amortised card events h within, fresh_waits c) in
+    (frames, rejects, bound (sent ms) (waiting end) (frames_heard end) (accepted ms) (expired ms) (rejected ms) k (octets_received end) amortised frames rejects)

@@ -1,0 +1,7 @@
+-- The law is that of EventsRise and EventsReject.
+use Rattle.lapd_line_machine.proofs.EventsReject.{event_rejects}
+use Rattle.lapd_line_machine.proofs.EventsRise.{event_rises}
+use Rattle.lapd_line_machine.proofs.laws.lines_rise.Goals as goal
+
+pub returns : goal.returns
+returns c = record { rises = event_rises; rejects = event_rejects }

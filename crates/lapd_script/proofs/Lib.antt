@@ -1,3 +1,4 @@
+pub mod JobLemmas
 pub mod NumberLemmas
 pub mod ReadLemmas
 pub mod WordLemmas

@@ -13,10 +13,10 @@ use Rattle.lapd_script.specs.Number.{number}
 use Rattle.lapd_script.specs.Meaning.{skip}
 use Rattle.lapd_script.specs.Read.{read, read_words, read_after, read_as, card_numbers, nine_numbers, three_numbers, with_k16, ◌>>=◌}
 
-abbrev nowhere : Bor (List ℕ)
+abbrev pub nowhere : Bor (List ℕ)
 nowhere = record { ref_ptr = (0, 0); now = [] }
 
-abbrev at : List (Bor (List ℕ)) → ℕ → List ℕ
+abbrev pub at : List (Bor (List ℕ)) → ℕ → List ℕ
 at words i = (get_or words i nowhere).now
 
 abbrev grouped : Result (ℕ × ℕ × ℕ) FaultKind → Result (ℕ × ℕ × ℕ) FaultKind → Result (ℕ × ℕ × ℕ) FaultKind → Result CardNumbers FaultKind

@@ -5,3 +5,5 @@ pub mod Word
 pub mod Meaning
 pub mod Read
 pub mod Worked
+pub mod Job
+pub mod Bound

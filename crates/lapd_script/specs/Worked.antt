@@ -1,11 +1,13 @@
 -- The definitions on worked lines: each fact holds by computing.
-use Rattle.std.specs.Prelude.{◌≡◌, [], ◌∷◌, codes, Ok, Err, refl}
+use Rattle.std.specs.Prelude.{◌≡◌, true, false, [], ◌∷◌, codes, Some, None, Ok, Err, refl}
 use Rattle.hex.specs.Hex.{decode_pairs}
 use Rattle.lapd_frame.specs.declared.services.Service.TheVariants.{Call, Packet}
 use Rattle.lapd_script.specs.declared.kind.FaultKind.TheVariants.{UnknownWord, BadNumberOfWords, BadNumber, BadOctets}
 use Rattle.lapd_script.specs.declared.command.Asked as asked
 use Rattle.lapd_script.specs.Meaning.{skip, card, rx, into, pull, wait, stored, ask}
 use Rattle.lapd_script.specs.Read.{read}
+use Rattle.lapd_script.specs.Job.{job, run, frame, limits}
+use Rattle.lapd_script.specs.Bound.{bound}
 
 empty : read [] ≡ Ok skip
 empty = refl
@@ -89,3 +91,25 @@ odd_digits = refl
 no_hexadecimal : read (codes "rx 0 7G") ≡ Err BadOctets
 unfolding decode_pairs
 no_hexadecimal = refl
+
+-- the program's words
+one_word : job (codes "run" ∷ []) ≡ Some run
+one_word = refl
+
+a_frame_of_the_user : job (codes "frame" ∷ codes "00817F" ∷ []) ≡ Some (frame (codes "00817F") false)
+a_frame_of_the_user = refl
+
+a_frame_of_the_network : job (codes "frame" ∷ codes "zz" ∷ codes "--network" ∷ []) ≡ Some (frame (codes "zz") true)
+a_frame_of_the_network = refl
+
+five_numbers : job (codes "limits" ∷ codes "8" ∷ codes "8" ∷ codes "4" ∷ codes "64" ∷ codes "260" ∷ []) ≡ Some (limits 8 8 4 64 260)
+five_numbers = refl
+
+their_bound : bound 8 8 4 64 260 ≡ 23280
+their_bound = refl
+
+out_of_range : job (codes "limits" ∷ codes "65" ∷ codes "8" ∷ codes "4" ∷ codes "64" ∷ codes "260" ∷ []) ≡ None
+out_of_range = refl
+
+other_words : job (codes "run" ∷ codes "run" ∷ []) ≡ None
+other_words = refl

@@ -7,9 +7,12 @@
 //! - `words`: the words of a line, and how many a line takes.
 //! - `number`, `octets`: words that stand for numbers and for octets.
 //! - `read`: reads a line.
+//! - `jobs`, `arguments`: what the program can be asked for, and its words.
 #![tactic(auto)]
 
+mod arguments;
 mod command;
+mod jobs;
 mod kind;
 mod number;
 mod octets;
@@ -17,6 +20,8 @@ mod read;
 mod word;
 mod words;
 
+pub use arguments::job;
 pub use command::{Asked, CardNumbers, Command};
+pub use jobs::{Job, Limits};
 pub use kind::FaultKind;
 pub use read::read_line;

@@ -1,6 +1,6 @@
 //! Words that stand for numbers.
 
-ghost use Rattle.std.specs.Prelude.{◌≡◌, ℕ, ◌^◌, ◌<◌};
+ghost use Rattle.std.specs.Prelude.{◌≡◌, ℕ, ◌^◌, ◌<◌, ◌≤◌, IfOk};
 ghost use Rattle.std.specs.List.{list_all};
 ghost use Rattle.std.specs.Char.{is_ascii_digit};
 ghost use Rattle.lapd_script.specs.Number.{number, within};
@@ -10,7 +10,8 @@ use std::str;
 
 /// The number of decimal digits that a word is, from `low` to `high`. It may begin with zeros.
 pub(crate) fn number(low: u32, high: u32, word: &[u8]) -> Result<u32, FaultKind>
-    ensures { result ≡ number low high word.now }
+    ensures number { result ≡ number low high word.now }
+    ensures range { IfOk result (λ value. (low ≤ value) × (value ≤ high)) }
 {
     match value(word) {
         Some(value) if low <= value && value <= high => Ok(value),

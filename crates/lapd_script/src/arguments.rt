@@ -1,0 +1,68 @@
+//! What the words after the program's name ask for.
+
+ghost use Rattle.std.specs.Prelude.{◌≡◌};
+ghost use Rattle.lapd_script.specs.Job.{job, seen, limits_of, job_or_none};
+ghost use Rattle.lapd_script.specs.Words.{texts};
+
+use crate::jobs::{Job, Limits};
+use crate::number::number;
+
+/// What these words ask for, and `None` where they ask for nothing that there is.
+pub fn job<'a>(words: &[&'a str]) -> Option<Job<'a>>
+    ensures { seen result ≡ job (texts words.now) }
+{
+    match words {
+        [name] => { if *name == "run" { Some(Job::Run) } else { None } }
+        [name, hex] => {
+            if *name == "frame" {
+                Some(Job::Frame {
+                    hex: *hex,
+                    network: false,
+                })
+            } else {
+                None
+            }
+        }
+        [name, hex, flag] => {
+            if *name == "frame" && *flag == "--network" {
+                Some(Job::Frame {
+                    hex: *hex,
+                    network: true,
+                })
+            } else {
+                None
+            }
+        }
+        [name, lines, terminals, control, slots, n201] => {
+            if *name == "limits" {
+                limits(lines, terminals, control, slots, n201)
+            } else {
+                None
+            }
+        }
+        _ => None,
+    }
+}
+
+fn limits<'a>(
+    lines: &str,
+    terminals: &str,
+    control: &str,
+    slots: &str,
+    n201: &str,
+) -> Option<Job<'a>>
+    ensures { seen result ≡ job_or_none (limits_of lines.now terminals.now control.now slots.now n201.now) }
+{
+    let lines = number(1, 64, lines.as_bytes()).ok()?;
+    let terminals = number(1, 8, terminals.as_bytes()).ok()?;
+    let control = number(2, 16, control.as_bytes()).ok()?;
+    let slots = number(1, 8192, slots.as_bytes()).ok()?;
+    let n201 = number(8, 260, n201.as_bytes()).ok()?;
+    Some(Job::Limits(Limits {
+        lines,
+        terminals,
+        control,
+        slots,
+        n201,
+    }))
+}

@@ -1,0 +1,6 @@
+pub mod Pieces
+pub mod Bench
+pub mod Steps
+pub mod Script
+pub mod Worked
+pub mod WorkedScripts

@@ -9,3 +9,4 @@ pub mod Numbering
 pub mod CardSound
 pub mod Isolated
 pub mod Linear
+pub mod NeverFull

@@ -19,3 +19,4 @@ pub mod NotPool
 pub mod Rejects
 pub mod RejectsHeard
 pub mod EventsReject
+pub mod RoomForAll

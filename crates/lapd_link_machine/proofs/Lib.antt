@@ -20,3 +20,4 @@ pub mod Facing
 pub mod Giving
 pub mod FacingInformation
 pub mod Direction
+pub mod Taking

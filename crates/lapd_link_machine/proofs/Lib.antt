@@ -21,3 +21,4 @@ pub mod Giving
 pub mod FacingInformation
 pub mod Direction
 pub mod Taking
+pub mod Hearing

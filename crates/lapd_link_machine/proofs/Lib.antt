@@ -21,3 +21,5 @@ pub mod Facing
 pub mod Giving
 pub mod FacingInformation
 pub mod Direction
+pub mod Taking
+pub mod Hearing

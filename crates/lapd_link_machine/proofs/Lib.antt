@@ -22,3 +22,4 @@ pub mod FacingInformation
 pub mod Direction
 pub mod Taking
 pub mod Hearing
+pub mod Sending

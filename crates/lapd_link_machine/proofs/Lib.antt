@@ -23,3 +23,4 @@ pub mod Direction
 pub mod Taking
 pub mod Hearing
 pub mod Sending
+pub mod Joined

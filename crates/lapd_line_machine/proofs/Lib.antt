@@ -20,3 +20,4 @@ pub mod Rejects
 pub mod RejectsHeard
 pub mod EventsReject
 pub mod RoomForAll
+pub mod Short

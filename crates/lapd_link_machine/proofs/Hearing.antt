@@ -17,11 +17,11 @@ use Rattle.lapd_link_machine.proofs.Direction.{Direction, line_of, frames_of, ca
 use Rattle.lapd_link_machine.proofs.Taking.{named-is_seq, HasNumber, Advance}
 
 -- What the end that receives learns of its own contents: its V(A) becomes what the N(R) means.
-pub sender-hears : (n m : End) (f : Parts) (fs : List Parts) (l : Link) (ds : List (List ℕ)) (r : ℕ) (S : Number)
+pub sender-hears : (n m : End) (f : Parts) (fs : List Parts) (l : Link) (ds : List (List ℕ)) (S : Number)
     → IsInRange n.terms → IsSound n.terms n.link → m.way ≡ f ∷ fs
-    → ((p : ℕ) → Means p f.control → (v : ℕ) × (named n.link.a n.link.s (seq p) ≡ Some v) × Stay n.link S v r l.contents l.a l.s l.r l.waiting)
+    → ((p : ℕ) → Means p f.control → (r : ℕ) × (v : ℕ) × (named n.link.a n.link.s (seq p) ≡ Some v) × Stay n.link S v r l.contents l.a l.s l.r l.waiting)
     → Direction n m → Direction (record n { link = l; delivered = ds }) (record m { way = fs })
-sender-hears n m f fs l ds r S ranges sound first heard h =
+sender-hears n m f fs l ds S ranges sound first heard h =
     let rising : Rising n.link.a m.link.r (f ∷ fs ++ frames_of m.terms m.link.waiting) = subst (λ way. Rising n.link.a m.link.r (way ++ frames_of m.terms m.link.waiting)) first h.rising in
     let p = rising.0 in
     let up : n.link.a ≤ p = rising.1 in
@@ -31,11 +31,12 @@ sender-hears n m f fs l ds r S ranges sound first heard h =
     let small : n.terms.k ≤ 127 = ranges.k_high in
     let within : n.link.s ≤ n.link.a + n.terms.k = sound.within in
     let told = heard p rising.2 in
-    let v = told.0 in
-    let stay = told.2 in
-    let between = named-within n.link.a n.link.s v (seq p) told.1 in
+    let r = told.0 in
+    let v = told.1 in
+    let stay = told.3 in
+    let between = named-within n.link.a n.link.s v (seq p) told.2 in
     let from : n.link.a ≤ v = between.0 in
-    let same : v ≡ p = named-means n.link.a n.link.s p v (seq p) refl up (omega arith) between.0 between.1 (omega arith) (named-is_seq n.link.a n.link.s v (seq p) told.1) in
+    let same : v ≡ p = named-means n.link.a n.link.s p v (seq p) refl up (omega arith) between.0 between.1 (omega arith) (named-is_seq n.link.a n.link.s v (seq p) told.2) in
     let now : l.a ≡ p = stay.acknowledged ∙ same in
     let reports = stay.reports in
     let line = line-grows n.terms n.way n.link.waiting l.waiting r reports in

@@ -23,3 +23,5 @@ pub mod FacingInformation
 pub mod Direction
 pub mod Taking
 pub mod Hearing
+pub mod Sending
+pub mod Joined

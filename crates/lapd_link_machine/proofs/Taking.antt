@@ -82,7 +82,7 @@ module _ (t : Terms) (l : Link) where
       }
 
   -- a supervisory frame delivers nothing
-  none-delivered : (c : Course) → On (done l.r None) c → c.delivered ≡ None
+  pub none-delivered : (c : Course) → On (done l.r None) c → c.delivered ≡ None
   none-delivered c (inl h) = h.delivered
   none-delivered c (inr h) = h.delivered
 

@@ -9,3 +9,4 @@ pub mod NumberedForms
 pub mod Numbering
 pub mod Isolated
 pub mod Linear
+pub mod NeverFull

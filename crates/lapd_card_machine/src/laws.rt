@@ -1,7 +1,7 @@
 //! What holds of whole runs of the machine. Each law is the contract of a call that does nothing; it holds for every list
 //! of events, and so for every front of a list.
 
-ghost use Rattle.lapd_card_machine.specs.Laws.{CardsStaySound, DeliveriesNumbered, FramesAmortised, FramesLinear, LinesIsolated, RefusedByTheTable, RunIsMoments, StoredWithinLimit, TextGoesOn};
+ghost use Rattle.lapd_card_machine.specs.Laws.{CardsStaySound, DeliveriesNumbered, FramesAmortised, FramesLinear, LinesIsolated, PoolNeverFull, RefusedByTheTable, RunIsMoments, StoredWithinLimit, TextGoesOn};
 
 /// A run as one fold is its moments, one after the other.
 pub fn run_is_moments()
@@ -60,4 +60,10 @@ pub fn lines_isolated()
 /// timers: each frame takes six octets of its line at least, and each REJ seven.
 pub fn frames_linear()
     ensures { FramesLinear }
+{}
+
+/// From a fresh card on, no request finds the pool full where there are as many slots as all queues together have places:
+/// `lines * (2 * terminals * queue + unit_queue)` (profile). So on such a card no line feels another at all.
+pub fn pool_never_full()
+    ensures { PoolNeverFull }
 {}

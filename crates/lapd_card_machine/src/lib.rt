@@ -17,5 +17,5 @@ mod laws;
 pub use events::Event;
 pub use laws::{
     cards_stay_sound, deliveries_numbered, frames_amortised, frames_linear, lines_isolated,
-    refused_by_the_table, run_is_moments, stored_within_limit, text_goes_on,
+    pool_never_full, refused_by_the_table, run_is_moments, stored_within_limit, text_goes_on,
 };

@@ -19,3 +19,5 @@ pub mod NotPool
 pub mod Rejects
 pub mod RejectsHeard
 pub mod EventsReject
+pub mod RoomForAll
+pub mod Short

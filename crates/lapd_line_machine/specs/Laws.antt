@@ -1,7 +1,9 @@
 -- Laws of a line.
-use Rattle.std.specs.Prelude.{◌+◌, ◌*◌, ◌≤◌, max}
+use Rattle.std.specs.Prelude.{◌+◌, ◌*◌, ◌≤◌, max, List, [], length}
+use Rattle.lapd_frame.specs.declared.notes.Note.{Note}
+use Rattle.lapd_frame.specs.declared.timers.Order.{Order}
 use Rattle.lapd_line_machine.specs.declared.config.Config.{Config}
-use Rattle.lapd_line_machine.specs.Answer.{Event}
+use Rattle.lapd_line_machine.specs.Answer.{Event, Answer, told, refused, pulled}
 use Rattle.lapd_line_machine.specs.Line.{Line, fresh_line}
 use Rattle.lapd_line_machine.specs.Counts.{one, waiting, frames_heard, long_frames_heard, is_begun, is_accepted, is_running_expiry, rejects}
 use Rattle.lapd_line_machine.specs.Machine.{after, answer}
@@ -29,3 +31,18 @@ IsRejectHeard c e l = one (rejects c e l) + long_frames_heard c l ≤ long_frame
 pub record LinesRise : Type 0 where
   pub rises : (c : Config) (e : Event) (l : Line) → IsInRange c → IsSound c l → Rises c e l
   pub rejects : (c : Config) (e : Event) (l : Line) → IsInRange c → IsSound c l → IsRejectHeard c e l
+
+-- An answer has at most four notes and at most four orders.
+abbrev pub notes_in : Answer → List Note
+notes_in (told t) = t.notes
+notes_in (refused why) = []
+notes_in (pulled value begun orders) = []
+
+abbrev pub orders_in : Answer → List Order
+orders_in (told t) = t.orders
+orders_in (refused why) = []
+orders_in (pulled value begun orders) = orders
+
+pub record AnswersAreShort : Type 0 where
+  pub notes : (c : Config) (e : Event) (l : Line) → length (notes_in (answer c e l)) ≤ 4
+  pub orders : (c : Config) (e : Event) (l : Line) → length (orders_in (answer c e l)) ≤ 4

@@ -1,6 +1,6 @@
 //! What holds of the machine of a line itself. Each law is the contract of a call that does nothing.
 
-ghost use Rattle.lapd_line_machine.specs.Laws.{LinesRise, LinesStaySound};
+ghost use Rattle.lapd_line_machine.specs.Laws.{AnswersAreShort, LinesRise, LinesStaySound};
 
 /// A line is sound as it begins, and each event keeps it so: TEI management and the links are, the links of free
 /// places are as they begin, no queue holds more than it may, and the octets given are a beginning of the text of the
@@ -13,4 +13,10 @@ pub fn lines_stay_sound()
 /// an REJ with a valid N(R) is a frame of four octets.
 pub fn lines_rise()
     ensures { LinesRise }
+{}
+
+/// An answer has at most four notes and at most four orders for timers, so a list of four holds each. A line answers most of
+/// both where a TEI leaves it: one of TEI management and one of each of its two links.
+pub fn answers_are_short()
+    ensures { AnswersAreShort }
 {}

@@ -45,7 +45,7 @@ module _ (t : Terms) (l : Link) where
       let rest : Leads (On (counted (l.r + 1) (Some octets))) (by_bit p (Words.answer t) (Words.pending_is true)) (On (counted (l.r + 1) (Some octets))) = search words in
       rest.leads ((Words.count_received then Words.rejecting_is false then Words.deliver t octets) (begun l)) start
 
-  begins : On (counted l.r None) (begun l)
+  pub begins : On (counted l.r None) (begun l)
   begins = record { number = refl; delivered = refl; goes_on = refl }
 
   dropped : (p : Bool) → On (counted l.r None) (MultipleFrame.dropped t p (begun l))

@@ -27,7 +27,7 @@ pub record Took (l : Link) (nr : Seq) (r : ℕ) (d : Option (List ℕ)) (c : Cou
   pub delivered : IsTrue (is_multiple_frame c.link.state) → c.delivered ≡ d
 
 module _ (t : Terms) (l : Link) where
-  at-first : Stays l (still l.s) l.a l.r (begun l)
+  pub at-first : Stays l (still l.s) l.a l.r (begun l)
   at-first = record { stay = record { same = refl; acknowledged = refl; sent = refl; received = refl; reports = no-reports l.r l.waiting } }
 
   after-one : (octets : List ℕ) → Stays l (still l.s) l.a (l.r + 1) ((Words.count_received then Words.rejecting_is false then Words.deliver t octets) (begun l))

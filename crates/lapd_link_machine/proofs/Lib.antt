@@ -21,3 +21,7 @@ pub mod Facing
 pub mod Giving
 pub mod FacingInformation
 pub mod Direction
+pub mod Taking
+pub mod Hearing
+pub mod Sending
+pub mod Joined

@@ -6,3 +6,4 @@ pub mod Served
 pub mod Counted
 pub mod Pigeonholes
 pub mod LawLemmas
+pub mod Brief

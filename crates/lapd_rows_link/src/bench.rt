@@ -1,9 +1,10 @@
 //! A link with its shelf.
 
-ghost use Rattle.std.specs.Prelude.{◌≡◌, ◌≤◌, IfOk};
+ghost use Rattle.std.specs.Prelude.{◌≡◌, ◌≤◌, IfOk, IfSome};
+ghost use Rattle.lapd_store.specs.Store.{IsUsed};
 
 use lapd_frame::{Address, Control, Frame, Refusal, Service};
-use lapd_link::{Answer, Link, LinkRequest, LinkTimer, Offer, Received, StartFault};
+use lapd_link::{Answer, Link, LinkRequest, LinkTimer, Offer, Outcome, Received, StartFault};
 use lapd_store::{Shelf, SlabShelf};
 use std::alloc::Global;
 
@@ -34,17 +35,23 @@ impl Bench {
         requires { Works slots self.old }
         ensures { Works slots self.new }
     {
-        let address = Address {
-            sapi: 0,
-            command,
-            tei: 64,
-        };
-        let frame = Frame {
-            address,
-            control,
-            info,
-        };
-        self.link.receive(Received::Frame(frame), &mut self.shelf)
+        let received = Received::Frame(frame_of(command, control, info));
+        self.link.receive(received, &mut self.shelf)
+    }
+
+    /// The same, where what is delivered is lent.
+    pub fn listen<'a>(
+        &mut self,
+        slots: u32,
+        command: bool,
+        control: Control,
+        info: &'a [u8],
+    ) -> Outcome<'a>
+        requires { Works slots self.old }
+        ensures { Works slots self.new }
+    {
+        let received = Received::Frame(frame_of(command, control, info));
+        self.link.frame(received, &mut self.shelf)
     }
 
     /// Layer 3 asks for something.
@@ -66,7 +73,8 @@ impl Bench {
     /// The next frame is sent.
     pub fn offer(&mut self, slots: u32) -> Option<Offer>
         requires { Works slots self.old }
-        ensures { Works slots self.new }
+        ensures works { Works slots self.new }
+        ensures used { IfSome result (λ offer. IfSome offer.contents (IsUsed self.new.shelf)) }
     {
         self.link.offer()
     }
@@ -79,10 +87,37 @@ impl Bench {
         self.link.clear(&mut self.shelf)
     }
 
-    /// The octets of its control frames, and of the contents on its shelf.
-    pub fn stored(&self, slots: u32) -> (u32, u64)
+    /// What can be seen of the link and its shelf from outside.
+    pub fn seen(&self, slots: u32) -> Seen
         requires { Works slots self.now }
     {
-        (self.link.held(), self.shelf.octets())
+        Seen {
+            state: self.link.state(),
+            held: self.link.held(),
+            used: self.shelf.used(),
+            octets: self.shelf.octets(),
+        }
+    }
+}
+
+/// The link's state, the octets of the control frames that wait, the contents on the shelf, and their octets.
+#[derive(Clone, Copy, PartialEq, Eq, Debug)]
+pub struct Seen {
+    pub state: u8,
+    pub held: u32,
+    pub used: u32,
+    pub octets: u64,
+}
+
+fn frame_of(command: bool, control: Control, info: &[u8]) -> Frame<'_> {
+    let address = Address {
+        sapi: 0,
+        command,
+        tei: 64,
+    };
+    Frame {
+        address,
+        control,
+        info,
     }
 }

@@ -8,7 +8,7 @@
 
 mod bench;
 
-pub use bench::Bench;
+pub use bench::{Bench, Seen};
 
 #[cfg(test)]
 mod life;

@@ -5,6 +5,7 @@ ghost use Rattle.lapd_rows_link.specs.Works.{Works};
 use crate::bench::Bench;
 use lapd_frame::{Control, ErrorCode, Note, Order, Service, ShortList, Timer};
 use lapd_link::{LinkRequest, LinkTimer, StartFault};
+use lapd_seq::Seq;
 
 fn control_of(bench: &mut Bench) -> Option<Control>
     requires { Works 2 bench.old }
@@ -30,10 +31,27 @@ fn a_link_is_established_and_cleared(rt: HostRuntime) -> Result<(), StartFault> 
     assert!(rt; bench.offer(2).is_some());
     let asked = bench.expire(2, LinkTimer::T200);
     assert!(rt; asked.orders == ShortList::one(Order::Start(Timer::T200(Service::Call, 64))));
-    assert!(rt; bench.stored(2) == (4, 1));
+    let seen = bench.seen(2);
+    assert!(rt; seen.held == 4 && seen.octets == 1);
     let gone = bench.clear(2);
     assert!(rt; gone.notes == ShortList::one(Note::ReleaseIndication(Service::Call, 64)));
-    assert!(rt; bench.stored(2) == (0, 0));
-    assert!(rt; bench.link.state() == 4);
+    let seen = bench.seen(2);
+    assert!(rt; seen.state == 4 && seen.held == 0 && seen.octets == 0);
+    Ok(())
+}
+
+#[test]
+fn what_is_delivered_is_lent(rt: HostRuntime) -> Result<(), StartFault> {
+    let mut bench = Bench::start(rt.alloc(), 2, 2)?;
+    let heard = bench.listen(2, true, Control::Ui { pf: false }, &[6, 7]);
+    assert!(rt; heard.unit == Some([6, 7].as_slice()) && heard.delivered.is_none());
+    let _ = bench.hear(2, true, Control::Sabme { pf: true }, &[]);
+    let control = Control::Information {
+        ns: Seq::new(0),
+        nr: Seq::new(0),
+        pf: false,
+    };
+    let heard = bench.listen(2, true, control, &[8, 9]);
+    assert!(rt; heard.delivered == Some([8, 9].as_slice()) && heard.unit.is_none());
     Ok(())
 }

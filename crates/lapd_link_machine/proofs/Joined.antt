@@ -171,9 +171,9 @@ module _ (n m : End) (h : Joined n m) where
         there =
             sender-hears n m f fs c.link ds any_number h.near_ranges h.near_sound first
             (λ p means.
-              let other = frame-taken n.terms n.link h.near_up f.address.command f.info p f.control means in
-              let by = other.took.by.stay up in
-              (other.r, by.0, by.1, by.2))
+            let other = frame-taken n.terms n.link h.near_up f.address.command f.info p f.control means in
+            let by = other.took.by.stay up in
+            (other.r, by.0, by.1, by.2))
             h.there;
         back =
             receiver-hears n m f fs c.link ds this.r this.delivered h.far_ranges first this.advance stay.received stay.reports

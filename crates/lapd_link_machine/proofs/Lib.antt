@@ -24,3 +24,4 @@ pub mod Taking
 pub mod Hearing
 pub mod Sending
 pub mod Joined
+pub mod Premises

@@ -1,5 +1,5 @@
 -- Two ends: what holds in both directions, as long as both links stay in states 7 and 8.
-use Rattle.std.proofs.Common.{◌≡◌, ℕ, ◌+◌, ◌≤◌, Bool, true, false, cond, IsTrue, List, [], ◌∷◌, ◌++◌, length, take, drop, Option, None, Some, refl, sym, ap, subst, ◌∙◌, append-nil, true≢false, arith}
+use Rattle.std.proofs.Common.{◌≡◌, ℕ, ◌+◌, Bool, true, false, cond, IsTrue, List, [], ◌∷◌, ◌++◌, take, drop, Option, None, Some, refl, sym, ap, subst, ◌∙◌, append-nil, true≢false, arith}
 use Rattle.std.specs.Prelude.{option_to_list}
 use Rattle.lapd_frame.specs.declared.refusals.Refusal.{Refusal}
 use Rattle.lapd_frame.specs.Grammar.{Parts}
@@ -13,7 +13,6 @@ use Rattle.lapd_link_machine.specs.Events.{frame, Request, establish, release, t
 use Rattle.lapd_link_machine.specs.Steps.{Course, begun}
 use Rattle.lapd_link_machine.specs.Requests
 use Rattle.lapd_link_machine.specs.Machine
-use Rattle.lapd_link_machine.specs.Deliveries.{eligible}
 use Rattle.lapd_link_machine.specs.Sound.{IsInRange, IsSound}
 use Rattle.lapd_link_machine.specs.TwoEnds.{End, Ends, Act, asks, expires, sends, receives, loses, Doing, at_near, at_far, with_link, with_sent, with_first_lost, with_first_of, acting, turned, doing, doing_all, Begins, IsUp, StayUp, Agree}
 use Rattle.lapd_link_machine.proofs.SoundEvents.{sound-after}

@@ -25,3 +25,4 @@ pub mod Taking
 pub mod Hearing
 pub mod Sending
 pub mod Joined
+pub mod Premises

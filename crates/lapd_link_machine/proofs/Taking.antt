@@ -1,5 +1,5 @@
 -- What a frame of the other end does to a link that stays in states 7 and 8.
-use Rattle.std.proofs.Common.{◌≡◌, ℕ, ◌+◌, ◌≤◌, Bool, true, false, cond, IsTrue, List, Option, None, Some, refl, sym, ap, subst, ◌∙◌, ◌⊎◌, inl, inr, ◌==◌, eqb-true, true≢false}
+use Rattle.std.proofs.Common.{◌≡◌, ℕ, ◌+◌, Bool, true, false, cond, IsTrue, List, Option, None, Some, refl, sym, ap, subst, ◌∙◌, ◌⊎◌, inl, inr, eqb-true, true≢false}
 use Rattle.std.specs.Prelude.{nat_le}
 use Rattle.lapd_seq.specs.declared.numbers.Seq.{Seq}
 use Rattle.lapd_seq.specs.Numbers.{seq}

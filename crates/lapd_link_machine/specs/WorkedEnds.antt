@@ -8,7 +8,7 @@ use Rattle.lapd_link_machine.specs.Machine.{after_all}
 use Rattle.lapd_link_machine.specs.TwoEnds.{Ends, asks, sends, receives, loses, Doing, at_near, at_far, doing_all}
 use Rattle.lapd_link_machine.specs.Worked.{usual, up}
 
-abbrev both : Ends
+abbrev pub both : Ends
 both = record {
   near = record { terms = usual; link = up; way = []; delivered = [] };
   far = record { terms = usual; link = up; way = []; delivered = [] };
@@ -28,7 +28,7 @@ unfolding seq distance_of named reading header_of control_of unnumbered_of super
 lost_third = refl
 
 -- then REJ comes back, and five frames go again
-abbrev mended : List Doing
+abbrev pub mended : List Doing
 mended = lossy ++ at_far sends ∷ at_near receives ∷ replicate 7 (at_near sends) ++ replicate 5 (at_far receives)
 
 sent_again : length (doing_all (lossy ++ at_far sends ∷ at_near receives ∷ replicate 7 (at_near sends)) both).near.way ≡ 5

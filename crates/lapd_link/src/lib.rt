@@ -8,6 +8,7 @@
 //! - [`Link::request`]: layer 3 asks for something;
 //! - [`Link::offer`]: the next frame to be sent;
 //! - [`Link::open`], [`Link::clear`]: its TEI comes to the line, or leaves it.
+//! - [`two_ends`]: a law of two links that face each other: what each has delivered is what the other accepted, in order.
 //!
 //! What it is proved to be is the machine of `lapd_link_machine`: `specs/Stands.antt` says what a link stands for. The contents
 //! that layer 3 gives lie in slots of a shelf that other links use too. They are copied there once, and freed when they are
@@ -24,7 +25,7 @@ mod received;
 mod requests;
 
 pub use fault::StartFault;
-pub use lapd_link_machine::LinkTimer;
+pub use lapd_link_machine::{LinkTimer, two_ends};
 pub use link::Link;
 pub use offers::Offer;
 pub use outcome::{Answer, Outcome};

@@ -1,0 +1,11 @@
+pub mod LinkSteps
+pub mod EntitySteps
+pub mod AimSteps
+pub mod ChangeSteps
+pub mod LineSteps
+pub mod AskSteps
+pub mod StartSteps
+pub mod HeldSteps
+pub mod TakeSteps
+pub mod TakeStepsUnits
+pub mod TakeStepsLinks

@@ -25,7 +25,7 @@ use Rattle.lapd_line.specs.declared.reports.Outcome.{Outcome}
 use Rattle.lapd_line.specs.declared.units.QueuedUnit.{QueuedUnit}
 use Rattle.lapd_line.specs.Entities.{Stands, Standing, Serves, always}
 use Rattle.lapd_line.specs.Reports.{told_in}
-use Rattle.lapd_line.specs.Units.{AreFor, slots_of, messages_of, unit_pairs, slot_of, with_newest}
+use Rattle.lapd_line.specs.Units.{UnitRing, AreFor, slots_of, messages_of, unit_pairs, slot_of, with_newest}
 use Rattle.lapd_line_machine.specs.Stored.{contents_of}
 use Rattle.lapd_line.proofs.AskSteps.{off_line}
 use Rattle.lapd_line.proofs.TakeStepsUnits.{as_many, beside_units}
@@ -84,6 +84,13 @@ granted c full service tei contents m e =
     let pool = row_passed _ _ _ queue.1 in
     ((record { tei = ltb-false 127 tei bad.0; size = ltb-false c.n201 (length contents) long.0 }, leb-false c.unit_queue (length m.units) queue.0), pool.0)
 
+pub refused_so : (e : Entities) (s : Store) (service : Service) (tei : ℕ) (contents : List ℕ) (slots used : ℕ) (answer : Option Refusal) → used ≡ used_slots s
+    → ((store : Store) (others : List Owned) (m : Line) (service : Service) (info : List ℕ) → Stands e store others m → length info ≡ length contents
+    → answer ≡ refusal e.config (nat_le slots used) (asked.Unit service tei info) m)
+    → (others : List Owned) (m : Line) → Stands e s others m → refusal e.config (nat_le slots (used_slots s)) (asked.Unit service tei contents) m ≡ answer
+refused_so e s service tei contents slots used answer count h = λ others m st.
+    ap (λ n. refusal e.config (nat_le slots n) (asked.Unit service tei contents) m) (sym count) ∙ sym (h s others m service contents st refl)
+
 pub placed : (e : Entities) (s : Store) (slots : ℕ) (service : Service) (tei : ℕ) (contents : List ℕ) → Standing e s → slots ≤ s.slots
     → ((others : List Owned) (m : Line) → Stands e s others m → refusal e.config (nat_le slots (used_slots s)) (asked.Unit service tei contents) m ≡ None)
     → HasPlace e s (length contents)
@@ -129,16 +136,18 @@ with_unit e s t others m u d st service tei free stored proper = record {
       (newest_held s t e.units.waiting m.units u d (beside_units e s others m st).rest st.addressed free stored (beside_units e s others m st).held);
 }
 
-pub unit_serves : (e : Entities) (s t : Store) (full : Bool) (service : Service) (tei slot : ℕ) (contents : List ℕ) (outcome : Outcome)
-    → ((others : List Owned) (m : Line) → Stands e s others m → refusal e.config full (asked.Unit service tei contents) m ≡ None)
-    → IsFree s slot → t ≡ with_contents s slot contents → SameLimits s t → told_in [] outcome ≡ nothing
-    → Serves (always (at_units (record { service = service; tei = tei; contents = contents }))) [] e s (record e { units = with_newest (record { service = service; tei = tei; slot = slot }) e.units }) t outcome
-unit_serves e s t full service tei slot contents outcome none free stored limits told =
+pub unit_serves : (e : Entities) (s t : Store) (ring : UnitRing) (slots : ℕ) (service : Service) (tei slot : ℕ) (contents : List ℕ) (outcome : Outcome)
+    → ((others : List Owned) (m : Line) → Stands e s others m → refusal e.config (nat_le slots (used_slots s)) (asked.Unit service tei contents) m ≡ None)
+    → IsFree s slot → t ≡ with_contents s slot contents → SameLimits s t → ring ≡ with_newest (record { service = service; tei = tei; slot = slot }) e.units → told_in [] outcome ≡ nothing
+    → Serves (always (at_units (record { service = service; tei = tei; contents = contents }))) [] e s (record e { units = ring }) t outcome
+unit_serves e s t ring slots service tei slot contents outcome none free stored limits pushed told =
     let d : UnitData = record { service = service; tei = tei; contents = contents } in
     let u : QueuedUnit = record { service = service; tei = tei; slot = slot } in
     record {
       config = refl;
       limits = limits;
-      stands = λ others m st. with_unit e s t others m u d st refl refl free stored (granted e.config full service tei contents m (none others m st)).0;
+      stands = λ others m st.
+          subst (λ r. Stands (record e { units = r }) t others (of_aim e.config (at_units d) m).line) (sym pushed)
+          (with_unit e s t others m u d st refl refl free stored (granted e.config (nat_le slots (used_slots s)) service tei contents m (none others m st)).0);
       told = λ others m st. told;
     }

@@ -6,9 +6,8 @@ use Rattle.std.specs.Option.{is_some}
 use Rattle.lapd_frame.specs.declared.refusals.Refusal.{Refusal}
 use Rattle.lapd_frame.specs.declared.refusals.Refusal.TheVariants.{BadTei, NoLink, TooLong, QueueFull, PoolFull}
 use Rattle.lapd_frame.specs.declared.services.Service.{Service}
-use Rattle.lapd_store.specs.Ownership.{Owned, Holds, Keeps, pairs_of}
+use Rattle.lapd_store.specs.Ownership.{Owned, Holds, pairs_of}
 use Rattle.lapd_store.specs.Store.{Store, SameLimits, IsFree, with_contents, used_slots}
-use Rattle.lapd_store.proofs.Focus.{Part}
 use Rattle.lapd_store.proofs.Queues.{Keeps-put}
 use Rattle.lapd_tei.specs.Table.{Places, is_on, place_of}
 use Rattle.lapd_tei.proofs.Tables.{place_of-is, is_on-at}
@@ -18,7 +17,7 @@ use Rattle.lapd_line_machine.specs.Line.{Line, UnitData}
 use Rattle.lapd_line_machine.specs.Outcome.{at_units, of_aim}
 use Rattle.lapd_line_machine.specs.Refusal.{refusal}
 use Rattle.lapd_line_machine.specs.Request as asked
-use Rattle.lapd_line_machine.specs.Sound.{IsUnitData}
+use Rattle.lapd_line_machine.specs.Stored.{contents_of}
 use Rattle.lapd_line_machine.proofs.AimsSound.{IsProper, aim_sound}
 use Rattle.lapd_line.specs.declared.entities.Entities.{Entities}
 use Rattle.lapd_line.specs.declared.reports.Outcome.{Outcome}
@@ -26,7 +25,6 @@ use Rattle.lapd_line.specs.declared.units.QueuedUnit.{QueuedUnit}
 use Rattle.lapd_line.specs.Entities.{Stands, Standing, Serves, always}
 use Rattle.lapd_line.specs.Reports.{told_in}
 use Rattle.lapd_line.specs.Units.{UnitRing, AreFor, slots_of, messages_of, unit_pairs, slot_of, with_newest}
-use Rattle.lapd_line_machine.specs.Stored.{contents_of}
 use Rattle.lapd_line.proofs.AskSteps.{off_line}
 use Rattle.lapd_line.proofs.TakeStepsUnits.{as_many, beside_units}
 
@@ -38,23 +36,25 @@ has_place places tei = go (place_of tei places) refl
     go None is = sym (off_line places tei is)
     go (Some place) is = sym (is_on-at places place tei (place_of-is places tei place is).1)
 
--- a row of refusals that does not hold
+-- a row of refusals that does not hold, and what comes after it
 row_passed : (b : Bool) (why : Refusal) (rest : Option Refusal) → cond b (Some why) rest ≡ None → (b ≡ false) × (rest ≡ None)
 row_passed true why rest e = cc
 row_passed false why rest e = (refl, e)
 
+-- an answer that stands after it is the answer of all
 row_passes : {answer rest : Option Refusal} (b : Bool) (why : Refusal) → b ≡ false → answer ≡ rest → answer ≡ cond b (Some why) rest
 row_passes {answer} {rest} b why is same = same ∙ sym (ap (λ t. cond t (Some why) rest) is)
 
+-- neither of two is that not one of them is
 neither : (a b : Bool) → (not a && not b) ≡ not (a || b)
 neither true b = refl
 neither false b = refl
 
 -- as many wait as the machine has
-pub waiting : (e : Entities) (s : Store) (others : List Owned) (m : Line) → Stands e s others m → length e.units.waiting ≡ length m.units
+waiting : (e : Entities) (s : Store) (others : List Owned) (m : Line) → Stands e s others m → length e.units.waiting ≡ length m.units
 waiting e s others m st = sym (length-map e.units.waiting slot_of) ∙ as_many e.units.waiting m.units st.addressed ∙ length-map m.units contents_of
 
--- The rows before those for room don't hold: then these two are the answer.
+-- No row before those for room holds: then these two are the answer.
 pub room_is_left : (e : Entities) (s : Store) (others : List Owned) (m : Line) (service : Service) (tei octets : ℕ) (contents : List ℕ) (full : Bool) (answer : Option Refusal)
     → Stands e s others m → length contents ≡ octets → nat_lt 127 tei ≡ false → ((tei == 127) || is_on tei e.teis.places) ≡ true → nat_lt e.config.n201 octets ≡ false
     → answer ≡ cond (nat_le e.config.unit_queue (length e.units.waiting)) (Some QueueFull) (cond full (Some PoolFull) None)
@@ -67,13 +67,13 @@ room_is_left e s others m service tei octets contents full answer st size low fo
     (row_passes (nat_lt e.config.n201 (length contents)) TooLong (ap (nat_lt e.config.n201) size ∙ short)
     (is ∙ ap (λ n. cond (nat_le e.config.unit_queue n) (Some QueueFull) (cond full (Some PoolFull) None)) (waiting e s others m st))))
 
--- Unit data that is not refused has a place in the queue and on the shelf.
+-- A place in the queue and on the shelf for so many octets.
 pub record HasPlace (e : Entities) (s : Store) (octets : ℕ) : Type 0 where
   pub size : octets ≤ s.width
   pub ring : length e.units.waiting < e.units.capacity
   pub slot : used_slots s < s.slots
 
--- it is proper for the line, and the pool is not full
+-- unit data that is not refused is proper for the line, and the pool is not full
 granted : (c : Config) (full : Bool) (service : Service) (tei : ℕ) (contents : List ℕ) (m : Line) → refusal c full (asked.Unit service tei contents) m ≡ None
     → IsProper c m (at_units (record { service = service; tei = tei; contents = contents })) × (full ≡ false)
 granted c full service tei contents m e =
@@ -84,6 +84,7 @@ granted c full service tei contents m e =
     let pool = row_passed _ _ _ queue.1 in
     ((record { tei = ltb-false 127 tei bad.0; size = ltb-false c.n201 (length contents) long.0 }, leb-false c.unit_queue (length m.units) queue.0), pool.0)
 
+-- the answer of the code is that of the machine, whatever the contents of this length
 pub refused_so : (e : Entities) (s : Store) (service : Service) (tei : ℕ) (contents : List ℕ) (slots used : ℕ) (answer : Option Refusal) → used ≡ used_slots s
     → ((store : Store) (others : List Owned) (m : Line) (service : Service) (info : List ℕ) → Stands e store others m → length info ≡ length contents
     → answer ≡ refusal e.config (nat_le slots used) (asked.Unit service tei info) m)
@@ -91,6 +92,7 @@ pub refused_so : (e : Entities) (s : Store) (service : Service) (tei : ℕ) (con
 refused_so e s service tei contents slots used answer count h = λ others m st.
     ap (λ n. refusal e.config (nat_le slots n) (asked.Unit service tei contents) m) (sym count) ∙ sym (h s others m service contents st refl)
 
+-- so there is a place for it
 pub placed : (e : Entities) (s : Store) (slots : ℕ) (service : Service) (tei : ℕ) (contents : List ℕ) → Standing e s → slots ≤ s.slots
     → ((others : List Owned) (m : Line) → Stands e s others m → refusal e.config (nat_le slots (used_slots s)) (asked.Unit service tei contents) m ≡ None)
     → HasPlace e s (length contents)
@@ -136,6 +138,7 @@ with_unit e s t others m u d st service tei free stored proper = record {
       (newest_held s t e.units.waiting m.units u d (beside_units e s others m st).rest st.addressed free stored (beside_units e s others m st).held);
 }
 
+-- and the entities have served it
 pub unit_serves : (e : Entities) (s t : Store) (ring : UnitRing) (slots : ℕ) (service : Service) (tei slot : ℕ) (contents : List ℕ) (outcome : Outcome)
     → ((others : List Owned) (m : Line) → Stands e s others m → refusal e.config (nat_le slots (used_slots s)) (asked.Unit service tei contents) m ≡ None)
     → IsFree s slot → t ≡ with_contents s slot contents → SameLimits s t → ring ≡ with_newest (record { service = service; tei = tei; slot = slot }) e.units → told_in [] outcome ≡ nothing

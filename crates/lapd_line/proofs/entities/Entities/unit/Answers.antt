@@ -1,4 +1,4 @@
-use Rattle.std.proofs.Common.{◌≡◌, [], refl, arith}
+use Rattle.std.proofs.Common.{[], refl, arith}
 use Rattle.lapd_line.proofs.UnitSteps.{refused_so, placed, unit_serves}
 use Rattle.lapd_line.proofs.entities.Entities.unit.Goals as goal
 

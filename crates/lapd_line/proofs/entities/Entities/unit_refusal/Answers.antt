@@ -1,5 +1,4 @@
-use Rattle.std.proofs.Common.{◌≡◌, Some, None, cond, nat_le, length, sym, ap, ◌∙◌, arith}
-use Rattle.lapd_frame.specs.declared.refusals.Refusal.TheVariants.{QueueFull, PoolFull}
+use Rattle.std.proofs.Common.{sym, ◌∙◌, arith}
 use Rattle.lapd_line.proofs.UnitSteps.{room_is_left}
 use Rattle.lapd_line.proofs.entities.Entities.unit_refusal.Goals as goal
 

@@ -7,6 +7,7 @@ pub mod AskSteps
 pub mod RequestSteps
 pub mod StartSteps
 pub mod HeldSteps
+pub mod UnitSteps
 pub mod TakeSteps
 pub mod TakeStepsUnits
 pub mod TakeStepsLinks

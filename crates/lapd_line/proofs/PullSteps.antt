@@ -166,6 +166,7 @@ next_is m f g octet h st =
     ∙ ap (λ x. bits m.given ++ x) h.bits in
     ap (λ x. number_of (take 8 x)) (left_is l (refilled f.left) text) ∙ sym h.value
 
+-- the line with one octet more given
 abbrev with_given : machine.Line → ℕ → machine.Line
 with_given l octet = record l { given = l.given ++ octet ∷ [] }
 
@@ -175,6 +176,7 @@ module _ {old : Line} {s : Store} {b : Line} {t : Store} (orders : Option (Short
   abbrev begun_line : machine.Line → machine.Line
   begun_line m = with_frame (begun (config_of old) m) m
 
+  -- the item that is due goes on,
   due_gone_on : (others : List Owned) (m : machine.Line) → Stands old s others m
       → record (begun_line m) { items = with_idle b.framer.left (begun_line m).items } ≡ with_due (config_of old) m
   due_gone_on others m st =
@@ -182,10 +184,12 @@ module _ {old : Line} {s : Store} {b : Line} {t : Store} (orders : Option (Short
       goes_on c m b.framer st.entities.sound (is_due m) refl (taken c m) (taken_sound c st.entities.range m st.entities.sound)
       (begins.stands others m st).sent
 
+  -- the next octet of it is the framer's,
   next_given : (others : List Owned) (m : machine.Line) → Stands old s others m → next_octet (with_due (config_of old) m) ≡ octet
   next_given others m st =
       ap next_octet (sym (due_gone_on others m st)) ∙ next_is (begun_line m) b.framer g octet gives (begins.stands others m st).sent
 
+  -- and is given
   gone_on : (others : List Owned) (m : machine.Line) → Stands old s others m
       → with_octet (with_due (config_of old) m)
       ≡ record (begun_line m) { items = with_idle b.framer.left (begun_line m).items; given = (begun_line m).given ++ octet ∷ [] }
@@ -193,6 +197,7 @@ module _ {old : Line} {s : Store} {b : Line} {t : Store} (orders : Option (Short
       ap (with_given (with_due (config_of old) m)) (next_given others m st)
       ∙ ap (λ l. with_given l octet) (sym (due_gone_on others m st))
 
+  -- so a pull leads the line on
   pub pulls : Leads event.pull old s (record b { framer = g }) t
   unfolding after
   pulls = record {
@@ -217,6 +222,7 @@ module _ {old : Line} {s : Store} {b : Line} {t : Store} (orders : Option (Short
         });
   }
 
+  -- and is told what the machine answers
   pub pull_told : (taken_one : Bool) → taken_one ≡ is_some orders → (no_orders told : ShortList Order) → listed no_orders ≡ [] → told ≡ unwrap_or orders no_orders
       → (others : List Owned) (m : machine.Line) → Stands old s others m → pulled octet taken_one (listed told) ≡ answer (config_of old) event.pull m
   unfolding answer
@@ -224,12 +230,12 @@ module _ {old : Line} {s : Store} {b : Line} {t : Store} (orders : Option (Short
       let o = pull.begun (config_of old) m in
       ap (λ x. pulled octet x (listed told)) is
       ∙ ap (λ x. pulled octet (is_some orders) (listed x)) told_is
-      ∙ same_answer orders o no_orders empty (begins.told others m st)
+      ∙ same_answer orders o (begins.told others m st)
       ∙ ap (λ x. pulled x (is_some o) (option_map_or orders_of o [])) (sym (next_given others m st))
     where
-      same_answer : (r : Option (ShortList Order)) (o : Option Taken) (no_orders : ShortList Order) → listed no_orders ≡ [] → orders_taken r ≡ option_map orders_of o
+      same_answer : (r : Option (ShortList Order)) (o : Option Taken) → orders_taken r ≡ option_map orders_of o
           → pulled octet (is_some r) (listed (unwrap_or r no_orders)) ≡ pulled octet (is_some o) (option_map_or orders_of o [])
-      same_answer None None no_orders empty e = ap (pulled octet false) empty
-      same_answer (Some r) (Some k) no_orders empty e = ap (pulled octet true) (same_Some (listed r) k.orders e)
-      same_answer None (Some k) no_orders empty e = absurd (cc)
-      same_answer (Some r) None no_orders empty e = absurd (cc)
+      same_answer None None e = ap (pulled octet false) empty
+      same_answer (Some r) (Some k) e = ap (pulled octet true) (same_Some (listed r) k.orders e)
+      same_answer None (Some k) e = absurd (cc)
+      same_answer (Some r) None e = absurd (cc)

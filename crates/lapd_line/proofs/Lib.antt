@@ -11,3 +11,4 @@ pub mod UnitSteps
 pub mod TakeSteps
 pub mod TakeStepsUnits
 pub mod TakeStepsLinks
+pub mod PullSteps

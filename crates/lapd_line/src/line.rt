@@ -17,7 +17,7 @@ use crate::fault::StartFault;
 use crate::pulled::Pulled;
 use crate::reports::{Outcome, Report};
 use lapd_bits::{Deframer, Framer, Heard};
-use lapd_frame::{Refusal, Service, ShortList, Timer};
+use lapd_frame::{Order, Refusal, Service, ShortList, Timer};
 use lapd_line_machine::{Config, Request};
 use lapd_store::Shelf;
 use std::alloc::Global;
@@ -38,7 +38,9 @@ impl Line {
     ghost use Rattle.std.specs.Io.BufRead.{Rests};
     ghost use Rattle.lapd_line.specs.contracts.line.Line.{the_row};
     ghost use Rattle.lapd_line.specs.Reports.{report_told, told_in, pulled_of, answer_of_result};
+    ghost use Rattle.lapd_line.specs.Begins.{Begins};
     ghost use Rattle.lapd_line.specs.Stands.{Stands, Leads, config_of, latest_frame};
+    ghost use Rattle.lapd_line.specs.Takes.{orders_taken};
 
     /// A line of a card with these sizes and limits, all in range. No TEI is on it.
     ///
@@ -151,6 +153,18 @@ impl Line {
             begun: taken.is_some(),
             orders: taken.unwrap_or(ShortList::none()),
         }
+    }
+
+    /// Takes the frame that is next, where fewer than eight bits are left to send and one waits. Answers the orders for
+    /// timers, where it took one.
+    fn begin<S: Shelf>(&mut self, shelf: &mut S) -> Option<ShortList<Order>>
+        requires { (others : List Owned) × (m : machine.Line) × Stands self.old (S.store shelf.old) others m }
+        ensures { Begins self.old (S.store shelf.old) self.new (S.store shelf.new) (orders_taken result) }
+    {
+        if self.framer.busy() {
+            return None;
+        }
+        self.entities.take(&mut self.framer, shelf)
     }
 
     /// The state of the link of a service with this TEI, by its number in Q.921: 4 to 8. None where the TEI is not on the

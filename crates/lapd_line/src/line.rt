@@ -17,7 +17,7 @@ use crate::fault::StartFault;
 use crate::pulled::Pulled;
 use crate::reports::{Outcome, Report};
 use lapd_bits::{Deframer, Framer, Heard};
-use lapd_frame::{Refusal, Service, ShortList, Timer};
+use lapd_frame::{Order, Refusal, Service, ShortList, Timer};
 use lapd_line_machine::{Config, Request};
 use lapd_store::Shelf;
 use std::alloc::Global;
@@ -149,6 +149,15 @@ impl Line {
             begun: taken.is_some(),
             orders: taken.unwrap_or(ShortList::none()),
         }
+    }
+
+    /// Takes the frame that is next, where fewer than eight bits are left to send and one waits. Answers the orders for
+    /// timers, where it took one.
+    fn begin<S: Shelf>(&mut self, shelf: &mut S) -> Option<ShortList<Order>> {
+        if self.framer.busy() {
+            return None;
+        }
+        self.entities.take(&mut self.framer, shelf)
     }
 
     /// The state of the link of a service with this TEI, by its number in Q.921: 4 to 8. None where the TEI is not on the

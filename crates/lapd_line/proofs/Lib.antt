@@ -9,3 +9,4 @@ pub mod HeldSteps
 pub mod TakeSteps
 pub mod TakeStepsUnits
 pub mod TakeStepsLinks
+pub mod Stood

@@ -28,7 +28,7 @@ use Rattle.lapd_line.specs.Units.{AreFor, slots_of, messages_of, unit_pairs, wit
 use Rattle.lapd_line.specs.Takes.{HasTaken, Took, Takes}
 
 -- as many wait as the machine has
-as_many : (us : List QueuedUnit) (ds : List UnitData) → AreFor us ds → length (slots_of us) ≡ length (messages_of ds)
+pub as_many : (us : List QueuedUnit) (ds : List UnitData) → AreFor us ds → length (slots_of us) ≡ length (messages_of ds)
 as_many [] [] h = refl
 as_many [] (d ∷ ds) h = absurd h
 as_many (u ∷ us) [] h = absurd h

@@ -10,3 +10,4 @@ pub mod TakeSteps
 pub mod TakeStepsUnits
 pub mod TakeStepsLinks
 pub mod Stood
+pub mod PullSteps

@@ -9,3 +9,4 @@ pub mod Changes
 pub mod Stands
 pub mod Asks
 pub mod Takes
+pub mod Begins

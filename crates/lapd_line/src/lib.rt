@@ -4,7 +4,7 @@
 //! every past (`specs/Stands.antt` says what a line stands for). Contents that wait lie on a shelf that other lines use
 //! too. After the start no call takes memory.
 //!
-//! - `line`: the calls: an octet that comes and a timer that expires. Requests and octets that go out are not among them
+//! - `line`: the calls: an octet that comes, a timer that expires, and an octet that goes out. Requests are not among them
 //!   yet.
 //! - `entities`: what the calls change beside the bits: TEI management, links and units; `starts`, how they begin; `aims`,
 //!   what is heard; `expiries`, timers; `changes`, links that open and are cleared; `asks`, what is requested of a link and

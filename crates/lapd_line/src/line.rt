@@ -38,7 +38,9 @@ impl Line {
     ghost use Rattle.std.specs.Io.BufRead.{Rests};
     ghost use Rattle.lapd_line.specs.contracts.line.Line.{the_row};
     ghost use Rattle.lapd_line.specs.Reports.{report_told, told_in, pulled_of, answer_of_result};
+    ghost use Rattle.lapd_line.specs.Begins.{Begins};
     ghost use Rattle.lapd_line.specs.Stands.{Stands, Leads, config_of, latest_frame};
+    ghost use Rattle.lapd_line.specs.Takes.{orders_taken};
 
     /// A line of a card with these sizes and limits, all in range. No TEI is on it.
     ///
@@ -153,7 +155,10 @@ impl Line {
 
     /// Takes the frame that is next, where fewer than eight bits are left to send and one waits. Answers the orders for
     /// timers, where it took one.
-    fn begin<S: Shelf>(&mut self, shelf: &mut S) -> Option<ShortList<Order>> {
+    fn begin<S: Shelf>(&mut self, shelf: &mut S) -> Option<ShortList<Order>>
+        requires { (others : List Owned) × (m : machine.Line) × Stands self.old (S.store shelf.old) others m }
+        ensures { Begins self.old (S.store shelf.old) self.new (S.store shelf.new) (orders_taken result) }
+    {
         if self.framer.busy() {
             return None;
         }

@@ -6,6 +6,7 @@ pub mod LineSteps
 pub mod AskSteps
 pub mod StartSteps
 pub mod HeldSteps
+pub mod UnitSteps
 pub mod TakeSteps
 pub mod TakeStepsUnits
 pub mod TakeStepsLinks

@@ -1,10 +1,12 @@
 //! What layer 3 and management ask for.
 
-ghost use Rattle.std.specs.Prelude.{◌≡◌, ◌≤◌, ℕ, List, [], Some, None, IfOk, IfErr, OnOk, OnErr, nat_le, IsErr};
+ghost use Rattle.std.specs.Prelude.{◌≡◌, ◌≤◌, ◌==◌, ◌||◌, ℕ, List, [], length, Some, None, IfOk, IfErr, OnOk, OnErr, nat_le, IsErr};
+ghost use Rattle.lapd_frame.specs.declared.services.Service.{Service};
 ghost use Rattle.lapd_frame.specs.declared.refusals.Refusal.TheVariants.{PoolFull};
 ghost use Rattle.lapd_store.specs.Ownership.{Owned};
-ghost use Rattle.lapd_store.specs.Store.{used_slots};
+ghost use Rattle.lapd_store.specs.Store.{Store, used_slots};
 ghost use Rattle.lapd_tei.specs.Events as teis;
+ghost use Rattle.lapd_tei.specs.Table.{is_on};
 ghost use Rattle.lapd_line_machine.specs.Line.{Line};
 ghost use Rattle.lapd_line_machine.specs.Line as machine;
 ghost use Rattle.lapd_line_machine.specs.Outcome.{at_management, at_units};
@@ -206,20 +208,8 @@ impl Entities {
             → refusal self.old.config (nat_le slots (used_slots (S.store shelf.old))) (asked.Unit service tei contents.now) m ≡ None) }
         ensures served { IfOk result (Serves (always (at_units (record { service = service; tei = tei; contents = contents.now }))) [] self.old (S.store shelf.old) self.new (S.store shelf.new)) }
     {
-        if tei > GROUP {
-            return Err(Refusal::BadTei);
-        }
-        if tei != GROUP && self.teis.place(tei).is_none() {
-            return Err(Refusal::NoLink);
-        }
-        if contents.len() > usize::from(self.config.n201) {
-            return Err(Refusal::TooLong);
-        }
-        if self.units.len() >= usize::from(self.config.unit_queue) {
-            return Err(Refusal::QueueFull);
-        }
-        if shelf.used() >= slots {
-            return Err(Refusal::PoolFull);
+        if let Some(why) = self.unit_refusal(tei, contents.len(), slots <= shelf.used()) {
+            return Err(why);
         }
         // There is a free slot: fewer than `slots` are used.
         let Some(slot) = shelf.put(contents) else {
@@ -227,5 +217,35 @@ impl Entities {
         };
         self.units.push(QueuedUnit { service, tei, slot });
         Ok(Outcome::nothing())
+    }
+
+    /// Why unit data of so many octets is refused.
+    fn unit_refusal(&self, tei: u8, octets: usize, pool_is_full: bool) -> Option<Refusal>
+        ensures { (store : Store) (others : List Owned) (m : Line) (service : Service) (contents : List ℕ) → Stands self.now store others m → length contents ≡ octets
+            → result ≡ refusal self.now.config pool_is_full (asked.Unit service tei contents) m }
+    {
+        if tei > GROUP {
+            return Some(Refusal::BadTei);
+        }
+        if !self.has_receiver(tei) {
+            return Some(Refusal::NoLink);
+        }
+        if octets > usize::from(self.config.n201) {
+            return Some(Refusal::TooLong);
+        }
+        if self.units.len() >= usize::from(self.config.unit_queue) {
+            return Some(Refusal::QueueFull);
+        }
+        if pool_is_full {
+            return Some(Refusal::PoolFull);
+        }
+        None
+    }
+
+    /// Whether there may be someone for unit data: the group, or a terminal whose TEI is on the line.
+    fn has_receiver(&self, tei: u8) -> bool
+        ensures { result ≡ ((tei == 127) || is_on tei self.now.teis.places) }
+    {
+        tei == GROUP || self.teis.place(tei).is_some()
     }
 }

@@ -4,6 +4,7 @@ pub mod AimSteps
 pub mod ChangeSteps
 pub mod LineSteps
 pub mod AskSteps
+pub mod RequestSteps
 pub mod StartSteps
 pub mod HeldSteps
 pub mod UnitSteps

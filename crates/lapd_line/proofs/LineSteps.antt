@@ -123,7 +123,7 @@ step_told old new s t octet o heard served others m st =
     ap told (served.told others m' (with_octet old.entities s others m octet st.entities) ∙ ap (λ a. (of_aim c a m').told) (sym aim))
 
 -- the bits stay, where the entities alone go on
-with_entities : (old : Line) (t : Store) (others : List Owned) (m : machine.Line) (e : Entities) (aim : Aim) (s : Store) → Stands old s others m → e.config ≡ config_of old
+pub with_entities : (old : Line) (t : Store) (others : List Owned) (m : machine.Line) (e : Entities) (aim : Aim) (s : Store) → Stands old s others m → e.config ≡ config_of old
     → entities.Stands e t others (of_aim (config_of old) aim m).line → Stands (record old { entities = e }) t others (of_aim (config_of old) aim m).line
 with_entities old t others m e aim s st same h =
     let kept = same_bits (config_of old) aim m in

@@ -132,8 +132,10 @@ impl Line {
         ensures after { IfOk result (λ report.
             Leads (event.request (request_of request.entry)) self.old (S.store shelf.old) self.new (S.store shelf.new)) }
     {
-        let outcome = self.entities.request(request, shelf, slots)?;
-        Ok(outcome.report(&[]))
+        match self.entities.request(request, shelf, slots) {
+            Ok(outcome) => Ok(outcome.report(&[])),
+            Err(why) => Err(why),
+        }
     }
 
     /// Gives the next octet of the line, low bit first. Where fewer than eight bits are left to send, the frame that is

@@ -11,4 +11,5 @@ pub mod UnitSteps
 pub mod TakeSteps
 pub mod TakeStepsUnits
 pub mod TakeStepsLinks
+pub mod Stood
 pub mod PullSteps

@@ -1,5 +1,5 @@
 -- What a line holds of its past.
-use Rattle.std.specs.Prelude.{◌≡◌, List, ℕ}
+use Rattle.std.specs.Prelude.{◌≡◌, List, ℕ, ◌++◌}
 use Rattle.lapd_bits.specs.Deframer as deframer
 use Rattle.lapd_bits.specs.Framer as framer
 use Rattle.lapd_store.specs.Ownership.{Owned}
@@ -10,7 +10,9 @@ use Rattle.lapd_line_machine.specs.Line as machine
 use Rattle.lapd_line_machine.specs.Machine.{after}
 use Rattle.lapd_line.specs.declared.line.Line.{Line}
 use Rattle.lapd_line.specs.Entities as entities
+use Rattle.lapd_line.specs.Links.{links_pairs}
 use Rattle.lapd_line.specs.Reports.{octets_of}
+use Rattle.lapd_line.specs.Units.{unit_pairs}
 
 abbrev pub config_of : Line → Config
 config_of line = line.entities.config
@@ -18,6 +20,10 @@ config_of line = line.entities.config
 -- The octets of the frame that the latest octet ended; none where it ended no frame.
 abbrev pub latest_frame : Line → List ℕ
 latest_frame line = octets_of (deframer.latest_of line.deframer)
+
+-- What a line owns on the shelf: the slots of its links and of the unit data that waits, with their contents.
+abbrev pub pairs_of : Line → machine.Line → List Owned
+pairs_of line m = links_pairs line.entities.links m.links ++ unit_pairs line.entities.units.waiting m.units
 
 -- A line stands for a past beside others on its shelf: its deframer for the octets received, its framer for the items
 -- sent and the octets given, its entities for the rest; and the shelf holds exactly what the line and the others own.

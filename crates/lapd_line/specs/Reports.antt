@@ -4,7 +4,6 @@ use Rattle.std.specs.Option.{option_copied}
 use Rattle.lapd_bits.specs.Stream as stream
 use Rattle.lapd_frame.specs.ShortLists.{listed}
 use Rattle.lapd_frame.specs.declared.refusals.Refusal.{Refusal}
-use Rattle.lapd_frame.specs.declared.timers.Order.{Order}
 use Rattle.lapd_line_machine.specs.Answer.{Told, Answer, told, refused, pulled}
 use Rattle.lapd_line.specs.declared.reports.Outcome.{Outcome}
 use Rattle.lapd_line.specs.declared.reports.Report.{Report}

@@ -7,8 +7,8 @@
 //! - `line`: the calls: an octet that comes, a timer that expires, a request, and an octet that goes out; and the state of
 //!   a link, and how many octets the line stores.
 //! - `entities`: what the calls change beside the bits: TEI management, links and units; `starts`, how they begin; `aims`,
-//!   what is heard; `expiries`, timers; `asks`, what is requested; `changes`, links that begin and are cleared; `takes`,
-//!   what goes out; `held`, what they store.
+//!   what is heard; `expiries`, timers; `changes`, links that open and are cleared; `asks`, what is requested of a
+//!   link, of TEI management and as unit data; `takes`, what goes out; `held`, what they store.
 //! - `links`, `units`: the links of all places of the TEI table, and the unit data that waits.
 //! - `reports`, `pulled`: the answers; `fault`: why a line can't be started.
 #![tactic(auto)]

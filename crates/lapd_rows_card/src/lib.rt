@@ -6,8 +6,11 @@
 //! - `refusals`: requests that are refused, and what the card stores before and after.
 //! - `timers`: the orders of single events.
 //! - `own_shelf`: a card over a shelf of the caller's own.
+//! - `memory`: starts and long runs, of which `tests/memory` counts the allocations.
 #![tactic(auto)]
 
+#[cfg(test)]
+mod memory;
 #[cfg(test)]
 mod own_shelf;
 #[cfg(test)]

@@ -2,6 +2,7 @@
 
 ghost use Rattle.std.specs.Prelude.{◌≡◌, ◌+◌};
 ghost use Rattle.arrayvec.specs.ArrayVec.{array_vec_len};
+ghost use Rattle.lapd_card.specs.Card.{line_count};
 
 use crate::starts::{USUAL, usual_card};
 use arrayvec::ArrayVec;
@@ -80,19 +81,28 @@ const EVENTS: [Event<'static>; 33] = [
     Event::Request(0, Request::Remove(64)),
 ];
 
-/// Drives a card through the events so many times. The first time, three of them are refused.
+/// Drives a card through the events once.
+fn drive_once(card: &mut Card<SlabShelf>, sink: &mut Kept) -> bool
+    requires { line_count card.old ≡ 1 }
+    ensures { line_count card.new ≡ 1 }
+{
+    sink.refused.clear();
+    card.drive(&EVENTS, sink) == Ok(33)
+}
+
+/// Drives a card through the events so many times, and once more.
 fn drive(rt: &impl Abort, alloc: Global, rounds: u32) -> Result<(), Fail> {
     let mut card = usual_card(alloc)?;
     let mut sink = Kept {
         refused: ArrayVec::new(),
         failures: 0,
     };
-    for round in 0..rounds {
-        sink.refused.clear();
+    assert!(rt; drive_once(&mut card, &mut sink));
+    let refused = sink.refused.iter().filter(|refused| **refused).count();
+    assert!(rt; refused == 3, "{refused}");
+    for _ in 0..rounds {
         assert!(rt; card.lines() == 1);
-        assert!(rt; card.drive(&EVENTS, &mut sink) == Ok(33));
-        let refused = sink.refused.iter().filter(|refused| **refused).count();
-        assert!(rt; round > 0 || refused == 3, "{refused}");
+        assert!(rt; drive_once(&mut card, &mut sink));
     }
     Ok(())
 }

@@ -4,6 +4,7 @@ ghost use Rattle.std.specs.Prelude.{◌≡◌, ◌+◌};
 ghost use Rattle.arrayvec.specs.ArrayVec.{array_vec_len};
 ghost use Rattle.lapd_card.specs.Card.{line_count};
 
+use crate::refusals::bring_up;
 use crate::starts::{USUAL, usual_card};
 use arrayvec::ArrayVec;
 use lapd_card::{Card, Config, Event, Reply, Request, Sink, SinkFailed};
@@ -17,7 +18,7 @@ use std::test::Fail;
 /// Keeps of each reply whether it is a refusal, in a place of fixed size.
 #[derive(Drop)]
 struct Kept {
-    refused: ArrayVec<bool, 64>,
+    refused: ArrayVec<bool, 8>,
     failures: u64,
 }
 
@@ -43,66 +44,65 @@ impl Sink for Kept {
 
 const CALL: Service = Service::Call;
 
-/// A terminal establishes its link, contents and unit data wait, timers expire, a check begins, requests are refused, octets
-/// go out, and the TEI leaves.
-const EVENTS: [Event<'static>; 33] = [
-    Event::Request(0, Request::Assign(64)),
-    Event::Request(0, Request::Assign(64)),
-    Event::Octet(0, 0x7E),
-    Event::Octet(0, 0x00),
-    Event::Octet(0, 0x81),
-    Event::Octet(0, 0xEF),
-    Event::Octet(0, 0x50),
-    Event::Octet(0, 0xB1),
-    Event::Octet(0, 0xFD),
-    Event::Octet(0, 0xFC),
-    Event::Octet(0, 0xFF),
-    Event::Request(0, Request::Establish(CALL, 64)),
+/// Contents and unit data wait, layer 3 takes no more, and a check begins.
+const GIVEN: [Event<'static>; 5] = [
     Event::Request(0, Request::Data(CALL, 64, &[1, 2])),
-    Event::Request(0, Request::Data(CALL, 64, &[3])),
-    Event::Request(0, Request::Data(CALL, 65, &[4])),
-    Event::Request(0, Request::Unit(CALL, 127, &[5])),
-    Event::Pull(0),
-    Event::Pull(0),
-    Event::Pull(0),
-    Event::Pull(0),
-    Event::Pull(0),
-    Event::Pull(0),
-    Event::Pull(0),
-    Event::Pull(0),
-    Event::Pull(0),
-    Event::Expire(0, Timer::T200(CALL, 64)),
-    Event::Expire(0, Timer::T203(CALL, 64)),
+    Event::Request(0, Request::Data(CALL, 65, &[3])),
+    Event::Request(0, Request::Unit(CALL, 127, &[4])),
     Event::Request(0, Request::SetBusy(CALL, 64)),
-    Event::Request(0, Request::ClearBusy(CALL, 64)),
     Event::Request(0, Request::Check(64)),
+];
+
+/// Timers expire, layer 3 ends the link, and the TEI leaves.
+const ENDED: [Event<'static>; 5] = [
+    Event::Expire(0, Timer::T200(CALL, 64)),
     Event::Expire(0, Timer::T201),
+    Event::Request(0, Request::ClearBusy(CALL, 64)),
     Event::Request(0, Request::Release(CALL, 64)),
     Event::Request(0, Request::Remove(64)),
 ];
 
-/// Drives a card through the events once.
-fn drive_once(card: &mut Card<SlabShelf>, sink: &mut Kept) -> bool
+/// Whether a card takes such events, of which the second is refused.
+fn give(card: &mut Card<SlabShelf>, sink: &mut Kept) -> bool
     requires { line_count card.old ≡ 1 }
-    ensures { line_count card.new ≡ 1 }
 {
     sink.refused.clear();
-    card.drive(&EVENTS, sink) == Ok(33)
+    let is_taken = card.drive(&GIVEN, sink) == Ok(5);
+    is_taken && sink.refused.as_slice() == [false, true, false, false, false].as_slice()
 }
 
-/// Drives a card through the events so many times, and once more.
+/// Whether a card takes such events, of which none is refused.
+fn end(card: &mut Card<SlabShelf>, sink: &mut Kept) -> bool
+    requires { line_count card.old ≡ 1 }
+{
+    sink.refused.clear();
+    let is_taken = card.drive(&ENDED, sink) == Ok(5);
+    is_taken && sink.refused.as_slice() == [false; 5].as_slice()
+}
+
+/// Takes more octets than wait.
+fn take(rt: &impl Abort, card: &mut Card<SlabShelf>) {
+    for _ in 0..60u8 {
+        assert!(rt; card.lines() == 1);
+        let _ = card.pull(0);
+    }
+}
+
+/// Brings a link up and ends it, so many times.
 fn drive(rt: &impl Abort, alloc: Global, rounds: u32) -> Result<(), Fail> {
     let mut card = usual_card(alloc)?;
     let mut sink = Kept {
         refused: ArrayVec::new(),
         failures: 0,
     };
-    assert!(rt; drive_once(&mut card, &mut sink));
-    let refused = sink.refused.iter().filter(|refused| **refused).count();
-    assert!(rt; refused == 3, "{refused}");
     for _ in 0..rounds {
+        bring_up(rt, &mut card);
         assert!(rt; card.lines() == 1);
-        assert!(rt; drive_once(&mut card, &mut sink));
+        assert!(rt; give(&mut card, &mut sink));
+        take(rt, &mut card);
+        assert!(rt; card.lines() == 1);
+        assert!(rt; end(&mut card, &mut sink));
+        take(rt, &mut card);
     }
     Ok(())
 }

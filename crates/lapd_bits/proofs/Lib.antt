@@ -10,6 +10,9 @@ pub mod FlagPlaces
 pub mod Latest
 pub mod Assembly
 pub mod BitSteps
+pub mod Joining
+pub mod AtOnce
+pub mod UnstuffingTables
 pub mod FramerBits
 pub mod FramerOctet
 pub mod FramerStands

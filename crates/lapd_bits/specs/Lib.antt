@@ -13,6 +13,7 @@ pub mod Deframer
 pub mod Heard
 pub mod Ended
 pub mod Steps
+pub mod Unstuffer
 pub mod Framer
 pub mod FramerText
 pub mod FramerFields

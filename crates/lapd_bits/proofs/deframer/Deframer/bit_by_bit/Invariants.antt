@@ -5,7 +5,7 @@ use Rattle.lapd_bits.specs.Ended.{FitsIn}
 use Rattle.lapd_bits.specs.Heard.{event_in}
 use Rattle.lapd_bits.specs.Steps.{IsYoung, with_bits}
 use Rattle.lapd_bits.specs.declared.heard.Ended.TheVariants as ended
-use Rattle.lapd_bits.proofs.deframer.Deframer.hear.Given as goal
+use Rattle.lapd_bits.proofs.deframer.Deframer.bit_by_bit.Given as goal
 
 abbrev pub invariant-loop-place : goal.invariant-loop-place
 invariant-loop-place l =

@@ -123,7 +123,7 @@ unstuffed-ones n text =
     ∙ ap (λ k. replicate n true ++ unstuffed_after k text) (ones_after-ones 0 n ∙ omega arith)
 
 -- the run after `n` 1s
-run_of-ones : (n : ℕ) → n ≤ 5 → run_of (replicate n true ++ false ∷ []) ≡ n
+pub run_of-ones : (n : ℕ) → n ≤ 5 → run_of (replicate n true ++ false ∷ []) ≡ n
 run_of-ones zero h = refl
 run_of-ones (suc n) h = omega (arith, run_of-ones n (omega arith))
 

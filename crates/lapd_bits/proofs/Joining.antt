@@ -36,10 +36,20 @@ pub above_below : (number place more n : ℕ) → number < 2 ^ place → more < 
 above_below number place more n below few =
     omega (arith, pow-add 2 place n, mul-add-lt more (2 ^ place) number (2 ^ n) few below)
 
+-- the same in 32 bits
+pub above_fits_word : (number place more n : ℕ) → number < 2 ^ place → more < 2 ^ n → place + n < 32 → number + more * 2 ^ place < 4294967296
+above_fits_word number place more n below few small =
+    omega (arith, above_below number place more n below few, pow_below (place + n) 32 small)
+
+pub above_is_word : (number place more n : ℕ) → number < 2 ^ place → more < 2 ^ n → place + n < 32 → number + more * 2 ^ place % 4294967296 ≡ number + more * 2 ^ place
+above_is_word number place more n below few small =
+    let fits : more * 2 ^ place < 4294967296 = omega (arith, above_fits_word number place more n below few small) in
+    ap (λ x. number + x) (mod-eq_of_lt fits)
+
 -- ---- the octets of the gap
 
 -- the low octet of a number, and what is above
-split_octet : (n x : ℕ) → 8 ≤ n → low_bits n x ≡ low_bits 8 (x % 256) ++ low_bits (n - 8) (x / 256)
+pub split_octet : (n x : ℕ) → 8 ≤ n → low_bits n x ≡ low_bits 8 (x % 256) ++ low_bits (n - 8) (x / 256)
 split_octet n x h =
     ap (λ k. low_bits k x) (omega arith)
     ∙ low_bits-add 8 (n - 8) x

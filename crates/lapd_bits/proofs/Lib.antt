@@ -13,8 +13,9 @@ pub mod BitSteps
 pub mod Joining
 pub mod AtOnce
 pub mod UnstuffingTables
-pub mod FramerBits
-pub mod FramerOctet
+pub mod StuffingAtOnce
+pub mod StuffingTables
+pub mod FramerGiven
 pub mod FramerStands
 pub mod FramerLoad
 pub mod RoundTripPlaces

@@ -15,7 +15,7 @@ use Rattle.lapd_bits.proofs.StuffingCounted.{unstuffed_after}
 use Rattle.lapd_bits.proofs.AtOnce.{unstuffed-ones}
 
 -- an octet after 1s, and what stays of it
-abbrev text_of : ℕ → ℕ → List Bool
+abbrev pub text_of : ℕ → ℕ → List Bool
 text_of ones octet = replicate ones true ++ low_bits 8 octet
 
 abbrev content_of : ℕ → ℕ → List Bool
@@ -53,7 +53,7 @@ runs_fit : map (λ n. nat_le n 5) RUNS ≡ replicate 1536 true
 runs_fit = refl
 
 -- a test that all entries pass
-passed : (test : ℕ → Bool) (table : List ℕ) (n place : ℕ) → map test table ≡ replicate n true → place < n → length table ≡ n → test (get_or table place 0) ≡ true
+pub passed : (test : ℕ → Bool) (table : List ℕ) (n place : ℕ) → map test table ≡ replicate n true → place < n → length table ≡ n → test (get_or table place 0) ≡ true
 passed test table n place all below size =
     sym (get_or-map test table place 0 false (omega arith))
     ∙ ap (λ t. get_or t place false) all ∙ get_or-replicate n place true false below

@@ -26,6 +26,10 @@ onto-reverse (b ∷ text) past =
     ∙ sym (append_assoc (reverse text) (b ∷ []) past)
     ∙ ap (λ l. l ++ past) (sym (reverse-cons b text))
 
+pub onto-append : (s t past : List Bool) → onto (s ++ t) past ≡ onto t (onto s past)
+onto-append [] t past = refl
+onto-append (b ∷ s) t past = onto-append s t (b ∷ past)
+
 -- the bits of an octet, one after the other
 pub with_bits-onto : (octet : ℕ) (past : List Bool) → with_bits 8 octet past ≡ onto (low_bits 8 octet) past
 with_bits-onto octet past = sym (onto-reverse (low_bits 8 octet) past)
@@ -74,11 +78,11 @@ pub record IsQuiet (room : ℕ) (text past : List Bool) : Type 0 where
   pub run : run_of (onto text past) ≡ ones_after (run_of past) text
   pub gap : open_gap (onto text past) ≡ option_map (onto text) (open_gap past)
 
-option_map-none : (gap : Option (List Bool)) → gap ≡ option_map (onto []) gap
+pub option_map-none : (gap : Option (List Bool)) → gap ≡ option_map (onto []) gap
 option_map-none None = refl
 option_map-none (Some g) = refl
 
-quiet-more :
+pub quiet-more :
     (room : ℕ) (b : Bool) (text past : List Bool) (n : ℕ) → heard_at room (b ∷ past) ≡ None
     → open_gap (b ∷ past) ≡ one_more b (open_gap past) → run_of (b ∷ past) ≡ n → IsQuiet room text (b ∷ past)
     → (run_of (onto text (b ∷ past)) ≡ ones_after n text)
@@ -106,7 +110,7 @@ quiet room (false ∷ text) past few p =
 
 -- ---- 1s before a text
 
-ones_after-ones : (m n : ℕ) → ones_after m (replicate n true) ≡ m + n
+pub ones_after-ones : (m n : ℕ) → ones_after m (replicate n true) ≡ m + n
 ones_after-ones m zero = omega arith
 ones_after-ones m (suc n) = ones_after-ones (suc m) n ∙ omega arith
 

@@ -12,6 +12,7 @@ pub mod Assembly
 pub mod BitSteps
 pub mod Joining
 pub mod AtOnce
+pub mod Idle
 pub mod UnstuffingTables
 pub mod StuffingAtOnce
 pub mod StuffingTables

@@ -2,7 +2,9 @@
 use Rattle.std.specs.Prelude.{◌≡◌, ℕ, Bool, true, false, ◌||◌, List, [], ◌∷◌, ◌++◌, replicate, reverse, Option, IfSome}
 use Rattle.lapd_bits.specs.Bits.{low_bits}
 use Rattle.lapd_bits.specs.Stuffing.{unstuffed}
-use Rattle.lapd_bits.specs.Deframer.{run_of}
+use Rattle.lapd_bits.specs.Stream.{heard_until}
+use Rattle.lapd_bits.specs.Deframer.{run_of, HoldsPast}
+use Rattle.lapd_bits.specs.declared.gap.Gap.{Gap}
 use Rattle.lapd_bits.specs.Steps.{with_bits}
 
 -- six 1s begin a text
@@ -24,3 +26,8 @@ pub record IsContent (ones octet content count run : ℕ) : Type 0 where
 abbrev pub IsJoined : ℕ → List Bool → Option (List Bool) → Type 0
 IsJoined octet content gap =
     IfSome gap (λ g. unstuffed (reverse (with_bits 8 octet g)) ≡ unstuffed (reverse g) ++ content)
+
+-- an octet that brings nothing and leaves a deframer's fields as they are
+pub record StaysIdle (octets : List ℕ) (ones : ℕ) (gap : Option Gap) (octet : ℕ) (past : List Bool) : Type 0 where
+  pub holds : HoldsPast octets ones gap (with_bits 8 octet past)
+  pub nothing : (room : ℕ) → heard_until room (with_bits 8 octet past) ≡ heard_until room past

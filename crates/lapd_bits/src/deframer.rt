@@ -1,5 +1,5 @@
 //! What is heard on a line (clauses 2.2 to 2.10): octets go in one by one, and the frames in them come out.
-ghost use Rattle.std.specs.Prelude.{◌≡◌, ◌≢◌, ◌⊎◌, ℕ, ◌<◌, ◌≤◌, ◌-◌, ◌+◌, Bool, true, false, List, [], ◌∷◌, ◌++◌, length, vec_len, IfOk, IfSome, Option, Some, None, option_to_list, option_map, take};
+ghost use Rattle.std.specs.Prelude.{◌≡◌, ◌≢◌, ◌⊎◌, ℕ, ◌<◌, ◌≤◌, ◌-◌, ◌+◌, Bool, true, false, List, [], ◌∷◌, ◌++◌, length, vec_len, IsTrue, IfOk, IfSome, Option, Some, None, option_to_list, option_map, take};
 ghost use Rattle.std.specs.Option.{ForSome};
 ghost use Rattle.lapd_bits.specs.Bits.{low_bits};
 ghost use Rattle.lapd_bits.specs.Ended.{FitsIn};
@@ -10,6 +10,9 @@ use crate::heard::{Cause, Ended, Heard};
 use crate::start_fault::StartFault;
 use crate::unstuffer::{Content, at_once};
 use std::alloc::Global;
+
+/// The octets of a line of flags, by the number of bits of each flag that the octet before has.
+static IDLE: [u8; 8] = [0x7E, 0x3F, 0x9F, 0xCF, 0xE7, 0xF3, 0xF9, 0xFC];
 
 /// Hears the frames of a line in its octets: finds the flags, takes the stuffed 0s out, and checks what
 /// stands between (Q.921 clauses 2.2 to 2.10). Frames may begin and end at any bit of an octet.
@@ -37,7 +40,7 @@ impl Deframer {
     ghost use Rattle.lapd_bits.specs.Deframer.{Stands, HoldsPast, HoldsGap, run_of, open_gap, octets_held, latest_of};
     ghost use Rattle.lapd_bits.specs.Heard.{heard_of, event_in, without_octets};
     ghost use Rattle.lapd_bits.specs.Steps.{Hears, Ages, one_more, IsKept, IsStuffed, IsYoung, given_up_event, closed_event, with_bits};
-    ghost use Rattle.lapd_bits.specs.Unstuffer.{IsJoined};
+    ghost use Rattle.lapd_bits.specs.Unstuffer.{IsJoined, StaysIdle};
 
     /// A deframer for frames with information fields of `n201` octets at most, which is 1,024 at most. Its line
     /// has brought no octet yet.
@@ -132,8 +135,29 @@ impl Deframer {
                 self.take_content(content);
                 Ended::Nothing
             }
+            None if self.is_idle(octet) => Ended::Nothing,
             None => self.bit_by_bit(octet),
         }
+    }
+
+    /// Whether the octet goes on with flags and leaves all as it is: the bits since the latest flag begin another, and
+    /// the octet has that flag's other bits and as many of the next.
+    fn is_idle(&self, octet: u8) -> bool
+        ensures stays { (past : List Bool) → IsTrue result → HoldsPast self.now.octets.items self.now.ones self.now.gap past
+            → StaysIdle self.now.octets.items self.now.ones self.now.gap octet past }
+    {
+        let Some(gap) = &self.gap else {
+            return false;
+        };
+        let since = gap.since();
+        if since >= 8 {
+            return false;
+        }
+        // The first bit of a flag is a 0, and the others up to its last are 1s.
+        if self.ones != since.saturating_sub(1) {
+            return false;
+        }
+        octet == IDLE[since as usize]
     }
 
     /// Takes what an octet brings that ends nothing.

@@ -7,9 +7,15 @@
 //! - `refusals`: requests that are refused, and what the card stores before and after.
 //! - `timers`: the orders of single events.
 //! - `own_shelf`: a card over a shelf of the caller's own.
+//! - `example`: a line that is served, as in the README.
+//! - `memory`: starts and long runs, of which `tests/memory` counts the allocations.
 #![tactic(auto)]
 
 mod kept;
+#[cfg(test)]
+mod example;
+#[cfg(test)]
+mod memory;
 #[cfg(test)]
 mod own_shelf;
 #[cfg(test)]

@@ -30,7 +30,8 @@ impl<S: Shelf> Card<S> {
     ///   sink has taken the machine's reply to each, once and in order.
     /// - `at`, `stopped`, `taken_before`: after a fault, the events up to the one whose reply the sink did not take have
     ///   happened and no later one, and the sink has taken the replies before it.
-    /// - `failed`, `not_failed`: there is a fault exactly where the sink has counted one failure more.
+    /// - `failed`, `not_failed`: after a fault the sink has counted one failure more (a count that stays at its greatest value),
+    ///   and else none.
     /// - `config`: the configuration stays as it is.
     /// - `moments`: the replies that the sink takes are the answers in the moments of the run, which the sentences below
     ///   count, number and compare.
@@ -46,13 +47,14 @@ impl<S: Shelf> Card<S> {
     /// - `linear`: from a card that has just begun, six times the frames recognised, and seven times those REJ, are at most
     ///   the octets received, so the frames sent are linear in octets, accepted requests and expiries.
     /// - `isolated`: from a card that has just begun, each line answers, but for a full pool, what it would answer on a card
-    ///   of its own.
+    ///   of its own, to the events at it that did not find the pool full.
     /// - `never_full`: from a card that has just begun, no request finds the pool full where there is a slot for each place of
     ///   each queue.
-    /// - `numbered`, `from_zero`: what each link delivers since its establishment is numbered 0, 1, 2, .. modulo 128, each
-    ///   delivery told in the answer to its own frame (Q.921 clause 5.6.2).
-    /// - `textual`: the octets pulled of a line are a beginning of one text of flags and whole frames (Q.921 clause 2), whose
-    ///   frames are those that pulls began, in order.
+    /// - `numbered`: what each link delivers since its establishment is numbered 0, 1, 2, .. modulo 128, each delivery told in
+    ///   the answer to its own frame (Q.921 clause 5.6.2); before an establishment the numbers go on with the link's V(R).
+    /// - `from_zero`: on a card that has just begun they begin with 0, too.
+    /// - `textual`: the octets pulled of a line, after those given before, are a beginning of one text of flags and whole frames
+    ///   (Q.921 clause 2), whose frames are those that pulls began, in order.
     ///
     /// # Errors
     ///

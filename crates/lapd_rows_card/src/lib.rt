@@ -7,8 +7,11 @@
 //! - `timers`: the orders of single events.
 //! - `own_shelf`: a card over a shelf of the caller's own.
 //! - `memory`: starts and long runs, of which `tests/memory` counts the allocations.
+//! - `example`: a line that is served, as in the README.
 #![tactic(auto)]
 
+#[cfg(test)]
+mod example;
 #[cfg(test)]
 mod memory;
 #[cfg(test)]

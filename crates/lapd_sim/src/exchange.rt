@@ -11,7 +11,7 @@ use lapd_card::{Card, CardFault, Config, Request, limit};
 use lapd_clock::Clock;
 use lapd_frame::{Order, Timer};
 use lapd_script::FaultKind;
-use lapd_store::SlabShelf;
+use lapd_store::RawShelf;
 use lapd_transcript::{Target, write_refused, write_report, write_stored};
 use std::alloc::Global;
 
@@ -26,7 +26,7 @@ const MOST_EXPIRIES: u32 = 3_601 * 64 * 33;
 #[derive(Drop)]
 pub(crate) struct Exchange {
     config: Config,
-    card: Card<SlabShelf>,
+    card: Card<RawShelf>,
     clock: Clock,
     moment: u64,
     ghost in_range: { IsInRange config },
@@ -43,7 +43,7 @@ impl Exchange {
         if config.fault().is_some() {
             return Err(LineFault::Faulty(FaultKind::BadCard));
         }
-        let Ok(shelf) = SlabShelf::start(alloc, config.slots.into(), config.n201) else {
+        let Ok(shelf) = RawShelf::start(alloc, config.slots.into(), config.n201) else {
             return Err(LineFault::OutOfMemory);
         };
         let card = match Card::start(alloc, config, shelf) {

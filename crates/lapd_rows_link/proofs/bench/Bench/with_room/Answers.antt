@@ -3,7 +3,7 @@ use Rattle.lapd_store.specs.Store.{Store, empty_store}
 use Rattle.lapd_store.proofs.Ownership.{Holds-empty}
 use Rattle.lapd_link_machine.specs.Link.{fresh}
 use Rattle.lapd_link.specs.Stands.{Stands}
-use Rattle.lapd_rows_link.proofs.bench.Bench.start.Goals as goal
+use Rattle.lapd_rows_link.proofs.bench.Bench.with_room.Goals as goal
 
 pub open-requires-clause-down : goal.open-requires-clause-down
 open-requires-clause-down c =

@@ -129,13 +129,15 @@ fn is_refused(alloc: Global, words: &[&str]) -> bool {
 
 #[test]
 fn refuses_other_words(rt: HostRuntime) {
-    let words: [&[&str]; 6] = [
+    let words: [&[&str]; 8] = [
         &[],
         &["Run"],
         &["run", "run"],
         &["run "],
         &[""],
-        &["frame", "00817F"],
+        &["frame"],
+        &["frame", "00817F", "network"],
+        &["limits", "8", "8", "4", "64"],
     ];
     for words in words {
         assert!(rt; is_refused(rt.alloc(), words));

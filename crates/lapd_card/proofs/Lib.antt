@@ -1,3 +1,6 @@
-pub mod CountLemmas
-pub mod Octet
-pub mod Pull
+pub mod OneLine
+pub mod OneEvent
+pub mod Taken
+pub mod Begins
+pub mod Amounts
+pub mod Headline

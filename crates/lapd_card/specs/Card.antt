@@ -1,29 +1,24 @@
--- What a card holds, as its callers may know it.
-use Rattle.std.specs.Prelude.{ℕ, nat_lt, Bool, true, false, ◌&&◌, Option, Some, None, if◌then◌else◌}
-use Rattle.lapd_frame.specs.declared.services.Service.{Service}
-use Rattle.lapd_frame.specs.declared.services.Service.TheVariants.{Call, Packet}
-use Rattle.lapd_card.specs.declared.card.Card.{Card}
-use Rattle.lapd_card.specs.Frames.{is_on_line}
-use Rattle.lapd_card.specs.declared.events.Request.{Request}
-use Rattle.lapd_card.specs.Link.{LinkState, state_number}
-use Rattle.lapd_card.specs.Machine.{link_after_request}
+-- What a card holds.
+use Rattle.std.specs.Prelude.{ℕ, List, refl}
+use Rattle.std.specs.Coded.{Coded, code_by, coded×, coded_list}
+use Rattle.lapd_line_machine.specs.declared.config.Config.{Config}
+use Rattle.lapd_line_machine.specs.contracts.config.Config as config
+use Rattle.lapd_line.specs.declared.line.Line.{Line}
+use Rattle.lapd_line.specs.contracts.line.Line as line
 
-abbrev pub line_count : Card → ℕ
+pub record Held (S : Type 0) : Type 0 where
+  pub config : Config
+  pub lines : List Line
+  pub shelf : S
+
+-- the same as the tuple of its fields
+abbrev pub held_code : {S : Type 0} → Coded S → Coded (Held S)
+held_code {S} shelf =
+    code_by (Config × (List Line × S))
+    (coded× config.the_row.coded (coded× (coded_list line.the_row.coded) shelf))
+    (λ h. (h.config, (h.lines, h.shelf)))
+    (λ p. record { config = p.0; lines = p.1.0; shelf = p.1.1 })
+    (λ _. refl)
+
+abbrev pub line_count : {S : Type 0} → Held S → ℕ
 line_count card = card.config.lines
-
-abbrev pub link_of : Card → LinkState
-link_of card = card.link
-
--- The number of a link's state, where the card has such a line, and such a link on it.
-abbrev pub is_call : Service → Bool
-is_call Call = true
-is_call Packet = false
-
-abbrev pub link_state : ℕ → Service → ℕ → Card → Option ℕ
-link_state line service tei card =
-    if nat_lt line (line_count card) && is_call service && is_on_line card.link.tei tei
-    then Some (state_number card.link.state) else None
-
--- What a request leaves: as it was, where it is refused.
-abbrev pub after_request : Request → Card → Card
-after_request request card = record card { link = link_after_request request card.link }

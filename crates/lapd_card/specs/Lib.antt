@@ -1,13 +1,9 @@
-pub mod Config
-pub mod Frames
-pub mod Answer
-pub mod Link
+-- What a card's contracts say.
 pub mod Reply
 pub mod Sink
+pub mod Lines
 pub mod Card
-pub mod Event
-pub mod Machine
-pub mod Run
 pub mod Stands
-pub mod Steps
-pub mod Counts
+pub mod Start
+pub mod Drive
+pub mod Headline

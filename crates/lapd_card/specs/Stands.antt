@@ -1,22 +1,27 @@
 -- What a card holds of its past.
-use Rattle.std.specs.Prelude.{◌≡◌}
-use Rattle.lapd_bits.specs.Deframer as deframer
-use Rattle.lapd_bits.specs.Framer as framer
-use Rattle.lapd_card.specs.declared.card.Card.{Card}
-use Rattle.lapd_card.specs.declared.events.Event.{Event}
-use Rattle.lapd_card.specs.Card.{line_count}
-use Rattle.lapd_card.specs.Machine.{Machine, after}
+use Rattle.std.specs.Prelude.{◌≡◌, ◌≤◌}
+use Rattle.lapd_card_machine.specs.Card as machine
+use Rattle.lapd_card_machine.specs.Event.{Event}
+use Rattle.lapd_card_machine.specs.Machine.{after}
+use Rattle.lapd_card_machine.specs.Sound.{IsSound}
+use Rattle.lapd_card.specs.Card.{Held}
+use Rattle.lapd_card.specs.Lines as lines
+use Rattle.lapd_store.specs.Store.{Store}
 
--- A card stands for a past: its deframer for the octets received, its framer for the items sent and the
--- octets given, and its link is the same.
-pub record Stands (card : Card) (m : Machine) : Type 0 where
-  pub n201 : m.n201 ≡ card.config.n201
-  pub received : deframer.Stands m.n201 card.deframer m.received
-  pub sent : framer.Stands card.framer m.items m.given
-  pub link : m.link ≡ card.link
+-- A card stands for a machine: it has its configuration, and its lines stand for the machine's over its shelf, which has
+-- as many slots as the configuration says, or more; and the machine is sound.
+pub record Stands {S : Type 0} (store : S → Store) (card : Held S) (m : machine.Card) : Type 0 where
+  pub config : m.config ≡ card.config
+  pub lines : lines.Stand card.config card.lines (store card.shelf) m.lines
+  pub slots : card.config.slots ≤ (store card.shelf).slots
+  pub sound : IsSound m
 
--- An event leads a card from one value to another: for every past for which the card stood, it stands for
--- that past with the event.
-pub record Leads (event : Event) (old new : Card) : Type 0 where
-  pub lines : line_count new ≡ line_count old
-  pub stands : (m : Machine) → Stands old m → Stands new (after event m)
+-- There is a machine for which it stands.
+abbrev pub HasPast : {S : Type 0} → (S → Store) → Held S → Type 0
+HasPast store card = (m : machine.Card) × Stands store card m
+
+-- An event leads a card from one value to another: for every machine for which the card stood, it stands for that
+-- machine after the event.
+pub record Leads {S : Type 0} (store : S → Store) (event : Event) (old new : Held S) : Type 0 where
+  pub config : new.config ≡ old.config
+  pub stands : (m : machine.Card) → Stands store old m → Stands store new (after event m)

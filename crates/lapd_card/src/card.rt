@@ -1,203 +1,151 @@
 //! The card: one call an event.
 
-ghost use Rattle.std.specs.Prelude.{◌≡◌, ◌<◌, [], ◌∷◌, ◌++◌, IfOk, IfErr, OnOk, OnErr, IfSome, IfNone, IsOkUnless};
-ghost use Rattle.lapd_card.specs.Config.{start_fault};
+ghost use Rattle.std.specs.Prelude.{◌≡◌, ◌<◌, Some, None, IfOk, IfErr, OnOk, OnErr};
+ghost use Rattle.lapd_card_machine.specs.ByEvent.{RisesByOctet, RisesByExpiry, RisesByRequest, FallsByPull};
+ghost use Rattle.lapd_card_machine.specs.Card as machine;
+ghost use Rattle.lapd_card_machine.specs.Event.{at};
+ghost use Rattle.lapd_card_machine.specs.Machine.{answer};
+ghost use Rattle.lapd_line_machine.specs.Answer as happening;
+ghost use Rattle.lapd_line_machine.specs.Refusal.{refusal};
+ghost use Rattle.lapd_line_machine.specs.Request.{request_of};
 
-use crate::config::{CardFault, Config, Field};
-use crate::events::{Event, Request};
-use crate::link::Link;
-use crate::pulled::Pulled;
-use crate::recognise::{Recognised, recognise, recognise_overlong};
-use crate::reports::Report;
-use lapd_bits::{Deframer, Framer, Heard};
-use lapd_frame::{Refusal, Service};
-use std::alloc::Global;
+use crate::lines::Lines;
+use lapd_frame::{Refusal, Service, Timer};
+use lapd_line::{Config, Outcome, Pulled, Report, Request};
+use lapd_store::Shelf;
+use std::marker::Model;
 
-/// A line card: what it holds of its line now.
+/// A line card over a shelf for the contents that wait.
 ///
-/// All memory is taken by [`Card::start`]; no other call takes any. Lines are counted from 0: `octet`,
-/// `request`, `pull` and `state` name one, and `drive`'s events do.
+/// All memory is taken by [`Card::start`]; no other call takes any. Lines are counted from 0, and each call but `state`
+/// wants one that the card has.
 #[derive(Drop)]
-pub struct Card {
-    config: Config,
-    deframer: Deframer,
-    framer: Framer,
-    link: Link,
+pub struct Card<S: Shelf> {
+    pub(crate) config: Config,
+    pub(crate) lines: Lines,
+    pub(crate) shelf: S,
 }
 
-impl Card {
+impl<S: Shelf> Model for Card<S> {
+    ghost use Rattle.lapd_card.specs.Card.{Held, held_code};
+
+    ghost Value = { Held S };
+
+    ghost coded = { held_code S.code };
+
+    ghost use Rattle.lapd_card.specs.Stands.{HasPast};
+
+    ghost view = { λ a. record { config = a.config; lines = a.lines; shelf = a.shelf } };
+
+    ghost invariant = { λ a. HasPast S.store (record { config = a.config; lines = a.lines; shelf = a.shelf }) };
+}
+
+impl<S: Shelf> Card<S> {
     ghost use Rattle.std.specs.Borrow.{sem};
     ghost use Rattle.std.specs.Io.BufRead.{Rests};
     ghost use Rattle.lapd_card.specs.contracts.card.Card.{the_row};
-    ghost use Rattle.lapd_card.specs.Answer.{nothing};
-    ghost use Rattle.lapd_card.specs.Reply.{report_told, pulled_orders, answer_of_result};
-    ghost use Rattle.lapd_card.specs.Answer.{told, pulled};
-    ghost use Rattle.lapd_card.specs.Frames.{IsTeiBelow};
-    ghost use Rattle.lapd_card.specs.Card.{line_count, link_of, link_state, after_request};
-    ghost use Rattle.lapd_card.specs.Machine.{Machine, fresh, answer, refusal, brought, link_after_brought, told_of_brought, told_of_octet, after_octet, begins};
+    ghost use Rattle.lapd_card.specs.Card.{line_count};
+    ghost use Rattle.lapd_card.specs.Lines.{told_at};
+    ghost use Rattle.lapd_card.specs.Reply.{answer_of_result};
     ghost use Rattle.lapd_card.specs.Stands.{Stands, Leads};
-    ghost use Rattle.lapd_card.specs.Steps.{with_frame_due};
+    ghost use Rattle.lapd_line.specs.Reports.{report_told, pulled_of};
 
-    /// A card with these sizes and limits. The first card has one line, and room for one TEI on it.
-    ///
-    /// # Errors
-    ///
-    /// [`CardFault::BadConfig`] names the first field that is out of range, and [`Field::Lines`] where there
-    /// are other than one line. Otherwise [`CardFault::OutOfMemory`] where memory is refused.
-    pub fn start(alloc: Global, config: Config) -> Result<Card, CardFault>
-        ensures bad_config { IfSome (start_fault config) (λ field. result ≡ Err (CardFault.BadConfig field)) }
-        ensures otherwise { IfNone (start_fault config) (IsOkUnless result CardFault.OutOfMemory) }
-        ensures lines { IfOk result (λ card. line_count card ≡ config.lines) }
-        ensures fresh { IfOk result (λ card. Stands card (fresh config)) }
-    {
-        if config.lines > 1 {
-            return Err(CardFault::BadConfig(Field::Lines));
-        }
-        if let Some(field) = config.fault() {
-            return Err(CardFault::BadConfig(field));
-        }
-        let deframer = Deframer::start(alloc, config.n201).map_err(|_| CardFault::OutOfMemory)?;
-        let framer = Framer::start(alloc, config.n201).map_err(|_| CardFault::OutOfMemory)?;
-        let link = Link::start(alloc, config.control).map_err(|_| CardFault::OutOfMemory)?;
-        Ok(Card {
-            config,
-            deframer,
-            framer,
-            link,
-        })
-    }
-
-    /// How many lines the card has.
+    /// How many lines the card has: 1 to 64.
     pub fn lines(&self) -> usize
         ensures { result ≡ line_count self.now }
     {
-        self.config.lines as usize
+        usize::from(self.config.lines)
     }
 
-    /// Takes an octet that came from a line, low bit first, and tells what it led to.
+    /// Takes an octet that came from a line, low bit first, and tells what it led to. Contents that it delivers are lent
+    /// until the card's next event.
     pub fn octet(&mut self, line: usize, octet: u8) -> Report<'_>
         requires { line < line_count self.old }
-        ensures told { (m : Machine) → Stands self.old m → told (report_told result) ≡ answer (Event.Octet line octet) m }
-        ensures* after { sem 𝓛 (Rests the_row self.entry (λ v. Leads (Event.Octet line octet) self.old v)) }
+        ensures told { (m : machine.Card) → Stands S.store self.old m
+            → happening.told (report_told result) ≡ answer (at line (happening.octet octet)) m }
+        // What may be sent rises by two at most for the frame that it ends, and by k more where that is an REJ with a valid
+        // N(R); else by nothing.
+        ensures frames { (m : machine.Card) → Stands S.store self.old m → RisesByOctet line octet m }
+        ensures* after { sem 𝓛 (Rests (the_row S.row S.Shelf) self.entry (λ v. Leads S.store (at line (happening.octet octet)) self.old v)) }
     {
-        let outcome = self.hear(octet);
-        self.lent(outcome)
+        let outcome = self.step(line, octet);
+        self.lend(line, &outcome)
     }
 
-    /// Serves a request of layer 3. A request that is refused changes nothing.
+    /// A timer of a line expired. One that does not run has no effect, and nothing is reported.
+    pub fn expire(&mut self, line: usize, timer: Timer) -> Report<'static>
+        requires { line < line_count self.old }
+        ensures told { (m : machine.Card) → Stands S.store self.old m
+            → happening.told (report_told result) ≡ answer (at line (happening.expiry timer)) m }
+        ensures after { Leads S.store (at line (happening.expiry timer)) self.old self.new }
+        // By k + 1 where the timer was running, else by nothing.
+        ensures frames { (m : machine.Card) → Stands S.store self.old m → RisesByExpiry line timer m }
+    {
+        self.lines.expire(line, timer, &mut self.shelf)
+    }
+
+    /// Serves a request of layer 3 or management at a line. One that is refused changes nothing, on this line or any other.
     ///
     /// # Errors
     ///
-    /// For `Assign`, the first that holds: `BadTei` where the TEI is over 126; `TeiTaken` where it is on the
-    /// line; `TableFull` where another one is.
-    pub fn request(&mut self, line: usize, request: Request) -> Result<Report<'_>, Refusal>
+    /// The first row that holds of those that apply to the request ([`Refusal`] has them in order); `PoolFull` exactly
+    /// where the card holds as many contents as its configuration has slots.
+    pub fn request(&mut self, line: usize, request: Request<'_>) -> Result<Report<'static>, Refusal>
         requires { line < line_count self.old }
-        ensures refused { IfErr result (λ r. refusal request (link_of self.old) ≡ Some r) }
-        ensures accepted { OnOk result (refusal request (link_of self.old) ≡ None) }
-        ensures told { IfOk result (λ report. report_told report ≡ nothing) }
-        ensures answered { (m : Machine) → Stands self.old m → answer_of_result result ≡ answer (Event.Request line request) m }
-        ensures* after { sem 𝓛 (Rests the_row self.entry
-            (λ v. (v ≡ after_request request self.old) × Leads (Event.Request line request) self.old v)) }
+        ensures refused { IfErr result (λ why. (m : machine.Card) → Stands S.store self.old m
+            → refusal m.config (machine.is_full m) (request_of request.entry) (machine.line_at line m) ≡ Some why) }
+        ensures unchanged { OnErr result (self.new ≡ self.old) }
+        ensures accepted { IfOk result (λ report. (m : machine.Card) → Stands S.store self.old m
+            → refusal m.config (machine.is_full m) (request_of request.entry) (machine.line_at line m) ≡ None) }
+        ensures told { (m : machine.Card) → Stands S.store self.old m
+            → answer_of_result result ≡ answer (at line (happening.request (request_of request.entry))) m }
+        ensures after { Leads S.store (at line (happening.request (request_of request.entry))) self.old self.new }
+        // By one where it is accepted, else by nothing.
+        ensures frames { (m : machine.Card) → Stands S.store self.old m → RisesByRequest line (request_of request.entry) m }
     {
-        let outcome = self.grant(request)?;
-        Ok(self.lent(outcome))
+        self.lines.request(line, request, &mut self.shelf, u32::from(self.config.slots))
     }
 
-    /// Gives the next octet of a line, low bit first. Where fewer than eight bits are left to send, the
-    /// frame that has waited longest is taken, or an idle flag where none waits.
+    /// Gives the next octet of a line, low bit first. Where fewer than eight bits are left to send, the frame that is next
+    /// is taken, or an idle flag where none waits.
     pub fn pull(&mut self, line: usize) -> Pulled
         requires { line < line_count self.old }
-        ensures told { (m : Machine) → Stands self.old m → pulled result.octet result.begun (pulled_orders result) ≡ answer (Event.Pull line) m }
-        ensures after { Leads (Event.Pull line) self.old self.new }
+        ensures told { (m : machine.Card) → Stands S.store self.old m → pulled_of result ≡ answer (at line happening.pull) m }
+        ensures after { Leads S.store (at line happening.pull) self.old self.new }
+        // Where it begins a frame, what may be sent falls by one or two; else it stays.
+        ensures frames { (m : machine.Card) → Stands S.store self.old m → FallsByPull line m }
     {
-        let begun = self.begin();
-        Pulled::new(self.framer.octet(), begun)
+        self.lines.pull(line, &mut self.shelf)
     }
 
-    /// The state of the link of a service with this TEI, by its number in Q.921: 4 to 8. None where the
-    /// card has no such line, or the TEI is not on it. The first card has no packet links, and its states
-    /// are 4 and 7.
+    /// The state of the link of a service with this TEI, by its number in Q.921: 4 to 8. None where the card has no such
+    /// line, or the TEI is not on it.
     pub fn state(&self, line: usize, service: Service, tei: u8) -> Option<u8>
-        ensures { result ≡ link_state line service tei self.now }
+        ensures { (m : machine.Card) → Stands S.store self.now m → result ≡ machine.state line service tei m }
     {
-        if line < self.lines() && service == Service::Call && self.link.tei() == Some(tei) {
-            Some(self.link.state().number())
+        if line < self.lines() {
+            self.lines.state(line, service, tei)
         } else {
             None
         }
     }
 
-    fn hear(&mut self, octet: u8) -> Report<'static>
-        ensures told { (m : Machine) → Stands self.old m → report_told result ≡ told_of_octet octet m }
-        ensures lines { line_count self.new ≡ line_count self.old }
-        ensures after { (m : Machine) → Stands self.old m → Stands self.new (after_octet octet m) }
+    fn step(&mut self, line: usize, octet: u8) -> Outcome
+        requires { line < line_count self.old }
+        ensures told { (m : machine.Card) → Stands S.store self.old m
+            → happening.told (told_at self.new.lines line result) ≡ answer (at line (happening.octet octet)) m }
+        ensures after { Leads S.store (at line (happening.octet octet)) self.old self.new }
+        ensures frames { (m : machine.Card) → Stands S.store self.old m → RisesByOctet line octet m }
     {
-        match self.read(octet) {
-            Some(recognised) => self.serve(recognised),
-            None => Report::nothing(),
-        }
-    }
-
-    /// What an octet brings.
-    fn read(&mut self, octet: u8) -> Option<Recognised>
-        ensures read { (m : Machine) → Stands self.old m → result ≡ brought octet m }
-        ensures tei_fits { IfSome result (IsTeiBelow 128) }
-        ensures lines { line_count self.new ≡ line_count self.old }
-        ensures after { (m : Machine) → Stands self.old m → Stands self.new (record m { received = m.received ++ octet ∷ [] }) }
-    {
-        let tei = self.link.tei();
-        match self.deframer.octet(octet) {
-            Heard::Nothing => None,
-            Heard::Dropped(cause) => Some(Recognised::Dropped(cause)),
-            Heard::Frame(frame) => Some(recognise(tei, frame)),
-            Heard::Overlong(head) => Some(recognise_overlong(tei, &head)),
-        }
-    }
-
-    fn serve(&mut self, recognised: Recognised) -> Report<'static>
-        requires { IsTeiBelow 128 recognised }
-        ensures told { report_told result ≡ told_of_brought (Some recognised) self.old.link }
-        ensures after { self.new ≡ record self.old { link = link_after_brought (Some recognised) self.old.link } }
-    {
-        match recognised {
-            Recognised::Sabme { tei, poll } => self.link.sabme(tei, poll),
-            Recognised::Dropped(cause) => Report::dropped(cause),
-        }
-    }
-
-    fn grant(&mut self, request: Request) -> Result<Report<'static>, Refusal>
-        ensures refused { IfErr result (λ r. refusal request (link_of self.old) ≡ Some r) }
-        ensures accepted { OnOk result (refusal request (link_of self.old) ≡ None) }
-        ensures told { IfOk result (λ outcome. report_told outcome ≡ nothing) }
-        ensures after { self.new ≡ after_request request self.old }
-    {
-        match request {
-            Request::Assign(tei) => self.link.assign(tei)?,
-        }
-        Ok(Report::nothing())
-    }
-
-    /// Loads the frame that has waited longest, where the line runs low and a frame waits.
-    fn begin(&mut self) -> bool
-        ensures begins { (m : Machine) → Stands self.old m → result ≡ begins m }
-        ensures lines { line_count self.new ≡ line_count self.old }
-        ensures after { (m : Machine) → Stands self.old m → Stands self.new (with_frame_due m) }
-    {
-        if self.framer.busy() {
-            return false;
-        }
-        let Some(head) = self.link.offer() else {
-            return false;
-        };
-        self.framer.load(&head, &[]);
-        true
+        self.lines.step(line, octet, &mut self.shelf)
     }
 
     // The report borrows from the card, so that no event can come while contents are lent. Whatever the event
     // changed was changed in a step before this one: no loan is proved beside a later write.
-    fn lent(&self, outcome: Report<'static>) -> Report<'_>
-        ensures { report_told result ≡ report_told outcome.entry }
+    fn lend(&self, line: usize, outcome: &Outcome) -> Report<'_>
+        requires { line < line_count self.now }
+        ensures { report_told result ≡ told_at self.now.lines line outcome.now }
     {
-        outcome
+        self.lines.lend(line, outcome)
     }
 }

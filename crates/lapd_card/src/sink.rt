@@ -1,11 +1,11 @@
 //! Where the answers of a whole list of events go.
 
-ghost use Rattle.std.specs.Prelude.{◌≡◌, ℕ, List, [], ◌∷◌, ◌++◌, OnOk, OnErr};
-ghost use Rattle.lapd_card.specs.Answer.{Answer};
+ghost use Rattle.std.specs.Prelude.{◌≡◌, ℕ, OnOk, OnErr};
+ghost use Rattle.lapd_line_machine.specs.Answer.{Answer};
 ghost use Rattle.lapd_card.specs.Reply.{answer_of};
 ghost use Rattle.lapd_card.specs.Sink.{one_failure_more};
 
-use crate::reports::Reply;
+use crate::replies::Reply;
 use thiserror::Error;
 
 /// A sink did not take a reply.
@@ -14,18 +14,26 @@ use thiserror::Error;
 pub struct SinkFailed;
 
 /// Takes the answers to a list of events, in order.
+///
+/// A sink says by a relation what it is to take one reply: how the sink is afterwards, beside how it was before. So it
+/// may keep the replies, write them as text, or count them, and [`crate::Card::drive`] says that it has taken one reply
+/// after the other.
 pub trait Sink {
-    /// The replies that were taken, oldest first, each with its line.
-    ghost taken: { Self → List (ℕ × Answer) };
+    /// What a sink is before and after it takes a reply, that of an event at a line.
+    ghost takes: { Self → ℕ → Answer → Self → Type 0 };
+
+    /// The same of a reply that it does not take. A sink that keeps whole replies is as before, but for the count; one
+    /// that writes them may have written the beginning of one.
+    ghost misses: { Self → ℕ → Answer → Self → Type 0 };
 
     /// How many replies were not taken: a number of 64 bits that stays at its greatest value.
     ghost failures: { Self → ℕ };
 
-    /// Takes the reply to an event at a line. One that is not taken leaves no trace but the count.
+    /// Takes the reply to an event at a line.
     fn take(&mut self, line: usize, reply: &Reply<'_>) -> Result<(), SinkFailed>
-        ensures taken { OnOk result (taken self.new ≡ taken self.old ++ (line, answer_of reply.now) ∷ []) }
+        ensures taken { OnOk result (takes self.old line (answer_of reply.now) self.new) }
         ensures none_failed { OnOk result (failures self.new ≡ failures self.old) }
-        ensures not_taken { OnErr result (taken self.new ≡ taken self.old) }
+        ensures missed { OnErr result (misses self.old line (answer_of reply.now) self.new) }
         ensures failed { OnErr result (failures self.new ≡ one_failure_more (failures self.old)) };
 }
 

@@ -85,7 +85,7 @@ module _ (c : Config) (ranged : IsInRange c) where
         received = refl;
       }
 
-  link_sound : (l : Line) → IsSound c l → (n : ℕ) → n < link_count c → IfSome (link_taken c l n) (TakesSoundly c l)
+  pub link_sound : (l : Line) → IsSound c l → (n : ℕ) → n < link_count c → IfSome (link_taken c l n) (TakesSoundly c l)
   link_sound l s n few = known (tei_at (place_at n) l) refl (s.links n few)
     where
       turned : (x : Link) → IsSoundAt c n x (tei_at (place_at n) l) → IsSound c (record (with_link n x l) { turn = n + 1 })

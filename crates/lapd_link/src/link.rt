@@ -5,17 +5,18 @@ ghost use Rattle.lapd_store.specs.Store.{Store};
 ghost use Rattle.lapd_store.specs.Ownership.{Owned, Holds};
 ghost use Rattle.lapd_link_machine.specs.declared.states.State.TheVariants.{TeiAssigned};
 ghost use Rattle.lapd_link_machine.specs.Link as machine;
+ghost use Rattle.lapd_link_machine.specs.Link.{address_at};
 ghost use Rattle.lapd_link_machine.specs.Rises.{held};
 
 use crate::fault::StartFault;
-use lapd_frame::Service;
+use lapd_frame::{Address, Service};
 use lapd_link_machine::Terms;
 use lapd_link_rows::Entity;
 use lapd_store::SlotQueue;
 use std::alloc::Global;
 
 /// A data link of one TEI and one service.
-#[derive(Drop)]
+#[derive(Drop, Debug)]
 pub struct Link {
     pub(crate) terms: Terms,
     pub(crate) entity: Entity,
@@ -98,5 +99,17 @@ impl Link {
         ensures { (store : Store) (others : List Owned) (m : machine.Link) → Stands self.now store others m → result ≡ held (terms_of self.now) m }
     {
         self.entity.held()
+    }
+
+    /// The address of the frames that the link sends: of its service and its TEI, in a command or a response (Q.921 clause
+    /// 3.3).
+    pub fn address(&self, command: bool) -> Address
+        ensures { result ≡ address_at (terms_of self.now) command }
+    {
+        Address {
+            sapi: self.terms.service.sapi(),
+            command,
+            tei: self.terms.tei,
+        }
     }
 }

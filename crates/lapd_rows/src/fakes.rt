@@ -35,7 +35,11 @@ impl<'a> Pieces<'a> {
 }
 
 impl Source for Pieces<'_> {
+    ghost use Rattle.std.specs.Prelude.{None};
+
     ghost failures = { λ source. source.failures };
+
+    ghost remaining = { λ source. None };
 
     fn read(&mut self, buffer: &mut [u8]) -> Result<usize, ReadFailed> {
         if self.good_reads == 0 {
@@ -81,7 +85,9 @@ impl Page {
 }
 
 impl Target for Page {
-    ghost failures = { λ target. target.failures };
+    ghost use Rattle.std.specs.Prelude.{None};
+
+    ghost taken = { λ target. record { contents = None; failures = target.failures } };
 
     fn write(&mut self, octets: &[u8]) -> Result<(), WriteFailed> {
         if self.good_writes == 0 || self.text.extend_from_slice(octets).is_err() {

@@ -1,12 +1,11 @@
-//! Starts, and the states of links.
+//! Starts.
 
-ghost use Rattle.std.specs.Prelude.{◌≡◌, IfOk};
+ghost use Rattle.std.specs.Prelude.{◌≡◌, ◌≤◌, IfOk};
 ghost use Rattle.lapd_card.specs.Card.{line_count};
 
-use lapd_card::{Card, CardFault, Config, Field, Request};
-use lapd_frame::Service;
+use lapd_card::{Card, CardFault, Config, Field, limit};
+use lapd_store::{Shelf, SlabShelf};
 use std::alloc::Global;
-use std::process::Abort;
 use std::test::Fail;
 
 pub const USUAL: Config = Config {
@@ -23,10 +22,10 @@ pub const USUAL: Config = Config {
 };
 
 /// A card of the usual sizes.
-pub fn usual_card(alloc: Global) -> Result<Card, Fail>
+pub fn usual_card(alloc: Global) -> Result<Card<SlabShelf>, Fail>
     ensures { IfOk result (λ card. line_count card ≡ 1) }
 {
-    Ok(Card::start(alloc, USUAL)?)
+    Ok(Card::start(alloc, USUAL, SlabShelf::start(alloc, 64, 260)?)?)
 }
 
 /// The usual sizes but for one field.
@@ -47,10 +46,20 @@ fn with(field: Field, value: u16) -> Config {
     config
 }
 
+/// Why a card does not start with a shelf of so many slots of this width, 8 to 260; none where it does, and where the
+/// shelf does not.
+fn fault(alloc: Global, config: Config, slots: u32, width: u16) -> Option<CardFault>
+    requires least { 8 ≤ width }
+    requires most { width ≤ 260 }
+{
+    let shelf = SlabShelf::start(alloc, slots, width).ok()?;
+    Card::start(alloc, config, shelf).err()
+}
+
 /// The field is told by the configuration and by a start alike.
 fn is_told(alloc: Global, config: Config, field: Field) -> bool {
     config.fault() == Some(field)
-        && Card::start(alloc, config).err() == Some(CardFault::BadConfig(field))
+        && fault(alloc, config, 64, 260) == Some(CardFault::BadConfig(field))
 }
 
 /// The values next to each field's range.
@@ -97,27 +106,33 @@ fn the_first_of_two_fields_is_told(rt: HostRuntime) {
     assert!(rt; is_told(rt.alloc(), both, Field::N201));
 }
 
+#[test]
+fn a_shelf_that_is_too_small(rt: HostRuntime) -> Result<(), Fail> {
+    assert!(rt; fault(rt.alloc(), USUAL, 64, 260).is_none());
+    for (slots, width) in [(63, 260), (64, 259), (0, 8)] {
+        assert!(rt; 8 <= width && width <= 260);
+        assert!(rt; fault(rt.alloc(), USUAL, slots, width) == Some(CardFault::ShelfTooSmall));
+    }
+    let mut shelf = SlabShelf::start(rt.alloc(), 64, 260)?;
+    assert!(rt; shelf.put(&[]).is_some());
+    assert!(rt; Card::start(rt.alloc(), USUAL, shelf).err() == Some(CardFault::ShelfTooSmall));
+    Ok(())
+}
+
+#[test]
+fn a_field_is_told_before_the_shelf(rt: HostRuntime) {
+    let found = fault(rt.alloc(), with(Field::N201, 261), 1, 8);
+    assert!(rt; found == Some(CardFault::BadConfig(Field::N201)));
+}
+
 /// Each fault in words.
-const WORDS: [(CardFault, &str); 11] = [
-    (CardFault::BadConfig(Field::Lines), "lines is out of range"),
-    (
-        CardFault::BadConfig(Field::Terminals),
-        "terminals is out of range",
-    ),
-    (CardFault::BadConfig(Field::K), "k is out of range"),
+const WORDS: [(CardFault, &str); 4] = [
     (CardFault::BadConfig(Field::K16), "k16 is out of range"),
-    (CardFault::BadConfig(Field::Queue), "queue is out of range"),
     (
         CardFault::BadConfig(Field::UnitQueue),
         "unit_queue is out of range",
     ),
-    (
-        CardFault::BadConfig(Field::Control),
-        "control is out of range",
-    ),
-    (CardFault::BadConfig(Field::Slots), "slots is out of range"),
-    (CardFault::BadConfig(Field::N201), "n201 is out of range"),
-    (CardFault::BadConfig(Field::N200), "n200 is out of range"),
+    (CardFault::ShelfTooSmall, "the shelf is too small"),
     (CardFault::OutOfMemory, "out of memory"),
 ];
 
@@ -144,7 +159,7 @@ const LEAST: Config = Config {
 };
 
 const GREATEST: Config = Config {
-    lines: 1,
+    lines: 64,
     terminals: 8,
     k: 127,
     k16: 127,
@@ -156,9 +171,13 @@ const GREATEST: Config = Config {
     n200: 10,
 };
 
-/// A card starts with these sizes.
+/// A card starts with these sizes, and stores nothing.
 fn starts(alloc: Global, config: Config) -> bool {
-    config.fault().is_none() && Card::start(alloc, config).is_ok_and(|card| card.lines() == 1)
+    let Ok(shelf) = SlabShelf::start(alloc, 8192, 260) else {
+        return false;
+    };
+    Card::start(alloc, config, shelf).is_ok_and(|card| card.lines() == usize::from(config.lines)
+        && card.stored() == 0)
 }
 
 #[test]
@@ -166,40 +185,13 @@ fn starts_at_the_ends_of_the_ranges(rt: HostRuntime) {
     for config in [USUAL, LEAST, GREATEST] {
         assert!(rt; starts(rt.alloc(), config));
     }
-    let lines = with(Field::Lines, 64);
-    assert!(rt; lines.fault().is_none());
-    let fault = Card::start(rt.alloc(), lines).err();
-    assert!(rt; fault == Some(CardFault::BadConfig(Field::Lines)));
-}
-
-/// An opening flag, SABME with P=1 of TEI 64, and the flag after it.
-const SABME: [u8; 8] = [0x7E, 0x00, 0x81, 0xEF, 0x50, 0xB1, 0xFD, 0xFC];
-
-/// The state of the one link that the line may have, and of three that it has not.
-fn states(card: &Card) -> [Option<u8>; 4] {
-    [
-        card.state(0, Service::Call, 64),
-        card.state(0, Service::Call, 65),
-        card.state(0, Service::Packet, 64),
-        card.state(1, Service::Call, 64),
-    ]
-}
-
-/// Hands the octets of a terminal to the card.
-fn hear(rt: &impl Abort, card: &mut Card, octets: &[u8]) {
-    for octet in octets {
-        assert!(rt; card.lines() == 1);
-        let _ = card.octet(0, *octet);
-    }
 }
 
 #[test]
-fn states_of_links(rt: HostRuntime) -> Result<(), Fail> {
-    let mut card = usual_card(rt.alloc())?;
-    assert!(rt; states(&card) == [None; 4]);
-    assert!(rt; card.request(0, Request::Assign(64)).is_ok());
-    assert!(rt; states(&card) == [Some(4), None, None, None]);
-    hear(&rt, &mut card, &SABME);
-    assert!(rt; states(&card) == [Some(7), None, None, None]);
-    Ok(())
+fn the_limit_of_a_configuration(rt: HostRuntime) {
+    for (lines, octets) in [(1, 17470), (8, 23280)] {
+        let config = with(Field::Lines, lines);
+        assert!(rt; config.fault().is_none());
+        assert!(rt; limit(&config) == octets);
+    }
 }

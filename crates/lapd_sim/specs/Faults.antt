@@ -1,7 +1,7 @@
 -- Which faults a source's and a target's counts of failures tell of: a fault of reading comes exactly where one read
 -- failed, and a fault of writing exactly where one write failed.
 use Rattle.std.specs.Prelude.{ℕ, Result, Ok, Err}
-use Rattle.lapd_card.specs.Sink.{one_failure_more}
+use Rattle.lapd_transcript.specs.Streams.{one_failure_more}
 use Rattle.lapd_sim.specs.declared.faults.PlayFault.{PlayFault}
 use Rattle.lapd_sim.specs.declared.faults.PlayFault.TheVariants.{Read, Write, Script, OutOfMemory}
 use Rattle.lapd_sim.specs.declared.faults.LineFault.{LineFault}

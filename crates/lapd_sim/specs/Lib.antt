@@ -1,4 +1,2 @@
 pub mod Faults
 pub mod Lines
-pub mod Program
-pub mod Script

@@ -1,116 +1,213 @@
-//! What a script is played on: a card, and what listens to its lines.
+//! The card that a script is played on, with the clock of its lines.
 
-ghost use Rattle.std.specs.Prelude.{◌≡◌, ◌<◌, ◌≤◌, ℕ, length, vec_len, IfOk, IfErr};
+ghost use Rattle.std.specs.Prelude.{◌≡◌, ◌<◌, ◌≤◌, ◌^◌, ℕ, None, IfErr, IfOk, IfSome};
 ghost use Rattle.lapd_card.specs.Card.{line_count};
+ghost use Rattle.lapd_clock.specs.Timers.{Timers};
+ghost use Rattle.lapd_line_machine.specs.Sound.{IsInRange};
 ghost use Rattle.lapd_sim.specs.Faults.{line_writes_failed, line_writes_failed_by};
 
 use crate::faults::LineFault;
-use crate::script::FaultKind;
-use crate::streams::Target;
-use crate::transcript::Transcript;
-use lapd_bits::{Deframer, Heard};
-use lapd_card::{Card, CardFault, Config, Request};
-use std::alloc::{AllocError, Global};
+use lapd_card::{Card, CardFault, Config, Request, limit};
+use lapd_clock::Clock;
+use lapd_frame::{Order, Timer};
+use lapd_script::FaultKind;
+use lapd_store::RawShelf;
+use lapd_transcript::{Target, write_refused, write_report, write_stored};
+use std::alloc::Global;
 
-/// Frames of this many octets of information are found in what is pulled: more than any card sends.
-const LONGEST_INFORMATION: u16 = 1024;
+/// The last moment of the clock, in milliseconds.
+const LAST_MOMENT: u64 = (1 << 63) - 1;
 
-/// The card, and for each of its lines what listens to the octets that are pulled.
+/// At most so many timers expire in one wait, which is of 3,600,000 ms at most: a timer runs 1,000 ms or more, and 64 lines
+/// have 33 places for timers each.
+const MOST_EXPIRIES: u32 = 3_601 * 64 * 33;
+
+/// A card, the clock of its lines, and the moment on it in milliseconds.
 #[derive(Drop)]
 pub(crate) struct Exchange {
-    card: Card,
-    deframers: Vec<Deframer>,
-    ghost each_heard: { vec_len deframers ≡ line_count card },
+    config: Config,
+    card: Card<RawShelf>,
+    clock: Clock,
+    moment: u64,
+    ghost in_range: { IsInRange config },
+    ghost same_lines: { line_count card ≡ config.lines },
+    ghost clock_lines: { clock.lines ≡ config.lines },
+    ghost in_time: { moment < 2 ^ 63 },
 }
 
 impl Exchange {
     pub(crate) fn start(alloc: Global, config: Config) -> Result<Exchange, LineFault>
-        ensures { IfErr result (λ fault. (count : ℕ) → line_writes_failed fault count ≡ count) }
+        ensures config { IfOk result (λ exchange. exchange.config ≡ config) }
+        ensures no_write { IfErr result (λ fault. (count : ℕ) → line_writes_failed fault count ≡ count) }
     {
-        let card = match Card::start(alloc, config) {
+        if config.fault().is_some() {
+            return Err(LineFault::Faulty(FaultKind::BadCard));
+        }
+        let Ok(shelf) = RawShelf::start(alloc, config.slots.into(), config.n201) else {
+            return Err(LineFault::OutOfMemory);
+        };
+        let card = match Card::start(alloc, config, shelf) {
             Ok(card) => card,
             Err(CardFault::BadConfig(_)) => return Err(LineFault::Faulty(FaultKind::BadCard)),
-            Err(CardFault::OutOfMemory) => return Err(LineFault::OutOfMemory),
+            Err(_) => return Err(LineFault::OutOfMemory),
         };
-        let mut deframers = Vec::with_capacity(alloc, card.lines())?;
-        for _ in 0..card.lines() {
-            let Ok(deframer) = Deframer::start(alloc, LONGEST_INFORMATION) else {
-                return Err(LineFault::OutOfMemory);
-            };
-            deframers.push(deframer)?;
-        }
-        Ok(Exchange { card, deframers })
+        let lines = usize::from(config.lines);
+        let Ok(clock) = Clock::start(alloc, lines, config.terminals.into()) else {
+            return Err(LineFault::OutOfMemory);
+        };
+        Ok(Exchange {
+            config,
+            card,
+            clock,
+            moment: 0,
+        })
     }
 
-    /// The number of a line of the card.
-    fn line(&self, line: u16) -> Result<usize, FaultKind>
-        ensures { IfOk result (λ line. line < line_count self.now.card) }
+    /// How many lines there are.
+    pub(crate) fn lines(&self) -> usize
+        ensures { result ≡ self.now.config.lines }
     {
-        let line = line as usize;
-        if line < self.card.lines() {
-            Ok(line)
-        } else {
-            Err(FaultKind::BadLine)
-        }
+        self.card.lines()
     }
 
-    pub(crate) fn request<T: Target>(
+    /// An octet comes from a line.
+    pub(crate) fn octet<T: Target>(
         &mut self,
-        line: u16,
-        request: Request,
-        transcript: &mut Transcript,
+        line: usize,
+        octet: u8,
         target: &mut T,
     ) -> Result<(), LineFault>
-        ensures { T.failures target.new ≡ line_writes_failed_by result (T.failures target.old) }
+        requires { line < self.old.config.lines }
+        ensures config { self.new.config ≡ self.old.config }
+        ensures writes { (T.taken target.new).failures ≡ line_writes_failed_by result (T.taken target.old).failures }
     {
-        let line = self.line(line)?;
+        let report = self.card.octet(line, octet);
+        order(&mut self.clock, line, report.orders(), self.moment);
+        write_report(
+            target,
+            line as u16,
+            report.notes(),
+            report.delivered,
+            report.cause,
+            report.lost,
+        )?;
+        Ok(())
+    }
+
+    /// A line takes an octet.
+    pub(crate) fn pull(&mut self, line: usize) -> u8
+        requires { line < self.old.config.lines }
+        ensures config { self.new.config ≡ self.old.config }
+    {
+        let pulled = self.card.pull(line);
+        order(&mut self.clock, line, pulled.orders(), self.moment);
+        pulled.octet
+    }
+
+    /// Layer 3 asks for something.
+    pub(crate) fn ask<T: Target>(
+        &mut self,
+        line: usize,
+        request: Request<'_>,
+        target: &mut T,
+    ) -> Result<(), LineFault>
+        requires { line < self.old.config.lines }
+        ensures config { self.new.config ≡ self.old.config }
+        ensures writes { (T.taken target.new).failures ≡ line_writes_failed_by result (T.taken target.old).failures }
+    {
         match self.card.request(line, request) {
-            Ok(report) => transcript.report(target, line, &report),
-            Err(refusal) => transcript.refused(target, line, refusal),
-        }
-    }
-
-    pub(crate) fn rx<T: Target>(
-        &mut self,
-        line: u16,
-        octets: &[u8],
-        transcript: &mut Transcript,
-        target: &mut T,
-    ) -> Result<(), LineFault>
-        ensures { T.failures target.new ≡ line_writes_failed_by result (T.failures target.old) }
-    {
-        let line = self.line(line)?;
-        for octet in octets {
-            let report = self.card.octet(line, *octet);
-            transcript.report(target, line, &report)?;
-        }
-        Ok(())
-    }
-
-    /// Pulls `count` octets into the beginning of `room`.
-    pub(crate) fn pull<T: Target>(
-        &mut self,
-        line: u16,
-        count: usize,
-        room: &mut [u8],
-        transcript: &mut Transcript,
-        target: &mut T,
-    ) -> Result<(), LineFault>
-        requires { count ≤ length room.old }
-        ensures { T.failures target.new ≡ line_writes_failed_by result (T.failures target.old) }
-    {
-        let line = self.line(line)?;
-        let octets = &mut room[..count];
-        for place in octets.iter_mut() {
-            *place = self.card.pull(line).octet;
-        }
-        transcript.sent(target, line, octets)?;
-        let deframer = &mut self.deframers[line];
-        for octet in octets {
-            if let Heard::Frame(frame) = deframer.octet(*octet) {
-                transcript.frame(target, line, frame)?;
+            Ok(report) => {
+                order(&mut self.clock, line, report.orders(), self.moment);
+                write_report(
+                    target,
+                    line as u16,
+                    report.notes(),
+                    report.delivered,
+                    report.cause,
+                    report.lost,
+                )?;
             }
+            Err(refusal) => write_refused(target, line as u16, refusal)?,
         }
         Ok(())
+    }
+
+    /// So many milliseconds pass: what falls due is applied, each at its moment.
+    pub(crate) fn wait<T: Target>(
+        &mut self,
+        milliseconds: u32,
+        target: &mut T,
+    ) -> Result<(), LineFault>
+        ensures config { self.new.config ≡ self.old.config }
+        ensures writes { (T.taken target.new).failures ≡ line_writes_failed_by result (T.taken target.old).failures }
+    {
+        let end = self.moment + u64::from(milliseconds);
+        if end > LAST_MOMENT {
+            return Err(LineFault::Faulty(FaultKind::TimeOver));
+        }
+        for _ in 0..MOST_EXPIRIES {
+            let Some((line, timer)) = self.due(end) else {
+                break;
+            };
+            self.expire(line, timer, target)?;
+        }
+        self.moment = end;
+        Ok(())
+    }
+
+    /// Takes out the timer that falls due first, if it does until `end`, at its moment.
+    fn due(&mut self, end: u64) -> Option<(usize, Timer)>
+        requires { end < 2 ^ 63 }
+        ensures config { self.new.config ≡ self.old.config }
+        ensures line { IfSome result (λ due. due.0 < self.old.config.lines) }
+    {
+        let moment = self.clock.next()?;
+        if moment > end {
+            return None;
+        }
+        self.moment = moment;
+        self.clock.due(moment)
+    }
+
+    fn expire<T: Target>(
+        &mut self,
+        line: usize,
+        timer: Timer,
+        target: &mut T,
+    ) -> Result<(), LineFault>
+        requires { line < self.old.config.lines }
+        ensures config { self.new.config ≡ self.old.config }
+        ensures writes { (T.taken target.new).failures ≡ line_writes_failed_by result (T.taken target.old).failures }
+    {
+        let report = self.card.expire(line, timer);
+        order(&mut self.clock, line, report.orders(), self.moment);
+        write_report(
+            target,
+            line as u16,
+            report.notes(),
+            report.delivered,
+            report.cause,
+            report.lost,
+        )?;
+        Ok(())
+    }
+
+    /// Shows how many octets the card holds, and the bound of it.
+    pub(crate) fn show_stored<T: Target>(&self, target: &mut T) -> Result<(), LineFault>
+        ensures { (T.taken target.new).failures ≡ line_writes_failed_by result (T.taken target.old).failures }
+    {
+        write_stored(target, self.card.stored(), limit(&self.config))?;
+        Ok(())
+    }
+}
+
+/// Carries out what a line of the card orders of its timers.
+fn order(clock: &mut Clock, line: usize, orders: &[Order], now: u64)
+    requires line { line < clock.old.lines }
+    requires now { now < 2 ^ 63 }
+    ensures { clock.new.lines ≡ clock.old.lines }
+{
+    for order in orders {
+        clock.apply(line, *order, now);
     }
 }

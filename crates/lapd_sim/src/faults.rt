@@ -5,8 +5,8 @@ ghost use Rattle.lapd_sim.specs.Faults.{line_writes_failed, reads_failed, writes
 ghost use Rattle.lapd_sim.specs.declared.faults.LineFault.TheVariants as line;
 ghost use Rattle.lapd_sim.specs.declared.faults.PlayFault.TheVariants as play;
 
-use crate::script::FaultKind;
-use crate::streams::WriteFailed;
+use lapd_script::FaultKind;
+use lapd_transcript::WriteFailed;
 use std::alloc::{AllocError, AllocFailed};
 use thiserror::Error;
 

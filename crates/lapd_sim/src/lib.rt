@@ -1,32 +1,27 @@
-//! A simulator of LAPD line cards: it plays a script of what terminals send and what layer 3 asks on a card, and
-//! writes the transcript of what the card answers. `docs/FORMAT.md` describes both texts.
+//! Plays scripts on a line card: what its lines bring is put on the card, and the transcript of the answers is written.
+//! `docs/FORMAT.md` describes both texts.
 //!
-//! - `streams`: where a script is read from and a transcript is written to, [`Source`] and [`Target`].
-//! - `read_from`, `write_to`: any reader of std as a source, any writer of std as a target.
-//! - `lines`: how lines are read, in pieces.
-//! - `script`: what a line asks for, and what can be wrong with it.
-//! - `transcript`: the texts of the answers.
-//! - `exchange`: the card that a script is played on, and what listens to its lines.
+//! - `lines`: how the lines of a script are read, in pieces.
+//! - `exchange`: the card that a script is played on, and its clock.
+//! - `terminal`: the sender of a terminal.
+//! - `bench`: the card with the terminals and listeners of its lines.
 //! - `player`: plays a script.
 //! - `faults`: why a script is not played to its end.
+//! - `shown`: shows one frame.
 //! - `program`: the program's words, fault lines and exit status.
 #![tactic(auto)]
 
+mod bench;
 mod exchange;
 mod faults;
 mod lines;
 mod player;
 mod program;
-mod read_from;
-mod script;
-mod streams;
-mod transcript;
-mod write_to;
+mod shown;
+mod terminal;
 
 pub use faults::PlayFault;
+pub use lapd_script::FaultKind;
+pub use lapd_transcript::{ReadFailed, ReadFrom, Source, Target, WriteFailed, WriteTo};
 pub use player::play;
 pub use program::{refuse, serve};
-pub use read_from::ReadFrom;
-pub use script::FaultKind;
-pub use streams::{ReadFailed, Source, Target, WriteFailed};
-pub use write_to::WriteTo;

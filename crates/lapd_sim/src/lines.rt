@@ -4,9 +4,12 @@ ghost use Rattle.std.specs.Prelude.{◌≡◌, ℕ, ◌+◌, ◌-◌, ◌^◌, �
 ghost use Rattle.lapd_sim.specs.Faults.{reads_failed, reads_failed_by, writes_failed};
 
 use crate::faults::PlayFault;
-use crate::script::{FaultKind, LONGEST_LINE};
-use crate::streams::Source;
+use lapd_script::FaultKind;
+use lapd_transcript::Source;
 use std::alloc::{AllocError, Global};
+
+/// The most octets that a line of a script can have, without its line feed.
+const LONGEST_LINE: usize = 4096;
 
 /// The longest line with its line feed.
 const ROOM: usize = LONGEST_LINE + 1;

@@ -1,16 +1,17 @@
 //! Plays a script on a card.
 
-ghost use Rattle.std.specs.Prelude.{◌≡◌, ◌≤◌, ℕ, length, vec_len, IfErr};
+ghost use Rattle.std.specs.Prelude.{◌≡◌, ◌≤◌, ℕ, length, vec_len, IfErr, IfOk};
 ghost use Rattle.lapd_sim.specs.Faults.{line_writes_failed, line_writes_failed_by, reads_failed_by, writes_failed_by};
 
-use crate::exchange::Exchange;
+use crate::bench::Bench;
 use crate::faults::{LineFault, PlayFault};
 use crate::lines::Lines;
-use crate::script::{Command, FaultKind, MOST_PULLS, decode};
-use crate::streams::{Source, Target};
-use crate::transcript::Transcript;
-use lapd_card::{Config, Request};
+use lapd_script::{CardNumbers, Command, FaultKind, read_line};
+use lapd_transcript::{Source, Target};
 use std::alloc::{AllocError, Global};
+
+/// As many octets as one line of a script can have pulled: more than it can bring.
+const ROOM: usize = 4096;
 
 /// Plays the script that `source` gives on a card, and writes the transcript to `target`: the answer of each line
 /// before the next line is read. It ends with the script, or with the first fault; what the lines before the fault
@@ -23,7 +24,7 @@ pub fn play<S: Source, T: Target>(
     target: &mut T,
 ) -> Result<(), PlayFault>
     ensures reads { S.failures source.new ≡ reads_failed_by result (S.failures source.old) }
-    ensures writes { T.failures target.new ≡ writes_failed_by result (T.failures target.old) }
+    ensures writes { (T.taken target.new).failures ≡ writes_failed_by result (T.taken target.old).failures }
 {
     let mut lines = Lines::start(alloc)?;
     let mut player = Player::start(alloc)?;
@@ -39,10 +40,9 @@ pub fn play<S: Source, T: Target>(
 #[derive(Drop)]
 struct Player {
     alloc: Global,
-    /// The octets of the line that is obeyed.
+    /// The octets that the line brings, or has pulled.
     octets: Vec<u8>,
-    transcript: Transcript,
-    exchange: Option<Exchange>,
+    bench: Option<Bench>,
     ghost room: { vec_len octets ≡ 4096 },
 }
 
@@ -50,69 +50,64 @@ impl Player {
     fn start(alloc: Global) -> Result<Player, AllocError> {
         Ok(Player {
             alloc,
-            octets: vec![in alloc; 0; MOST_PULLS as usize]?,
-            transcript: Transcript::start(alloc)?,
-            exchange: None,
+            octets: vec![in alloc; 0; ROOM]?,
+            bench: None,
         })
     }
 
     /// Obeys one line.
     fn obey<T: Target>(&mut self, line: &[u8], target: &mut T) -> Result<(), LineFault>
         requires { length line.now ≤ 4096 }
-        ensures { T.failures target.new ≡ line_writes_failed_by result (T.failures target.old) }
+        ensures { (T.taken target.new).failures ≡ line_writes_failed_by result (T.taken target.old).failures }
     {
-        match Command::read(line)? {
+        match read_line(line, self.octets.as_mut_slice())? {
             Command::Skip => Ok(()),
-            Command::Card(config) => self.card(config),
-            Command::Assign(line, tei) => self.request(line, Request::Assign(tei), target),
-            Command::Rx(line, digits) => self.rx(line, digits, target),
-            Command::Pull(line, count) => self.pull(line, count, target),
+            Command::Card(numbers) => self.card(numbers),
+            command => self.act(command, target),
         }
     }
 
-    fn card(&mut self, config: Config) -> Result<(), LineFault>
+    fn card(&mut self, numbers: CardNumbers) -> Result<(), LineFault>
         ensures { IfErr result (λ fault. (count : ℕ) → line_writes_failed fault count ≡ count) }
     {
-        if self.exchange.is_some() {
+        if self.bench.is_some() {
             return Err(LineFault::Faulty(FaultKind::SecondCard));
         }
-        self.exchange = Some(Exchange::start(self.alloc, config)?);
+        self.bench = Some(Bench::start(self.alloc, numbers)?);
         Ok(())
     }
 
-    fn request<T: Target>(
-        &mut self,
-        line: u16,
-        request: Request,
-        target: &mut T,
-    ) -> Result<(), LineFault>
-        ensures { T.failures target.new ≡ line_writes_failed_by result (T.failures target.old) }
+    /// Obeys a line that needs the card.
+    fn act<T: Target>(&mut self, command: Command, target: &mut T) -> Result<(), LineFault>
+        ensures { (T.taken target.new).failures ≡ line_writes_failed_by result (T.taken target.old).failures }
     {
-        let Some(exchange) = &mut self.exchange else {
+        let Some(bench) = &mut self.bench else {
             return Err(LineFault::Faulty(FaultKind::NoCard));
         };
-        exchange.request(line, request, &mut self.transcript, target)
-    }
-
-    fn rx<T: Target>(&mut self, line: u16, digits: &[u8], target: &mut T) -> Result<(), LineFault>
-        requires { length digits.now ≤ 4096 }
-        ensures { T.failures target.new ≡ line_writes_failed_by result (T.failures target.old) }
-    {
-        let count = decode(digits, self.octets.as_mut_slice())?;
-        let Some(exchange) = &mut self.exchange else {
-            return Err(LineFault::Faulty(FaultKind::NoCard));
-        };
-        exchange.rx(line, &self.octets[..count], &mut self.transcript, target)
-    }
-
-    fn pull<T: Target>(&mut self, line: u16, count: u16, target: &mut T) -> Result<(), LineFault>
-        requires { count ≤ 4096 }
-        ensures { T.failures target.new ≡ line_writes_failed_by result (T.failures target.old) }
-    {
-        let Some(exchange) = &mut self.exchange else {
-            return Err(LineFault::Faulty(FaultKind::NoCard));
-        };
-        let room = self.octets.as_mut_slice();
-        exchange.pull(line, count as usize, room, &mut self.transcript, target)
+        match command {
+            Command::Skip | Command::Card(_) => Ok(()),
+            Command::Rx { line, octets } => bench.receive(
+                line,
+                &self.octets[..octets.min(ROOM)],
+                target,
+            ),
+            Command::In { line, octets } => bench.send(
+                line,
+                &self.octets[..octets.min(ROOM)],
+                target,
+            ),
+            Command::Pull { line, count } => {
+                let room = self.octets.as_mut_slice();
+                bench.pull(line, count as usize, room, target)
+            }
+            Command::Wait { milliseconds } => bench.exchange.wait(milliseconds, target),
+            Command::Stored => bench.exchange.show_stored(target),
+            Command::Ask {
+                line,
+                tei,
+                what,
+                octets,
+            } => bench.ask(line, tei, what, &self.octets[..octets.min(ROOM)], target),
+        }
     }
 }

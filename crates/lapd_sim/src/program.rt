@@ -1,12 +1,16 @@
 //! The program's work: what its words ask for, its fault lines and its exit status.
 
-ghost use Rattle.std.specs.Prelude.{◌≡◌, ◌≢◌, ◌≤◌, ◌↔◌};
-ghost use Rattle.lapd_sim.specs.Program.{IsRun};
+ghost use Rattle.std.specs.Prelude.{◌≡◌, ◌≢◌, ◌≤◌, ◌↔◌, None};
+ghost use Rattle.lapd_script.specs.Job.{job};
+ghost use Rattle.lapd_script.specs.Words.{texts};
 
 use crate::faults::PlayFault;
 use crate::player::play;
-use crate::streams::{Source, Target};
+use crate::shown::show_frame;
 use arrayvec::ArrayString;
+use lapd_frame::Side;
+use lapd_script::{Job, job};
+use lapd_transcript::{Source, Target, write_bound};
 use std::alloc::Global;
 use std::fmt::{Display, Write};
 
@@ -24,9 +28,11 @@ const ROOM: usize = 80;
 
 /// Does what the words after the program's name ask for, and answers the exit status.
 ///
-/// `run` plays the script that `source` gives, and writes its transcript to `target`. The status is 0, or 1 after a
-/// fault, which is told by one line on `faults`. Any other words have status 2 and the line `usage` there. A fault
-/// line that can't be written changes nothing.
+/// `run` plays the script that `source` gives, and writes its transcript to `target`. `frame HEX` writes what the frame
+/// of these digits says, as the user sent it, or the network with `--network` after it, and what it is on a line. `limits`
+/// with five numbers writes how many octets a card with these sizes stores at most. The status is 0, or 1 after a fault,
+/// which is told by one line on `faults`. Any other words have status 2 and the line `usage` there. A fault line that
+/// can't be written changes nothing.
 pub fn serve<S: Source, T: Target, F: Target>(
     alloc: Global,
     words: &[&str],
@@ -35,17 +41,28 @@ pub fn serve<S: Source, T: Target, F: Target>(
     faults: &mut F,
 ) -> u8
     ensures range { result ≤ 2 }
-    ensures wrong_words { (result ≡ 2) ↔ ¬ (IsRun words.now) }
+    ensures wrong_words { (result ≡ 2) ↔ (job (texts words.now) ≡ None) }
     ensures no_read_failed { result ≢ 1 → S.failures source.new ≡ S.failures source.old }
-    ensures no_write_failed { result ≢ 1 → T.failures target.new ≡ T.failures target.old }
-    ensures no_fault_line_failed { result ≡ 0 → F.failures faults.new ≡ F.failures faults.old }
+    ensures no_write_failed { result ≢ 1 → (T.taken target.new).failures ≡ (T.taken target.old).failures }
+    ensures no_fault_line_failed { result ≡ 0 → (F.taken faults.new).failures ≡ (F.taken faults.old).failures }
 {
-    match words {
-        ["run"] => match play(alloc, source, target) {
+    match job(words) {
+        Some(Job::Run) => match play(alloc, source, target) {
             Ok(()) => DONE,
             Err(fault) => refuse(fault, faults),
         },
-        _ => {
+        Some(Job::Frame { hex, network }) => {
+            let side = if network { Side::Network } else { Side::User };
+            match show_frame(alloc, hex.as_bytes(), side, target) {
+                Ok(()) => DONE,
+                Err(fault) => fail(fault, faults),
+            }
+        }
+        Some(Job::Limits(limits)) => match write_bound(target, limits.bound()) {
+            Ok(()) => DONE,
+            Err(_) => refuse(PlayFault::Write, faults),
+        },
+        None => {
             tell("usage", faults);
             WRONG_WORDS
         }
@@ -54,6 +71,12 @@ pub fn serve<S: Source, T: Target, F: Target>(
 
 /// Writes the line that tells of `fault`, and answers the exit status after it.
 pub fn refuse<F: Target>(fault: PlayFault, faults: &mut F) -> u8
+    ensures { result ≡ 1 }
+{
+    fail(fault, faults)
+}
+
+fn fail<D: Display + Drop, F: Target>(fault: D, faults: &mut F) -> u8
     ensures { result ≡ 1 }
 {
     tell(fault, faults);

@@ -1,4 +1,5 @@
 -- What the code's values stand for.
+use Rattle.std.specs.Prelude.{◌≤◌, length}
 use Rattle.lapd_frame.specs.ShortLists.{listed}
 use Rattle.lapd_tei.specs.declared.outcome.TeiOutcome.{TeiOutcome}
 use Rattle.lapd_tei.specs.declared.teis.Teis.TheInside.{Inside}
@@ -14,3 +15,8 @@ management_of t = record { places = t.table; remembered = t.memory; check = t.ch
 -- where an event has led, as an outcome tells it
 abbrev pub led_to : Management → TeiOutcome → Course
 led_to m o = record { now = m; told = told_of o }
+
+-- An outcome has at most one note and one order.
+pub record IsShort (o : TeiOutcome) : Type 0 where
+  pub notes : length (listed o.notes) ≤ 1
+  pub orders : length (listed o.orders) ≤ 1

@@ -28,12 +28,13 @@ pub struct TeiOutcome {
 
 impl TeiOutcome {
     ghost use Rattle.std.specs.Prelude.{◌≡◌, true};
-    ghost use Rattle.lapd_tei.specs.Outcome.{told_of};
+    ghost use Rattle.lapd_tei.specs.Outcome.{told_of, IsShort};
     ghost use Rattle.lapd_tei.specs.Machine.{nothing};
 
     // Nothing happened.
     pub(crate) fn nothing() -> TeiOutcome
-        ensures { told_of result ≡ nothing }
+        ensures told { told_of result ≡ nothing }
+        ensures short { IsShort result }
     {
         TeiOutcome {
             notes: ShortList::none(),
@@ -46,7 +47,8 @@ impl TeiOutcome {
 
     // A message that is not served.
     pub(crate) fn unserved() -> TeiOutcome
-        ensures { told_of result ≡ record nothing { unserved = true } }
+        ensures told { told_of result ≡ record nothing { unserved = true } }
+        ensures short { IsShort result }
     {
         TeiOutcome {
             unserved: true,

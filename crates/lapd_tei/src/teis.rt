@@ -6,7 +6,7 @@ ghost use Rattle.lapd_tei.specs.Table.{is_on};
 ghost use Rattle.lapd_tei.specs.Words.{begun, begin_check, leave, left};
 ghost use Rattle.lapd_tei.specs.Rows.{request, verify, respond, doubled, expire, expire_period, take_off, is_checked};
 ghost use Rattle.lapd_tei.specs.Events.{message, expiry, assign, remove, check, refusal, after, told, offered, after_offer};
-ghost use Rattle.lapd_tei.specs.Outcome.{told_of, led_to};
+ghost use Rattle.lapd_tei.specs.Outcome.{told_of, led_to, IsShort};
 
 use crate::check::{Check, Period};
 use crate::fault::StartFault;
@@ -25,7 +25,7 @@ use std::marker::Model;
 /// A line has a table of at most `terminals` TEIs, each at a place; remembers the latest
 /// assignments, at most four; and runs at most one check of a TEI at a time. Its messages wait for
 /// the line, at most four. No call but `start` takes memory.
-#[derive(Drop)]
+#[derive(Drop, Debug)]
 pub struct Teis {
     table: Table,
     memory: Memory,
@@ -70,6 +70,7 @@ impl Teis {
     pub fn message(&mut self, information: &[u8]) -> TeiOutcome
         ensures told { told_of result ≡ told (message information.now) self.old }
         ensures after { self.new ≡ after (message information.now) self.old }
+        ensures short { IsShort result }
     {
         match Heard::read(information) {
             Some(Heard::IdentityRequest { ri }) => self.request(ri),
@@ -84,6 +85,7 @@ impl Teis {
     pub fn expire_t201(&mut self) -> TeiOutcome
         ensures told { told_of result ≡ told expiry self.old }
         ensures after { self.new ≡ after expiry self.old }
+        ensures short { IsShort result }
     {
         match self.check {
             Some(check) => self.expire(check),
@@ -103,6 +105,7 @@ impl Teis {
         ensures accepted { OnOk result (refusal (assign tei) self.old ≡ None) }
         ensures refused { IfErr result (λ why. refusal (assign tei) self.old ≡ Some why) }
         ensures after { self.new ≡ after (assign tei) self.old }
+        ensures short { IfOk result IsShort }
         ensures unchanged { OnErr result (self.new ≡ self.old) }
     {
         if self.table.is_on(tei) {
@@ -131,6 +134,7 @@ impl Teis {
         ensures accepted { OnOk result (refusal (remove tei) self.old ≡ None) }
         ensures refused { IfErr result (λ why. refusal (remove tei) self.old ≡ Some why) }
         ensures after { self.new ≡ after (remove tei) self.old }
+        ensures short { IfOk result IsShort }
         ensures unchanged { OnErr result (self.new ≡ self.old) }
     {
         if !self.table.is_on(tei) {
@@ -155,6 +159,7 @@ impl Teis {
         ensures accepted { OnOk result (refusal (check tei) self.old ≡ None) }
         ensures refused { IfErr result (λ why. refusal (check tei) self.old ≡ Some why) }
         ensures after { self.new ≡ after (check tei) self.old }
+        ensures short { IfOk result IsShort }
         ensures unchanged { OnErr result (self.new ≡ self.old) }
     {
         if !self.table.is_on(tei) {
@@ -197,6 +202,7 @@ impl Teis {
     // An identity request for any TEI.
     fn request(&mut self, ri: u16) -> TeiOutcome
         ensures led { led_to self.new result ≡ request ri (begun self.old) }
+        ensures short { IsShort result }
     {
         if self.queue.is_full() {
             return TeiOutcome {
@@ -229,6 +235,7 @@ impl Teis {
     // A terminal asks for a check of its TEI.
     fn verify(&mut self, tei: u8) -> TeiOutcome
         ensures led { led_to self.new result ≡ verify tei (begun self.old) }
+        ensures short { IsShort result }
     {
         if !self.table.is_on(tei) || self.check.is_some() {
             return TeiOutcome::unserved();
@@ -240,6 +247,7 @@ impl Teis {
     fn begin_check(&mut self, tei: u8) -> TeiOutcome
         requires { is_on tei self.old.places ≡ true }
         ensures led { led_to self.new result ≡ begin_check tei (begun self.old) }
+        ensures short { IsShort result }
     {
         let lost = self.queue.send(Message::IdentityCheckRequest { tei });
         self.check = Some(Check::begun(tei));
@@ -253,6 +261,7 @@ impl Teis {
     // A terminal answers a check.
     fn respond(&mut self, tei: u8) -> TeiOutcome
         ensures led { led_to self.new result ≡ respond tei self.old.check (begun self.old) }
+        ensures short { IsShort result }
     {
         let Some(check) = self.check else {
             return TeiOutcome::unserved();
@@ -272,6 +281,7 @@ impl Teis {
     fn doubled(&mut self, tei: u8) -> TeiOutcome
         requires { is_on tei self.old.places ≡ true }
         ensures led { led_to self.new result ≡ doubled tei (begun self.old) }
+        ensures short { IsShort result }
     {
         let lost = self.queue.send(Message::IdentityRemove { tei });
         self.check = None;
@@ -289,6 +299,7 @@ impl Teis {
     fn expire(&mut self, check: Check) -> TeiOutcome
         requires { self.old.check ≡ Some check }
         ensures led { led_to self.new result ≡ expire (begun self.old) }
+        ensures short { IsShort result }
     {
         match check.period {
             Period::First => self.ask_again(check),
@@ -300,6 +311,7 @@ impl Teis {
     fn ask_again(&mut self, check: Check) -> TeiOutcome
         requires { self.old.check ≡ Some check }
         ensures led { led_to self.new result ≡ expire_period check First (begun self.old) }
+        ensures short { IsShort result }
     {
         let lost = self
             .queue
@@ -319,6 +331,7 @@ impl Teis {
     fn end_check(&mut self, check: Check) -> TeiOutcome
         requires { self.old.check ≡ Some check }
         ensures led { led_to self.new result ≡ expire_period check Second (begun self.old) }
+        ensures short { IsShort result }
     {
         self.check = None;
         let stopped = TeiOutcome {
@@ -340,6 +353,7 @@ impl Teis {
     fn take_off(&mut self, tei: u8) -> TeiOutcome
         requires { is_on tei self.old.places ≡ true }
         ensures led { led_to self.new result ≡ take_off tei (begun self.old) }
+        ensures short { IsShort result }
     {
         let lost = self.queue.send(Message::IdentityRemove { tei });
         let is_checked = self.check.is_some_and(|check| check.tei == tei);

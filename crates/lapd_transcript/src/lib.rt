@@ -6,6 +6,7 @@
 //! - `output`: writes pieces of text.
 //! - `lines`: writes the lines of a transcript.
 //! - `notes`: what an event brought.
+//! - `shown`: what a frame says, octets of a line, and the bound of a card.
 //! - `names`: the names that stand in them.
 #![tactic(auto)]
 
@@ -14,10 +15,12 @@ mod names;
 mod notes;
 mod output;
 mod read_from;
+mod shown;
 mod streams;
 mod write_to;
 
 pub use lines::{write_frame, write_refused, write_report, write_sent, write_stored};
 pub use read_from::ReadFrom;
+pub use shown::{write_bound, write_line_octets, write_shown};
 pub use streams::{ReadFailed, Source, Target, WriteFailed};
 pub use write_to::WriteTo;

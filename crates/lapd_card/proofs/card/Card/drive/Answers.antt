@@ -1,9 +1,91 @@
-use Rattle.std.proofs.Common.{take}
-use Rattle.lapd_card.proofs.CountLemmas.{run-within}
+use Rattle.std.proofs.Common.{sym, ◌∙◌}
+use Rattle.std.proofs.lemmas.Option.{slice_get-get_or}
+use Rattle.lapd_card_machine.specs.declared.events.Event.TheVariants.{Octet}
+use Rattle.lapd_card.proofs.Taken.{ran-more, taken-more, missed-at, at_ok, at_err}
+use Rattle.lapd_card_machine.proofs.Fold.{run_is_moments}
+use Rattle.lapd_card_machine.proofs.Refusals.{refused_by_the_table}
+use Rattle.lapd_card.specs.Headline.{IsWithinLimit, IsAmortised, IsLinear, IsIsolated, IsNeverFull, IsNumbered, IsNumberedFromZero, IsTextual}
+use Rattle.lapd_card.proofs.Headline.{each_front, fresh_front, within_limit, amortised, linear, isolated, never_full, numbered, numbered_from_zero, textual}
 use Rattle.lapd_card.proofs.card.Card.drive.Goals as goal
 
-pub returns-then-is_err-clause-within_frames : goal.returns-then-is_err-clause-within_frames
-returns-then-is_err-clause-within_frames g c = λ m count. run-within m (take count c.args.events.now)
+pub loop-at-preserved : goal.loop-at-preserved
+loop-at-preserved g c =
+    let is = slice_get-get_or c.args.events.now c.loop-at.at (Octet 0 0) c.loop-at-test.true in
+    let no = sym c.is_err.ensures.value ∙ c.if-is_err.false in
+    record {
+      config = c.answer.ensures.leads.config ∙ c.loop-at.invariant.config;
+      none_failed = at_ok c.answer.result _ no c.answer.ensures.not_failed ∙ c.loop-at.invariant.none_failed;
+      ran = λ m s. ran-more g.S.Shelf.store m c.args.events.now c.loop-at.at _ c.loop-at.self c.answer.new.self is c.answer.ensures.leads (c.loop-at.invariant.ran m s);
+      taken = λ m s. taken-more g.K.Sink.takes m c.args.events.now c.loop-at.at _ c.args.sink.now c.loop-at.sink c.answer.new.sink is (at_ok c.answer.result _ no c.answer.ensures.taken _ (c.loop-at.invariant.ran m s)) (c.loop-at.invariant.taken m s);
+    }
 
-pub returns-clause-within_frames : goal.returns-clause-within_frames
-returns-clause-within_frames g c = λ m count. run-within m (take count c.args.events.now)
+pub returns-then-is_err-clause-stopped : goal.returns-then-is_err-clause-stopped
+returns-then-is_err-clause-stopped g c =
+    let is = slice_get-get_or c.args.events.now c.loop-at.at (Octet 0 0) c.loop-at-test.true in
+    λ m s. ran-more g.S.Shelf.store m c.args.events.now c.loop-at.at _ c.loop-at.self c.answer.new.self is c.answer.ensures.leads (c.loop-at.invariant.ran m s)
+
+pub returns-then-is_err-clause-taken_before : goal.returns-then-is_err-clause-taken_before
+returns-then-is_err-clause-taken_before g c =
+    let is = slice_get-get_or c.args.events.now c.loop-at.at (Octet 0 0) c.loop-at-test.true in
+    let yes = sym c.is_err.ensures.value ∙ c.if-is_err.true in
+    λ m s. missed-at g.K.Sink.takes g.K.Sink.misses m c.args.events.now c.loop-at.at _ c.args.sink.now c.loop-at.sink c.answer.new.sink is (at_err c.answer.result _ yes c.answer.ensures.not_taken _ (c.loop-at.invariant.ran m s)) (c.loop-at.invariant.taken m s)
+
+pub returns-then-is_err-clause-moments : goal.returns-then-is_err-clause-moments
+returns-then-is_err-clause-moments g c = run_is_moments
+
+pub returns-then-is_err-clause-refused : goal.returns-then-is_err-clause-refused
+returns-then-is_err-clause-refused g c = refused_by_the_table
+
+pub returns-then-is_err-clause-within_limit : goal.returns-then-is_err-clause-within_limit
+returns-then-is_err-clause-within_limit g c = λ m count. each_front g.S.Shelf.store c.args.self.now c.args.events.now c.requires IsWithinLimit within_limit m count
+
+pub returns-then-is_err-clause-amortised : goal.returns-then-is_err-clause-amortised
+returns-then-is_err-clause-amortised g c = λ m count. each_front g.S.Shelf.store c.args.self.now c.args.events.now c.requires IsAmortised amortised m count
+
+pub returns-then-is_err-clause-linear : goal.returns-then-is_err-clause-linear
+returns-then-is_err-clause-linear g c = λ count. fresh_front g.S.Shelf.store c.args.self.now c.args.events.now c.requires IsLinear linear count
+
+pub returns-then-is_err-clause-isolated : goal.returns-then-is_err-clause-isolated
+returns-then-is_err-clause-isolated g c = λ count. fresh_front g.S.Shelf.store c.args.self.now c.args.events.now c.requires IsIsolated isolated count
+
+pub returns-clause-moments : goal.returns-clause-moments
+returns-clause-moments g c = run_is_moments
+
+pub returns-clause-refused : goal.returns-clause-refused
+returns-clause-refused g c = refused_by_the_table
+
+pub returns-clause-within_limit : goal.returns-clause-within_limit
+returns-clause-within_limit g c = λ m count. each_front g.S.Shelf.store c.args.self.now c.args.events.now c.requires IsWithinLimit within_limit m count
+
+pub returns-clause-amortised : goal.returns-clause-amortised
+returns-clause-amortised g c = λ m count. each_front g.S.Shelf.store c.args.self.now c.args.events.now c.requires IsAmortised amortised m count
+
+pub returns-clause-linear : goal.returns-clause-linear
+returns-clause-linear g c = λ count. fresh_front g.S.Shelf.store c.args.self.now c.args.events.now c.requires IsLinear linear count
+
+pub returns-clause-isolated : goal.returns-clause-isolated
+returns-clause-isolated g c = λ count. fresh_front g.S.Shelf.store c.args.self.now c.args.events.now c.requires IsIsolated isolated count
+
+pub returns-then-is_err-clause-numbered : goal.returns-then-is_err-clause-numbered
+returns-then-is_err-clause-numbered g c = λ m count. each_front g.S.Shelf.store c.args.self.now c.args.events.now c.requires IsNumbered numbered m count
+
+pub returns-then-is_err-clause-textual : goal.returns-then-is_err-clause-textual
+returns-then-is_err-clause-textual g c = λ m count. each_front g.S.Shelf.store c.args.self.now c.args.events.now c.requires IsTextual textual m count
+
+pub returns-then-is_err-clause-never_full : goal.returns-then-is_err-clause-never_full
+returns-then-is_err-clause-never_full g c = λ count. fresh_front g.S.Shelf.store c.args.self.now c.args.events.now c.requires IsNeverFull never_full count
+
+pub returns-then-is_err-clause-from_zero : goal.returns-then-is_err-clause-from_zero
+returns-then-is_err-clause-from_zero g c = λ count. fresh_front g.S.Shelf.store c.args.self.now c.args.events.now c.requires IsNumberedFromZero numbered_from_zero count
+
+pub returns-clause-numbered : goal.returns-clause-numbered
+returns-clause-numbered g c = λ m count. each_front g.S.Shelf.store c.args.self.now c.args.events.now c.requires IsNumbered numbered m count
+
+pub returns-clause-textual : goal.returns-clause-textual
+returns-clause-textual g c = λ m count. each_front g.S.Shelf.store c.args.self.now c.args.events.now c.requires IsTextual textual m count
+
+pub returns-clause-never_full : goal.returns-clause-never_full
+returns-clause-never_full g c = λ count. fresh_front g.S.Shelf.store c.args.self.now c.args.events.now c.requires IsNeverFull never_full count
+
+pub returns-clause-from_zero : goal.returns-clause-from_zero
+returns-clause-from_zero g c = λ count. fresh_front g.S.Shelf.store c.args.self.now c.args.events.now c.requires IsNumberedFromZero numbered_from_zero count

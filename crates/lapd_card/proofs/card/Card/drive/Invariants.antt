@@ -1,15 +1,15 @@
-use Rattle.std.proofs.Common.{◌≡◌, ◌++◌, take}
-use Rattle.lapd_card.specs.Card.{line_count}
-use Rattle.lapd_card.specs.Machine.{Machine}
-use Rattle.lapd_card.specs.Run.{run}
+use Rattle.std.proofs.Common.{◌≡◌, take}
+use Rattle.lapd_card_machine.specs.Card as machine
+use Rattle.lapd_card_machine.specs.Run.{run}
+use Rattle.lapd_card.specs.Drive.{events_of, Taken}
 use Rattle.lapd_card.specs.Stands.{Stands}
 use Rattle.lapd_card.proofs.card.Card.drive.Given as goal
 
--- the events so far have happened, and the sink has gained their replies
+-- the events so far have happened, and the sink has taken their replies
 abbrev pub invariant-loop-at : goal.invariant-loop-at
 invariant-loop-at g l = record {
-  lines : line_count l.self ≡ line_count l.fn.self;
+  config : l.self.config ≡ l.fn.self.config;
   none_failed : g.K.Sink.failures l.sink ≡ g.K.Sink.failures l.fn.sink;
-  ran : (m : Machine) → Stands l.fn.self m → Stands l.self (run m (take l.at l.events)).machine;
-  taken : (m : Machine) → Stands l.fn.self m → g.K.Sink.taken l.sink ≡ g.K.Sink.taken l.fn.sink ++ (run m (take l.at l.events)).replies;
+  ran : (m : machine.Card) → Stands g.S.Shelf.store l.fn.self m → Stands g.S.Shelf.store l.self (run m (take l.at (events_of l.events))).card;
+  taken : (m : machine.Card) → Stands g.S.Shelf.store l.fn.self m → Taken g.K.Sink.takes l.fn.sink (run m (take l.at (events_of l.events))).replies l.sink;
 }

@@ -1,17 +1,22 @@
-use Rattle.std.proofs.Common.{◌≡◌, ◌∙◌, sym}
-use Rattle.lapd_card.specs.Machine.{next_octet, with_due}
-use Rattle.lapd_card.proofs.Pull.{given_next, pulled-stands}
+use Rattle.std.proofs.Common.{◌<◌, sym, subst}
+use Rattle.lapd_line_machine.specs.Answer as happening
+use Rattle.lapd_card_machine.specs.ByEvent.{FallsByPull}
+use Rattle.lapd_card_machine.specs.Event.{at}
+use Rattle.lapd_card_machine.proofs.ByEvent.{frames_by_event}
+use Rattle.lapd_card.specs.Card.{line_count}
+use Rattle.lapd_card.specs.Stands.{Stands, Leads}
+use Rattle.lapd_card.proofs.Headline.{at_line}
+use Rattle.lapd_card.proofs.OneEvent.{event_leads, event_told, past_after, has_room, pull_takes}
 use Rattle.lapd_card.proofs.card.Card.pull.Goals as goal
 
+pub invariant_of-self : goal.invariant_of-self
+invariant_of-self g c = past_after g.S.Shelf.store (at c.args.line happening.pull) (record { config = c.self.inside.config; lines = c.self.inside.lines; shelf = c.self.inside.shelf }) _ (event_leads g.S.Shelf.store happening.pull c.args.line (record { config = c.self.inside.config; lines = c.self.inside.lines; shelf = c.self.inside.shelf }) c.pull.new.self c.pull.new.shelf (subst (λ card. c.args.line < line_count card) (sym c.self.view_is) c.requires) (λ m s. has_room (at c.args.line happening.pull) m (pull_takes m.config _)) c.pull.ensures.after) c.self.invariant
+
 pub returns-clause-told : goal.returns-clause-told
-returns-clause-told c = λ m s.
-    let next : next_octet (with_due m) ≡ c.octet.result = given_next c.begin-begun.new.self.framer m c.args.self.now.framer.left s.sent.text (c.begin-begun.ensures.after m s).sent ∙ sym c.octet.ensures.octet in
-    let begins = c.begin-begun.ensures.begins m s in
-    cc
+returns-clause-told g c = λ m s. event_told g.S.Shelf.store happening.pull c.args.line (record { config = c.self.inside.config; lines = c.self.inside.lines; shelf = c.self.inside.shelf }) _ (λ m s. has_room (at c.args.line happening.pull) m (pull_takes m.config _)) c.pull.ensures.told m (subst (λ card. Stands g.S.Shelf.store card m) (sym c.self.view_is) s)
 
 pub returns-clause-after : goal.returns-clause-after
-returns-clause-after c =
-    record {
-      lines = c.begin-begun.ensures.lines;
-      stands = λ m s. pulled-stands c.begin-begun.new.self c.args.self.now m c.octet.new.self c.octet.result s (c.begin-begun.ensures.after m s) c.octet.ensures.octet c.octet.ensures.stands;
-    }
+returns-clause-after g c = subst (λ card. Leads g.S.Shelf.store (at c.args.line happening.pull) card (record { config = c.self.inside.config; lines = c.pull.new.self; shelf = c.pull.new.shelf })) c.self.view_is (event_leads g.S.Shelf.store happening.pull c.args.line (record { config = c.self.inside.config; lines = c.self.inside.lines; shelf = c.self.inside.shelf }) c.pull.new.self c.pull.new.shelf (subst (λ card. c.args.line < line_count card) (sym c.self.view_is) c.requires) (λ m s. has_room (at c.args.line happening.pull) m (pull_takes m.config _)) c.pull.ensures.after)
+
+pub returns-clause-frames : goal.returns-clause-frames
+returns-clause-frames g c = at_line g.S.Shelf.store c.args.self.now c.args.line c.requires (FallsByPull c.args.line) (λ m s w. frames_by_event.pulls m c.args.line s w)

@@ -1,0 +1,64 @@
+-- A list of events, event by event, and what a sink has taken of it.
+use Rattle.std.proofs.Common.{◌≡◌, ℕ, ◌+◌, zero, suc, List, [], ◌∷◌, ◌++◌, take, refl, sym, ap, subst, ◌∙◌, Some, slice_get, arith}
+use Rattle.std.proofs.lemmas.Bool.{false≢true}
+use Rattle.std.proofs.lemmas.Option.{none-some, same_Some}
+use Rattle.std.specs.Prelude.{Result, Ok, Err, is_err, OnOk, OnErr, true, false}
+use Rattle.std.proofs.lemmas.List.Sums.{fold-append}
+use Rattle.lapd_line_machine.specs.Answer.{Answer}
+use Rattle.lapd_card_machine.specs.declared.events.Event as rust
+use Rattle.lapd_card_machine.specs.Card.{Card}
+use Rattle.lapd_card_machine.specs.Event.{event_of}
+use Rattle.lapd_card_machine.specs.Machine.{answer}
+use Rattle.lapd_card_machine.specs.Run.{one_more, run}
+use Rattle.lapd_card.specs.Card.{Held}
+use Rattle.lapd_card.specs.Drive.{events_of, Taken, MissesReply, MissesAt}
+use Rattle.lapd_card.specs.Stands.{Stands, Leads}
+use Rattle.lapd_store.specs.Store.{Store}
+
+-- one reply more
+Taken-more : {K : Type 0} (takes : K → ℕ → Answer → K → Type 0) (old mid new : K) (replies : List (ℕ × Answer)) (line : ℕ) (reply : Answer) → Taken takes old replies mid → takes mid line reply new → Taken takes old (replies ++ (line, reply) ∷ []) new
+Taken-more takes old mid new [] line reply taken took = (new, subst (λ k. takes k line reply new) taken took, refl)
+Taken-more takes old mid new ((l, r) ∷ replies) line reply (next, first, rest) took = (next, first, Taken-more takes next mid new replies line reply rest took)
+
+-- an event is the next one of a list
+events-next : (events : List rust.Event) (at : ℕ) (e : rust.Event) → slice_get events at ≡ Some e → take (suc at) (events_of events) ≡ take at (events_of events) ++ event_of e ∷ []
+events-next [] at e is = absurd (none-some e is)
+events-next (x ∷ xs) zero e is = ap (λ y. event_of y ∷ []) (same_Some x e is)
+events-next (x ∷ xs) (suc at) e is = ap (λ l. event_of x ∷ l) (events-next xs at e is)
+
+events-more : (events : List rust.Event) (at : ℕ) (e : rust.Event) → slice_get events at ≡ Some e → take (at + 1) (events_of events) ≡ take at (events_of events) ++ event_of e ∷ []
+events-more events at e is = ap (λ n. take n (events_of events)) one_more_is ∙ events-next events at e is
+  where
+    one_more_is : at + 1 ≡ suc at
+    one_more_is = omega arith
+
+events-at : (events : List rust.Event) (at : ℕ) (e : rust.Event) → slice_get events at ≡ Some e → slice_get (events_of events) at ≡ Some (event_of e)
+events-at [] at e is = absurd (none-some e is)
+events-at (x ∷ xs) zero e is = ap (λ y. Some (event_of y)) (same_Some x e is)
+events-at (x ∷ xs) (suc at) e is = events-at xs at e is
+
+-- and its run goes one event further
+pub run-more : (m : Card) (events : List rust.Event) (at : ℕ) (e : rust.Event) → slice_get events at ≡ Some e → run m (take (at + 1) (events_of events)) ≡ one_more (run m (take at (events_of events))) (event_of e)
+run-more m events at e is = ap (run m) (events-more events at e is) ∙ fold-append one_more (record { card = m; replies = [] }) (take at (events_of events)) (event_of e ∷ [])
+
+pub ran-more : {S : Type 0} (store : S → Store) (m : Card) (events : List rust.Event) (at : ℕ) (e : rust.Event) (mid new : Held S) → slice_get events at ≡ Some e → Leads store (event_of e) mid new → Stands store mid (run m (take at (events_of events))).card → Stands store new (run m (take (at + 1) (events_of events))).card
+ran-more store m events at e mid new is leads ran = subst (λ r. Stands store new r.card) (sym (run-more m events at e is)) (leads.stands _ ran)
+
+pub taken-more : {K : Type 0} (takes : K → ℕ → Answer → K → Type 0) (m : Card) (events : List rust.Event) (at : ℕ) (e : rust.Event) (old mid new : K) → slice_get events at ≡ Some e → takes mid (event_of e).line (answer (event_of e) (run m (take at (events_of events))).card) new → Taken takes old (run m (take at (events_of events))).replies mid → Taken takes old (run m (take (at + 1) (events_of events))).replies new
+taken-more takes m events at e old mid new is took taken = subst (λ r. Taken takes old r.replies new) (sym (run-more m events at e is)) (Taken-more takes old mid new _ _ _ taken took)
+
+pub missed-at : {K : Type 0} (takes misses : K → ℕ → Answer → K → Type 0) (m : Card) (events : List rust.Event) (at : ℕ) (e : rust.Event) (old mid new : K) → slice_get events at ≡ Some e → misses mid (event_of e).line (answer (event_of e) (run m (take at (events_of events))).card) new → Taken takes old (run m (take at (events_of events))).replies mid → MissesAt takes misses m (events_of events) at old new
+missed-at takes misses m events at e old mid new is missed taken = record {
+  before = mid;
+  taken = taken;
+  missed = subst (λ o. MissesReply misses (run m (take at (events_of events))).card o mid new) (sym (events-at events at e is)) missed;
+}
+
+-- what holds where a reply was taken, and where it was not
+pub at_ok : {T E : Type 0} (r : Result T E) (P : Type 0) → is_err r ≡ false → OnOk r P → P
+at_ok (Ok x) P is p = p
+at_ok (Err y) P is p = absurd (false≢true (sym is))
+
+pub at_err : {T E : Type 0} (r : Result T E) (P : Type 0) → is_err r ≡ true → OnErr r P → P
+at_err (Ok x) P is p = absurd (false≢true is)
+at_err (Err y) P is p = p

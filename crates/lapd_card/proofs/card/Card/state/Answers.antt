@@ -1,0 +1,11 @@
+use Rattle.std.proofs.Common.{◌<◌, sym, subst, ap, ◌∙◌}
+use Rattle.lapd_card.specs.Card.{line_count}
+use Rattle.lapd_card.specs.Stands.{Stands}
+use Rattle.lapd_card.proofs.OneEvent.{state_is}
+use Rattle.lapd_card.proofs.card.Card.state.Goals as goal
+
+pub returns-then-line-lines : goal.returns-then-line-lines
+returns-then-line-lines g c = λ m s.
+    state_is g.S.Shelf.store c.args.line c.args.service c.args.tei (record { config = c.self.inside.config; lines = c.self.inside.lines; shelf = c.self.inside.shelf }) c.state.result
+    (subst (λ n. c.args.line < n) (c.lines.ensures ∙ ap line_count (sym c.self.view_is)) c.if-line-lines.true)
+    c.state.ensures m (subst (λ card. Stands g.S.Shelf.store card m) (sym c.self.view_is) s)

@@ -1,0 +1,15 @@
+use Rattle.std.proofs.Common.{◌≡◌, ◌*◌, ◌≤◌, List, take}
+use Rattle.std.specs.List.{sum_by}
+use Rattle.lapd_line_machine.specs.declared.config.Config.{Config}
+use Rattle.lapd_line_machine.specs.Line as machine
+use Rattle.lapd_line_machine.specs.Stored.{held_in}
+use Rattle.lapd_store.specs.Store.{Store}
+use Rattle.lapd_card.specs.Lines.{Stand}
+use Rattle.lapd_card.proofs.lines.Lines.held.Given as goal
+
+-- what the lines so far hold
+abbrev pub invariant-loop-line : goal.invariant-loop-line
+invariant-loop-line l = record {
+  exact : (c : Config) (store : Store) (ms : List machine.Line) → Stand c l.self store ms → l.held ≡ sum_by (held_in c) (take l.line-index ms);
+  small : l.held ≤ l.line-index * 4294967295;
+}

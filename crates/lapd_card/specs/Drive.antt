@@ -1,0 +1,29 @@
+-- Whole lists of events, and what a sink takes of them.
+use Rattle.std.specs.Prelude.{◌≡◌, ℕ, List, [], ◌∷◌, map, take, slice_get, Option, Some, None}
+use Rattle.lapd_line_machine.specs.Answer.{Answer}
+use Rattle.lapd_card_machine.specs.declared.events.Event as rust
+use Rattle.lapd_card_machine.specs.Card.{Card}
+use Rattle.lapd_card_machine.specs.Event.{Event, event_of}
+use Rattle.lapd_card_machine.specs.Machine.{answer}
+use Rattle.lapd_card_machine.specs.Run.{run}
+
+abbrev pub line_of : rust.Event → ℕ
+line_of event = (event_of event).line
+
+abbrev pub events_of : List rust.Event → List Event
+events_of events = map event_of events
+
+-- A sink has taken these replies, one after the other.
+abbrev pub Taken : {K : Type 0} → (K → ℕ → Answer → K → Type 0) → K → List (ℕ × Answer) → K → Type 0
+Taken takes old [] new = new ≡ old
+Taken {K} takes old ((line, reply) ∷ replies) new = (next : K) × takes old line reply next × Taken takes next replies new
+
+-- It has taken the replies to the events before one, and has missed the reply to that event.
+abbrev pub MissesReply : {K : Type 0} → (K → ℕ → Answer → K → Type 0) → Card → Option Event → K → K → Type 0
+MissesReply misses m None old new = ⊥
+MissesReply misses m (Some event) old new = misses old event.line (answer event m) new
+
+pub record MissesAt {K : Type 0} (takes misses : K → ℕ → Answer → K → Type 0) (m : Card) (events : List Event) (at : ℕ) (old new : K) : Type 0 where
+  pub before : K
+  pub taken : Taken takes old (run m (take at events)).replies before
+  pub missed : MissesReply misses (run m (take at events)).card (slice_get events at) before new

@@ -1,0 +1,69 @@
+-- What holds of every list of events at a card, from a machine for which the card stands on. Each of these is a law of the
+-- machine, stated there for all of them.
+use Rattle.std.specs.Prelude.{◌≡◌, ℕ, ◌+◌, ◌*◌, ◌≤◌, ◌<◌, List, length, map, All}
+use Rattle.lapd_card_machine.specs.Card.{Card, fresh, line_at}
+use Rattle.lapd_card_machine.specs.Counts.{waiting, frames_heard, octets_received, window, sent, accepted, expired, rejected}
+use Rattle.lapd_card_machine.specs.Event.{Event}
+use Rattle.lapd_card_machine.specs.Isolation.{events_at, answers_at, answer_in}
+use Rattle.lapd_card_machine.specs.Laws.{HasLink, IsNotRefusedForPool}
+use Rattle.lapd_card_machine.specs.Numbered.{LinkName, history, received_by, AreNumbered, frames_of, deliveries_of}
+use Rattle.lapd_link_machine.specs.Numbered.{Numbered}
+use Rattle.lapd_card_machine.specs.Pulled.{octets_pulled, frames_begun, GoesOn}
+use Rattle.lapd_card_machine.specs.Run.{moments, after_all}
+use Rattle.lapd_card_machine.specs.Stored.{stored, limit}
+use Rattle.lapd_line_machine.specs.declared.config.Config.{Config}
+
+-- The octets stored at the end are within the limit.
+abbrev pub IsWithinLimit : Card → List Event → Type 0
+IsWithinLimit m events = stored (after_all m events) ≤ limit m.config
+
+-- The frames sent, and those that may still be sent, rise by at most two for each frame that is recognised, by one for each
+-- request that is accepted, by k + 1 for each expiry of a running timer, and by k for each REJ with a valid N(R).
+abbrev pub IsAmortised : Card → List Event → Type 0
+IsAmortised m events =
+    let ms = moments m events in
+    let end = after_all m events in
+    let k = window m.config in
+    sent ms + waiting end + 2 * frames_heard m ≤ waiting m + 2 * frames_heard end + accepted ms + (k + 1) * expired ms + k * rejected ms
+
+-- On a card as it begins, frames recognised, REJ and frames sent are linear in the octets received.
+abbrev pub IsLinear : Config → List Event → Type 0
+IsLinear c events =
+    let ms = moments (fresh c) events in
+    let octets = octets_received (after_all (fresh c) events) in
+    let k = window c in
+    (6 * frames_heard (after_all (fresh c) events) ≤ octets) × (7 * rejected ms ≤ octets)
+    × (21 * sent ms ≤ (7 + 3 * k) * octets + 21 * accepted ms + 21 * (k + 1) * expired ms)
+
+-- On a card as it begins, what a line answers but for a full pool is what it would answer on a card of its own, to the
+-- events at it that did not find the pool full.
+abbrev pub IsIsolated : Config → List Event → Type 0
+IsIsolated c events =
+    (number : ℕ) → number < c.lines →
+    let ms = moments (fresh c) events in
+    answers_at number ms ≡ map answer_in (moments (fresh c) (events_at number ms))
+
+-- Where there is a slot for each place of each queue, no request is refused because the pool is full.
+abbrev pub IsNeverFull : Config → List Event → Type 0
+IsNeverFull c events = c.lines * (2 * c.terminals * c.queue + c.unit_queue) ≤ c.slots → All IsNotRefusedForPool (moments (fresh c) events)
+
+-- What each link has delivered since its latest establishment is numbered: the next delivery is the contents of the first
+-- eligible frame that has the next number, modulo 128, and each is reported in the moment of its frame. V(R) counts them.
+pub record IsNumberedAt (m : Card) (events : List Event) (name : LinkName) : Type 0 where
+  pub numbered : let h = history name m (moments m events) in Numbered h.first (frames_of h.shares) (deliveries_of h.shares)
+  pub at_once : let h = history name m (moments m events) in AreNumbered h.first h.shares
+  pub counted : let h = history name m (moments m events) in received_by name (after_all m events) ≡ h.first + length (deliveries_of h.shares)
+
+abbrev pub IsNumbered : Card → List Event → Type 0
+IsNumbered m events = (name : LinkName) → HasLink m name → IsNumberedAt m events name
+
+-- From a card as it begins they are numbered from 0 on.
+abbrev pub IsNumberedFromZero : Config → List Event → Type 0
+IsNumberedFromZero c events = (name : LinkName) → HasLink (fresh c) name → (history name (fresh c) (moments (fresh c) events)).first ≡ 0
+
+-- The octets pulled of each line go on with its text, whose frames are those that pulls began, in order.
+abbrev pub IsTextual : Card → List Event → Type 0
+IsTextual m events =
+    (number : ℕ) → number < m.config.lines →
+    let ms = moments m events in
+    GoesOn (line_at number m) (line_at number (after_all m events)) (octets_pulled number ms) (frames_begun number ms)

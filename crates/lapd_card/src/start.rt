@@ -1,0 +1,50 @@
+//! How a card begins.
+
+ghost use Rattle.std.specs.Prelude.{◌≡◌, IfOk, IfSome, IfNone, Err, IsOkUnless};
+ghost use Rattle.lapd_card_machine.specs.Card as machine;
+ghost use Rattle.lapd_card.specs.declared.fault.CardFault.TheVariants.{OutOfMemory};
+ghost use Rattle.lapd_card.specs.Start.{start_fault, is_too_small};
+ghost use Rattle.lapd_card.specs.Stands.{Stands};
+
+use crate::card::Card;
+use crate::fault::CardFault;
+use crate::lines::Lines;
+use lapd_line::Config;
+use lapd_store::Shelf;
+use std::alloc::Global;
+
+impl<S: Shelf> Card<S> {
+    /// A card with these sizes and limits, over a shelf on which nothing lies. No TEI is on any line.
+    ///
+    /// # Errors
+    ///
+    /// [`CardFault::BadConfig`] names the first field that is out of range. Else [`CardFault::ShelfTooSmall`] where the
+    /// shelf has fewer slots than `slots`, or they are narrower than `n201`, or any is in use. Else
+    /// [`CardFault::OutOfMemory`] where memory is refused. The shelf is dropped then.
+    pub fn start(alloc: Global, config: Config, shelf: S) -> Result<Card<S>, CardFault>
+        ensures fault { IfSome (start_fault config (S.store shelf)) (λ fault. result ≡ Err fault) }
+        ensures otherwise { IfNone (start_fault config (S.store shelf)) (IsOkUnless result OutOfMemory) }
+        ensures config { IfOk result (λ card. card.config ≡ config) }
+        ensures shelf { IfOk result (λ card. card.shelf ≡ shelf) }
+        ensures fresh { IfOk result (λ card. Stands S.store card (machine.fresh config)) }
+    {
+        if let Some(field) = config.fault() {
+            return Err(CardFault::BadConfig(field));
+        }
+        if is_too_small(&config, &shelf) {
+            return Err(CardFault::ShelfTooSmall);
+        }
+        let lines = Lines::start(alloc, &config)?;
+        Ok(Card {
+            config,
+            lines,
+            shelf,
+        })
+    }
+}
+
+fn is_too_small<S: Shelf>(config: &Config, shelf: &S) -> bool
+    ensures { result ≡ is_too_small config.now (S.store shelf.now) }
+{
+    shelf.slots() < u32::from(config.slots) || shelf.width() < config.n201 || shelf.used() > 0
+}

@@ -1,0 +1,33 @@
+//! How many octets a card stores, and how many it may.
+
+ghost use Rattle.std.specs.Prelude.{◌≡◌};
+ghost use Rattle.lapd_card_machine.specs.Card as machine;
+ghost use Rattle.lapd_card_machine.specs.Stored.{stored, limit};
+ghost use Rattle.lapd_line_machine.specs.Sound.{IsInRange};
+ghost use Rattle.lapd_card.specs.Stands.{Stands};
+
+use crate::card::Card;
+use lapd_line::Config;
+use lapd_store::Shelf;
+
+/// The most octets that a card of this configuration stores. The configuration is in range ([`Config::fault`] is None). It
+/// is for each line a frame that is received, one that is sent, and all control frames, messages and assignments that may
+/// wait; and for each slot, N201.
+pub fn limit(config: &Config) -> u32
+    requires { IsInRange config.now }
+    ensures { result ≡ limit config.now }
+{
+    let control = 8 * u32::from(config.control) * u32::from(config.terminals);
+    let line = 2 * u32::from(config.n201) + 10 + control + 32 + 12;
+    u32::from(config.lines) * line + u32::from(config.slots) * u32::from(config.n201)
+}
+
+impl<S: Shelf> Card<S> {
+    /// How many octets the card stores now: of frames that are received and sent, of control frames and messages that wait,
+    /// of assignments that are remembered, and of contents in slots. They are never more than [`limit`] says.
+    pub fn stored(&self) -> u32
+        ensures { (m : machine.Card) → Stands S.store self.now m → result ≡ stored m }
+    {
+        (self.lines.held() + self.shelf.octets()) as u32
+    }
+}

@@ -1,0 +1,171 @@
+-- Requests, and why they are refused.
+use Rattle.std.proofs.Common.{◌≡◌, ℕ, ◌+◌, ◌||◌, Bool, true, false, not, ◌≤◌, nat_lt, List, [], ◌∷◌, length, Option, Some, None, refl, sym, ap, subst, ◌∙◌, cond, arith}
+use Rattle.std.specs.Option.{option_map_or}
+use Rattle.std.proofs.lemmas.Bool.{ltb-false}
+use Rattle.std.proofs.lemmas.Option.{none-some}
+use Rattle.std.specs.List.{prefix_len, list_any}
+use Rattle.lapd_frame.specs.declared.refusals.Refusal.{Refusal}
+use Rattle.lapd_frame.specs.declared.refusals.Refusal.TheVariants.{BadTei, NoLink, WrongState, TooLong, QueueFull, PoolFull}
+use Rattle.lapd_frame.specs.declared.services.Service.{Service}
+use Rattle.lapd_link_machine.specs.Events as link
+use Rattle.lapd_link_machine.specs.Link as machine
+use Rattle.lapd_link_machine.specs.Machine as answers
+use Rattle.lapd_link_machine.specs.Requests.{serves, refusal_for_room}
+use Rattle.lapd_link_machine.specs.Requests as links
+use Rattle.lapd_link_machine.specs.declared.terms.Terms.{Terms}
+use Rattle.lapd_tei.specs.Events as teis
+use Rattle.lapd_tei.specs.Table.{Places, has, is_on, place_of}
+use Rattle.lapd_tei.specs.Sound.{IsAt}
+use Rattle.lapd_tei.proofs.Tables.{is_on-at, place_of-is}
+use Rattle.lapd_line_machine.specs.declared.config.Config.{Config}
+use Rattle.lapd_line_machine.specs.Line.{Line, has_tei, link_of, link_in, place_in, terms}
+use Rattle.lapd_line_machine.specs.Refusal.{refusal}
+use Rattle.lapd_line_machine.specs.Request.{Establish, Release, Data, SetBusy, ClearBusy, Assign, Remove, Check}
+use Rattle.lapd_store.specs.Ownership.{Owned}
+use Rattle.lapd_store.specs.Store.{Store}
+use Rattle.lapd_link.specs.declared.link.Link.{Link}
+use Rattle.lapd_link.specs.declared.outcome.Answer.{Answer}
+use Rattle.lapd_link.specs.Outcome.{told_with}
+use Rattle.lapd_link_machine.specs.Steps.{begun}
+use Rattle.lapd_line_machine.specs.Line.{link_number, with_link}
+use Rattle.lapd_line_machine.specs.Outcome.{at_link, of_aim, told_of_link}
+use Rattle.lapd_line_machine.specs.Requested.{at_requested}
+use Rattle.lapd_line.specs.declared.entities.Entities.{Entities}
+use Rattle.lapd_line.specs.declared.reports.Outcome.{Outcome}
+use Rattle.lapd_line.specs.Entities as entities
+use Rattle.lapd_line.specs.Entities.{Stands, Standing, Serves}
+use Rattle.lapd_line.specs.Links as all
+use Rattle.lapd_line.specs.Links.{HasTerms, Refuses, machine_at}
+use Rattle.lapd_line.specs.Reports.{told_in}
+use Rattle.lapd_line.proofs.EntitySteps.{beside_links, links_part, named, numbered, at_link_serves}
+use Rattle.lapd_line.specs.Asks.{link_refusal, management_refusal}
+
+-- a test that refuses, and its opposite
+turned : {X : Type 0} (b : Bool) (x y : X) → cond (not b) x y ≡ cond b y x
+turned true x y = refl
+turned false x y = refl
+
+module _ (c : Config) (full : Bool) (service : Service) (tei : ℕ) (l : Line) where
+  -- the rows of a request of a link are what is asked of the TEI and of the link
+  with_rest : (x y : Option Refusal) → x ≡ y → cond (nat_lt 126 tei) (Some BadTei) (cond (not (has_tei tei l)) (Some NoLink) x) ≡ cond (nat_lt 126 tei) (Some BadTei) (cond (not (has_tei tei l)) (Some NoLink) y)
+  with_rest x y = ap (λ r. cond (nat_lt 126 tei) (Some BadTei) (cond (not (has_tei tei l)) (Some NoLink) r))
+
+  pub establish_rows : refusal c full (Establish service tei) l ≡ link_refusal c full service tei link.establish l
+  establish_rows = with_rest _ _ (turned (serves (link_of service tei l).state link.establish) (Some WrongState) None)
+
+  pub release_rows : refusal c full (Release service tei) l ≡ link_refusal c full service tei link.release l
+  release_rows = with_rest _ _ (turned (serves (link_of service tei l).state link.release) (Some WrongState) None)
+
+  pub set_busy_rows : refusal c full (SetBusy service tei) l ≡ link_refusal c full service tei link.set_busy l
+  set_busy_rows = with_rest _ _ (turned (serves (link_of service tei l).state link.set_busy) (Some WrongState) None)
+
+  pub clear_busy_rows : refusal c full (ClearBusy service tei) l ≡ link_refusal c full service tei link.clear_busy l
+  clear_busy_rows = with_rest _ _ (turned (serves (link_of service tei l).state link.clear_busy) (Some WrongState) None)
+
+  pub data_rows : (contents : List ℕ) → refusal c full (Data service tei contents) l ≡ link_refusal c full service tei (link.transfer contents) l
+  data_rows contents = with_rest _ _ (turned (serves (link_of service tei l).state (link.transfer contents)) (Some WrongState) _)
+
+-- and those of a request of management
+pub assign_rows : (c : Config) (full : Bool) (tei : ℕ) (l : Line) → refusal c full (Assign tei) l ≡ management_refusal tei (teis.assign tei) l
+unfolding teis.refusal
+assign_rows c full tei l = refl
+
+pub remove_rows : (c : Config) (full : Bool) (tei : ℕ) (l : Line) → refusal c full (Remove tei) l ≡ management_refusal tei (teis.remove tei) l
+unfolding teis.refusal
+remove_rows c full tei l = refl
+
+pub check_rows : (c : Config) (full : Bool) (tei : ℕ) (l : Line) → refusal c full (Check tei) l ≡ management_refusal tei (teis.check tei) l
+unfolding teis.refusal
+check_rows c full tei l = refl
+
+-- a granted request does the same, whether the pool is full or not
+pub granted_same : (t : Terms) (m : machine.Link) (full : Bool) (request : link.Request) → links.refusal t m full request ≡ None → links.refusal t m false request ≡ None
+granted_same t m full request = go (serves m.state request) request
+  where
+    room : (x y : Bool) (f : Bool) → cond x (Some TooLong) (cond y (Some QueueFull) (cond f (Some PoolFull) None)) ≡ None → cond x (Some TooLong) (cond y (Some QueueFull) None) ≡ None
+    room true y f e = e
+    room false true f e = e
+    room false false f e = refl
+
+    go : (b : Bool) (r : link.Request) → cond b (refusal_for_room t m full r) (Some WrongState) ≡ None → cond b (refusal_for_room t m false r) (Some WrongState) ≡ None
+    go true link.establish e = e
+    go true link.release e = e
+    go true (link.transfer octets) e = room (nat_lt t.n201 (length octets)) (links.is_queue_full t m) full e
+    go true link.set_busy e = e
+    go true link.clear_busy e = e
+    go false r e = e
+
+-- a TEI without a place is not on the line
+none_any : {X : Type 0} (p : X → Bool) (xs : List X) → length xs ≤ prefix_len (λ x. not (p x)) xs → list_any p xs ≡ false
+none_any p [] e = refl
+none_any p (x ∷ xs) e = go (p x) (none_any p xs) e
+  where
+    go : (b : Bool) → (length xs ≤ prefix_len (λ y. not (p y)) xs → list_any p xs ≡ false)
+        → length (x ∷ xs) ≤ cond (not b) (1 + prefix_len (λ y. not (p y)) xs) 0 → b || list_any p xs ≡ false
+    go true rest e = absurd (omega (arith, e))
+    go false rest e = rest (omega (arith, e))
+
+pub off_line : (places : Places) (tei : ℕ) → place_of tei places ≡ None → is_on tei places ≡ false
+off_line places tei = go (nat_lt (prefix_len (λ x. not (has tei x)) places) (length places)) refl
+  where
+    go : (b : Bool) → nat_lt (prefix_len (λ x. not (has tei x)) places) (length places) ≡ b → cond b (Some (prefix_len (λ x. not (has tei x)) places)) None ≡ None → is_on tei places ≡ false
+    go true e h = absurd (none-some _ (sym h))
+    go false e h = none_any (has tei) places (ltb-false _ _ e)
+
+-- where the link of a request is, the link refuses, or not
+module _ (e : Entities) (s : Store) (others : List Owned) (m : Line) (st : Stands e s others m) (service : Service) (tei : ℕ) (full : Bool) (request : link.Request) where
+  pub no_link : nat_lt 126 tei ≡ false → place_of tei e.teis.places ≡ None → link_refusal e.config full service tei request m ≡ Some NoLink
+  no_link low none =
+      ap (λ b. cond b (Some BadTei) (cond (not (has_tei tei m)) (Some NoLink) (links.refusal (terms e.config service tei) (link_of service tei m) full request))) low
+      ∙ ap (λ b. cond (not b) (Some NoLink) (links.refusal (terms e.config service tei) (link_of service tei m) full request)) (ap (λ t. is_on tei t.places) st.management ∙ off_line e.teis.places tei none)
+
+  pub asked : (place number : ℕ) (why : Option Refusal) → nat_lt 126 tei ≡ false → place_of tei e.teis.places ≡ Some place → (place ≤ 8 → number ≡ link_number place service)
+      → Refuses number full request e.links s why → link_refusal e.config full service tei request m ≡ why
+  asked place number why low here exact refuses =
+      let at = (place_of-is e.teis.places tei place here).1 in
+      let n = named e s others m service tei place st at in
+      let same : number ≡ link_number place service = numbered e s tei place (others, m, st) at exact in
+      let on : has_tei tei m ≡ true = ap (λ t. is_on tei t.places) st.management ∙ is_on-at e.teis.places place tei at in
+      let this : link_of service tei m ≡ machine_at m.links (link_number place service) = ap (λ o. option_map_or (link_in m service) o machine.fresh) (ap (λ t. place_of tei t.places) st.management ∙ here) in
+      ap (λ b. cond b (Some BadTei) (cond (not (has_tei tei m)) (Some NoLink) (links.refusal (terms e.config service tei) (link_of service tei m) full request))) low
+      ∙ ap (λ b. cond (not b) (Some NoLink) (links.refusal (terms e.config service tei) (link_of service tei m) full request)) on
+      ∙ ap (λ x. links.refusal (terms e.config service tei) x full request) (this ∙ ap (machine_at m.links) (sym same))
+      ∙ refuses e.config (terms e.config service tei) (beside_links e m others) m.links (subst (λ x. HasTerms e.links x (terms e.config service tei)) (sym same) n.has_terms) (links_part e s others m st)
+
+-- what is granted is the same, whether the pool is full or not
+same_step : (t : Terms) (l : machine.Link) (full : Bool) (request : link.Request) → links.refusal t l full request ≡ None → answers.course t (link.requested request full) l ≡ answers.course t (link.requested request false) l
+same_step t l full request granted =
+    ap (λ o. elim o [ None ↦ links.granted t request (begun l) | Some _ ↦ begun l ]) (granted ∙ sym (granted_same t l full request granted))
+
+pub asked_serves : (e : Entities) (s t : Store) (new : List Link) (service : Service) (tei place number : ℕ) (full : Bool) (request : link.Request) (answer : Answer) (outcome : Outcome)
+    → Standing e s → place_of tei e.teis.places ≡ Some place → (place ≤ 8 → number ≡ link_number place service)
+    → Refuses number full request e.links s None
+    → all.Serves number (link.requested request full) [] e.links s new t answer
+    → told_in [] outcome ≡ told_of_link (told_with [] answer)
+    → Serves (λ m. at_requested service tei request (place_in m tei)) [] e s (record e { links = new }) t outcome
+asked_serves e s t new service tei place number full request answer outcome standing here exact refuses served told =
+    let at = (place_of-is e.teis.places tei place here).1 in
+    let same : number ≡ link_number place service = numbered e s tei place standing at exact in
+    let whole = at_link_serves e s t new service tei place (link.requested request full) [] [] answer outcome at
+    (subst (λ x. all.Serves x (link.requested request full) [] e.links s new t answer) same served) told in
+    record {
+      config = refl;
+      limits = whole.limits;
+      stands = λ others m st. subst (λ o. entities.Stands (record e { links = new }) t others o.line) (one others m st at same) (whole.stands others m st);
+      told = λ others m st. whole.told others m st ∙ ap (λ o. o.told) (one others m st at same);
+    }
+  where
+    one : (others : List Owned) (m : Line) → Stands e s others m → IsAt e.teis.places place tei → number ≡ link_number place service
+        → of_aim e.config (at_link service tei place (link.requested request full)) m ≡ of_aim e.config (at_requested service tei request (place_in m tei)) m
+    one others m st at same =
+        let n = named e s others m service tei place st at in
+        let granted = refuses e.config (terms e.config service tei) (beside_links e m others) m.links (subst (λ x. HasTerms e.links x (terms e.config service tei)) (sym same) n.has_terms) (links_part e s others m st) in
+        let l = link_in m service place in
+        let course = same_step (terms e.config service tei) l full request (ap (λ x. links.refusal (terms e.config service tei) (machine_at m.links x) full request) (sym same) ∙ granted) in
+        ap (λ k. record { line = with_link (link_number place service) k.link m; told = told_of_link (answers.told_of (terms e.config service tei) l k) }) course
+        ∙ ap (λ o. of_aim e.config (at_requested service tei request o) m) (sym (ap (λ x. place_of tei x.places) st.management ∙ here))
+
+-- management is asked of a TEI of a terminal
+pub managed : (e : Entities) (s : Store) (others : List Owned) (m : Line) (tei : ℕ) (what : teis.Event) (why : Option Refusal) → Stands e s others m → nat_lt 126 tei ≡ false
+    → teis.refusal what e.teis ≡ why → management_refusal tei what m ≡ why
+managed e s others m tei what why st low is = ap (λ b. cond b (Some BadTei) (teis.refusal what m.management)) low ∙ ap (teis.refusal what) st.management ∙ is

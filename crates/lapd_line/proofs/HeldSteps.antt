@@ -1,0 +1,109 @@
+-- The octets that a line holds: their sums, and that there are few.
+use Rattle.std.proofs.Common.{◌≡◌, ℕ, ◌+◌, ◌*◌, ◌/◌, ◌<◌, ◌≤◌, Bool, true, false, List, [], ◌∷◌, length, reverse, nat_lt, cond, Option, Some, None, refl, sym, ap, zero, suc, ◌∙◌, arith}
+use Rattle.std.proofs.lemmas.Bool.{ltb-false}
+use Rattle.std.proofs.lemmas.List.Elements.{All-head, All-tail}
+use Rattle.std.proofs.lemmas.List.Sums.{sum_by-cons}
+use Rattle.std.proofs.lemmas.Option.{same_Some}
+use Rattle.std.specs.List.{All, sum_by, range_with_len}
+use Rattle.std.specs.Option.{option_map_or, unwrap_or}
+use Rattle.lapd_bits.specs.Bits.{bits}
+use Rattle.lapd_bits.specs.Deframer.{octets_held, kept_count, open_gap}
+use Rattle.lapd_bits.specs.Stuffing.{unstuffed}
+use Rattle.lapd_bits.specs.Stream.{room_for}
+use Rattle.lapd_frame.specs.declared.addresses.Side.TheVariants.{Network}
+use Rattle.lapd_frame.specs.Grammar.{spelling}
+use Rattle.lapd_store.specs.Ownership.{Owned}
+use Rattle.lapd_store.specs.Store.{Store}
+use Rattle.lapd_link.specs.declared.link.Link.{Link}
+use Rattle.lapd_link.specs.Stands.{Fits, terms_of}
+use Rattle.lapd_link_machine.specs.declared.terms.Terms.{Terms}
+use Rattle.lapd_link_machine.specs.Link as machine
+use Rattle.lapd_link_machine.specs.Link.{frame_of}
+use Rattle.lapd_link_machine.specs.Rises.{held}
+use Rattle.lapd_link_machine.specs.Sound.{IsWaitingFrame}
+use Rattle.lapd_line_machine.specs.declared.config.Config.{Config}
+use Rattle.lapd_line_machine.specs.Line.{Line, link_count, service_at, place_at, tei_at, terms, link_at}
+use Rattle.lapd_line_machine.specs.Sound.{IsSoundAt}
+use Rattle.lapd_line_machine.specs.Stored.{held_by_link}
+use Rattle.lapd_line_machine.proofs.Ranges.{ranges_of}
+use Rattle.lapd_line.specs.declared.entities.Entities.{Entities}
+use Rattle.lapd_line.specs.Entities.{Stands, Standing}
+use Rattle.lapd_line.proofs.EntitySteps.{beside_links, links_part}
+use Rattle.lapd_line.specs.Links.{HasTerms, LinksStand, machine_at}
+
+-- a sum of so many, each of them small
+sum_few : {X : Type 0} (f : X → ℕ) (P : X → Type 0) (most : ℕ) → ((x : X) → P x → f x ≤ most) → (xs : List X) → All P xs → sum_by f xs ≤ most * length xs
+sum_few f P most h [] all = omega arith
+sum_few f P most h (x ∷ xs) all =
+    let head = h x (All-head P x xs all) in
+    let rest = sum_few f P most h xs (All-tail P x xs all) in
+    omega (arith, head, rest, sum_by-cons f x xs)
+
+-- a link holds at most 16 control frames, of at most four octets each
+pub link_few : (x : Link) (m : machine.Link) → Fits x m → held (terms_of x) m ≤ 64
+link_few x m fits =
+    let most = sum_few (λ f. length (spelling Network (frame_of (terms_of x) f))) (IsWaitingFrame (terms_of x)) 4 (λ f w. w.octets) m.waiting fits.sound.frames in
+    omega (arith, most, fits.sound.ring, fits.range.control_high)
+
+-- the sum over one more
+pub sum_next : (f : ℕ → ℕ) (a n : ℕ) → sum_by f (range_with_len a (n + 1)) ≡ sum_by f (range_with_len a n) + f (a + n)
+sum_next f a zero =
+    let same : f (a + 0) ≡ f a = ap f (omega arith) in
+    omega (arith, same, sum_by-cons f a [])
+sum_next f a (suc n) =
+    let rest = sum_next f (a + 1) n in
+    let same : f (a + 1 + n) ≡ f (a + suc n) = ap f (omega arith) in
+    let next : suc n + 1 ≡ suc (n + 1) = omega arith in
+    let first : sum_by f (range_with_len a (suc n + 1)) ≡ f a + sum_by f (range_with_len (a + 1) (n + 1)) =
+    ap (λ k. sum_by f (range_with_len a k)) next ∙ sum_by-cons f a (range_with_len (a + 1) (n + 1)) in
+    omega (arith, rest, same, first, sum_by-cons f a (range_with_len (a + 1) n))
+
+-- the link at a place has the parameters of its TEI, or begins
+held_at : (c : Config) (number : ℕ) (ts : Terms) (l : machine.Link) (o : Option ℕ) → ((t : ℕ) → o ≡ Some t → ts ≡ terms c (service_at number) t) → IsSoundAt c number l o
+    → held ts l ≡ held (terms c (service_at number) (unwrap_or o 0)) l
+held_at c number ts l None same is = ap (held ts) is ∙ sym (ap (held (terms c (service_at number) 0)) is)
+held_at c number ts l (Some t) same is = ap (λ u. held u l) (same t refl)
+
+pub held_there : (e : Entities) (store : Store) (others : List Owned) (m : Line) (number : ℕ) (ts : Terms) → Stands e store others m → number < link_count e.config → HasTerms e.links number ts
+    → held ts (machine_at m.links number) ≡ held_by_link e.config m number
+held_there e store others m number ts st within has =
+    held_at e.config number ts (link_at number m) (tei_at (place_at number) m) (λ t at. same_Some _ _ (sym has ∙ st.terms number t within at)) (st.sound.links number within)
+
+terms_there : (links : List Link) (number : ℕ) → number < length links → (ts : Terms) × HasTerms links number ts
+terms_there [] number within = absurd (omega (arith, within))
+terms_there (x ∷ links) zero within = (terms_of x, refl)
+terms_there (x ∷ links) (suc n) within = terms_there links n (omega (arith, within))
+
+-- so what is held for the link at a place is what the machine says
+pub held_place : (e : Entities) (store : Store) (others : List Owned) (m : Line) (number result : ℕ) → Stands e store others m → number < link_count e.config
+    → ((c : Config) (ts : Terms) (store : Store) (others : List Owned) (ms : List machine.Link) → HasTerms e.links number ts → LinksStand c e.links store others ms → result ≡ held ts (machine_at ms number))
+    → result ≡ held_by_link e.config m number
+held_place e store others m number result st within h =
+    let (ts, has) = terms_there e.links number (omega (arith, st.count, within)) in
+    h e.config ts store (beside_links e m others) m.links has (links_part e store others m st) ∙ held_there e store others m number ts st within has
+
+pub held_more : (f : ℕ → ℕ) (number octets result : ℕ) → octets ≡ sum_by f (range_with_len 0 number) → result ≡ f number → octets + result ≡ sum_by f (range_with_len 0 (number + 1))
+held_more f number octets result so_far here =
+    let same : f (0 + number) ≡ f number = ap f (omega arith) in
+    omega (arith, so_far, here, same, sum_next f 0 number)
+
+pub four : (x y z r s m k : ℕ) → x ≡ r → y ≡ s → z ≡ m + k → x + y + z ≡ r + s + m + k
+four x y z r s m k a b d = omega (arith, a, b, d)
+
+-- there are at most 16 links
+pub few_links : (e : Entities) → (store : Store) × Standing e store → link_count e.config ≤ 16
+few_links e (store, (others, m, st)) = omega (arith, (ranges_of e.config st.range).terminals.most)
+
+-- a frame that is received is kept as far as there is room
+kept_few : (room n : ℕ) (b : Bool) → nat_lt room n ≡ b → cond b 4 n ≤ room + 4
+kept_few room n true e = omega arith
+kept_few room n false e = omega (arith, ltb-false room n e)
+
+gap_few : {G : Type 0} (room : ℕ) (size : G → ℕ) (o : Option G) → option_map_or (λ g. kept_count room (size g)) o 0 ≤ room + 4
+gap_few room size None = omega arith
+gap_few room size (Some g) = kept_few room (size g) (nat_lt room (size g)) refl
+
+pub received_few : (n201 : ℕ) (octets : List ℕ) → octets_held n201 octets ≤ n201 + 10
+received_few n201 octets =
+    let few : octets_held n201 octets ≤ room_for n201 + 4 = gap_few (room_for n201) (λ g. length (unstuffed (reverse g)) / 8) (open_gap (reverse (bits octets))) in
+    omega (arith, few)

@@ -1,0 +1,15 @@
+pub mod LinkSteps
+pub mod EntitySteps
+pub mod AimSteps
+pub mod ChangeSteps
+pub mod LineSteps
+pub mod AskSteps
+pub mod RequestSteps
+pub mod StartSteps
+pub mod HeldSteps
+pub mod UnitSteps
+pub mod TakeSteps
+pub mod TakeStepsUnits
+pub mod TakeStepsLinks
+pub mod Stood
+pub mod PullSteps

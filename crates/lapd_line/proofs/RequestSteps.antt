@@ -1,0 +1,86 @@
+-- A request of a line: what its arms say as one refusal, and what the line makes of it.
+use Rattle.std.proofs.Common.{◌≡◌, Bool, true, false, List, [], ◌∷◌, ◌++◌, Option, Some, None, Result, IfOk, IfErr, OnOk, refl, sym, ap, subst, ◌∙◌, cond}
+use Rattle.lapd_frame.specs.declared.refusals.Refusal.{Refusal}
+use Rattle.lapd_store.specs.Ownership.{Owned}
+use Rattle.lapd_store.specs.Store.{Store}
+use Rattle.lapd_line_machine.specs.declared.config.Config.{Config}
+use Rattle.lapd_line_machine.specs.Answer as event
+use Rattle.lapd_line_machine.specs.Answer.{told}
+use Rattle.lapd_line_machine.specs.Line as machine
+use Rattle.lapd_line_machine.specs.Machine.{after, answer, unless_refused, unless_refused_told}
+use Rattle.lapd_line_machine.specs.Outcome.{of_aim}
+use Rattle.lapd_line_machine.specs.Refusal.{Row, first_that_holds, bad_tei, bad_tei_or_group, no_link, no_link_nor_group, wrong_state, too_long, queue_full, unit_queue_full, pool_full, refusal}
+use Rattle.lapd_line_machine.specs.Request.{Request, Establish, Release, Data, Unit, Assign, Remove, Check, SetBusy, ClearBusy}
+use Rattle.lapd_line_machine.specs.Requested.{aim_of_request}
+use Rattle.lapd_link_machine.specs.Events as link
+use Rattle.lapd_line.specs.declared.entities.Entities.{Entities}
+use Rattle.lapd_line.specs.declared.line.Line.{Line}
+use Rattle.lapd_line.specs.declared.reports.Outcome.{Outcome}
+use Rattle.lapd_line.specs.declared.reports.Report.{Report}
+use Rattle.lapd_line.specs.Entities as entities
+use Rattle.lapd_line.specs.Entities.{Serves}
+use Rattle.lapd_line.specs.Reports.{report_told, told_in}
+use Rattle.lapd_line.specs.Stands.{Stands, Leads, config_of}
+use Rattle.lapd_line.proofs.LinkSteps.{if_err, on_ok}
+use Rattle.lapd_line.proofs.LineSteps.{with_entities}
+
+-- a request that is this one is refused, or granted, as this one
+module _ {X : Type 0} (e : Entities) (s : Store) (full : Bool) {r this : Request} (is : r ≡ this) {f : machine.Line → Option Refusal}
+    (same : (m : machine.Line) → refusal e.config full this m ≡ f m) (result : Result X Refusal) where
+  pub refused_as : IfErr result (λ why. (others : List Owned) (m : machine.Line) → entities.Stands e s others m → f m ≡ Some why)
+      → IfErr result (λ why. (others : List Owned) (m : machine.Line) → entities.Stands e s others m → refusal e.config full r m ≡ Some why)
+  refused_as h = if_err result (λ why k. λ others m st. ap (λ x. refusal e.config full x m) is ∙ same m ∙ k others m st) h
+
+  pub granted_as : OnOk result ((others : List Owned) (m : machine.Line) → entities.Stands e s others m → f m ≡ None)
+      → OnOk result ((others : List Owned) (m : machine.Line) → entities.Stands e s others m → refusal e.config full r m ≡ None)
+  granted_as h = on_ok result (λ k. λ others m st. ap (λ x. refusal e.config full x m) is ∙ same m ∙ k others m st) h
+
+-- and what is done for this one is done for the request
+pub served_as : {r this : Request} (e : Entities) (s : Store) (new : Entities) (t : Store) (result : Result Outcome Refusal) → r ≡ this
+    → IfOk result (Serves (aim_of_request this) [] e s new t) → IfOk result (Serves (aim_of_request r) [] e s new t)
+served_as e s new t result is h = subst (λ x. IfOk result (Serves (aim_of_request x) [] e s new t)) (sym is) h
+
+-- where the pool is the last reason and no row holds, none holds with room
+last_row : (rows : List Row) (full : Bool) → first_that_holds (rows ++ pool_full full ∷ []) ≡ None → first_that_holds (rows ++ pool_full false ∷ []) ≡ None
+last_row [] full e = refl
+last_row (row ∷ rows) full e = go row.holds (last_row rows full) e
+  where
+    go : {x y : Option Refusal} (b : Bool) → (x ≡ None → y ≡ None) → cond b (Some row.why) x ≡ None → cond b (Some row.why) y ≡ None
+    go true f e = e
+    go false f e = f e
+
+-- what is granted, whether the pool is full or not, is granted with room
+pub with_room : (c : Config) (full : Bool) (r : Request) (l : machine.Line) → refusal c full r l ≡ None → refusal c false r l ≡ None
+with_room c full (Establish service tei) l e = e
+with_room c full (Release service tei) l e = e
+with_room c full (Data service tei contents) l e =
+    last_row (bad_tei tei ∷ no_link tei l ∷ wrong_state service tei (link.transfer contents) l ∷ too_long c contents ∷ queue_full c service tei l ∷ []) full e
+with_room c full (Unit service tei contents) l e = last_row (bad_tei_or_group tei ∷ no_link_nor_group tei l ∷ too_long c contents ∷ unit_queue_full c l ∷ []) full e
+with_room c full (Assign tei) l e = e
+with_room c full (Remove tei) l e = e
+with_room c full (Check tei) l e = e
+with_room c full (SetBusy service tei) l e = e
+with_room c full (ClearBusy service tei) l e = e
+
+-- the entities have served a request that is granted
+module _ (old : Line) (s : Store) (e : Entities) (t : Store) (full : Bool) (r : Request) (o : Outcome)
+    (granted : (others : List Owned) (m : machine.Line) → entities.Stands old.entities s others m → refusal (config_of old) full r m ≡ None)
+    (served : Serves (aim_of_request r) [] old.entities s e t o) where
+  pub requested : Leads (event.request r) old s (record old { entities = e }) t
+  unfolding after
+  requested = record {
+    config = served.config;
+    limits = served.limits;
+    stands = λ others m st.
+        let c = config_of old in
+        subst (λ why. Stands (record old { entities = e }) t others (of_aim c (unless_refused why (aim_of_request r m)) m).line) (sym (with_room c full r m (granted others m st.entities)))
+        (with_entities old t others m e (aim_of_request r m) s st served.config (served.stands others m st.entities));
+  }
+
+  pub request_told : (report : Report) → report_told report ≡ told_in [] o → (others : List Owned) (m : machine.Line) → Stands old s others m
+      → told (report_told report) ≡ answer (config_of old) (event.request r) m
+  unfolding answer
+  request_told report is others m st =
+      let c = config_of old in
+      ap told (is ∙ served.told others m st.entities)
+      ∙ ap (λ why. unless_refused_told why (of_aim c (unless_refused why (aim_of_request r m)) m)) (sym (with_room c full r m (granted others m st.entities)))

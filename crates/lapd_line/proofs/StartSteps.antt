@@ -1,0 +1,72 @@
+-- A line begins: what its parts are, and that they stand for an empty past.
+use Rattle.std.proofs.Common.{◌≡◌, ℕ, ◌≤◌, List, [], ◌∷◌, ◌++◌, length, replicate, Some, None, refl, sym, ap, subst, ◌∙◌, arith}
+use Rattle.std.proofs.lemmas.List.{get_or-replicate}
+use Rattle.std.proofs.lemmas.List.Elements.{All-nil, All-cons, All-head, All-tail}
+use Rattle.std.specs.List.{All, zip}
+use Rattle.lapd_store.specs.Ownership.{Owned, Holds, pairs_of}
+use Rattle.lapd_store.specs.Store.{Store, empty_store}
+use Rattle.lapd_store.proofs.Ownership.{Holds-empty}
+use Rattle.lapd_tei.specs.Machine.{Management, empty}
+use Rattle.lapd_link.specs.declared.link.Link.{Link}
+use Rattle.lapd_link.specs.Stands as link
+use Rattle.lapd_link.specs.Stands.{slots_of, terms_of}
+use Rattle.lapd_link_machine.specs.Link.{fresh, queue_of}
+use Rattle.lapd_line_machine.specs.declared.config.Config.{Config}
+use Rattle.lapd_line_machine.specs.Line.{place_at, fresh_line}
+use Rattle.lapd_line_machine.specs.Sound.{IsInRange}
+use Rattle.lapd_line_machine.proofs.LineSound.{fresh_sound}
+use Rattle.lapd_line_machine.proofs.Numbers.{place_within}
+use Rattle.lapd_line_machine.proofs.Ranges.{ranges_of}
+use Rattle.lapd_line.specs.Entities.{Stands}
+use Rattle.lapd_line.specs.Links.{LinkFits, links_pairs}
+use Rattle.lapd_line.specs.Starts.{IsBegun, AreBegun}
+use Rattle.lapd_line.specs.Units.{UnitRing, AreFor, empty_ring, unit_pairs}
+
+-- a link that was just started
+pub begun : (c : Config) (x : Link) → IsInRange c
+    → ((store : Store) (others : List Owned) → 8 ≤ store.width → Holds store others → link.Stands x store others fresh)
+    → (terms_of x).queue ≡ c.queue → (terms_of x).control ≡ c.control → IsBegun c x
+begun c x ranged h queue control =
+    let st = h (empty_store 0 8) [] (omega arith) (Holds-empty 0 8) in
+    record { fits = st.fits; lengths = st.kept.lengths; narrow = omega (arith, st.wide, (ranges_of c ranged).n201.least); queue = queue; control = control }
+
+links_fit : (c : Config) (links : List Link) → All (IsBegun c) links → All (LinkFits c) (zip links (replicate (length links) fresh))
+links_fit c [] h = All-nil (LinkFits c)
+links_fit c (x ∷ links) h =
+    All-cons (LinkFits c) (x, fresh) (zip links (replicate (length links) fresh)) (All-head (IsBegun c) x links h) (links_fit c links (All-tail (IsBegun c) x links h))
+
+-- no slots are owned
+no_slots : (slots : List ℕ) (messages : List (List ℕ)) → messages ≡ [] → length slots ≡ length messages → pairs_of slots messages ≡ []
+no_slots [] messages none same = refl
+no_slots (x ∷ slots) [] none same = cc
+no_slots (x ∷ slots) (m ∷ messages) none same = cc
+
+no_pairs : (c : Config) (links : List Link) → All (IsBegun c) links → links_pairs links (replicate (length links) fresh) ≡ []
+no_pairs c [] h = refl
+no_pairs c (x ∷ links) h =
+    ap (λ l. l ++ links_pairs links (replicate (length links) fresh)) (no_slots (slots_of x) (queue_of fresh) refl (All-head (IsBegun c) x links h).lengths)
+    ∙ no_pairs c links (All-tail (IsBegun c) x links h)
+
+absurd_none : {A : Type 0} {x : ℕ} → None ≡ Some x → A
+absurd_none h = cc
+
+-- the entities, of parts that were just started
+pub entities_fresh : (c : Config) (teis : Management) (links : List Link) (units : UnitRing) → IsInRange c → teis ≡ empty c.terminals → AreBegun c links → units ≡ empty_ring c.unit_queue
+    → (store : Store) (others : List Owned) → c.n201 ≤ store.width → Holds store others
+    → Stands (record { config = c; teis = teis; links = links; units = units; turn = 0 }) store others (fresh_line c)
+entities_fresh c teis links units ranged is_teis b is_units store others wide held = record {
+  range = ranged;
+  wide = wide;
+  sound = fresh_sound c ranged;
+  management = sym is_teis;
+  count = b.count;
+  links = subst (λ n. All (LinkFits c) (zip links (replicate n fresh))) b.count (links_fit c links b.begun);
+  terms = λ number tei within at.
+      let none = get_or-replicate c.terminals (place_at number) None None (place_within number c.terminals within) in
+      absurd_none (sym none ∙ at);
+  addressed = subst (λ u. AreFor u.waiting []) (sym is_units) tt;
+  capacity = ap (λ u. u.capacity) is_units;
+  turn = refl;
+  held = subst (λ ps. Holds store ((ps ++ unit_pairs units.waiting []) ++ others)) (sym (subst (λ n. links_pairs links (replicate n fresh) ≡ []) b.count (no_pairs c links b.begun)))
+      (subst (λ u. Holds store (unit_pairs u.waiting [] ++ others)) (sym is_units) held);
+}

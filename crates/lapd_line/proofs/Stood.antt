@@ -1,0 +1,110 @@
+-- What a line owns on the shelf: that it is held there, that the line may stand on another shelf that holds it, and how
+-- many slots and octets it is.
+use Rattle.std.proofs.Common.{◌≡◌, ℕ, ◌+◌, ◌≤◌, zero, suc, List, ◌++◌, length, take, get_or, refl, sym, ap, ◌∙◌, arith, length-append}
+use Rattle.std.proofs.lemmas.List.{length-map, take_all}
+use Rattle.std.proofs.lemmas.List.Folds.{fold-map}
+use Rattle.std.proofs.lemmas.List.Sums.{sum_by_more}
+use Rattle.std.specs.List.{sum_by, range_with_len}
+use Rattle.lapd_store.specs.Ownership.{Owned, Holds, owned_octets}
+use Rattle.lapd_store.specs.Store.{Store}
+use Rattle.lapd_store.proofs.Focus.{slots-machines, octets-machines}
+use Rattle.lapd_store.proofs.Ownership.{owned_octets-append}
+use Rattle.lapd_store.proofs.Queues.{length-pairs_of, owned_octets-pairs_of}
+use Rattle.lapd_link.specs.declared.link.Link.{Link}
+use Rattle.lapd_link.specs.Stands as link
+use Rattle.lapd_link_machine.specs.Link as machine
+use Rattle.lapd_link_machine.specs.Link.{queue_of}
+use Rattle.lapd_line_machine.specs.declared.config.Config.{Config}
+use Rattle.lapd_line_machine.specs.Line as machine_line
+use Rattle.lapd_line_machine.specs.Line.{UnitData}
+use Rattle.lapd_line_machine.specs.Stored.{slots_of, octets_of, sum_of_links, slots_by_link, octets_by_link, total_length, contents_of, unit_length}
+use Rattle.lapd_line.specs.declared.entities.Entities.{Entities}
+use Rattle.lapd_line.specs.declared.line.Line.{Line}
+use Rattle.lapd_line.specs.declared.units.QueuedUnit.{QueuedUnit}
+use Rattle.lapd_line.specs.Entities as entities
+use Rattle.lapd_line.specs.Links.{LinkFits, link_pairs, links_pairs}
+use Rattle.lapd_line.specs.Stands.{Stands, config_of, pairs_of}
+use Rattle.lapd_line.specs.Units as units
+use Rattle.lapd_line.specs.Units.{AreFor, unit_pairs, messages_of}
+use Rattle.lapd_line.proofs.HeldSteps.{sum_next}
+use Rattle.lapd_line.proofs.TakeStepsUnits.{as_many}
+
+-- what a line owns is held beside what others own
+pub held_of : (x : Line) (s : Store) (others : List Owned) (m : machine_line.Line) → Stands x s others m → Holds s (pairs_of x m ++ others)
+held_of x s others m st = st.entities.held
+
+-- and where another shelf holds it, the line stands there too
+pub stands_on : (x : Line) (s : Store) (others : List Owned) (m : machine_line.Line) → Stands x s others m → (t : Store) (rest : List Owned) → (config_of x).n201 ≤ t.width → Holds t (pairs_of x m ++ rest)
+    → Stands x t rest m
+stands_on x s others m st t rest wide held = record {
+  received = st.received;
+  sent = st.sent;
+  room = st.room;
+  entities = record {
+    range = st.entities.range;
+    wide = wide;
+    sound = st.entities.sound;
+    management = st.entities.management;
+    count = st.entities.count;
+    links = st.entities.links;
+    terms = st.entities.terms;
+    addressed = st.entities.addressed;
+    capacity = st.entities.capacity;
+    turn = st.entities.turn;
+    held = held;
+  };
+}
+
+-- a sum over the places of a list is the sum over its elements
+sum_taken : {X : Type 0} (f : X → ℕ) (xs : List X) (d : X) (n : ℕ) → n ≤ length xs → sum_by (λ i. f (get_or xs i d)) (range_with_len 0 n) ≡ sum_by f (take n xs)
+sum_taken f xs d zero few = refl
+sum_taken f xs d (suc n) few =
+    let next : suc n ≡ n + 1 = omega arith in
+    let there : 0 + n ≡ n = omega arith in
+    ap (λ k. sum_by (λ i. f (get_or xs i d)) (range_with_len 0 k)) next
+    ∙ sum_next (λ i. f (get_or xs i d)) 0 n
+    ∙ ap (λ i. sum_by (λ i. f (get_or xs i d)) (range_with_len 0 n) + f (get_or xs i d)) there
+    ∙ ap (λ k. k + f (get_or xs n d)) (sum_taken f xs d n (omega (arith, few)))
+    ∙ sym (sum_by_more f xs n d (omega (arith, few)))
+    ∙ ap (λ k. sum_by f (take k xs)) (sym next)
+
+sum_places : {X : Type 0} (f : X → ℕ) (xs : List X) (d : X) (n : ℕ) → length xs ≡ n → sum_by (λ i. f (get_or xs i d)) (range_with_len 0 n) ≡ sum_by f xs
+sum_places f xs d n same = sum_taken f xs d n (omega (arith, same)) ∙ ap (λ k. sum_by f (take k xs)) (sym same) ∙ ap (sum_by f) (take_all (length xs) xs (omega arith))
+
+-- what a link owns
+slots_fit : (c : Config) (p : Link × machine.Link) → LinkFits c p → length (link_pairs p) ≡ length (queue_of p.1)
+slots_fit c p fit = length-pairs_of (link.slots_of p.0) (queue_of p.1) fit.lengths ∙ fit.lengths
+
+octets_fit : (c : Config) (p : Link × machine.Link) → LinkFits c p → owned_octets (link_pairs p) ≡ total_length (queue_of p.1)
+octets_fit c p fit = owned_octets-pairs_of (link.slots_of p.0) (queue_of p.1) fit.lengths
+
+-- and all links
+slots_of_links : (e : Entities) (s : Store) (others : List Owned) (m : machine_line.Line) → entities.Stands e s others m → length (links_pairs e.links m.links) ≡ sum_of_links e.config (slots_by_link m)
+slots_of_links e s others m st =
+    slots-machines link_pairs (λ l. length (queue_of l)) e.links m.links (st.count ∙ sym st.sound.count) (λ k d within. slots_fit e.config _ (st.links k d within))
+    ∙ sym (sum_places (λ l. length (queue_of l)) m.links machine.fresh (machine_line.link_count e.config) st.sound.count)
+
+octets_of_links : (e : Entities) (s : Store) (others : List Owned) (m : machine_line.Line) → entities.Stands e s others m → owned_octets (links_pairs e.links m.links) ≡ sum_of_links e.config (octets_by_link m)
+octets_of_links e s others m st =
+    octets-machines link_pairs (λ l. total_length (queue_of l)) e.links m.links (st.count ∙ sym st.sound.count) (λ k d within. octets_fit e.config _ (st.links k d within))
+    ∙ sym (sum_places (λ l. total_length (queue_of l)) m.links machine.fresh (machine_line.link_count e.config) st.sound.count)
+
+-- and the unit data that waits
+slots_of_units : (us : List QueuedUnit) (ds : List UnitData) → AreFor us ds → length (unit_pairs us ds) ≡ length ds
+slots_of_units us ds same = length-pairs_of (units.slots_of us) (messages_of ds) (as_many us ds same) ∙ as_many us ds same ∙ length-map ds contents_of
+
+octets_of_units : (us : List QueuedUnit) (ds : List UnitData) → AreFor us ds → owned_octets (unit_pairs us ds) ≡ sum_by unit_length ds
+octets_of_units us ds same = owned_octets-pairs_of (units.slots_of us) (messages_of ds) (as_many us ds same) ∙ fold-map (λ a octets. a + length octets) contents_of 0 ds
+
+-- a line owns as many slots as its machine keeps contents, and as many octets as are in them
+pub slots-pairs : (x : Line) (s : Store) (others : List Owned) (m : machine_line.Line) → Stands x s others m → length (pairs_of x m) ≡ slots_of (config_of x) m
+slots-pairs x s others m st =
+    let links = slots_of_links x.entities s others m st.entities in
+    let waiting = slots_of_units x.entities.units.waiting m.units st.entities.addressed in
+    omega (arith, links, waiting, length-append (links_pairs x.entities.links m.links) (unit_pairs x.entities.units.waiting m.units))
+
+pub octets-pairs : (x : Line) (s : Store) (others : List Owned) (m : machine_line.Line) → Stands x s others m → owned_octets (pairs_of x m) ≡ octets_of (config_of x) m
+octets-pairs x s others m st =
+    let links = octets_of_links x.entities s others m st.entities in
+    let waiting = octets_of_units x.entities.units.waiting m.units st.entities.addressed in
+    omega (arith, links, waiting, owned_octets-append (links_pairs x.entities.links m.links) (unit_pairs x.entities.units.waiting m.units))

@@ -1,0 +1,164 @@
+-- What a pull takes: the entities and the line without it.
+use Rattle.std.proofs.Common.{◌≡◌, ℕ, ◌≤◌, List, [], ◌∷◌, ◌++◌, length, take, drop, slice_get, Option, Some, None, option_map, refl, ap, sym, ◌∙◌, subst, arith}
+use Rattle.std.proofs.lemmas.Option.{same_Some}
+use Rattle.std.specs.Option.{option_or}
+use Rattle.lapd_bits.specs.Framer as framer
+use Rattle.lapd_bits.specs.Framer.{Framing}
+use Rattle.lapd_bits.specs.Sent.{Item, frame}
+use Rattle.lapd_frame.specs.declared.addresses.Address.{Address}
+use Rattle.lapd_frame.specs.declared.addresses.Side.TheVariants.{Network}
+use Rattle.lapd_frame.specs.declared.controls.Control.{Control}
+use Rattle.lapd_frame.specs.declared.controls.Control.TheVariants.{Information, ReceiveReady, ReceiveNotReady, Reject, Sabme, Disc, Ui, Ua, Dm, Frmr, Xid}
+use Rattle.lapd_frame.specs.declared.timers.Order.{Order}
+use Rattle.lapd_frame.specs.Grammar.{head_of}
+use Rattle.lapd_store.specs.Ownership.{Owned}
+use Rattle.lapd_store.specs.Store.{Store}
+use Rattle.lapd_tei.specs.Events.{offered, after_offer}
+use Rattle.lapd_tei.specs.Machine.{Management}
+use Rattle.lapd_tei.specs.Messages.{frame_of}
+use Rattle.lapd_tei.specs.declared.messages.Message.{Message}
+use Rattle.lapd_tei.specs.declared.messages.Message.TheVariants.{IdentityAssigned, IdentityDenied, IdentityCheckRequest, IdentityRemove}
+use Rattle.lapd_tei.proofs.LawLemmas.{sound-after_offer}
+use Rattle.lapd_line_machine.specs.declared.config.Config.{Config}
+use Rattle.lapd_line_machine.specs.Line.{Line}
+use Rattle.lapd_line_machine.specs.Pull.{Taken, with_message, message_taken}
+use Rattle.lapd_line.specs.declared.entities.Entities.{Entities}
+use Rattle.lapd_line.specs.Entities.{Stands}
+use Rattle.lapd_line.specs.Takes.{HasTaken, Took, Takes}
+
+-- the head of a frame has three octets or four
+pub head_short : (address : Address) (control : Control) → (3 ≤ length (head_of Network address control)) × (length (head_of Network address control) ≤ 4)
+head_short address (Information ns nr pf) = (omega arith, omega arith)
+head_short address (ReceiveReady nr pf) = (omega arith, omega arith)
+head_short address (ReceiveNotReady nr pf) = (omega arith, omega arith)
+head_short address (Reject nr pf) = (omega arith, omega arith)
+head_short address (Sabme pf) = (omega arith, omega arith)
+head_short address (Disc pf) = (omega arith, omega arith)
+head_short address (Ui pf) = (omega arith, omega arith)
+head_short address (Ua pf) = (omega arith, omega arith)
+head_short address (Dm pf) = (omega arith, omega arith)
+head_short address (Frmr pf) = (omega arith, omega arith)
+head_short address (Xid pf) = (omega arith, omega arith)
+
+pub append_none : {A : Type 0} (xs : List A) → xs ++ [] ≡ xs
+append_none [] = refl
+append_none (x ∷ xs) = ap (λ l. x ∷ l) (append_none xs)
+
+-- what one source gives, or else another
+pub takes_or : {first second : Config → Line → Option Taken} {a b c : Entities} {s t u : Store} {f g h : Framing} {orders : Option (List Order)}
+    → Takes first a s f b t g None → Takes second b t g c u h orders
+    → Takes (λ config m. option_or (first config m) (second config m)) a s f c u h orders
+takes_or {first} {second} {a} {b} {c} {s} {t} {u} {f} {g} {h} {orders} none then = record {
+  config = then.config ∙ none.config;
+  limits = record { slots = then.limits.slots ∙ none.limits.slots; width = then.limits.width ∙ none.limits.width };
+  room = then.room ∙ none.room;
+  took = λ others m st. go others m (first a.config m) (none.took others m st);
+}
+  where
+    again : (others : List Owned) (m : Line) → Stands b t others m → g ≡ f → Took (second a.config m) orders m c u others f h
+    again others m st same =
+        subst (λ x. Took (second a.config m) orders m c u others x h) same
+        (subst (λ x. Took (second x m) orders m c u others g h) none.config (then.took others m st))
+
+    go : (others : List Owned) (m : Line) (o : Option Taken) → Took o None m b t others f g → Took (option_or o (second a.config m)) orders m c u others f h
+    go others m None (st, same) = again others m st same
+    go others m (Some k) h = absurd h
+
+pub takes_first : (second : Config → Line → Option Taken) {first : Config → Line → Option Taken} {a b : Entities} {s t : Store} {f g : Framing} {orders : List Order}
+    → Takes first a s f b t g (Some orders) → Takes (λ config m. option_or (first config m) (second config m)) a s f b t g (Some orders)
+takes_first second {first} {a} {b} {s} {t} {f} {g} {orders} some = record {
+  config = some.config;
+  limits = some.limits;
+  room = some.room;
+  took = λ others m st. go others m (first a.config m) (some.took others m st);
+}
+  where
+    go : (others : List Owned) (m : Line) (o : Option Taken) → Took o (Some orders) m b t others f g → Took (option_or o (second a.config m)) (Some orders) m b t others f g
+    go others m None h = absurd h
+    go others m (Some k) h = h
+
+-- the same of two sources that are the same for every past that stands
+pub takes_as : {first second : Config → Line → Option Taken} {a b : Entities} {s t : Store} {f g : Framing} {orders : Option (List Order)}
+    → ((others : List Owned) (m : Line) → Stands a s others m → first a.config m ≡ second a.config m)
+    → Takes first a s f b t g orders → Takes second a s f b t g orders
+takes_as {first} {second} {a} {b} {s} {t} {f} {g} {orders} same h = record {
+  config = h.config;
+  limits = h.limits;
+  room = h.room;
+  took = λ others m st. subst (λ k. Took k orders m b t others f g) (same others m st) (h.took others m st);
+}
+
+-- TEI management without its oldest message
+pub without_message : (e : Entities) (s : Store) (others : List Owned) (m : Line) → Stands e s others m
+    → Stands (record e { teis = after_offer e.teis }) s others (record m { management = after_offer m.management })
+without_message e s others m st = record {
+  range = st.range;
+  wide = st.wide;
+  sound = record {
+    management = sound-after_offer m.management st.sound.management;
+    places = st.sound.places;
+    count = st.sound.count;
+    links = st.sound.links;
+    units = st.sound.units;
+    few_units = st.sound.few_units;
+    turn = st.sound.turn;
+    sizes = st.sound.sizes;
+    text = st.sound.text;
+  };
+  management = ap after_offer st.management;
+  count = st.count;
+  links = st.links;
+  terms = st.terms;
+  addressed = st.addressed;
+  capacity = st.capacity;
+  turn = st.turn;
+  held = st.held;
+}
+
+-- there was none
+none_waits : (m : Management) → offered m ≡ None → after_offer m ≡ m
+none_waits m none = go m.waiting refl none
+  where
+    go : (w : List Message) → m.waiting ≡ w → option_map frame_of (slice_get w 0) ≡ None → after_offer m ≡ m
+    go [] e h = ap (λ l. record m { waiting = drop 1 l }) e ∙ ap (λ l. record m { waiting = l }) (sym e)
+    go (x ∷ xs) e h = absurd (cc)
+
+pub no_message : (e : Entities) (s : Store) (f : Framing) → None ≡ offered e.teis → Takes (λ c m. message_taken m) e s f (record e { teis = after_offer e.teis }) s f None
+no_message e s f none = record {
+  config = refl;
+  limits = record { slots = refl; width = refl };
+  room = refl;
+  took = λ others m st.
+      let same : message_taken m ≡ None = ap (λ o. option_map (with_message m) o) (ap offered st.management ∙ sym none) in
+      let stays : Stands (record e { teis = after_offer e.teis }) s others m =
+      subst (λ t. Stands (record e { teis = t }) s others m) (sym (none_waits e.teis (sym none))) st in
+      subst (λ o. Took o None m (record e { teis = after_offer e.teis }) s others f f) (sym same) (stays, refl);
+}
+
+-- a message is its first four octets and four more
+whole_message : (x : Message) → take 4 (frame_of x) ++ take 4 (drop 4 (frame_of x)) ≡ frame_of x
+whole_message (IdentityAssigned ri tei) = refl
+whole_message (IdentityDenied ri) = refl
+whole_message (IdentityCheckRequest tei) = refl
+whole_message (IdentityRemove tei) = refl
+
+whole : (w : List Message) (octets : List ℕ) → Some octets ≡ option_map frame_of (slice_get w 0) → take 4 octets ++ take 4 (drop 4 octets) ≡ octets
+whole [] octets is = absurd (cc)
+whole (x ∷ w) octets is = subst (λ l. take 4 l ++ take 4 (drop 4 l) ≡ l) (same_Some (frame_of x) octets (sym is)) (whole_message x)
+
+pub message_loaded : (e : Entities) (s : Store) (f g : Framing) (octets : List ℕ) → Some octets ≡ offered e.teis → g.room ≡ f.room
+    → ((items : List Item) (given : List ℕ) → framer.Stands f items given → framer.Stands g (items ++ frame (take 4 octets ++ take 4 (drop 4 octets)) ∷ []) given)
+    → Takes (λ c m. message_taken m) e s f (record e { teis = after_offer e.teis }) s g (Some [])
+message_loaded e s f g octets some room loaded = record {
+  config = refl;
+  limits = record { slots = refl; width = refl };
+  room = room;
+  took = λ others m st.
+      let same : message_taken m ≡ Some (with_message m octets) = ap (λ o. option_map (with_message m) o) (ap offered st.management ∙ sym some) in
+      let has : HasTaken (with_message m octets) [] (record e { teis = after_offer e.teis }) s others f g = record {
+        orders = refl;
+        stands = without_message e s others m st;
+        loaded = λ items given h. subst (λ l. framer.Stands g (items ++ frame l ∷ []) given) (whole e.teis.waiting octets some) (loaded items given h);
+      } in
+      subst (λ o. Took o (Some []) m (record e { teis = after_offer e.teis }) s others f g) (sym same) has;
+}

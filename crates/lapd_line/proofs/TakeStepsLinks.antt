@@ -1,0 +1,345 @@
+-- What a pull takes of the links.
+use Rattle.std.proofs.Common.{◌≡◌, ◌⊎◌, inl, inr, Bool, true, false, cond, ℕ, zero, suc, ◌+◌, ◌-◌, ◌≤◌, ◌<◌, List, [], ◌∷◌, ◌++◌, length, take, drop, get_or, set, slice_get, Option, Some, None, option_map, IfSome, refl, ap, sym, ◌∙◌, subst, arith, append_assoc}
+use Rattle.std.proofs.lemmas.List.{set-get_or, length-map}
+use Rattle.std.proofs.lemmas.Option.{none-some, slice_get_cases, slice_get-map}
+use Rattle.std.specs.List.{range_with_len}
+use Rattle.std.specs.Option.{option_or, unwrap_or}
+use Rattle.lapd_bits.specs.Framer as framer
+use Rattle.lapd_bits.specs.Framer.{Framing}
+use Rattle.lapd_bits.specs.Sent.{Item, frame}
+use Rattle.lapd_frame.specs.declared.addresses.Address.{Address}
+use Rattle.lapd_frame.specs.declared.addresses.Side.TheVariants.{Network}
+use Rattle.lapd_frame.specs.declared.timers.Order.{Order}
+use Rattle.lapd_frame.specs.Grammar.{IsFrame, spelling}
+use Rattle.lapd_frame.specs.ShortLists.{listed}
+use Rattle.lapd_store.specs.Ownership.{Owned, Holds}
+use Rattle.lapd_store.specs.Store.{Store, IsUsed}
+use Rattle.lapd_link.specs.declared.link.Link.{Link}
+use Rattle.lapd_link.specs.declared.offers.Offer.{Offer}
+use Rattle.lapd_link.specs.Outcome.{contents_in, HasMessage}
+use Rattle.lapd_link.specs.Stands.{terms_of}
+use Rattle.lapd_link_machine.specs.declared.frames.ControlFrame.{ControlFrame}
+use Rattle.lapd_link_machine.specs.declared.terms.Terms.{Terms}
+use Rattle.lapd_link_machine.specs.Link as machine
+use Rattle.lapd_link_machine.specs.Link.{address_at}
+use Rattle.lapd_link_machine.specs.Machine.{after, given, given_of, course}
+use Rattle.lapd_link_machine.specs.Events.{offer}
+use Rattle.lapd_link_machine.specs.Told.{Given}
+use Rattle.lapd_link_machine.specs.Offers.{may_send_information, offer_among, send_information, send_acknowledgement, give_information, with_one_sent, next_information, first_unsent, is_awaiting_acknowledgement}
+use Rattle.lapd_link_machine.specs.Steps.{Course, Sent, begun, ◌then◌, changed}
+use Rattle.lapd_link_machine.specs.Words.{pending_is, start}
+use Rattle.lapd_link_machine.specs.declared.timers.LinkTimer.TheVariants.{T200}
+use Rattle.lapd_line_machine.specs.declared.config.Config.{Config}
+use Rattle.lapd_line_machine.specs.Line.{Line, link_at, link_count, place_at, service_at, tei_at, terms, terms_at}
+use Rattle.lapd_line_machine.specs.Pull.{Taken, with_given_frame, link_taken, first_taken, round}
+use Rattle.lapd_line_machine.specs.Sound.{IsSound, IsSoundAt}
+use Rattle.lapd_line_machine.proofs.Offered.{fresh_gives_nothing}
+use Rattle.lapd_line_machine.proofs.PullSound.{TakesSoundly, link_sound}
+use Rattle.lapd_line.specs.declared.entities.Entities.{Entities}
+use Rattle.lapd_line.specs.Entities.{Stands, Standing}
+use Rattle.lapd_line.specs.Links.{LinksStand, HasTerms, IsGiven, Offers, links_pairs, terms_in}
+use Rattle.lapd_line.specs.Units.{unit_pairs}
+use Rattle.lapd_line.specs.Takes.{HasTaken, Took, Takes}
+use Rattle.lapd_line.proofs.EntitySteps.{beside_links, links_part, links_back}
+use Rattle.lapd_line.proofs.TakeSteps.{takes_or, takes_first, takes_as}
+
+-- an I-frame that may be sent is given
+abbrev before_timer : machine.Link → Course
+before_timer l = (give_information then changed with_one_sent then pending_is false) (begun l)
+
+sends_something : (l : machine.Link) (b : Bool) → is_awaiting_acknowledgement l ≡ b
+    → (send_information (begun l)).sent ≡ Some (record { frame = next_information l; contents = first_unsent l })
+sends_something l true e = ap (λ b. (cond {A = Course} b (before_timer l) (start T200 (before_timer l))).sent) e
+sends_something l false e = ap (λ b. (cond {A = Course} b (before_timer l) (start T200 (before_timer l))).sent) e
+
+-- a link that has nothing to give is as it was
+nothing_sent : (t : Terms) (l : machine.Link) (c : Course) (o : Option Sent) → given_of t l c o ≡ None → o ≡ None
+nothing_sent t l c None h = refl
+nothing_sent t l c (Some x) h = absurd (none-some _ (sym h))
+
+pub nothing_given : (t : Terms) (l : machine.Link) → given t l ≡ None → after t offer l ≡ l
+nothing_given t l none = go l.waiting refl (may_send_information t l) refl l.pending refl (nothing_sent t l (course t offer l) (course t offer l).sent none)
+  where
+    go : (ws : List ControlFrame) → l.waiting ≡ ws → (may : Bool) → may_send_information t l ≡ may → (owed : Bool) → l.pending ≡ owed → (course t offer l).sent ≡ None → after t offer l ≡ l
+    go (f ∷ fs) w may m owed p h = absurd (none-some _ (sym h ∙ ap (λ ws. (offer_among t ws (begun l)).sent) w))
+    go [] w true m owed p h =
+        absurd (none-some _ (sym h ∙ ap (λ ws. (offer_among t ws (begun l)).sent) w
+        ∙ ap (λ b. (cond {A = Course} b (send_information (begun l)) (cond {A = Course} l.pending (send_acknowledgement (begun l)) (begun l))).sent) m
+        ∙ sends_something l (is_awaiting_acknowledgement l) refl))
+    go [] w false m true p h =
+        absurd (none-some _ (sym h ∙ ap (λ ws. (offer_among t ws (begun l)).sent) w
+        ∙ ap (λ b. (cond {A = Course} b (send_information (begun l)) (cond {A = Course} l.pending (send_acknowledgement (begun l)) (begun l))).sent) m
+        ∙ ap (λ b. (cond {A = Course} b (send_acknowledgement (begun l)) (begun l)).sent) p))
+    go [] w false m false p h =
+        ap (λ ws. (offer_among t ws (begun l)).link) w
+        ∙ ap (λ b. (cond {A = Course} b (send_information (begun l)) (cond {A = Course} l.pending (send_acknowledgement (begun l)) (begun l))).link) m
+        ∙ ap (λ b. (cond {A = Course} b (send_acknowledgement (begun l)) (begun l)).link) p
+
+-- The parameters of a link as it is. Where no TEI is at its place it gives nothing, whatever they are; else they are those
+-- of its TEI.
+record Known (e : Entities) (m : Line) (number : ℕ) : Type 0 where
+  pub t : Terms
+  pub has : HasTerms e.links number t
+  pub none : given t (link_at number m) ≡ None → given (terms_at e.config number m) (link_at number m) ≡ None
+  pub some : (g : Given) → given t (link_at number m) ≡ Some g → HasTerms e.links number (terms_at e.config number m)
+
+known : (e : Entities) (s : Store) (others : List Owned) (m : Line) (number : ℕ) → number < link_count e.config → Stands e s others m → Known e m number
+known e s others m number few st = go (tei_at (place_at number) m) refl (st.sound.links number few) (slice_get_cases e.links number).1
+  where
+    go : (o : Option ℕ) → tei_at (place_at number) m ≡ o → IsSoundAt e.config number (link_at number m) o
+        → ((x : Link) × (number < length e.links) × (slice_get e.links number ≡ Some x) × (get_or e.links number x ≡ x)) ⊎ ((length e.links ≤ number) × (slice_get e.links number ≡ None)) → Known e m number
+    go (Some tei) at here there =
+        let same : terms_at e.config number m ≡ terms e.config (service_at number) tei = ap (λ o. terms e.config (service_at number) (unwrap_or o 0)) at in
+        record {
+          t = terms e.config (service_at number) tei;
+          has = st.terms number tei few at;
+          none = λ h. ap (λ t. given t (link_at number m)) same ∙ h;
+          some = λ g h. subst (HasTerms e.links number) (sym same) (st.terms number tei few at);
+        }
+    go None at fresh (inl (x, within, is, more)) = record {
+      t = terms_of x;
+      has = slice_get-map terms_of e.links number ∙ ap (option_map terms_of) is;
+      none = λ h. ap (given (terms_at e.config number m)) fresh ∙ fresh_gives_nothing (terms_at e.config number m);
+      some = λ g h. absurd (none-some g (sym (ap (given (terms_of x)) fresh ∙ fresh_gives_nothing (terms_of x)) ∙ h));
+    }
+    go None at fresh (inr (past, none)) = absurd (omega (arith, past, few, st.count))
+
+-- a link that has nothing to give is passed over
+pub no_link : (e : Entities) (s : Store) (f : Framing) (number : ℕ) (new : List Link) → number < link_count e.config → Offers number e.links new None
+    → Takes (λ c m. link_taken c m number) e s f (record e { links = new }) s f None
+no_link e s f number new few o = record {
+  config = refl;
+  limits = record { slots = refl; width = refl };
+  room = refl;
+  took = λ others m st.
+      let k = known e s others m number few st in
+      let part = links_part e s others m st in
+      let none : given k.t (link_at number m) ≡ None = sym (o.given e.config k.t s (beside_links e m others) m.links k.has part).given in
+      let same : link_taken e.config m number ≡ None = ap (λ g. option_map (with_given_frame m number (terms_at e.config number m)) g) (k.none none) in
+      let stay : set m.links number (after k.t offer (link_at number m)) ≡ m.links =
+      ap (λ l. set m.links number l) (nothing_given k.t (link_at number m) none) ∙ set-get_or m.links number machine.fresh in
+      let stand : LinksStand e.config new s (beside_links e m others) m.links =
+      subst (LinksStand e.config new s (beside_links e m others)) stay (o.goes_on s e.config k.t (beside_links e m others) m.links k.has part) in
+      let stays : Stands (record e { links = new }) s others m =
+      links_back e s s others m new m.links st o.terms (record { slots = refl; width = refl }) st.sound stand in
+      subst (λ g. Took g None m (record e { links = new }) s others f f) (sym same) (stays, refl);
+}
+
+-- as many links as before
+pub still_many : (old new : List Link) → terms_in new ≡ terms_in old → length new ≡ length old
+still_many old new same = sym (length-map new terms_of) ∙ ap (λ l. length l) same ∙ length-map old terms_of
+
+-- what a link gives, for a line that the entities stand for
+record Gives (e : Entities) (s : Store) (m : Line) (number : ℕ) (o : Offer) : Type 0 where
+  pub has : HasTerms e.links number (terms_at e.config number m)
+  pub is : IsGiven s (terms_at e.config number m) (link_at number m) (Some o)
+
+gives : (e : Entities) (s : Store) (others : List Owned) (m : Line) (number : ℕ) (new : List Link) (o : Offer) → number < link_count e.config → Stands e s others m
+    → Offers number e.links new (Some o) → Gives e s m number o
+gives e s others m number new o few st offers =
+    let k = known e s others m number few st in
+    let part = links_part e s others m st in
+    let has = k.some _ (sym (offers.given e.config k.t s (beside_links e m others) m.links k.has part).given) in
+    record { has = has; is = offers.given e.config (terms_at e.config number m) s (beside_links e m others) m.links has part }
+
+-- its address and contents make a frame
+pub record Loads (e : Entities) (s : Store) (o : Offer) (address : Address) (info : List ℕ) : Type 0 where
+  pub frame : IsFrame (record { address = address; control = o.frame.control; info = [] })
+  pub size : length info ≤ e.config.n201
+
+size_of : (s : Store) (most : ℕ) (slot : Option ℕ) (info : List ℕ) → info ≡ unwrap_or (contents_in s slot) [] → IfSome slot (HasMessage s most) → length info ≤ most
+size_of s most None info is h = omega (arith, ap (λ l. length l) is)
+size_of s most (Some slot) info is (octets, there, size) =
+    omega (arith, size, ap (λ l. length l) is, ap (λ o. length (unwrap_or o [])) there)
+
+pub given_used : (e : Entities) (s : Store) (number : ℕ) (new : List Link) (o : Offer) → number < link_count e.config → Standing e s → Offers number e.links new (Some o)
+    → IfSome o.contents (λ slot. IsUsed s slot)
+given_used e s number new o few (others, m, st) offers = (gives e s others m number new o few st offers).is.used
+
+-- its new parameters are its old ones
+still : (e : Entities) (number : ℕ) (new : List Link) (t : Terms) → terms_in new ≡ terms_in e.links → HasTerms e.links number t → HasTerms new number t
+still e number new t same has = subst (λ l. slice_get l number ≡ Some t) (sym same) has
+
+pub loads : (e : Entities) (s : Store) (number : ℕ) (new : List Link) (o : Offer) (address : Address) (info : List ℕ) → number < link_count e.config → Standing e s
+    → Offers number e.links new (Some o)
+    → ((t : Terms) → HasTerms new number t → address ≡ address_at t o.frame.command)
+    → info ≡ unwrap_or (contents_in s o.contents) [] → Loads e s o address info
+loads e s number new o address info few (others, m, st) offers named is =
+    let g = gives e s others m number new o few st offers in
+    let t = terms_at e.config number m in
+    record {
+      frame = subst (λ a. IsFrame (record { address = a; control = o.frame.control; info = [] })) (sym (named t (still e number new t offers.terms g.has))) g.is.frame;
+      size = size_of s e.config.n201 o.contents info is g.is.slot;
+    }
+
+-- the entities when a link has given something: the round goes on after it
+turned : (e : Entities) (s : Store) (others : List Owned) (m : Line) (number : ℕ) (new : List Link) (ms : List machine.Link) → Stands e s others m → terms_in new ≡ terms_in e.links
+    → IsSound e.config (record m { links = ms; turn = number + 1 }) → LinksStand e.config new s (beside_links e m others) ms
+    → Stands (record e { links = new; turn = number + 1 }) s others (record m { links = ms; turn = number + 1 })
+turned e s others m number new ms st same sound stand = record {
+  range = st.range;
+  wide = stand.wide;
+  sound = sound;
+  management = st.management;
+  count = still_many e.links new same ∙ st.count;
+  links = stand.fits;
+  terms = λ number tei within at. subst (λ l. slice_get l number ≡ Some (terms e.config (service_at number) tei)) (sym same) (st.terms number tei within at);
+  addressed = st.addressed;
+  capacity = st.capacity;
+  turn = refl;
+  held = subst (Holds s) (sym (append_assoc (links_pairs new ms) (unit_pairs e.units.waiting m.units) others)) stand.held;
+}
+
+-- what a link gives is loaded
+pub link_loaded : (e : Entities) (s : Store) (f g : Framing) (number : ℕ) (new : List Link) (o : Offer) (address : Address) (info : List ℕ) → number < link_count e.config
+    → Offers number e.links new (Some o)
+    → ((t : Terms) → HasTerms new number t → address ≡ address_at t o.frame.command)
+    → info ≡ unwrap_or (contents_in s o.contents) [] → g.room ≡ f.room
+    → ((items : List Item) (given : List ℕ) → framer.Stands f items given
+    → framer.Stands g (items ++ frame (spelling Network (record { address = address; control = o.frame.control; info = info })) ∷ []) given)
+    → Takes (λ c m. link_taken c m number) e s f (record e { links = new; turn = number + 1 }) s g (Some (listed o.orders))
+link_loaded e s f g number new o address info few offers named is room loaded = record {
+  config = refl;
+  limits = record { slots = refl; width = refl };
+  room = room;
+  took = λ others m st.
+      let gave = gives e s others m number new o few st offers in
+      let t = terms_at e.config number m in
+      let what : Given = record { frame = o.frame; contents = contents_in s o.contents; orders = listed o.orders } in
+      let same : link_taken e.config m number ≡ Some (with_given_frame m number t what) = ap (λ x. option_map (with_given_frame m number t) x) (sym gave.is.given) in
+      let sound : TakesSoundly e.config m (with_given_frame m number t what) =
+      subst (λ x. IfSome x (TakesSoundly e.config m)) same (link_sound e.config st.range m st.sound number few) in
+      let stand = offers.goes_on s e.config t (beside_links e m others) m.links gave.has (links_part e s others m st) in
+      let has : HasTaken (with_given_frame m number t what) (listed o.orders) (record e { links = new; turn = number + 1 }) s others f g = record {
+        orders = refl;
+        stands = turned e s others m number new _ st offers.terms sound.line stand;
+        loaded = λ items given h.
+            subst (λ a. framer.Stands g (items ++ frame (spelling Network (record { address = a; control = o.frame.control; info = unwrap_or (contents_in s o.contents) [] })) ∷ []) given) (named t (still e number new t offers.terms gave.has))
+            (subst (λ x. framer.Stands g (items ++ frame (spelling Network (record { address = address; control = o.frame.control; info = x })) ∷ []) given) is
+            (loaded items given h));
+      } in
+      subst (λ x. Took x (Some (listed o.orders)) m (record e { links = new; turn = number + 1 }) s others f g) (sym same) has;
+}
+
+-- more links, one after another
+range_append : (a n k : ℕ) → range_with_len a (n + k) ≡ range_with_len a n ++ range_with_len (a + n) k
+range_append a zero k =
+    let count : 0 + k ≡ k = omega arith in
+    let first : a ≡ a + 0 = omega arith in
+    ap (λ n. range_with_len a n) count ∙ ap (λ b. range_with_len b k) first
+range_append a (suc n) k =
+    let count : suc n + k ≡ suc (n + k) = omega arith in
+    let first : a + 1 + n ≡ a + suc n = omega arith in
+    ap (λ n. range_with_len a n) count
+    ∙ ap (λ l. a ∷ l) (range_append (a + 1) n k ∙ ap (λ b. range_with_len (a + 1) n ++ range_with_len b k) first)
+
+either_assoc : (x y z : Option Taken) → option_or (option_or x y) z ≡ option_or x (option_or y z)
+either_assoc None y z = refl
+either_assoc (Some x) y z = refl
+
+either_none : (x : Option Taken) → option_or x None ≡ x
+either_none None = refl
+either_none (Some x) = refl
+
+first_append : (c : Config) (m : Line) (xs ys : List ℕ) → first_taken c m (xs ++ ys) ≡ option_or (first_taken c m xs) (first_taken c m ys)
+first_append c m [] ys = refl
+first_append c m (x ∷ xs) ys =
+    ap (λ o. option_or (link_taken c m x) o) (first_append c m xs ys) ∙ sym (either_assoc (link_taken c m x) (first_taken c m xs) (first_taken c m ys))
+
+abbrev pub among : ℕ → ℕ → Config → Line → Option Taken
+among from n c m = first_taken c m (range_with_len from n)
+
+among_append : (c : Config) (m : Line) (a n k : ℕ) → option_or (among a n c m) (among (a + n) k c m) ≡ among a (n + k) c m
+among_append c m a n k = sym (ap (first_taken c m) (range_append a n k) ∙ first_append c m (range_with_len a n) (range_with_len (a + n) k))
+
+pub none_among : (e : Entities) (s : Store) (f : Framing) (from : ℕ) → Takes (among from (from - from)) e s f e s f None
+none_among e s f from =
+    let none : 0 ≡ from - from = omega arith in
+    subst (λ n. Takes (among from n) e s f e s f None) none (record {
+      config = refl;
+      limits = record { slots = refl; width = refl };
+      room = refl;
+      took = λ others m st. (st, refl);
+    })
+
+-- one link more that has nothing to give
+pub one_more : (from number : ℕ) {a b c : Entities} {s t u : Store} {f g h : Framing} → from ≤ number
+    → Takes (among from (number - from)) a s f b t g None → Takes (λ c m. link_taken c m number) b t g c u h None
+    → Takes (among from (number + 1 - from)) a s f c u h None
+one_more from number {a} {b} {c} {s} {t} {u} {f} {g} {h} order before now =
+    takes_as {first = λ config m. option_or (among from (number - from) config m) (link_taken config m number)} {second = among from (number + 1 - from)}
+    (λ others m st.
+    ap (λ x. option_or (among from (number - from) a.config m) x) (sym (either_none (link_taken a.config m number)))
+    ∙ ap (λ x. option_or (among from (number - from) a.config m) (among x 1 a.config m)) (omega (arith, order))
+    ∙ among_append a.config m from (number - from) 1
+    ∙ ap (λ n. among from n a.config m) (omega (arith, order)))
+    (takes_or {first = among from (number - from)} {second = λ c m. link_taken c m number} before now)
+
+-- the first that has something to give
+pub found : (from number to : ℕ) {a b c : Entities} {s t u : Store} {f g h : Framing} {orders : List Order} → from ≤ number → number < to
+    → Takes (among from (number - from)) a s f b t g None → Takes (λ c m. link_taken c m number) b t g c u h (Some orders)
+    → Takes (among from (to - from)) a s f c u h (Some orders)
+found from number to {a} {b} {c} {s} {t} {u} {f} {g} {h} {orders} order within before now =
+    takes_as {first = λ config m. option_or (among from (number - from) config m) (option_or (link_taken config m number) (among (number + 1) (to - (number + 1)) config m))} {second = among from (to - from)}
+    (λ others m st.
+    ap (λ x. option_or (among from (number - from) a.config m) (among x (suc (to - (number + 1))) a.config m)) (omega (arith, order))
+    ∙ among_append a.config m from (number - from) (suc (to - (number + 1)))
+    ∙ ap (λ n. among from n a.config m) (omega (arith, order, within)))
+    (takes_or {first = among from (number - from)} {second = λ config m. option_or (link_taken config m number) (among (number + 1) (to - (number + 1)) config m)} before
+    (takes_first (among (number + 1) (to - (number + 1))) {first = λ c m. link_taken c m number} now))
+
+pub all_passed : (from number to : ℕ) {a b : Entities} {s t : Store} {f g : Framing} → number ≡ to → Takes (among from (number - from)) a s f b t g None → Takes (among from (to - from)) a s f b t g None
+all_passed from number to {a} {b} {s} {t} {f} {g} same h = subst (λ n. Takes (among from (n - from)) a s f b t g None) same h
+
+-- where nothing was taken, a past stands still, and the framer is as it was
+pub none_stands : {source : Config → Line → Option Taken} {a b : Entities} {s t : Store} {f g : Framing} → Takes source a s f b t g None → Standing a s → Standing b t × (g ≡ f)
+none_stands {source} {a} {b} {s} {t} {f} {g} h (others, m, st) = go (source a.config m) (h.took others m st)
+  where
+    go : (o : Option Taken) → Took o None m b t others f g → Standing b t × (g ≡ f)
+    go None (stays, same) = ((others, m, stays), same)
+    go (Some k) h = absurd h
+
+-- the whole round: from the turn on, and then up to it
+drop_range : (a n t : ℕ) → t ≤ n → drop t (range_with_len a n) ≡ range_with_len (a + t) (n - t)
+drop_range a n zero h =
+    let first : a ≡ a + 0 = omega arith in
+    let count : n ≡ n - 0 = omega arith in
+    ap (λ b. range_with_len b n) first ∙ ap (λ k. range_with_len (a + 0) k) count
+drop_range a zero (suc t) h = absurd (omega (arith, h))
+drop_range a (suc n) (suc t) h =
+    let first : a + 1 + t ≡ a + suc t = omega arith in
+    let count : n - t ≡ suc n - suc t = omega arith in
+    drop_range (a + 1) n t (omega (arith, h)) ∙ ap (λ b. range_with_len b (n - t)) first ∙ ap (λ k. range_with_len (a + suc t) k) count
+
+take_range : (a n t : ℕ) → t ≤ n → take t (range_with_len a n) ≡ range_with_len a t
+take_range a n zero h = refl
+take_range a zero (suc t) h = absurd (omega (arith, h))
+take_range a (suc n) (suc t) h = ap (λ l. a ∷ l) (take_range (a + 1) n t (omega (arith, h)))
+
+pub round_is : (e : Entities) (s : Store) (others : List Owned) (m : Line) → Stands e s others m
+    → option_or (among e.turn (link_count e.config - e.turn) e.config m) (among 0 (e.turn - 0) e.config m) ≡ first_taken e.config m (round e.config m)
+round_is e s others m st =
+    let n = link_count e.config in
+    let few : m.turn ≤ n = st.sound.turn in
+    let all : m.turn - 0 ≡ m.turn = omega arith in
+    let first : m.turn ≡ 0 + m.turn = omega arith in
+    ap (λ t. option_or (among t (n - t) e.config m) (among 0 (t - 0) e.config m)) (sym st.turn)
+    ∙ ap (λ k. option_or (among m.turn (n - m.turn) e.config m) (among 0 k e.config m)) all
+    ∙ sym (first_append e.config m (range_with_len m.turn (n - m.turn)) (range_with_len 0 m.turn))
+    ∙ ap (λ l. first_taken e.config m (l ++ range_with_len 0 m.turn)) (ap (λ b. range_with_len b (n - m.turn)) first ∙ sym (drop_range 0 n m.turn few))
+    ∙ ap (λ l. first_taken e.config m (drop m.turn (range_with_len 0 n) ++ l)) (sym (take_range 0 n m.turn few))
+
+pub round_found : (e : Entities) (count : ℕ) {b : Entities} {s t : Store} {f g : Framing} {orders : List Order} → count ≡ length e.links
+    → Takes (among e.turn (count - e.turn)) e s f b t g (Some orders) → Takes (λ c m. first_taken c m (round c m)) e s f b t g (Some orders)
+round_found e count {b} {s} {t} {f} {g} {orders} is h =
+    takes_as {first = λ c m. option_or (among e.turn (count - e.turn) c m) (among 0 (e.turn - 0) c m)} {second = λ c m. first_taken c m (round c m)}
+    (λ others m st. ap (λ n. option_or (among e.turn (n - e.turn) e.config m) (among 0 (e.turn - 0) e.config m)) (is ∙ st.count) ∙ round_is e s others m st)
+    (takes_first (among 0 (e.turn - 0)) {first = among e.turn (count - e.turn)} h)
+
+pub round_ends : (e : Entities) (count : ℕ) {b c : Entities} {s t u : Store} {f g h : Framing} {orders : Option (List Order)} → count ≡ length e.links
+    → Takes (among e.turn (count - e.turn)) e s f b t g None → Takes (among 0 (e.turn - 0)) b t g c u h orders
+    → Takes (λ c m. first_taken c m (round c m)) e s f c u h orders
+round_ends e count {b} {c} {s} {t} {u} {f} {g} {h} {orders} is before now =
+    takes_as {first = λ c m. option_or (among e.turn (count - e.turn) c m) (among 0 (e.turn - 0) c m)} {second = λ c m. first_taken c m (round c m)}
+    (λ others m st. ap (λ n. option_or (among e.turn (n - e.turn) e.config m) (among 0 (e.turn - 0) e.config m)) (is ∙ st.count) ∙ round_is e s others m st)
+    (takes_or {first = among e.turn (count - e.turn)} {second = among 0 (e.turn - 0)} before now)

@@ -1,0 +1,154 @@
+-- What a pull takes of the unit data that waits.
+use Rattle.std.proofs.Common.{◌≡◌, ℕ, ◌≤◌, ◌<◌, List, [], ◌∷◌, ◌++◌, length, drop, slice_get, Some, None, option_map, true, false, refl, ap, sym, ◌∙◌, subst, arith, length-drop}
+use Rattle.std.specs.Prelude.{All}
+use Rattle.std.proofs.lemmas.List.Elements.{All-head, All-drop}
+use Rattle.std.proofs.lemmas.Option.{none-some, same_Some}
+use Rattle.lapd_bits.specs.Framer as framer
+use Rattle.lapd_bits.specs.Framer.{Framing}
+use Rattle.lapd_bits.specs.Sent.{Item, frame}
+use Rattle.lapd_frame.specs.declared.addresses.Side.TheVariants.{Network}
+use Rattle.lapd_frame.specs.declared.controls.Control.TheVariants.{Ui}
+use Rattle.lapd_frame.specs.declared.services.Service.{Service}
+use Rattle.lapd_frame.specs.declared.services.Service.TheVariants.{Call, Packet}
+use Rattle.lapd_frame.specs.Grammar.{IsFrame, spelling}
+use Rattle.lapd_frame.specs.Services.{sapi_of}
+use Rattle.lapd_store.specs.Ownership.{Owned, Holds, Keeps}
+use Rattle.lapd_store.specs.Store.{Store, SameLimits, IsUsed, contents_of, without}
+use Rattle.lapd_store.proofs.Focus.{Part, second_part}
+use Rattle.lapd_store.proofs.Queues.{Keeps-used, Keeps-at, Keeps-release}
+use Rattle.lapd_line_machine.specs.declared.config.Config.{Config}
+use Rattle.lapd_line_machine.specs.Line.{Line, UnitData}
+use Rattle.lapd_line_machine.specs.Pull.{with_unit, unit_taken}
+use Rattle.lapd_line_machine.specs.Sound.{IsUnitData}
+use Rattle.lapd_line.specs.declared.entities.Entities.{Entities}
+use Rattle.lapd_line.specs.declared.units.QueuedUnit.{QueuedUnit}
+use Rattle.lapd_line.specs.Entities.{Stands}
+use Rattle.lapd_line.specs.Links.{links_pairs}
+use Rattle.lapd_line.specs.Units.{AreFor, slots_of, messages_of, unit_pairs, without_oldest}
+use Rattle.lapd_line.specs.Takes.{HasTaken, Took, Takes}
+
+-- as many wait as the machine has
+pub as_many : (us : List QueuedUnit) (ds : List UnitData) → AreFor us ds → length (slots_of us) ≡ length (messages_of ds)
+as_many [] [] h = refl
+as_many [] (d ∷ ds) h = absurd h
+as_many (u ∷ us) [] h = absurd h
+as_many (u ∷ us) (d ∷ ds) (service, tei, rest) = omega (arith, as_many us ds rest)
+
+-- The oldest, and that of the machine: its contents lie in its slot. And what is left, once the slot is free.
+pub record Oldest (c : Config) (s : Store) (us : List QueuedUnit) (ds : List UnitData) (rest : List Owned) (u : QueuedUnit) : Type 0 where
+  pub unit : UnitData
+  pub is : slice_get ds 0 ≡ Some unit
+  pub service : u.service ≡ unit.service
+  pub tei : u.tei ≡ unit.tei
+  pub fits : IsUnitData c unit
+  pub used : IsUsed s u.slot
+  pub contents : contents_of s u.slot ≡ Some unit.contents
+  pub addressed : AreFor (drop 1 us) (drop 1 ds)
+  pub released : (t : Store) → t ≡ without s u.slot → Holds t (unit_pairs (drop 1 us) (drop 1 ds) ++ rest)
+
+oldest_of : (c : Config) (s : Store) (us : List QueuedUnit) (ds : List UnitData) (rest : List Owned) (u : QueuedUnit) → slice_get us 0 ≡ Some u
+    → AreFor us ds → All (IsUnitData c) ds → Holds s (unit_pairs us ds ++ rest) → Oldest c s us ds rest u
+oldest_of c s [] ds rest u is same all held = absurd (none-some u is)
+oldest_of c s (x ∷ us) [] rest u is same all held = absurd same
+oldest_of c s (x ∷ us) (d ∷ ds) rest u is (service, tei, same) all held =
+    let kept : Keeps s (slots_of (x ∷ us)) (messages_of (d ∷ ds)) rest = record { lengths = omega (arith, as_many us ds same); held = held } in
+    subst (Oldest c s (x ∷ us) (d ∷ ds) rest) (same_Some x u is) (record {
+      unit = d;
+      is = refl;
+      service = service;
+      tei = tei;
+      fits = All-head (IsUnitData c) d ds all;
+      used = Keeps-used (slots_of (x ∷ us)) (messages_of (d ∷ ds)) rest 0 x.slot refl kept;
+      contents = Keeps-at (slots_of (x ∷ us)) (messages_of (d ∷ ds)) rest 0 x.slot refl kept;
+      addressed = same;
+      released = λ t free. (Keeps-release (slots_of (x ∷ us)) (messages_of (d ∷ ds)) rest x.slot refl free kept).held;
+    })
+
+-- the units of a line stand beside its links and what others own
+abbrev pub beside_units : (e : Entities) (s : Store) (others : List Owned) (m : Line) → Stands e s others m
+    → Part s (unit_pairs e.units.waiting m.units) (λ new. (links_pairs e.links m.links ++ new) ++ others)
+beside_units e s others m st = second_part s (links_pairs e.links m.links) (unit_pairs e.units.waiting m.units) others st.held
+
+pub oldest : (e : Entities) (s : Store) (others : List Owned) (m : Line) (u : QueuedUnit) (st : Stands e s others m) → slice_get e.units.waiting 0 ≡ Some u
+    → Oldest e.config s e.units.waiting m.units (beside_units e s others m st).rest u
+oldest e s others m u st is =
+    oldest_of e.config s e.units.waiting m.units (beside_units e s others m st).rest u is st.addressed st.sound.units
+    (beside_units e s others m st).held
+
+-- it goes as a UI command
+sapi_small : (service : Service) → sapi_of service < 64
+sapi_small Call = omega arith
+sapi_small Packet = omega arith
+
+pub is_frame : (service : Service) (sapi tei : ℕ) → sapi ≡ sapi_of service → tei ≤ 127 → IsFrame (record { address = record { sapi = sapi; command = true; tei = tei }; control = Ui false; info = [] })
+is_frame service sapi tei is fits = record { sapi = omega (arith, is, sapi_small service); tei = omega (arith, fits); kind = refl; size = refl }
+
+-- without the oldest
+pub without_unit : (e : Entities) (s t : Store) (others : List Owned) (m : Line) (u : QueuedUnit) → Stands e s others m → slice_get e.units.waiting 0 ≡ Some u
+    → t ≡ without s u.slot → Stands (record e { units = without_oldest e.units }) t others (record m { units = drop 1 m.units })
+without_unit e s t others m u st is free =
+    let o = oldest e s others m u st is in
+    record {
+      range = st.range;
+      wide = subst (λ x. e.config.n201 ≤ x.width) (sym free) st.wide;
+      sound = record {
+        management = st.sound.management;
+        places = st.sound.places;
+        count = st.sound.count;
+        links = st.sound.links;
+        units = All-drop (IsUnitData e.config) 1 m.units st.sound.units;
+        few_units = omega (arith, st.sound.few_units, length-drop 1 m.units);
+        turn = st.sound.turn;
+        sizes = st.sound.sizes;
+        text = st.sound.text;
+      };
+      management = st.management;
+      count = st.count;
+      links = st.links;
+      terms = st.terms;
+      addressed = o.addressed;
+      capacity = st.capacity;
+      turn = st.turn;
+      held = (beside_units e s others m st).back t (unit_pairs (drop 1 e.units.waiting) (drop 1 m.units)) (o.released t free);
+    }
+
+none_for : (us : List QueuedUnit) (ds : List UnitData) → None ≡ slice_get us 0 → AreFor us ds → slice_get ds 0 ≡ None
+none_for [] [] none h = refl
+none_for [] (d ∷ ds) none h = absurd h
+none_for (u ∷ us) ds none h = absurd (none-some u none)
+
+pub no_unit : (e : Entities) (s : Store) (f : Framing) → None ≡ slice_get e.units.waiting 0 → Takes (λ c m. unit_taken m) e s f e s f None
+no_unit e s f none = record {
+  config = refl;
+  limits = record { slots = refl; width = refl };
+  room = refl;
+  took = λ others m st.
+      let same : unit_taken m ≡ None = ap (λ o. option_map (with_unit m) o) (none_for e.units.waiting m.units none st.addressed) in
+      subst (λ o. Took o None m e s others f f) (sym same) (st, refl);
+}
+
+pub unit_loaded : (e : Entities) (s t : Store) (f g : Framing) (u : QueuedUnit) (sapi : ℕ) (octets : List ℕ) → slice_get e.units.waiting 0 ≡ Some u
+    → sapi ≡ sapi_of u.service → contents_of s u.slot ≡ Some octets → t ≡ without s u.slot → SameLimits s t → g.room ≡ f.room
+    → ((items : List Item) (given : List ℕ) → framer.Stands f items given
+    → framer.Stands g (items ++ frame (spelling Network (record { address = record { sapi = sapi; command = true; tei = u.tei }; control = Ui false; info = octets })) ∷ []) given)
+    → Takes (λ c m. unit_taken m) e s f (record e { units = without_oldest e.units }) t g (Some [])
+unit_loaded e s t f g u sapi octets is sapi_is contents free limits room loaded = record {
+  config = refl;
+  limits = limits;
+  room = room;
+  took = λ others m st.
+      let o = oldest e s others m u st is in
+      let same : unit_taken m ≡ Some (with_unit m o.unit) = ap (λ x. option_map (with_unit m) x) o.is in
+      let info : octets ≡ o.unit.contents = same_Some octets o.unit.contents (sym contents ∙ o.contents) in
+      let number : sapi ≡ sapi_of o.unit.service = sapi_is ∙ ap sapi_of o.service in
+      let has : HasTaken (with_unit m o.unit) [] (record e { units = without_oldest e.units }) t others f g = record {
+        orders = refl;
+        stands = without_unit e s t others m u st is free;
+        loaded = λ items given h.
+            subst (λ x. framer.Stands g (items ++ frame (spelling Network (record { address = record { sapi = x; command = true; tei = o.unit.tei }; control = Ui false; info = o.unit.contents })) ∷ []) given) number
+            (subst (λ x. framer.Stands g (items ++ frame (spelling Network (record { address = record { sapi = sapi; command = true; tei = x }; control = Ui false; info = o.unit.contents })) ∷ []) given) o.tei
+            (subst (λ x. framer.Stands g (items ++ frame (spelling Network (record { address = record { sapi = sapi; command = true; tei = u.tei }; control = Ui false; info = x })) ∷ []) given) info
+            (loaded items given h)));
+      } in
+      subst (λ x. Took x (Some []) m (record e { units = without_oldest e.units }) t others f g) (sym same) has;
+}

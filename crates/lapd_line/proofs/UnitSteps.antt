@@ -1,0 +1,156 @@
+-- Unit data that is asked to be sent: why it is refused, and where it waits.
+use Rattle.std.proofs.Common.{◌≡◌, ℕ, ◌≤◌, ◌<◌, ◌==◌, ◌&&◌, ◌||◌, Bool, true, false, not, nat_lt, nat_le, cond, List, [], ◌∷◌, ◌++◌, length, Option, Some, None, refl, sym, ap, subst, ◌∙◌, arith}
+use Rattle.std.proofs.lemmas.Bool.{ltb-false, leb-false}
+use Rattle.std.proofs.lemmas.List.{map-append, length-map}
+use Rattle.std.specs.Option.{is_some}
+use Rattle.lapd_frame.specs.declared.refusals.Refusal.{Refusal}
+use Rattle.lapd_frame.specs.declared.refusals.Refusal.TheVariants.{BadTei, NoLink, TooLong, QueueFull, PoolFull}
+use Rattle.lapd_frame.specs.declared.services.Service.{Service}
+use Rattle.lapd_store.specs.Ownership.{Owned, Holds, pairs_of}
+use Rattle.lapd_store.specs.Store.{Store, SameLimits, IsFree, with_contents, used_slots}
+use Rattle.lapd_store.proofs.Queues.{Keeps-put}
+use Rattle.lapd_tei.specs.Table.{Places, is_on, place_of}
+use Rattle.lapd_tei.proofs.Tables.{place_of-is, is_on-at}
+use Rattle.lapd_line_machine.specs.declared.config.Config.{Config}
+use Rattle.lapd_line_machine.specs.Answer.{nothing}
+use Rattle.lapd_line_machine.specs.Line.{Line, UnitData}
+use Rattle.lapd_line_machine.specs.Outcome.{at_units, of_aim}
+use Rattle.lapd_line_machine.specs.Refusal.{refusal}
+use Rattle.lapd_line_machine.specs.Request as asked
+use Rattle.lapd_line_machine.specs.Stored.{contents_of}
+use Rattle.lapd_line_machine.proofs.AimsSound.{IsProper, aim_sound}
+use Rattle.lapd_line.specs.declared.entities.Entities.{Entities}
+use Rattle.lapd_line.specs.declared.reports.Outcome.{Outcome}
+use Rattle.lapd_line.specs.declared.units.QueuedUnit.{QueuedUnit}
+use Rattle.lapd_line.specs.Entities.{Stands, Standing, Serves, always}
+use Rattle.lapd_line.specs.Reports.{told_in}
+use Rattle.lapd_line.specs.Units.{UnitRing, AreFor, slots_of, messages_of, unit_pairs, slot_of, with_newest}
+use Rattle.lapd_line.proofs.AskSteps.{off_line}
+use Rattle.lapd_line.proofs.TakeStepsUnits.{as_many, beside_units}
+
+-- a TEI is on the line exactly where it has a place
+pub has_place : (places : Places) (tei : ℕ) → is_some (place_of tei places) ≡ is_on tei places
+has_place places tei = go (place_of tei places) refl
+  where
+    go : (o : Option ℕ) → place_of tei places ≡ o → is_some o ≡ is_on tei places
+    go None is = sym (off_line places tei is)
+    go (Some place) is = sym (is_on-at places place tei (place_of-is places tei place is).1)
+
+-- a row of refusals that does not hold, and what comes after it
+row_passed : (b : Bool) (why : Refusal) (rest : Option Refusal) → cond b (Some why) rest ≡ None → (b ≡ false) × (rest ≡ None)
+row_passed true why rest e = cc
+row_passed false why rest e = (refl, e)
+
+-- an answer that stands after it is the answer of all
+row_passes : {answer rest : Option Refusal} (b : Bool) (why : Refusal) → b ≡ false → answer ≡ rest → answer ≡ cond b (Some why) rest
+row_passes {answer} {rest} b why is same = same ∙ sym (ap (λ t. cond t (Some why) rest) is)
+
+-- neither of two is that not one of them is
+neither : (a b : Bool) → (not a && not b) ≡ not (a || b)
+neither true b = refl
+neither false b = refl
+
+-- as many wait as the machine has
+waiting : (e : Entities) (s : Store) (others : List Owned) (m : Line) → Stands e s others m → length e.units.waiting ≡ length m.units
+waiting e s others m st = sym (length-map e.units.waiting slot_of) ∙ as_many e.units.waiting m.units st.addressed ∙ length-map m.units contents_of
+
+-- No row before those for room holds: then these two are the answer.
+pub room_is_left : (e : Entities) (s : Store) (others : List Owned) (m : Line) (service : Service) (tei octets : ℕ) (contents : List ℕ) (full : Bool) (answer : Option Refusal)
+    → Stands e s others m → length contents ≡ octets → nat_lt 127 tei ≡ false → ((tei == 127) || is_on tei e.teis.places) ≡ true → nat_lt e.config.n201 octets ≡ false
+    → answer ≡ cond (nat_le e.config.unit_queue (length e.units.waiting)) (Some QueueFull) (cond full (Some PoolFull) None)
+    → answer ≡ refusal e.config full (asked.Unit service tei contents) m
+room_is_left e s others m service tei octets contents full answer st size low found short is =
+    let nobody : (not (tei == 127) && not (is_on tei m.management.places)) ≡ false =
+    neither (tei == 127) (is_on tei m.management.places) ∙ ap (λ t. not ((tei == 127) || is_on tei t.places)) st.management ∙ ap not found in
+    row_passes (nat_lt 127 tei) BadTei low
+    (row_passes (not (tei == 127) && not (is_on tei m.management.places)) NoLink nobody
+    (row_passes (nat_lt e.config.n201 (length contents)) TooLong (ap (nat_lt e.config.n201) size ∙ short)
+    (is ∙ ap (λ n. cond (nat_le e.config.unit_queue n) (Some QueueFull) (cond full (Some PoolFull) None)) (waiting e s others m st))))
+
+-- A place in the queue and on the shelf for so many octets.
+pub record HasPlace (e : Entities) (s : Store) (octets : ℕ) : Type 0 where
+  pub size : octets ≤ s.width
+  pub ring : length e.units.waiting < e.units.capacity
+  pub slot : used_slots s < s.slots
+
+-- unit data that is not refused is proper for the line, and the pool is not full
+granted : (c : Config) (full : Bool) (service : Service) (tei : ℕ) (contents : List ℕ) (m : Line) → refusal c full (asked.Unit service tei contents) m ≡ None
+    → IsProper c m (at_units (record { service = service; tei = tei; contents = contents })) × (full ≡ false)
+granted c full service tei contents m e =
+    let bad = row_passed _ _ _ e in
+    let unknown = row_passed _ _ _ bad.1 in
+    let long = row_passed _ _ _ unknown.1 in
+    let queue = row_passed _ _ _ long.1 in
+    let pool = row_passed _ _ _ queue.1 in
+    ((record { tei = ltb-false 127 tei bad.0; size = ltb-false c.n201 (length contents) long.0 }, leb-false c.unit_queue (length m.units) queue.0), pool.0)
+
+-- the answer of the code is that of the machine, whatever the contents of this length
+pub refused_so : (e : Entities) (s : Store) (service : Service) (tei : ℕ) (contents : List ℕ) (slots used : ℕ) (answer : Option Refusal) → used ≡ used_slots s
+    → ((store : Store) (others : List Owned) (m : Line) (service : Service) (info : List ℕ) → Stands e store others m → length info ≡ length contents
+    → answer ≡ refusal e.config (nat_le slots used) (asked.Unit service tei info) m)
+    → (others : List Owned) (m : Line) → Stands e s others m → refusal e.config (nat_le slots (used_slots s)) (asked.Unit service tei contents) m ≡ answer
+refused_so e s service tei contents slots used answer count h = λ others m st.
+    ap (λ n. refusal e.config (nat_le slots n) (asked.Unit service tei contents) m) (sym count) ∙ sym (h s others m service contents st refl)
+
+-- so there is a place for it
+pub placed : (e : Entities) (s : Store) (slots : ℕ) (service : Service) (tei : ℕ) (contents : List ℕ) → Standing e s → slots ≤ s.slots
+    → ((others : List Owned) (m : Line) → Stands e s others m → refusal e.config (nat_le slots (used_slots s)) (asked.Unit service tei contents) m ≡ None)
+    → HasPlace e s (length contents)
+placed e s slots service tei contents (others, m, st) within none =
+    let (proper, free) = granted e.config (nat_le slots (used_slots s)) service tei contents m (none others m st) in
+    record {
+      size = omega (arith, proper.0.size, st.wide);
+      ring = omega (arith, proper.1, waiting e s others m st, st.capacity);
+      slot = omega (arith, leb-false slots (used_slots s) free, within);
+    }
+
+-- one more at the end, for the same terminals
+for_newest : (us : List QueuedUnit) (ds : List UnitData) (u : QueuedUnit) (d : UnitData) → AreFor us ds → u.service ≡ d.service → u.tei ≡ d.tei → AreFor (us ++ u ∷ []) (ds ++ d ∷ [])
+for_newest [] [] u d same service tei = (service, tei, tt)
+for_newest [] (x ∷ ds) u d same service tei = absurd same
+for_newest (x ∷ us) [] u d same service tei = absurd same
+for_newest (x ∷ us) (y ∷ ds) u d same service tei = (same.0, same.1, for_newest us ds u d same.2 service tei)
+
+-- its contents were put in a slot that was free
+newest_held : (s t : Store) (us : List QueuedUnit) (ds : List UnitData) (u : QueuedUnit) (d : UnitData) (rest : List Owned) → AreFor us ds → IsFree s u.slot → t ≡ with_contents s u.slot d.contents
+    → Holds s (unit_pairs us ds ++ rest) → Holds t (unit_pairs (us ++ u ∷ []) (ds ++ d ∷ []) ++ rest)
+newest_held s t us ds u d rest same free stored held =
+    let kept = Keeps-put (slots_of us) (messages_of ds) rest u.slot d.contents free stored (record { lengths = as_many us ds same; held = held }) in
+    subst (λ l. Holds t (pairs_of l (messages_of (ds ++ d ∷ [])) ++ rest)) (sym (map-append slot_of us (u ∷ [])))
+    (subst (λ l. Holds t (pairs_of (slots_of us ++ u.slot ∷ []) l ++ rest)) (sym (map-append contents_of ds (d ∷ []))) kept.held)
+
+-- with one more that waits
+with_unit : (e : Entities) (s t : Store) (others : List Owned) (m : Line) (u : QueuedUnit) (d : UnitData) → Stands e s others m → u.service ≡ d.service → u.tei ≡ d.tei
+    → IsFree s u.slot → t ≡ with_contents s u.slot d.contents → IsProper e.config m (at_units d)
+    → Stands (record e { units = with_newest u e.units }) t others (of_aim e.config (at_units d) m).line
+with_unit e s t others m u d st service tei free stored proper = record {
+  range = st.range;
+  wide = subst (λ x. e.config.n201 ≤ x.width) (sym stored) st.wide;
+  sound = aim_sound e.config st.range m (at_units d) st.sound proper;
+  management = st.management;
+  count = st.count;
+  links = st.links;
+  terms = st.terms;
+  addressed = for_newest e.units.waiting m.units u d st.addressed service tei;
+  capacity = st.capacity;
+  turn = st.turn;
+  held = (beside_units e s others m st).back t (unit_pairs (e.units.waiting ++ u ∷ []) (m.units ++ d ∷ []))
+      (newest_held s t e.units.waiting m.units u d (beside_units e s others m st).rest st.addressed free stored (beside_units e s others m st).held);
+}
+
+-- and the entities have served it
+pub unit_serves : (e : Entities) (s t : Store) (ring : UnitRing) (slots : ℕ) (service : Service) (tei slot : ℕ) (contents : List ℕ) (outcome : Outcome)
+    → ((others : List Owned) (m : Line) → Stands e s others m → refusal e.config (nat_le slots (used_slots s)) (asked.Unit service tei contents) m ≡ None)
+    → IsFree s slot → t ≡ with_contents s slot contents → SameLimits s t → ring ≡ with_newest (record { service = service; tei = tei; slot = slot }) e.units → told_in [] outcome ≡ nothing
+    → Serves (always (at_units (record { service = service; tei = tei; contents = contents }))) [] e s (record e { units = ring }) t outcome
+unit_serves e s t ring slots service tei slot contents outcome none free stored limits pushed told =
+    let d : UnitData = record { service = service; tei = tei; contents = contents } in
+    let u : QueuedUnit = record { service = service; tei = tei; slot = slot } in
+    record {
+      config = refl;
+      limits = limits;
+      stands = λ others m st.
+          subst (λ r. Stands (record e { units = r }) t others (of_aim e.config (at_units d) m).line) (sym pushed)
+          (with_unit e s t others m u d st refl refl free stored (granted e.config (nat_le slots (used_slots s)) service tei contents m (none others m st)).0);
+      told = λ others m st. told;
+    }

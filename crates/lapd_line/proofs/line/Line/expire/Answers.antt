@@ -1,0 +1,8 @@
+use Rattle.lapd_line.proofs.LineSteps.{expired, expiry_told}
+use Rattle.lapd_line.proofs.line.Line.expire.Goals as goal
+
+pub returns-clause-told : goal.returns-clause-told
+returns-clause-told g c = λ others m st. expiry_told c.args.self.now (g.S.Shelf.store c.args.shelf.now) c.expire.new.self (g.S.Shelf.store c.expire.new.shelf) c.args.timer c.expire.result c.report.result c.report.ensures c.expire.ensures others m st
+
+pub returns-clause-after : goal.returns-clause-after
+returns-clause-after g c = expired c.args.self.now (g.S.Shelf.store c.args.shelf.now) c.expire.new.self (g.S.Shelf.store c.expire.new.shelf) c.args.timer c.expire.result c.expire.ensures

@@ -1,0 +1,29 @@
+use Rattle.std.proofs.Common.{ap, nat_le}
+use Rattle.lapd_store.specs.Store.{used_slots}
+use Rattle.lapd_line_machine.specs.Request.{request_of}
+use Rattle.lapd_line.proofs.RequestSteps.{requested, request_told}
+use Rattle.lapd_line.proofs.line.Line.request.Goals as goal
+
+pub request-requires-clause-stands : goal.request-requires-clause-stands
+request-requires-clause-stands g c =
+    let (others, m, st) = c.requires.stands in
+    (others, m, st.entities)
+
+pub returns-in-Ok-clause-accepted : goal.returns-in-Ok-clause-accepted
+returns-in-Ok-clause-accepted g c = λ others m st. c.in-Ok.ensures.granted others m st.entities
+
+pub returns-in-Ok-clause-told : goal.returns-in-Ok-clause-told
+returns-in-Ok-clause-told g c = λ others m st.
+    request_told c.args.self.now (g.S.Shelf.store c.args.shelf.now) c.request.new.self (g.S.Shelf.store c.request.new.shelf) (nat_le c.args.slots (used_slots (g.S.Shelf.store c.args.shelf.now))) (request_of c.args.request) c.in-Ok.outcome
+    c.in-Ok.ensures.granted c.in-Ok.ensures.served c.report.result c.report.ensures others m st
+
+pub returns-in-Ok-clause-after : goal.returns-in-Ok-clause-after
+returns-in-Ok-clause-after g c =
+    requested c.args.self.now (g.S.Shelf.store c.args.shelf.now) c.request.new.self (g.S.Shelf.store c.request.new.shelf) (nat_le c.args.slots (used_slots (g.S.Shelf.store c.args.shelf.now))) (request_of c.args.request) c.in-Ok.outcome
+    c.in-Ok.ensures.granted c.in-Ok.ensures.served
+
+pub returns-in-Err-clause-refused : goal.returns-in-Err-clause-refused
+returns-in-Err-clause-refused g c = λ others m st. c.in-Err.ensures.refused others m st.entities
+
+pub returns-in-Err-clause-unchanged : goal.returns-in-Err-clause-unchanged
+returns-in-Err-clause-unchanged g c = ap (λ e. record c.args.self.now { entities = e }) c.in-Err.ensures.unchanged

@@ -1,0 +1,54 @@
+-- For whom a frame is, by its address.
+use Rattle.std.specs.Prelude.{ℕ, ◌==◌, Bool, true, false, Option, Some, None, if◌then◌else◌}
+use Rattle.lapd_bits.specs.declared.heard.Cause.TheVariants.{Sapi, Tei}
+use Rattle.lapd_frame.specs.declared.addresses.Address.{Address}
+use Rattle.lapd_frame.specs.declared.controls.Control.{Control}
+use Rattle.lapd_frame.specs.declared.controls.Control.TheVariants as control
+use Rattle.lapd_frame.specs.declared.services.Service.{Service}
+use Rattle.lapd_frame.specs.Services.{service_of}
+use Rattle.lapd_link_machine.specs.Events as link
+use Rattle.lapd_tei.specs.Machine.{Management, place}
+use Rattle.lapd_tei.specs.Sound.{IsAt}
+use Rattle.lapd_line_machine.specs.Octet.{management_sapi, group_tei, drop_for}
+use Rattle.lapd_line_machine.specs.Outcome.{Aim, at_link}
+use Rattle.lapd_line.specs.declared.aims.Addressee.{Addressee}
+use Rattle.lapd_line.specs.declared.aims.Addressee.TheVariants as to
+
+abbrev pub at_place : Service → ℕ → Option ℕ → Addressee
+at_place service tei None = to.Nobody Tei
+at_place service tei (Some place) = to.Link service tei place
+
+abbrev pub of_service : Management → ℕ → Option Service → Addressee
+of_service m tei None = to.Nobody Sapi
+of_service m tei (Some service) = at_place service tei (place tei m)
+
+abbrev pub addressee : Management → Address → Addressee
+addressee m address =
+    if address.sapi == management_sapi then (if address.tei == group_tei then to.Management else to.Nobody Tei)
+    else of_service m address.tei (service_of address.sapi)
+
+-- What a frame is to the line, by its addressee: something for a link, or for layer 2 management.
+abbrev pub aim_at : Addressee → link.Received → Aim → Aim
+aim_at to.Management what to_management = to_management
+aim_at (to.Link service tei place) what to_management = at_link service tei place (link.received what)
+aim_at (to.Nobody cause) what to_management = drop_for cause
+
+-- A link's TEI is at its place.
+abbrev pub IsAtPlace : Management → Addressee → Type 0
+IsAtPlace m to.Management = Unit {0}
+IsAtPlace m (to.Link service tei place) = IsAt m.places place tei
+IsAtPlace m (to.Nobody cause) = Unit {0}
+
+-- Of the frames of layer 2 management, UI alone is served.
+abbrev pub is_ui : Control → Bool
+is_ui (control.Information ns nr p) = false
+is_ui (control.ReceiveReady nr pf) = false
+is_ui (control.ReceiveNotReady nr pf) = false
+is_ui (control.Reject nr pf) = false
+is_ui (control.Sabme p) = false
+is_ui (control.Disc p) = false
+is_ui (control.Ui p) = true
+is_ui (control.Ua f) = false
+is_ui (control.Dm f) = false
+is_ui (control.Frmr f) = false
+is_ui (control.Xid pf) = false

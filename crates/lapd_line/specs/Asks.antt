@@ -1,0 +1,21 @@
+-- Why a request of a link is refused, and what one of management.
+use Rattle.std.specs.Prelude.{ℕ, Bool, not, nat_lt, Option, Some, if◌then◌else◌}
+use Rattle.lapd_frame.specs.declared.refusals.Refusal.{Refusal}
+use Rattle.lapd_frame.specs.declared.refusals.Refusal.TheVariants.{BadTei, NoLink}
+use Rattle.lapd_frame.specs.declared.services.Service.{Service}
+use Rattle.lapd_link_machine.specs.Events as link
+use Rattle.lapd_link_machine.specs.Requests as links
+use Rattle.lapd_tei.specs.Events as teis
+use Rattle.lapd_line_machine.specs.declared.config.Config.{Config}
+use Rattle.lapd_line_machine.specs.Line.{Line, has_tei, link_of, terms}
+
+-- The TEI has to be one of a terminal, and on the line; then the link refuses, or not.
+abbrev pub link_refusal : Config → Bool → Service → ℕ → link.Request → Line → Option Refusal
+link_refusal c full service tei request l =
+    if nat_lt 126 tei then Some BadTei
+    else if not (has_tei tei l) then Some NoLink
+    else links.refusal (terms c service tei) (link_of service tei l) full request
+
+-- The TEI has to be one of a terminal; then TEI management refuses, or not.
+abbrev pub management_refusal : ℕ → teis.Event → Line → Option Refusal
+management_refusal tei event l = if nat_lt 126 tei then Some BadTei else teis.refusal event l.management

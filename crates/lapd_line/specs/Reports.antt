@@ -1,0 +1,28 @@
+-- What the answers of a line say, without references.
+use Rattle.std.specs.Prelude.{ℕ, List, [], drop, Option, Some, None, option_map}
+use Rattle.std.specs.Option.{option_copied}
+use Rattle.lapd_bits.specs.Stream as stream
+use Rattle.lapd_frame.specs.ShortLists.{listed}
+use Rattle.lapd_line_machine.specs.Answer.{Told, Answer, pulled}
+use Rattle.lapd_line.specs.declared.reports.Outcome.{Outcome}
+use Rattle.lapd_line.specs.declared.reports.Report.{Report}
+use Rattle.lapd_line.specs.declared.pulled.Pulled.{Pulled}
+
+abbrev pub report_told : Report → Told
+report_told r =
+    record { notes = listed r.notes; contents = option_copied r.delivered; cause = r.cause; orders = listed r.orders; lost = r.lost }
+
+-- What an outcome tells, with the contents that it names lent from these octets.
+abbrev pub told_in : List ℕ → Outcome → Told
+told_in octets o =
+    record { notes = listed o.notes; contents = option_map (λ start. drop start octets) o.contents; cause = o.cause; orders = listed o.orders; lost = o.lost }
+
+-- The octets of a frame that is heard, and none of anything else.
+abbrev pub octets_of : Option stream.Event → List ℕ
+octets_of (Some (stream.frame octets)) = octets
+octets_of (Some (stream.overlong head)) = []
+octets_of (Some (stream.dropped cause)) = []
+octets_of None = []
+
+abbrev pub pulled_of : Pulled → Answer
+pulled_of p = pulled p.octet p.begun (listed p.orders)

@@ -1,0 +1,41 @@
+-- What a line holds of its past.
+use Rattle.std.specs.Prelude.{◌≡◌, List, ℕ, ◌++◌}
+use Rattle.lapd_bits.specs.Deframer as deframer
+use Rattle.lapd_bits.specs.Framer as framer
+use Rattle.lapd_store.specs.Ownership.{Owned}
+use Rattle.lapd_store.specs.Store.{Store, SameLimits}
+use Rattle.lapd_line_machine.specs.declared.config.Config.{Config}
+use Rattle.lapd_line_machine.specs.Answer.{Event}
+use Rattle.lapd_line_machine.specs.Line as machine
+use Rattle.lapd_line_machine.specs.Machine.{after}
+use Rattle.lapd_line.specs.declared.line.Line.{Line}
+use Rattle.lapd_line.specs.Entities as entities
+use Rattle.lapd_line.specs.Links.{links_pairs}
+use Rattle.lapd_line.specs.Reports.{octets_of}
+use Rattle.lapd_line.specs.Units.{unit_pairs}
+
+abbrev pub config_of : Line → Config
+config_of line = line.entities.config
+
+-- The octets of the frame that the latest octet ended; none where it ended no frame.
+abbrev pub latest_frame : Line → List ℕ
+latest_frame line = octets_of (deframer.latest_of line.deframer)
+
+-- What a line owns on the shelf: the slots of its links and of the unit data that waits, with their contents.
+abbrev pub pairs_of : Line → machine.Line → List Owned
+pairs_of line m = links_pairs line.entities.links m.links ++ unit_pairs line.entities.units.waiting m.units
+
+-- A line stands for a past beside others on its shelf: its deframer for the octets received, its framer for the items
+-- sent and the octets given, its entities for the rest; and the shelf holds exactly what the line and the others own.
+pub record Stands (line : Line) (store : Store) (others : List Owned) (m : machine.Line) : Type 0 where
+  pub received : deframer.Stands (config_of line).n201 line.deframer m.received
+  pub sent : framer.Stands line.framer m.items m.given
+  pub room : line.framer.room ≡ (config_of line).n201
+  pub entities : entities.Stands line.entities store others m
+
+-- An event leads a line and its shelf from one value to another: for every past, and every list of what others own, for
+-- which they stood, they stand for that past with the event, and for the same others.
+pub record Leads (event : Event) (old : Line) (s : Store) (new : Line) (t : Store) : Type 0 where
+  pub config : config_of new ≡ config_of old
+  pub limits : SameLimits s t
+  pub stands : (others : List Owned) (m : machine.Line) → Stands old s others m → Stands new t others (after (config_of old) event m)

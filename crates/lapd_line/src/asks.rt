@@ -1,0 +1,251 @@
+//! What layer 3 and management ask for.
+
+ghost use Rattle.std.specs.Prelude.{◌≡◌, ◌≤◌, ◌==◌, ◌||◌, ℕ, List, [], length, Some, None, IfOk, IfErr, OnOk, OnErr, nat_le};
+ghost use Rattle.lapd_frame.specs.declared.services.Service.{Service};
+ghost use Rattle.lapd_frame.specs.declared.refusals.Refusal.TheVariants.{PoolFull};
+ghost use Rattle.lapd_store.specs.Ownership.{Owned};
+ghost use Rattle.lapd_store.specs.Store.{Store, used_slots};
+ghost use Rattle.lapd_tei.specs.Events as teis;
+ghost use Rattle.lapd_tei.specs.Table.{is_on};
+ghost use Rattle.lapd_line_machine.specs.Line.{Line};
+ghost use Rattle.lapd_line_machine.specs.Line as machine;
+ghost use Rattle.lapd_line_machine.specs.Outcome.{at_management, at_units};
+ghost use Rattle.lapd_line_machine.specs.Refusal.{refusal};
+ghost use Rattle.lapd_line_machine.specs.Request as asked;
+ghost use Rattle.lapd_line_machine.specs.Request.{request_of};
+ghost use Rattle.lapd_line_machine.specs.Requested.{aim_of_request, at_requested};
+ghost use Rattle.lapd_line.specs.Asks.{link_refusal, management_refusal};
+
+use crate::entities::{Entities, link_number};
+use crate::reports::Outcome;
+use crate::units::QueuedUnit;
+use lapd_frame::{Refusal, Service};
+use lapd_line_machine::Request;
+use lapd_link::LinkRequest;
+use lapd_store::Shelf;
+
+/// The greatest TEI of a terminal, and that of the group (Q.921 clause 3.3.4).
+const LAST_TEI: u8 = 126;
+
+const GROUP: u8 = 127;
+
+impl Entities {
+    ghost use Rattle.lapd_link.specs.Events as link;
+    ghost use Rattle.lapd_line.specs.Entities.{Standing, Stands, Serves, always};
+
+    /// Serves a request, or refuses it and changes nothing.
+    pub(crate) fn request<S: Shelf>(
+        &mut self,
+        request: Request<'_>,
+        shelf: &mut S,
+        slots: u32,
+    ) -> Result<Outcome, Refusal>
+        requires stands { Standing self.old (S.store shelf.old) }
+        requires slots { slots ≤ (S.store shelf.old).slots }
+        ensures refused { IfErr result (λ why. (others : List Owned) (m : Line) → Stands self.old (S.store shelf.old) others m
+            → refusal self.old.config (nat_le slots (used_slots (S.store shelf.old))) (request_of request.entry) m ≡ Some why) }
+        ensures unchanged { OnErr result (self.new ≡ self.old) }
+        ensures kept { OnErr result (shelf.new ≡ shelf.old) }
+        ensures granted { OnOk result ((others : List Owned) (m : Line) → Stands self.old (S.store shelf.old) others m
+            → refusal self.old.config (nat_le slots (used_slots (S.store shelf.old))) (request_of request.entry) m ≡ None) }
+        ensures served { IfOk result (Serves (aim_of_request (request_of request.entry)) [] self.old (S.store shelf.old) self.new (S.store shelf.new)) }
+    {
+        match request {
+            Request::Establish(service, tei) => self.ask(
+                service,
+                tei,
+                LinkRequest::Establish,
+                shelf,
+                slots,
+            ),
+            Request::Release(service, tei) => self.ask(
+                service,
+                tei,
+                LinkRequest::Release,
+                shelf,
+                slots,
+            ),
+            Request::Data(service, tei, contents) => self.ask(
+                service,
+                tei,
+                LinkRequest::Data(contents),
+                shelf,
+                slots,
+            ),
+            Request::Unit(service, tei, contents) => self.unit(
+                service, tei, contents, shelf, slots,
+            ),
+            Request::Assign(tei) => self.assign(tei, shelf),
+            Request::Remove(tei) => self.remove(tei, shelf),
+            Request::Check(tei) => self.check(tei, shelf),
+            Request::SetBusy(service, tei) => self.ask(
+                service,
+                tei,
+                LinkRequest::SetBusy,
+                shelf,
+                slots,
+            ),
+            Request::ClearBusy(service, tei) => self.ask(
+                service,
+                tei,
+                LinkRequest::ClearBusy,
+                shelf,
+                slots,
+            ),
+        }
+    }
+
+    /// Asks the link of a service with a TEI.
+    fn ask<S: Shelf>(
+        &mut self,
+        service: Service,
+        tei: u8,
+        request: LinkRequest<'_>,
+        shelf: &mut S,
+        slots: u32,
+    ) -> Result<Outcome, Refusal>
+        requires stands { Standing self.old (S.store shelf.old) }
+        requires slots { slots ≤ (S.store shelf.old).slots }
+        ensures refused { IfErr result (λ why. (others : List Owned) (m : Line) → Stands self.old (S.store shelf.old) others m
+            → link_refusal self.old.config (nat_le slots (used_slots (S.store shelf.old))) service tei (link.request_of request.entry) m ≡ Some why) }
+        ensures unchanged { OnErr result (self.new ≡ self.old) }
+        ensures kept { OnErr result (shelf.new ≡ shelf.old) }
+        ensures granted { OnOk result ((others : List Owned) (m : Line) → Stands self.old (S.store shelf.old) others m
+            → link_refusal self.old.config (nat_le slots (used_slots (S.store shelf.old))) service tei (link.request_of request.entry) m ≡ None) }
+        ensures served { IfOk result (Serves (λ m. at_requested service tei (link.request_of request.entry) (machine.place_in m tei)) [] self.old (S.store shelf.old) self.new (S.store shelf.new)) }
+    {
+        if tei > LAST_TEI {
+            return Err(Refusal::BadTei);
+        }
+        let Some(place) = self.teis.place(tei) else {
+            return Err(Refusal::NoLink);
+        };
+        match self
+            .links
+            .request(link_number(place, service), request, shelf, slots)
+        {
+            Ok(answer) => Ok(Outcome::of_link(answer, 0)),
+            Err(why) => Err(why),
+        }
+    }
+
+    /// Puts a TEI on the line.
+    fn assign<S: Shelf>(&mut self, tei: u8, shelf: &mut S) -> Result<Outcome, Refusal>
+        requires { Standing self.old (S.store shelf.old) }
+        ensures refused { IfErr result (λ why. (others : List Owned) (m : Line) → Stands self.old (S.store shelf.old) others m
+            → management_refusal tei (teis.assign tei) m ≡ Some why) }
+        ensures unchanged { OnErr result (self.new ≡ self.old) }
+        ensures kept { OnErr result (shelf.new ≡ shelf.old) }
+        ensures granted { OnOk result ((others : List Owned) (m : Line) → Stands self.old (S.store shelf.old) others m
+            → management_refusal tei (teis.assign tei) m ≡ None) }
+        ensures served { IfOk result (Serves (always (at_management (teis.assign tei))) [] self.old (S.store shelf.old) self.new (S.store shelf.new)) }
+    {
+        if tei > LAST_TEI {
+            return Err(Refusal::BadTei);
+        }
+        match self.teis.assign(tei) {
+            Ok(told) => Ok(self.change(told, shelf)),
+            Err(why) => Err(why),
+        }
+    }
+
+    /// Takes a TEI off the line.
+    fn remove<S: Shelf>(&mut self, tei: u8, shelf: &mut S) -> Result<Outcome, Refusal>
+        requires { Standing self.old (S.store shelf.old) }
+        ensures refused { IfErr result (λ why. (others : List Owned) (m : Line) → Stands self.old (S.store shelf.old) others m
+            → management_refusal tei (teis.remove tei) m ≡ Some why) }
+        ensures unchanged { OnErr result (self.new ≡ self.old) }
+        ensures kept { OnErr result (shelf.new ≡ shelf.old) }
+        ensures granted { OnOk result ((others : List Owned) (m : Line) → Stands self.old (S.store shelf.old) others m
+            → management_refusal tei (teis.remove tei) m ≡ None) }
+        ensures served { IfOk result (Serves (always (at_management (teis.remove tei))) [] self.old (S.store shelf.old) self.new (S.store shelf.new)) }
+    {
+        if tei > LAST_TEI {
+            return Err(Refusal::BadTei);
+        }
+        match self.teis.remove(tei) {
+            Ok(told) => Ok(self.change(told, shelf)),
+            Err(why) => Err(why),
+        }
+    }
+
+    /// Begins a check of a TEI.
+    fn check<S: Shelf>(&mut self, tei: u8, shelf: &mut S) -> Result<Outcome, Refusal>
+        requires { Standing self.old (S.store shelf.old) }
+        ensures refused { IfErr result (λ why. (others : List Owned) (m : Line) → Stands self.old (S.store shelf.old) others m
+            → management_refusal tei (teis.check tei) m ≡ Some why) }
+        ensures unchanged { OnErr result (self.new ≡ self.old) }
+        ensures kept { OnErr result (shelf.new ≡ shelf.old) }
+        ensures granted { OnOk result ((others : List Owned) (m : Line) → Stands self.old (S.store shelf.old) others m
+            → management_refusal tei (teis.check tei) m ≡ None) }
+        ensures served { IfOk result (Serves (always (at_management (teis.check tei))) [] self.old (S.store shelf.old) self.new (S.store shelf.new)) }
+    {
+        if tei > LAST_TEI {
+            return Err(Refusal::BadTei);
+        }
+        match self.teis.check(tei) {
+            Ok(told) => Ok(self.change(told, shelf)),
+            Err(why) => Err(why),
+        }
+    }
+
+    /// Puts unit data at the end of those that wait.
+    fn unit<S: Shelf>(
+        &mut self,
+        service: Service,
+        tei: u8,
+        contents: &[u8],
+        shelf: &mut S,
+        slots: u32,
+    ) -> Result<Outcome, Refusal>
+        requires stands { Standing self.old (S.store shelf.old) }
+        requires slots { slots ≤ (S.store shelf.old).slots }
+        ensures refused { IfErr result (λ why. (others : List Owned) (m : Line) → Stands self.old (S.store shelf.old) others m
+            → refusal self.old.config (nat_le slots (used_slots (S.store shelf.old))) (asked.Unit service tei contents.now) m ≡ Some why) }
+        ensures unchanged { OnErr result (self.new ≡ self.old) }
+        ensures kept { OnErr result (shelf.new ≡ shelf.old) }
+        ensures granted { OnOk result ((others : List Owned) (m : Line) → Stands self.old (S.store shelf.old) others m
+            → refusal self.old.config (nat_le slots (used_slots (S.store shelf.old))) (asked.Unit service tei contents.now) m ≡ None) }
+        ensures served { IfOk result (Serves (always (at_units (record { service = service; tei = tei; contents = contents.now }))) [] self.old (S.store shelf.old) self.new (S.store shelf.new)) }
+    {
+        if let Some(why) = self.unit_refusal(tei, contents.len(), slots <= shelf.used()) {
+            return Err(why);
+        }
+        // There is a free slot: fewer than `slots` are used.
+        let Some(slot) = shelf.put(contents) else {
+            return Err(Refusal::PoolFull);
+        };
+        self.units.push(QueuedUnit { service, tei, slot });
+        Ok(Outcome::nothing())
+    }
+
+    /// Why unit data of so many octets is refused.
+    fn unit_refusal(&self, tei: u8, octets: usize, pool_is_full: bool) -> Option<Refusal>
+        ensures { (store : Store) (others : List Owned) (m : Line) (service : Service) (contents : List ℕ) → Stands self.now store others m → length contents ≡ octets
+            → result ≡ refusal self.now.config pool_is_full (asked.Unit service tei contents) m }
+    {
+        if tei > GROUP {
+            return Some(Refusal::BadTei);
+        }
+        if !self.has_receiver(tei) {
+            return Some(Refusal::NoLink);
+        }
+        if octets > usize::from(self.config.n201) {
+            return Some(Refusal::TooLong);
+        }
+        if self.units.len() >= usize::from(self.config.unit_queue) {
+            return Some(Refusal::QueueFull);
+        }
+        if pool_is_full {
+            return Some(Refusal::PoolFull);
+        }
+        None
+    }
+
+    /// Whether there may be someone for unit data: the group, or a terminal whose TEI is on the line.
+    fn has_receiver(&self, tei: u8) -> bool
+        ensures { result ≡ ((tei == 127) || is_on tei self.now.teis.places) }
+    {
+        tei == GROUP || self.teis.place(tei).is_some()
+    }
+}

@@ -1,0 +1,55 @@
+//! Timers that expire.
+
+ghost use Rattle.std.specs.Prelude.{[]};
+ghost use Rattle.lapd_line_machine.specs.Expiry.{aim_of_expiry, at_timer};
+ghost use Rattle.lapd_line_machine.specs.Line as machine;
+ghost use Rattle.lapd_line_machine.specs.Outcome.{at_management};
+ghost use Rattle.lapd_tei.specs.Events as teis;
+
+use crate::entities::Entities;
+use crate::reports::Outcome;
+use lapd_frame::{Service, Timer};
+use lapd_link::LinkTimer;
+use lapd_store::Shelf;
+
+impl Entities {
+    ghost use Rattle.lapd_line.specs.Entities.{Standing, Serves, always};
+
+    /// A timer expires. Where it does not run, nothing happens.
+    pub(crate) fn expire<S: Shelf>(&mut self, timer: Timer, shelf: &mut S) -> Outcome
+        requires { Standing self.old (S.store shelf.old) }
+        ensures { Serves (aim_of_expiry timer) [] self.old (S.store shelf.old) self.new (S.store shelf.new) result }
+    {
+        match timer {
+            Timer::T200(service, tei) => self.expire_at(service, tei, LinkTimer::T200, shelf),
+            Timer::T203(service, tei) => self.expire_at(service, tei, LinkTimer::T203, shelf),
+            Timer::T201 => self.expire_check(shelf),
+        }
+    }
+
+    /// A timer of a link expires, where its TEI is on the line.
+    fn expire_at<S: Shelf>(
+        &mut self,
+        service: Service,
+        tei: u8,
+        timer: LinkTimer,
+        shelf: &mut S,
+    ) -> Outcome
+        requires { Standing self.old (S.store shelf.old) }
+        ensures { Serves (λ m. at_timer service tei timer (machine.place_in m tei)) [] self.old (S.store shelf.old) self.new (S.store shelf.new) result }
+    {
+        match self.teis.place(tei) {
+            Some(place) => self.expire_link(service, tei, place, timer, shelf),
+            None => Outcome::nothing(),
+        }
+    }
+
+    /// The timer of the check expires.
+    fn expire_check<S: Shelf>(&mut self, shelf: &mut S) -> Outcome
+        requires { Standing self.old (S.store shelf.old) }
+        ensures { Serves (always (at_management teis.expiry)) [] self.old (S.store shelf.old) self.new (S.store shelf.new) result }
+    {
+        let told = self.teis.expire_t201();
+        self.change(told, shelf)
+    }
+}

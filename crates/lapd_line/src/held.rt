@@ -1,0 +1,38 @@
+//! How many octets the entities of a line hold beside contents in slots.
+
+ghost use Rattle.std.specs.Prelude.{◌≡◌, ◌+◌, ◌≤◌, List};
+ghost use Rattle.lapd_store.specs.Ownership.{Owned};
+ghost use Rattle.lapd_store.specs.Store.{Store};
+ghost use Rattle.lapd_line_machine.specs.Line as machine;
+ghost use Rattle.lapd_line_machine.specs.Stored.{sum_of_links, held_by_link};
+ghost use Rattle.lapd_tei.specs.Machine.{held};
+
+use crate::entities::Entities;
+
+impl Entities {
+    ghost use Rattle.lapd_line.specs.Entities.{Standing, Stands};
+
+    /// How many octets they hold: of messages and control frames that wait, and of assignments that are remembered.
+    pub(crate) fn held(&self) -> u32
+        requires { (store : Store) × Standing self.now store }
+        ensures held { (store : Store) (others : List Owned) (m : machine.Line) → Stands self.now store others m
+            → result ≡ held m.management + sum_of_links self.now.config (held_by_link self.now.config m) }
+        ensures few { result ≤ 1068 }
+    {
+        self.teis.held() + self.held_by_links()
+    }
+
+    // How many the links hold, of control frames that wait.
+    fn held_by_links(&self) -> u32
+        requires { (store : Store) × Standing self.now store }
+        ensures held { (store : Store) (others : List Owned) (m : machine.Line) → Stands self.now store others m
+            → result ≡ sum_of_links self.now.config (held_by_link self.now.config m) }
+        ensures few { result ≤ 1024 }
+    {
+        let mut octets = 0;
+        for number in 0..2 * usize::from(self.config.terminals) {
+            octets += self.links.held(number);
+        }
+        octets
+    }
+}

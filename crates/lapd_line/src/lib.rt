@@ -1,0 +1,35 @@
+//! A line of a card: what is heard in its octets, TEI management, the links of its TEIs, unit data, and what goes out.
+//!
+//! A [`Line`] takes what happens to it one event at a time, and answers as the machine of `lapd_line_machine` does, for
+//! every past (`specs/Stands.antt` says what a line stands for). Contents that wait lie on a shelf that other lines use
+//! too. After the start no call takes memory.
+//!
+//! - `line`: the calls: an octet that comes, a timer that expires, a request, and an octet that goes out; and the state of
+//!   a link, and how many octets the line stores.
+//! - `entities`: what the calls change beside the bits: TEI management, links and units; `starts`, how they begin; `aims`,
+//!   what is heard; `expiries`, timers; `changes`, links that open and are cleared; `asks`, what is requested of a
+//!   link, of TEI management and as unit data; `takes`, what goes out; `held`, what they store.
+//! - `links`, `units`: the links of all places of the TEI table, and the unit data that waits.
+//! - `reports`, `pulled`: the answers; `fault`: why a line can't be started.
+#![tactic(auto)]
+
+mod aims;
+mod asks;
+mod changes;
+mod entities;
+mod expiries;
+mod fault;
+mod held;
+mod line;
+mod links;
+mod pulled;
+mod reports;
+mod starts;
+mod takes;
+mod units;
+
+pub use fault::StartFault;
+pub use lapd_line_machine::{Config, Field, Request};
+pub use line::Line;
+pub use pulled::Pulled;
+pub use reports::{Outcome, Report};

@@ -1,0 +1,184 @@
+//! The links of a line.
+
+ghost use Rattle.std.specs.Prelude.{◌≡◌, ◌<◌, ◌≤◌, List, [], length, set, nat_le, Some, None, IfOk, IfErr, OnOk, OnErr};
+ghost use Rattle.lapd_store.specs.Ownership.{Owned};
+ghost use Rattle.lapd_store.specs.Store.{Store, used_slots};
+ghost use Rattle.lapd_link_machine.specs.Events as event;
+ghost use Rattle.lapd_link_machine.specs.Link as machine;
+ghost use Rattle.lapd_link_machine.specs.Rises.{held};
+ghost use Rattle.lapd_link_machine.specs.Link.{address_at};
+ghost use Rattle.lapd_link_machine.specs.declared.terms.Terms.{Terms};
+ghost use Rattle.lapd_line_machine.specs.declared.config.Config.{Config};
+ghost use Rattle.lapd_line_machine.specs.Line.{terms, window};
+ghost use Rattle.lapd_line_machine.specs.Sound.{IsInRange};
+
+use crate::fault::StartFault;
+use lapd_frame::{Address, Refusal, Service};
+use lapd_line_machine::Config;
+use lapd_link::{Answer, Link, LinkRequest, LinkTimer, Offer, Received};
+use lapd_store::Shelf;
+use std::alloc::Global;
+use std::marker::Model;
+
+/// The links of all places of the TEI table, at each place that of call control before that of packet mode.
+#[derive(Drop)]
+pub(crate) struct Links {
+    all: Vec<Link>,
+}
+
+impl Model for Links {
+    ghost use Rattle.std.specs.Prelude.{List};
+    ghost use Rattle.lapd_link.specs.declared.link.Link.{Link};
+
+    ghost Value = { List Link };
+
+    ghost view = { λ l. l.all.items };
+}
+
+impl Links {
+    ghost use Rattle.lapd_link.specs.Events.{received_of, request_of, info_of};
+    ghost use Rattle.lapd_line.specs.Links.{LinksStand, Offers, Serves, Refuses, HasTerms, machine_at, terms_in};
+    ghost use Rattle.lapd_line.specs.Starts.{AreBegun};
+
+    /// The links of a line on which no TEI is: two for each place.
+    pub(crate) fn start(alloc: Global, config: &Config) -> Result<Links, StartFault>
+        requires { IsInRange config.now }
+        ensures { IfOk result (λ links. AreBegun config.now links) }
+    {
+        let count = 2 * usize::from(config.terminals);
+        let mut all = Vec::with_capacity(alloc, count)?;
+        for _ in 0..count {
+            let link = Link::start(alloc, config.queue as u8, config.control as u8)?;
+            all.push_reserved(link);
+        }
+        Ok(Links { all })
+    }
+
+    /// Something came from the terminal of a link.
+    pub(crate) fn receive<S: Shelf>(
+        &mut self,
+        number: usize,
+        received: Received<'_>,
+        shelf: &mut S,
+    ) -> Answer
+        requires within { number < length self.old }
+        requires stands { (c : Config) × (others : List Owned) × (ms : List machine.Link) × LinksStand c self.old (S.store shelf.old) others ms }
+        ensures { Serves number (event.received (received_of received.entry)) (info_of received.entry) self.old (S.store shelf.old) self.new (S.store shelf.new) result }
+    {
+        self.all[number].receive(received, shelf)
+    }
+
+    /// A timer of a link expires.
+    pub(crate) fn expire<S: Shelf>(
+        &mut self,
+        number: usize,
+        timer: LinkTimer,
+        shelf: &mut S,
+    ) -> Answer
+        requires within { number < length self.old }
+        requires stands { (c : Config) × (others : List Owned) × (ms : List machine.Link) × LinksStand c self.old (S.store shelf.old) others ms }
+        ensures { Serves number (event.expired timer) [] self.old (S.store shelf.old) self.new (S.store shelf.new) result }
+    {
+        self.all[number].expire(timer, shelf)
+    }
+
+    /// The TEI of a link leaves the line.
+    pub(crate) fn clear<S: Shelf>(&mut self, number: usize, shelf: &mut S) -> Answer
+        requires within { number < length self.old }
+        requires stands { (c : Config) × (others : List Owned) × (ms : List machine.Link) × LinksStand c self.old (S.store shelf.old) others ms }
+        ensures { Serves number event.cleared [] self.old (S.store shelf.old) self.new (S.store shelf.new) result }
+    {
+        self.all[number].clear(shelf)
+    }
+
+    /// Layer 3 asks a link for something.
+    pub(crate) fn request<S: Shelf>(
+        &mut self,
+        number: usize,
+        request: LinkRequest<'_>,
+        shelf: &mut S,
+        slots: u32,
+    ) -> Result<Answer, Refusal>
+        requires within { number < length self.old }
+        requires stands { (c : Config) × (others : List Owned) × (ms : List machine.Link) × LinksStand c self.old (S.store shelf.old) others ms }
+        requires slots { slots ≤ (S.store shelf.old).slots }
+        ensures refused { IfErr result (λ why. Refuses number (nat_le slots (used_slots (S.store shelf.old))) (request_of request.entry) self.old (S.store shelf.old) (Some why)) }
+        ensures unchanged { OnErr result (self.new ≡ self.old) }
+        ensures kept { OnErr result (shelf.new ≡ shelf.old) }
+        ensures granted { OnOk result (Refuses number (nat_le slots (used_slots (S.store shelf.old))) (request_of request.entry) self.old (S.store shelf.old) None) }
+        ensures served { IfOk result (Serves number (event.requested (request_of request.entry) (nat_le slots (used_slots (S.store shelf.old)))) [] self.old (S.store shelf.old) self.new (S.store shelf.new)) }
+    {
+        self.all[number].request(request, shelf, slots)
+    }
+
+    /// How many they are.
+    pub(crate) fn len(&self) -> usize
+        ensures { result ≡ length self.now }
+    {
+        self.all.len()
+    }
+
+    /// What a link has to give, if it has something.
+    pub(crate) fn offer(&mut self, number: usize) -> Option<Offer>
+        requires within { number < length self.old }
+        requires stands { (c : Config) × (store : Store) × (others : List Owned) × (ms : List machine.Link) × LinksStand c self.old store others ms }
+        ensures { Offers number self.old self.new result }
+    {
+        self.all[number].offer()
+    }
+
+    /// The address of the frames that a link sends.
+    pub(crate) fn address(&self, number: usize, command: bool) -> Address
+        requires within { number < length self.now }
+        ensures { (terms : Terms) → HasTerms self.now number terms → result ≡ address_at terms command }
+    {
+        self.all[number].address(command)
+    }
+
+    /// The state of a link, 4 to 8; none where there is no such link.
+    pub(crate) fn state(&self, number: usize) -> Option<u8>
+        ensures { (c : Config) (store : Store) (others : List Owned) (ms : List machine.Link) → number < length self.now → LinksStand c self.now store others ms
+            → result ≡ Some (machine.state_number (machine_at ms number).state) }
+    {
+        Some(self.all.get(number)?.state())
+    }
+
+    /// The octets of the control frames of a link that wait.
+    pub(crate) fn held(&self, number: usize) -> u32
+        requires within { number < length self.now }
+        requires stands { (c : Config) × (store : Store) × (others : List Owned) × (ms : List machine.Link) × LinksStand c self.now store others ms }
+        ensures held { (c : Config) (terms : Terms) (store : Store) (others : List Owned) (ms : List machine.Link) → HasTerms self.now number terms
+            → LinksStand c self.now store others ms → result ≡ held terms (machine_at ms number) }
+        ensures few { result ≤ 64 }
+    {
+        self.all[number].held()
+    }
+
+    /// A TEI comes to the line: the link at its place begins, for its service.
+    pub(crate) fn open(&mut self, number: usize, service: Service, tei: u8, config: &Config)
+        requires within { number < length self.old }
+        requires tei { tei ≤ 126 }
+        requires range { IsInRange config.now }
+        requires down { (store : Store) × (others : List Owned) × (ms : List machine.Link) × LinksStand config.now self.old store others ms
+            × (machine_at ms number ≡ machine.fresh) }
+        ensures terms { terms_in self.new ≡ set (terms_in self.old) number (terms config.now service tei) }
+        ensures stands { (store : Store) (others : List Owned) (ms : List machine.Link) → LinksStand config.now self.old store others ms
+            → LinksStand config.now self.new store others (set ms number machine.fresh) }
+    {
+        let k = window(config, service);
+        self.all[number].open(service, tei, k, config.n200 as u8, config.n201);
+    }
+}
+
+/// The window of a service.
+fn window(config: &Config, service: Service) -> u8
+    requires { IsInRange config.now }
+    ensures window { result ≡ window config.now service }
+    ensures low { 1 ≤ result }
+    ensures high { result ≤ config.now.queue }
+{
+    match service {
+        Service::Call => config.k as u8,
+        Service::Packet => config.k16 as u8,
+    }
+}

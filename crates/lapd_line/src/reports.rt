@@ -1,0 +1,100 @@
+//! What events of a line are answered with.
+
+ghost use Rattle.std.specs.Prelude.{◌≡◌};
+ghost use Rattle.std.specs.Option.{option_copied};
+
+use lapd_bits::Cause;
+use lapd_frame::{Note, Order, ShortList};
+
+/// What an octet, an expiry or an accepted request led to.
+#[derive(Clone, Copy, PartialEq, Eq, Debug)]
+pub struct Report<'a> {
+    notes: ShortList<Note>,
+    orders: ShortList<Order>,
+    /// The contents that a frame delivered: of the I-frame or the UI frame that a note tells of. They are lent until the
+    /// line's next octet.
+    pub delivered: Option<&'a [u8]>,
+    /// Why something was dropped.
+    pub cause: Option<Cause>,
+    /// How many control frames and messages of TEI management found no room to wait: they are lost, as if on the line.
+    pub lost: u8,
+}
+
+/// The same without references: where in the frame that the latest octet ended the delivered contents begin, in place of
+/// the contents. [`Line::lend`](crate::Line::lend) makes the report of it.
+#[derive(Clone, Copy, PartialEq, Eq, Debug)]
+pub struct Outcome {
+    pub(crate) notes: ShortList<Note>,
+    pub(crate) orders: ShortList<Order>,
+    pub(crate) contents: Option<usize>,
+    pub(crate) cause: Option<Cause>,
+    pub(crate) lost: u8,
+}
+
+impl Report<'_> {
+    ghost use Rattle.lapd_line.specs.Reports.{report_told};
+
+    /// What layer 3 and management are told, in order: at most four notes. The machine of a line never tells more
+    /// (`answers_are_short` of `lapd_line_machine`), so none is left out.
+    pub fn notes(&self) -> &[Note]
+        ensures { result.now ≡ (report_told self.now).notes }
+    {
+        self.notes.as_slice()
+    }
+
+    /// What is to be done with timers, in order: at most four orders, which is all that there can be.
+    pub fn orders(&self) -> &[Order]
+        ensures { result.now ≡ (report_told self.now).orders }
+    {
+        self.orders.as_slice()
+    }
+}
+
+impl Outcome {
+    ghost use Rattle.std.specs.Prelude.{ℕ, List};
+    ghost use Rattle.lapd_line_machine.specs.Answer.{nothing, dropped};
+    ghost use Rattle.lapd_line.specs.Reports.{report_told, told_in};
+
+    /// Nothing happened.
+    pub(crate) fn nothing() -> Outcome
+        ensures { (octets : List ℕ) → told_in octets result ≡ nothing }
+    {
+        Outcome {
+            notes: ShortList::none(),
+            orders: ShortList::none(),
+            contents: None,
+            cause: None,
+            lost: 0,
+        }
+    }
+
+    /// Something was dropped without effect.
+    pub(crate) fn dropped(cause: Cause) -> Outcome
+        ensures { (octets : List ℕ) → told_in octets result ≡ dropped cause }
+    {
+        Outcome {
+            cause: Some(cause),
+            ..Outcome::nothing()
+        }
+    }
+
+    /// The report of it, with contents lent from the octets of a frame.
+    pub(crate) fn report<'a>(&self, octets: &'a [u8]) -> Report<'a>
+        ensures { report_told result ≡ told_in octets.now self.now }
+    {
+        Report {
+            notes: self.notes,
+            orders: self.orders,
+            delivered: self.lent(octets),
+            cause: self.cause,
+            lost: self.lost,
+        }
+    }
+
+    fn lent<'a>(&self, octets: &'a [u8]) -> Option<&'a [u8]>
+        ensures { option_copied result ≡ (told_in octets.now self.now).contents }
+    {
+        let start = self.contents?;
+        Some(octets.get(start..).unwrap_or(&[]))
+    }
+}

@@ -1,0 +1,82 @@
+//! Requests that are refused.
+
+use crate::starts::{USUAL, usual_card};
+use lapd_card::{Card, Config, Request};
+use lapd_frame::{Refusal, Service};
+use lapd_store::{Shelf, SlabShelf};
+use std::process::Abort;
+use std::test::Fail;
+
+/// An opening flag, SABME with P=1 of TEI 64, and the flag after it.
+const SABME: [u8; 8] = [0x7E, 0x00, 0x81, 0xEF, 0x50, 0xB1, 0xFD, 0xFC];
+
+const CALL: Service = Service::Call;
+
+const LONG: [u8; 261] = [0x55; 261];
+
+/// Puts TEI 64 on line 0, and establishes its call control link.
+pub fn bring_up<S: Shelf>(rt: &impl Abort, card: &mut Card<S>) {
+    assert!(rt; card.lines() >= 1);
+    assert!(rt; card.request(0, Request::Assign(64)).is_ok());
+    for octet in SABME {
+        assert!(rt; card.lines() >= 1);
+        let _ = card.octet(0, octet);
+    }
+    assert!(rt; card.state(0, CALL, 64) == Some(7));
+}
+
+/// What a request is refused for, where the card stores as much after it as before.
+fn refused<S: Shelf>(card: &mut Card<S>, request: Request<'_>) -> Option<Refusal> {
+    let before = (card.stored(), card.state(0, CALL, 64));
+    if card.lines() == 0 {
+        return None;
+    }
+    let refusal = card.request(0, request).err()?;
+    ((card.stored(), card.state(0, CALL, 64)) == before).then_some(refusal)
+}
+
+#[test]
+fn refusals_of_a_line(rt: HostRuntime) -> Result<(), Fail> {
+    let mut card = usual_card(rt.alloc())?;
+    bring_up(&rt, &mut card);
+    for (request, refusal) in [
+        (Request::Unit(CALL, 128, &[]), Refusal::BadTei),
+        (Request::Establish(CALL, 65), Refusal::NoLink),
+        (Request::Establish(CALL, 64), Refusal::WrongState),
+        (Request::Data(CALL, 64, &LONG), Refusal::TooLong),
+        (Request::Assign(64), Refusal::TeiTaken),
+    ] {
+        assert!(rt; refused(&mut card, request) == Some(refusal));
+    }
+    assert!(rt; refused(&mut card, Request::Check(64)).is_none());
+    assert!(rt; refused(&mut card, Request::Check(64)) == Some(Refusal::CheckRunning));
+    Ok(())
+}
+
+/// Two lines that share two slots.
+const SMALL: Config = Config {
+    lines: 2,
+    terminals: 1,
+    k: 1,
+    k16: 1,
+    queue: 2,
+    unit_queue: 1,
+    slots: 2,
+    ..USUAL
+};
+
+#[test]
+fn a_pool_that_all_lines_share(rt: HostRuntime) -> Result<(), Fail> {
+    let shelf = SlabShelf::start(rt.alloc(), 8, 260)?;
+    let mut card = Card::start(rt.alloc(), SMALL, shelf)?;
+    bring_up(&rt, &mut card);
+    let unit = Request::Unit(CALL, 127, &[0xAB]);
+    assert!(rt; card.lines() == 2);
+    assert!(rt; card.request(1, unit).is_ok());
+    assert!(rt; refused(&mut card, Request::Data(CALL, 64, &[1])).is_none());
+    assert!(rt; refused(&mut card, Request::Data(CALL, 64, &[2])) == Some(Refusal::PoolFull));
+    assert!(rt; refused(&mut card, Request::Assign(65)) == Some(Refusal::TableFull));
+    // One unit of 1 octet, one content of 1, and UA with 3.
+    assert!(rt; card.stored() == 5);
+    Ok(())
+}

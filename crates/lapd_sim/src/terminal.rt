@@ -1,0 +1,63 @@
+//! The sender of a terminal, which is put on a line octet by octet.
+
+ghost use Rattle.std.specs.Prelude.{◌≡◌, ◌+◌, ◌<◌, ◌≤◌, ◌↔◌, length, IsTrue};
+
+use lapd_bits::Framer;
+use std::alloc::{AllocError, Global};
+
+/// The most octets of information in a frame that a terminal sends, or that is found in what is pulled.
+pub(crate) const LONGEST_INFORMATION: u16 = 1024;
+
+/// A frame begins with so many octets of address and control, where it has them.
+const HEAD: usize = 4;
+
+/// The shortest and the longest frame that a terminal sends, in octets without frame check.
+pub(crate) const SHORTEST_FRAME: usize = 3;
+
+pub(crate) const LONGEST_FRAME: usize = HEAD + LONGEST_INFORMATION as usize;
+
+/// The sender of a terminal.
+#[derive(Drop)]
+pub(crate) struct Terminal {
+    framer: Framer,
+    ghost room: { framer.room ≡ 1024 },
+}
+
+impl Terminal {
+    pub(crate) fn start(alloc: Global) -> Result<Terminal, AllocError> {
+        let Ok(framer) = Framer::start(alloc, LONGEST_INFORMATION) else {
+            return Err(AllocError);
+        };
+        Ok(Terminal { framer })
+    }
+
+    /// Whether a whole octet is left to send. No frame can be loaded then.
+    pub(crate) fn is_busy(&self) -> bool
+        ensures { IsTrue result ↔ (8 ≤ length self.now.framer.left) }
+    {
+        self.framer.busy()
+    }
+
+    /// Whether a part of an octet is left, where no whole one is.
+    pub(crate) fn has_rest(&self) -> bool {
+        self.framer.left() > 0
+    }
+
+    /// Takes a frame to send.
+    pub(crate) fn load(&mut self, frame: &[u8])
+        requires not_busy { length self.old.framer.left < 8 }
+        requires short { 3 ≤ length frame.now }
+        requires long { length frame.now ≤ 1028 }
+    {
+        let (head, information) = frame.split_at(frame.len().min(HEAD));
+        self.framer.load(head, information);
+    }
+
+    /// The next octet that it puts on its line.
+    #[tactic(auto, using(crate::proofs::Left::octet_takes))]
+    pub(crate) fn octet(&mut self) -> u8
+        ensures goes_on { 8 ≤ length self.old.framer.left → length self.new.framer.left < length self.old.framer.left }
+    {
+        self.framer.octet()
+    }
+}

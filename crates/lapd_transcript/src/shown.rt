@@ -1,0 +1,134 @@
+//! Writes what a frame says, octets of a line, and the bound of a card.
+
+ghost use Rattle.std.specs.Prelude.{◌≡◌, ◌++◌, decimal, codes, OnOk};
+ghost use Rattle.lapd_transcript.specs.Streams.{Writes, joined};
+ghost use Rattle.lapd_transcript.specs.Text.{octets_text};
+
+use crate::output::{Page, decimal, finish, put_all, put_octets_line};
+use crate::streams::{Target, WriteFailed};
+use arrayvec::ArrayVec;
+use lapd_frame::{Control, Frame};
+use lapd_seq::Seq;
+
+/// What a frame says: whom it is about, its kind, its numbers and its information, in one line.
+///
+/// # Errors
+///
+/// [`WriteFailed`] where a write failed: a beginning has been written then.
+pub fn write_shown<T: Target>(target: &mut T, frame: &Frame<'_>) -> Result<(), WriteFailed>
+    ensures { OnOk result ((T.taken target.new).failures ≡ (T.taken target.old).failures) }
+{
+    let sapi = decimal(u32::from(frame.address.sapi));
+    let tei = decimal(u32::from(frame.address.tei));
+    let (command, bit) = (frame.address.command, bit_of(&frame.control));
+    let (ns, nr) = numbers_of(&frame.control);
+    let (ns_digits, nr_digits) = (digits_of(ns), digits_of(nr));
+    let pieces = [
+        b"sapi ".as_slice(),
+        sapi.as_slice(),
+        b" tei ",
+        tei.as_slice(),
+        one_of(command, b" command ", b" response "),
+        name_of(&frame.control),
+        one_of(ns.is_some(), b" ns ", b""),
+        ns_digits.as_slice(),
+        one_of(nr.is_some(), b" nr ", b""),
+        nr_digits.as_slice(),
+        one_of(command, b" p ", b" f "),
+        one_of(bit, b"1", b"0"),
+        b" info ",
+    ];
+    write_pieces(target, &pieces, frame.info)
+}
+
+/// Octets that are put on a line.
+///
+/// # Errors
+///
+/// [`WriteFailed`] where a write failed: a beginning has been written then.
+pub fn write_line_octets<T: Target>(target: &mut T, octets: &[u8]) -> Result<(), WriteFailed>
+    ensures { Writes result (T.taken target.old) (T.taken target.new) (codes "line " ++ octets_text octets.now ++ codes "\n") }
+{
+    let mut page = Page::new();
+    let put = put_octets_line(target, &mut page, &[b"line ".as_slice()], octets);
+    finish(target, &page, put)
+}
+
+/// Pieces of text and octets, in one line.
+fn write_pieces<T: Target>(target: &mut T, head: &[&[u8]], octets: &[u8]) -> Result<(), WriteFailed>
+    ensures { Writes result (T.taken target.old) (T.taken target.new) (joined head.now ++ octets_text octets.now ++ codes "\n") }
+{
+    let mut page = Page::new();
+    let put = put_octets_line(target, &mut page, head, octets);
+    finish(target, &page, put)
+}
+
+/// How many octets a card holds at most.
+///
+/// # Errors
+///
+/// [`WriteFailed`] where a write failed: a beginning has been written then.
+pub fn write_bound<T: Target>(target: &mut T, bound: u32) -> Result<(), WriteFailed>
+    ensures { Writes result (T.taken target.old) (T.taken target.new) (decimal bound ++ codes "\n") }
+{
+    let mut page = Page::new();
+    let bound = decimal(bound);
+    let put = put_all(target, &mut page, &[bound.as_slice(), b"\n"]);
+    finish(target, &page, put)
+}
+
+fn one_of(test: bool, yes: &'static [u8], no: &'static [u8]) -> &'static [u8] {
+    if test { yes } else { no }
+}
+
+/// The digits of a number, where there is one.
+fn digits_of(number: Option<Seq>) -> ArrayVec<u8, 11> {
+    match number {
+        Some(number) => decimal(u32::from(number.value)),
+        None => ArrayVec::new(),
+    }
+}
+
+/// N(S) and N(R), where the frame has them.
+fn numbers_of(control: &Control) -> (Option<Seq>, Option<Seq>) {
+    match *control {
+        Control::Information { ns, nr, .. } => (Some(ns), Some(nr)),
+        Control::ReceiveReady { nr, .. }
+        | Control::ReceiveNotReady { nr, .. }
+        | Control::Reject { nr, .. } => (None, Some(nr)),
+        _ => (None, None),
+    }
+}
+
+/// P of a command, or F of a response.
+fn bit_of(control: &Control) -> bool {
+    match *control {
+        Control::Information { pf, .. }
+        | Control::ReceiveReady { pf, .. }
+        | Control::ReceiveNotReady { pf, .. }
+        | Control::Reject { pf, .. }
+        | Control::Sabme { pf }
+        | Control::Disc { pf }
+        | Control::Ui { pf }
+        | Control::Ua { pf }
+        | Control::Dm { pf }
+        | Control::Frmr { pf }
+        | Control::Xid { pf } => pf,
+    }
+}
+
+fn name_of(control: &Control) -> &'static [u8] {
+    match control {
+        Control::Information { .. } => b"i",
+        Control::ReceiveReady { .. } => b"rr",
+        Control::ReceiveNotReady { .. } => b"rnr",
+        Control::Reject { .. } => b"rej",
+        Control::Sabme { .. } => b"sabme",
+        Control::Disc { .. } => b"disc",
+        Control::Ui { .. } => b"ui",
+        Control::Ua { .. } => b"ua",
+        Control::Dm { .. } => b"dm",
+        Control::Frmr { .. } => b"frmr",
+        Control::Xid { .. } => b"xid",
+    }
+}

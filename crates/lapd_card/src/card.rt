@@ -19,7 +19,7 @@ use std::marker::Model;
 ///
 /// All memory is taken by [`Card::start`]; no other call takes any. Lines are counted from 0, and each call but `state`
 /// wants one that the card has.
-#[derive(Drop)]
+#[derive(Debug, Drop)]
 pub struct Card<S: Shelf> {
     pub(crate) config: Config,
     pub(crate) lines: Lines,

@@ -19,7 +19,7 @@ use std::alloc::Global;
 use std::marker::Model;
 
 /// The lines of a card, counted from 0.
-#[derive(Drop)]
+#[derive(Debug, Drop)]
 pub(crate) struct Lines {
     lines: Vec<Line>,
 }

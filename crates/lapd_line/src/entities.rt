@@ -19,7 +19,7 @@ use lapd_store::Shelf;
 use lapd_tei::Teis;
 
 /// What a line has beside its bits.
-#[derive(Drop)]
+#[derive(Debug, Drop)]
 pub(crate) struct Entities {
     pub(crate) config: Config,
     pub(crate) teis: Teis,

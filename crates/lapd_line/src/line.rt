@@ -26,7 +26,7 @@ use std::alloc::Global;
 ///
 /// Contents that wait lie on a shelf, which is handed to each call and is always the same one. All memory of the line
 /// itself is taken by [`Line::start`]; no other call takes any.
-#[derive(Drop)]
+#[derive(Debug, Drop)]
 pub struct Line {
     deframer: Deframer,
     framer: Framer,

@@ -21,7 +21,7 @@ use std::alloc::Global;
 use std::marker::Model;
 
 /// The links of all places of the TEI table, at each place that of call control before that of packet mode.
-#[derive(Drop)]
+#[derive(Debug, Drop)]
 pub(crate) struct Links {
     all: Vec<Link>,
 }

@@ -17,7 +17,7 @@ pub(crate) struct QueuedUnit {
 }
 
 /// The unit data of a line, oldest first.
-#[derive(Drop)]
+#[derive(Debug, Drop)]
 pub(crate) struct Units {
     ring: HeapCircularBuffer<QueuedUnit>,
 }

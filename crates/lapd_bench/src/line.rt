@@ -2,8 +2,8 @@
 
 ghost use Rattle.std.specs.Prelude.{◌≤◌};
 
+use crate::fault::Fault;
 use crate::sender::Sender;
-use anyhow::Result;
 use std::alloc::{AllocError, Global};
 
 /// How many octets a round has.
@@ -57,7 +57,7 @@ pub fn information() -> [u8; 260] {
 }
 
 /// A round of frames with so many octets of information in no order, one flag between them.
-pub fn framed(alloc: Global, len: usize) -> Result<Vec<u8>>
+pub fn framed(alloc: Global, len: usize) -> Result<Vec<u8>, Fault>
     requires { len ≤ 260 }
 {
     let mut sender = Sender::start(alloc, information(), len)?;

@@ -5,17 +5,20 @@
 #![tactic(auto)]
 
 mod done;
+mod fault;
 mod line;
+mod lines;
 mod sender;
+mod terminal;
 mod work;
 
+use crate::fault::Fault;
 use crate::work::{WORKS, Work};
-use anyhow::{Context, Result, ensure};
 use std::alloc::Global;
 use std::env;
 
 /// Does one kind of work, and prints how much it was.
-fn report(rt: &impl Print, alloc: Global, work: Work, rounds: u32) -> Result<()> {
+fn report(rt: &impl Print, alloc: Global, work: Work, rounds: u32) -> Result<(), Fault> {
     let done = work.run(alloc, rounds)?;
     println!(rt;
         "{} {} octets {} frames {} held sum {}",
@@ -28,10 +31,14 @@ fn report(rt: &impl Print, alloc: Global, work: Work, rounds: u32) -> Result<()>
     Ok(())
 }
 
-fn main(rt: HostRuntime) -> Result<()> {
+fn main(rt: HostRuntime) -> Result<(), Fault> {
     let words = env::args(&rt)?.skip(1).collect::<Vec<String>>(rt.alloc())?;
-    let name = words.get(0).context("which work?")?;
-    let rounds = words.get(1).context("how many rounds?")?.parse::<u32>()?;
+    let [name, rounds] = words.as_slice() else {
+        return Err(Fault::Words);
+    };
+    let Ok(rounds) = rounds.parse::<u32>() else {
+        return Err(Fault::Words);
+    };
     let mut is_known = false;
     for work in WORKS {
         if name.as_str() == "all" || name.as_str() == work.name() {
@@ -39,6 +46,5 @@ fn main(rt: HostRuntime) -> Result<()> {
             report(&rt, rt.alloc(), work, rounds)?;
         }
     }
-    ensure!(is_known, "no such work");
-    Ok(())
+    if is_known { Ok(()) } else { Err(Fault::Words) }
 }

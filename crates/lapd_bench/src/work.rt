@@ -3,9 +3,10 @@
 ghost use Rattle.std.specs.Prelude.{◌≤◌};
 
 use crate::done::Done;
+use crate::fault::Fault;
 use crate::line::{ROUND, framed, in_no_order, information, repeated};
+use crate::lines::{Traffic, exchange};
 use crate::sender::{N201, Sender};
-use anyhow::Result;
 use lapd_bits::{Deframer, Heard, fcs};
 use std::alloc::Global;
 
@@ -37,10 +38,12 @@ pub enum Work {
     SendShort,
     /// The same of frames of 260 octets.
     SendLong,
+    /// A card with so many lines.
+    Card(Traffic, u16),
 }
 
 /// All of them.
-pub const WORKS: [Work; 8] = [
+pub const WORKS: [Work; 20] = [
     Work::Check,
     Work::HearShort,
     Work::HearLong,
@@ -49,6 +52,18 @@ pub const WORKS: [Work; 8] = [
     Work::HearOnes,
     Work::SendShort,
     Work::SendLong,
+    Work::Card(Traffic::Idle, 1),
+    Work::Card(Traffic::Idle, 64),
+    Work::Card(Traffic::Inward, 1),
+    Work::Card(Traffic::Inward, 64),
+    Work::Card(Traffic::Outward, 1),
+    Work::Card(Traffic::Outward, 64),
+    Work::Card(Traffic::Polls, 1),
+    Work::Card(Traffic::Polls, 64),
+    Work::Card(Traffic::Sabme, 1),
+    Work::Card(Traffic::Sabme, 64),
+    Work::Card(Traffic::Faulty, 1),
+    Work::Card(Traffic::Faulty, 64),
 ];
 
 impl Work {
@@ -63,11 +78,12 @@ impl Work {
             Work::HearOnes => "hear-ones",
             Work::SendShort => "send-short",
             Work::SendLong => "send-long",
+            Work::Card(traffic, lines) => traffic.name(lines == 1),
         }
     }
 
     /// Does so many rounds of it.
-    pub fn run(self, alloc: Global, rounds: u32) -> Result<Done> {
+    pub fn run(self, alloc: Global, rounds: u32) -> Result<Done, Fault> {
         match self {
             Work::Check => check(alloc, rounds),
             Work::HearShort => hear(alloc, &framed(alloc, SHORT)?, rounds),
@@ -77,12 +93,13 @@ impl Work {
             Work::HearOnes => hear(alloc, &repeated(alloc, 0xFF)?, rounds),
             Work::SendShort => send(alloc, SHORT, rounds),
             Work::SendLong => send(alloc, LONG, rounds),
+            Work::Card(traffic, lines) => exchange(alloc, traffic, lines, rounds),
         }
     }
 }
 
 /// Makes the frame checks of frames of 260 octets.
-fn check(alloc: Global, rounds: u32) -> Result<Done> {
+fn check(alloc: Global, rounds: u32) -> Result<Done, Fault> {
     let line = in_no_order(alloc)?;
     let mut done = Done::new();
     for _ in 0..rounds {
@@ -103,7 +120,7 @@ fn frames_checked(line: &[u8]) -> u64 {
 }
 
 /// Hears a line over and over.
-fn hear(alloc: Global, line: &[u8], rounds: u32) -> Result<Done> {
+fn hear(alloc: Global, line: &[u8], rounds: u32) -> Result<Done, Fault> {
     let mut deframer = Deframer::start(alloc, N201)?;
     let mut done = Done::new();
     for _ in 0..rounds {
@@ -124,7 +141,7 @@ fn frames_heard(deframer: &mut Deframer, line: &[u8]) -> u64 {
 }
 
 /// Sends frames with so many octets of information.
-fn send(alloc: Global, len: usize, rounds: u32) -> Result<Done>
+fn send(alloc: Global, len: usize, rounds: u32) -> Result<Done, Fault>
     requires { len ≤ 260 }
 {
     let mut sender = Sender::start(alloc, information(), len)?;

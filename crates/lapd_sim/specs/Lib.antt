@@ -1,2 +1,5 @@
 pub mod Faults
 pub mod Lines
+pub mod Stands
+pub mod Obeyed
+pub mod Plays

@@ -1,6 +1,6 @@
 //! How the lines of a script are read: in pieces, into a buffer of fixed size.
 
-ghost use Rattle.std.specs.Prelude.{◌≡◌, ℕ, ◌+◌, ◌-◌, ◌^◌, ◌<◌, ◌≤◌, false, length, vec_len, IfOk, IfErr, IfSome, OnOk, IsTrue};
+ghost use Rattle.std.specs.Prelude.{◌≡◌, ℕ, ◌+◌, ◌-◌, ◌^◌, ◌<◌, ◌≤◌, false, List, Some, length, vec_len, IfOk, IfErr, IfSome, OnOk, IsTrue};
 ghost use Rattle.lapd_sim.specs.Faults.{reads_failed, reads_failed_by, writes_failed};
 
 use crate::faults::PlayFault;
@@ -45,10 +45,14 @@ pub(crate) struct Lines {
 }
 
 impl Lines {
-    ghost use Rattle.lapd_sim.specs.Lines.{left_to_read};
+    ghost use Rattle.lapd_sim.specs.Lines.{left_to_read, current, AreLeft, Advances};
 
     /// No line yet.
-    pub(crate) fn start(alloc: Global) -> Result<Lines, AllocError> {
+    pub(crate) fn start(alloc: Global) -> Result<Lines, AllocError>
+        ensures left { IfOk result (λ lines. (text : List ℕ) → AreLeft lines (Some text) text) }
+        ensures number { IfOk result (λ lines. lines.number ≡ 0) }
+        ensures octets { IfOk result (λ lines. lines.octets ≡ 0) }
+    {
         Ok(Lines {
             buffer: vec![in alloc; 0; ROOM]?,
             start: 0,
@@ -66,6 +70,8 @@ impl Lines {
         ensures reads { S.failures source.new ≡ reads_failed_by result (S.failures source.old) }
         ensures no_write { IfErr result (λ fault. (count : ℕ) → writes_failed fault count ≡ count) }
         ensures goes_on { IfOk result (λ more. IsTrue more → self.old.octets < self.new.octets) }
+        ensures read { (text : List ℕ) → AreLeft self.old (S.remaining source.old) text
+            → Advances result self.old self.new (S.remaining source.new) text }
     {
         self.start = self.next;
         self.end = self.next;
@@ -86,13 +92,16 @@ impl Lines {
 
     /// The current line.
     pub(crate) fn line(&self) -> &[u8]
-        ensures { length result.now ≤ 4096 }
+        ensures short { length result.now ≤ 4096 }
+        ensures current { result.now ≡ current self.now }
     {
         &self.buffer[self.start..self.end]
     }
 
     /// The number of the current line, from 1.
-    pub(crate) fn number(&self) -> u64 {
+    pub(crate) fn number(&self) -> u64
+        ensures { result ≡ self.now.number }
+    {
         self.number
     }
 

@@ -71,10 +71,10 @@ abbrev pub said : List ℕ → Option Bench → Result Said FaultKind
 said line bench = said_by (read line) bench
 
 -- A line can start the card: memory can be refused then, and nothing has been written.
-abbrev pub Does : Result Unit LineFault → Taken → Taken → (Option Bench → Type 0) → Result Said FaultKind → Type 0
-Does (Ok _) old new has (Ok s) = IsWritten old new s.text × has s.bench
-Does (Ok _) old new has (Err kind) = ⊥
-Does (Err (Faulty kind)) old new has said = (new ≡ old) × (said ≡ Err kind)
-Does (Err Write) old new has (Ok s) = IsBroken old new s.text
-Does (Err Write) old new has (Err kind) = ⊥
-Does (Err OutOfMemory) old new has said = new ≡ old
+abbrev pub Does : Result Unit LineFault → Taken → Taken → Option Bench → (Option Bench → Type 0) → Result Said FaultKind → Type 0
+Does (Ok _) old new before has (Ok s) = IsWritten old new s.text × has s.bench
+Does (Ok _) old new before has (Err kind) = ⊥
+Does (Err (Faulty kind)) old new before has said = (new ≡ old) × (said ≡ Err kind)
+Does (Err Write) old new before has (Ok s) = IsBroken old new s.text
+Does (Err Write) old new before has (Err kind) = ⊥
+Does (Err OutOfMemory) old new before has said = (new ≡ old) × (before ≡ None)

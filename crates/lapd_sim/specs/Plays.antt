@@ -27,9 +27,16 @@ pub record IsAnsweredToHere (text : List ℕ) (remaining : Option (List ℕ)) (o
   pub tells : remaining ≡ Some unread
   pub answered : AreAnswered (whole_lines read) old new
 
+-- Memory was refused: before the first line or at the card line, so that nothing has been written.
+pub record IsBeforeCard (text : List ℕ) (old new : Taken) : Type 0 where
+  pub lines : ℕ
+  pub no_card : (played (take lines (pieces_of text))).bench ≡ None
+  pub sound : (played (take lines (pieces_of text))).fault ≡ None
+  pub unwritten : new ≡ old
+
 abbrev pub Plays : Result Unit PlayFault → List ℕ → Option (List ℕ) → Taken → Taken → Type 0
 Plays (Ok _) text remaining old new = (first_fault text ≡ None) × IsWritten old new (transcript text) × (remaining ≡ Some [])
 Plays (Err (Script line kind)) text remaining old new = (first_fault text ≡ Some (record { line = line; kind = kind })) × IsWritten old new (transcript text)
 Plays (Err Read) text remaining old new = IsAnsweredToHere text remaining old new
 Plays (Err Write) text remaining old new = IsBroken old new (transcript text)
-Plays (Err OutOfMemory) text remaining old new = (n : ℕ) × AreAnswered (take n (pieces_of text)) old new
+Plays (Err OutOfMemory) text remaining old new = IsBeforeCard text old new

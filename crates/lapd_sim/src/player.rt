@@ -70,7 +70,7 @@ impl Player {
     fn obey<T: Target>(&mut self, line: &[u8], target: &mut T) -> Result<(), LineFault>
         requires { length line.now ≤ 4096 }
         ensures { (m : Option machine.Bench) → Has self.old.bench m
-            → Does result (T.taken target.old) (T.taken target.new) (Has self.new.bench) (said line.now m) }
+            → Does result (T.taken target.old) (T.taken target.new) m (Has self.new.bench) (said line.now m) }
     {
         let command = match read_line(line, self.octets.as_mut_slice()) {
             Ok(command) => command,

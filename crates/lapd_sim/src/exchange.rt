@@ -10,7 +10,6 @@ ghost use Rattle.lapd_line_machine.specs.Request.{request_of};
 ghost use Rattle.lapd_line_machine.specs.Sound.{IsInRange};
 ghost use Rattle.lapd_sim_machine.specs.Bench as machine;
 ghost use Rattle.lapd_sim_machine.specs.Steps.{with_event, octet_in, at_expiry, until, in_time, after_stored};
-ghost use Rattle.lapd_sim.specs.Obeyed.{scene, Tells, Obeys, Begins};
 
 use crate::faults::LineFault;
 use lapd_card::{Card, CardFault, Config, Request, limit};
@@ -38,6 +37,7 @@ pub(crate) struct Exchange {
 }
 
 impl Exchange {
+    ghost use Rattle.lapd_sim.specs.Obeyed.{scene, Tells, Obeys, Begins};
     ghost use Rattle.lapd_sim.specs.Stands.{Holds};
 
     pub(crate) fn start(alloc: Global, config: Config) -> Result<Exchange, LineFault>

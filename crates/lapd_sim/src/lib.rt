@@ -4,7 +4,8 @@
 //! - `lines`: how the lines of a script are read, in pieces.
 //! - `exchange`: the card that a script is played on, and its clock.
 //! - `terminal`: the sender of a terminal.
-//! - `bench`: the card with the terminals and listeners of its lines.
+//! - `bench`: the card with the terminals and listeners of its lines; `parts`, what it begins with; `traffic`, what comes
+//!   from a line and what a line takes.
 //! - `player`: plays a script.
 //! - `faults`: why a script is not played to its end.
 //! - `shown`: shows one frame.
@@ -15,13 +16,15 @@ mod bench;
 mod exchange;
 mod faults;
 mod lines;
+mod parts;
 mod player;
 mod program;
 mod shown;
 mod terminal;
+mod traffic;
 
 pub use faults::PlayFault;
-pub use lapd_script::FaultKind;
+pub use lapd_script::{FaultKind, Job, job};
 pub use lapd_transcript::{ReadFailed, ReadFrom, Source, Target, WriteFailed, WriteTo};
 pub use player::play;
 pub use program::{refuse, serve};

@@ -1,5 +1,5 @@
 use Rattle.std.proofs.Common.{◌≡◌}
-use Rattle.lapd_sim.proofs.bench.pull.Given as goal
+use Rattle.lapd_sim.proofs.traffic.pull.Given as goal
 
 -- the lines are the same
 abbrev pub invariant-loop-place : goal.invariant-loop-place

@@ -1,5 +1,5 @@
 use Rattle.std.proofs.Common.{◌≡◌, vec_len}
-use Rattle.lapd_sim.proofs.bench.listeners.Given as goal
+use Rattle.lapd_sim.proofs.parts.listeners.Given as goal
 
 -- one for each line so far
 abbrev pub invariant-loop : goal.invariant-loop

@@ -1,5 +1,5 @@
 use Rattle.std.proofs.Common.{◌≡◌}
-use Rattle.lapd_sim.proofs.bench.receive.Given as goal
+use Rattle.lapd_sim.proofs.traffic.receive.Given as goal
 
 -- no write has failed, and the lines are the same
 abbrev pub invariant-loop-octet : goal.invariant-loop-octet

@@ -1,5 +1,5 @@
 use Rattle.std.proofs.Common.{◌≡◌, length}
-use Rattle.lapd_sim.proofs.bench.give.Given as goal
+use Rattle.lapd_sim.proofs.traffic.give.Given as goal
 
 -- no write has failed, and the lines are the same
 abbrev pub invariant-loop-terminal : goal.invariant-loop-terminal

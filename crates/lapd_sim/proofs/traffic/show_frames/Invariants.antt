@@ -1,5 +1,5 @@
 use Rattle.std.proofs.Common.{◌≡◌}
-use Rattle.lapd_sim.proofs.bench.show_frames.Given as goal
+use Rattle.lapd_sim.proofs.traffic.show_frames.Given as goal
 
 -- no write has failed
 abbrev pub invariant-loop-octet : goal.invariant-loop-octet

@@ -36,12 +36,12 @@ pub record IsNext (old new : Lines) (remaining : Option (List ℕ)) (text : List
   pub octets : new.octets ≡ old.octets + length piece
 
 -- It is too long, or the script is.
-pub record IsTooLong (lines : Lines) (number : ℕ) (text : List ℕ) : Type 0 where
+pub record IsTooLong (lines : Lines) (told : ℕ) (text : List ℕ) : Type 0 where
   pub piece : List ℕ
   pub more : List ℕ
   pub pieces : pieces_of text ≡ piece ∷ pieces_of more
   pub long : length (line_in piece) ≤ 4096 → 2 ^ 63 < lines.octets + length piece
-  pub told : number ≡ lines.number + 1
+  pub number : told ≡ lines.number + 1
 
 -- A read failed before it had come: what was read of it has no line feed (octet 10).
 pub record IsCut (remaining : Option (List ℕ)) (text : List ℕ) : Type 0 where

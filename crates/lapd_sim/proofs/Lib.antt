@@ -1,2 +1,3 @@
 pub mod Left
 mod Scenes
+mod Playing

@@ -1,3 +1,4 @@
 pub mod Left
 mod Scenes
+mod Wholes
 mod Playing

@@ -25,9 +25,10 @@ use Rattle.lapd_sim.specs.declared.faults.PlayFault.TheVariants.{Read, Write, Sc
 use Rattle.lapd_sim.specs.declared.lines.Lines.{Lines}
 use Rattle.lapd_sim.specs.Faults.{fault_at, line_writes_failed}
 use Rattle.lapd_sim.specs.Lines.{AreLeft, IsNext, IsTooLong, Advances}
-use Rattle.lapd_sim.specs.Obeyed.{Said, Does, said, said_by, said_of, said_with, said_without, scene}
-use Rattle.lapd_sim.specs.Plays.{Plays}
+use Rattle.lapd_sim.specs.Obeyed.{Said, Does, StartsBy, said, said_by, said_of, said_with, said_without, scene}
+use Rattle.lapd_sim.specs.Plays.{Plays, AreAnswered}
 use Rattle.lapd_sim.specs.Stands.{Has}
+use Rattle.lapd_sim.proofs.Wholes.{AreWhole, no_whole, whole_more, first_whole, some_octet, split_first, read_whole}
 
 -- These pieces of the text have been played without a fault, and what is left of it is still to be read.
 pub record IsPlayed (lines : Lines) (bench : Option Bench) (remaining : Option (List ℕ)) (text : List ℕ) (old new : Taken) : Type 0 where
@@ -40,6 +41,11 @@ pub record IsPlayed (lines : Lines) (bench : Option Bench) (remaining : Option (
   pub sound : (played done).fault ≡ None
   pub has : Has bench (played done).bench
   pub written : IsWritten old new (played done).written
+  -- the octets of these pieces; they are whole lines but where they are all that the source gave
+  pub front : List ℕ
+  pub joined : text ≡ front ++ left
+  pub while_open : lines.is_at_end ≡ false → AreWhole front done
+  pub before_more : (o : ℕ) (t : List ℕ) → left ≡ o ∷ t → AreWhole front done
 
 -- What a line leads to, by what it says.
 abbrev pub after_said : List ℕ → Result Said FaultKind → Played → Played
@@ -158,6 +164,10 @@ begins lines bench remaining text a none number octets unread = record {
   sound = refl;
   has = subst (λ b. Has b None) (sym none) tt;
   written = record { whole = appends_nothing a.contents; steady = refl };
+  front = [];
+  joined = refl;
+  while_open = λ e. no_whole;
+  before_more = λ o t e. no_whole;
 }
 
 -- no line is left
@@ -208,6 +218,8 @@ pub goes_on : (lines new : Lines) (bench later : Option Bench) (remaining left :
 goes_on lines new bench later remaining left text a b c p n bound s fine written has =
     let is : played (p.done ++ n.piece ∷ []) ≡ after_said n.piece (Ok s) (played p.done) =
         played_more p.done n.piece p.sound ∙ next_is lines new bench remaining left text a b p n bound ∙ ap (λ x. after_said n.piece x (played p.done)) fine in
+    let octet = some_octet p.left n.piece (pieces_of n.more) n.pieces in
+    let whole = p.before_more octet.0 octet.1.0 octet.1.1 in
     record {
       done = p.done ++ n.piece ∷ [];
       left = n.more;
@@ -218,6 +230,10 @@ goes_on lines new bench later remaining left text a b c p n bound s fine written
       sound = ap (λ q. Played.fault q) is ∙ p.sound;
       has = subst (λ q. Has later (Played.bench q)) (sym is) has;
       written = subst (λ q. IsWritten a c (Played.written q)) (sym is) (writes_then (Ok tt) a b c (played p.done).written s.text p.written written);
+      front = p.front ++ n.piece;
+      joined = p.joined ∙ ap (λ l. p.front ++ l) (split_first p.left n.piece n.more n.pieces) ∙ sym (append_assoc p.front n.piece n.more);
+      while_open = λ e. whole_more p.front p.done p.left n.piece (pieces_of n.more) whole n.pieces (n.whole e);
+      before_more = λ o t e. whole_more p.front p.done p.left n.piece (pieces_of n.more) whole n.pieces (first_whole p.left n.piece n.more o t n.pieces e);
     }
 
 -- what a line did to the target's failures, and that there is a bench after it
@@ -304,9 +320,33 @@ next false old new remaining text e h = absurd (true≢false (sym e))
 -- reading stops the script
 pub stops_reading : (fault : PlayFault) (lines new : Lines) (bench : Option Bench) (remaining left : Option (List ℕ)) (text : List ℕ) (a b : Taken) (p : IsPlayed lines bench remaining text a b)
     → Advances (Err fault) lines new left p.left → Plays (Err fault) text left a b
-stops_reading Read lines new bench remaining left text a b p h = ?
+stops_reading Read lines new bench remaining left text a b p h =
+    let pieces = read_whole p.front h.begun p.done (p.while_open h.goes_on) h.open_is in
+    record {
+      read = p.front ++ h.begun;
+      unread = h.rest;
+      is = p.joined ∙ ap (λ l. p.front ++ l) h.is ∙ sym (append_assoc p.front h.begun h.rest);
+      tells = h.tells;
+      answered = subst (λ ps. AreAnswered ps a b) (sym pieces) (record { sound = p.sound; written = p.written });
+    }
 stops_reading (Script number kind) lines new bench remaining left text a b p h =
     let found = stops_long lines bench remaining text a b p number h.1 in
     (found.0 ∙ ap (λ k. Some (record { line = number; kind = k })) (sym h.0), found.1)
 stops_reading Write lines new bench remaining left text a b p h = absurd h
 stops_reading OutOfMemory lines new bench remaining left text a b p h = absurd h
+
+-- the line that starts the card, or is skipped before it
+has_none : (b : Option Bench) (m : Option machine.Bench) → b ≡ None → Has b m → m ≡ None
+has_none None None e h = refl
+has_none None (Some m) e h = absurd h
+has_none (Some b) m e h = absurd (none-some b (sym e))
+
+starts_as : (bench : Option Bench) (a : Taken) (x : Result (Option machine.Bench) FaultKind) → StartsBy (Ok bench) x → Does (Ok tt) a a None (Has bench) (said_without x)
+starts_as bench a (Ok b) h = (record { whole = appends_nothing a.contents; steady = refl }, h)
+starts_as bench a (Err kind) h = absurd h
+
+pub starts : (before bench : Option Bench) (a : Taken) (meaning : Meaning) (line : List ℕ) (m : Option machine.Bench) → before ≡ None → Has before m → Ok meaning ≡ read line
+    → StartsBy (Ok bench) (without_card meaning) → Does (Ok tt) a a m (Has bench) (said line m)
+starts before bench a meaning line m e h is k =
+    subst (λ n. Does (Ok tt) a a n (Has bench) (said line n)) (sym (has_none before m e h))
+      (subst (λ r. Does (Ok tt) a a None (Has bench) (said_by r None)) is (starts_as bench a (without_card meaning) k))

@@ -1,10 +1,8 @@
--- To wait ends: with each expiry, the time that is left until the end falls.
-use Rattle.std.proofs.Common.{◌≡◌, ℕ, zero, suc, ◌+◌, ◌-◌, ◌<◌, ◌≤◌, Bool, true, false, cond, not, ◌&&◌, nat_le, List, [], ◌∷◌, ◌++◌, length, fold, Option, Some, None, Result, Ok, Err, refl, sym, ap, ◌∙◌, subst, arith, length-append, append_assoc, append-nil}
-use Rattle.std.proofs.Math.Logic.{∥∥₁_elim}
-use Rattle.std.proofs.Props.{props}
+-- To wait ends: with each expiry, the time that is left until the end falls, and it is tried often enough.
+use Rattle.std.proofs.Common.{◌≡◌, ℕ, zero, suc, ◌+◌, ◌-◌, ◌<◌, ◌≤◌, Bool, true, false, cond, not, ◌&&◌, nat_le, List, [], ◌∷◌, ◌++◌, length, fold, Option, Some, None, refl, sym, ap, ◌∙◌, arith, append_assoc, append-nil}
 use Rattle.std.proofs.lemmas.Bool.Decides.{nat_tests}
 use Rattle.lapd_card_machine.specs.Card as card
-use Rattle.lapd_card_machine.specs.Event.{Event, at}
+use Rattle.lapd_card_machine.specs.Event.{at}
 use Rattle.lapd_card_machine.specs.Machine.{answer}
 use Rattle.lapd_clock.proofs.TimeUntil.{time_until-due, time_until-stop, time_until-start}
 use Rattle.lapd_clock.specs.Timer.{Timer, T200, T203, T201, Order, Start, Stop, duration}
@@ -25,16 +23,7 @@ use Rattle.lapd_link_machine.specs.declared.terms.Terms.{Terms}
 use Rattle.lapd_link_machine.specs.declared.timers.LinkTimer.{LinkTimer}
 use Rattle.lapd_link_machine.specs.declared.timers.LinkTimer.TheVariants as link_timer
 use Rattle.lapd_sim_machine.specs.Bench.{Bench, orders_in, ordered, happened}
-use Rattle.lapd_sim_machine.specs.Steps.{Scene, answer_text, with_event, at_expiry, expired, expiries, until, moment_of}
-use Rattle.lapd_sim.specs.Obeyed.{scene, Tells}
-use Rattle.lapd_sim.specs.Stands.{as_store, Holds}
-use Rattle.lapd_sim.specs.declared.exchange.Exchange.{Exchange}
-use Rattle.lapd_card.specs.Card.{Held}
-use Rattle.lapd_card.specs.Stands.{Stands}
-use Rattle.lapd_store.specs.Store.{Store}
-use Rattle.lapd_transcript.proofs.Known.{appends_nothing, writes_then, broken_more}
-use Rattle.lapd_transcript.specs.Streams.{Taken, IsWritten, IsBroken}
-use Rattle.lapd_transcript.specs.declared.streams.WriteFailed.{WriteFailed}
+use Rattle.lapd_sim_machine.specs.Steps.{Scene, answer_text, at_expiry, expired, expiries, until, moment_of}
 use Rattle.lapd_tei.proofs.Brief.{IsBrief, told_brief}
 use Rattle.lapd_tei.specs.Events as teis
 use Rattle.lapd_tei.specs.Machine as tei
@@ -220,7 +209,7 @@ pub until-over : (end : ℕ) (s : Scene) → due_at s.bench.clock end ≡ None �
 until-over end s is = ap (λ (x : Scene). record x { bench = record x.bench { now = end } }) (none_left (time_until end s.bench.clock) end s is)
 
 -- what is said comes after what has been said
-text_grows : (n end : ℕ) (s : Scene) (o : Option (ℕ × Timer)) → due_at s.bench.clock end ≡ o → (later : List ℕ) × ((expiries n end s).text ≡ s.text ++ later)
+pub text_grows : (n end : ℕ) (s : Scene) (o : Option (ℕ × Timer)) → due_at s.bench.clock end ≡ o → (later : List ℕ) × ((expiries n end s).text ≡ s.text ++ later)
 text_grows zero end s o is = ([], sym (append-nil s.text))
 text_grows (suc n) end s None is = ([], ap (λ (x : Scene). x.text) (none_left (suc n) end s is) ∙ sym (append-nil s.text))
 text_grows (suc n) end s (Some due) is =
@@ -228,70 +217,3 @@ text_grows (suc n) end s (Some due) is =
     let said = answer_text due.0 (answer (at due.0 (happening.expiry due.1)) s.bench.card) in
     let later : (later : List ℕ) × ((expiries n end next).text ≡ next.text ++ later) = text_grows n end next (due_at next.bench.clock end) refl in
     (said ++ later.0, ap (λ (x : Scene). x.text) (one_left n end s due is) ∙ later.1 ∙ append_assoc s.text said later.0)
-
--- ---- the exchange while it waits
-
--- From a bench, some timers have expired, and what they say has been written; what falls due until the end is the same.
-pub record Waits (e : Exchange) (before after : Taken) (end : ℕ) (m : Bench) : Type 0 where
-  pub by_now : Scene
-  pub written : IsWritten before after by_now.text
-  pub holds : Holds e by_now.bench
-  pub same : until end (scene m) ≡ until end by_now
-
-pub waits_begins : (e : Exchange) (t : Taken) (end : ℕ) (m : Bench) → Holds e m → Waits e t t end m
-waits_begins e t end m h = record {
-  by_now = scene m;
-  written = record { whole = appends_nothing t.contents; steady = refl };
-  holds = h;
-  same = refl;
-}
-
-module _ (e new : Exchange) (before after last : Taken) (end : ℕ) (m : Bench) (due : ℕ × Timer) (is : Some due ≡ due_at e.clock end) (w : Waits e before after end m) where
-  due_by_now : due_at w.by_now.bench.clock end ≡ Some due
-  due_by_now = ap (λ c. due_at c end) (sym w.holds.clock) ∙ sym is
-
-  abbrev said_then : List ℕ
-  said_then = answer_text due.0 (answer (at due.0 (happening.expiry due.1)) w.by_now.bench.card)
-
-  pub waits_on : (u : Unit {0}) → Tells {E = WriteFailed} (Ok u) after last (Holds new) (with_event (scene (at_expiry end w.by_now.bench)) (at due.0 (happening.expiry due.1))) → Waits new before last end m
-  waits_on u told = record {
-    by_now = expired end due.0 due.1 w.by_now;
-    written = writes_then (Ok u) before after last w.by_now.text said_then w.written told.0;
-    holds = told.1;
-    same = w.same ∙ until-expired end w.by_now due due_by_now;
-  }
-
-  pub waits_in_vain : (why : WriteFailed) → Tells (Err why) after last (Holds new) (with_event (scene (at_expiry end w.by_now.bench)) (at due.0 (happening.expiry due.1))) → Tells (Err why) before last (Holds new) (until end (scene m))
-  waits_in_vain why told =
-      let next = expired end due.0 due.1 w.by_now in
-      let later = text_grows (time_until end next.bench.clock) end next (due_at next.bench.clock end) refl in
-      let whole : (until end (scene m)).text ≡ next.text ++ later.0 = ap (λ (x : Scene). x.text) (w.same ∙ until-expired end w.by_now due due_by_now) ∙ later.1 in
-      subst (IsBroken before last) (sym whole) (broken_more before last next.text later.0 (writes_then (Err why) before after last w.by_now.text said_then w.written told))
-
--- each expiry lowers what is left, whatever the past
-pub wait_lowers : (e middle new : Exchange) (end : ℕ) (due : ℕ × Timer) → Some due ≡ due_at e.clock end
-    → ((m : Bench) → Holds e m → Holds middle (at_expiry end m))
-    → ((m : Bench) → Holds middle m → Holds new (happened m (at due.0 (happening.expiry due.1))))
-    → time_until end new.clock < time_until end e.clock
-wait_lowers e middle new end due is out event =
-    let prop : IsProp (time_until end new.clock < time_until end e.clock) = hlevel props in
-    ∥∥₁_elim e.past prop (λ p.
-        let (now, config, stands) = p in
-        let m : Bench = record { card = now; clock = e.clock; now = e.moment; terminals = []; taken = [] } in
-        let held : Holds new (happened (at_expiry end m) (at due.0 (happening.expiry due.1))) =
-        event (at_expiry end m) (out m (record { config = config; card = stands; clock = refl; now = refl })) in
-        subst (λ c. time_until end c < time_until end e.clock) (sym held.clock) (expiry_lowers end due.0 due.1 due m (sym is)))
-
--- at the end, the moment is the end
-pub waits_over : (e new : Exchange) (before after : Taken) (end : ℕ) (m : Bench) (u : Unit {0}) → None ≡ due_at e.clock end → Waits e before after end m
-    → new.config ≡ e.config → new.card ≡ e.card → new.clock ≡ e.clock → new.moment ≡ end → Tells {E = WriteFailed} (Ok u) before after (Holds new) (until end (scene m))
-waits_over e new before after end m u is w config card clock now =
-    let over : until end (scene m) ≡ record w.by_now { bench = record w.by_now.bench { now = end } } =
-    w.same ∙ until-over end w.by_now (ap (λ c. due_at c end) (sym w.holds.clock) ∙ sym is) in
-    subst (λ (s : Scene). IsWritten before after s.text × Holds new s.bench) (sym over)
-    (w.written, record {
-      config = w.holds.config ∙ sym config;
-      card = subst (λ (c : Held Store). Stands as_store c w.by_now.bench.card) (sym card) w.holds.card;
-      clock = clock ∙ w.holds.clock;
-      now = now;
-    })

@@ -2,3 +2,6 @@ pub mod Left
 mod Scenes
 mod Wholes
 mod Playing
+pub mod Exchanges
+pub mod Expiries
+pub mod Waits

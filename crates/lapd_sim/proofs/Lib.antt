@@ -1,5 +1,6 @@
 pub mod Left
 mod Scenes
+mod Eachs
 mod Wholes
 mod Playing
 pub mod Exchanges

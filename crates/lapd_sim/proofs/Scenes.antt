@@ -1,6 +1,9 @@
 -- What a line says, event by event.
-use Rattle.std.proofs.Common.{◌≡◌, ℕ, zero, suc, ◌+◌, ◌<◌, ◌≤◌, List, [], ◌∷◌, ◌++◌, length, take, drop, get_or, map, fold, Bool, true, false, cond, Option, None, Some, Result, Ok, Err, refl, sym, ap, ◌∙◌, subst, append_assoc}
-use Rattle.std.proofs.lemmas.Bool.{lt-ltb}
+use Rattle.std.proofs.Common.{◌≡◌, ℕ, zero, suc, ◌+◌, ◌<◌, ◌≤◌, nat_lt, nat_le, List, [], ◌∷◌, ◌++◌, length, take, drop, get_or, map, fold, Bool, true, false, cond, Option, None, Some, Result, Ok, Err, refl, sym, ap, ◌∙◌, subst, append_assoc}
+use Rattle.std.specs.Prelude.{◌&&◌}
+use Rattle.std.proofs.lemmas.Bool.{lt-ltb, le-leb, true≢false}
+use Rattle.lapd_script.specs.Meaning as meaning
+use Rattle.lapd_script.specs.declared.kind.FaultKind.TheVariants.{BadLine, BadFrame}
 use Rattle.std.proofs.lemmas.List.{append-nil, map-append, take_more, take-append-drop}
 use Rattle.std.proofs.lemmas.Grind.{fold-append}
 use Rattle.lapd_line_machine.specs.Answer.{octet}
@@ -11,10 +14,10 @@ use Rattle.lapd_transcript.proofs.Known.{broken_more}
 use Rattle.lapd_sim_machine.specs.Bench.{Bench}
 use Rattle.lapd_clock.specs.Timers.{due_at}
 use Rattle.lapd_script.specs.declared.kind.FaultKind.{FaultKind}
-use Rattle.lapd_sim_machine.specs.Steps.{Scene, with_event, with_events, octets_at, after_rx, at_line, answer_text, expiries, expired}
+use Rattle.lapd_sim_machine.specs.Steps.{Scene, with_event, with_events, octets_at, after_rx, at_line, answer_text, expiries, expired, Pulls, pulls, one_pull, after_pull, after_in, with_card}
 use Rattle.lapd_sim.specs.declared.faults.LineFault.{LineFault}
 use Rattle.lapd_sim.specs.declared.faults.LineFault.TheVariants.{Faulty, Write, OutOfMemory}
-use Rattle.lapd_sim.specs.Obeyed.{Obeys}
+use Rattle.lapd_sim.specs.Obeyed.{Obeys, scene}
 
 -- one octet more
 pub rx_more : (line : ℕ) (xs : List ℕ) (i : ℕ) (s : Scene) → i < length xs
@@ -82,3 +85,43 @@ obeyed_there a b Q line s after there written stands = subst (λ said. Obeys (Ok
 
 pub broken_there : (a b : Taken) (Q : Bench → Type 0) (line : ℕ) (s after : Scene) → line < s.bench.card.config.lines → IsBroken a b after.text → Obeys (Err Write) a b Q (at_line line s after)
 broken_there a b Q line s after there broken = subst (λ said. Obeys (Err Write) a b Q said) (sym (at_line_is line s after there)) broken
+
+pub pulls_keep : (n line : ℕ) (p : Pulls) → Keeps p.bench (pulls n line p).bench
+pulls_keep zero line p = (refl, refl, refl)
+pulls_keep (suc n) line p = pulls_keep n line (one_pull line p)
+
+-- what was pulled at a line that is there
+pub pull_obeyed : (a b : Taken) (Q : Bench → Type 0) {line at_it : ℕ} → line ≡ at_it → (count : ℕ) (m : Bench) → line < m.card.config.lines
+    → IsWritten a b (after_pull line count (scene m)).text → Q (after_pull line count (scene m)).bench → Obeys (Ok tt) a b Q (at_line at_it (scene m) (after_pull at_it count (scene m)))
+pull_obeyed a b Q {line} e count m there written stands =
+    subst (λ n. Obeys (Ok tt) a b Q (at_line n (scene m) (after_pull n count (scene m)))) e (obeyed_there a b Q line (scene m) (after_pull line count (scene m)) there written stands)
+
+pub pull_broken : (a b : Taken) (Q : Bench → Type 0) {line at_it : ℕ} → line ≡ at_it → (count : ℕ) (m : Bench) → line < m.card.config.lines
+    → IsBroken a b (after_pull line count (scene m)).text → Obeys (Err Write) a b Q (at_line at_it (scene m) (after_pull at_it count (scene m)))
+pull_broken a b Q {line} e count m there broken =
+    subst (λ n. Obeys (Err Write) a b Q (at_line n (scene m) (after_pull n count (scene m)))) e (broken_there a b Q line (scene m) (after_pull line count (scene m)) there broken)
+
+-- a frame from the terminal of a line that is there
+three_yes : {X : Type 0} (a b c : Bool) (x : X) (y z : X) → a ≡ true → b ≡ true → c ≡ true → cond a (cond (b && c) x y) z ≡ x
+three_yes true true true x y z e f h = refl
+three_yes false b c x y z e f h = absurd (true≢false (sym e))
+three_yes true false c x y z e f h = absurd (true≢false (sym f))
+three_yes true true false x y z e f h = absurd (true≢false (sym h))
+
+frame_is : (line : ℕ) (frame : List ℕ) (s : Scene) → line < s.bench.card.config.lines → 3 ≤ length frame → length frame ≤ 1028
+    → with_card (meaning.into line frame) s ≡ Ok (after_in line frame s)
+frame_is line frame s there short long =
+    three_yes (nat_lt line s.bench.card.config.lines) (nat_le 3 (length frame)) (nat_le (length frame) 1028) (Ok (after_in line frame s)) (Err BadFrame) (Err BadLine)
+      (lt-ltb line s.bench.card.config.lines there) (le-leb 3 (length frame) short) (le-leb (length frame) 1028 long)
+
+pub frame_obeyed : (a b : Taken) (Q : Bench → Type 0) {line at_it : ℕ} → line ≡ at_it → (frame : List ℕ) (m : Bench) → line < m.card.config.lines → 3 ≤ length frame → length frame ≤ 1028
+    → IsWritten a b (after_in line frame (scene m)).text → Q (after_in line frame (scene m)).bench → Obeys (Ok tt) a b Q (with_card (meaning.into at_it frame) (scene m))
+frame_obeyed a b Q {line} e frame m there short long written stands =
+    subst (λ n. Obeys (Ok tt) a b Q (with_card (meaning.into n frame) (scene m))) e
+      (subst (λ said. Obeys (Ok tt) a b Q said) (sym (frame_is line frame (scene m) there short long)) (written, stands))
+
+pub frame_broken : (a b : Taken) (Q : Bench → Type 0) {line at_it : ℕ} → line ≡ at_it → (frame : List ℕ) (m : Bench) → line < m.card.config.lines → 3 ≤ length frame → length frame ≤ 1028
+    → IsBroken a b (after_in line frame (scene m)).text → Obeys (Err Write) a b Q (with_card (meaning.into at_it frame) (scene m))
+frame_broken a b Q {line} e frame m there short long broken =
+    subst (λ n. Obeys (Err Write) a b Q (with_card (meaning.into n frame) (scene m))) e
+      (subst (λ said. Obeys (Err Write) a b Q said) (sym (frame_is line frame (scene m) there short long)) broken)

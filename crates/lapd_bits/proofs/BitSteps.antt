@@ -45,7 +45,7 @@ open_run past g e =
     (omega arith, below)
 
 -- what holds of any open gap there is
-for_open : (past : List Bool) (P : List Bool → Type 0) → ((g : List Bool) → open_gap past ≡ Some g → P g) → IfSome (open_gap past) P
+pub for_open : (past : List Bool) (P : List Bool → Type 0) → ((g : List Bool) → open_gap past ≡ Some g → P g) → IfSome (open_gap past) P
 for_open past P h = go (open_gap past) h
   where
     go : (o : Option (List Bool)) → ((g : List Bool) → o ≡ Some g → P g) → IfSome o P

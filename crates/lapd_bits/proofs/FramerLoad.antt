@@ -8,7 +8,6 @@ use Rattle.lapd_bits.specs.Stuffing.{stuffed}
 use Rattle.lapd_bits.specs.Check.{check}
 use Rattle.lapd_bits.specs.FramerText.{text_from, frame_from}
 use Rattle.lapd_bits.proofs.BitLemmas.{bits-append, low_bits-two_octets, low_bits-mod}
-use Rattle.lapd_bits.proofs.FramerBits.{text_from_more}
 
 -- the bits of the two octets of a check
 bits-to_le_bytes : (fcs : ℕ) → bits (to_le_bytes w16 fcs) ≡ low_bits 16 fcs
@@ -20,8 +19,8 @@ bits-to_le_bytes fcs =
 pub extended : (r : Result (Unit {0}) AllocError) (u : Unit {0}) (before more after : List ℕ) → r ≡ Ok u → after ≡ (if is_ok r then before ++ more else before) → after ≡ before ++ more
 extended r u before more after ok e = e ∙ ap (λ x. if is_ok x then before ++ more else before) ok
 
--- a frame's octets and check in the buffer, from the first bit on
-pub frame_from-loaded : (octets : List ℕ) (fcs : ℕ) → 0 < length octets → low_bits 16 fcs ≡ check (bits octets) → frame_from (octets ++ to_le_bytes w16 fcs) 0 0 ≡ stuffed (bits octets ++ check (bits octets)) ++ flag
+-- a frame's octets and check in the buffer, from the first octet on
+pub frame_from-loaded : (octets : List ℕ) (fcs : ℕ) → 0 < length octets → low_bits 16 fcs ≡ check (bits octets) → frame_from (octets ++ to_le_bytes w16 fcs) 0 ≡ stuffed (bits octets ++ check (bits octets)) ++ flag
 frame_from-loaded [] fcs h e = absurd (omega arith)
 frame_from-loaded (octet ∷ octets) fcs h e =
     let all : bits ((octet ∷ octets) ++ to_le_bytes w16 fcs) ≡ bits (octet ∷ octets) ++ check (bits (octet ∷ octets)) =
@@ -29,11 +28,7 @@ frame_from-loaded (octet ∷ octets) fcs h e =
     ap (λ l. stuffed l ++ flag) all
 
 -- with fewer than eight bits left no frame is in hand
-pub no_frame : (octets : List ℕ) (next ones : ℕ) (before : List Bool) → length (before ++ frame_from octets next ones) < 8 → frame_from octets next ones ≡ []
-no_frame [] next ones before h = refl
-no_frame (octet ∷ octets) next ones before h =
-    absurd (omega (arith, length-append before (text_from (octet ∷ octets) next ones ++ flag), length-append (text_from (octet ∷ octets) next ones) flag))
-
--- the text of octets begins with a bit
-pub text_from_start : (octets : List ℕ) → 0 < length octets → 0 < length (text_from octets 0 0)
-text_from_start octets h = omega (arith, ap length (text_from_more octets 0 0 (omega arith) (omega arith)))
+pub no_frame : (octets : List ℕ) (ones : ℕ) (before : List Bool) → length (before ++ frame_from octets ones) < 8 → frame_from octets ones ≡ []
+no_frame [] ones before h = refl
+no_frame (octet ∷ octets) ones before h =
+    absurd (omega (arith, length-append before (text_from (octet ∷ octets) ones ++ flag), length-append (text_from (octet ∷ octets) ones) flag))

@@ -10,8 +10,13 @@ pub mod FlagPlaces
 pub mod Latest
 pub mod Assembly
 pub mod BitSteps
-pub mod FramerBits
-pub mod FramerOctet
+pub mod Joining
+pub mod AtOnce
+pub mod Idle
+pub mod UnstuffingTables
+pub mod StuffingAtOnce
+pub mod StuffingTables
+pub mod FramerGiven
 pub mod FramerStands
 pub mod FramerLoad
 pub mod RoundTripPlaces

@@ -1,10 +1,10 @@
 -- What is heard takes room in the stream: each frame its octets, its check and one flag.
-use Rattle.std.proofs.Common.{◌≡◌, ℕ, suc, ◌+◌, ◌*◌, ◌≤◌, ◌<◌, Bool, true, false, not, ◌||◌, ◌&&◌, ◌-◌, List, [], ◌∷◌, ◌++◌, length, reverse, drop, take, Option, Some, None, option_map, option_to_list, option_and_then, nat_lt, refl, ap, sym, ◌∙◌, subst, arith, cond, length-drop}
+use Rattle.std.proofs.Common.{◌≡◌, ℕ, suc, ◌+◌, ◌*◌, ◌≤◌, ◌<◌, Bool, true, false, not, ◌||◌, ◌&&◌, ◌-◌, List, [], ◌∷◌, length, reverse, drop, take, Option, Some, None, option_map, option_to_list, option_and_then, nat_lt, refl, ap, sym, subst, arith, cond, length-drop}
 use Rattle.std.specs.Prelude.{sum_by, All}
 use Rattle.std.proofs.lemmas.Bool.{ltb-false, ltb-true, false≢true, or_parts}
 use Rattle.std.proofs.lemmas.List.{length-reverse, length-take-le}
 use Rattle.std.proofs.lemmas.List.Elements.{All-nil, All-cons, All-append}
-use Rattle.std.proofs.lemmas.List.Sums.{sum_by-append, sum_by-cons}
+use Rattle.std.proofs.lemmas.List.Sums.{sum_by-append}
 use Rattle.lapd_bits.specs.Bits.{bits}
 use Rattle.lapd_bits.specs.Check.{is_good}
 use Rattle.lapd_bits.specs.Stuffing.{stuffed, octets_sent}

@@ -143,7 +143,7 @@ unstuffed_after-stuffed_after ones (true ∷ b) h =
     (cases_lt ones 5)
 
 -- after five 1s a stuffed text goes on with a 0
-stuffed_after_fifth : (ones : ℕ) (b : List Bool) → 5 ≤ ones → stuffed_after ones b ≡ false ∷ stuffed_after 0 b
+pub stuffed_after_fifth : (ones : ℕ) (b : List Bool) → 5 ≤ ones → stuffed_after ones b ≡ false ∷ stuffed_after 0 b
 stuffed_after_fifth ones [] h = simp (le-ltb ones 5 h)
 stuffed_after_fifth ones (false ∷ b) h = simp (le-ltb ones 5 h)
 stuffed_after_fifth ones (true ∷ b) h = simp (le-ltb ones 5 h)

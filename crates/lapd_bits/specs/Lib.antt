@@ -13,6 +13,8 @@ pub mod Deframer
 pub mod Heard
 pub mod Ended
 pub mod Steps
+pub mod Unstuffer
+pub mod Stuffer
 pub mod Framer
 pub mod FramerText
 pub mod FramerFields

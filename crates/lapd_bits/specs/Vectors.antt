@@ -1,8 +1,12 @@
 -- Worked values of the definitions, from outside: a published check value, and frames that were worked out
 -- by hand. Each is a fact that computes.
-use Rattle.std.specs.Prelude.{◌≡◌, ◌∷◌, [], refl, take}
-use Rattle.lapd_bits.specs.Bits.{bits, low_bits}
-use Rattle.lapd_bits.specs.Check.{check}
+use Rattle.std.specs.Prelude.{◌≡◌, ◌∷◌, ◌++◌, [], true, false, map, replicate, refl, take}
+use Rattle.lapd_bits.specs.Bits.{bits, low_bits, number_of}
+use Rattle.lapd_bits.specs.Check.{check, remainder}
+use Rattle.lapd_bits.specs.Stuffing.{stuffed, unstuffed}
+use Rattle.lapd_bits.specs.Unstuffer.{has_six}
+use Rattle.lapd_bits.specs.Deframer.{run_of}
+use Rattle.lapd_bits.specs.Steps.{with_bits}
 use Rattle.lapd_bits.specs.Stream.{frame, overlong, dropped, heard_in}
 use Rattle.lapd_bits.specs.Sent as sent
 use Rattle.lapd_bits.specs.declared.heard.Cause.TheVariants.{Abort, Ragged, Short, Fcs}
@@ -130,3 +134,51 @@ sent_ui :
     ≡ bits (0x7E ∷ 0x00 ∷ 0x81 ∷ 0x03 ∷ 0xCB ∷ 0x59 ∷ 0xF8 ∷ 0xFC ∷ 0xFC ∷ [])
 unfolding low_bits
 sent_ui = refl
+
+-- what the division leaves of an octet, turned round: entries of the table that this check is published with
+left_of_octets :
+    map (λ octet. number_of (remainder (low_bits 8 octet ++ replicate 16 false))) (0x00 ∷ 0x01 ∷ 0x80 ∷ 0xFF ∷ [])
+    ≡ 0x0000 ∷ 0x1189 ∷ 0x8408 ∷ 0x0F78 ∷ []
+unfolding low_bits
+left_of_octets = refl
+
+-- what stays of an octet after some 1s, and the 1s after it: no 1s and EF, one and EF, five and 00
+stays_of_EF : unstuffed (low_bits 8 0xEF) ≡ replicate 4 true ++ false ∷ replicate 3 true
+unfolding low_bits
+stays_of_EF = refl
+
+run_after_EF : run_of (with_bits 8 0xEF (false ∷ [])) ≡ 3
+unfolding low_bits
+run_after_EF = refl
+
+stays_of_EF_after_one : unstuffed (replicate 1 true ++ low_bits 8 0xEF) ≡ replicate 1 true ++ replicate 7 true
+unfolding low_bits
+stays_of_EF_after_one = refl
+
+run_after_one_and_EF : run_of (with_bits 8 0xEF (true ∷ false ∷ [])) ≡ 3
+unfolding low_bits
+run_after_one_and_EF = refl
+
+stays_of_00_after_five : unstuffed (replicate 5 true ++ low_bits 8 0x00) ≡ replicate 5 true ++ replicate 7 false
+unfolding low_bits
+stays_of_00_after_five = refl
+
+run_after_five_and_00 : run_of (with_bits 8 0x00 (replicate 5 true ++ false ∷ [])) ≡ 0
+unfolding low_bits
+run_after_five_and_00 = refl
+
+-- six 1s come in a flag, and in 01 after five
+six_in_a_flag : has_six (low_bits 8 0x7E) ≡ true
+unfolding low_bits
+six_in_a_flag = refl
+
+six_after_five : has_six (replicate 5 true ++ low_bits 8 0x01) ≡ true
+unfolding low_bits
+six_after_five = refl
+
+-- what an octet makes of itself after some 1s: after four, FF has two 0s put in, after its first 1 and its sixth
+FF_after_four :
+    stuffed (replicate 4 true ++ low_bits 8 0xFF)
+    ≡ replicate 4 true ++ (true ∷ false ∷ replicate 5 true ++ false ∷ replicate 2 true)
+unfolding low_bits
+FF_after_four = refl

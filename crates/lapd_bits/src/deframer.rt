@@ -1,5 +1,5 @@
 //! What is heard on a line (clauses 2.2 to 2.10): octets go in one by one, and the frames in them come out.
-ghost use Rattle.std.specs.Prelude.{◌≡◌, ◌≢◌, ◌⊎◌, ℕ, ◌<◌, ◌≤◌, ◌-◌, ◌+◌, Bool, true, false, List, [], ◌∷◌, ◌++◌, length, vec_len, IfOk, IfSome, Option, Some, None, option_to_list, take};
+ghost use Rattle.std.specs.Prelude.{◌≡◌, ◌≢◌, ◌⊎◌, ℕ, ◌<◌, ◌≤◌, ◌-◌, ◌+◌, Bool, true, false, List, [], ◌∷◌, ◌++◌, length, vec_len, IsTrue, IfOk, IfSome, Option, Some, None, option_to_list, option_map, take};
 ghost use Rattle.std.specs.Option.{ForSome};
 ghost use Rattle.lapd_bits.specs.Bits.{low_bits};
 ghost use Rattle.lapd_bits.specs.Ended.{FitsIn};
@@ -8,7 +8,11 @@ ghost use Rattle.lapd_bits.specs.Stream.{heard_in, heard_until, heard_at};
 use crate::gap::Gap;
 use crate::heard::{Cause, Ended, Heard};
 use crate::start_fault::StartFault;
+use crate::unstuffer::{Content, at_once};
 use std::alloc::Global;
+
+/// The octets of a line of flags, by the number of bits of each flag that the octet before has.
+static IDLE: [u8; 8] = [0x7E, 0x3F, 0x9F, 0xCF, 0xE7, 0xF3, 0xF9, 0xFC];
 
 /// Hears the frames of a line in its octets: finds the flags, takes the stuffed 0s out, and checks what
 /// stands between (Q.921 clauses 2.2 to 2.10). Frames may begin and end at any bit of an octet.
@@ -36,6 +40,7 @@ impl Deframer {
     ghost use Rattle.lapd_bits.specs.Deframer.{Stands, HoldsPast, HoldsGap, run_of, open_gap, octets_held, latest_of};
     ghost use Rattle.lapd_bits.specs.Heard.{heard_of, event_in, without_octets};
     ghost use Rattle.lapd_bits.specs.Steps.{Hears, Ages, one_more, IsKept, IsStuffed, IsYoung, given_up_event, closed_event, with_bits};
+    ghost use Rattle.lapd_bits.specs.Unstuffer.{IsJoined, StaysIdle};
 
     /// A deframer for frames with information fields of `n201` octets at most, which is 1,024 at most. Its line
     /// has brought no octet yet.
@@ -125,6 +130,61 @@ impl Deframer {
             ≡ heard_until (length self.old.octets.items) past
             ++ option_to_list (event_in self.new.octets.items result) }
     {
+        match at_once(self.ones, octet) {
+            Some(content) => {
+                self.take_content(content);
+                Ended::Nothing
+            }
+            None if self.is_idle(octet) => Ended::Nothing,
+            None => self.bit_by_bit(octet),
+        }
+    }
+
+    /// Whether the octet goes on with flags and leaves all as it is: the bits since the latest flag begin another, and
+    /// the octet has that flag's other bits and as many of the next.
+    fn is_idle(&self, octet: u8) -> bool
+        ensures stays { (past : List Bool) → IsTrue result → HoldsPast self.now.octets.items self.now.ones self.now.gap past
+            → StaysIdle self.now.octets.items self.now.ones self.now.gap octet past }
+    {
+        let Some(gap) = &self.gap else {
+            return false;
+        };
+        let since = gap.since();
+        if since >= 8 {
+            return false;
+        }
+        // The first bit of a flag is a 0, and the others up to its last are 1s.
+        if self.ones != since.saturating_sub(1) {
+            return false;
+        }
+        octet == IDLE[since as usize]
+    }
+
+    /// Takes what an octet brings that ends nothing.
+    fn take_content(&mut self, content: Content)
+        ensures room { length self.new.octets.items ≡ length self.old.octets.items }
+        ensures ones { self.new.ones ≡ content.ones }
+        ensures stands { (octet : ℕ) (gap : Option (List Bool)) → IsJoined octet (low_bits content.count content.bits) gap
+            → HoldsGap self.old.octets.items self.old.gap gap
+            → HoldsGap self.new.octets.items self.new.gap (option_map (with_bits 8 octet) gap) }
+    {
+        self.ones = content.ones;
+        if let Some(gap) = &mut self.gap {
+            gap.join(&mut self.octets, content.bits, content.count);
+        }
+    }
+
+    /// Takes an octet that may end something.
+    fn bit_by_bit(&mut self, octet: u8) -> Ended
+        ensures fits { FitsIn (vec_len self.new.octets) result }
+        ensures room { length self.new.octets.items ≡ length self.old.octets.items }
+        ensures stands { (past : List Bool) → HoldsPast self.old.octets.items self.old.ones self.old.gap past
+            → HoldsPast self.new.octets.items self.new.ones self.new.gap (with_bits 8 octet past) }
+        ensures told { (past : List Bool) → HoldsPast self.old.octets.items self.old.ones self.old.gap past
+            → heard_until (length self.old.octets.items) (with_bits 8 octet past)
+            ≡ heard_until (length self.old.octets.items) past
+            ++ option_to_list (event_in self.new.octets.items result) }
+    {
         // At most one bit of an octet ends something, and the fewer than eight bits after it fill no octet. So what
         // it lies in is still whole when it is lent.
         let mut ended = Ended::Nothing;
@@ -190,9 +250,8 @@ impl Deframer {
             → HoldsGap self.old.octets.items self.old.gap gap
             → HoldsGap self.new.octets.items self.new.gap (one_more bit gap) }
     {
-        if let Some(mut gap) = self.gap {
+        if let Some(gap) = &mut self.gap {
             gap.take(&mut self.octets, bit);
-            self.gap = Some(gap);
         }
     }
 
@@ -205,9 +264,8 @@ impl Deframer {
             → HoldsGap self.old.octets.items self.old.gap gap
             → HoldsGap self.new.octets.items self.new.gap (one_more false gap) }
     {
-        if let Some(mut gap) = self.gap {
+        if let Some(gap) = &mut self.gap {
             gap.skip();
-            self.gap = Some(gap);
         }
     }
 

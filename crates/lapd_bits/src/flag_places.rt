@@ -14,14 +14,3 @@ pub fn flag_after_flag()
 pub fn abort_after_flag()
     ensures { FirstAbortAfterFlag }
 {}
-
-#[cfg(test)]
-mod tests {
-    use super::*;
-
-    #[test]
-    fn the_laws_can_be_cited() {
-        flag_after_flag();
-        abort_after_flag();
-    }
-}

@@ -1,18 +1,19 @@
 //! What goes out on a line (clauses 2.2, 2.6 and 2.7): frames, and idle flags between them.
-ghost use Rattle.std.specs.Prelude.{◌≡◌, ℕ, ◌+◌, ◌<◌, ◌≤◌, ◌↔◌, Bool, List, [], ◌∷◌, ◌++◌, length, take, min, IsTrue, IfOk, if◌then◌else◌};
+ghost use Rattle.std.specs.Prelude.{◌≡◌, ℕ, ◌+◌, ◌<◌, ◌≤◌, ◌↔◌, Bool, List, [], ◌∷◌, ◌++◌, length, take, min, vec_len, vec_capacity, IsTrue, IfOk};
 ghost use Rattle.lapd_bits.specs.Bits.{low_bits, flag, number_of};
 ghost use Rattle.lapd_bits.specs.Sent.{Item, frame, item_text};
 ghost use Rattle.lapd_bits.specs.Framer.{Framing, Stands, refilled, with_idle, still_held};
-ghost use Rattle.lapd_bits.specs.FramerText.{begun};
+ghost use Rattle.lapd_bits.specs.FramerText.{waits, to_give};
 
 use crate::check::fcs;
 use crate::start_fault::StartFault;
 use crate::stuffer::Stuffer;
+use crate::waiting::Waiting;
 use std::alloc::Global;
 use std::marker::Model;
 
-/// The bits of a flag.
-const FLAG_BITS: u8 = 8;
+/// The bits of an octet.
+const OCTET_BITS: u8 = 8;
 
 /// Gives the octets of a line: one opening flag, then each frame that is loaded, stuffed, with its check and a
 /// closing flag, and idle flags where no frame waits (Q.921 clauses 2.2, 2.6 and 2.7).
@@ -20,11 +21,11 @@ const FLAG_BITS: u8 = 8;
 /// All its memory is taken by [`Framer::start`].
 #[derive(Drop, Debug)]
 pub struct Framer {
-    /// The frame in hand with its check; empty where none is.
+    /// The bits that go next: the end of a flag or a frame, or what has been stuffed of the frame in hand.
+    waiting: Waiting,
+    /// The frame in hand with its check; empty where none is, or all of it waits.
     frame: Vec<u8>,
     text: Stuffer,
-    /// The bits that are left of the flag that goes before the frame in hand, or after the latest one.
-    flag: u8,
     /// The octets, without check, of the latest frame.
     latest: u16,
     n201: u16,
@@ -55,9 +56,9 @@ impl Framer {
         let room = usize::from(n201) + 6;
         let frame = Vec::with_capacity(alloc, room).map_err(|_| StartFault::OutOfMemory)?;
         Ok(Framer {
+            waiting: Waiting::flag(),
             frame,
             text: Stuffer::new(),
-            flag: FLAG_BITS,
             latest: 0,
             n201,
         })
@@ -68,14 +69,18 @@ impl Framer {
         ensures { IsTrue result ↔ (8 ≤ length self.now.left) }
     {
         // A frame in hand has its closing flag after it, so eight bits are left at least.
-        self.flag == FLAG_BITS || !self.frame.is_empty()
+        OCTET_BITS <= self.waiting.count() || !self.frame.is_empty()
     }
 
     /// The number of bits that are left, where it is below 8; else 8.
     pub fn left(&self) -> u8
         ensures { result ≡ min 8 (length self.now.left) }
     {
-        if self.frame.is_empty() { self.flag } else { 8 }
+        if self.busy() {
+            OCTET_BITS
+        } else {
+            self.waiting.count()
+        }
     }
 
     /// The octets, without check, of the latest item, where that is a frame and eight bits or more of it are left.
@@ -125,35 +130,34 @@ impl Framer {
         ensures stands { (items : List Item) (given : List ℕ) → Stands self.old items given
             → Stands self.new (with_idle self.old.left items) (given ++ result ∷ []) }
     {
-        let mut octet = 0;
-        for place in 0..u8::BITS {
-            if self.bit() {
-                octet |= 1 << place;
-            }
-        }
-        octet
+        refill(&mut self.waiting, &mut self.frame, &mut self.text);
+        self.waiting.octet()
     }
+}
 
-    // The next bit of the line. An idle flag begins where none is left.
-    fn bit(&mut self) -> bool
-        ensures bit { result ∷ self.new.left ≡ begun self.old.left }
-        ensures held { self.new.held ≡ still_held self.new.left self.old.held }
-        ensures room { self.new.room ≡ self.old.room }
-    {
-        if 0 < self.flag {
-            self.flag -= 1;
-            // Between its first bit and its last, a flag's bits are 1s.
-            return 0 < self.flag && self.flag < FLAG_BITS - 1;
-        }
-        if self.frame.is_empty() {
-            self.flag = FLAG_BITS - 1;
-            return false;
-        }
-        let bit = self.text.bit(&self.frame);
-        if self.text.is_done(&self.frame) {
-            self.frame.clear();
-            self.flag = FLAG_BITS;
-        }
-        bit
+// Has eight bits wait at least: of the frame in hand, or of an idle flag.
+fn refill(waiting: &mut Waiting, frame: &mut Vec<u8>, text: &mut Stuffer)
+    requires room { waiting.old.count ≤ 24 }
+    requires few { text.old.ones ≤ 4 }
+    requires more { 0 < vec_len frame.old → text.old.next < vec_len frame.old }
+    ensures left { to_give waiting.new frame.new.items text.new ≡ refilled (to_give waiting.old frame.old.items text.old) }
+    ensures eight { 8 ≤ waiting.new.count }
+    ensures few { text.new.ones ≤ 4 }
+    ensures more { 0 < vec_len frame.new → text.new.next < vec_len frame.new }
+    ensures fits { vec_len frame.new ≤ vec_len frame.old }
+    ensures space { vec_capacity frame.new ≡ vec_capacity frame.old }
+{
+    if OCTET_BITS <= waiting.count() {
+        return;
+    }
+    if frame.is_empty() {
+        waiting.push_flag();
+        return;
+    }
+    let octet = text.octet(frame);
+    waiting.push(octet.bits as u32, octet.count);
+    if text.is_done(frame) {
+        frame.clear();
+        waiting.push_flag();
     }
 }

@@ -108,6 +108,31 @@ impl Gap {
         }
     }
 
+    /// Takes the bits that an octet of the line brings, the first to come lowest, and counts all its eight.
+    pub(crate) fn join(&mut self, octets: &mut Vec<u8>, bits: u8, count: u8)
+        requires room { 6 ≤ vec_len octets.old }
+        requires fits { self.old.count ≤ vec_len octets.old }
+        requires at_most { count ≤ 8 }
+        requires below { bits < 2 ^ count }
+        ensures room { vec_len octets.new ≡ vec_len octets.old }
+        ensures fits { self.new.count ≤ vec_len octets.new }
+        ensures since { self.new.since ≡ 8 }
+        ensures stands { (text : List Bool) → AssemblesIn octets.old.items self.old text
+            → AssemblesIn octets.new.items self.new (text ++ low_bits count bits) }
+    {
+        let joined = above(self.partial, self.filled, bits, count);
+        let filled = self.filled + count;
+        self.since = 8;
+        if filled < 8 {
+            self.filled = filled;
+            self.partial = joined as u8;
+        } else {
+            self.filled = filled - 8;
+            self.partial = (joined / 256) as u8;
+            self.keep(octets, (joined % 256) as u8);
+        }
+    }
+
     /// Keeps a whole octet as far as there is room.
     fn keep(&mut self, octets: &mut Vec<u8>, octet: u8)
         requires room { 6 ≤ vec_len octets.old }
@@ -174,4 +199,16 @@ fn with_bit(number: u8, place: u8, bit: bool) -> u8
     ensures below { result < 2 ^ (place + 1) }
 {
     if bit { number + (1 << place) } else { number }
+}
+
+/// The number with `more` above its `place` low bits.
+fn above(number: u8, place: u8, more: u8, count: u8) -> u16
+    requires place { place < 8 }
+    requires below { number < 2 ^ place }
+    requires more { more < 2 ^ count }
+    requires count { count ≤ 8 }
+    ensures bits { low_bits (place + count) result ≡ low_bits place number ++ low_bits count more }
+    ensures below { result < 2 ^ (place + count) }
+{
+    number as u16 + ((more as u16) << place)
 }

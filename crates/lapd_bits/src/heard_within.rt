@@ -7,13 +7,3 @@ ghost use Rattle.lapd_bits.specs.StreamLaws.{HeardWithinStream};
 pub fn heard_within_stream()
     ensures { HeardWithinStream }
 {}
-
-#[cfg(test)]
-mod tests {
-    use super::*;
-
-    #[test]
-    fn the_law_can_be_cited() {
-        heard_within_stream();
-    }
-}

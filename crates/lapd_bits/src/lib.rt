@@ -7,8 +7,8 @@
 //! flag, as long as no seven 1s have given it up. An *item* is what is sent after a line's opening flag: an idle flag, or
 //! a stuffed frame with its check and its closing flag.
 //!
-//! - `deframer`, over `gap`: from octets to frames; `heard`: what it answers.
-//! - `framer`, over `stuffer`: from frames to octets.
+//! - `deframer`, over `gap` and `unstuffer`: from octets to frames; `heard`: what it answers.
+//! - `framer`, over `stuffer` and `waiting`: from frames to octets.
 //! - `start_fault`: why neither could be started.
 //! - `check`: the frame check sequence.
 //! - `stuffing`, `one_event`, `heard_within`, `flag_places`, `round_trip`: laws, as functions with no effect.
@@ -26,6 +26,8 @@ mod round_trip;
 mod start_fault;
 mod stuffer;
 mod stuffing;
+mod unstuffer;
+mod waiting;
 
 pub use check::{fcs, only_check};
 pub use deframer::Deframer;

@@ -35,6 +35,10 @@ front_at_lines store card events within m count s =
 pub each_front : {S : Type 0} (store : S → Store) (card : Held S) (events : List rust.Event) → All (λ e. line_of e < line_count card) events → (P : Card → List Event → Type 0) → ((m : Card) (es : List Event) → IsSound m → AreAtLines m es → P m es) → (m : Card) (count : ℕ) → Stands store card m → P m (take count (events_of events))
 each_front store card events within P law m count s = law m (take count (events_of events)) s.sound (front_at_lines store card events within m count s)
 
+-- and a law of every sound card and line holds of a line of the card
+pub at_line : {S : Type 0} (store : S → Store) (card : Held S) (line : ℕ) → line < line_count card → (P : Card → Type 0) → ((m : Card) → IsSound m → line < m.config.lines → P m) → (m : Card) → Stands store card m → P m
+at_line store card line within P law m s = law m s.sound (subst (λ c. line < c.lines) (sym s.config) within)
+
 config_stays : (m : Card) (es : List Event) → (after_all m es).config ≡ m.config
 unfolding after_all
 config_stays m [] = refl

@@ -1,6 +1,7 @@
 //! The card: one call an event.
 
 ghost use Rattle.std.specs.Prelude.{◌≡◌, ◌<◌, Some, None, IfOk, IfErr, OnOk, OnErr};
+ghost use Rattle.lapd_card_machine.specs.ByEvent.{RisesByOctet, RisesByExpiry, RisesByRequest, FallsByPull};
 ghost use Rattle.lapd_card_machine.specs.Card as machine;
 ghost use Rattle.lapd_card_machine.specs.Event.{at};
 ghost use Rattle.lapd_card_machine.specs.Machine.{answer};
@@ -62,6 +63,9 @@ impl<S: Shelf> Card<S> {
         requires { line < line_count self.old }
         ensures told { (m : machine.Card) → Stands S.store self.old m
             → happening.told (report_told result) ≡ answer (at line (happening.octet octet)) m }
+        // What may be sent rises by two at most for the frame that it ends, and by k more where that is an REJ with a valid
+        // N(R); else by nothing.
+        ensures frames { (m : machine.Card) → Stands S.store self.old m → RisesByOctet line octet m }
         ensures* after { sem 𝓛 (Rests (the_row S.row S.Shelf) self.entry (λ v. Leads S.store (at line (happening.octet octet)) self.old v)) }
     {
         let outcome = self.step(line, octet);
@@ -74,6 +78,8 @@ impl<S: Shelf> Card<S> {
         ensures told { (m : machine.Card) → Stands S.store self.old m
             → happening.told (report_told result) ≡ answer (at line (happening.expiry timer)) m }
         ensures after { Leads S.store (at line (happening.expiry timer)) self.old self.new }
+        // By k + 1 where the timer was running, else by nothing.
+        ensures frames { (m : machine.Card) → Stands S.store self.old m → RisesByExpiry line timer m }
     {
         self.lines.expire(line, timer, &mut self.shelf)
     }
@@ -94,6 +100,8 @@ impl<S: Shelf> Card<S> {
         ensures told { (m : machine.Card) → Stands S.store self.old m
             → answer_of_result result ≡ answer (at line (happening.request (request_of request.entry))) m }
         ensures after { Leads S.store (at line (happening.request (request_of request.entry))) self.old self.new }
+        // By one where it is accepted, else by nothing.
+        ensures frames { (m : machine.Card) → Stands S.store self.old m → RisesByRequest line (request_of request.entry) m }
     {
         self.lines.request(line, request, &mut self.shelf, u32::from(self.config.slots))
     }
@@ -104,6 +112,8 @@ impl<S: Shelf> Card<S> {
         requires { line < line_count self.old }
         ensures told { (m : machine.Card) → Stands S.store self.old m → pulled_of result ≡ answer (at line happening.pull) m }
         ensures after { Leads S.store (at line happening.pull) self.old self.new }
+        // Where it begins a frame, what may be sent falls by one or two; else it stays.
+        ensures frames { (m : machine.Card) → Stands S.store self.old m → FallsByPull line m }
     {
         self.lines.pull(line, &mut self.shelf)
     }
@@ -125,6 +135,7 @@ impl<S: Shelf> Card<S> {
         ensures told { (m : machine.Card) → Stands S.store self.old m
             → happening.told (told_at self.new.lines line result) ≡ answer (at line (happening.octet octet)) m }
         ensures after { Leads S.store (at line (happening.octet octet)) self.old self.new }
+        ensures frames { (m : machine.Card) → Stands S.store self.old m → RisesByOctet line octet m }
     {
         self.lines.step(line, octet, &mut self.shelf)
     }

@@ -9,7 +9,7 @@ ghost use Rattle.lapd_card_machine.specs.Machine.{answer};
 ghost use Rattle.lapd_card_machine.specs.Run.{run};
 ghost use Rattle.lapd_card.specs.Card.{line_count};
 ghost use Rattle.lapd_card.specs.Drive.{line_of, events_of, Taken, MissesAt};
-ghost use Rattle.lapd_card_machine.specs.Laws.{RefusedByTheTable};
+ghost use Rattle.lapd_card_machine.specs.Laws.{RefusedByTheTable, RunIsMoments};
 ghost use Rattle.lapd_card.specs.Headline.{IsWithinLimit, IsAmortised, IsLinear, IsIsolated, IsNeverFull, IsNumbered, IsNumberedFromZero, IsTextual};
 ghost use Rattle.lapd_card.specs.Sink.{one_failure_more};
 ghost use Rattle.lapd_card.specs.Stands.{Stands, Leads};
@@ -24,6 +24,38 @@ use lapd_store::Shelf;
 impl<S: Shelf> Card<S> {
     /// Runs a list of events, and hands each reply to the sink, in order. Answers how many events there were.
     ///
+    /// What its contract promises, of every list of events and every card, clause by clause:
+    ///
+    /// - `ok`, `ran`, `taken`: every event has happened, the card is where the machine of the profile is after them, and the
+    ///   sink has taken the machine's reply to each, once and in order.
+    /// - `at`, `stopped`, `taken_before`: after a fault, the events up to the one whose reply the sink did not take have
+    ///   happened and no later one, and the sink has taken the replies before it.
+    /// - `failed`, `not_failed`: after a fault the sink has counted one failure more (a count that stays at its greatest value),
+    ///   and else none.
+    /// - `config`: the configuration stays as it is.
+    /// - `moments`: the replies that the sink takes are the answers in the moments of the run, which the sentences below
+    ///   count, number and compare.
+    /// - `refused`: a request is refused exactly where a row of the table of refusals holds, for the reason of the first that
+    ///   does, so for want of room exactly where its place is full; and then nothing changes.
+    ///
+    /// The rest holds after every front of the list, so after each event, and also where the sink failed on the way:
+    ///
+    /// - `within_limit`: the octets stored are at most [`crate::limit`] of the configuration.
+    /// - `amortised`: the frames that pulls begin, with those that may still be sent, are at most those that could be sent
+    ///   before, two for each frame recognised, one for each accepted request, k + 1 for each expiry of a running timer and k
+    ///   for each REJ with a valid N(R), whatever the number of pulls; k is the greater window.
+    /// - `linear`: from a card that has just begun, six times the frames recognised, and seven times those REJ, are at most
+    ///   the octets received, so the frames sent are linear in octets, accepted requests and expiries.
+    /// - `isolated`: from a card that has just begun, each line answers, but for a full pool, what it would answer on a card
+    ///   of its own, to the events at it that did not find the pool full.
+    /// - `never_full`: from a card that has just begun, no request finds the pool full where there is a slot for each place of
+    ///   each queue.
+    /// - `numbered`: what each link delivers since its establishment is numbered 0, 1, 2, .. modulo 128, each delivery told in
+    ///   the answer to its own frame (Q.921 clause 5.6.2); before an establishment the numbers go on with the link's V(R).
+    /// - `from_zero`: on a card that has just begun they begin with 0, too.
+    /// - `textual`: the octets pulled of a line, after those given before, are a beginning of one text of flags and whole frames
+    ///   (Q.921 clause 2), whose frames are those that pulls began, in order.
+    ///
     /// # Errors
     ///
     /// [`SinkFault`] where the sink failed on a reply: the card stands after that event, and later events
@@ -36,51 +68,37 @@ impl<S: Shelf> Card<S> {
         ensures not_failed { OnOk result (K.failures sink.new ≡ K.failures sink.old) }
         ensures config { self.new.config ≡ self.old.config }
 
-        // Every event has happened, and the sink has taken every reply, one after the other.
+        // All of them, where the sink took every reply.
         ensures ran { OnOk result ((m : machine.Card) → Stands S.store self.old m
             → Stands S.store self.new (run m (events_of events.now)).card) }
         ensures taken { OnOk result ((m : machine.Card) → Stands S.store self.old m
             → Taken K.takes sink.old (run m (events_of events.now)).replies sink.new) }
 
-        // The events up to the one whose reply was not taken have happened, and the sink has taken the replies
-        // before it.
+        // Those up to the one whose reply it did not take.
         ensures stopped { IfErr result (λ fault. (m : machine.Card) → Stands S.store self.old m
             → Stands S.store self.new (run m (take (fault.at + 1) (events_of events.now))).card) }
         ensures taken_before { IfErr result (λ fault. (m : machine.Card) → Stands S.store self.old m
             → MissesAt K.takes K.misses m (events_of events.now) fault.at sink.old sink.new) }
 
-        // A request is refused exactly where a row of the table of refusals holds, for the reason of the first that does,
-        // and so for want of room exactly where its place is full; and then nothing changes.
+        // The replies of `run` are the answers of `moments`, and its card is that of `after_all`: all below speaks of those.
+        ensures moments { RunIsMoments }
         ensures refused { RefusedByTheTable }
 
-        // The rest holds after every front of the list, of which the whole list is one, so also where the sink failed on the
-        // way. The octets stored are within the limit.
+        // After every front of the list, from every card or, where it says `fresh`, from one that has just begun.
         ensures within_limit { (m : machine.Card) (count : ℕ) → Stands S.store self.old m
             → IsWithinLimit m (take count (events_of events.now)) }
-
-        // The frames that pulls begin, and those that may still be sent, rise by at most two for each frame that is recognised,
-        // by one for each request that is accepted, by k + 1 for each expiry of a running timer, and by k for each REJ
-        // with a valid N(R), whatever the number of pulls.
         ensures amortised { (m : machine.Card) (count : ℕ) → Stands S.store self.old m
             → IsAmortised m (take count (events_of events.now)) }
-
-        // From a card that has just begun, they are linear in the octets received, the accepted requests and the expiries.
         ensures linear { (count : ℕ) → Stands S.store self.old (machine.fresh self.old.config)
             → IsLinear self.old.config (take count (events_of events.now)) }
-
-        // And each line answers, but for a full pool, what it would answer on a card of its own.
         ensures isolated { (count : ℕ) → Stands S.store self.old (machine.fresh self.old.config)
             → IsIsolated self.old.config (take count (events_of events.now)) }
         ensures never_full { (count : ℕ) → Stands S.store self.old (machine.fresh self.old.config)
             → IsNeverFull self.old.config (take count (events_of events.now)) }
-
-        // What each link delivers is numbered 0, 1, 2, .. modulo 128 since its establishment.
         ensures numbered { (m : machine.Card) (count : ℕ) → Stands S.store self.old m
             → IsNumbered m (take count (events_of events.now)) }
         ensures from_zero { (count : ℕ) → Stands S.store self.old (machine.fresh self.old.config)
             → IsNumberedFromZero self.old.config (take count (events_of events.now)) }
-
-        // The octets pulled of a line are a beginning of its text, whose frames are those that pulls began.
         ensures textual { (m : machine.Card) (count : ℕ) → Stands S.store self.old m
             → IsTextual m (take count (events_of events.now)) }
     {

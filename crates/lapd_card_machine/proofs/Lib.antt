@@ -1,5 +1,6 @@
 pub mod Steps
 pub mod Amortised
+pub mod ByEvent
 pub mod Stored
 pub mod Fold
 pub mod Refusals

@@ -1,6 +1,6 @@
 -- Deliveries that are numbered moment by moment are numbered as a whole.
 use Rattle.std.proofs.Common.{◌≡◌, ◌≢◌, ℕ, ◌+◌, ◌%◌, ◌==◌, Bool, true, false, List, [], ◌∷◌, ◌++◌, Option, Some, None, refl, ap, sym, ◌∙◌, subst, cond, eqb-true, eq-eqb, true≢false}
-use Rattle.std.specs.Prelude.{All, option_to_list}
+use Rattle.std.specs.Prelude.{option_to_list}
 use Rattle.std.proofs.lemmas.List.Elements.{All-nil, All-cons}
 use Rattle.lapd_link_machine.specs.Deliveries.{Arrived}
 use Rattle.lapd_link_machine.specs.Numbered.{Numbered}

@@ -1,13 +1,12 @@
 -- Numbered deliveries, over whole runs.
-use Rattle.std.proofs.Common.{◌≡◌, ◌≢◌, ℕ, ◌+◌, ◌<◌, ◌%◌, ◌==◌, ◌&&◌, Bool, true, false, List, [], ◌∷◌, ◌++◌, length, get_or, set, Option, Some, None, is_some, refl, ap, sym, ◌∙◌, subst, cond, arith, eqb-true, eq-eqb, true≢false, inl, inr}
-use Rattle.std.specs.Prelude.{All, fold, option_to_list}
+use Rattle.std.proofs.Common.{◌≡◌, ◌≢◌, ℕ, ◌+◌, ◌<◌, ◌==◌, ◌&&◌, Bool, true, false, List, [], ◌∷◌, ◌++◌, length, get_or, set, Option, Some, None, is_some, refl, ap, sym, ◌∙◌, subst, cond, arith, eqb-true, eq-eqb, true≢false, inl, inr}
+use Rattle.std.specs.Prelude.{fold, option_to_list}
 use Rattle.std.proofs.lemmas.List.{get_or-set_same, get_or-set_other, get_or-replicate}
 use Rattle.std.proofs.lemmas.List.Elements.{All-head, All-tail}
 use Rattle.lapd_frame.specs.declared.refusals.Refusal.TheVariants.{PoolFull}
 use Rattle.lapd_link_machine.specs.Deliveries.{Arrived}
 use Rattle.lapd_link_machine.specs.Link.{Link}
 use Rattle.lapd_link_machine.specs.Link.{fresh as fresh_link}
-use Rattle.lapd_link_machine.proofs.Counting.{Counted, Restarted}
 use Rattle.lapd_link_machine.proofs.Delivering.{delivery, counted_on}
 use Rattle.lapd_line_machine.specs.declared.config.Config.{Config}
 use Rattle.lapd_line_machine.specs.Answer.{Answer, refused}
@@ -20,7 +19,7 @@ use Rattle.lapd_card_machine.specs.Event.{Event}
 use Rattle.lapd_card_machine.specs.Card.{Card, fresh, line_at}
 use Rattle.lapd_card_machine.specs.Laws.{HasLink, DeliveriesNumbered}
 use Rattle.lapd_card_machine.specs.Machine.{wants_room, after, answer}
-use Rattle.lapd_card_machine.specs.Numbered.{LinkName, Share, share_at, no_share, share_of, restarts, is_at, History, one_more, received_by, history, contents_of, AreNumbered, deliveries_of}
+use Rattle.lapd_card_machine.specs.Numbered.{LinkName, Share, no_share, share_of, restarts, History, one_more, received_by, history, contents_of, AreNumbered, deliveries_of}
 use Rattle.lapd_card_machine.specs.Sound.{IsSound}
 use Rattle.lapd_card_machine.specs.Run.{Moment, moments, after_all, IsAtLine, AreAtLines}
 use Rattle.lapd_card_machine.proofs.NumberedForms.{numbered-whole}

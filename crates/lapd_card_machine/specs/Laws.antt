@@ -1,6 +1,7 @@
 -- Laws of whole runs. Each holds for every list of events, and so for every front of a list.
 use Rattle.std.specs.Prelude.{◌≡◌, ◌↔◌, ℕ, ◌+◌, ◌*◌, ◌≤◌, ◌<◌, false, Some, IsSome, List, length, map, All}
 use Rattle.lapd_frame.specs.declared.refusals.Refusal.{Refusal}
+use Rattle.lapd_frame.specs.declared.timers.Timer.{Timer}
 use Rattle.lapd_link_machine.specs.Numbered.{Numbered}
 use Rattle.lapd_line_machine.specs.declared.config.Config.{Config}
 use Rattle.lapd_line_machine.specs.Answer.{Answer, request, refused}
@@ -16,6 +17,7 @@ use Rattle.lapd_card_machine.specs.Run.{Moment, run, moments, after_all, AreAtLi
 use Rattle.lapd_card_machine.specs.Sound.{IsSound}
 use Rattle.lapd_card_machine.specs.Stored.{stored, limit}
 use Rattle.lapd_card_machine.specs.Counts.{waiting, frames_heard, octets_received, window, sent, accepted, expired, rejected}
+use Rattle.lapd_card_machine.specs.ByEvent.{RisesByOctet, RisesByExpiry, RisesByRequest, FallsByPull}
 use Rattle.lapd_card_machine.specs.Isolation.{events_at, answers_at, answer_in}
 use Rattle.lapd_card_machine.specs.Numbered.{LinkName, received_by, history, frames_of, deliveries_of, AreNumbered}
 use Rattle.lapd_card_machine.specs.Pulled.{octets_pulled, frames_begun, GoesOn}
@@ -58,6 +60,13 @@ FramesAmortised =
     let k = window card.config in
     sent ms + waiting end + 2 * frames_heard card
     ≤ waiting card + 2 * frames_heard end + accepted ms + (k + 1) * expired ms + k * rejected ms
+
+-- The same event by event: what each lets rise at most, and that a pull which begins a frame lets it fall.
+pub record FramesByEvent : Type 0 where
+  pub octets : (card : Card) (number value : ℕ) → IsSound card → number < card.config.lines → RisesByOctet number value card
+  pub expiries : (card : Card) (number : ℕ) (timer : Timer) → IsSound card → number < card.config.lines → RisesByExpiry number timer card
+  pub requests : (card : Card) (number : ℕ) (r : Request) → IsSound card → number < card.config.lines → RisesByRequest number r card
+  pub pulls : (card : Card) (number : ℕ) → IsSound card → number < card.config.lines → FallsByPull number card
 
 -- From a fresh card on, they are linear in the octets received, the accepted requests and the expiries: a frame has six octets
 -- of its own at least, with its check and a flag, and an REJ seven.

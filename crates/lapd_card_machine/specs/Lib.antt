@@ -6,6 +6,7 @@ pub mod Run
 pub mod Sound
 pub mod Stored
 pub mod Counts
+pub mod ByEvent
 pub mod Numbered
 pub mod Pulled
 pub mod Isolation

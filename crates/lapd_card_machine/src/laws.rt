@@ -1,7 +1,7 @@
 //! What holds of whole runs of the machine. Each law is the contract of a call that does nothing; it holds for every list
 //! of events, and so for every front of a list.
 
-ghost use Rattle.lapd_card_machine.specs.Laws.{CardsStaySound, DeliveriesNumbered, FramesAmortised, FramesLinear, LinesIsolated, PoolNeverFull, RefusedByTheTable, RunIsMoments, StoredWithinLimit, TextGoesOn};
+ghost use Rattle.lapd_card_machine.specs.Laws.{CardsStaySound, DeliveriesNumbered, FramesAmortised, FramesByEvent, FramesLinear, LinesIsolated, PoolNeverFull, RefusedByTheTable, RunIsMoments, StoredWithinLimit, TextGoesOn};
 
 /// A run as one fold is its moments, one after the other.
 pub fn run_is_moments()
@@ -24,6 +24,14 @@ pub fn stored_within_limit()
 /// card a source of frames.
 pub fn frames_amortised()
     ensures { FramesAmortised }
+{}
+
+/// The same for single events. What may be sent rises by at most two for an octet that ends a frame which is recognised (one
+/// octet ends one frame at most), and by k more where that is an REJ with a valid N(R); by k + 1 for an expiry of a running
+/// timer; by one for an accepted request. A drop, a refusal and an expiry of a timer that does not run let it rise by
+/// nothing. A pull that begins a frame lets it fall by one or two, and any other pull leaves it as it is.
+pub fn frames_by_event()
+    ensures { FramesByEvent }
 {}
 
 /// A request is refused exactly where a row of the table of refusals holds, for the reason of the first that does. So it is

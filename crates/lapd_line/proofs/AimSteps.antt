@@ -4,7 +4,6 @@ use Rattle.std.proofs.Math.ListN.{drop_of_length-le}
 use Rattle.lapd_frame.specs.declared.addresses.Address.{Address}
 use Rattle.lapd_frame.specs.declared.services.Service.{Service}
 use Rattle.lapd_frame.specs.Services.{service_of}
-use Rattle.lapd_bits.specs.declared.heard.Cause.{Cause}
 use Rattle.lapd_bits.specs.declared.heard.Cause.TheVariants.{Tei, Unserved}
 use Rattle.lapd_frame.specs.declared.controls.Control.{Control}
 use Rattle.lapd_frame.specs.declared.controls.Control.TheVariants as control
@@ -15,8 +14,7 @@ use Rattle.lapd_tei.specs.Events as teis
 use Rattle.std.proofs.lemmas.Bool.{false≢true}
 use Rattle.lapd_store.specs.Ownership.{Owned}
 use Rattle.lapd_store.specs.Store.{Store}
-use Rattle.lapd_tei.specs.Machine.{Management, place}
-use Rattle.lapd_line_machine.specs.Answer.{Told, dropped}
+use Rattle.lapd_line_machine.specs.Answer.{Told}
 use Rattle.lapd_line_machine.specs.Line.{Line, place_in}
 use Rattle.lapd_line_machine.specs.Octet.{addressed, at_place, to_service, management_sapi, group_tei, drop_for, message_of, aim_of_long, aim_of_reading}
 use Rattle.lapd_line_machine.specs.Outcome.{Aim, at_none, at_management, of_aim}

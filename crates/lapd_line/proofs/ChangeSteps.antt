@@ -1,11 +1,11 @@
 -- Changes of the table, and the links that follow them.
-use Rattle.std.proofs.Common.{◌≡◌, ◌≢◌, ℕ, ◌<◌, ◌≤◌, List, [], ◌++◌, length, get_or, set, slice_get, Option, Some, None, refl, sym, ap, subst, ◌∙◌, arith, append_assoc, ⊎_elim}
+use Rattle.std.proofs.Common.{◌≡◌, ◌≢◌, ℕ, ◌<◌, ◌≤◌, List, [], ◌++◌, length, get_or, set, slice_get, Some, None, refl, sym, ap, subst, ◌∙◌, arith, append_assoc, ⊎_elim}
 use Rattle.std.proofs.lemmas.Bool.{cases_eq}
 use Rattle.std.proofs.lemmas.List.{length-map, length-set, get_or-set_same, get_or-set_other}
 use Rattle.std.proofs.lemmas.Option.{none-some, same_Some}
 use Rattle.circular_buffer.proofs.Places.{slice_get-set_same, slice_get-set_other}
 use Rattle.lapd_store.specs.Ownership.{Owned, Holds}
-use Rattle.lapd_store.specs.Store.{Store, SameLimits}
+use Rattle.lapd_store.specs.Store.{Store}
 use Rattle.lapd_frame.specs.declared.services.Service.{Service}
 use Rattle.lapd_frame.specs.declared.services.Service.TheVariants.{Call, Packet}
 use Rattle.lapd_link.specs.declared.link.Link.{Link}
@@ -15,19 +15,15 @@ use Rattle.lapd_link.specs.Stands.{terms_of}
 use Rattle.lapd_link_machine.specs.Events as event
 use Rattle.lapd_link_machine.specs.Link as machine
 use Rattle.lapd_link_machine.specs.Machine as answers
-use Rattle.lapd_link_machine.specs.declared.terms.Terms.{Terms}
-use Rattle.lapd_tei.specs.declared.outcome.Change.{Change}
 use Rattle.lapd_tei.specs.declared.outcome.Change.TheVariants.{Gained, Left}
 use Rattle.lapd_tei.specs.declared.outcome.TeiOutcome.{TeiOutcome}
 use Rattle.lapd_tei.specs.Events as teis
 use Rattle.lapd_tei.specs.Laws.{Moves, HasJoined, HasLeft}
 use Rattle.lapd_tei.specs.Machine.{Management}
 use Rattle.lapd_tei.specs.Outcome.{told_of}
-use Rattle.lapd_tei.specs.Sound.{IsAt}
 use Rattle.lapd_tei.proofs.LawLemmas.{changes_are_told}
-use Rattle.lapd_line_machine.specs.Answer.{Told}
-use Rattle.lapd_line_machine.specs.Line.{Line, link_number, link_count, service_at, place_at, tei_at, terms, link_at, with_link, link_in}
-use Rattle.lapd_line_machine.specs.Outcome.{Outcome, at_management, of_change, of_management, told_of_link, told_of_management, with_cleared, with_opened}
+use Rattle.lapd_line_machine.specs.Line.{Line, link_number, link_count, service_at, place_at, tei_at, terms, link_at}
+use Rattle.lapd_line_machine.specs.Outcome.{at_management, of_change, of_management, told_of_link, told_of_management, with_cleared, with_opened}
 use Rattle.lapd_line_machine.specs.Sound.{IsSound, IsSoundAt}
 use Rattle.lapd_line_machine.proofs.AimsSound.{management_event_sound}
 use Rattle.lapd_line_machine.proofs.Numbers.{place_at-number, service_at-number, number_within, other_place, at_place}
@@ -36,10 +32,10 @@ use Rattle.lapd_line.specs.declared.reports.Outcome as reports
 use Rattle.lapd_line.specs.Reports.{told_in}
 use Rattle.lapd_line.specs.Units.{unit_pairs}
 use Rattle.lapd_line.specs.Links.{LinksStand, HasTerms, links_pairs, terms_in, machine_at}
-use Rattle.lapd_line.specs.Entities.{Stands, Standing, Serves, always}
+use Rattle.lapd_line.specs.Entities.{Stands, Serves, always}
 use Rattle.lapd_line.specs.Changes.{IsAnswerTo, with_management}
 use Rattle.lapd_line.specs.Links as links
-use Rattle.lapd_line.proofs.EntitySteps.{beside_links, links_part, named, few_places}
+use Rattle.lapd_line.proofs.EntitySteps.{links_part, named, few_places}
 
 -- The entities after an event of TEI management: the table is another one, and so may the links be.
 module _ (e : Entities) (before : Management) (what : teis.Event) (outcome : TeiOutcome) (is : IsAnswerTo what before e.teis outcome) where

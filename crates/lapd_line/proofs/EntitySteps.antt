@@ -1,5 +1,5 @@
 -- What a call on the links does to the entities of a line.
-use Rattle.std.proofs.Common.{◌≡◌, ℕ, ◌<◌, ◌≤◌, List, [], ◌∷◌, ◌++◌, length, drop, get_or, set, slice_get, Option, Some, refl, sym, ap, subst, ◌∙◌, arith, append_assoc}
+use Rattle.std.proofs.Common.{◌≡◌, ℕ, ◌<◌, ◌≤◌, List, ◌++◌, length, drop, slice_get, Option, Some, refl, sym, ap, subst, ◌∙◌, arith, append_assoc}
 use Rattle.std.proofs.lemmas.List.{length-map}
 use Rattle.std.specs.Option.{option_map}
 use Rattle.lapd_store.specs.Ownership.{Owned, Holds}
@@ -12,12 +12,11 @@ use Rattle.lapd_link.specs.Stands.{terms_of}
 use Rattle.lapd_link_machine.specs.Events as event
 use Rattle.lapd_link_machine.specs.Link as machine
 use Rattle.lapd_link_machine.specs.Link.{state_number}
-use Rattle.lapd_link_machine.specs.Machine.{after, told}
 use Rattle.lapd_tei.specs.Sound.{IsAt}
 use Rattle.lapd_tei.specs.Table.{place_of}
 use Rattle.lapd_tei.proofs.Tables.{at-within, place_of-is}
-use Rattle.lapd_line_machine.specs.Line.{Line, link_number, link_count, service_at, place_at, tei_at, terms, link_in, with_link, state_in, state_of}
-use Rattle.lapd_line_machine.specs.Outcome.{Aim, at_link, of_aim, told_of_link}
+use Rattle.lapd_line_machine.specs.Line.{Line, link_number, link_count, service_at, place_at, tei_at, terms, state_in, state_of}
+use Rattle.lapd_line_machine.specs.Outcome.{at_link, told_of_link}
 use Rattle.lapd_line_machine.specs.Sound.{IsSound}
 use Rattle.lapd_line_machine.proofs.Numbers.{place_at-number, service_at-number, number_within}
 use Rattle.lapd_line_machine.proofs.AimsSound.{aim_sound}

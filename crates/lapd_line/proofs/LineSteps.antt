@@ -24,7 +24,7 @@ use Rattle.lapd_line.specs.declared.reports.Outcome.{Outcome}
 use Rattle.lapd_line.specs.declared.reports.Report.{Report}
 use Rattle.lapd_line.specs.Entities as entities
 use Rattle.lapd_line.specs.Entities.{Serves, aim_of_event}
-use Rattle.lapd_line.specs.Reports.{report_told, told_in, octets_of}
+use Rattle.lapd_line.specs.Reports.{report_told, told_in}
 use Rattle.lapd_line.specs.Stands.{Stands, Leads, config_of, latest_frame}
 
 -- what is heard with one octet more is what that octet brought

@@ -1,5 +1,5 @@
 -- What a call on one link does to all of them: it is taken out of the list, and put back.
-use Rattle.std.proofs.Common.{◌≡◌, ℕ, ◌<◌, ◌≤◌, List, [], ◌∷◌, ◌++◌, length, map, get_or, set, Some, option_map, Result, Ok, Err, IfErr, IfOk, OnErr, OnOk, refl, sym, ap, subst, ◌∙◌, arith, Option}
+use Rattle.std.proofs.Common.{◌≡◌, ℕ, ◌<◌, ◌≤◌, List, length, get_or, set, option_map, Result, Ok, Err, IfErr, IfOk, OnErr, OnOk, refl, sym, ap, subst, ◌∙◌, arith, Option}
 use Rattle.std.proofs.lemmas.List.{length-set, get_or_default, set-get_or}
 use Rattle.std.proofs.Math.Seq.{map-set_same}
 use Rattle.std.proofs.lemmas.Option.{slice_get-map, slice_get-get_or, same_Some}
@@ -18,7 +18,7 @@ use Rattle.lapd_link_machine.specs.Machine.{after, told}
 use Rattle.lapd_frame.specs.declared.services.Service.{Service}
 use Rattle.lapd_line_machine.specs.declared.config.Config.{Config}
 use Rattle.lapd_line_machine.specs.Line.{terms, window}
-use Rattle.lapd_line.specs.Links.{LinkFits, LinksStand, HasTerms, machine_at, link_pairs, links_pairs, terms_in, GoesOn, IsTold, Serves, IsGiven, Offers}
+use Rattle.lapd_line.specs.Links.{LinkFits, LinksStand, HasTerms, machine_at, link_pairs, terms_in, Serves, IsGiven, Offers}
 
 -- the link at a place, the machine for it, and what the shelf holds beside what it owns; and the way back
 pub record Taken (c : Config) (links : List Link) (s : Store) (others : List Owned) (ms : List machine.Link) (number : ℕ) (x : Link) : Type 0 where

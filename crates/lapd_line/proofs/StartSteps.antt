@@ -1,8 +1,8 @@
 -- A line begins: what its parts are, and that they stand for an empty past.
-use Rattle.std.proofs.Common.{◌≡◌, ℕ, ◌<◌, ◌≤◌, List, [], ◌∷◌, ◌++◌, length, replicate, Some, None, refl, sym, ap, subst, ◌∙◌, arith}
+use Rattle.std.proofs.Common.{◌≡◌, ℕ, ◌≤◌, List, [], ◌∷◌, ◌++◌, length, replicate, Some, None, refl, sym, ap, subst, ◌∙◌, arith}
 use Rattle.std.proofs.lemmas.List.{get_or-replicate}
 use Rattle.std.proofs.lemmas.List.Elements.{All-nil, All-cons, All-head, All-tail}
-use Rattle.std.specs.List.{All, flat_map, zip}
+use Rattle.std.specs.List.{All, zip}
 use Rattle.lapd_store.specs.Ownership.{Owned, Holds, pairs_of}
 use Rattle.lapd_store.specs.Store.{Store, empty_store}
 use Rattle.lapd_store.proofs.Ownership.{Holds-empty}
@@ -12,12 +12,11 @@ use Rattle.lapd_link.specs.Stands as link
 use Rattle.lapd_link.specs.Stands.{slots_of, terms_of}
 use Rattle.lapd_link_machine.specs.Link.{fresh, queue_of}
 use Rattle.lapd_line_machine.specs.declared.config.Config.{Config}
-use Rattle.lapd_line_machine.specs.Line.{link_count, place_at, tei_at, fresh_line}
+use Rattle.lapd_line_machine.specs.Line.{place_at, fresh_line}
 use Rattle.lapd_line_machine.specs.Sound.{IsInRange}
 use Rattle.lapd_line_machine.proofs.LineSound.{fresh_sound}
 use Rattle.lapd_line_machine.proofs.Numbers.{place_within}
 use Rattle.lapd_line_machine.proofs.Ranges.{ranges_of}
-use Rattle.lapd_line.specs.declared.entities.Entities.{Entities}
 use Rattle.lapd_line.specs.Entities.{Stands}
 use Rattle.lapd_line.specs.Links.{LinkFits, links_pairs}
 use Rattle.lapd_line.specs.Starts.{IsBegun, AreBegun}

@@ -1,11 +1,9 @@
 -- What the answers of a line say, without references.
-use Rattle.std.specs.Prelude.{ℕ, List, [], drop, Option, Some, None, option_map, Result, Ok, Err}
+use Rattle.std.specs.Prelude.{ℕ, List, [], drop, Option, Some, None, option_map}
 use Rattle.std.specs.Option.{option_copied}
 use Rattle.lapd_bits.specs.Stream as stream
 use Rattle.lapd_frame.specs.ShortLists.{listed}
-use Rattle.lapd_frame.specs.declared.refusals.Refusal.{Refusal}
-use Rattle.lapd_frame.specs.declared.timers.Order.{Order}
-use Rattle.lapd_line_machine.specs.Answer.{Told, Answer, told, refused, pulled}
+use Rattle.lapd_line_machine.specs.Answer.{Told, Answer, pulled}
 use Rattle.lapd_line.specs.declared.reports.Outcome.{Outcome}
 use Rattle.lapd_line.specs.declared.reports.Report.{Report}
 use Rattle.lapd_line.specs.declared.pulled.Pulled.{Pulled}
@@ -28,8 +26,3 @@ octets_of None = []
 
 abbrev pub pulled_of : Pulled → Answer
 pulled_of p = pulled p.octet p.begun (listed p.orders)
-
--- What a request answers.
-abbrev pub answer_of_result : Result Report Refusal → Answer
-answer_of_result (Ok report) = told (report_told report)
-answer_of_result (Err why) = refused why

@@ -1,15 +1,13 @@
 //! What is heard in a line's octets, and which of its entities it is for.
 
-ghost use Rattle.std.specs.Prelude.{◌≡◌, ℕ, ◌≤◌, List, [], drop, length, Ok, Err, IfSome};
+ghost use Rattle.std.specs.Prelude.{◌≡◌, ℕ, ◌≤◌, List, [], drop, length, Ok, Err};
 ghost use Rattle.lapd_bits.specs.Heard.{heard_of};
-ghost use Rattle.lapd_bits.specs.Stream as stream;
 ghost use Rattle.lapd_frame.specs.declared.addresses.Side.TheVariants.{User};
 ghost use Rattle.lapd_frame.specs.Grammar.{parts_of};
 ghost use Rattle.lapd_frame.specs.Reading.{reading, long_reading, start_of};
 ghost use Rattle.lapd_bits.specs.declared.heard.Cause.TheVariants.{Unserved};
 ghost use Rattle.lapd_link_machine.specs.Events as link;
-ghost use Rattle.lapd_line_machine.specs.Octet.{addressed, aim_of_heard, aim_of_long, aim_of_reading, drop_for, message_of, unless_at_link};
-ghost use Rattle.lapd_line_machine.specs.Outcome.{Aim};
+ghost use Rattle.lapd_line_machine.specs.Octet.{addressed, aim_of_long, aim_of_reading, drop_for, message_of, unless_at_link};
 ghost use Rattle.lapd_line.specs.Aims.{is_ui};
 
 use crate::entities::Entities;

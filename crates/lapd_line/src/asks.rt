@@ -1,6 +1,6 @@
 //! What layer 3 and management ask for.
 
-ghost use Rattle.std.specs.Prelude.{◌≡◌, ◌≤◌, ◌==◌, ◌||◌, ℕ, List, [], length, Some, None, IfOk, IfErr, OnOk, OnErr, nat_le, IsErr};
+ghost use Rattle.std.specs.Prelude.{◌≡◌, ◌≤◌, ◌==◌, ◌||◌, ℕ, List, [], length, Some, None, IfOk, IfErr, OnOk, OnErr, nat_le};
 ghost use Rattle.lapd_frame.specs.declared.services.Service.{Service};
 ghost use Rattle.lapd_frame.specs.declared.refusals.Refusal.TheVariants.{PoolFull};
 ghost use Rattle.lapd_store.specs.Ownership.{Owned};

@@ -1,11 +1,11 @@
 //! The data link layer entities of a line: TEI management, the links, and the unit data that waits.
 
-ghost use Rattle.std.specs.Prelude.{◌≡◌, ℕ, ◌<◌, ◌≤◌, List, [], length, drop, Some};
+ghost use Rattle.std.specs.Prelude.{◌≡◌, ℕ, ◌<◌, ◌≤◌, List, [], drop};
 ghost use Rattle.lapd_store.specs.Ownership.{Owned};
 ghost use Rattle.lapd_store.specs.Store.{Store};
 ghost use Rattle.lapd_link_machine.specs.Events as event;
 ghost use Rattle.lapd_line_machine.specs.Line as machine;
-ghost use Rattle.lapd_line_machine.specs.Outcome.{Aim, at_none, at_link, told_of_link};
+ghost use Rattle.lapd_line_machine.specs.Outcome.{at_link, told_of_link};
 ghost use Rattle.lapd_link.specs.Outcome.{told_with};
 
 use crate::links::Links;

@@ -1,8 +1,8 @@
 //! The line: one call an event.
 
-ghost use Rattle.std.specs.Prelude.{◌≡◌, ℕ, ◌≤◌, List, Some, None, IfOk, IfErr, OnErr, nat_le};
+ghost use Rattle.std.specs.Prelude.{◌≡◌, ◌≤◌, List, Some, None, IfOk, IfErr, OnErr, nat_le};
 ghost use Rattle.lapd_store.specs.Ownership.{Owned, Holds};
-ghost use Rattle.lapd_store.specs.Store.{Store, SameLimits, used_slots};
+ghost use Rattle.lapd_store.specs.Store.{Store, used_slots};
 ghost use Rattle.lapd_line_machine.specs.Answer as event;
 ghost use Rattle.lapd_line_machine.specs.Answer.{told};
 ghost use Rattle.lapd_line_machine.specs.Line as machine;
@@ -37,7 +37,7 @@ impl Line {
     ghost use Rattle.std.specs.Borrow.{sem};
     ghost use Rattle.std.specs.Io.BufRead.{Rests};
     ghost use Rattle.lapd_line.specs.contracts.line.Line.{the_row};
-    ghost use Rattle.lapd_line.specs.Reports.{report_told, told_in, pulled_of, answer_of_result};
+    ghost use Rattle.lapd_line.specs.Reports.{report_told, told_in, pulled_of};
     ghost use Rattle.lapd_line.specs.Begins.{Begins};
     ghost use Rattle.lapd_line.specs.Stands.{Stands, Leads, config_of, latest_frame};
     ghost use Rattle.lapd_line.specs.Takes.{orders_taken};
@@ -96,7 +96,8 @@ impl Line {
         outcome.report(self.frame())
     }
 
-    /// A timer expires. Where it does not run, nothing happens.
+    /// A timer expires: T200 or T203 of a link, or T201 of the check of a TEI (Q.921 clause 5.9). Where it does not run,
+    /// nothing happens (profile).
     pub fn expire<S: Shelf>(&mut self, timer: Timer, shelf: &mut S) -> Report<'static>
         requires { (others : List Owned) × (m : machine.Line) × Stands self.old (S.store shelf.old) others m }
         ensures told { (others : List Owned) (m : machine.Line) → Stands self.old (S.store shelf.old) others m
@@ -106,8 +107,8 @@ impl Line {
         self.entities.expire(timer, shelf).report(&[])
     }
 
-    /// Serves a request of layer 3 or management. One that is refused changes nothing. The whole card may hold `slots`
-    /// contents, which is at most what the shelf has.
+    /// Serves a request of layer 3 or management (Q.921 clause 4.1.1). One that is refused changes nothing. The whole card
+    /// may hold `slots` contents, which is at most what the shelf has.
     ///
     /// # Errors
     ///
@@ -140,7 +141,7 @@ impl Line {
 
     /// Gives the next octet of the line, low bit first. Where fewer than eight bits are left to send, the frame that is
     /// next is taken: a message of TEI management, else unit data, else one of a link, each link in its turn; or an idle
-    /// flag where none waits.
+    /// flag where none waits (profile).
     pub fn pull<S: Shelf>(&mut self, shelf: &mut S) -> Pulled
         requires { (others : List Owned) × (m : machine.Line) × Stands self.old (S.store shelf.old) others m }
         ensures told { (others : List Owned) (m : machine.Line) → Stands self.old (S.store shelf.old) others m
@@ -167,8 +168,8 @@ impl Line {
         self.entities.take(&mut self.framer, shelf)
     }
 
-    /// The state of the link of a service with this TEI, by its number in Q.921: 4 to 8. None where the TEI is not on the
-    /// line.
+    /// The state of the link of a service with this TEI, by its number in Q.921 (annex B): 4 to 8. None where the TEI is
+    /// not on the line.
     pub fn state(&self, service: Service, tei: u8) -> Option<u8>
         ensures { (store : Store) (others : List Owned) (m : machine.Line) → Stands self.now store others m
             → result ≡ machine.state_of service tei m }

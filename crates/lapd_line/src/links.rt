@@ -1,6 +1,6 @@
 //! The links of a line.
 
-ghost use Rattle.std.specs.Prelude.{◌≡◌, ℕ, ◌<◌, ◌≤◌, List, [], length, set, nat_le, Some, None, IfOk, IfErr, OnOk, OnErr};
+ghost use Rattle.std.specs.Prelude.{◌≡◌, ◌<◌, ◌≤◌, List, [], length, set, nat_le, Some, None, IfOk, IfErr, OnOk, OnErr};
 ghost use Rattle.lapd_store.specs.Ownership.{Owned};
 ghost use Rattle.lapd_store.specs.Store.{Store, used_slots};
 ghost use Rattle.lapd_link_machine.specs.Events as event;

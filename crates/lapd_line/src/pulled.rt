@@ -17,7 +17,7 @@ pub struct Pulled {
 impl Pulled {
     ghost use Rattle.lapd_frame.specs.ShortLists.{listed};
 
-    /// What is to be done with timers, in order: at most two orders.
+    /// What is to be done with timers of the link whose frame was taken, in order: at most two orders.
     pub fn orders(&self) -> &[Order]
         ensures { result.now ≡ listed self.now.orders }
     {

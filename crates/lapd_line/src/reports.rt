@@ -34,14 +34,15 @@ pub struct Outcome {
 impl Report<'_> {
     ghost use Rattle.lapd_line.specs.Reports.{report_told};
 
-    /// What layer 3 and management are told, in order: at most four notes.
+    /// What layer 3 and management are told, in order: at most four notes. The machine of a line never tells more
+    /// (`answers_are_short` of `lapd_line_machine`), so none is left out.
     pub fn notes(&self) -> &[Note]
         ensures { result.now ≡ (report_told self.now).notes }
     {
         self.notes.as_slice()
     }
 
-    /// What is to be done with timers, in order: at most four orders.
+    /// What is to be done with timers, in order: at most four orders, which is all that there can be.
     pub fn orders(&self) -> &[Order]
         ensures { result.now ≡ (report_told self.now).orders }
     {

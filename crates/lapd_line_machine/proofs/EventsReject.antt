@@ -35,7 +35,7 @@ timer_none : (l : Line) (service : Service) (tei : ℕ) (timer : LinkTimer) (o :
 timer_none l service tei timer None = refl
 timer_none l service tei timer (Some place) = refl
 
-expiry_none : (l : Line) (timer : Timer) → rejects_aimed l (aim_of_expiry timer l) ≡ false
+pub expiry_none : (l : Line) (timer : Timer) → rejects_aimed l (aim_of_expiry timer l) ≡ false
 expiry_none l (T200 service tei) = timer_none l service tei link_timer.T200 (place_in l tei)
 expiry_none l (T203 service tei) = timer_none l service tei link_timer.T203 (place_in l tei)
 expiry_none l T201 = refl

@@ -35,7 +35,7 @@ use Rattle.lapd_line_machine.proofs.AimsSound.{IsProper}
 use Rattle.lapd_line_machine.proofs.LineRises.{octet_costs, aim_received, window_most}
 use Rattle.lapd_line_machine.proofs.LineSound.{received_sound}
 use Rattle.lapd_line_machine.proofs.ProperAims.{octet_proper, expiry_proper, request_proper}
-use Rattle.lapd_line_machine.proofs.PullRises.{pull_rises}
+use Rattle.lapd_line_machine.proofs.PullRises.{pull_falls}
 use Rattle.lapd_line_machine.proofs.PullSound.{TakesSoundly, taken_sound}
 
 -- an aim costs the same before and after the octet that brings it
@@ -52,7 +52,7 @@ proper_received c value l (at_management event) p = p
 proper_received c value l (at_units unit) p = p
 
 -- the frames heard are those of the octets received
-heard_same : (c : Config) (aim : Aim) (l : Line) → frames_heard c (of_aim c aim l).line ≡ frames_heard c l
+pub heard_same : (c : Config) (aim : Aim) (l : Line) → frames_heard c (of_aim c aim l).line ≡ frames_heard c l
 heard_same c aim l = ap (λ octets. count_by is_frame (stream.heard_in c.n201 octets)) (aim_received c aim l)
 
 octet_rises : (c : Config) → IsInRange c → (value : ℕ) (l : Line) → IsSound c l → Rises c (octet value) l
@@ -146,12 +146,12 @@ due_heard c l false o h = refl
 due_heard c l true None h = refl
 due_heard c l true (Some t) h = ap (λ octets. count_by is_frame (stream.heard_in c.n201 octets)) h.received
 
-pull_heard : (c : Config) → IsInRange c → (l : Line) → IsSound c l → frames_heard c (with_due c l) ≡ frames_heard c l
+pub pull_heard : (c : Config) → IsInRange c → (l : Line) → IsSound c l → frames_heard c (with_due c l) ≡ frames_heard c l
 pull_heard c ranged l s = due_heard c l (is_due l) (taken c l) (taken_sound c ranged l s)
 
 pull_event_rises : (c : Config) → IsInRange c → (l : Line) → IsSound c l → Rises c pull l
 unfolding after answer
-pull_event_rises c ranged l s = omega (arith, pull_rises c ranged l s, pull_heard c ranged l s)
+pull_event_rises c ranged l s = omega (arith, (pull_falls c ranged l s).0, pull_heard c ranged l s)
 
 pub event_rises : (c : Config) (e : Event) (l : Line) → IsInRange c → IsSound c l → Rises c e l
 event_rises c (octet value) l ranged s = octet_rises c ranged value l s

@@ -12,6 +12,7 @@ pub mod AimsRise
 pub mod LineRises
 pub mod PullRises
 pub mod EventsRise
+pub mod ByEvent
 pub mod Numbered
 pub mod NumberedEvents
 pub mod SlotsGrow

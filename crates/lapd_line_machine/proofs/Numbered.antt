@@ -1,30 +1,23 @@
 -- What an event delivers at a link of a line: the next eligible I-frame's contents, or none; or its numbers begin anew.
-use Rattle.std.proofs.Common.{◌≡◌, ◌≢◌, ℕ, zero, suc, ◌+◌, ◌*◌, ◌<◌, ◌≤◌, Bool, true, false, cond, ◌==◌, ◌&&◌, not, List, [], ◌∷◌, ◌++◌, length, get_or, set, Option, Some, None, is_some, option_map, IfSome, refl, ap, sym, ◌∙◌, subst, ◌⊎◌, inl, inr, ⊎_elim, arith, eqb-true, eq-eqb, true≢false, length-set}
+use Rattle.std.proofs.Common.{◌≡◌, ◌≢◌, ℕ, ◌+◌, ◌*◌, ◌<◌, Bool, true, false, cond, ◌==◌, List, [], ◌∷◌, length, get_or, set, Option, Some, None, is_some, refl, ap, sym, ◌∙◌, subst, inl, inr, ⊎_elim, arith, eqb-true, eq-eqb, true≢false, length-set}
 use Rattle.std.specs.Prelude.{All}
 use Rattle.std.specs.List.{list_any}
-use Rattle.std.specs.Option.{option_or, option_map_or, unwrap_or}
-use Rattle.std.proofs.lemmas.Bool.{cases_eq}
+use Rattle.std.specs.Option.{option_or, option_map_or}
 use Rattle.std.proofs.lemmas.List.{get_or-set_same, get_or-set_other}
 use Rattle.std.proofs.lemmas.List.Elements.{All-head, All-tail}
-use Rattle.lapd_bits.specs.Stream as stream
 use Rattle.lapd_frame.specs.declared.notes.Note.{Note}
 use Rattle.lapd_frame.specs.declared.notes.Note.TheVariants as notes
-use Rattle.lapd_frame.specs.declared.refusals.Refusal.{Refusal}
 use Rattle.lapd_frame.specs.declared.services.Service.{Service}
 use Rattle.lapd_frame.specs.declared.services.Service.TheVariants.{Call, Packet}
-use Rattle.lapd_frame.specs.declared.timers.Timer.{Timer}
-use Rattle.lapd_frame.specs.declared.timers.Timer.TheVariants.{T200, T203, T201}
 use Rattle.lapd_link_machine.specs.declared.terms.Terms.{Terms}
-use Rattle.lapd_link_machine.specs.declared.timers.LinkTimer.{LinkTimer}
 use Rattle.lapd_link_machine.specs.Deliveries as arrivals
 use Rattle.lapd_link_machine.specs.Events as link
 use Rattle.lapd_link_machine.specs.Link.{Link, fresh}
 use Rattle.lapd_link_machine.specs.Machine as links
 use Rattle.lapd_link_machine.specs.Notes.{is_data}
-use Rattle.lapd_link_machine.specs.Told.{Given}
-use Rattle.lapd_link_machine.proofs.Counting.{Counted, Restarted, done}
+use Rattle.lapd_link_machine.proofs.Counting.{done}
 use Rattle.lapd_link_machine.proofs.Delivering.{delivery, counted_on, event-delivers}
-use Rattle.lapd_link_machine.proofs.OwnNotes.{IsOwn, notes-own, offer-keeps-r, transfer-goes-on}
+use Rattle.lapd_link_machine.proofs.OwnNotes.{IsOwn, notes-own}
 use Rattle.lapd_link_machine.proofs.TellRows.{event-tells}
 use Rattle.lapd_tei.specs.Events as teis
 use Rattle.lapd_tei.specs.Laws.{Moves}
@@ -34,22 +27,14 @@ use Rattle.lapd_tei.specs.Table.{Places}
 use Rattle.lapd_tei.specs.declared.outcome.Change.{Change}
 use Rattle.lapd_tei.specs.declared.outcome.Change.TheVariants.{Gained, Left}
 use Rattle.lapd_tei.proofs.LawLemmas as tei_laws
-use Rattle.lapd_tei.proofs.Tables.{at-within}
 use Rattle.lapd_line_machine.specs.declared.config.Config.{Config}
-use Rattle.lapd_line_machine.specs.Answer.{Answer, Told, Event, octet, expiry, request, pull, told, refused, pulled, nothing}
+use Rattle.lapd_line_machine.specs.Answer.{Answer, Told, told, nothing}
 use Rattle.lapd_line_machine.specs.Deliveries.{arrived_aimed, arrived, is_change_at, restarts_aimed, restarts, same_service, is_data_of, delivered_in, delivered_at, delivered}
-use Rattle.lapd_line_machine.specs.Line.{Line, link_number, service_at, place_at, tei_at, link_at, link_in, with_link, terms, terms_at, link_count, place_in}
-use Rattle.lapd_line_machine.specs.Machine.{after, answer, aim_of, takes_slot, unless_refused, unless_refused_told}
-use Rattle.lapd_line_machine.specs.Octet.{gained, aim_of_octet, aim_of_heard, with_received}
-use Rattle.lapd_line_machine.specs.Expiry.{at_timer, aim_of_expiry}
+use Rattle.lapd_line_machine.specs.Line.{Line, link_number, service_at, place_at, tei_at, link_at, link_in, terms, link_count}
 use Rattle.lapd_line_machine.specs.Outcome.{Aim, at_none, at_link, at_management, at_units, told_of_link, told_of_management, of_change, of_aim}
-use Rattle.lapd_line_machine.specs.Pull.{Taken, message_taken, unit_taken, with_given_frame, link_taken, first_taken, round, taken, is_due, begun, with_item, with_due, after_pull}
-use Rattle.lapd_line_machine.specs.Refusal.{refusal}
-use Rattle.lapd_line_machine.specs.Requested.{aim_of_request, at_requested, carries_contents}
-use Rattle.lapd_line_machine.specs.Sound.{IsInRange, IsSound}
+use Rattle.lapd_line_machine.specs.Sound.{IsSound}
 use Rattle.lapd_line_machine.proofs.AimsSound.{IsProper}
-use Rattle.lapd_line_machine.proofs.Numbers.{place_at-number, service_at-number, number_within, at_place}
-use Rattle.lapd_line_machine.proofs.ProperAims.{heard_aims, octet_proper, expiry_proper, request_proper}
+use Rattle.lapd_line_machine.proofs.Numbers.{place_at-number, service_at-number, at_place}
 
 -- Notes of data.
 

@@ -1,5 +1,5 @@
 -- Each event of a line is what a link's numbers say of it.
-use Rattle.std.proofs.Common.{◌≡◌, ℕ, zero, suc, ◌+◌, ◌<◌, Bool, true, false, cond, ◌&&◌, not, List, [], ◌∷◌, ◌++◌, get_or, set, ◌==◌, Option, Some, None, is_some, option_map, IfSome, refl, ap, sym, ◌∙◌, subst, true≢false}
+use Rattle.std.proofs.Common.{◌≡◌, ℕ, zero, suc, ◌<◌, Bool, true, false, cond, ◌&&◌, not, List, [], ◌∷◌, ◌++◌, get_or, set, ◌==◌, Option, Some, None, is_some, option_map, IfSome, refl, sym, true≢false}
 use Rattle.std.specs.Option.{option_or, option_map_or}
 use Rattle.lapd_bits.specs.Stream as stream
 use Rattle.lapd_frame.specs.declared.refusals.Refusal.{Refusal}
@@ -11,22 +11,20 @@ use Rattle.lapd_link_machine.specs.declared.timers.LinkTimer.TheVariants as link
 use Rattle.lapd_link_machine.specs.Events as link
 use Rattle.lapd_link_machine.specs.Link.{Link, fresh}
 use Rattle.lapd_link_machine.specs.Machine as links
-use Rattle.lapd_link_machine.specs.Told.{Given}
 use Rattle.lapd_link_machine.proofs.OwnNotes.{offer-keeps-r, transfer-goes-on}
-use Rattle.lapd_tei.specs.Messages.{frame_of}
 use Rattle.lapd_line_machine.specs.declared.config.Config.{Config}
 use Rattle.lapd_line_machine.specs.Answer.{Event, octet, expiry, request, pull, refused, nothing}
 use Rattle.lapd_line_machine.specs.Deliveries.{arrived_aimed, arrived, restarts_aimed, restarts, delivered}
-use Rattle.lapd_line_machine.specs.Line.{Line, UnitData, link_number, link_at, link_in, terms, terms_at, link_count, place_in}
-use Rattle.lapd_line_machine.specs.Machine.{after, answer, aim_of, takes_slot, unless_refused, unless_refused_told}
+use Rattle.lapd_line_machine.specs.Line.{Line, link_number, link_at, link_in, terms, terms_at, link_count, place_in}
+use Rattle.lapd_line_machine.specs.Machine.{after, answer, takes_slot, unless_refused, unless_refused_told}
 use Rattle.lapd_line_machine.specs.Octet.{gained, aim_of_octet, aim_of_heard}
 use Rattle.lapd_line_machine.specs.Expiry.{at_timer, aim_of_expiry}
 use Rattle.lapd_line_machine.specs.Outcome.{Aim, at_none, of_aim}
-use Rattle.lapd_line_machine.specs.Pull.{Taken, with_message, message_taken, unit_frame, with_unit, unit_taken, with_given_frame, link_taken, first_taken, round, taken, is_due, with_item, after_pull, answer_to_pull}
+use Rattle.lapd_line_machine.specs.Pull.{Taken, with_message, message_taken, with_unit, unit_taken, with_given_frame, link_taken, first_taken, round, taken, is_due, with_item, after_pull, answer_to_pull}
 use Rattle.lapd_line_machine.specs.Refusal.{refusal}
 use Rattle.lapd_line_machine.specs.Request.{Request, Establish, Release, Data, Unit, Assign, Remove, Check, SetBusy, ClearBusy}
 use Rattle.lapd_line_machine.specs.Requested.{aim_of_request, at_requested, carries_contents}
-use Rattle.lapd_line_machine.specs.Sound.{IsInRange, IsSound}
+use Rattle.lapd_line_machine.specs.Sound.{IsSound}
 use Rattle.lapd_line_machine.proofs.Numbered.{Part, quiet, none_at, HasNoContents, aim_parts}
 use Rattle.lapd_line_machine.proofs.AimsSound.{IsProper}
 use Rattle.lapd_line_machine.proofs.ProperAims.{heard_aims, octet_proper, expiry_proper, request_proper}

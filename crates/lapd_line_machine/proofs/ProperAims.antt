@@ -26,7 +26,7 @@ use Rattle.lapd_link_machine.specs.declared.timers.LinkTimer.TheVariants as link
 use Rattle.lapd_tei.specs.Events as teis
 use Rattle.lapd_tei.proofs.Tables.{place_of-is}
 use Rattle.lapd_line_machine.specs.declared.config.Config.{Config}
-use Rattle.lapd_line_machine.specs.Answer.{Told, nothing}
+use Rattle.lapd_line_machine.specs.Answer.{nothing}
 use Rattle.lapd_line_machine.specs.Line.{Line, place_in}
 use Rattle.lapd_line_machine.specs.Request.{Request, Establish, Release, Data, Unit, Assign, Remove, Check, SetBusy, ClearBusy}
 use Rattle.lapd_line_machine.specs.Outcome.{Aim, at_none, at_link, at_management, at_units}

@@ -1,5 +1,5 @@
 -- A frame that a pull takes is no longer among those that may be sent.
-use Rattle.std.proofs.Common.{◌≡◌, ℕ, ◌+◌, ◌≤◌, ◌<◌, Bool, true, false, List, [], ◌∷◌, length, drop, slice_get, Option, Some, None, is_some, option_map, IfSome, refl, ap, sym, ◌∙◌, subst, cond, arith}
+use Rattle.std.proofs.Common.{◌≡◌, ℕ, ◌+◌, ◌*◌, ◌≤◌, ◌<◌, Bool, true, false, List, [], ◌∷◌, length, drop, slice_get, Option, Some, None, is_some, option_map, IfSome, refl, ap, sym, ◌∙◌, subst, cond, arith}
 use Rattle.std.specs.Prelude.{All}
 use Rattle.std.specs.Option.{option_or, unwrap_or}
 use Rattle.std.proofs.lemmas.List.Elements.{All-head, All-tail}
@@ -10,7 +10,7 @@ use Rattle.lapd_link_machine.specs.Rises as rises
 use Rattle.lapd_link_machine.specs.Steps.{Sent}
 use Rattle.lapd_link_machine.specs.Told.{Given}
 use Rattle.lapd_link_machine.specs.declared.terms.Terms.{Terms}
-use Rattle.lapd_link_machine.proofs.RiseEvents.{event-rises}
+use Rattle.lapd_link_machine.proofs.RiseEvents.{event-rises, offer-falls}
 use Rattle.lapd_tei.specs.Messages.{frame_of}
 use Rattle.lapd_tei.specs.declared.messages.Message.{Message}
 use Rattle.lapd_line_machine.specs.declared.config.Config.{Config}
@@ -23,9 +23,9 @@ use Rattle.lapd_line_machine.proofs.Offered.{fresh_gives_nothing}
 use Rattle.lapd_line_machine.proofs.PullSound.{round_below}
 use Rattle.lapd_line_machine.proofs.Ranges.{terms_in_range}
 
--- One frame fewer may be sent.
+-- One frame fewer may be sent, or two: a link's frame makes an acknowledgement that it owes needless.
 abbrev pub TakesOne : Config → Line → Taken → Type 0
-TakesOne c l t = 1 + waiting c t.line ≤ waiting c l
+TakesOne c l t = (1 + waiting c t.line ≤ waiting c l) × (waiting c l ≤ waiting c t.line + 2)
 
 message_falls : (c : Config) (l : Line) → IfSome (message_taken l) (TakesOne c l)
 message_falls c l = go l.management.waiting refl
@@ -36,7 +36,7 @@ message_falls c l = go l.management.waiting refl
     go (m ∷ ms) e =
         let rest : length (drop 1 l.management.waiting) ≡ length ms = ap (λ (x : List Message). length (drop 1 x)) e in
         let all : length l.management.waiting ≡ length ms + 1 = ap (λ (x : List Message). length x) e ∙ omega arith in
-        omega (arith, rest, all)
+        (omega (arith, rest, all), omega (arith, rest, all))
 
 unit_falls : (c : Config) (l : Line) → IfSome (unit_taken l) (TakesOne c l)
 unit_falls c l = go l.units refl
@@ -47,7 +47,7 @@ unit_falls c l = go l.units refl
     go (u ∷ us) e =
         let rest : length (drop 1 l.units) ≡ length us = ap (λ (x : List UnitData). length (drop 1 x)) e in
         let all : length l.units ≡ length us + 1 = ap (λ (x : List UnitData). length x) e ∙ omega arith in
-        omega (arith, rest, all)
+        (omega (arith, rest, all), omega (arith, rest, all))
 
 -- what a link gives is sent
 gives : (t : Terms) (l : Link) (P : Given → Type 0) → (rises.sent t link.offer l ≡ 1 → (g : Given) → P g) → IfSome (links.given t l) P
@@ -74,9 +74,10 @@ link_falls c ranged l s n few = known (tei_at (place_at n) l) refl (s.links n fe
         let t = terms c (service_at n) tei in
         let range = terms_in_range c ranged (service_at n) tei (s.management.table.range (place_at n) tei e) in
         let own = event-rises t range (link_at n l) sound link.offer in
+        let least = offer-falls t range (link_at n l) sound in
         let sums = one_changed c l.links n (links.after t link.offer (link_at n l)) s.count few in
         mapped (with_given_frame l n t) (TakesOne c l) (links.given t (link_at n l))
-        (gives t (link_at n l) (λ g. TakesOne c l (with_given_frame l n t g)) (λ sent g. omega (arith, own, sums, sent)))
+        (gives t (link_at n l) (λ g. TakesOne c l (with_given_frame l n t g)) (λ sent g. (omega (arith, own, sums, sent), omega (arith, least, sums, sent))))
 
 first_falls : (c : Config) → IsInRange c → (l : Line) → IsSound c l → (ns : List ℕ) → All (λ n. n < link_count c) ns → IfSome (first_taken c l ns) (TakesOne c l)
 first_falls c ranged l s [] all = tt
@@ -100,11 +101,14 @@ taken_falls c ranged l s =
     go None (Some t) f hm hu hf = hu
     go None None f hm hu hf = hf
 
-pub pull_rises : (c : Config) → IsInRange c → (l : Line) → IsSound c l → one (is_some (begun c l)) + waiting c (after_pull c l) ≤ waiting c l
-pull_rises c ranged l s = go (is_due l) (taken c l) (taken_falls c ranged l s)
+-- and so it is with a pull that begins a frame; any other leaves what may be sent
+pub pull_falls : (c : Config) → IsInRange c → (l : Line) → IsSound c l
+    → (one (is_some (begun c l)) + waiting c (after_pull c l) ≤ waiting c l) × (waiting c l ≤ waiting c (after_pull c l) + 2 * one (is_some (begun c l)))
+pull_falls c ranged l s = go (is_due l) (taken c l) (taken_falls c ranged l s)
   where
     go : (due : Bool) (o : Option Taken) → IfSome o (TakesOne c l)
-        → one (is_some (cond due o None)) + waiting c (cond due (with_item o l) l) ≤ waiting c l
-    go false o h = omega arith
-    go true None h = omega arith
-    go true (Some t) h = omega (arith, h)
+        → (one (is_some (cond due o None)) + waiting c (cond due (with_item o l) l) ≤ waiting c l)
+        × (waiting c l ≤ waiting c (cond due (with_item o l) l) + 2 * one (is_some (cond due o None)))
+    go false o h = (omega arith, omega arith)
+    go true None h = (omega arith, omega arith)
+    go true (Some t) h = (omega (arith, h.0), omega (arith, h.1))

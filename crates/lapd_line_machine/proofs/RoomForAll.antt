@@ -1,5 +1,5 @@
 -- A line uses no more slots than its queues have places, and fewer where contents are accepted.
-use Rattle.std.proofs.Common.{◌≡◌, ◌≢◌, ℕ, zero, suc, ◌+◌, ◌*◌, ◌≤◌, ◌<◌, Bool, true, false, cond, not, ◌&&◌, List, [], ◌∷◌, length, Option, Some, None, is_some, refl, ap, sym, ◌∙◌, subst, ⊎_elim, arith, true≢false}
+use Rattle.std.proofs.Common.{◌≡◌, ℕ, zero, suc, ◌+◌, ◌*◌, ◌≤◌, ◌<◌, Bool, true, false, cond, not, ◌&&◌, List, [], ◌∷◌, length, Option, Some, None, is_some, refl, ap, sym, subst, ⊎_elim, arith, true≢false}
 use Rattle.std.specs.Prelude.{sum_by}
 use Rattle.std.specs.List.{range_with_len}
 use Rattle.std.specs.Option.{option_map_or}
@@ -19,7 +19,7 @@ use Rattle.lapd_line_machine.specs.Refusal.{Row, first_that_holds, bad_tei, no_l
 use Rattle.lapd_line_machine.specs.Request.{Request, Establish, Release, Data, Unit, Assign, Remove, Check, SetBusy, ClearBusy}
 use Rattle.lapd_line_machine.specs.Requested.{carries_contents}
 use Rattle.lapd_line_machine.specs.Sound.{IsSoundAt, IsSound}
-use Rattle.lapd_line_machine.specs.Stored.{sum_of_links, slots_by_link, slots_of}
+use Rattle.lapd_line_machine.specs.Stored.{slots_by_link, slots_of}
 use Rattle.lapd_line_machine.proofs.Numbers.{number_within, sum_bounded}
 
 -- All places of a line's queues.

@@ -1,5 +1,5 @@
 -- An answer has at most four notes and four orders.
-use Rattle.std.proofs.Common.{◌≡◌, ℕ, ◌+◌, ◌≤◌, Bool, true, false, cond, List, [], ◌∷◌, ◌++◌, length, Option, Some, None, option_map, IfSome, arith, length-append}
+use Rattle.std.proofs.Common.{ℕ, ◌≤◌, Bool, true, false, cond, List, [], ◌∷◌, ◌++◌, length, Option, Some, None, option_map, IfSome, arith, length-append}
 use Rattle.std.specs.Option.{option_or, option_map_or}
 use Rattle.lapd_bits.specs.Stream as stream
 use Rattle.lapd_frame.specs.declared.refusals.Refusal.{Refusal}
@@ -14,7 +14,6 @@ use Rattle.lapd_link_machine.specs.Events as link
 use Rattle.lapd_link_machine.specs.Link.{Link}
 use Rattle.lapd_link_machine.specs.Machine as links
 use Rattle.lapd_link_machine.specs.Steps.{Sent}
-use Rattle.lapd_link_machine.specs.Told.{Given}
 use Rattle.lapd_link_machine.proofs.TellRows.{event-tells, cleared-tells, two-orders, cleared-orders}
 use Rattle.lapd_tei.specs.Events as teis
 use Rattle.lapd_tei.specs.Machine as tei
@@ -26,8 +25,8 @@ use Rattle.lapd_line_machine.specs.Expiry.{at_timer, aim_of_expiry}
 use Rattle.lapd_line_machine.specs.Laws.{notes_in, orders_in, AnswersAreShort}
 use Rattle.lapd_line_machine.specs.Line.{Line, link_in, link_at, terms, terms_at, place_in}
 use Rattle.lapd_line_machine.specs.Machine.{answer, unless_refused, unless_refused_told}
-use Rattle.lapd_line_machine.specs.Octet.{gained, aim_of_heard, aim_of_octet, with_received}
-use Rattle.lapd_line_machine.specs.Outcome.{Aim, at_none, told_of_management, of_link, of_change, of_management, of_aim}
+use Rattle.lapd_line_machine.specs.Octet.{gained, aim_of_heard, with_received}
+use Rattle.lapd_line_machine.specs.Outcome.{at_none, told_of_management, of_link, of_change, of_management, of_aim}
 use Rattle.lapd_line_machine.specs.Pull.{Taken, with_message, message_taken, with_unit, unit_taken, with_given_frame, link_taken, first_taken, round, taken, is_due, orders_of, begun}
 use Rattle.lapd_line_machine.specs.Refusal.{refusal}
 use Rattle.lapd_line_machine.specs.Request.{Request, Establish, Release, Data, Unit, Assign, Remove, Check, SetBusy, ClearBusy}

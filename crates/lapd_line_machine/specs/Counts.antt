@@ -42,6 +42,13 @@ is_long_frame (stream.dropped cause) = false
 abbrev pub long_frames_heard : Config → Line → ℕ
 long_frames_heard c l = count_by is_long_frame (stream.heard_in c.n201 l.received)
 
+-- An octet that came from the line.
+abbrev pub is_octet : Event → Bool
+is_octet (octet value) = true
+is_octet (expiry timer) = false
+is_octet (request r) = false
+is_octet pull = false
+
 -- A frame that a pull began.
 abbrev pub is_begun : Answer → Bool
 is_begun (told t) = false

@@ -3,9 +3,9 @@ use Rattle.std.specs.Prelude.{◌+◌, ◌*◌, ◌≤◌, max, List, [], length
 use Rattle.lapd_frame.specs.declared.notes.Note.{Note}
 use Rattle.lapd_frame.specs.declared.timers.Order.{Order}
 use Rattle.lapd_line_machine.specs.declared.config.Config.{Config}
-use Rattle.lapd_line_machine.specs.Answer.{Event, Answer, told, refused, pulled}
+use Rattle.lapd_line_machine.specs.Answer.{Event, pull, Answer, told, refused, pulled}
 use Rattle.lapd_line_machine.specs.Line.{Line, fresh_line}
-use Rattle.lapd_line_machine.specs.Counts.{one, waiting, frames_heard, long_frames_heard, is_begun, is_accepted, is_running_expiry, rejects}
+use Rattle.lapd_line_machine.specs.Counts.{one, waiting, frames_heard, long_frames_heard, is_octet, is_begun, is_accepted, is_running_expiry, rejects}
 use Rattle.lapd_line_machine.specs.Machine.{after, answer}
 use Rattle.lapd_line_machine.specs.Sound.{IsInRange, IsSound}
 
@@ -28,9 +28,22 @@ Rises c e l =
 abbrev pub IsRejectHeard : Config → Event → Line → Type 0
 IsRejectHeard c e l = one (rejects c e l) + long_frames_heard c l ≤ long_frames_heard c (after c e l)
 
+-- Only an octet ends a frame, and one at most.
+abbrev pub HearsOne : Config → Event → Line → Type 0
+HearsOne c e l = frames_heard c (after c e l) ≤ frames_heard c l + one (is_octet e)
+
+-- A pull that begins a frame lets what may be sent fall by one, or by two where the frame makes an acknowledgement needless.
+-- Any other pull leaves it as it is.
+abbrev pub FallsByPull : Config → Line → Type 0
+FallsByPull c l =
+    let begun = one (is_begun (answer c pull l)) in
+    (begun + waiting c (after c pull l) ≤ waiting c l) × (waiting c l ≤ waiting c (after c pull l) + 2 * begun)
+
 pub record LinesRise : Type 0 where
   pub rises : (c : Config) (e : Event) (l : Line) → IsInRange c → IsSound c l → Rises c e l
   pub rejects : (c : Config) (e : Event) (l : Line) → IsInRange c → IsSound c l → IsRejectHeard c e l
+  pub hears : (c : Config) (e : Event) (l : Line) → IsInRange c → IsSound c l → HearsOne c e l
+  pub pulls : (c : Config) (l : Line) → IsInRange c → IsSound c l → FallsByPull c l
 
 -- An answer has at most four notes and at most four orders.
 abbrev pub notes_in : Answer → List Note

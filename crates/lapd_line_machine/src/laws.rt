@@ -9,8 +9,10 @@ pub fn lines_stay_sound()
     ensures { LinesStaySound }
 {}
 
-/// What a line has sent, and may still send without anything else happening, rises by no more than an event's price; and
-/// an REJ with a valid N(R) is a frame of four octets.
+/// What a line has sent, and may still send without anything else happening, rises by no more than an event's price: two
+/// for a frame that an octet ends, and it ends one at most; one for an accepted request; k + 1 for the expiry of a running
+/// timer; k more for an REJ with a valid N(R), which is a frame of four octets; else 0. A pull that begins a frame lets
+/// what may be sent fall by one or two, and any other leaves it as it is.
 pub fn lines_rise()
     ensures { LinesRise }
 {}

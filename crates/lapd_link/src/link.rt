@@ -16,7 +16,7 @@ use lapd_store::SlotQueue;
 use std::alloc::Global;
 
 /// A data link of one TEI and one service.
-#[derive(Drop)]
+#[derive(Drop, Debug)]
 pub struct Link {
     pub(crate) terms: Terms,
     pub(crate) entity: Entity,

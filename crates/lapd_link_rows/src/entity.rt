@@ -6,7 +6,7 @@ use lapd_seq::{Seq, Window};
 use std::alloc::{AllocError, Global};
 
 /// The data link layer entity of one link, without its queue of contents.
-#[derive(Drop)]
+#[derive(Drop, Debug)]
 pub struct Entity {
     pub(crate) state: State,
     pub(crate) window: Window,

@@ -6,7 +6,7 @@ use lapd_frame::{Note, ShortList};
 use lapd_link_machine::LinkTimer;
 
 /// What an event has told so far.
-#[derive(Clone, Copy)]
+#[derive(Clone, Copy, Debug)]
 pub struct Told {
     /// What layer 3 and layer management are told, in order.
     pub notes: ShortList<Note>,

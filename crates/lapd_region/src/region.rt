@@ -4,6 +4,7 @@ ghost use Rattle.lapd_region.specs.Region.{Holds, SameOutside};
 
 use crate::octets::{Base, Deed, Octets, give_back, take};
 use std::alloc::{AllocError, Global};
+use std::fmt;
 use std::marker::Model;
 
 /// A block of octets, each of which was written or not.
@@ -83,6 +84,15 @@ impl Region {
         ensures len { length result.now ≡ len }
     {
         self.octets.lend(self.base, from, len)
+    }
+}
+
+/// Shows the size alone: which octets were written is known to contracts only.
+impl fmt::Debug for Region {
+    fn fmt<W: fmt::Write>(&self, f: &mut fmt::Formatter<W>) -> fmt::Result {
+        f.debug_struct("Region")
+            .field("size", &self.size)
+            .finish_non_exhaustive()
     }
 }
 

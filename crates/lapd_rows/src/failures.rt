@@ -1,6 +1,7 @@
 //! Each read and each write failing in turn.
 
 use crate::fakes::{ESTABLISHED, Page, Pieces, TRANSCRIPT, plays};
+use crate::worked::{WORKED, Worked};
 use lapd_sim::{PlayFault, play, serve};
 use std::alloc::Global;
 
@@ -10,38 +11,59 @@ const THREE_LINES: usize = 60;
 /// The first line of its transcript.
 const FIRST_ANSWER: usize = 26;
 
-/// The transcript of as many octets of the script, where the line that is cut off is not answered.
-fn answered(given: usize) -> &'static [u8] {
-    if given >= ESTABLISHED.len() {
-        TRANSCRIPT
-    } else if given >= THREE_LINES {
-        &TRANSCRIPT[..FIRST_ANSWER]
-    } else {
-        &[]
-    }
-}
-
 /// Whether a script ends with a failed read after so many good ones, with the answers of the lines that had come.
-fn fails_after(alloc: Global, piece: usize, good_reads: usize) -> bool {
-    let mut source = Pieces::failing(ESTABLISHED, piece, good_reads);
-    let given = ESTABLISHED.len().min(piece.saturating_mul(good_reads));
-    plays(alloc, &mut source, answered(given), b"read failed\n")
+fn read_fails(alloc: Global, script: &Worked, piece: usize, good_reads: usize) -> bool {
+    let mut source = Pieces::failing(script.text, piece, good_reads);
+    let given = script.text.len().min(piece.saturating_mul(good_reads));
+    plays(alloc, &mut source, script.answered(given), b"read failed\n")
 }
 
 /// A read fails, after reads of an octet each, or of more than a line: the lines whose line feed had come were
 /// answered.
 #[test]
 fn each_read_fails_in_turn(rt: HostRuntime) {
-    for piece in [1usize, 7, 30, 61] {
-        let reads = ESTABLISHED.len().div_ceil(piece);
-        for good_reads in 0..=reads {
+    for script in WORKED {
+        for piece in [1usize, 7, 30, 61] {
+            let reads = script.text.len().div_ceil(piece);
+            for good_reads in 0..=reads {
+                assert!(rt;
+                    read_fails(rt.alloc(), &script, piece, good_reads),
+                    "{good_reads} reads of {piece}"
+                );
+            }
+            let mut source = Pieces::failing(script.text, piece, reads.saturating_add(1));
             assert!(rt;
-                fails_after(rt.alloc(), piece, good_reads),
-                "{good_reads} reads of {piece}"
+                plays(rt.alloc(), &mut source, script.transcript, b""),
+                "{piece}"
             );
         }
-        let mut source = Pieces::failing(ESTABLISHED, piece, reads.saturating_add(1));
-        assert!(rt; plays(rt.alloc(), &mut source, TRANSCRIPT, b""), "{piece}");
+    }
+}
+
+/// Whether a script ends with a failed write after so many good ones, with a beginning of its transcript.
+fn write_fails(alloc: Global, script: &Worked, good_writes: usize) -> bool {
+    let mut target = Page::failing(alloc, good_writes);
+    let mut faults = Page::new(alloc);
+    let mut source = Pieces::of(script.text, 1);
+    let status = serve(alloc, &["run"], &mut source, &mut target, &mut faults);
+    let is_beginning = script.transcript.starts_with(target.text())
+        && target.text().len() < script.transcript.len();
+    is_beginning && faults.text() == b"write failed\n".as_slice() && status == 1
+}
+
+#[test]
+fn each_write_of_worked_scripts_fails_in_turn(rt: HostRuntime) {
+    for script in WORKED {
+        for good_writes in 0..script.writes {
+            assert!(rt;
+                write_fails(rt.alloc(), &script, good_writes),
+                "{good_writes}"
+            );
+        }
+        let mut target = Page::failing(rt.alloc(), script.writes);
+        let outcome = play(rt.alloc(), &mut Pieces::of(script.text, 1), &mut target);
+        assert!(rt; outcome == Ok(()));
+        assert!(rt; target.text() == script.transcript);
     }
 }
 
@@ -107,13 +129,15 @@ fn is_refused(alloc: Global, words: &[&str]) -> bool {
 
 #[test]
 fn refuses_other_words(rt: HostRuntime) {
-    let words: [&[&str]; 6] = [
+    let words: [&[&str]; 8] = [
         &[],
         &["Run"],
         &["run", "run"],
         &["run "],
         &[""],
-        &["frame", "00817F"],
+        &["frame"],
+        &["frame", "00817F", "network"],
+        &["limits", "8", "8", "4", "64"],
     ];
     for words in words {
         assert!(rt; is_refused(rt.alloc(), words));

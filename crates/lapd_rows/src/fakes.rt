@@ -55,7 +55,7 @@ impl Source for Pieces<'_> {
     }
 }
 
-/// Keeps what is written to it, and fails, where it has as many good writes only.
+/// Keeps what is written to it, and fails, where it has as many good writes only. A write of no octets does not count.
 #[derive(Drop)]
 pub struct Page {
     text: Vec<u8>,
@@ -90,6 +90,9 @@ impl Target for Page {
     ghost taken = { λ target. record { contents = None; failures = target.failures } };
 
     fn write(&mut self, octets: &[u8]) -> Result<(), WriteFailed> {
+        if octets.is_empty() {
+            return Ok(());
+        }
         if self.good_writes == 0 || self.text.extend_from_slice(octets).is_err() {
             self.failures = self.failures.saturating_add(1);
             return Err(WriteFailed);

@@ -2,6 +2,7 @@
 //! call. What a transcript shows is in `tests/scripts`.
 //!
 //! - `fakes`: a source that gives its octets in pieces, and a target that keeps what it is given. Both can fail.
+//! - `worked`: worked scripts, with how far each line's answer goes.
 //! - `pieces`: lines in pieces, and long lines.
 //! - `failures`: each read and each write failing in turn.
 //! - `streams`: readers and writers of std.
@@ -15,3 +16,5 @@ mod fakes;
 mod pieces;
 #[cfg(test)]
 mod streams;
+#[cfg(test)]
+mod worked;

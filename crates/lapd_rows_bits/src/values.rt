@@ -1,8 +1,8 @@
 //! Worked frame checks, the text of the fault, and calls of the laws.
 
 use lapd_bits::{
-    StartFault, fcs, frames_round_trip, octets_of_a_text, one_event_an_octet, one_stuffed_text,
-    only_check, stuffed_texts,
+    StartFault, abort_after_flag, fcs, flag_after_flag, frames_round_trip, heard_within_stream,
+    octets_of_a_text, one_event_an_octet, one_stuffed_text, only_check, stuffed_texts,
 };
 use std::test::Fail;
 
@@ -34,5 +34,8 @@ fn the_laws_can_be_cited() {
     stuffed_texts();
     octets_of_a_text();
     one_event_an_octet();
+    heard_within_stream();
+    flag_after_flag();
+    abort_after_flag();
     frames_round_trip();
 }

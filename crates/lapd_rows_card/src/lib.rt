@@ -1,13 +1,21 @@
-//! Tests of the card by the public contracts of `lapd_card`; there is nothing to call. What a transcript shows is in
-//! `tests/scripts`.
+//! Tests of the card by the public contracts of `lapd_card`. What a transcript shows is in `tests/scripts`. The one call
+//! shows by its contract what a caller of `drive` can conclude.
 //!
+//! - `kept`: a sink that keeps what each reply says, and what it has kept after a list of events.
 //! - `starts`: which configurations and shelves a card starts with, and its faults in words.
 //! - `sinks`: whole lists of events, and sinks that fail.
 //! - `refusals`: requests that are refused, and what the card stores before and after.
 //! - `timers`: the orders of single events.
 //! - `own_shelf`: a card over a shelf of the caller's own.
+//! - `example`: a line that is served, as in the README.
+//! - `memory`: starts and long runs, of which `tests/memory` counts the allocations.
 #![tactic(auto)]
 
+mod kept;
+#[cfg(test)]
+mod example;
+#[cfg(test)]
+mod memory;
 #[cfg(test)]
 mod own_shelf;
 #[cfg(test)]
@@ -18,3 +26,5 @@ mod sinks;
 mod starts;
 #[cfg(test)]
 mod timers;
+
+pub use kept::{Kept, Kind, keep_replies};

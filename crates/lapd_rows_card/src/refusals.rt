@@ -15,7 +15,7 @@ const CALL: Service = Service::Call;
 const LONG: [u8; 261] = [0x55; 261];
 
 /// Puts TEI 64 on line 0, and establishes its call control link.
-fn bring_up<S: Shelf>(rt: &impl Abort, card: &mut Card<S>) {
+pub fn bring_up<S: Shelf>(rt: &impl Abort, card: &mut Card<S>) {
     assert!(rt; card.lines() >= 1);
     assert!(rt; card.request(0, Request::Assign(64)).is_ok());
     for octet in SABME {

@@ -1,55 +1,11 @@
 //! Whole lists of events.
 
-ghost use Rattle.std.specs.Prelude.{◌≡◌, ◌+◌, length};
-
+use crate::kept::{Kept, Kind, keep_replies};
 use crate::starts::usual_card;
-use lapd_card::{Event, Reply, Request, Sink, SinkFailed, SinkFault};
+use lapd_card::{Event, Request, SinkFailed, SinkFault};
 use lapd_frame::{Refusal, Service};
 use std::alloc::Global;
 use std::test::Fail;
-
-/// What a reply says, in short.
-#[derive(Clone, Copy, PartialEq, Eq, Debug)]
-enum Kind {
-    Silent,
-    Told,
-    Refused(Refusal),
-    Pulled(u8, bool),
-}
-
-fn kind_of(reply: &Reply<'_>) -> Kind {
-    match reply {
-        Reply::Report(report) if report.notes().is_empty() && report.cause.is_none() =>
-            Kind::Silent,
-        Reply::Report(_) => Kind::Told,
-        Reply::Refused(refusal) => Kind::Refused(*refusal),
-        Reply::Pulled(pulled) => Kind::Pulled(pulled.octet, pulled.begun),
-    }
-}
-
-/// Keeps what replies say, as far as there is room.
-#[derive(Drop)]
-struct Kept {
-    kinds: Vec<(usize, Kind)>,
-    room: usize,
-    failures: u64,
-}
-
-impl Sink for Kept {
-    ghost takes = { λ old line answer new. length new.kinds.items ≡ length old.kinds.items + 1 };
-
-    ghost misses = { λ old line answer new. length new.kinds.items ≡ length old.kinds.items };
-
-    ghost failures = { λ s. s.failures };
-
-    fn take(&mut self, line: usize, reply: &Reply<'_>) -> Result<(), SinkFailed> {
-        if self.kinds.len() < self.room && self.kinds.push((line, kind_of(reply))).is_ok() {
-            return Ok(());
-        }
-        self.failures = self.failures.saturating_add(1);
-        Err(SinkFailed)
-    }
-}
 
 fn sink_for(alloc: Global, room: usize) -> Kept {
     Kept {
@@ -89,7 +45,7 @@ fn has_taken(sink: &Kept, kinds: &[Kind]) -> bool {
 fn each_reply_goes_to_the_sink(rt: HostRuntime) -> Result<(), Fail> {
     let mut card = usual_card(rt.alloc())?;
     let mut sink = sink_for(rt.alloc(), 5);
-    assert!(rt; card.drive(&EVENTS, &mut sink) == Ok(5));
+    assert!(rt; keep_replies(&mut card, &EVENTS, &mut sink) == Ok(5));
     assert!(rt; card.drive(&[], &mut sink) == Ok(0));
     assert!(rt; has_taken(&sink, &TAKEN) && sink.failures == 0);
     Ok(())

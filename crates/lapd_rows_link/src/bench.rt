@@ -18,13 +18,25 @@ pub struct Bench {
 impl Bench {
     ghost use Rattle.lapd_rows_link.specs.Works.{Works};
 
-    /// A link that was opened, with a window and a queue of `k` contents of at most 8 octets, over as many slots.
+    /// A link that was opened, with a window and a queue of `k` contents of at most 8 octets, over as many slots, where four
+    /// control frames may wait.
     pub fn start(alloc: Global, k: u8, slots: u32) -> Result<Bench, StartFault>
         requires low { 1 ≤ k }
         requires high { k ≤ 127 }
         ensures { IfOk result (Works slots) }
     {
-        let mut link = Link::start(alloc, k, 4)?;
+        Bench::with_room(alloc, k, 4, slots)
+    }
+
+    /// The same, where `control` control frames may wait.
+    pub fn with_room(alloc: Global, k: u8, control: u8, slots: u32) -> Result<Bench, StartFault>
+        requires low { 1 ≤ k }
+        requires high { k ≤ 127 }
+        requires control_low { 2 ≤ control }
+        requires control_high { control ≤ 16 }
+        ensures { IfOk result (Works slots) }
+    {
+        let mut link = Link::start(alloc, k, control)?;
         let shelf = SlabShelf::start(alloc, slots, 8)?;
         link.open(Service::Call, 64, k, 3, 8);
         Ok(Bench { link, shelf })

@@ -19,7 +19,7 @@ const END: u16 = 0xFFFF;
 /// Its start takes the region uninitialised, `width` octets for each slot, and two octets for each slot's length. A free
 /// slot holds the number of the next free one in its own first two octets. The time of a call does not depend on the
 /// number of slots.
-#[derive(Drop)]
+#[derive(Drop, Debug)]
 pub struct RawShelf {
     region: Region,
     lengths: Vec<u16>,

@@ -12,7 +12,7 @@ use std::marker::Model;
 const LIMIT: usize = 4;
 
 /// The messages that wait, the oldest first: at most four.
-#[derive(Drop)]
+#[derive(Drop, Debug)]
 pub(crate) struct Queue {
     messages: HeapCircularBuffer<Message>,
 }

@@ -15,7 +15,7 @@ pub struct Remembered {
 }
 
 /// The latest assignments of a line, the oldest first: at most four.
-#[derive(Drop)]
+#[derive(Drop, Debug)]
 pub(crate) struct Memory {
     latest: ArrayVec<Remembered, 4>,
 }

@@ -10,7 +10,7 @@ use std::marker::Model;
 const MOST: usize = 8;
 
 /// The TEI at each place, `None` where it is free.
-#[derive(Drop)]
+#[derive(Drop, Debug)]
 pub(crate) struct Table {
     places: ArrayVec<Option<u8>, MOST>,
 }

@@ -25,7 +25,7 @@ use std::marker::Model;
 /// A line has a table of at most `terminals` TEIs, each at a place; remembers the latest
 /// assignments, at most four; and runs at most one check of a TEI at a time. Its messages wait for
 /// the line, at most four. No call but `start` takes memory.
-#[derive(Drop)]
+#[derive(Drop, Debug)]
 pub struct Teis {
     table: Table,
     memory: Memory,

@@ -1,59 +1,18 @@
 -- What a register holds, as bits are fed to it.
-use Rattle.std.proofs.Common.{◌≡◌, ℕ, ◌+◌, ◌-◌, ◌/◌, ◌^◌, ◌<◌, Bool, true, false, not, nat_eq, List, [], ◌∷◌, ◌++◌, length, take, get_or, map, refl, sym, ap, subst, ◌∙◌, arith}
-use Rattle.std.specs.Prelude.{bit_and, bit_xor}
-use Rattle.std.specs.Bool.{beq}
+use Rattle.std.proofs.Common.{◌≡◌, ℕ, ◌+◌, ◌-◌, ◌/◌, ◌^◌, ◌<◌, Bool, not, nat_eq, List, [], ◌∷◌, ◌++◌, length, take, get_or, map, refl, sym, ap, subst, ◌∙◌, arith}
+use Rattle.std.specs.Prelude.{bit_and}
 use Rattle.std.proofs.lemmas.List.{take_more}
 use Rattle.std.proofs.lemmas.Nat.{and_mask}
 use Rattle.lapd_bits.specs.Bits.{low_bits, bits, same_bits}
-use Rattle.lapd_bits.specs.Check.{plus, generator, brought_down, remainder, dividend, check, residue, is_good}
+use Rattle.lapd_bits.specs.Check.{check, residue, is_good}
 use Rattle.lapd_bits.specs.Register.{HoldsDivision}
 use Rattle.lapd_bits.proofs.BitLemmas.{low_bits-add, bits-push, same_bits-low_bits}
-use Rattle.lapd_bits.proofs.Division.Register.{with_bit, remainder-dividend-append}
-use Rattle.lapd_bits.proofs.Division.Word.{low_bits-xor, low_bits-not, low_bits-suc, low_bits-one, low_bits-shifted}
+use Rattle.lapd_bits.proofs.Division.Word.{low_bits-not, low_bits-one}
 
 -- the preset stands for no bits
 pub HoldsDivision-preset : HoldsDivision 0xFFFF []
 unfolding low_bits
 HoldsDivision-preset = refl
-
--- ---- one bit more
-
--- the constant of the code is the generator
-low_bits-generator : low_bits 16 0x8408 ≡ generator
-unfolding low_bits
-low_bits-generator = refl
-
--- the division over one bit more, by the bits of the register
-remainder-push :
-    (register : ℕ) (bit : Bool) (d : List Bool) → HoldsDivision register d
-    → remainder (dividend (d ++ bit ∷ []))
-    ≡ brought_down (not (beq (nat_eq (bit_and register 1) 1) bit) ∷ low_bits 15 (register / 2)) false
-remainder-push register bit d holds =
-    remainder-dividend-append d (bit ∷ [])
-    ∙ ap (λ s. with_bit s bit) (sym holds ∙ low_bits-suc 15 register)
-    ∙ ap (λ y. brought_down (not (beq (nat_eq y 1) bit) ∷ low_bits 15 (register / 2)) false) (sym (and_mask register 1))
-
--- the power that leaves the register is the bit
-pub HoldsDivision-same :
-    (register : ℕ) (bit : Bool) (d : List Bool) → register < 2 ^ 16
-    → beq (nat_eq (bit_and register 1) 1) bit ≡ true → HoldsDivision register d
-    → HoldsDivision (register / 2) (d ++ bit ∷ [])
-HoldsDivision-same register bit d small same holds =
-    low_bits-shifted register small
-    ∙ ap (λ t. brought_down (not t ∷ low_bits 15 (register / 2)) false) (sym same)
-    ∙ sym (remainder-push register bit d holds)
-
--- it is not
-pub HoldsDivision-other :
-    (register : ℕ) (bit : Bool) (d : List Bool) → register < 2 ^ 16
-    → beq (nat_eq (bit_and register 1) 1) bit ≡ false → HoldsDivision register d
-    → HoldsDivision (bit_xor (register / 2) 0x8408) (d ++ bit ∷ [])
-HoldsDivision-other register bit d small other holds =
-    low_bits-xor 16 (register / 2) 0x8408
-    ∙ ap (λ l. plus (low_bits 16 (register / 2)) l) low_bits-generator
-    ∙ ap (λ l. plus l generator) (low_bits-shifted register small)
-    ∙ ap (λ t. brought_down (not t ∷ low_bits 15 (register / 2)) false) (sym other)
-    ∙ sym (remainder-push register bit d holds)
 
 -- ---- the bits of an octet
 

@@ -29,7 +29,7 @@ differ-false true = refl
 differ-false false = refl
 
 -- what is added to itself falls out
-differ_self : (a : Bool) → not (beq a a) ≡ false
+pub differ_self : (a : Bool) → not (beq a a) ≡ false
 differ_self true = refl
 differ_self false = refl
 

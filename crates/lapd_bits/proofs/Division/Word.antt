@@ -1,12 +1,11 @@
 -- A register as a number: its bits, the lowest first, against sums and shifts of polynomials.
-use Rattle.std.proofs.Common.{◌≡◌, ℕ, suc, zero, ◌-◌, ◌/◌, ◌%◌, ◌^◌, ◌<◌, false, not, nat_eq, [], ◌∷◌, ◌++◌, map, refl, ap, ◌∙◌, arith}
+use Rattle.std.proofs.Common.{◌≡◌, ℕ, suc, zero, ◌-◌, ◌/◌, ◌%◌, ◌^◌, ◌<◌, not, nat_eq, [], ◌∷◌, map, refl, arith}
 use Rattle.std.specs.Prelude.{bit_xor}
 use Rattle.std.specs.Bool.{beq}
 use Rattle.std.proofs.Math.Nat.{pow-suc}
 use Rattle.std.proofs.lemmas.Nat.{xor_shr, xor_mod}
 use Rattle.lapd_bits.specs.Bits.{low_bits}
 use Rattle.lapd_bits.specs.Check.{plus}
-use Rattle.lapd_bits.proofs.BitLemmas.{low_bits-add}
 
 -- ---- sums
 
@@ -47,22 +46,9 @@ low_bits-not (suc n) x small =
     let above : (2 ^ suc n - 1 - x) / 2 ≡ 2 ^ n - 1 - x / 2 = omega arith in
     rw (lowest, above, nat_eq-not (x % 2) (omega arith), low_bits-not n (x / 2) (omega arith)) refl
 
--- ---- shifts
-
--- one bit more at the low end
-pub low_bits-suc : (n x : ℕ) → low_bits (suc n) x ≡ nat_eq (x % 2) 1 ∷ low_bits n (x / 2)
-unfolding low_bits
-low_bits-suc n x = refl
+-- ---- one bit
 
 -- one low bit
 pub low_bits-one : (x : ℕ) → low_bits 1 x ≡ nat_eq (x % 2) 1 ∷ []
 unfolding low_bits
 low_bits-one x = refl
-
--- a register shifted down by one
-pub low_bits-shifted : (x : ℕ) → x < 2 ^ 16 → low_bits 16 (x / 2) ≡ low_bits 15 (x / 2) ++ false ∷ []
-low_bits-shifted x small =
-    let none_above : x / 2 / 2 ^ 15 ≡ 0 = omega arith in
-    low_bits-add 15 1 (x / 2)
-    ∙ ap (λ y. low_bits 15 (x / 2) ++ low_bits 1 y) none_above
-    ∙ ap (λ l. low_bits 15 (x / 2) ++ l) (low_bits-one 0)

@@ -1,31 +1,31 @@
--- No octet, one octet more, and the complement at the end.
-use Rattle.std.proofs.Common.{ap, ◌∙◌, take, arith}
+-- All octets in pairs, or all but the last.
+use Rattle.std.proofs.Common.{◌≡◌, ◌+◌, ◌-◌, ◌*◌, ◌/◌, ap, subst, ◌∙◌, length, take, arith}
 use Rattle.std.proofs.lemmas.List.{take_all}
 use Rattle.lapd_bits.specs.Bits.{bits}
 use Rattle.lapd_bits.specs.Check.{check}
-use Rattle.lapd_bits.proofs.Division.Holds.{HoldsDivision-preset, HoldsDivision-octet, HoldsDivision-check}
+use Rattle.lapd_bits.specs.Register.{HoldsDivision}
+use Rattle.lapd_bits.proofs.Division.Holds.{HoldsDivision-octet, HoldsDivision-check}
 use Rattle.lapd_bits.proofs.check.fcs.Goals as goal
 
-pub loop-octet-init : goal.loop-octet-init
-loop-octet-init c = record { in_range = omega arith; so_far = HoldsDivision-preset }
-
-pub loop-octet-preserved : goal.loop-octet-preserved
-loop-octet-preserved c =
+pub returns-then-octets-eq0 : goal.returns-then-octets-eq0
+returns-then-octets-eq0 c =
     let octets = c.args.octets.now in
-    let index = c.loop-octet.octet-index in
+    let pairs = 2 * (length octets / 2) in
     record {
-      in_range = omega arith;
-      so_far =
-          HoldsDivision-octet c.divided-register.result index octets c.loop-octet-test.true
-          (c.divided-register.ensures (bits (take index octets)) c.loop-octet.invariant.so_far);
+      is_check =
+          HoldsDivision-check c.divided_pairs-register.result (bits (take pairs octets)) (omega arith) c.divided_pairs-register.ensures
+          ∙ ap (λ l. check (bits l)) (take_all pairs octets (omega arith));
     }
 
 pub returns : goal.returns
 returns c =
     let octets = c.args.octets.now in
-    let index = c.loop-octet.octet-index in
+    let last = length octets - 1 in
+    let pairs : 2 * (length octets / 2) ≡ last = omega arith in
+    let front = subst (λ n. HoldsDivision c.divided_pairs-register.result (bits (take n octets))) pairs c.divided_pairs-register.ensures in
+    let all = HoldsDivision-octet c.divided.result last octets (omega arith) (c.divided.ensures (bits (take last octets)) front) in
     record {
       is_check =
-          HoldsDivision-check c.loop-octet.register (bits (take index octets)) c.loop-octet.invariant.in_range c.loop-octet.invariant.so_far
-          ∙ ap (λ l. check (bits l)) (take_all index octets (omega arith));
+          HoldsDivision-check c.divided.result (bits (take (last + 1) octets)) (omega arith) all
+          ∙ ap (λ l. check (bits l)) (take_all (last + 1) octets (omega arith));
     }

@@ -1,7 +1,8 @@
--- The law is that of EventsRise and EventsReject.
+-- The law is that of EventsRise, EventsReject and ByEvent.
+use Rattle.lapd_line_machine.proofs.ByEvent.{hears_one, falls_by_pull}
 use Rattle.lapd_line_machine.proofs.EventsReject.{event_rejects}
 use Rattle.lapd_line_machine.proofs.EventsRise.{event_rises}
 use Rattle.lapd_line_machine.proofs.laws.lines_rise.Goals as goal
 
 pub returns : goal.returns
-returns c = record { rises = event_rises; rejects = event_rejects }
+returns c = record { rises = event_rises; rejects = event_rejects; hears = hears_one; pulls = falls_by_pull }

@@ -1,12 +1,12 @@
 -- The buffer holds the frame and its check, and nothing was left of a frame before it.
-use Rattle.std.proofs.Common.{◌≡◌, ◌+◌, ◌<◌, ◌++◌, length, vec_len, refl, ap, sym, ◌∙◌, subst, length-append, arith}
+use Rattle.std.proofs.Common.{◌≡◌, ◌+◌, ◌<◌, ◌++◌, length, drop, vec_len, refl, ap, sym, ◌∙◌, subst, length-append, arith}
 use Rattle.std.proofs.lemmas.List.{append-nil}
 use Rattle.std.specs.Int.{to_le_bytes, w16}
 use Rattle.lapd_bits.specs.Bits.{bits, flag, low_bits}
 use Rattle.lapd_bits.specs.Check.{check}
 use Rattle.lapd_bits.specs.Sent.{frame_text}
-use Rattle.lapd_bits.specs.FramerText.{frame_from, flag_end}
-use Rattle.lapd_bits.proofs.FramerLoad.{extended, frame_from-loaded, no_frame, text_from_start}
+use Rattle.lapd_bits.specs.FramerText.{waits, frame_from}
+use Rattle.lapd_bits.proofs.FramerLoad.{extended, frame_from-loaded, no_frame}
 use Rattle.lapd_bits.proofs.FramerStands.{Stands-load}
 use Rattle.lapd_bits.proofs.framer.Framer.load.Goals as goal
 
@@ -41,15 +41,14 @@ whole_size c =
 pub invariant_of-self : goal.invariant_of-self
 invariant_of-self c =
     let room = ap (λ f. f.room) c.self.view_is in
-    let some : 0 < length c.extend_from_slice-3.new.self.items = omega (arith, c.extend_from_slice-3.new.self.ok.0, whole_size c) in
     record {
       room = c.self.invariant.room;
       fits = omega (arith, whole_size c);
       space = omega (arith, c.self.invariant.space, c.clear.ensures.capacity, c.extend_from_slice.ensures.capacity, c.extend_from_slice-2.ensures.capacity, c.extend_from_slice-3.ensures.capacity);
       latest = omega (arith, bare_size c, c.len.ensures);
-      flag = c.self.invariant.flag;
+      waiting = c.self.invariant.waiting;
       ones = omega (arith, c.new-self-inside.ensures.ones);
-      more = λ _. rw (c.new-self-inside.ensures.next, c.new-self-inside.ensures.ones) (text_from_start c.extend_from_slice-3.new.self.items some);
+      more = λ some. omega (arith, some, c.new-self-inside.ensures.next);
     }
 
 pub returns-clause-left : goal.returns-clause-left
@@ -60,18 +59,19 @@ returns-clause-left c =
     let text = c.new-self-inside.result in
     let kept = ap (λ f. f.left) c.self.view_is in
     let short = subst (λ l. length l < 8) (sym kept) c.requires.not_busy in
-    let before : flag_end a.flag ≡ c.args.self.now.left =
-    sym (append-nil (flag_end a.flag))
-    ∙ ap (λ l. flag_end a.flag ++ l) (sym (no_frame a.frame.items a.text.next a.text.ones (flag_end a.flag) short))
+    let wait = waits a.waiting in
+    let before : wait ≡ c.args.self.now.left =
+    sym (append-nil wait)
+    ∙ ap (λ l. wait ++ l) (sym (no_frame (drop a.text.next a.frame.items) a.text.ones wait short))
     ∙ kept in
     let checked : low_bits 16 c.fcs-check.result ≡ check (bits bare) =
     c.fcs-check.ensures.is_check ∙ ap (λ l. check (bits l)) (c.deref.ensures.value ∙ bare_is c) in
-    let loaded : frame_from items text.next text.ones ≡ frame_text bare ++ flag =
-    ap (λ n. frame_from items n text.ones) c.new-self-inside.ensures.next
-    ∙ ap (λ n. frame_from items 0 n) c.new-self-inside.ensures.ones
-    ∙ ap (λ l. frame_from l 0 0) (whole_is c)
+    let loaded : frame_from (drop text.next items) text.ones ≡ frame_text bare ++ flag =
+    ap (λ n. frame_from (drop n items) text.ones) c.new-self-inside.ensures.next
+    ∙ ap (λ n. frame_from items n) c.new-self-inside.ensures.ones
+    ∙ ap (λ l. frame_from l 0) (whole_is c)
     ∙ frame_from-loaded bare c.fcs-check.result (omega (arith, length-append c.args.head.now c.args.info.now)) checked in
-    ap (λ l. flag_end a.flag ++ l) loaded ∙ ap (λ l. l ++ (frame_text bare ++ flag)) before
+    ap (λ l. wait ++ l) loaded ∙ ap (λ l. l ++ (frame_text bare ++ flag)) before
 
 pub returns-clause-stands : goal.returns-clause-stands
 returns-clause-stands c = λ items given s.

@@ -1,47 +1,39 @@
--- Each bit goes on with the octet, and the eight of them are its bits.
-use Rattle.std.proofs.Common.{◌∙◌, ◌∷◌, sym, ap, take, true, false, arith}
-use Rattle.lapd_bits.specs.Bits.{number_of}
+-- Eight bits wait, and go.
+use Rattle.std.proofs.Common.{◌≡◌, ◌∙◌, ◌++◌, drop, sym, ap, take, append_assoc, arith}
+use Rattle.lapd_bits.specs.Bits.{low_bits, number_of}
+use Rattle.lapd_bits.specs.Framer.{refilled, still_held}
+use Rattle.lapd_bits.specs.FramerText.{waits, frame_from, to_give}
 use Rattle.lapd_bits.proofs.BitLemmas.{number_of-octet}
-use Rattle.lapd_bits.proofs.FramerOctet.{GoesOn-none, GoesOn-more, GoesOn-all, bit_set}
+use Rattle.lapd_bits.proofs.FramerGiven.{held_after}
 use Rattle.lapd_bits.proofs.FramerStands.{Stands-octet}
 use Rattle.lapd_bits.proofs.framer.Framer.octet.Goals as goal
-use Rattle.lapd_bits.proofs.framer.Framer.octet.Goals.{then-bit, else-bit}
 
-pub loop-place-init : goal.loop-place-init
-loop-place-init c = GoesOn-none c.args.self.now
-
-pub loop-place-preserved : goal.loop-place-preserved
-loop-place-preserved c =
-    let g = c.loop-place.invariant in
-    let now = c.loop-place.self in
-    let new = c.bit.new.self in
-    let place = c.loop-place.place in
-    let octet = c.loop-place.octet in
-    elim c.if-bit.branch [
-      | then-bit w ↦
-          GoesOn-more c.args.self.now now new place octet c.if-bit.octet true (omega arith) g
-          (ap (λ b. b ∷ new.left) (sym w.if-bit.true) ∙ c.bit.ensures.bit) c.bit.ensures.held c.bit.ensures.room
-          (w.octet-is ∙ bit_set place octet (omega arith) g.below)
-      | else-bit w ↦
-          GoesOn-more c.args.self.now now new place octet c.if-bit.octet false (omega arith) g
-          (ap (λ b. b ∷ new.left) (sym w.if-bit.false) ∙ c.bit.ensures.bit) c.bit.ensures.held c.bit.ensures.room
-          (w.octet-is ∙ omega arith)
-    ]
+-- the octet and what is left are the bits that it was taken from
+given : (c : goal.After-octet) → low_bits 8 c.octet.result ++ to_give c.octet.new.self c.refill.new.frame.items c.refill.new.text ≡ refilled (to_give c.self.inside.waiting c.self.inside.frame.items c.self.inside.text)
+given c =
+    let text = c.refill.new.text in
+    let rest = frame_from (drop text.next c.refill.new.frame.items) text.ones in
+    sym (append_assoc (low_bits 8 c.octet.result) (waits c.octet.new.self) rest)
+    ∙ ap (λ l. l ++ rest) (sym c.octet.ensures.bits)
+    ∙ c.refill.ensures.left
 
 pub returns-clause-octet : goal.returns-clause-octet
 returns-clause-octet c =
-    let left = c.loop-place.self.left in
-    let octet = c.loop-place.octet in
-    let bits_are = GoesOn-all c.args.self.now c.loop-place.self c.loop-place.place octet (omega arith) (omega arith) c.loop-place.invariant in
-    sym (number_of-octet octet left (omega arith)) ∙ ap (λ l. number_of (take 8 l)) bits_are
+    let left = to_give c.octet.new.self c.refill.new.frame.items c.refill.new.text in
+    sym (number_of-octet c.octet.result left (omega arith))
+    ∙ ap (λ l. number_of (take 8 l)) (given c)
+    ∙ ap (λ f. number_of (take 8 (refilled f.left))) c.self.view_is
 
 pub returns-clause-bits : goal.returns-clause-bits
-returns-clause-bits c =
-    GoesOn-all c.args.self.now c.loop-place.self c.loop-place.place c.loop-place.octet (omega arith) (omega arith) c.loop-place.invariant
+returns-clause-bits c = given c ∙ ap (λ f. refilled f.left) c.self.view_is
+
+pub returns-clause-held : goal.returns-clause-held
+returns-clause-held c =
+    let a = c.self.inside in
+    let left = to_give c.octet.new.self c.refill.new.frame.items c.refill.new.text in
+    held_after (to_give a.waiting a.frame.items a.text) left c.octet.result a.latest (given c)
+    ∙ ap (λ f. still_held left f.held) c.self.view_is
 
 pub returns-clause-stands : goal.returns-clause-stands
 returns-clause-stands c = λ items given s.
-    let g = c.loop-place.invariant in
-    Stands-octet c.args.self.now c.loop-place.self c.loop-place.octet items given
-    (GoesOn-all c.args.self.now c.loop-place.self c.loop-place.place c.loop-place.octet (omega arith) (omega arith) g)
-    (g.settled (omega arith)) s
+    Stands-octet c.args.self.now _ c.octet.result items given (returns-clause-bits c) (returns-clause-held c) s

@@ -2,6 +2,7 @@ use Rattle.std.proofs.Common.{sym, ◌∙◌}
 use Rattle.std.proofs.lemmas.Option.{slice_get-get_or}
 use Rattle.lapd_card_machine.specs.declared.events.Event.TheVariants.{Octet}
 use Rattle.lapd_card.proofs.Taken.{ran-more, taken-more, missed-at, at_ok, at_err}
+use Rattle.lapd_card_machine.proofs.Fold.{run_is_moments}
 use Rattle.lapd_card_machine.proofs.Refusals.{refused_by_the_table}
 use Rattle.lapd_card.specs.Headline.{IsWithinLimit, IsAmortised, IsLinear, IsIsolated, IsNeverFull, IsNumbered, IsNumberedFromZero, IsTextual}
 use Rattle.lapd_card.proofs.Headline.{each_front, fresh_front, within_limit, amortised, linear, isolated, never_full, numbered, numbered_from_zero, textual}
@@ -29,6 +30,9 @@ returns-then-is_err-clause-taken_before g c =
     let yes = sym c.is_err.ensures.value ∙ c.if-is_err.true in
     λ m s. missed-at g.K.Sink.takes g.K.Sink.misses m c.args.events.now c.loop-at.at _ c.args.sink.now c.loop-at.sink c.answer.new.sink is (at_err c.answer.result _ yes c.answer.ensures.not_taken _ (c.loop-at.invariant.ran m s)) (c.loop-at.invariant.taken m s)
 
+pub returns-then-is_err-clause-moments : goal.returns-then-is_err-clause-moments
+returns-then-is_err-clause-moments g c = run_is_moments
+
 pub returns-then-is_err-clause-refused : goal.returns-then-is_err-clause-refused
 returns-then-is_err-clause-refused g c = refused_by_the_table
 
@@ -43,6 +47,9 @@ returns-then-is_err-clause-linear g c = λ count. fresh_front g.S.Shelf.store c.
 
 pub returns-then-is_err-clause-isolated : goal.returns-then-is_err-clause-isolated
 returns-then-is_err-clause-isolated g c = λ count. fresh_front g.S.Shelf.store c.args.self.now c.args.events.now c.requires IsIsolated isolated count
+
+pub returns-clause-moments : goal.returns-clause-moments
+returns-clause-moments g c = run_is_moments
 
 pub returns-clause-refused : goal.returns-clause-refused
 returns-clause-refused g c = refused_by_the_table

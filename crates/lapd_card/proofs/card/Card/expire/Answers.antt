@@ -1,8 +1,11 @@
 use Rattle.std.proofs.Common.{◌<◌, sym, subst}
 use Rattle.lapd_line_machine.specs.Answer as happening
+use Rattle.lapd_card_machine.specs.ByEvent.{RisesByExpiry}
 use Rattle.lapd_card_machine.specs.Event.{at}
+use Rattle.lapd_card_machine.proofs.ByEvent.{frames_by_event}
 use Rattle.lapd_card.specs.Card.{line_count}
 use Rattle.lapd_card.specs.Stands.{Stands, Leads}
+use Rattle.lapd_card.proofs.Headline.{at_line}
 use Rattle.lapd_card.proofs.OneEvent.{event_leads, event_told, past_after, has_room, expiry_takes}
 use Rattle.lapd_card.proofs.card.Card.expire.Goals as goal
 
@@ -14,3 +17,6 @@ returns-clause-told g c = λ m s. event_told g.S.Shelf.store (happening.expiry c
 
 pub returns-clause-after : goal.returns-clause-after
 returns-clause-after g c = subst (λ card. Leads g.S.Shelf.store (at c.args.line (happening.expiry c.args.timer)) card (record { config = c.self.inside.config; lines = c.expire.new.self; shelf = c.expire.new.shelf })) c.self.view_is (event_leads g.S.Shelf.store (happening.expiry c.args.timer) c.args.line (record { config = c.self.inside.config; lines = c.self.inside.lines; shelf = c.self.inside.shelf }) c.expire.new.self c.expire.new.shelf (subst (λ card. c.args.line < line_count card) (sym c.self.view_is) c.requires) (λ m s. has_room (at c.args.line (happening.expiry c.args.timer)) m (expiry_takes m.config c.args.timer _)) c.expire.ensures.after)
+
+pub returns-clause-frames : goal.returns-clause-frames
+returns-clause-frames g c = at_line g.S.Shelf.store c.args.self.now c.args.line c.requires (RisesByExpiry c.args.line c.args.timer) (λ m s w. frames_by_event.expiries m c.args.line c.args.timer s w)

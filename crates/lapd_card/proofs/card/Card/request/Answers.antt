@@ -2,9 +2,12 @@ use Rattle.std.proofs.Common.{◌<◌, sym, subst, Some, None}
 use Rattle.std.proofs.lemmas.Result.{IfOk-weaker, IfErr-weaker}
 use Rattle.lapd_line_machine.specs.Answer as happening
 use Rattle.lapd_line_machine.specs.Request.{request_of}
+use Rattle.lapd_card_machine.specs.ByEvent.{RisesByRequest}
 use Rattle.lapd_card_machine.specs.Event.{at}
+use Rattle.lapd_card_machine.proofs.ByEvent.{frames_by_event}
 use Rattle.lapd_card.specs.Card.{line_count}
 use Rattle.lapd_card.specs.Stands.{Stands, Leads}
+use Rattle.lapd_card.proofs.Headline.{at_line}
 use Rattle.lapd_card.proofs.OneEvent.{refusal_is, request_told, request_leads, past_after}
 use Rattle.lapd_card.proofs.card.Card.request.Goals as goal
 
@@ -22,3 +25,6 @@ returns-clause-told g c = λ m s. request_told g.S.Shelf.store (request_of c.arg
 
 pub returns-clause-after : goal.returns-clause-after
 returns-clause-after g c = subst (λ card. Leads g.S.Shelf.store (at c.args.line (happening.request (request_of c.args.request))) card (record { config = c.self.inside.config; lines = c.request.new.self; shelf = c.request.new.shelf })) c.self.view_is (request_leads g.S.Shelf.store (request_of c.args.request) c.args.line (record { config = c.self.inside.config; lines = c.self.inside.lines; shelf = c.self.inside.shelf }) c.request.new.self c.request.new.shelf c.request.result (subst (λ card. c.args.line < line_count card) (sym c.self.view_is) c.requires) (IfErr-weaker c.request.result _ _ (λ why. refusal_is g.S.Shelf.store (request_of c.args.request) c.args.line c.from.result (record { config = c.self.inside.config; lines = c.self.inside.lines; shelf = c.self.inside.shelf }) (Some why) c.from.ensures) c.request.ensures.refused) (IfOk-weaker c.request.result _ _ (λ report. refusal_is g.S.Shelf.store (request_of c.args.request) c.args.line c.from.result (record { config = c.self.inside.config; lines = c.self.inside.lines; shelf = c.self.inside.shelf }) None c.from.ensures) c.request.ensures.accepted) c.request.ensures.unchanged c.request.ensures.kept c.request.ensures.after)
+
+pub returns-clause-frames : goal.returns-clause-frames
+returns-clause-frames g c = at_line g.S.Shelf.store c.args.self.now c.args.line c.requires (RisesByRequest c.args.line (request_of c.args.request)) (λ m s w. frames_by_event.requests m c.args.line (request_of c.args.request) s w)

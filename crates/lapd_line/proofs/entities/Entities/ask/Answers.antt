@@ -1,8 +1,7 @@
-use Rattle.std.proofs.Common.{◌≡◌, ◌<◌, [], nat_lt, nat_le, false, length, drop, refl, sym, subst, arith}
+use Rattle.std.proofs.Common.{[], nat_le, sym, arith}
 use Rattle.lapd_store.specs.Store.{used_slots}
-use Rattle.lapd_tei.proofs.Tables.{place_of-is}
 use Rattle.lapd_link.specs.Events as link
-use Rattle.lapd_line.proofs.EntitySteps.{beside_links, links_part, named, numbered}
+use Rattle.lapd_line.proofs.EntitySteps.{beside_links, links_part}
 use Rattle.lapd_line.proofs.AskSteps.{no_link, asked, asked_serves}
 use Rattle.lapd_line.proofs.entities.Entities.ask.Goals as goal
 

@@ -1,4 +1,3 @@
-use Rattle.std.proofs.Common.{◌≡◌, None, refl}
 use Rattle.lapd_line.proofs.ChangeSteps.{unmoved}
 use Rattle.lapd_line.proofs.entities.Entities.change.Goals as goal
 

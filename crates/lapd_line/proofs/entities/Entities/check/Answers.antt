@@ -1,4 +1,4 @@
-use Rattle.std.proofs.Common.{◌≡◌, [], arith}
+use Rattle.std.proofs.Common.{[], arith}
 use Rattle.lapd_tei.specs.Events as teis
 use Rattle.lapd_line.proofs.AskSteps.{managed}
 use Rattle.lapd_line.proofs.entities.Entities.check.Goals as goal

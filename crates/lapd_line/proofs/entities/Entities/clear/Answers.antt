@@ -1,17 +1,16 @@
-use Rattle.std.proofs.Common.{◌≡◌, ◌<◌, [], length, get_or, set, slice_get, Some, refl, sym, ap, subst, ◌∙◌, arith}
-use Rattle.std.proofs.lemmas.List.{get_or-set_other, length-set}
+use Rattle.std.proofs.Common.{◌≡◌, ◌<◌, [], length, set, slice_get, Some, sym, ap, subst, ◌∙◌, arith}
 use Rattle.lapd_frame.specs.declared.services.Service.TheVariants.{Call, Packet}
 use Rattle.lapd_link_machine.specs.Events as event
 use Rattle.lapd_link_machine.specs.Machine.{after}
 use Rattle.lapd_link_machine.proofs.TellRows.{cleared-tells, cleared-orders}
-use Rattle.lapd_line_machine.specs.Line.{link_number, terms}
+use Rattle.lapd_line_machine.specs.Line.{terms}
 use Rattle.lapd_line_machine.specs.Outcome.{told_of_link, with_cleared}
 use Rattle.lapd_link.specs.Outcome.{told_with}
 use Rattle.lapd_line.specs.Changes.{with_management}
 use Rattle.lapd_line.specs.Links as links
 use Rattle.lapd_line.specs.Links.{HasTerms, LinksStand, machine_at, terms_in}
 use Rattle.lapd_line.proofs.EntitySteps.{beside_links, links_part, named}
-use Rattle.lapd_line.proofs.ChangeSteps.{has_left, has_joined, left, joined, as_many, free_link, link_within, exact}
+use Rattle.lapd_line.proofs.ChangeSteps.{has_left, left, as_many, link_within, exact}
 use Rattle.lapd_line.proofs.entities.Entities.clear.Goals as goal
 
 pub clear-call-requires-clause-within : goal.clear-call-requires-clause-within

@@ -1,4 +1,4 @@
-use Rattle.std.proofs.Common.{◌≡◌, [], sym, ap, ◌∙◌}
+use Rattle.std.proofs.Common.{[], sym, ap, ◌∙◌}
 use Rattle.lapd_tei.specs.Table.{place_of}
 use Rattle.lapd_tei.proofs.Tables.{place_of-is}
 use Rattle.lapd_line_machine.specs.Expiry.{at_timer}

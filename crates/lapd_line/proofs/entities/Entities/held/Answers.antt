@@ -1,4 +1,4 @@
-use Rattle.std.proofs.Common.{◌≡◌, ◌+◌, sym, ap, ◌∙◌}
+use Rattle.std.proofs.Common.{◌+◌, sym, ap, ◌∙◌}
 use Rattle.lapd_tei.specs.Machine.{held}
 use Rattle.lapd_line.proofs.entities.Entities.held.Goals as goal
 

@@ -1,12 +1,7 @@
-use Rattle.std.proofs.Common.{◌≡◌, [], sym, ap, subst, ◌∙◌, refl}
+use Rattle.std.proofs.Common.{◌∙◌}
 use Rattle.lapd_bits.specs.declared.heard.Cause.TheVariants.{Unserved}
-use Rattle.lapd_frame.specs.declared.addresses.Side.TheVariants.{User}
-use Rattle.lapd_frame.specs.Reading.{long_reading}
 use Rattle.lapd_link.specs.Events.{received_of}
-use Rattle.lapd_link_machine.specs.Events as link
-use Rattle.lapd_line_machine.specs.Answer.{dropped}
-use Rattle.lapd_line_machine.specs.Octet.{drop_for, aim_of_long, unless_at_link}
-use Rattle.lapd_line.specs.Entities.{Serves}
+use Rattle.lapd_line_machine.specs.Octet.{drop_for}
 use Rattle.lapd_line.proofs.AimSteps.{aimed, serves_as, serves_none, nothing_after}
 use Rattle.lapd_line.proofs.entities.Entities.malformed.Goals as goal
 

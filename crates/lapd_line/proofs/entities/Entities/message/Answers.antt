@@ -1,7 +1,7 @@
-use Rattle.std.proofs.Common.{◌≡◌, true, false, sym, ◌∙◌}
+use Rattle.std.proofs.Common.{◌≡◌, true}
 use Rattle.lapd_tei.specs.Events as teis
 use Rattle.lapd_line.specs.Aims.{is_ui}
-use Rattle.lapd_line.proofs.AimSteps.{serves_as, serves_none, message_of_ui, message_of_other}
+use Rattle.lapd_line.proofs.AimSteps.{serves_as, message_of_ui}
 use Rattle.lapd_line.proofs.entities.Entities.message.Goals as goal
 
 pub returns : goal.returns

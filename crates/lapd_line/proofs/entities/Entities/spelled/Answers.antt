@@ -1,4 +1,4 @@
-use Rattle.std.proofs.Common.{◌≡◌, drop, sym, ap, ◌∙◌}
+use Rattle.std.proofs.Common.{drop, sym, ap, ◌∙◌}
 use Rattle.lapd_frame.specs.Grammar.{parts_of}
 use Rattle.lapd_link_machine.specs.Events as link
 use Rattle.lapd_line_machine.specs.Octet.{message_of}

@@ -1,4 +1,3 @@
-use Rattle.std.proofs.Common.{refl, ◌∙◌}
 use Rattle.lapd_line.proofs.LineSteps.{expired, expiry_told}
 use Rattle.lapd_line.proofs.line.Line.expire.Goals as goal
 

@@ -1,5 +1,4 @@
 use Rattle.std.proofs.Common.{refl, subst}
-use Rattle.lapd_bits.specs.Deframer.{latest_of}
 use Rattle.lapd_line.specs.declared.line.Line.{Line}
 use Rattle.lapd_line.specs.Entities.{Serves, aim_of_event}
 use Rattle.lapd_line.specs.Reports.{octets_of}

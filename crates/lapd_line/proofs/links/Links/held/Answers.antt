@@ -1,4 +1,4 @@
-use Rattle.std.proofs.Common.{◌≡◌, ◌≤◌, get_or, ap, subst, ◌∙◌, arith}
+use Rattle.std.proofs.Common.{◌≡◌, get_or, ap, subst, ◌∙◌, arith}
 use Rattle.lapd_link_machine.specs.Rises.{held}
 use Rattle.lapd_line.specs.Links.{machine_at}
 use Rattle.lapd_line.proofs.HeldSteps.{link_few}

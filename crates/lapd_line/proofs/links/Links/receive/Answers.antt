@@ -1,4 +1,4 @@
-use Rattle.std.proofs.Common.{◌≡◌, [], get_or, set, sym, subst}
+use Rattle.std.proofs.Common.{◌≡◌, get_or, set, sym, subst}
 use Rattle.lapd_link_machine.specs.Events as event
 use Rattle.lapd_link.specs.Events.{received_of, info_of}
 use Rattle.lapd_line.specs.Links.{Serves, machine_at}

@@ -1,4 +1,4 @@
-use Rattle.std.proofs.Common.{◌≡◌, [], get_or, set, nat_le, Some, None, IfOk, OnErr, sym, ap, subst, ◌∙◌}
+use Rattle.std.proofs.Common.{◌≡◌, [], get_or, set, nat_le, Some, None, IfOk, sym, ap, subst, ◌∙◌}
 use Rattle.lapd_store.specs.Store.{used_slots}
 use Rattle.lapd_link_machine.specs.Events as event
 use Rattle.lapd_link_machine.specs.Requests.{refusal}

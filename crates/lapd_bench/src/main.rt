@@ -1,0 +1,44 @@
+//! `lapd_bench WORK ROUNDS` does one kind of work over 65,000 octets so many times, and prints how many octets and
+//! frames there were and how many octets the workers held at most. Its time is taken outside, by `tests/bench`.
+//!
+//! `WORK` is the name of one of the works (`Work::name`), or `all`, which does each of them in turn.
+#![tactic(auto)]
+
+mod done;
+mod line;
+mod sender;
+mod work;
+
+use crate::work::{WORKS, Work};
+use anyhow::{Context, Result, ensure};
+use std::alloc::Global;
+use std::env;
+
+/// Does one kind of work, and prints how much it was.
+fn report(rt: &impl Print, alloc: Global, work: Work, rounds: u32) -> Result<()> {
+    let done = work.run(alloc, rounds)?;
+    println!(rt;
+        "{} {} octets {} frames {} held sum {}",
+        work.name(),
+        done.octets,
+        done.frames,
+        done.held,
+        done.sum
+    )?;
+    Ok(())
+}
+
+fn main(rt: HostRuntime) -> Result<()> {
+    let words = env::args(&rt)?.skip(1).collect::<Vec<String>>(rt.alloc())?;
+    let name = words.get(0).context("which work?")?;
+    let rounds = words.get(1).context("how many rounds?")?.parse::<u32>()?;
+    let mut is_known = false;
+    for work in WORKS {
+        if name.as_str() == "all" || name.as_str() == work.name() {
+            is_known = true;
+            report(&rt, rt.alloc(), work, rounds)?;
+        }
+    }
+    ensure!(is_known, "no such work");
+    Ok(())
+}

@@ -1,0 +1,96 @@
+-- Many bits go on an open gap at once.
+use Rattle.std.proofs.Common.{◌≡◌, ℕ, ◌+◌, ◌-◌, ◌*◌, ◌/◌, ◌%◌, ◌^◌, ◌<◌, ◌≤◌, Bool, List, [], ◌∷◌, ◌++◌, reverse, Option, Some, None, option_map, ap, sym, ◌∙◌, subst, arith, append_assoc, length-append}
+use Rattle.std.proofs.lemmas.List.{length-reverse}
+use Rattle.std.proofs.lemmas.List.Elements.{All-nil, All-cons, All-append}
+use Rattle.std.proofs.lemmas.Nat.{mul-add-lt, mod-mul-add, div-mul-add, pow-add, pow_below}
+use Rattle.std.proofs.Math.Nat.{mod-eq_of_lt}
+use Rattle.lapd_bits.specs.Bits.{bits, low_bits}
+use Rattle.lapd_bits.specs.Deframer.{Keeps, Assembles, AssemblesIn, HoldsGap}
+use Rattle.lapd_bits.specs.Steps.{with_bits}
+use Rattle.lapd_bits.specs.Unstuffer.{IsJoined}
+use Rattle.lapd_bits.specs.declared.gap.Gap.{Gap}
+use Rattle.lapd_bits.proofs.BitLemmas.{low_bits-add, low_bits-mod, length-low_bits, bits-push}
+
+-- ---- a number above another
+
+-- the sum is below 2 ^ 16, and so is the number that is moved up
+pub above_fits : (number place more : ℕ) → place < 8 → number < 2 ^ place → more < 256 → number + more * 2 ^ place < 65536
+above_fits number place more small below few =
+    omega (arith, mul-add-lt more (2 ^ place) number 256 few below, pow_below place 8 small)
+
+pub above_is : (number place more : ℕ) → place < 8 → number < 2 ^ place → more < 256 → number + more * 2 ^ place % 65536 ≡ number + more * 2 ^ place
+above_is number place more small below few =
+    let fits : more * 2 ^ place < 65536 = omega (arith, above_fits number place more small below few) in
+    ap (λ n. number + n) (mod-eq_of_lt fits)
+
+pub above_bits : (number place more n : ℕ) → number < 2 ^ place → low_bits (place + n) (number + more * 2 ^ place) ≡ low_bits place number ++ low_bits n more
+above_bits number place more n below =
+    let x = more * 2 ^ place + number in
+    let turned : number + more * 2 ^ place ≡ x = omega arith in
+    ap (low_bits (place + n)) turned
+    ∙ low_bits-add place n x
+    ∙ ap (λ l. l ++ low_bits n (x / 2 ^ place)) (sym (low_bits-mod place x) ∙ ap (low_bits place) (mod-mul-add more (2 ^ place) number below))
+    ∙ ap (λ y. low_bits place number ++ low_bits n y) (div-mul-add more (2 ^ place) number below)
+
+pub above_below : (number place more n : ℕ) → number < 2 ^ place → more < 2 ^ n → number + more * 2 ^ place < 2 ^ (place + n)
+above_below number place more n below few =
+    omega (arith, pow-add 2 place n, mul-add-lt more (2 ^ place) number (2 ^ n) few below)
+
+-- the same in 32 bits
+pub above_fits_word : (number place more n : ℕ) → number < 2 ^ place → more < 2 ^ n → place + n < 32 → number + more * 2 ^ place < 4294967296
+above_fits_word number place more n below few small =
+    omega (arith, above_below number place more n below few, pow_below (place + n) 32 small)
+
+pub above_is_word : (number place more n : ℕ) → number < 2 ^ place → more < 2 ^ n → place + n < 32 → number + more * 2 ^ place % 4294967296 ≡ number + more * 2 ^ place
+above_is_word number place more n below few small =
+    let fits : more * 2 ^ place < 4294967296 = omega (arith, above_fits_word number place more n below few small) in
+    ap (λ x. number + x) (mod-eq_of_lt fits)
+
+-- ---- the octets of the gap
+
+-- the low octet of a number, and what is above
+pub split_octet : (n x : ℕ) → 8 ≤ n → low_bits n x ≡ low_bits 8 (x % 256) ++ low_bits (n - 8) (x / 256)
+split_octet n x h =
+    ap (λ k. low_bits k x) (omega arith)
+    ∙ low_bits-add 8 (n - 8) x
+    ∙ ap (λ l. l ++ low_bits (n - 8) (x / 256)) (sym (low_bits-mod 8 x))
+
+-- bits that fill an octet, which is kept
+pub Assembles-joined_octet : (octets later_octets : List ℕ) (count later_count : ℕ) (many later_many : Bool) (register later_register partial filled joined n content partial' filled' : ℕ) (text : List Bool) → (a : Assembles octets count many register partial filled text) → 8 ≤ filled + n → low_bits (filled + n) joined ≡ low_bits filled partial ++ low_bits n content → partial' ≡ joined / 256 → filled' ≡ filled + n - 8 → Keeps later_octets later_count later_many later_register (a.whole ++ joined % 256 ∷ []) → Assembles later_octets later_count later_many later_register partial' filled' (text ++ low_bits n content)
+Assembles-joined_octet octets later_octets count later_count many later_many register later_register partial filled joined n content partial' filled' text a long e p q k =
+    let octet = joined % 256 in
+    record {
+      whole = a.whole ++ octet ∷ [];
+      are_octets = All-append (λ x. x < 256) a.whole (octet ∷ []) a.are_octets (All-cons (λ x. x < 256) octet [] (omega arith) (All-nil (λ x. x < 256)));
+      keeps = k;
+      assembled =
+          ap (λ t. t ++ low_bits n content) a.assembled
+          ∙ append_assoc (bits a.whole) (low_bits filled partial) (low_bits n content)
+          ∙ ap (λ t. bits a.whole ++ t) (sym e ∙ split_octet (filled + n) joined long)
+          ∙ sym (append_assoc (bits a.whole) (low_bits 8 octet) (low_bits (filled + n - 8) (joined / 256)))
+          ∙ ap (λ t. t ++ low_bits (filled + n - 8) (joined / 256)) (sym (bits-push a.whole octet))
+          ∙ ap (λ m. bits (a.whole ++ octet ∷ []) ++ low_bits m (joined / 256)) (sym q)
+          ∙ ap (λ y. bits (a.whole ++ octet ∷ []) ++ low_bits filled' y) (sym p);
+    }
+
+-- what is left is below the power for its bits
+pub left_below : (joined n : ℕ) → 8 ≤ n → joined < 2 ^ n → joined / 256 < 2 ^ (n - 8)
+left_below joined n h below =
+    let power : 2 ^ n ≡ 2 ^ 8 * 2 ^ (n - 8) = ap (λ k. 2 ^ k) (omega arith) ∙ pow-add 2 8 (n - 8) in
+    omega (arith, power)
+
+-- ---- the gap
+
+-- a gap with the bits of an octet more
+pub HoldsGap-joined :
+    (octets octets' : List ℕ) (gap gap' : Gap) (octet : ℕ) (content : List Bool) (g : Option (List Bool)) → gap'.since ≡ 8
+    → ((text : List Bool) → AssemblesIn octets gap text → AssemblesIn octets' gap' (text ++ content))
+    → IsJoined octet content g → HoldsGap octets (Some gap) g
+    → HoldsGap octets' (Some gap') (option_map (with_bits 8 octet) g)
+HoldsGap-joined octets octets' gap gap' octet content None since taken joined h = absurd h
+HoldsGap-joined octets octets' gap gap' octet content (Some g) since taken joined h =
+    record {
+      counted =
+          omega (arith, since, length-append (reverse (low_bits 8 octet)) g, length-reverse (low_bits 8 octet), length-low_bits 8 octet);
+      assembles = subst (AssemblesIn octets' gap') (sym joined) (taken _ h.assembles);
+    }

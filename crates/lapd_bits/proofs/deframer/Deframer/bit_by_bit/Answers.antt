@@ -1,0 +1,78 @@
+use Rattle.std.proofs.Common.{◌≡◌, ◌++◌, ◌∷◌, ◌/◌, ◌^◌, nat_eq, bit_and, ◌+◌, sym, ◌∙◌, ap, subst, refl, inl, inr, arith, length, vec_len, option_to_list, append-nil}
+use Rattle.lapd_bits.specs.Stream.{heard_until, heard_at}
+use Rattle.lapd_bits.specs.Deframer.{HoldsPast}
+use Rattle.lapd_bits.specs.Ended.{FitsIn}
+use Rattle.lapd_bits.specs.Heard.{event_in}
+use Rattle.lapd_bits.specs.Steps.{with_bits}
+use Rattle.lapd_bits.proofs.BitSteps.{with_bits-none, with_bits-more, told_nothing_more, told_event_more, IsYoung-le, EndedEarlier, event_stays, ended_still, nothing_before}
+use Rattle.lapd_bits.proofs.deframer.Deframer.bit_by_bit.Goals as goal
+use Rattle.lapd_bits.proofs.deframer.Deframer.bit_by_bit.Goals.{in-Nothing, in_default}
+
+pub loop-place-init : goal.loop-place-init
+loop-place-init c =
+    record {
+      fits = omega arith;
+      room = refl;
+      stands = λ past h. subst (HoldsPast c.args.self.now.octets.items c.args.self.now.ones c.args.self.now.gap) (sym (with_bits-none c.args.octet past)) h;
+      told = λ past h. ap (heard_until (length c.args.self.now.octets.items)) (with_bits-none c.args.octet past) ∙ sym (append-nil (heard_until (length c.args.self.now.octets.items) past));
+      young = inl refl;
+    }
+
+pub loop-place-preserved : goal.loop-place-preserved
+loop-place-preserved c =
+    let i = c.loop-place.invariant in
+    let b = c.bit.ensures in
+    let old = c.loop-place.self in
+    let new = c.bit.new.self in
+    let place = c.loop-place.place in
+    let octet = c.args.octet in
+    let bit = nat_eq (bit_and (octet / 2 ^ place) 1) 1 in
+    let room = length c.args.self.now.octets.items in
+    let stays : length new.octets.items ≡ room = sym new.octets.ok.0 ∙ b.room ∙ old.octets.ok.0 ∙ i.room in
+    elim c.match-bit.branch [
+      | in-Nothing w ↦ record {
+        fits = subst (λ e. FitsIn (vec_len new.octets) e) (sym w.ended-is) (subst (λ n. FitsIn n c.loop-place.ended) (sym b.room) i.fits);
+        room = stays;
+        stands = λ past h.
+            subst (HoldsPast new.octets.items new.ones new.gap) (sym (with_bits-more place octet past)) (b.hears.stands (with_bits place octet past) (i.stands past h));
+        told = λ past h.
+            let so_far = with_bits place octet past in
+            let heard = b.hears.told so_far (i.stands past h) in
+            ap (heard_until room) (with_bits-more place octet past)
+            ∙ told_nothing_more room past so_far bit (event_in old.octets.items c.loop-place.ended) (event_in new.octets.items c.match-bit.ended) (i.told past h)
+            (sym (ap (event_in new.octets.items) w.in-Nothing.is) ∙ heard ∙ ap (λ r. heard_at r (bit ∷ so_far)) i.room)
+            (event_stays old.octets.items new.octets.items c.loop-place.ended old.gap place c.loop-place-test.true i.young b.ages.untouched
+            ∙ ap (event_in new.octets.items) (sym w.ended-is));
+        young = subst (λ e. EndedEarlier (place + 1) e new.gap) (sym w.ended-is) (ended_still place c.loop-place.ended old.gap new.gap i.young (b.ages.grows place));
+      }
+      | in_default w ↦
+          let nothing = nothing_before place c.loop-place.ended c.bit.result old.gap c.loop-place-test.true i.young b.ages.quiet w.in_default.not-Nothing in
+          record {
+            fits = subst (λ e. FitsIn (vec_len new.octets) e) (sym w.ended-is) b.fits;
+            room = stays;
+            stands = λ past h.
+                subst (HoldsPast new.octets.items new.ones new.gap) (sym (with_bits-more place octet past)) (b.hears.stands (with_bits place octet past) (i.stands past h));
+            told = λ past h.
+                let so_far = with_bits place octet past in
+                let heard = b.hears.told so_far (i.stands past h) in
+                ap (heard_until room) (with_bits-more place octet past)
+                ∙ told_event_more room past so_far bit (event_in new.octets.items c.match-bit.ended)
+                (i.told past h ∙ ap (λ e. heard_until room past ++ option_to_list (event_in old.octets.items e)) nothing)
+                (ap (event_in new.octets.items) w.ended-is ∙ heard ∙ ap (λ r. heard_at r (bit ∷ so_far)) i.room);
+            young = inr (IsYoung-le 1 (place + 1) new.gap (omega arith) (b.ages.anew w.in_default.not-Nothing));
+          }
+    ]
+
+-- the place is 8 when the loop ends
+all_places : (c : goal.After-loop-place) → c.loop-place.place ≡ 8
+all_places c = omega arith
+
+pub returns-clause-stands : goal.returns-clause-stands
+returns-clause-stands c past h =
+    subst (λ n. HoldsPast c.loop-place.self.octets.items c.loop-place.self.ones c.loop-place.self.gap (with_bits n c.args.octet past)) (all_places c)
+    (c.loop-place.invariant.stands past h)
+
+pub returns-clause-told : goal.returns-clause-told
+returns-clause-told c past h =
+    subst (λ n. heard_until (length c.args.self.now.octets.items) (with_bits n c.args.octet past) ≡ heard_until (length c.args.self.now.octets.items) past ++ option_to_list (event_in c.loop-place.self.octets.items c.loop-place.ended)) (all_places c)
+    (c.loop-place.invariant.told past h)

@@ -1,0 +1,14 @@
+-- Where fewer than eight bits are left, they all wait.
+use Rattle.std.proofs.Common.{◌<◌, length, ap, arith, ⊎_elim}
+use Rattle.std.proofs.lemmas.Bool.{cases_lt, false≢true}
+use Rattle.lapd_bits.proofs.FramerGiven.{left_is}
+use Rattle.lapd_bits.proofs.framer.Framer.left.Goals as goal
+
+pub returns-else-busy : goal.returns-else-busy
+returns-else-busy c =
+    let a = c.self.inside in
+    let size = ap (λ f. length f.left) c.self.view_is in
+    let few : length c.args.self.now.left < 8 =
+    ⊎_elim (λ low. low) (λ many. absurd (false≢true (c.if-busy.ensures.1 many))) (cases_lt (length c.args.self.now.left) 8) in
+    let all = left_is a.waiting _ a.frame.items a.text a.frame.ok.0 c.self.invariant.more (omega (arith, size, few)) in
+    omega (arith, size, few, all, c.count.ensures)

@@ -1,0 +1,12 @@
+-- The number of a flag's bits.
+use Rattle.std.proofs.Common.{◌≡◌, ◌++◌, refl, ap, ◌∙◌}
+use Rattle.lapd_bits.specs.Bits.{low_bits, flag}
+use Rattle.lapd_bits.specs.FramerText.{waits}
+use Rattle.lapd_bits.proofs.waiting.Waiting.push_flag.Goals as goal
+
+bits_of_flag : low_bits 8 126 ≡ flag
+unfolding low_bits
+bits_of_flag = refl
+
+pub returns-clause-bits : goal.returns-clause-bits
+returns-clause-bits c = c.push.ensures.bits ∙ ap (λ l. waits c.args.self.now ++ l) bits_of_flag

@@ -1,0 +1,33 @@
+-- What an octet brings to a gap all at once, where it ends nothing. No public call names this.
+use Rattle.std.specs.Prelude.{◌≡◌, ℕ, Bool, true, false, ◌||◌, List, [], ◌∷◌, ◌++◌, replicate, reverse, Option, IfSome}
+use Rattle.lapd_bits.specs.Bits.{low_bits}
+use Rattle.lapd_bits.specs.Stuffing.{unstuffed}
+use Rattle.lapd_bits.specs.Stream.{heard_until}
+use Rattle.lapd_bits.specs.Deframer.{run_of, HoldsPast}
+use Rattle.lapd_bits.specs.declared.gap.Gap.{Gap}
+use Rattle.lapd_bits.specs.Steps.{with_bits}
+
+-- six 1s begin a text
+abbrev pub begins_six : List Bool → Bool
+begins_six (true ∷ true ∷ true ∷ true ∷ true ∷ true ∷ _) = true
+begins_six _ = false
+
+-- six contiguous 1s stand somewhere in a text
+abbrev pub has_six : List Bool → Bool
+has_six [] = false
+has_six (b ∷ text) = begins_six (b ∷ text) || has_six text
+
+-- after `ones` 1s and an octet: what stays of the octet where stuffed 0s are taken out, and the 1s at its end
+pub record IsContent (ones octet content count run : ℕ) : Type 0 where
+  pub stays : unstuffed (replicate ones true ++ low_bits 8 octet) ≡ replicate ones true ++ low_bits count content
+  pub run_is : run ≡ run_of (with_bits 8 octet (replicate ones true ++ false ∷ []))
+
+-- these bits go on the open gap's octets when the octet's bits go on the gap
+abbrev pub IsJoined : ℕ → List Bool → Option (List Bool) → Type 0
+IsJoined octet content gap =
+    IfSome gap (λ g. unstuffed (reverse (with_bits 8 octet g)) ≡ unstuffed (reverse g) ++ content)
+
+-- an octet that brings nothing and leaves a deframer's fields as they are
+pub record StaysIdle (octets : List ℕ) (ones : ℕ) (gap : Option Gap) (octet : ℕ) (past : List Bool) : Type 0 where
+  pub holds : HoldsPast octets ones gap (with_bits 8 octet past)
+  pub nothing : (room : ℕ) → heard_until room (with_bits 8 octet past) ≡ heard_until room past

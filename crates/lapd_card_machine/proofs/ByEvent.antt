@@ -1,0 +1,81 @@
+-- By how much each event lets rise what may be sent.
+use Rattle.std.proofs.Common.{◌≡◌, ℕ, ◌+◌, ◌*◌, ◌≤◌, ◌<◌, Bool, true, false, sym, arith}
+use Rattle.std.specs.Prelude.{sum_by}
+use Rattle.std.proofs.lemmas.Bool.{false≢true}
+use Rattle.lapd_frame.specs.declared.timers.Timer.{Timer}
+use Rattle.lapd_line_machine.specs.Answer.{octet, expiry, request, pull}
+use Rattle.lapd_line_machine.specs.Counts as line
+use Rattle.lapd_line_machine.specs.Machine as lines
+use Rattle.lapd_line_machine.specs.Refusal.{refusal}
+use Rattle.lapd_line_machine.specs.Request.{Request}
+use Rattle.lapd_line_machine.proofs.ByEvent.{hears_one, falls_by_pull}
+use Rattle.lapd_line_machine.proofs.EventsReject.{expiry_none, request_none}
+use Rattle.lapd_card_machine.specs.ByEvent.{RisesByOctet, RisesByExpiry, RisesByRequest, FallsByPull}
+use Rattle.lapd_card_machine.specs.Card.{Card, line_at}
+use Rattle.lapd_card_machine.specs.Counts.{frames_heard, window}
+use Rattle.lapd_card_machine.specs.Event.{Event, at}
+use Rattle.lapd_card_machine.specs.Laws.{FramesByEvent}
+use Rattle.lapd_card_machine.specs.Machine.{after}
+use Rattle.lapd_card_machine.specs.Run.{IsAtLine}
+use Rattle.lapd_card_machine.specs.Sound.{IsSound}
+use Rattle.lapd_card_machine.proofs.Amortised.{event_within}
+use Rattle.lapd_card_machine.proofs.Steps.{HasLines, by_room, line_sound, one_line}
+
+lines_of : (card : Card) → IsSound card → HasLines card
+lines_of card s = record { config = s.config; count = s.count; lines = s.lines }
+
+-- only an octet ends a frame
+hears_at_most : (card : Card) (e : Event) → HasLines card → IsAtLine card e
+    → frames_heard (after e card) ≤ frames_heard card + line.one (line.is_octet e.what)
+hears_at_most card e h within =
+    by_room (λ ls a. sum_by (line.frames_heard card.config) ls ≤ frames_heard card + line.one (line.is_octet e.what)) e card
+    (λ full. omega arith)
+    (λ served.
+    let x = lines.after card.config e.what (line_at e.line card) in
+    omega (arith, hears_one card.config e.what (line_at e.line card) h.config (line_sound card e.line h within), one_line (line.frames_heard card.config) card e.line x h within))
+
+-- and only an octet is an REJ
+no_reject : (k : ℕ) (b : Bool) → b ≡ false → k * line.one b ≡ 0
+no_reject k true e = absurd (false≢true (sym e))
+no_reject k false e = omega arith
+
+octets : (card : Card) (number value : ℕ) → IsSound card → number < card.config.lines → RisesByOctet number value card
+octets card number value s within =
+    let e = at number (octet value) in
+    let heard = hears_at_most card e (lines_of card s) within in
+    let rise = event_within card e (lines_of card s) within in
+    (omega (arith, heard), omega (arith, rise))
+
+expiries : (card : Card) (number : ℕ) (timer : Timer) → IsSound card → number < card.config.lines → RisesByExpiry number timer card
+expiries card number timer s within =
+    let e = at number (expiry timer) in
+    let heard = hears_at_most card e (lines_of card s) within in
+    let rise = event_within card e (lines_of card s) within in
+    let none = no_reject (window card.config) (line.rejects card.config e.what (line_at number card)) (expiry_none (line_at number card) timer) in
+    omega (arith, heard, rise, none)
+
+requests : (card : Card) (number : ℕ) (r : Request) → IsSound card → number < card.config.lines → RisesByRequest number r card
+requests card number r s within =
+    let e = at number (request r) in
+    let l = line_at number card in
+    let heard = hears_at_most card e (lines_of card s) within in
+    let rise = event_within card e (lines_of card s) within in
+    let none = no_reject (window card.config) (line.rejects card.config e.what l) (request_none l r (refusal card.config false r l)) in
+    omega (arith, heard, rise, none)
+
+-- a pull finds room, and is one of its line
+pulls : (card : Card) (number : ℕ) → IsSound card → number < card.config.lines → FallsByPull number card
+pulls card number s within =
+    let e = at number pull in
+    by_room (λ ls a.
+    (line.one (line.is_begun a) + sum_by (line.waiting card.config) ls ≤ sum_by (line.waiting card.config) card.lines)
+    × (sum_by (line.waiting card.config) card.lines ≤ sum_by (line.waiting card.config) ls + 2 * line.one (line.is_begun a))) e card
+    (λ full. (omega arith, omega arith))
+    (λ served.
+    let l = line_at number card in
+    let falls = falls_by_pull card.config l s.config (line_sound card number (lines_of card s) within) in
+    let sums = one_line (line.waiting card.config) card number (lines.after card.config pull l) (lines_of card s) within in
+    (omega (arith, falls.0, sums), omega (arith, falls.1, sums)))
+
+pub frames_by_event : FramesByEvent
+frames_by_event = record { octets = octets; expiries = expiries; requests = requests; pulls = pulls }

@@ -6,3 +6,4 @@ mod Playing
 pub mod Exchanges
 pub mod Expiries
 pub mod Waits
+mod Octets

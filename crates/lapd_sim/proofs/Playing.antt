@@ -87,7 +87,7 @@ pub short_is : (piece : List ℕ) (p : Played) → length (line_in piece) ≤ 40
     → after_piece piece p ≡ after_said piece (said (line_in piece) p.bench) p
 short_is piece p short near =
     not_long (nat_lt 4096 (length (line_in piece))) (nat_lt (2 ^ 63) (p.octets + length piece)) (faulty TooLong p) (after_reading piece (read (line_in piece)) p)
-      (le-ltb 4096 (length (line_in piece)) short) (le-ltb (2 ^ 63) (p.octets + length piece) near)
+    (le-ltb 4096 (length (line_in piece)) short) (le-ltb (2 ^ 63) (p.octets + length piece) near)
     ∙ read_is piece (read (line_in piece)) p
 
 is_long : (long far : Bool) (p q : Played) → (long ≡ false → far ≡ true) → cond (long || far) p q ≡ p
@@ -98,7 +98,7 @@ is_long false false p q h = absurd (true≢false (sym (h refl)))
 pub long_is : (piece : List ℕ) (p : Played) → (length (line_in piece) ≤ 4096 → 2 ^ 63 < p.octets + length piece) → after_piece piece p ≡ faulty TooLong p
 long_is piece p h =
     is_long (nat_lt 4096 (length (line_in piece))) (nat_lt (2 ^ 63) (p.octets + length piece)) (faulty TooLong p) (after_reading piece (read (line_in piece)) p)
-      (λ e. lt-ltb (2 ^ 63) (p.octets + length piece) (h (ltb-false 4096 (length (line_in piece)) e)))
+    (λ e. lt-ltb (2 ^ 63) (p.octets + length piece) (h (ltb-false 4096 (length (line_in piece)) e)))
 
 -- after a fault nothing more is played
 stays_one : (piece : List ℕ) (o : Option Fault) (fault : Fault) (p : Played) → o ≡ Some fault → unless_faulty piece o p ≡ p
@@ -182,9 +182,10 @@ pub stops_long : (lines : Lines) (bench : Option Bench) (remaining : Option (Lis
     → (first_fault text ≡ Some (record { line = number; kind = TooLong })) × IsWritten a b (transcript text)
 stops_long lines bench remaining text a b p number long =
     let fault = long_is long.piece (played p.done) (λ short. subst (λ n. 2 ^ 63 < n + length long.piece) p.octets (long.long short)) in
-    let all = fault_is text p.left p.done long.piece (pieces_of long.more) TooLong p.is long.pieces p.sound fault in
-    (ap (λ q. Played.fault q) all ∙ ap (λ n. Some (record { line = n; kind = TooLong })) (sym (long.number ∙ ap (λ n. n + 1) p.number)),
-     subst (λ t. IsWritten a b t) (sym (ap (λ q. Played.written q) all)) p.written)
+    let all = fault_is text p.left p.done long.piece (pieces_of long.more) TooLong p.is long.pieces p.sound fault in (
+      ap (λ q. Played.fault q) all ∙ ap (λ n. Some (record { line = n; kind = TooLong })) (sym (long.number ∙ ap (λ n. n + 1) p.number)),
+      subst (λ t. IsWritten a b t) (sym (ap (λ q. Played.written q) all)) p.written,
+    )
 
 -- the next line leads to what it says
 pub next_is : (lines new : Lines) (bench : Option Bench) (remaining left : Option (List ℕ)) (text : List ℕ) (a b : Taken) (p : IsPlayed lines bench remaining text a b) (n : IsNext lines new left p.left)
@@ -198,9 +199,10 @@ pub stops_faulty : (lines new : Lines) (bench : Option Bench) (remaining left : 
     → (first_fault text ≡ Some (record { line = new.number; kind = kind })) × IsWritten a b (transcript text)
 stops_faulty lines new bench remaining left text a b p n bound kind fault =
     let next = next_is lines new bench remaining left text a b p n bound ∙ ap (λ x. after_said n.piece x (played p.done)) fault in
-    let all = fault_is text p.left p.done n.piece (pieces_of n.more) kind p.is n.pieces p.sound next in
-    (ap (λ q. Played.fault q) all ∙ ap (λ i. Some (record { line = i; kind = kind })) (sym (n.number ∙ ap (λ i. i + 1) p.number)),
-     subst (λ t. IsWritten a b t) (sym (ap (λ q. Played.written q) all)) p.written)
+    let all = fault_is text p.left p.done n.piece (pieces_of n.more) kind p.is n.pieces p.sound next in (
+      ap (λ q. Played.fault q) all ∙ ap (λ i. Some (record { line = i; kind = kind })) (sym (n.number ∙ ap (λ i. i + 1) p.number)),
+      subst (λ t. IsWritten a b t) (sym (ap (λ q. Played.written q) all)) p.written,
+    )
 
 -- a write of the next line fails
 pub stops_broken : (lines new : Lines) (bench : Option Bench) (remaining left : Option (List ℕ)) (text : List ℕ) (a b c : Taken) (p : IsPlayed lines bench remaining text a b) (n : IsNext lines new left p.left)
@@ -210,14 +212,14 @@ stops_broken lines new bench remaining left text a b c p n bound s fine broken =
     let all = all_played text p.left p.done n.piece (pieces_of n.more) p.is n.pieces p.sound ∙ ap (λ q. fold one_more q (pieces_of n.more)) next in
     let rest = grows (pieces_of n.more) (after_said n.piece (Ok s) (played p.done)) in
     subst (λ t. IsBroken a c t) (sym (ap (λ q. Played.written q) all ∙ rest.1))
-      (broken_more a c ((played p.done).written ++ s.text) rest.0 (writes_then (Err (record {})) a b c (played p.done).written s.text p.written broken))
+    (broken_more a c ((played p.done).written ++ s.text) rest.0 (writes_then (Err (record {})) a b c (played p.done).written s.text p.written broken))
 
 -- the next line has been played
 pub goes_on : (lines new : Lines) (bench later : Option Bench) (remaining left : Option (List ℕ)) (text : List ℕ) (a b c : Taken) (p : IsPlayed lines bench remaining text a b) (n : IsNext lines new left p.left)
     → new.octets ≤ 2 ^ 63 → (s : Said) → said (line_in n.piece) (played p.done).bench ≡ Ok s → IsWritten b c s.text → Has later s.bench → IsPlayed new later left text a c
 goes_on lines new bench later remaining left text a b c p n bound s fine written has =
     let is : played (p.done ++ n.piece ∷ []) ≡ after_said n.piece (Ok s) (played p.done) =
-        played_more p.done n.piece p.sound ∙ next_is lines new bench remaining left text a b p n bound ∙ ap (λ x. after_said n.piece x (played p.done)) fine in
+    played_more p.done n.piece p.sound ∙ next_is lines new bench remaining left text a b p n bound ∙ ap (λ x. after_said n.piece x (played p.done)) fine in
     let octet = some_octet p.left n.piece (pieces_of n.more) n.pieces in
     let whole = p.before_more octet.0 octet.1.0 octet.1.1 in
     record {
@@ -298,9 +300,9 @@ stops (Faulty kind) lines new bench remaining left text a b c has p n bound h =
     (found.0, subst (λ t. IsWritten a t (transcript text)) (sym h.0) found.1)
 stops line.Write lines new bench remaining left text a b c has p n bound h =
     stops_write (said (line_in n.piece) (played p.done).bench) refl h where
-    stops_write : (x : Result Said FaultKind) → said (line_in n.piece) (played p.done).bench ≡ x → Does (Err line.Write) b c (played p.done).bench has x → IsBroken a c (transcript text)
-    stops_write (Ok s) e k = stops_broken lines new bench remaining left text a b c p n bound s e k
-    stops_write (Err kind) e k = absurd k
+      stops_write : (x : Result Said FaultKind) → said (line_in n.piece) (played p.done).bench ≡ x → Does (Err line.Write) b c (played p.done).bench has x → IsBroken a c (transcript text)
+      stops_write (Ok s) e k = stops_broken lines new bench remaining left text a b c p n bound s e k
+      stops_write (Err kind) e k = absurd k
 stops line.OutOfMemory lines new bench remaining left text a b c has p n bound h = record {
   lines = length p.done;
   no_card = ap (λ q. Played.bench q) (front_played text p.left p.done p.is) ∙ h.1;
@@ -349,4 +351,4 @@ pub starts : (before bench : Option Bench) (a : Taken) (meaning : Meaning) (line
     → StartsBy (Ok bench) (without_card meaning) → Does (Ok tt) a a m (Has bench) (said line m)
 starts before bench a meaning line m e h is k =
     subst (λ n. Does (Ok tt) a a n (Has bench) (said line n)) (sym (has_none before m e h))
-      (subst (λ r. Does (Ok tt) a a None (Has bench) (said_by r None)) is (starts_as bench a (without_card meaning) k))
+    (subst (λ r. Does (Ok tt) a a None (Has bench) (said_by r None)) is (starts_as bench a (without_card meaning) k))

@@ -37,11 +37,13 @@ events_say (e ∷ es) s =
 
 pub rx_says : (line : ℕ) (xs : List ℕ) (n : ℕ) (s : Scene) → (more : List ℕ) × ((after_rx line xs s).text ≡ (after_rx line (take n xs) s).text ++ more)
 rx_says line xs n s =
-    let rest = events_say (octets_at line (drop n xs)) (after_rx line (take n xs) s) in
-    (rest.0, ap (λ l. (after_rx line l s).text) (sym (take-append-drop n xs))
-        ∙ ap (λ es. (fold with_event s es).text) (map-append (λ value. at line (octet value)) (take n xs) (drop n xs))
-        ∙ ap (λ z. Scene.text z) (fold-append with_event s (octets_at line (take n xs)) (octets_at line (drop n xs)))
-        ∙ rest.1)
+    let rest = events_say (octets_at line (drop n xs)) (after_rx line (take n xs) s) in (
+      rest.0,
+      ap (λ l. (after_rx line l s).text) (sym (take-append-drop n xs))
+          ∙ ap (λ es. (fold with_event s es).text) (map-append (λ value. at line (octet value)) (take n xs) (drop n xs))
+          ∙ ap (λ z. Scene.text z) (fold-append with_event s (octets_at line (take n xs)) (octets_at line (drop n xs)))
+          ∙ rest.1,
+    )
 
 -- a beginning of the first octets' text is a beginning of the whole
 pub broken_rx : (a b : Taken) (line : ℕ) (xs : List ℕ) (n : ℕ) (s : Scene) → IsBroken a b (after_rx line (take n xs) s).text → IsBroken a b (after_rx line xs s).text
@@ -112,16 +114,16 @@ frame_is : (line : ℕ) (frame : List ℕ) (s : Scene) → line < s.bench.card.c
     → with_card (meaning.into line frame) s ≡ Ok (after_in line frame s)
 frame_is line frame s there short long =
     three_yes (nat_lt line s.bench.card.config.lines) (nat_le 3 (length frame)) (nat_le (length frame) 1028) (Ok (after_in line frame s)) (Err BadFrame) (Err BadLine)
-      (lt-ltb line s.bench.card.config.lines there) (le-leb 3 (length frame) short) (le-leb (length frame) 1028 long)
+    (lt-ltb line s.bench.card.config.lines there) (le-leb 3 (length frame) short) (le-leb (length frame) 1028 long)
 
 pub frame_obeyed : (a b : Taken) (Q : Bench → Type 0) {line at_it : ℕ} → line ≡ at_it → (frame : List ℕ) (m : Bench) → line < m.card.config.lines → 3 ≤ length frame → length frame ≤ 1028
     → IsWritten a b (after_in line frame (scene m)).text → Q (after_in line frame (scene m)).bench → Obeys (Ok tt) a b Q (with_card (meaning.into at_it frame) (scene m))
 frame_obeyed a b Q {line} e frame m there short long written stands =
     subst (λ n. Obeys (Ok tt) a b Q (with_card (meaning.into n frame) (scene m))) e
-      (subst (λ said. Obeys (Ok tt) a b Q said) (sym (frame_is line frame (scene m) there short long)) (written, stands))
+    (subst (λ said. Obeys (Ok tt) a b Q said) (sym (frame_is line frame (scene m) there short long)) (written, stands))
 
 pub frame_broken : (a b : Taken) (Q : Bench → Type 0) {line at_it : ℕ} → line ≡ at_it → (frame : List ℕ) (m : Bench) → line < m.card.config.lines → 3 ≤ length frame → length frame ≤ 1028
     → IsBroken a b (after_in line frame (scene m)).text → Obeys (Err Write) a b Q (with_card (meaning.into at_it frame) (scene m))
 frame_broken a b Q {line} e frame m there short long broken =
     subst (λ n. Obeys (Err Write) a b Q (with_card (meaning.into n frame) (scene m))) e
-      (subst (λ said. Obeys (Err Write) a b Q said) (sym (frame_is line frame (scene m) there short long)) broken)
+    (subst (λ said. Obeys (Err Write) a b Q said) (sym (frame_is line frame (scene m) there short long)) broken)

@@ -28,9 +28,9 @@ join_with o (p ∷ ps) = refl
 pub joins : (t : List ℕ) → join (pieces_of t) ≡ t
 joins [] = refl
 joins (o ∷ t) = go (o == 10) (joins t) where
-    go : (b : Bool) → join (pieces_of t) ≡ t → join (cond b ((o ∷ []) ∷ pieces_of t) (with_octet o (pieces_of t))) ≡ o ∷ t
-    go true e = ap (λ xs. o ∷ xs) e
-    go false e = join_with o (pieces_of t) ∙ ap (λ xs. o ∷ xs) e
+  go : (b : Bool) → join (pieces_of t) ≡ t → join (cond b ((o ∷ []) ∷ pieces_of t) (with_octet o (pieces_of t))) ≡ o ∷ t
+  go true e = ap (λ xs. o ∷ xs) e
+  go false e = join_with o (pieces_of t) ∙ ap (λ xs. o ∷ xs) e
 
 -- Where the first piece has its line feed, it is the first of whatever follows it,
 abbrev Closes : List (List ℕ) → Type 0
@@ -49,9 +49,9 @@ closes_first o ps e = λ w x. ap (λ b. cond b ((o ∷ []) ∷ pieces_of x) (wit
 pub closes : (t : List ℕ) → Closes (pieces_of t)
 closes [] = tt
 closes (o ∷ t) = go (o == 10) refl (closes t) where
-    go : (b : Bool) → (o == 10) ≡ b → Closes (pieces_of t) → Closes (cond b ((o ∷ []) ∷ pieces_of t) (with_octet o (pieces_of t)))
-    go true e h = closes_first o (pieces_of t) e
-    go false e h = closes_with o (pieces_of t) e h
+  go : (b : Bool) → (o == 10) ≡ b → Closes (pieces_of t) → Closes (cond b ((o ∷ []) ∷ pieces_of t) (with_octet o (pieces_of t)))
+  go true e h = closes_first o (pieces_of t) e
+  go false e h = closes_with o (pieces_of t) e h
 
 -- and where another follows it, it has.
 abbrev Follows : List (List ℕ) → Type 0
@@ -71,9 +71,9 @@ follows_first o (p ∷ ps) e = ap (λ b. b || false) e
 pub follows : (t : List ℕ) → Follows (pieces_of t)
 follows [] = tt
 follows (o ∷ t) = go (o == 10) refl (follows t) where
-    go : (b : Bool) → (o == 10) ≡ b → Follows (pieces_of t) → Follows (cond b ((o ∷ []) ∷ pieces_of t) (with_octet o (pieces_of t)))
-    go true e h = follows_first o (pieces_of t) e
-    go false e h = follows_with o (pieces_of t) e h
+  go : (b : Bool) → (o == 10) ≡ b → Follows (pieces_of t) → Follows (cond b ((o ∷ []) ∷ pieces_of t) (with_octet o (pieces_of t)))
+  go true e h = follows_first o (pieces_of t) e
+  go false e h = follows_with o (pieces_of t) e h
 
 -- A text without line feed is no whole line.
 abbrev One : List ℕ → List (List ℕ)
@@ -123,9 +123,9 @@ some_with o (p ∷ ps) = (o ∷ p, (ps, refl))
 
 some_piece : (o : ℕ) (t : List ℕ) → (q : List ℕ) × ((qs : List (List ℕ)) × (pieces_of (o ∷ t) ≡ q ∷ qs))
 some_piece o t = go (o == 10) where
-    go : (b : Bool) → (q : List ℕ) × ((qs : List (List ℕ)) × (cond b ((o ∷ []) ∷ pieces_of t) (with_octet o (pieces_of t)) ≡ q ∷ qs))
-    go true = (o ∷ [], (pieces_of t, refl))
-    go false = some_with o (pieces_of t)
+  go : (b : Bool) → (q : List ℕ) × ((qs : List (List ℕ)) × (cond b ((o ∷ []) ∷ pieces_of t) (with_octet o (pieces_of t)) ≡ q ∷ qs))
+  go true = (o ∷ [], (pieces_of t, refl))
+  go false = some_with o (pieces_of t)
 
 pub first_whole : (left piece more : List ℕ) (o : ℕ) (t : List ℕ) → pieces_of left ≡ piece ∷ pieces_of more → more ≡ o ∷ t → is_whole piece ≡ true
 first_whole left piece more o t is e =

@@ -40,3 +40,11 @@ Plays (Err (Script line kind)) text remaining old new = (first_fault text ≡ So
 Plays (Err Read) text remaining old new = IsAnsweredToHere text remaining old new
 Plays (Err Write) text remaining old new = IsBroken old new (transcript text)
 Plays (Err OutOfMemory) text remaining old new = IsBeforeCard text old new
+
+-- The same of a script and a transcript in memory: what the transcript is, from what it was.
+abbrev pub PlaysOctets : Result Unit PlayFault → List ℕ → List ℕ → List ℕ → Type 0
+PlaysOctets (Ok _) text old new = (first_fault text ≡ None) × (new ≡ old ++ transcript text)
+PlaysOctets (Err (Script line kind)) text old new = (first_fault text ≡ Some (record { line = line; kind = kind })) × (new ≡ old ++ transcript text)
+PlaysOctets (Err Read) text old new = (n : ℕ) × ((played (whole_lines (take n text))).fault ≡ None) × (new ≡ old ++ (played (whole_lines (take n text))).written)
+PlaysOctets (Err Write) text old new = (n : ℕ) × (new ≡ old ++ take n (transcript text))
+PlaysOctets (Err OutOfMemory) text old new = (n : ℕ) × ((played (take n (pieces_of text))).bench ≡ None) × ((played (take n (pieces_of text))).fault ≡ None) × (new ≡ old)

@@ -6,7 +6,7 @@
 //! - `terminal`: the sender of a terminal.
 //! - `bench`: the card with the terminals and listeners of its lines; `parts`, what it begins with; `traffic`, what comes
 //!   from a line and what a line takes.
-//! - `player`: plays a script.
+//! - `player`: plays a script; `memory`, one that lies in memory.
 //! - `faults`: why a script is not played to its end.
 //! - `shown`: shows one frame.
 //! - `program`: the program's words, fault lines and exit status.
@@ -16,6 +16,7 @@ mod bench;
 mod exchange;
 mod faults;
 mod lines;
+mod memory;
 mod parts;
 mod player;
 mod program;
@@ -26,5 +27,6 @@ mod traffic;
 pub use faults::PlayFault;
 pub use lapd_script::{FaultKind, Job, job};
 pub use lapd_transcript::{ReadFailed, ReadFrom, Source, Target, WriteFailed, WriteTo};
+pub use memory::play_octets;
 pub use player::play;
 pub use program::{refuse, serve};

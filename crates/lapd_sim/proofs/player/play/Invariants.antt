@@ -13,7 +13,7 @@ invariant-loop-player g l =
     (g.S.Source.failures l.source ≡ g.S.Source.failures l.fn.source) × ((g.T.Target.taken l.target).failures ≡ (g.T.Target.taken l.fn.target).failures)
     × ((m : Option machine.Bench) × Has l.player.bench m)
     × ((text : List ℕ) → g.S.Source.remaining l.fn.source ≡ Some text
-        → IsPlayed l.lines l.player.bench (g.S.Source.remaining l.source) text (g.T.Target.taken l.fn.target) (g.T.Target.taken l.target))
+    → IsPlayed l.lines l.player.bench (g.S.Source.remaining l.source) text (g.T.Target.taken l.fn.target) (g.T.Target.taken l.target))
 
 -- the octets that a script can still have
 abbrev pub decreases-loop-player : goal.decreases-loop-player

@@ -20,17 +20,17 @@ returns-in-Ok g c = λ m h.
     let holds = subst (λ n. Holds c.pull.new.exchange (pulls n line (record { bench = m; octets = [] })).bench) count (c.pull.ensures.after m h.exchange) in
     let bound : line < length c.args.self.now.listeners.items = omega (arith, c.args.self.now.listeners.ok.0, c.args.self.now.each_listens, c.in_ok-line.ensures.1) in
     let hears = subst (λ d. Hears d (get_or m.taken line [])) (sym c.index_mut.ensures.value)
-      (each_at Hears c.args.self.now.listeners.items m.taken line c.index_mut.result.now [] bound h.listeners) in
+    (each_at Hears c.args.self.now.listeners.items m.taken line c.index_mut.result.now [] bound h.listeners) in
     let past = subst (λ taken. Hears c.index_mut.result.now (get_or taken line [])) (sym keep.1) hears in
     pull_obeyed _ _ _ c.in_ok-line.ensures.0 c.args.count m (subst (λ n. line < n) (sym (ap (λ config. config.lines) h.exchange.config)) c.in_ok-line.ensures.1)
-      (subst (λ xs. IsWritten (g.T.Target.taken c.args.target.now) (g.T.Target.taken c.tell.new.target) (pulled_text line (taken_at line p.bench) xs)) octets (c.in-Ok.ensures.told (taken_at line p.bench) past))
-      (record {
-        exchange = record { config = holds.config; card = holds.card; clock = holds.clock; now = holds.now };
-        terminals = subst (λ ts. Each Sends c.args.self.now.terminals.items ts) (sym keep.0) h.terminals;
-        listeners = each_set Hears c.args.self.now.listeners.items p.bench.taken line c.tell.new.listener (taken_at line p.bench ++ p.octets)
+    (subst (λ xs. IsWritten (g.T.Target.taken c.args.target.now) (g.T.Target.taken c.tell.new.target) (pulled_text line (taken_at line p.bench) xs)) octets (c.in-Ok.ensures.told (taken_at line p.bench) past))
+    (record {
+      exchange = record { config = holds.config; card = holds.card; clock = holds.clock; now = holds.now };
+      terminals = subst (λ ts. Each Sends c.args.self.now.terminals.items ts) (sym keep.0) h.terminals;
+      listeners = each_set Hears c.args.self.now.listeners.items p.bench.taken line c.tell.new.listener (taken_at line p.bench ++ p.octets)
           (subst (λ xs. Hears c.tell.new.listener (taken_at line p.bench ++ xs)) octets (c.in-Ok.ensures.after (taken_at line p.bench) past))
           (subst (λ ts. Each Hears c.args.self.now.listeners.items ts) (sym keep.1) h.listeners);
-      })
+    })
 
 pub returns-in-Err : goal.returns-in-Err
 returns-in-Err g c = λ m h.
@@ -41,7 +41,7 @@ returns-in-Err g c = λ m h.
     let octets = subst (λ n. c.pull.new.room ≡ (pulls n line (record { bench = m; octets = [] })).octets) count (c.pull.ensures.pulled m h.exchange) in
     let bound : line < length c.args.self.now.listeners.items = omega (arith, c.args.self.now.listeners.ok.0, c.args.self.now.each_listens, c.in_ok-line.ensures.1) in
     let hears = subst (λ d. Hears d (get_or m.taken line [])) (sym c.index_mut.ensures.value)
-      (each_at Hears c.args.self.now.listeners.items m.taken line c.index_mut.result.now [] bound h.listeners) in
+    (each_at Hears c.args.self.now.listeners.items m.taken line c.index_mut.result.now [] bound h.listeners) in
     let past = subst (λ taken. Hears c.index_mut.result.now (get_or taken line [])) (sym keep.1) hears in
     pull_broken _ _ (Stands c.args.self.now) c.in_ok-line.ensures.0 c.args.count m (subst (λ n. line < n) (sym (ap (λ config. config.lines) h.exchange.config)) c.in_ok-line.ensures.1)
-      (subst (λ xs. IsBroken (g.T.Target.taken c.args.target.now) (g.T.Target.taken c.tell.new.target) (pulled_text line (taken_at line p.bench) xs)) octets (c.in-Err.ensures.told (taken_at line p.bench) past))
+    (subst (λ xs. IsBroken (g.T.Target.taken c.args.target.now) (g.T.Target.taken c.tell.new.target) (pulled_text line (taken_at line p.bench) xs)) octets (c.in-Err.ensures.told (taken_at line p.bench) past))

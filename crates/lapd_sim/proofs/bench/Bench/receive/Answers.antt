@@ -12,8 +12,8 @@ returns-in-Ok g c = λ m h.
     let there : c.args.line < m.card.config.lines = subst (λ n. c.args.line < n) (sym (ap (λ config. config.lines) h.exchange.config)) (subst (λ n. n < c.args.self.now.exchange.config.lines) line c.in_ok-line.ensures.1) in
     let after = after_rx c.args.line c.args.octets.now (scene m) in
     let told : IsWritten (g.T.Target.taken c.args.target.now) (g.T.Target.taken c.receive.new.target) after.text × Holds c.receive.new.exchange after.bench =
-        subst (λ n. IsWritten (g.T.Target.taken c.args.target.now) (g.T.Target.taken c.receive.new.target) (after_rx n c.args.octets.now (scene m)).text × Holds c.receive.new.exchange (after_rx n c.args.octets.now (scene m)).bench)
-          line (c.in-Ok.ensures.told m h.exchange) in
+    subst (λ n. IsWritten (g.T.Target.taken c.args.target.now) (g.T.Target.taken c.receive.new.target) (after_rx n c.args.octets.now (scene m)).text × Holds c.receive.new.exchange (after_rx n c.args.octets.now (scene m)).bench)
+    line (c.in-Ok.ensures.told m h.exchange) in
     let keep = events_keep (octets_at c.args.line c.args.octets.now) (scene m) in
     obeyed_there _ _ _ c.args.line (scene m) after there told.0 (record {
       exchange = told.1;

@@ -13,9 +13,9 @@ returns g c = λ m h.
     let end = m.now + c.args.milliseconds in
     let keep = expiries_keep (time_until end m.clock) end (scene m) in
     obeyed_at c.wait.result _ _ (Holds c.wait.new.self) (Stands _) (nat_le end last_moment) (after_wait c.args.milliseconds (scene m)) TimeOver
-      (λ holds. record {
-        exchange = holds;
-        terminals = subst (λ ts. Each Sends c.args.self.now.terminals.items ts) (sym keep.0) h.terminals;
-        listeners = subst (λ ts. Each Hears c.args.self.now.listeners.items ts) (sym keep.1) h.listeners;
-      })
-      (c.wait.ensures.told m h.exchange)
+    (λ holds. record {
+      exchange = holds;
+      terminals = subst (λ ts. Each Sends c.args.self.now.terminals.items ts) (sym keep.0) h.terminals;
+      listeners = subst (λ ts. Each Hears c.args.self.now.listeners.items ts) (sym keep.1) h.listeners;
+    })
+    (c.wait.ensures.told m h.exchange)

@@ -1,5 +1,5 @@
 -- How far the lines of a script have been read.
-use Rattle.std.specs.Prelude.{◌≡◌, ◌≢◌, ℕ, ◌+◌, ◌-◌, ◌^◌, ◌<◌, ◌≤◌, true, if◌then◌else◌, List, [], ◌∷◌, ◌++◌, length, take, drop, All, Option, Some, Result, Ok, Err, Bool}
+use Rattle.std.specs.Prelude.{◌≡◌, ◌≢◌, ℕ, ◌+◌, ◌-◌, ◌^◌, ◌<◌, ◌≤◌, true, false, if◌then◌else◌, List, [], ◌∷◌, ◌++◌, length, take, drop, All, Option, Some, Result, Ok, Err, Bool}
 use Rattle.lapd_script.specs.declared.kind.FaultKind.TheVariants.{TooLong}
 use Rattle.lapd_sim_machine.specs.Pieces.{pieces_of, line_in}
 use Rattle.lapd_sim.specs.declared.faults.PlayFault.{PlayFault}
@@ -36,12 +36,12 @@ pub record IsNext (old new : Lines) (remaining : Option (List ℕ)) (text : List
   pub octets : new.octets ≡ old.octets + length piece
 
 -- It is too long, or the script is.
-pub record IsTooLong (lines : Lines) (number : ℕ) (text : List ℕ) : Type 0 where
+pub record IsTooLong (lines : Lines) (told : ℕ) (text : List ℕ) : Type 0 where
   pub piece : List ℕ
   pub more : List ℕ
   pub pieces : pieces_of text ≡ piece ∷ pieces_of more
   pub long : length (line_in piece) ≤ 4096 → 2 ^ 63 < lines.octets + length piece
-  pub number : number ≡ lines.number + 1
+  pub number : told ≡ lines.number + 1
 
 -- A read failed before it had come: what was read of it has no line feed (octet 10).
 pub record IsCut (remaining : Option (List ℕ)) (text : List ℕ) : Type 0 where
@@ -52,7 +52,8 @@ pub record IsCut (remaining : Option (List ℕ)) (text : List ℕ) : Type 0 wher
   pub open_is : All (λ octet. octet ≢ 10) begun
 
 abbrev pub Advances : Result Bool PlayFault → Lines → Lines → Option (List ℕ) → List ℕ → Type 0
-Advances (Ok more) old new remaining text = if more then IsNext old new remaining text else (text ≡ []) × (remaining ≡ Some [])
+Advances (Ok true) old new remaining text = IsNext old new remaining text
+Advances (Ok false) old new remaining text = (text ≡ []) × (remaining ≡ Some [])
 Advances (Err Read) old new remaining text = IsCut remaining text
 Advances (Err (Script number kind)) old new remaining text = (kind ≡ TooLong) × IsTooLong old number text
 Advances (Err Write) old new remaining text = ⊥

@@ -1,2 +1,4 @@
 pub mod Left
+pub mod Pieces
 pub mod Reading
+pub mod Advancing

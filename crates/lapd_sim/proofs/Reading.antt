@@ -1,4 +1,4 @@
--- The pieces of a text, and how they are read.
+-- What is read into the buffer of the lines.
 use Rattle.std.proofs.Common.{◌≡◌, ◌≢◌, ℕ, ◌+◌, ◌-◌, ◌<◌, ◌≤◌, Bool, true, false, cond, eqb, ltb, List, [], ◌∷◌, ◌++◌, length, get_or, take, drop, Some, None, Option, zero, suc, inl, inr, refl, sym, ap, ◌∙◌, subst, append_assoc, arith}
 use Rattle.std.specs.List.{copy_within, All, AllWithin, HoldsAt, position, position_or_len}
 use Rattle.std.proofs.lemmas.Bool.{eqb-false, ne_eqb}
@@ -17,84 +17,7 @@ use Rattle.std.proofs.Math.Seq.{take-append-add}
 use borrow.Rule.Slice.PartMut.{put_mid}
 use Rattle.lapd_sim.specs.declared.lines.Lines.{Lines}
 use Rattle.lapd_sim.specs.Lines.{held, AreLeft}
-use Rattle.lapd_sim_machine.specs.Pieces.{pieces_of, with_octet, line_in}
-
--- No octet is a line feed.
-abbrev IsOpen : List ℕ → Type 0
-IsOpen octets = All (λ octet. octet ≢ 10) octets
-
-open_head : (octet : ℕ) (more : List ℕ) → IsOpen (octet ∷ more) → eqb octet 10 ≡ false
-open_head octet more h = ne_eqb octet 10 (h 0 0 (omega arith))
-
-open_tail : (octet : ℕ) (more : List ℕ) → IsOpen (octet ∷ more) → IsOpen more
-open_tail octet more h = λ k d within. h (suc k) d (omega arith)
-
--- the piece of a line feed's line,
-pub piece_ended : (front rest : List ℕ) → IsOpen front → pieces_of (front ++ 10 ∷ rest) ≡ (front ++ 10 ∷ []) ∷ pieces_of rest
-piece_ended [] rest h = refl
-piece_ended (octet ∷ front) rest h =
-    rw (open_head octet front h) (ap (with_octet octet) (piece_ended front rest (open_tail octet front h)))
-
-pub line_ended : (front rest : List ℕ) → IsOpen front → line_in (front ++ 10 ∷ rest) ≡ front
-line_ended [] rest h = refl
-line_ended (octet ∷ front) rest h =
-    rw (open_head octet front h) (ap (λ (more : List ℕ). octet ∷ more) (line_ended front rest (open_tail octet front h)))
-
--- and of one without
-pub piece_last : (front : List ℕ) → 0 < length front → IsOpen front → pieces_of front ≡ front ∷ []
-piece_last [] some h = absurd (omega arith)
-piece_last (octet ∷ []) some h = rw (open_head octet [] h) refl
-piece_last (octet ∷ next ∷ front) some h =
-    rw (open_head octet (next ∷ front) h) (ap (with_octet octet) (piece_last (next ∷ front) (omega arith) (open_tail octet (next ∷ front) h)))
-
-pub line_last : (front : List ℕ) → IsOpen front → line_in front ≡ front
-line_last [] h = refl
-line_last (octet ∷ front) h =
-    rw (open_head octet front h) (ap (λ (more : List ℕ). octet ∷ more) (line_last front (open_tail octet front h)))
-
--- A text has a first piece, whose line has this many octets at least.
-pub record HasPiece (text : List ℕ) (least : ℕ) : Type 0 where
-  pub piece : List ℕ
-  pub more : List ℕ
-  pub pieces : pieces_of text ≡ piece ∷ pieces_of more
-  pub long : least ≤ length (line_in piece)
-
-piece_single : (octet : ℕ) → octet ≢ 10 → HasPiece (octet ∷ []) 1
-piece_single octet h = record {
-  piece = octet ∷ [];
-  more = [];
-  pieces = rw (ne_eqb octet 10 h) refl;
-  long = rw (ne_eqb octet 10 h) (omega arith);
-}
-
-piece_more : (octet least : ℕ) (text : List ℕ) → octet ≢ 10 → HasPiece text least → HasPiece (octet ∷ text) (least + 1)
-piece_more octet least text h first = record {
-  piece = octet ∷ first.piece;
-  more = first.more;
-  pieces = rw (ne_eqb octet 10 h) (ap (with_octet octet) first.pieces);
-  long = rw (ne_eqb octet 10 h) (omega (arith, first.long));
-}
-
-piece_any : (octet : ℕ) (text : List ℕ) → HasPiece (octet ∷ text) 0
-piece_any octet [] = elim (eqb_tells octet 10) [
-  inl h ↦ record { piece = octet ∷ []; more = []; pieces = rw h.0 refl; long = omega arith }
-  | inr h ↦ record { piece = octet ∷ []; more = []; pieces = rw h.0 refl; long = omega arith } ]
-piece_any octet (next ∷ text) = elim (eqb_tells octet 10) [
-  inl h ↦ record { piece = octet ∷ []; more = next ∷ text; pieces = rw h.0 refl; long = omega arith }
-  | inr h ↦ let first = piece_any next text in
-      record { piece = octet ∷ first.piece; more = first.more; pieces = rw h.0 (ap (with_octet octet) first.pieces); long = omega arith } ]
-
-piece_one : (octet : ℕ) (text : List ℕ) → octet ≢ 10 → HasPiece (octet ∷ text) 1
-piece_one octet [] h = piece_single octet h
-piece_one octet (next ∷ text) h = piece_more octet 0 (next ∷ text) h (piece_any next text)
-
--- a text that begins with octets without a line feed
-pub piece_long : (front rest : List ℕ) → 0 < length front → IsOpen front → HasPiece (front ++ rest) (length front)
-piece_long [] rest some h = absurd (omega arith)
-piece_long (octet ∷ []) rest some h = piece_one octet rest (h 0 0 (omega arith))
-piece_long (octet ∷ next ∷ front) rest some h =
-    subst (λ (least : ℕ). HasPiece (octet ∷ next ∷ (front ++ rest)) least) (omega arith)
-    (piece_more octet (length (next ∷ front)) (next ∷ (front ++ rest)) (h 0 0 (omega arith)) (piece_long (next ∷ front) rest (omega arith) (open_tail octet (next ∷ front) h)))
+use Rattle.lapd_sim.proofs.Pieces.{IsOpen}
 
 -- Where the first line feed stands, by place in the whole buffer.
 abbrev pub is_line_feed : ℕ → Bool
@@ -120,7 +43,7 @@ pub no_line_feed : (low high : ℕ) (octets : List ℕ) → low ≤ high → hig
 no_line_feed low high octets after within none = λ place d from before.
     let past : length (part low high octets) ≤ position_or_len is_line_feed (part low high octets) = none_before _ (part low high octets) (sym none) in
     let fails : eqb (get_or (part low high octets) (place - low) d) 10 ≡ false =
-        fails_before_first is_line_feed (part low high octets) (place - low) d (omega (arith, length-part low high octets after within, past)) in
+    fails_before_first is_line_feed (part low high octets) (place - low) d (omega (arith, length-part low high octets after within, past)) in
     eqb-false (get_or octets place d) 10 (ap (λ (octet : ℕ). eqb octet 10) (sym (at_place low high place octets d from before)) ∙ fails)
 
 pub line_feed_at : (low high place : ℕ) (octets : List ℕ) → low ≤ high → high ≤ length octets → Some place ≡ position is_line_feed (part low high octets) → HoldsAt (λ octet. octet ≡ 10) octets (low + place)
@@ -128,7 +51,7 @@ line_feed_at low high place octets after within some = λ d.
     let first = position-Some is_line_feed (part low high octets) place d (sym some) in
     let short : place < high - low = omega (arith, first.0, length-part low high octets after within) in
     let same : get_or (part low high octets) place d ≡ get_or octets (low + place) d =
-        get_or-take (high - low) (drop low octets) place d short ∙ get_or-drop low octets place d in
+    get_or-take (high - low) (drop low octets) place d short ∙ get_or-drop low octets place d in
     is_ten (get_or octets (low + place) d) (ap (λ (octet : ℕ). eqb octet 10) (sym same) ∙ first.1)
 
 pub line_feed_first : (low high place : ℕ) (octets : List ℕ) → low ≤ high → high ≤ length octets → Some place ≡ position is_line_feed (part low high octets) → AllWithin (λ octet. octet ≢ 10) octets low (low + place)
@@ -161,7 +84,7 @@ filled_more moved octets whole read start filled count total after within is lon
     let free : length read ≡ length whole - (filled - start) = fits ∙ simp (length-take, length-drop) (omega arith) in
     let begun : length (take (filled - start) whole) ≡ filled - start = simp length-take (omega arith) in
     let kept : (with_items moved (put_mid (filled - start) (length whole - (filled - start)) whole read)).items ≡ put_mid (filled - start) (length whole - (filled - start)) whole read =
-        with_items_is moved (put_mid (filled - start) (length whole - (filled - start)) whole read) (length-put_mid (filled - start) whole read (omega arith) free ∙ long) in
+    with_items_is moved (put_mid (filled - start) (length whole - (filled - start)) whole read) (length-put_mid (filled - start) whole read (omega arith) free ∙ long) in
     let place : total ≡ length (take (filled - start) whole) + count = omega arith in
     ap (take total) kept
     ∙ ap (λ (n : ℕ). take n (put_mid (filled - start) (length whole - (filled - start)) whole read)) place
@@ -177,7 +100,7 @@ filled_held moved lines whole read count total begins same is long fits short co
     filled_more moved lines.buffer.items whole read lines.start lines.filled count total (omega arith) (omega (arith, lines.buffer.ok.0)) (same ∙ is) long fits short counts
     ∙ ap (λ (n : ℕ). drop n (take lines.filled lines.buffer.items) ++ take count read) (sym begins)
 
-length-held : (lines : Lines) → length (held lines) ≡ lines.filled - lines.next
+pub length-held : (lines : Lines) → length (held lines) ≡ lines.filled - lines.next
 length-held lines = simp (length-drop, length-take) (omega (arith, lines.buffer.ok.0))
 
 pub held_first : (lines : Lines) (octets got : List ℕ) → lines.next ≡ lines.start → octets ≡ held lines ++ got → take (lines.filled - lines.start) octets ≡ held lines
@@ -201,11 +124,11 @@ keeps_none (Some rest) None kept = absurd kept
 keeps_none (Some rest) (Some same) kept = sym kept
 
 -- no octet of a part is a line feed
-open_part : (octets : List ℕ) (low high : ℕ) → high ≤ length octets → AllWithin (λ octet. octet ≢ 10) octets low high → IsOpen (drop low (take high octets))
+pub open_part : (octets : List ℕ) (low high : ℕ) → high ≤ length octets → AllWithin (λ octet. octet ≢ 10) octets low high → IsOpen (drop low (take high octets))
 open_part octets low high within h = λ k d inside.
     let size : length (drop low (take high octets)) ≡ high - low = simp (length-drop, length-take) (omega arith) in
     let same : get_or (drop low (take high octets)) k d ≡ get_or octets (low + k) d =
-        get_or-drop low (take high octets) k d ∙ get_or-take high octets (low + k) d (omega (arith, inside, size)) in
+    get_or-drop low (take high octets) k d ∙ get_or-take high octets (low + k) d (omega (arith, inside, size)) in
     subst (λ (octet : ℕ). octet ≢ 10) (sym same) (h (low + k) d (omega arith) (omega (arith, inside, size)))
 
 within_front : (octets : List ℕ) (high : ℕ) → high ≤ length octets → IsOpen (take high octets) → AllWithin (λ octet. octet ≢ 10) octets 0 high
@@ -219,6 +142,6 @@ pub open_front : (old new : Lines) (begun : ℕ) → old.next ≡ old.start → 
 open_front old new begun begins front first within h kept =
     let here : IsOpen (held old) = subst (λ (n : ℕ). IsOpen (drop n (take old.filled old.buffer.items))) (sym begins) (open_part old.buffer.items old.start old.filled (omega (arith, old.buffer.ok.0)) h) in
     let same : held old ≡ take begun new.buffer.items =
-        sym kept ∙ ap (λ (n : ℕ). take begun (drop n (take new.filled new.buffer.items))) first ∙ take-take begun new.filled new.buffer.items within in
+    sym kept ∙ ap (λ (n : ℕ). take begun (drop n (take new.filled new.buffer.items))) first ∙ take-take begun new.filled new.buffer.items within in
     subst (λ (n : ℕ). AllWithin (λ octet. octet ≢ 10) new.buffer.items n begun) (sym front)
     (within_front new.buffer.items begun (omega (arith, new.buffer.ok.0)) (subst IsOpen same here))

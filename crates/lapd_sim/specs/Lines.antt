@@ -30,6 +30,7 @@ too_long_after lines = Script (lines.number + 1) TooLong
 
 -- The octets up to `end` are the current line, and those from `next` on the lines after it.
 pub record IsTaken (old new : Lines) (end next : ℕ) : Type 0 where
+  pub some : old.start < next
   pub line : current new ≡ drop old.start (take end old.buffer.items)
   pub after : held new ≡ drop next (take old.filled old.buffer.items)
   pub at_end : new.is_at_end ≡ old.is_at_end

@@ -3,6 +3,7 @@
 ghost use Rattle.std.specs.Prelude.{◌≡◌, ℕ, ◌+◌, ◌-◌, ◌^◌, ◌<◌, ◌≤◌, false, List, Some, length, drop, take, vec_len, IfOk, IfErr, IfSome, IfNone, OnOk, OnErr, IsTrue, ◌≢◌, ◌==◌};
 ghost use Rattle.std.specs.List.{AllWithin, HoldsAt, position};
 ghost use Rattle.lapd_sim.specs.Faults.{reads_failed, reads_failed_by, writes_failed};
+ghost use Rattle.lapd_sim.specs.declared.faults.PlayFault.TheVariants as play;
 
 use crate::faults::PlayFault;
 use lapd_script::FaultKind;
@@ -140,6 +141,7 @@ impl Lines {
             → AreLeft self.new (S.remaining source.new) text }
         ensures kept { IfOk result (λ begun. take begun (held self.new) ≡ held self.old) }
         ensures cut { OnErr result (held self.new ≡ held self.old) }
+        ensures fault { IfErr result (λ fault. fault ≡ play.Read) }
     {
         self.buffer.copy_within(self.start..self.filled, 0);
         let begun = self.filled - self.start;

@@ -1,7 +1,7 @@
 -- What is read into the buffer of the lines.
 use Rattle.std.proofs.Common.{◌≡◌, ◌≢◌, ℕ, ◌+◌, ◌-◌, ◌<◌, ◌≤◌, Bool, true, false, cond, eqb, ltb, List, [], ◌∷◌, ◌++◌, length, get_or, take, drop, Some, None, Option, zero, suc, inl, inr, refl, sym, ap, ◌∙◌, subst, append_assoc, arith}
 use Rattle.std.specs.List.{copy_within, All, AllWithin, HoldsAt, position, position_or_len}
-use Rattle.std.proofs.lemmas.Bool.{eqb-false, ne_eqb}
+use Rattle.std.proofs.lemmas.Bool.{cases_lt, eqb-false, ne_eqb}
 use Rattle.std.proofs.lemmas.Bool.Decides.{eqb_tells, nat_tests}
 use Rattle.std.proofs.lemmas.Grind.{common_steps}
 use Rattle.std.proofs.lemmas.List.{get_or-drop, get_or-take, length-append, length-drop, length-take, take-append-le, take_at, take-take}
@@ -145,3 +145,8 @@ open_front old new begun begins front first within h kept =
     sym kept ∙ ap (λ (n : ℕ). take begun (drop n (take new.filled new.buffer.items))) first ∙ take-take begun new.filled new.buffer.items within in
     subst (λ (n : ℕ). AllWithin (λ octet. octet ≢ 10) new.buffer.items n begun) (sym front)
     (within_front new.buffer.items begun (omega (arith, new.buffer.ok.0)) (subst IsOpen same here))
+
+pub within_joined : (octets : List ℕ) (low middle high : ℕ) → AllWithin (λ octet. octet ≢ 10) octets low middle → AllWithin (λ octet. octet ≢ 10) octets middle high
+    → AllWithin (λ octet. octet ≢ 10) octets low high
+within_joined octets low middle high before after = λ k d from to.
+    elim (cases_lt k middle) [ inl less ↦ before k d from less | inr more ↦ after k d more to ]

@@ -2,3 +2,9 @@ pub mod Left
 pub mod Pieces
 pub mod Reading
 pub mod Advancing
+mod Scenes
+mod Wholes
+mod Playing
+pub mod Exchanges
+pub mod Expiries
+pub mod Waits

@@ -30,7 +30,7 @@ returns-in-Err-clause-read g c = λ text left.
     let mid = c.loop-end.self in
     let known = c.loop-end.invariant in
     advances_cut c.args.self.now mid c.fill.new.self c.in-Err.fault (g.S.Source.remaining c.fill.new.source) text known.begins
-    (within_joined mid.buffer.items mid.start c.loop-end.unsought mid.filled known.open_is c.in_default.ensures.none) c.in-Err.ensures.cut (c.fill.ensures.left text (known.left text left)) c.in-Err.ensures.fault
+    (within_joined mid.buffer.items mid.start c.loop-end.unsought mid.filled known.open_is c.in_default.ensures.none) c.in-Err.ensures.cut (c.fill.ensures.left text (known.left text left)) c.in-Err.ensures.fault (known.goes_on c.if-self.false)
 
 pub loop-end-preserved : goal.loop-end-preserved
 loop-end-preserved g c =
@@ -42,6 +42,7 @@ loop-end-preserved g c =
       begins = omega arith;
       octets = omega arith;
       number = omega arith;
+      goes_on = λ _. known.goes_on c.if-self.false;
       steady = c.in-Ok.ensures.reads ∙ known.steady;
       open_is = open_front mid c.fill.new.self c.in-Ok.begun known.begins c.fill.ensures.front.0 c.fill.ensures.front.1 c.in-Ok.ensures.begun
           (within_joined mid.buffer.items mid.start c.loop-end.unsought mid.filled known.open_is c.in_default.ensures.none) c.in-Ok.ensures.kept;

@@ -1,4 +1,4 @@
-use Rattle.std.proofs.Common.{◌+◌, ◌-◌, ◌≡◌, ◌++◌, [], List, ℕ, arith, ap, refl, subst, sym, take, take_all, ◌∙◌}
+use Rattle.std.proofs.Common.{◌+◌, ◌-◌, [], arith, refl, sym, take, ◌∙◌}
 use Rattle.std.proofs.lemmas.Bool.{false≢true}
 use Rattle.std.proofs.lemmas.List.{append-nil}
 use Rattle.lapd_sim.specs.Lines.{held}

@@ -1,4 +1,7 @@
 pub mod Left
+pub mod Pieces
+pub mod Reading
+pub mod Advancing
 mod Scenes
 mod Eachs
 mod Wholes

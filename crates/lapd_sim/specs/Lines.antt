@@ -25,6 +25,25 @@ pub record AreLeft (lines : Lines) (remaining : Option (List ℕ)) (text : List 
   pub is : text ≡ held lines ++ rest
   pub ended : lines.is_at_end ≡ true → rest ≡ []
 
+-- The fault of a line after the current one, or of a script, that is too long.
+abbrev pub too_long_after : Lines → PlayFault
+too_long_after lines = Script (lines.number + 1) TooLong
+
+-- The octets up to `end` are the current line, and those from `next` on the lines after it.
+pub record IsTaken (old new : Lines) (end next : ℕ) : Type 0 where
+  pub some : old.start < next
+  pub line : current new ≡ drop old.start (take end old.buffer.items)
+  pub after : held new ≡ drop next (take old.filled old.buffer.items)
+  pub at_end : new.is_at_end ≡ old.is_at_end
+  pub number : new.number ≡ old.number + 1
+  pub octets : new.octets ≡ old.octets + (next - old.start)
+
+-- They are, or there are none, or the script is too long with them.
+abbrev pub Takes : Result Bool PlayFault → Lines → Lines → ℕ → ℕ → Type 0
+Takes (Ok true) old new end next = IsTaken old new end next
+Takes (Ok false) old new end next = next ≡ old.start
+Takes (Err fault) old new end next = (fault ≡ too_long_after old) × (2 ^ 63 < old.octets + (next - old.start))
+
 -- The next line: a piece of the text, which is not too long; the script isn't, up to and with it.
 pub record IsNext (old new : Lines) (remaining : Option (List ℕ)) (text : List ℕ) : Type 0 where
   pub piece : List ℕ

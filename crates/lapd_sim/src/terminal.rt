@@ -3,7 +3,8 @@
 ghost use Rattle.std.specs.Prelude.{◌≡◌, ℕ, ◌+◌, ◌<◌, ◌≤◌, ◌↔◌, List, [], ◌∷◌, ◌++◌, length, IsTrue, IfOk};
 ghost use Rattle.lapd_bits.specs.Framer as framing;
 ghost use Rattle.lapd_bits.specs.Framer.{with_idle};
-ghost use Rattle.lapd_bits.specs.Sent.{Item, frame};
+ghost use Rattle.lapd_bits.specs.Sent as sent;
+ghost use Rattle.lapd_bits.specs.Sent.{Item};
 
 use lapd_bits::Framer;
 use std::alloc::{AllocError, Global};
@@ -58,7 +59,7 @@ impl Terminal {
         requires short { 3 ≤ length frame.now }
         requires long { length frame.now ≤ 1028 }
         ensures { (items : List Item) (given : List ℕ) → framing.Stands self.old.framer items given
-            → framing.Stands self.new.framer (items ++ frame frame.now ∷ []) given }
+            → framing.Stands self.new.framer (items ++ sent.frame frame.now ∷ []) given }
     {
         let (head, information) = frame.split_at(frame.len().min(HEAD));
         self.framer.load(head, information);

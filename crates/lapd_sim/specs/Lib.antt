@@ -3,3 +3,4 @@ pub mod Lines
 pub mod Stands
 pub mod Obeyed
 pub mod Plays
+pub mod Gives

@@ -1,3 +1,6 @@
 pub mod Left
 pub mod OneByOne
 pub mod Terminals
+pub mod Exchanges
+pub mod Expiries
+pub mod Waits

@@ -1,5 +1,6 @@
 -- How far the lines of a script have been read.
-use Rattle.std.specs.Prelude.{◌≡◌, ◌≢◌, ℕ, ◌+◌, ◌-◌, ◌^◌, ◌<◌, ◌≤◌, true, false, if◌then◌else◌, List, [], ◌∷◌, ◌++◌, length, take, drop, All, Option, Some, Result, Ok, Err, Bool}
+use Rattle.std.specs.Prelude.{◌≡◌, ◌≢◌, ℕ, ◌+◌, ◌-◌, ◌^◌, ◌<◌, ◌≤◌, true, false, ◌==◌, if◌then◌else◌, List, [], ◌∷◌, ◌++◌, length, take, drop, All, Option, Some, Result, Ok, Err, Bool}
+use Rattle.std.specs.List.{list_any}
 use Rattle.lapd_script.specs.declared.kind.FaultKind.TheVariants.{TooLong}
 use Rattle.lapd_sim_machine.specs.Pieces.{pieces_of, line_in}
 use Rattle.lapd_sim.specs.declared.faults.PlayFault.{PlayFault}
@@ -34,6 +35,7 @@ pub record IsNext (old new : Lines) (remaining : Option (List ℕ)) (text : List
   pub short : length (line_in piece) ≤ 4096
   pub number : new.number ≡ old.number + 1
   pub octets : new.octets ≡ old.octets + length piece
+  pub whole : new.is_at_end ≡ false → list_any (λ octet. octet == 10) piece ≡ true
 
 -- It is too long, or the script is.
 pub record IsTooLong (lines : Lines) (told : ℕ) (text : List ℕ) : Type 0 where
@@ -44,17 +46,18 @@ pub record IsTooLong (lines : Lines) (told : ℕ) (text : List ℕ) : Type 0 whe
   pub number : told ≡ lines.number + 1
 
 -- A read failed before it had come: what was read of it has no line feed (octet 10).
-pub record IsCut (remaining : Option (List ℕ)) (text : List ℕ) : Type 0 where
+pub record IsCut (lines : Lines) (remaining : Option (List ℕ)) (text : List ℕ) : Type 0 where
   pub begun : List ℕ
   pub rest : List ℕ
   pub is : text ≡ begun ++ rest
   pub tells : remaining ≡ Some rest
   pub open_is : All (λ octet. octet ≢ 10) begun
+  pub goes_on : lines.is_at_end ≡ false
 
 abbrev pub Advances : Result Bool PlayFault → Lines → Lines → Option (List ℕ) → List ℕ → Type 0
 Advances (Ok true) old new remaining text = IsNext old new remaining text
 Advances (Ok false) old new remaining text = (text ≡ []) × (remaining ≡ Some [])
-Advances (Err Read) old new remaining text = IsCut remaining text
+Advances (Err Read) old new remaining text = IsCut old remaining text
 Advances (Err (Script number kind)) old new remaining text = (kind ≡ TooLong) × IsTooLong old number text
 Advances (Err Write) old new remaining text = ⊥
 Advances (Err OutOfMemory) old new remaining text = ⊥

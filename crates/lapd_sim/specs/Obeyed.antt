@@ -22,13 +22,16 @@ abbrev pub Tells : {E : Type 0} → Result Unit E → Taken → Taken → (Bench
 Tells (Ok _) old new stands s = IsWritten old new s.text × stands s.bench
 Tells (Err _) old new stands s = IsBroken old new s.text
 
+abbrev pub Breaks : Taken → Taken → Result Scene FaultKind → Type 0
+Breaks old new (Ok s) = IsBroken old new s.text
+Breaks old new (Err kind) = ⊥
+
 -- A line that needs the card can be faulty too: then nothing has been written. Memory is never refused.
 abbrev pub Obeys : Result Unit LineFault → Taken → Taken → (Bench → Type 0) → Result Scene FaultKind → Type 0
 Obeys (Ok _) old new stands (Ok s) = IsWritten old new s.text × stands s.bench
 Obeys (Ok _) old new stands (Err kind) = ⊥
 Obeys (Err (Faulty kind)) old new stands said = (new ≡ old) × (said ≡ Err kind)
-Obeys (Err Write) old new stands (Ok s) = IsBroken old new s.text
-Obeys (Err Write) old new stands (Err kind) = ⊥
+Obeys (Err Write) old new stands said = Breaks old new said
 Obeys (Err OutOfMemory) old new stands said = ⊥
 
 -- What is begun at a card line: for want of memory alone it may not begin where the configuration is in range.

@@ -32,7 +32,7 @@ pub record IsBeforeCard (text : List ℕ) (old new : Taken) : Type 0 where
   pub lines : ℕ
   pub no_card : (played (take lines (pieces_of text))).bench ≡ None
   pub sound : (played (take lines (pieces_of text))).fault ≡ None
-  pub unwritten : new ≡ old
+  pub unwritten : IsWritten old new []
 
 abbrev pub Plays : Result Unit PlayFault → List ℕ → Option (List ℕ) → Taken → Taken → Type 0
 Plays (Ok _) text remaining old new = (first_fault text ≡ None) × IsWritten old new (transcript text) × (remaining ≡ Some [])

@@ -37,12 +37,16 @@ pub fn play<S: Source, T: Target>(
 {
     let mut lines = Lines::start(alloc)?;
     let mut player = Player::start(alloc)?;
-    while lines.advance(source)? {
+    loop {
+        match lines.advance(source) {
+            Ok(true) => {}
+            Ok(false) => return Ok(()),
+            Err(fault) => return Err(fault),
+        }
         if let Err(fault) = player.obey(lines.line(), target) {
             return Err(fault.at(lines.number()));
         }
     }
-    Ok(())
 }
 
 /// What obeys the lines of a script.

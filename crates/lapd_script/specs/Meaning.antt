@@ -1,5 +1,5 @@
 -- What a line of a script says.
-use Rattle.std.specs.Prelude.{ℕ, List, take, Result, Ok, Err}
+use Rattle.std.specs.Prelude.{ℕ, ◌≤◌, List, take, Result, Ok, Err}
 use Rattle.lapd_script.specs.declared.kind.FaultKind.{FaultKind}
 use Rattle.lapd_script.specs.declared.command.Asked.{Asked}
 use Rattle.lapd_script.specs.declared.command.CardNumbers.{CardNumbers}
@@ -38,3 +38,15 @@ meant buffer (Ask line tei what count) = ask line tei what (take count buffer)
 abbrev pub meant_by : List ℕ → Result Command FaultKind → Result Meaning FaultKind
 meant_by buffer (Ok command) = Ok (meant buffer command)
 meant_by buffer (Err kind) = Err kind
+
+-- How many octets a command counts is no more than the buffer has; and as many octets are pulled and milliseconds pass in
+-- one line as a script may say.
+abbrev pub IsCounted : ℕ → Command → Type 0
+IsCounted room Skip = Unit {0}
+IsCounted room (Card numbers) = Unit {0}
+IsCounted room (Rx line count) = count ≤ room
+IsCounted room (In line count) = count ≤ room
+IsCounted room (Pull line count) = count ≤ 4096
+IsCounted room (Wait milliseconds) = milliseconds ≤ 3600000
+IsCounted room Stored = Unit {0}
+IsCounted room (Ask line tei what count) = count ≤ room

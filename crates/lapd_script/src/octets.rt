@@ -1,6 +1,6 @@
 //! Words that stand for octets.
 
-ghost use Rattle.std.specs.Prelude.{◌≡◌, ◌*◌, ◌≤◌, length, take, MatchResult};
+ghost use Rattle.std.specs.Prelude.{◌≡◌, ◌*◌, ◌≤◌, length, take, IfOk, MatchResult};
 ghost use Rattle.lapd_script.specs.Octets.{octets};
 
 use crate::kind::FaultKind;
@@ -9,7 +9,8 @@ use crate::kind::FaultKind;
 /// `-` stands for no octets, as a word without digits does.
 pub(crate) fn octets(word: &[u8], room: &mut [u8]) -> Result<usize, FaultKind>
     requires { length word.now ≤ 2 * length room.old }
-    ensures { MatchResult result (λ count. octets word.now ≡ Ok (take count room.new)) (λ kind. octets word.now ≡ Err kind) }
+    ensures octets { MatchResult result (λ count. octets word.now ≡ Ok (take count room.new)) (λ kind. octets word.now ≡ Err kind) }
+    ensures counted { IfOk result (λ count. count ≤ length room.new) }
 {
     if word == b"-".as_slice() {
         return Ok(0);

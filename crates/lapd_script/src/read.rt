@@ -1,8 +1,8 @@
 //! Reads a line of a script.
 
-ghost use Rattle.std.specs.Prelude.{◌≡◌, ◌*◌, ◌≤◌, ℕ, List, take, length, All};
+ghost use Rattle.std.specs.Prelude.{◌≡◌, ◌*◌, ◌≤◌, ℕ, List, take, length, All, IfOk};
 ghost use Rattle.lapd_script.specs.Words.{texts};
-ghost use Rattle.lapd_script.specs.Meaning.{meant_by};
+ghost use Rattle.lapd_script.specs.Meaning.{meant_by, IsCounted};
 ghost use Rattle.lapd_script.specs.Read.{read, read_words, read_as, card_numbers, nine_numbers, three_numbers};
 ghost use Rattle.lapd_script.specs.declared.word.Word.TheVariants.{Ask};
 
@@ -25,6 +25,7 @@ use crate::words::{none, one, three, two, words_of};
 pub fn read_line(line: &[u8], room: &mut [u8]) -> Result<Command, FaultKind>
     requires room { length line.now ≤ 2 * length room.old }
     ensures read { meant_by room.new result ≡ read line.now }
+    ensures counted { IfOk result (IsCounted (length room.new)) }
 {
     if line.is_empty() || line[0] == b'#' {
         return Ok(Command::Skip);
@@ -37,6 +38,7 @@ pub fn read_line(line: &[u8], room: &mut [u8]) -> Result<Command, FaultKind>
 fn read_words(words: &[&[u8]], room: &mut [u8]) -> Result<Command, FaultKind>
     requires room { All (λ word. length word.now ≤ 2 * length room.old) words.now }
     ensures read { (all : List (List ℕ)) → texts words.now ≡ take 12 all → meant_by room.new result ≡ read_words all }
+    ensures counted { IfOk result (IsCounted (length room.new)) }
 {
     let Some((name, words)) = words.split_first() else {
         return Err(FaultKind::UnknownWord);
@@ -50,6 +52,7 @@ fn read_words(words: &[&[u8]], room: &mut [u8]) -> Result<Command, FaultKind>
 fn read_as(word: Word, words: &[&[u8]], room: &mut [u8]) -> Result<Command, FaultKind>
     requires room { All (λ word. length word.now ≤ 2 * length room.old) words.now }
     ensures read { meant_by room.new result ≡ read_as word (texts words.now) }
+    ensures counted { IfOk result (IsCounted (length room.new)) }
 {
     match word {
         Word::Card => Ok(Command::Card(card_numbers(words)?)),
@@ -87,6 +90,7 @@ fn read_as(word: Word, words: &[&[u8]], room: &mut [u8]) -> Result<Command, Faul
 fn ask(what: Asked, words: &[&[u8]], room: &mut [u8]) -> Result<Command, FaultKind>
     requires room { All (λ word. length word.now ≤ 2 * length room.old) words.now }
     ensures read { meant_by room.new result ≡ read_as (Ask what) (texts words.now) }
+    ensures counted { IfOk result (IsCounted (length room.new)) }
 {
     if what.carries_octets() {
         let (line, tei, digits) = three(words)?;

@@ -21,6 +21,12 @@ writes_failed Write count = one_failure_more count
 writes_failed (Script _ _) count = count
 writes_failed OutOfMemory count = count
 
+-- the fault of a script whose line of this number was stopped
+abbrev pub fault_at : LineFault → ℕ → PlayFault
+fault_at (line.Faulty kind) number = Script number kind
+fault_at line.Write number = Write
+fault_at line.OutOfMemory number = OutOfMemory
+
 -- a target's count after what stopped a line, from the count before
 abbrev pub line_writes_failed : LineFault → ℕ → ℕ
 line_writes_failed (line.Faulty _) count = count

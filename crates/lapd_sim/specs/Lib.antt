@@ -1,2 +1,7 @@
 pub mod Faults
 pub mod Lines
+pub mod Past
+pub mod Stands
+pub mod Obeyed
+pub mod Plays
+pub mod Gives

@@ -1,10 +1,16 @@
 //! The card that a script is played on, with the clock of its lines.
 
-ghost use Rattle.std.specs.Prelude.{◌≡◌, ◌<◌, ◌≤◌, ◌^◌, ℕ, None, IfErr, IfOk, IfSome};
+ghost use Rattle.std.specs.Prelude.{◌≡◌, ◌<◌, ◌≤◌, ◌^◌, ℕ, fold, IfOk, IfSome, IfNone};
 ghost use Rattle.lapd_card.specs.Card.{line_count};
-ghost use Rattle.lapd_clock.specs.Timers.{Timers};
+ghost use Rattle.lapd_card_machine.specs.Event.{at};
+ghost use Rattle.lapd_card_machine.specs.Machine.{answer};
+ghost use Rattle.lapd_clock.specs.Timers as clocks;
+ghost use Rattle.lapd_line_machine.specs.Answer as happening;
+ghost use Rattle.lapd_line_machine.specs.Request.{request_of};
 ghost use Rattle.lapd_line_machine.specs.Sound.{IsInRange};
-ghost use Rattle.lapd_sim.specs.Faults.{line_writes_failed, line_writes_failed_by};
+ghost use Rattle.lapd_sim.specs.Past.{HasPast};
+ghost use Rattle.lapd_sim_machine.specs.Bench as machine;
+ghost use Rattle.lapd_sim_machine.specs.Steps.{with_event, octet_in, at_expiry, until, in_time, after_stored};
 
 use crate::faults::LineFault;
 use lapd_card::{Card, CardFault, Config, Request, limit};
@@ -12,15 +18,11 @@ use lapd_clock::Clock;
 use lapd_frame::{Order, Timer};
 use lapd_script::FaultKind;
 use lapd_store::RawShelf;
-use lapd_transcript::{Target, write_refused, write_report, write_stored};
+use lapd_transcript::{Target, WriteFailed, write_refused, write_report, write_stored};
 use std::alloc::Global;
 
 /// The last moment of the clock, in milliseconds.
 const LAST_MOMENT: u64 = (1 << 63) - 1;
-
-/// At most so many timers expire in one wait, which is of 3,600,000 ms at most: a timer runs 1,000 ms or more, and 64 lines
-/// have 33 places for timers each.
-const MOST_EXPIRIES: u32 = 3_601 * 64 * 33;
 
 /// A card, the clock of its lines, and the moment on it in milliseconds.
 #[derive(Drop)]
@@ -31,14 +33,18 @@ pub(crate) struct Exchange {
     moment: u64,
     ghost in_range: { IsInRange config },
     ghost same_lines: { line_count card ≡ config.lines },
+    ghost past: { ∥ HasPast config card ∥₁ },
     ghost clock_lines: { clock.lines ≡ config.lines },
     ghost in_time: { moment < 2 ^ 63 },
 }
 
 impl Exchange {
+    ghost use Rattle.lapd_sim.specs.Obeyed.{scene, Tells, Obeys, Begins};
+    ghost use Rattle.lapd_sim.specs.Stands.{Holds};
+
     pub(crate) fn start(alloc: Global, config: Config) -> Result<Exchange, LineFault>
         ensures config { IfOk result (λ exchange. exchange.config ≡ config) }
-        ensures no_write { IfErr result (λ fault. (count : ℕ) → line_writes_failed fault count ≡ count) }
+        ensures begun { Begins result config Holds }
     {
         if config.fault().is_some() {
             return Err(LineFault::Faulty(FaultKind::BadCard));
@@ -76,10 +82,11 @@ impl Exchange {
         line: usize,
         octet: u8,
         target: &mut T,
-    ) -> Result<(), LineFault>
+    ) -> Result<(), WriteFailed>
         requires { line < self.old.config.lines }
         ensures config { self.new.config ≡ self.old.config }
-        ensures writes { (T.taken target.new).failures ≡ line_writes_failed_by result (T.taken target.old).failures }
+        ensures told { (m : machine.Bench) → Holds self.old m
+            → Tells result (T.taken target.old) (T.taken target.new) (Holds self.new) (with_event (scene m) (at line (happening.octet octet))) }
     {
         let report = self.card.octet(line, octet);
         order(&mut self.clock, line, report.orders(), self.moment);
@@ -90,14 +97,15 @@ impl Exchange {
             report.delivered,
             report.cause,
             report.lost,
-        )?;
-        Ok(())
+        )
     }
 
     /// A line takes an octet.
     pub(crate) fn pull(&mut self, line: usize) -> u8
         requires { line < self.old.config.lines }
         ensures config { self.new.config ≡ self.old.config }
+        ensures pulled { (m : machine.Bench) → Holds self.old m → result ≡ octet_in (answer (at line happening.pull) m.card) }
+        ensures after { (m : machine.Bench) → Holds self.old m → Holds self.new (machine.happened m (at line happening.pull)) }
     {
         let pulled = self.card.pull(line);
         order(&mut self.clock, line, pulled.orders(), self.moment);
@@ -110,10 +118,12 @@ impl Exchange {
         line: usize,
         request: Request<'_>,
         target: &mut T,
-    ) -> Result<(), LineFault>
+    ) -> Result<(), WriteFailed>
         requires { line < self.old.config.lines }
         ensures config { self.new.config ≡ self.old.config }
-        ensures writes { (T.taken target.new).failures ≡ line_writes_failed_by result (T.taken target.old).failures }
+        ensures told { (m : machine.Bench) → Holds self.old m
+            → Tells result (T.taken target.old) (T.taken target.new) (Holds self.new)
+            (with_event (scene m) (at line (happening.request (request_of request.entry)))) }
     {
         match self.card.request(line, request) {
             Ok(report) => {
@@ -125,11 +135,10 @@ impl Exchange {
                     report.delivered,
                     report.cause,
                     report.lost,
-                )?;
+                )
             }
-            Err(refusal) => write_refused(target, line as u16, refusal)?,
+            Err(refusal) => write_refused(target, line as u16, refusal),
         }
-        Ok(())
     }
 
     /// So many milliseconds pass: what falls due is applied, each at its moment.
@@ -139,17 +148,30 @@ impl Exchange {
         target: &mut T,
     ) -> Result<(), LineFault>
         ensures config { self.new.config ≡ self.old.config }
-        ensures writes { (T.taken target.new).failures ≡ line_writes_failed_by result (T.taken target.old).failures }
+        ensures told { (m : machine.Bench) → Holds self.old m
+            → Obeys result (T.taken target.old) (T.taken target.new) (Holds self.new) (in_time milliseconds (scene m)) }
     {
         let end = self.moment + u64::from(milliseconds);
         if end > LAST_MOMENT {
             return Err(LineFault::Faulty(FaultKind::TimeOver));
         }
-        for _ in 0..MOST_EXPIRIES {
-            let Some((line, timer)) = self.due(end) else {
-                break;
-            };
-            self.expire(line, timer, target)?;
+        match self.until(end, target) {
+            Ok(()) => Ok(()),
+            Err(WriteFailed) => Err(LineFault::Write),
+        }
+    }
+
+    /// All that falls due until a moment is applied, each at its moment.
+    fn until<T: Target>(&mut self, end: u64, target: &mut T) -> Result<(), WriteFailed>
+        requires { end < 2 ^ 63 }
+        ensures config { self.new.config ≡ self.old.config }
+        ensures told { (m : machine.Bench) → Holds self.old m
+            → Tells result (T.taken target.old) (T.taken target.new) (Holds self.new) (until end (scene m)) }
+    {
+        while let Some((line, timer)) = self.due(end) {
+            if let Err(WriteFailed) = self.expire(line, timer, target) {
+                return Err(WriteFailed);
+            }
         }
         self.moment = end;
         Ok(())
@@ -160,6 +182,9 @@ impl Exchange {
         requires { end < 2 ^ 63 }
         ensures config { self.new.config ≡ self.old.config }
         ensures line { IfSome result (λ due. due.0 < self.old.config.lines) }
+        ensures due { result ≡ clocks.due_at self.old.clock end }
+        ensures after { IfSome result (λ due. (m : machine.Bench) → Holds self.old m → Holds self.new (at_expiry end m)) }
+        ensures unchanged { IfNone result (self.new ≡ self.old) }
     {
         let moment = self.clock.next()?;
         if moment > end {
@@ -174,10 +199,11 @@ impl Exchange {
         line: usize,
         timer: Timer,
         target: &mut T,
-    ) -> Result<(), LineFault>
+    ) -> Result<(), WriteFailed>
         requires { line < self.old.config.lines }
         ensures config { self.new.config ≡ self.old.config }
-        ensures writes { (T.taken target.new).failures ≡ line_writes_failed_by result (T.taken target.old).failures }
+        ensures told { (m : machine.Bench) → Holds self.old m
+            → Tells result (T.taken target.old) (T.taken target.new) (Holds self.new) (with_event (scene m) (at line (happening.expiry timer))) }
     {
         let report = self.card.expire(line, timer);
         order(&mut self.clock, line, report.orders(), self.moment);
@@ -188,16 +214,15 @@ impl Exchange {
             report.delivered,
             report.cause,
             report.lost,
-        )?;
-        Ok(())
+        )
     }
 
     /// Shows how many octets the card holds, and the bound of it.
-    pub(crate) fn show_stored<T: Target>(&self, target: &mut T) -> Result<(), LineFault>
-        ensures { (T.taken target.new).failures ≡ line_writes_failed_by result (T.taken target.old).failures }
+    pub(crate) fn show_stored<T: Target>(&self, target: &mut T) -> Result<(), WriteFailed>
+        ensures { (m : machine.Bench) → Holds self.now m
+            → Tells result (T.taken target.old) (T.taken target.new) (Holds self.now) (after_stored (scene m)) }
     {
-        write_stored(target, self.card.stored(), limit(&self.config))?;
-        Ok(())
+        write_stored(target, self.card.stored(), limit(&self.config))
     }
 }
 
@@ -205,7 +230,8 @@ impl Exchange {
 fn order(clock: &mut Clock, line: usize, orders: &[Order], now: u64)
     requires line { line < clock.old.lines }
     requires now { now < 2 ^ 63 }
-    ensures { clock.new.lines ≡ clock.old.lines }
+    ensures lines { clock.new.lines ≡ clock.old.lines }
+    ensures ordered { clock.new ≡ fold (machine.ordered line now) clock.old orders.now }
 {
     for order in orders {
         clock.apply(line, *order, now);

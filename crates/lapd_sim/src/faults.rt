@@ -1,7 +1,7 @@
 //! Why a script is not played to its end.
 
 ghost use Rattle.std.specs.Prelude.{◌≡◌, ℕ};
-ghost use Rattle.lapd_sim.specs.Faults.{line_writes_failed, reads_failed, writes_failed};
+ghost use Rattle.lapd_sim.specs.Faults.{fault_at, line_writes_failed, reads_failed, writes_failed};
 ghost use Rattle.lapd_sim.specs.declared.faults.LineFault.TheVariants as line;
 ghost use Rattle.lapd_sim.specs.declared.faults.PlayFault.TheVariants as play;
 
@@ -49,6 +49,7 @@ pub(crate) enum LineFault {
 impl LineFault {
     /// The fault of the script whose line of this number was stopped.
     pub(crate) fn at(self, line: u64) -> PlayFault
+        ensures fault { result ≡ fault_at self line }
         ensures reads { (count : ℕ) → reads_failed result count ≡ count }
         ensures writes { (count : ℕ) → writes_failed result count ≡ line_writes_failed self count }
     {

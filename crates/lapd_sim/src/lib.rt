@@ -4,8 +4,9 @@
 //! - `lines`: how the lines of a script are read, in pieces.
 //! - `exchange`: the card that a script is played on, and its clock.
 //! - `terminal`: the sender of a terminal.
-//! - `bench`: the card with the terminals and listeners of its lines.
-//! - `player`: plays a script.
+//! - `bench`: the card with the terminals and listeners of its lines; `parts`, what it begins with; `traffic`, what comes
+//!   from a line and what a line takes.
+//! - `player`: plays a script; `memory`, one that lies in memory.
 //! - `faults`: why a script is not played to its end.
 //! - `shown`: shows one frame.
 //! - `program`: the program's words, fault lines and exit status.
@@ -15,13 +16,17 @@ mod bench;
 mod exchange;
 mod faults;
 mod lines;
+mod memory;
+mod parts;
 mod player;
 mod program;
 mod shown;
 mod terminal;
+mod traffic;
 
 pub use faults::PlayFault;
-pub use lapd_script::FaultKind;
+pub use lapd_script::{FaultKind, Job, job};
 pub use lapd_transcript::{ReadFailed, ReadFrom, Source, Target, WriteFailed, WriteTo};
+pub use memory::play_octets;
 pub use player::play;
 pub use program::{refuse, serve};

@@ -1,7 +1,9 @@
 //! How the lines of a script are read: in pieces, into a buffer of fixed size.
 
-ghost use Rattle.std.specs.Prelude.{◌≡◌, ℕ, ◌+◌, ◌-◌, ◌^◌, ◌<◌, ◌≤◌, false, length, vec_len, IfOk, IfErr, IfSome, OnOk, IsTrue};
+ghost use Rattle.std.specs.Prelude.{◌≡◌, ℕ, ◌+◌, ◌-◌, ◌^◌, ◌<◌, ◌≤◌, false, List, Some, length, drop, take, vec_len, IfOk, IfErr, IfSome, IfNone, OnOk, OnErr, IsTrue, ◌≢◌, ◌==◌};
+ghost use Rattle.std.specs.List.{AllWithin, HoldsAt, position};
 ghost use Rattle.lapd_sim.specs.Faults.{reads_failed, reads_failed_by, writes_failed};
+ghost use Rattle.lapd_sim.specs.declared.faults.PlayFault.TheVariants as play;
 
 use crate::faults::PlayFault;
 use lapd_script::FaultKind;
@@ -45,10 +47,14 @@ pub(crate) struct Lines {
 }
 
 impl Lines {
-    ghost use Rattle.lapd_sim.specs.Lines.{left_to_read};
+    ghost use Rattle.lapd_sim.specs.Lines.{left_to_read, current, held, too_long_after, AreLeft, Advances, Takes};
 
     /// No line yet.
-    pub(crate) fn start(alloc: Global) -> Result<Lines, AllocError> {
+    pub(crate) fn start(alloc: Global) -> Result<Lines, AllocError>
+        ensures left { IfOk result (λ lines. (text : List ℕ) → AreLeft lines (Some text) text) }
+        ensures number { IfOk result (λ lines. lines.number ≡ 0) }
+        ensures octets { IfOk result (λ lines. lines.octets ≡ 0) }
+    {
         Ok(Lines {
             buffer: vec![in alloc; 0; ROOM]?,
             start: 0,
@@ -66,6 +72,8 @@ impl Lines {
         ensures reads { S.failures source.new ≡ reads_failed_by result (S.failures source.old) }
         ensures no_write { IfErr result (λ fault. (count : ℕ) → writes_failed fault count ≡ count) }
         ensures goes_on { IfOk result (λ more. IsTrue more → self.old.octets < self.new.octets) }
+        ensures read { (text : List ℕ) → AreLeft self.old (S.remaining source.old) text
+            → Advances result self.old self.new (S.remaining source.new) text }
     {
         self.start = self.next;
         self.end = self.next;
@@ -80,19 +88,25 @@ impl Lines {
             if self.is_at_end {
                 return self.take(self.filled, self.filled);
             }
-            unsought = self.fill(source)?;
+            unsought = match self.fill(source) {
+                Ok(begun) => begun,
+                Err(fault) => return Err(fault),
+            };
         }
     }
 
     /// The current line.
     pub(crate) fn line(&self) -> &[u8]
-        ensures { length result.now ≤ 4096 }
+        ensures short { length result.now ≤ 4096 }
+        ensures current { result.now ≡ current self.now }
     {
         &self.buffer[self.start..self.end]
     }
 
     /// The number of the current line, from 1.
-    pub(crate) fn number(&self) -> u64 {
+    pub(crate) fn number(&self) -> u64
+        ensures { result ≡ self.now.number }
+    {
         self.number
     }
 
@@ -101,22 +115,33 @@ impl Lines {
         requires { unsought ≤ self.now.filled }
         ensures from { IfSome result (λ place. unsought ≤ place) }
         ensures within { IfSome result (λ place. place < self.now.filled) }
+        ensures found { IfSome result (λ place. HoldsAt (λ octet. octet ≡ 10) self.now.buffer.items place) }
+        ensures first { IfSome result (λ place. AllWithin (λ octet. octet ≢ 10) self.now.buffer.items unsought place) }
+        ensures none { IfNone result (AllWithin (λ octet. octet ≢ 10) self.now.buffer.items unsought self.now.filled) }
     {
-        let unsought_octets = &self.buffer[unsought..self.filled];
-        let place = unsought_octets.iter().position(|octet| *octet == b'\n')?;
-        Some(unsought + place)
+        match first_line_feed(&self.buffer[unsought..self.filled]) {
+            None => None,
+            Some(place) => Some(unsought + place),
+        }
     }
 
     /// Reads more behind the line that has begun, which moves to the front, and tells where it put it.
     fn fill<S: Source>(&mut self, source: &mut S) -> Result<usize, PlayFault>
         requires room { self.old.filled < self.old.start + 4097 }
         requires open { self.old.is_at_end ≡ false }
+        requires begins { self.old.next ≡ self.old.start }
         ensures reads { S.failures source.new ≡ reads_failed_by result (S.failures source.old) }
         ensures no_write { IfErr result (λ fault. (count : ℕ) → writes_failed fault count ≡ count) }
         ensures front { (self.new.start ≡ 0) × (self.new.next ≡ 0) }
         ensures begun { IfOk result (λ begun. begun ≤ self.new.filled) }
         ensures nearer { OnOk result (left_to_read self.new < left_to_read self.old) }
         ensures octets { self.new.octets ≡ self.old.octets }
+        ensures number { self.new.number ≡ self.old.number }
+        ensures left { (text : List ℕ) → AreLeft self.old (S.remaining source.old) text
+            → AreLeft self.new (S.remaining source.new) text }
+        ensures kept { IfOk result (λ begun. take begun (held self.new) ≡ held self.old) }
+        ensures cut { OnErr result (held self.new ≡ held self.old) }
+        ensures fault { IfErr result (λ fault. fault ≡ play.Read) }
     {
         self.buffer.copy_within(self.start..self.filled, 0);
         let begun = self.filled - self.start;
@@ -141,6 +166,7 @@ impl Lines {
         requires short { end ≤ self.old.start + 4096 }
         ensures too_long { IfErr result (λ fault. (count : ℕ) → (reads_failed fault count ≡ count) × (writes_failed fault count ≡ count)) }
         ensures goes_on { IfOk result (λ more. IsTrue more → self.old.octets < self.new.octets) }
+        ensures taken { Takes result self.old self.new end next }
     {
         let octets = (next - self.start) as u64;
         if octets == 0 {
@@ -160,10 +186,18 @@ impl Lines {
     fn too_long(&self) -> PlayFault
         ensures reads { (count : ℕ) → reads_failed result count ≡ count }
         ensures writes { (count : ℕ) → writes_failed result count ≡ count }
+        ensures fault { result ≡ too_long_after self.now }
     {
         PlayFault::Script {
             line: self.number + 1,
             kind: FaultKind::TooLong,
         }
     }
+}
+
+/// Where the first line feed stands.
+fn first_line_feed(octets: &[u8]) -> Option<usize>
+    ensures { result ≡ position (λ octet. octet == 10) octets.now }
+{
+    octets.iter().position(|octet| *octet == b'\n')
 }

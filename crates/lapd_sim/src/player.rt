@@ -1,12 +1,18 @@
 //! Plays a script on a card.
 
-ghost use Rattle.std.specs.Prelude.{◌≡◌, ◌≤◌, ℕ, length, vec_len, IfErr, IfOk};
-ghost use Rattle.lapd_sim.specs.Faults.{line_writes_failed, line_writes_failed_by, reads_failed_by, writes_failed_by};
+ghost use Rattle.std.specs.Prelude.{◌≡◌, ◌≤◌, ℕ, List, Some, None, Option, Ok, length, take, vec_len, IfErr, IfOk};
+ghost use Rattle.lapd_script.specs.Meaning.{meant, IsCounted};
+ghost use Rattle.lapd_sim_machine.specs.Bench as machine;
+ghost use Rattle.lapd_sim_machine.specs.Steps.{with_card, without_card};
+ghost use Rattle.lapd_sim.specs.Faults.{reads_failed_by, writes_failed_by};
+ghost use Rattle.lapd_sim.specs.Obeyed.{Does, Obeys, StartsBy, said, scene};
+ghost use Rattle.lapd_sim.specs.Plays.{Plays};
+ghost use Rattle.lapd_sim.specs.Stands.{Has, Stands};
 
 use crate::bench::Bench;
 use crate::faults::{LineFault, PlayFault};
 use crate::lines::Lines;
-use lapd_script::{CardNumbers, Command, FaultKind, read_line};
+use lapd_script::{Command, FaultKind, read_line};
 use lapd_transcript::{Source, Target};
 use std::alloc::{AllocError, Global};
 
@@ -25,15 +31,22 @@ pub fn play<S: Source, T: Target>(
 ) -> Result<(), PlayFault>
     ensures reads { S.failures source.new ≡ reads_failed_by result (S.failures source.old) }
     ensures writes { (T.taken target.new).failures ≡ writes_failed_by result (T.taken target.old).failures }
+    // Where the source tells what it will still give, that is the script, and this has been written.
+    ensures played { (text : List ℕ) → S.remaining source.old ≡ Some text
+        → Plays result text (S.remaining source.new) (T.taken target.old) (T.taken target.new) }
 {
     let mut lines = Lines::start(alloc)?;
     let mut player = Player::start(alloc)?;
-    while lines.advance(source)? {
+    loop {
+        match lines.advance(source) {
+            Ok(true) => {}
+            Ok(false) => return Ok(()),
+            Err(fault) => return Err(fault),
+        }
         if let Err(fault) = player.obey(lines.line(), target) {
             return Err(fault.at(lines.number()));
         }
     }
-    Ok(())
 }
 
 /// What obeys the lines of a script.
@@ -47,7 +60,9 @@ struct Player {
 }
 
 impl Player {
-    fn start(alloc: Global) -> Result<Player, AllocError> {
+    fn start(alloc: Global) -> Result<Player, AllocError>
+        ensures { IfOk result (λ player. player.bench ≡ None) }
+    {
         Ok(Player {
             alloc,
             octets: vec![in alloc; 0; ROOM]?,
@@ -58,56 +73,64 @@ impl Player {
     /// Obeys one line.
     fn obey<T: Target>(&mut self, line: &[u8], target: &mut T) -> Result<(), LineFault>
         requires { length line.now ≤ 4096 }
-        ensures { (T.taken target.new).failures ≡ line_writes_failed_by result (T.taken target.old).failures }
+        ensures { (m : Option machine.Bench) → Has self.old.bench m
+            → Does result (T.taken target.old) (T.taken target.new) m (Has self.new.bench) (said line.now m) }
     {
-        match read_line(line, self.octets.as_mut_slice())? {
-            Command::Skip => Ok(()),
-            Command::Card(numbers) => self.card(numbers),
-            command => self.act(command, target),
-        }
-    }
-
-    fn card(&mut self, numbers: CardNumbers) -> Result<(), LineFault>
-        ensures { IfErr result (λ fault. (count : ℕ) → line_writes_failed fault count ≡ count) }
-    {
-        if self.bench.is_some() {
-            return Err(LineFault::Faulty(FaultKind::SecondCard));
-        }
-        self.bench = Some(Bench::start(self.alloc, numbers)?);
-        Ok(())
-    }
-
-    /// Obeys a line that needs the card.
-    fn act<T: Target>(&mut self, command: Command, target: &mut T) -> Result<(), LineFault>
-        ensures { (T.taken target.new).failures ≡ line_writes_failed_by result (T.taken target.old).failures }
-    {
-        let Some(bench) = &mut self.bench else {
-            return Err(LineFault::Faulty(FaultKind::NoCard));
+        let command = match read_line(line, self.octets.as_mut_slice()) {
+            Ok(command) => command,
+            Err(kind) => return Err(LineFault::Faulty(kind)),
         };
-        match command {
-            Command::Skip | Command::Card(_) => Ok(()),
-            Command::Rx { line, octets } => bench.receive(
-                line,
-                &self.octets[..octets.min(ROOM)],
-                target,
-            ),
-            Command::In { line, octets } => bench.send(
-                line,
-                &self.octets[..octets.min(ROOM)],
-                target,
-            ),
-            Command::Pull { line, count } => {
-                let room = self.octets.as_mut_slice();
-                bench.pull(line, count as usize, room, target)
+        match &mut self.bench {
+            Some(bench) => with_card(bench, command, self.octets.as_mut_slice(), target),
+            None => {
+                self.bench = without_card(self.alloc, command)?;
+                Ok(())
             }
-            Command::Wait { milliseconds } => bench.exchange.wait(milliseconds, target),
-            Command::Stored => bench.exchange.show_stored(target),
-            Command::Ask {
-                line,
-                tei,
-                what,
-                octets,
-            } => bench.ask(line, tei, what, &self.octets[..octets.min(ROOM)], target),
         }
+    }
+}
+
+/// Obeys a line where there is no card yet: it starts one, or needs one.
+fn without_card(alloc: Global, command: Command) -> Result<Option<Bench>, LineFault>
+    ensures { (buffer : List ℕ) → StartsBy result (without_card (meant buffer command)) }
+{
+    match command {
+        Command::Skip => Ok(None),
+        Command::Card(numbers) => Ok(Some(Bench::start(alloc, numbers)?)),
+        Command::Rx { .. } => Err(LineFault::Faulty(FaultKind::NoCard)),
+        Command::In { .. } => Err(LineFault::Faulty(FaultKind::NoCard)),
+        Command::Pull { .. } => Err(LineFault::Faulty(FaultKind::NoCard)),
+        Command::Wait { .. } => Err(LineFault::Faulty(FaultKind::NoCard)),
+        Command::Stored => Err(LineFault::Faulty(FaultKind::NoCard)),
+        Command::Ask { .. } => Err(LineFault::Faulty(FaultKind::NoCard)),
+    }
+}
+
+/// Obeys a line where there is a card. The octets that it brings stand at the beginning of `room`.
+fn with_card<T: Target>(
+    bench: &mut Bench,
+    command: Command,
+    room: &mut [u8],
+    target: &mut T,
+) -> Result<(), LineFault>
+    requires counted { IsCounted (length room.old) command }
+    requires room { 4096 ≤ length room.old }
+    ensures { (m : machine.Bench) → Stands bench.old m
+        → Obeys result (T.taken target.old) (T.taken target.new) (Stands bench.new) (with_card (meant room.old command) (scene m)) }
+{
+    match command {
+        Command::Skip => Ok(()),
+        Command::Card(_) => Err(LineFault::Faulty(FaultKind::SecondCard)),
+        Command::Rx { line, octets } => bench.receive(line, &room[..octets], target),
+        Command::In { line, octets } => bench.send(line, &room[..octets], target),
+        Command::Pull { line, count } => bench.pull(line, count as usize, room, target),
+        Command::Wait { milliseconds } => bench.wait(milliseconds, target),
+        Command::Stored => bench.show_stored(target),
+        Command::Ask {
+            line,
+            tei,
+            what,
+            octets,
+        } => bench.ask(line, tei, what, &room[..octets], target),
     }
 }

@@ -54,7 +54,11 @@ pub(crate) fn show_frame<T: Target>(
     ensures { OnOk result ((T.taken target.new).failures ≡ (T.taken target.old).failures) }
 {
     // A dash stands for no octets, as in a script.
-    let digits = if digits == b"-".as_slice() { &[] } else { digits };
+    let digits = if digits == b"-".as_slice() {
+        &[]
+    } else {
+        digits
+    };
     if digits.len() % 2 == 1 || !digits.iter().all(|digit| digit.is_ascii_hexdigit()) {
         return Err(FrameFault::BadOctets);
     }

@@ -1,6 +1,10 @@
 //! The sender of a terminal, which is put on a line octet by octet.
 
-ghost use Rattle.std.specs.Prelude.{◌≡◌, ◌+◌, ◌<◌, ◌≤◌, ◌↔◌, length, IsTrue};
+ghost use Rattle.std.specs.Prelude.{◌≡◌, ℕ, ◌+◌, ◌<◌, ◌≤◌, ◌↔◌, List, [], ◌∷◌, ◌++◌, length, IsTrue, IfOk};
+ghost use Rattle.lapd_bits.specs.Framer as framing;
+ghost use Rattle.lapd_bits.specs.Framer.{with_idle};
+ghost use Rattle.lapd_bits.specs.Sent as sent;
+ghost use Rattle.lapd_bits.specs.Sent.{Item};
 
 use lapd_bits::Framer;
 use std::alloc::{AllocError, Global};
@@ -24,7 +28,11 @@ pub(crate) struct Terminal {
 }
 
 impl Terminal {
-    pub(crate) fn start(alloc: Global) -> Result<Terminal, AllocError> {
+    ghost use Rattle.lapd_sim.specs.Stands.{Sends};
+
+    pub(crate) fn start(alloc: Global) -> Result<Terminal, AllocError>
+        ensures { IfOk result (λ terminal. Sends terminal (record { items = []; given = 0 })) }
+    {
         let Ok(framer) = Framer::start(alloc, LONGEST_INFORMATION) else {
             return Err(AllocError);
         };
@@ -39,7 +47,9 @@ impl Terminal {
     }
 
     /// Whether a part of an octet is left, where no whole one is.
-    pub(crate) fn has_rest(&self) -> bool {
+    pub(crate) fn has_rest(&self) -> bool
+        ensures { IsTrue result ↔ (0 < length self.now.framer.left) }
+    {
         self.framer.left() > 0
     }
 
@@ -48,6 +58,8 @@ impl Terminal {
         requires not_busy { length self.old.framer.left < 8 }
         requires short { 3 ≤ length frame.now }
         requires long { length frame.now ≤ 1028 }
+        ensures { (items : List Item) (given : List ℕ) → framing.Stands self.old.framer items given
+            → framing.Stands self.new.framer (items ++ sent.frame frame.now ∷ []) given }
     {
         let (head, information) = frame.split_at(frame.len().min(HEAD));
         self.framer.load(head, information);
@@ -57,6 +69,8 @@ impl Terminal {
     #[tactic(auto, using(crate::proofs::Left::octet_takes))]
     pub(crate) fn octet(&mut self) -> u8
         ensures goes_on { 8 ≤ length self.old.framer.left → length self.new.framer.left < length self.old.framer.left }
+        ensures stands { (items : List Item) (given : List ℕ) → framing.Stands self.old.framer items given
+            → framing.Stands self.new.framer (with_idle self.old.framer.left items) (given ++ result ∷ []) }
     {
         self.framer.octet()
     }

@@ -8,4 +8,5 @@ returns-in-Some-named c = record {
   read = λ all e. c.read_as.ensures.read
       ∙ read_taken all c.in-Some.name.now.now (texts c.in-Some.words.now) (Some c.in-Some-named.word)
       (sym (ap texts c.in-Some.ensures.cases.0) ∙ e) c.in-Some-named.ensures;
+  counted = c.read_as.ensures.counted;
 }

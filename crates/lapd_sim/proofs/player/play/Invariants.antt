@@ -1,10 +1,19 @@
-use Rattle.std.proofs.Common.{◌≡◌, ◌-◌, ◌^◌}
+use Rattle.std.proofs.Common.{◌≡◌, ◌-◌, ◌^◌, ◌++◌, ℕ, List, Some, None, Option, fold}
+use Rattle.lapd_transcript.specs.Streams.{IsWritten}
+use Rattle.lapd_sim_machine.specs.Bench as machine
+use Rattle.lapd_sim_machine.specs.Script.{Played, played, one_more}
+use Rattle.lapd_sim.specs.Lines.{AreLeft}
+use Rattle.lapd_sim.specs.Stands.{Has}
+use Rattle.lapd_sim.proofs.Playing.{IsPlayed}
 use Rattle.lapd_sim.proofs.player.play.Given as goal
 
--- no read and no write has failed
+-- no read and no write has failed; there is a bench that is stood for; and where the source tells, these lines have been played
 abbrev pub invariant-loop-player : goal.invariant-loop-player
 invariant-loop-player g l =
     (g.S.Source.failures l.source ≡ g.S.Source.failures l.fn.source) × ((g.T.Target.taken l.target).failures ≡ (g.T.Target.taken l.fn.target).failures)
+    × ((m : Option machine.Bench) × Has l.player.bench m)
+    × ((text : List ℕ) → g.S.Source.remaining l.fn.source ≡ Some text
+    → IsPlayed l.lines l.player.bench (g.S.Source.remaining l.source) text (g.T.Target.taken l.fn.target) (g.T.Target.taken l.target))
 
 -- the octets that a script can still have
 abbrev pub decreases-loop-player : goal.decreases-loop-player

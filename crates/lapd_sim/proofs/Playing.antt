@@ -1,0 +1,354 @@
+-- How far a script has been played.
+use Rattle.std.proofs.Common.{◌≡◌, ℕ, ◌+◌, ◌^◌, ◌<◌, ◌≤◌, ◌++◌, List, [], ◌∷◌, length, take, fold, true, false, cond, Bool, Option, None, Some, Result, Ok, Err, refl, sym, ap, ◌∙◌, subst, append_assoc, arith, nat_lt}
+use Rattle.std.specs.Prelude.{◌||◌}
+use Rattle.std.proofs.lemmas.Bool.{lt-ltb, le-ltb, ltb-false, true≢false}
+use Rattle.std.proofs.lemmas.Option.{none-some}
+use Rattle.std.proofs.lemmas.List.{append-nil}
+use Rattle.std.proofs.Math.Seq.{take-append_seam}
+use Rattle.std.proofs.lemmas.Grind.{fold-append}
+use Rattle.lapd_script.specs.declared.kind.FaultKind.{FaultKind}
+use Rattle.lapd_script.specs.declared.kind.FaultKind.TheVariants.{TooLong}
+use Rattle.lapd_script.specs.Meaning.{Meaning}
+use Rattle.lapd_script.specs.Read.{read}
+use Rattle.lapd_transcript.specs.Streams.{Taken, IsWritten, IsBroken}
+use Rattle.lapd_transcript.proofs.Known.{writes_then, broken_more, appends_nothing}
+use Rattle.lapd_sim_machine.specs.Bench as machine
+use Rattle.lapd_sim_machine.specs.Pieces.{pieces_of, line_in}
+use Rattle.lapd_sim_machine.specs.Script.{Played, Fault, played, one_more, not_begun, counted, faulty, is_too_long, after_reading, after_meaning, after_bench, after_scene, after_piece, unless_faulty, transcript, first_fault}
+use Rattle.lapd_sim_machine.specs.Steps.{Scene, with_card, without_card}
+use Rattle.lapd_sim.specs.declared.bench.Bench.{Bench}
+use Rattle.lapd_sim.specs.declared.faults.LineFault.{LineFault}
+use Rattle.lapd_sim.specs.declared.faults.LineFault.TheVariants as line
+use Rattle.lapd_sim.specs.declared.faults.LineFault.TheVariants.{Faulty}
+use Rattle.lapd_sim.specs.declared.faults.PlayFault.{PlayFault}
+use Rattle.lapd_sim.specs.declared.faults.PlayFault.TheVariants.{Read, Write, Script, OutOfMemory}
+use Rattle.lapd_sim.specs.declared.lines.Lines.{Lines}
+use Rattle.lapd_sim.specs.Faults.{fault_at, line_writes_failed}
+use Rattle.lapd_sim.specs.Lines.{AreLeft, IsNext, IsTooLong, Advances}
+use Rattle.lapd_sim.specs.Obeyed.{Said, Does, StartsBy, said, said_by, said_of, said_with, said_without, scene}
+use Rattle.lapd_sim.specs.Plays.{Plays, AreAnswered}
+use Rattle.lapd_sim.specs.Stands.{Has}
+use Rattle.lapd_sim.proofs.Wholes.{AreWhole, no_whole, whole_more, first_whole, some_octet, split_first, read_whole}
+
+-- These pieces of the text have been played without a fault, and what is left of it is still to be read.
+pub record IsPlayed (lines : Lines) (bench : Option Bench) (remaining : Option (List ℕ)) (text : List ℕ) (old new : Taken) : Type 0 where
+  pub done : List (List ℕ)
+  pub left : List ℕ
+  pub is : pieces_of text ≡ done ++ pieces_of left
+  pub unread : AreLeft lines remaining left
+  pub number : lines.number ≡ (played done).lines
+  pub octets : lines.octets ≡ (played done).octets
+  pub sound : (played done).fault ≡ None
+  pub has : Has bench (played done).bench
+  pub written : IsWritten old new (played done).written
+  -- the octets of these pieces; they are whole lines but where they are all that the source gave
+  pub front : List ℕ
+  pub joined : text ≡ front ++ left
+  pub while_open : lines.is_at_end ≡ false → AreWhole front done
+  pub before_more : (o : ℕ) (t : List ℕ) → left ≡ o ∷ t → AreWhole front done
+
+-- What a line leads to, by what it says.
+abbrev pub after_said : List ℕ → Result Said FaultKind → Played → Played
+after_said piece (Ok s) p = record (counted piece p) { bench = s.bench; written = p.written ++ s.text }
+after_said piece (Err kind) p = faulty kind p
+
+started : (piece : List ℕ) (x : Result (Option machine.Bench) FaultKind) (p : Played) → after_bench piece x p ≡ after_said piece (said_without x) p
+started piece (Ok bench) p = ap (λ written. record (counted piece p) { bench = bench; written = written }) (sym (append-nil p.written))
+started piece (Err kind) p = refl
+
+went_on : (piece : List ℕ) (x : Result Scene FaultKind) (p : Played) → after_scene piece x p ≡ after_said piece (said_with x) p
+went_on piece (Ok s) p = refl
+went_on piece (Err kind) p = refl
+
+meant_is : (piece : List ℕ) (m : Meaning) (bench : Option machine.Bench) (p : Played) → after_meaning piece m bench p ≡ after_said piece (said_of m bench) p
+meant_is piece m None p = started piece (without_card m) p
+meant_is piece m (Some bench) p = went_on piece (with_card m (scene bench)) p
+
+pub read_is : (piece : List ℕ) (r : Result Meaning FaultKind) (p : Played) → after_reading piece r p ≡ after_said piece (said_by r p.bench) p
+read_is piece (Err kind) p = refl
+read_is piece (Ok m) p = meant_is piece m p.bench p
+
+-- one piece more, where no fault came before
+unless_is : (piece : List ℕ) (fault : Option Fault) (p : Played) → fault ≡ None → unless_faulty piece fault p ≡ after_piece piece p
+unless_is piece None p e = refl
+unless_is piece (Some fault) p e = absurd (none-some fault (sym e))
+
+-- the pieces so far, and one more
+pub played_more : (done : List (List ℕ)) (piece : List ℕ) → (played done).fault ≡ None → played (done ++ piece ∷ []) ≡ after_piece piece (played done)
+played_more done piece sound = fold-append one_more not_begun done (piece ∷ []) ∙ unless_is piece (played done).fault (played done) sound
+
+-- a line that is not too long
+not_long : (long far : Bool) (p q : Played) → long ≡ false → far ≡ false → cond (long || far) p q ≡ q
+not_long true far p q e f = absurd (true≢false e)
+not_long false true p q e f = absurd (true≢false f)
+not_long false false p q e f = refl
+
+pub short_is : (piece : List ℕ) (p : Played) → length (line_in piece) ≤ 4096 → p.octets + length piece ≤ 2 ^ 63
+    → after_piece piece p ≡ after_said piece (said (line_in piece) p.bench) p
+short_is piece p short near =
+    not_long (nat_lt 4096 (length (line_in piece))) (nat_lt (2 ^ 63) (p.octets + length piece)) (faulty TooLong p) (after_reading piece (read (line_in piece)) p)
+    (le-ltb 4096 (length (line_in piece)) short) (le-ltb (2 ^ 63) (p.octets + length piece) near)
+    ∙ read_is piece (read (line_in piece)) p
+
+is_long : (long far : Bool) (p q : Played) → (long ≡ false → far ≡ true) → cond (long || far) p q ≡ p
+is_long true far p q h = refl
+is_long false true p q h = refl
+is_long false false p q h = absurd (true≢false (sym (h refl)))
+
+pub long_is : (piece : List ℕ) (p : Played) → (length (line_in piece) ≤ 4096 → 2 ^ 63 < p.octets + length piece) → after_piece piece p ≡ faulty TooLong p
+long_is piece p h =
+    is_long (nat_lt 4096 (length (line_in piece))) (nat_lt (2 ^ 63) (p.octets + length piece)) (faulty TooLong p) (after_reading piece (read (line_in piece)) p)
+    (λ e. lt-ltb (2 ^ 63) (p.octets + length piece) (h (ltb-false 4096 (length (line_in piece)) e)))
+
+-- after a fault nothing more is played
+stays_one : (piece : List ℕ) (o : Option Fault) (fault : Fault) (p : Played) → o ≡ Some fault → unless_faulty piece o p ≡ p
+stays_one piece None fault p e = absurd (none-some fault e)
+stays_one piece (Some f) fault p e = refl
+
+pub stays : (pieces : List (List ℕ)) (p : Played) (fault : Fault) → p.fault ≡ Some fault → fold one_more p pieces ≡ p
+stays [] p fault e = refl
+stays (piece ∷ pieces) p fault e = ap (λ q. fold one_more q pieces) (stays_one piece p.fault fault p e) ∙ stays pieces p fault e
+
+-- what has been written stays written
+abbrev Grows : Played → Played → Type 0
+Grows p q = (more : List ℕ) × (q.written ≡ p.written ++ more)
+
+grows_said : (piece : List ℕ) (x : Result Said FaultKind) (p : Played) → Grows p (after_said piece x p)
+grows_said piece (Ok s) p = (s.text, refl)
+grows_said piece (Err kind) p = ([], sym (append-nil p.written))
+
+grows_test : (b : Bool) (p q r : Played) → Grows p q → Grows p r → Grows p (cond b q r)
+grows_test true p q r h k = h
+grows_test false p q r h k = k
+
+grows_piece : (piece : List ℕ) (p : Played) → Grows p (after_piece piece p)
+grows_piece piece p = grows_test (is_too_long piece p) p (faulty TooLong p) (after_reading piece (read (line_in piece)) p)
+    ([], sym (append-nil p.written))
+    (subst (λ q. Grows p q) (sym (read_is piece (read (line_in piece)) p)) (grows_said piece (said (line_in piece) p.bench) p))
+
+grows_one : (piece : List ℕ) (o : Option Fault) (p : Played) → Grows p (unless_faulty piece o p)
+grows_one piece None p = grows_piece piece p
+grows_one piece (Some fault) p = ([], sym (append-nil p.written))
+
+pub grows : (pieces : List (List ℕ)) (p : Played) → Grows p (fold one_more p pieces)
+grows [] p = ([], sym (append-nil p.written))
+grows (piece ∷ pieces) p =
+    let first = grows_one piece p.fault p in
+    let rest = grows pieces (one_more p piece) in
+    (first.0 ++ rest.0, rest.1 ∙ ap (λ text. text ++ rest.0) first.1 ∙ append_assoc p.written first.0 rest.0)
+
+-- the whole text, where these pieces have been played and one is next
+pub all_played : (text left : List ℕ) (done : List (List ℕ)) (piece : List ℕ) (more : List (List ℕ)) → pieces_of text ≡ done ++ pieces_of left → pieces_of left ≡ piece ∷ more
+    → (played done).fault ≡ None → played (pieces_of text) ≡ fold one_more (after_piece piece (played done)) more
+all_played text left done piece more is next sound =
+    ap played (is ∙ ap (λ pieces. done ++ pieces) next) ∙ fold-append one_more not_begun done (piece ∷ more)
+    ∙ ap (λ p. fold one_more p more) (unless_is piece (played done).fault (played done) sound)
+
+-- a fault is the first
+pub fault_is : (text left : List ℕ) (done : List (List ℕ)) (piece : List ℕ) (more : List (List ℕ)) (kind : FaultKind) → pieces_of text ≡ done ++ pieces_of left → pieces_of left ≡ piece ∷ more
+    → (played done).fault ≡ None → after_piece piece (played done) ≡ faulty kind (played done) → played (pieces_of text) ≡ faulty kind (played done)
+fault_is text left done piece more kind is next sound fault =
+    all_played text left done piece more is next sound ∙ ap (λ p. fold one_more p more) fault
+    ∙ stays more (faulty kind (played done)) (record { line = (played done).lines + 1; kind = kind }) refl
+
+-- nothing has been played yet
+pub begins : (lines : Lines) (bench : Option Bench) (remaining : Option (List ℕ)) (text : List ℕ) (a : Taken) → bench ≡ None → lines.number ≡ 0 → lines.octets ≡ 0
+    → AreLeft lines remaining text → IsPlayed lines bench remaining text a a
+begins lines bench remaining text a none number octets unread = record {
+  done = [];
+  left = text;
+  is = refl;
+  unread = unread;
+  number = number;
+  octets = octets;
+  sound = refl;
+  has = subst (λ b. Has b None) (sym none) tt;
+  written = record { whole = appends_nothing a.contents; steady = refl };
+  front = [];
+  joined = refl;
+  while_open = λ e. no_whole;
+  before_more = λ o t e. no_whole;
+}
+
+-- no line is left
+pub ends : (lines : Lines) (bench : Option Bench) (remaining : Option (List ℕ)) (text : List ℕ) (a b : Taken) (p : IsPlayed lines bench remaining text a b) → p.left ≡ []
+    → (first_fault text ≡ None) × IsWritten a b (transcript text)
+ends lines bench remaining text a b p none =
+    let all : played (pieces_of text) ≡ played p.done = ap played (p.is ∙ ap (λ l. p.done ++ pieces_of l) none ∙ append-nil p.done) in
+    (ap (λ q. Played.fault q) all ∙ p.sound, subst (λ t. IsWritten a b t) (sym (ap (λ q. Played.written q) all)) p.written)
+
+-- the next line is too long
+pub stops_long : (lines : Lines) (bench : Option Bench) (remaining : Option (List ℕ)) (text : List ℕ) (a b : Taken) (p : IsPlayed lines bench remaining text a b) (number : ℕ) → IsTooLong lines number p.left
+    → (first_fault text ≡ Some (record { line = number; kind = TooLong })) × IsWritten a b (transcript text)
+stops_long lines bench remaining text a b p number long =
+    let fault = long_is long.piece (played p.done) (λ short. subst (λ n. 2 ^ 63 < n + length long.piece) p.octets (long.long short)) in
+    let all = fault_is text p.left p.done long.piece (pieces_of long.more) TooLong p.is long.pieces p.sound fault in (
+      ap (λ q. Played.fault q) all ∙ ap (λ n. Some (record { line = n; kind = TooLong })) (sym (long.number ∙ ap (λ n. n + 1) p.number)),
+      subst (λ t. IsWritten a b t) (sym (ap (λ q. Played.written q) all)) p.written,
+    )
+
+-- the next line leads to what it says
+pub next_is : (lines new : Lines) (bench : Option Bench) (remaining left : Option (List ℕ)) (text : List ℕ) (a b : Taken) (p : IsPlayed lines bench remaining text a b) (n : IsNext lines new left p.left)
+    → new.octets ≤ 2 ^ 63 → after_piece n.piece (played p.done) ≡ after_said n.piece (said (line_in n.piece) (played p.done).bench) (played p.done)
+next_is lines new bench remaining left text a b p n bound =
+    short_is n.piece (played p.done) n.short (subst (λ octets. octets ≤ 2 ^ 63) (n.octets ∙ ap (λ octets. octets + length n.piece) p.octets) bound)
+
+-- the next line is faulty
+pub stops_faulty : (lines new : Lines) (bench : Option Bench) (remaining left : Option (List ℕ)) (text : List ℕ) (a b : Taken) (p : IsPlayed lines bench remaining text a b) (n : IsNext lines new left p.left)
+    → new.octets ≤ 2 ^ 63 → (kind : FaultKind) → said (line_in n.piece) (played p.done).bench ≡ Err kind
+    → (first_fault text ≡ Some (record { line = new.number; kind = kind })) × IsWritten a b (transcript text)
+stops_faulty lines new bench remaining left text a b p n bound kind fault =
+    let next = next_is lines new bench remaining left text a b p n bound ∙ ap (λ x. after_said n.piece x (played p.done)) fault in
+    let all = fault_is text p.left p.done n.piece (pieces_of n.more) kind p.is n.pieces p.sound next in (
+      ap (λ q. Played.fault q) all ∙ ap (λ i. Some (record { line = i; kind = kind })) (sym (n.number ∙ ap (λ i. i + 1) p.number)),
+      subst (λ t. IsWritten a b t) (sym (ap (λ q. Played.written q) all)) p.written,
+    )
+
+-- a write of the next line fails
+pub stops_broken : (lines new : Lines) (bench : Option Bench) (remaining left : Option (List ℕ)) (text : List ℕ) (a b c : Taken) (p : IsPlayed lines bench remaining text a b) (n : IsNext lines new left p.left)
+    → new.octets ≤ 2 ^ 63 → (s : Said) → said (line_in n.piece) (played p.done).bench ≡ Ok s → IsBroken b c s.text → IsBroken a c (transcript text)
+stops_broken lines new bench remaining left text a b c p n bound s fine broken =
+    let next = next_is lines new bench remaining left text a b p n bound ∙ ap (λ x. after_said n.piece x (played p.done)) fine in
+    let all = all_played text p.left p.done n.piece (pieces_of n.more) p.is n.pieces p.sound ∙ ap (λ q. fold one_more q (pieces_of n.more)) next in
+    let rest = grows (pieces_of n.more) (after_said n.piece (Ok s) (played p.done)) in
+    subst (λ t. IsBroken a c t) (sym (ap (λ q. Played.written q) all ∙ rest.1))
+    (broken_more a c ((played p.done).written ++ s.text) rest.0 (writes_then (Err (record {})) a b c (played p.done).written s.text p.written broken))
+
+-- the next line has been played
+pub goes_on : (lines new : Lines) (bench later : Option Bench) (remaining left : Option (List ℕ)) (text : List ℕ) (a b c : Taken) (p : IsPlayed lines bench remaining text a b) (n : IsNext lines new left p.left)
+    → new.octets ≤ 2 ^ 63 → (s : Said) → said (line_in n.piece) (played p.done).bench ≡ Ok s → IsWritten b c s.text → Has later s.bench → IsPlayed new later left text a c
+goes_on lines new bench later remaining left text a b c p n bound s fine written has =
+    let is : played (p.done ++ n.piece ∷ []) ≡ after_said n.piece (Ok s) (played p.done) =
+    played_more p.done n.piece p.sound ∙ next_is lines new bench remaining left text a b p n bound ∙ ap (λ x. after_said n.piece x (played p.done)) fine in
+    let octet = some_octet p.left n.piece (pieces_of n.more) n.pieces in
+    let whole = p.before_more octet.0 octet.1.0 octet.1.1 in
+    record {
+      done = p.done ++ n.piece ∷ [];
+      left = n.more;
+      is = p.is ∙ ap (λ pieces. p.done ++ pieces) n.pieces ∙ sym (append_assoc p.done (n.piece ∷ []) (pieces_of n.more));
+      unread = n.left;
+      number = n.number ∙ ap (λ i. i + 1) p.number ∙ sym (ap (λ q. Played.lines q) is);
+      octets = n.octets ∙ ap (λ i. i + length n.piece) p.octets ∙ sym (ap (λ q. Played.octets q) is);
+      sound = ap (λ q. Played.fault q) is ∙ p.sound;
+      has = subst (λ q. Has later (Played.bench q)) (sym is) has;
+      written = subst (λ q. IsWritten a c (Played.written q)) (sym is) (writes_then (Ok tt) a b c (played p.done).written s.text p.written written);
+      front = p.front ++ n.piece;
+      joined = p.joined ∙ ap (λ l. p.front ++ l) (split_first p.left n.piece n.more n.pieces) ∙ sym (append_assoc p.front n.piece n.more);
+      while_open = λ e. whole_more p.front p.done p.left n.piece (pieces_of n.more) whole n.pieces (n.whole e);
+      before_more = λ o t e. whole_more p.front p.done p.left n.piece (pieces_of n.more) whole n.pieces (first_whole p.left n.piece n.more o t n.pieces e);
+    }
+
+-- what a line did to the target's failures, and that there is a bench after it
+pub does_fail : (fault : LineFault) (a b : Taken) (m : Option machine.Bench) (has : Option machine.Bench → Type 0) (x : Result Said FaultKind) → Does (Err fault) a b m has x
+    → b.failures ≡ line_writes_failed fault a.failures
+does_fail (Faulty kind) a b m has x h = ap (λ t. Taken.failures t) h.0
+does_fail line.Write a b m has (Ok s) h = h.failed
+does_fail line.Write a b m has (Err kind) h = absurd h
+does_fail line.OutOfMemory a b m has x h = ap (λ t. Taken.failures t) h.0
+
+pub does_ok : (u : Unit {0}) (a b : Taken) (m : Option machine.Bench) (has : Option machine.Bench → Type 0) (x : Result Said FaultKind) → Does (Ok u) a b m has x
+    → (b.failures ≡ a.failures) × ((s : Said) × (x ≡ Ok s) × IsWritten a b s.text × has s.bench)
+does_ok u a b m has (Ok s) h = (h.0.steady, (s, refl, h.0, h.1))
+does_ok u a b m has (Err kind) h = absurd h
+
+-- where there is no card yet, nothing has been written
+abbrev Silent : Played → Type 0
+Silent p = p.bench ≡ None → p.written ≡ []
+
+silent_start : (piece : List ℕ) (x : Result (Option machine.Bench) FaultKind) (p : Played) → p.written ≡ [] → Silent (after_said piece (said_without x) p)
+silent_start piece (Ok bench) p h = λ e. append-nil p.written ∙ h
+silent_start piece (Err kind) p h = λ e. h
+
+silent_with : (piece : List ℕ) (x : Result Scene FaultKind) (p : Played) → Silent p → Silent (after_said piece (said_with x) p)
+silent_with piece (Ok s) p h = λ e. absurd (none-some s.bench (sym e))
+silent_with piece (Err kind) p h = h
+
+silent_meant : (piece : List ℕ) (m : Meaning) (bench : Option machine.Bench) (p : Played) → bench ≡ p.bench → Silent p → Silent (after_said piece (said_of m bench) p)
+silent_meant piece m None p e h = silent_start piece (without_card m) p (h (sym e))
+silent_meant piece m (Some bench) p e h = silent_with piece (with_card m (scene bench)) p h
+
+silent_read : (piece : List ℕ) (r : Result Meaning FaultKind) (p : Played) → Silent p → Silent (after_said piece (said_by r p.bench) p)
+silent_read piece (Err kind) p h = h
+silent_read piece (Ok m) p h = silent_meant piece m p.bench p refl h
+
+silent_test : (b : Bool) (q r : Played) → Silent q → Silent r → Silent (cond b q r)
+silent_test true q r h k = h
+silent_test false q r h k = k
+
+silent_one : (piece : List ℕ) (o : Option Fault) (p : Played) → Silent p → Silent (unless_faulty piece o p)
+silent_one piece None p h = silent_test (is_too_long piece p) (faulty TooLong p) (after_reading piece (read (line_in piece)) p) h
+    (subst Silent (sym (read_is piece (read (line_in piece)) p)) (silent_read piece (read (line_in piece)) p h))
+silent_one piece (Some fault) p h = h
+
+silent_after : (pieces : List (List ℕ)) (p : Played) → Silent p → Silent (fold one_more p pieces)
+silent_after [] p h = h
+silent_after (piece ∷ pieces) p h = silent_after pieces (one_more p piece) (silent_one piece p.fault p h)
+
+silent : (pieces : List (List ℕ)) → (played pieces).bench ≡ None → (played pieces).written ≡ []
+silent pieces = silent_after pieces not_begun (λ e. refl)
+
+front_played : (text left : List ℕ) (done : List (List ℕ)) → pieces_of text ≡ done ++ pieces_of left → played (take (length done) (pieces_of text)) ≡ played done
+front_played text left done is = ap (λ pieces. played (take (length done) pieces)) is ∙ ap played (take-append_seam done (pieces_of left))
+
+-- the next line stops the script
+pub stops : (fault : LineFault) (lines new : Lines) (bench : Option Bench) (remaining left : Option (List ℕ)) (text : List ℕ) (a b c : Taken) (has : Option machine.Bench → Type 0)
+    (p : IsPlayed lines bench remaining text a b) (n : IsNext lines new left p.left) → new.octets ≤ 2 ^ 63
+    → Does (Err fault) b c (played p.done).bench has (said (line_in n.piece) (played p.done).bench)
+    → Plays (Err (fault_at fault new.number)) text left a c
+stops (Faulty kind) lines new bench remaining left text a b c has p n bound h =
+    let found = stops_faulty lines new bench remaining left text a b p n bound kind h.1 in
+    (found.0, subst (λ t. IsWritten a t (transcript text)) (sym h.0) found.1)
+stops line.Write lines new bench remaining left text a b c has p n bound h =
+    stops_write (said (line_in n.piece) (played p.done).bench) refl h where
+      stops_write : (x : Result Said FaultKind) → said (line_in n.piece) (played p.done).bench ≡ x → Does (Err line.Write) b c (played p.done).bench has x → IsBroken a c (transcript text)
+      stops_write (Ok s) e k = stops_broken lines new bench remaining left text a b c p n bound s e k
+      stops_write (Err kind) e k = absurd k
+stops line.OutOfMemory lines new bench remaining left text a b c has p n bound h = record {
+  lines = length p.done;
+  no_card = ap (λ q. Played.bench q) (front_played text p.left p.done p.is) ∙ h.1;
+  sound = ap (λ q. Played.fault q) (front_played text p.left p.done p.is) ∙ p.sound;
+  unwritten = subst (λ t. IsWritten a t []) (sym h.0) (subst (λ t. IsWritten a b t) (silent p.done h.1) p.written);
+}
+
+-- what the next line is, or that there is none
+pub over : (more : Bool) (old new : Lines) (remaining : Option (List ℕ)) (text : List ℕ) → more ≡ false → Advances (Ok more) old new remaining text → (text ≡ []) × (remaining ≡ Some [])
+over true old new remaining text e h = absurd (true≢false e)
+over false old new remaining text e h = h
+
+pub next : (more : Bool) (old new : Lines) (remaining : Option (List ℕ)) (text : List ℕ) → more ≡ true → Advances (Ok more) old new remaining text → IsNext old new remaining text
+next true old new remaining text e h = h
+next false old new remaining text e h = absurd (true≢false (sym e))
+
+-- reading stops the script
+pub stops_reading : (fault : PlayFault) (lines new : Lines) (bench : Option Bench) (remaining left : Option (List ℕ)) (text : List ℕ) (a b : Taken) (p : IsPlayed lines bench remaining text a b)
+    → Advances (Err fault) lines new left p.left → Plays (Err fault) text left a b
+stops_reading Read lines new bench remaining left text a b p h =
+    let pieces = read_whole p.front h.begun p.done (p.while_open h.goes_on) h.open_is in
+    record {
+      read = p.front ++ h.begun;
+      unread = h.rest;
+      is = p.joined ∙ ap (λ l. p.front ++ l) h.is ∙ sym (append_assoc p.front h.begun h.rest);
+      tells = h.tells;
+      answered = subst (λ ps. AreAnswered ps a b) (sym pieces) (record { sound = p.sound; written = p.written });
+    }
+stops_reading (Script number kind) lines new bench remaining left text a b p h =
+    let found = stops_long lines bench remaining text a b p number h.1 in
+    (found.0 ∙ ap (λ k. Some (record { line = number; kind = k })) (sym h.0), found.1)
+stops_reading Write lines new bench remaining left text a b p h = absurd h
+stops_reading OutOfMemory lines new bench remaining left text a b p h = absurd h
+
+-- the line that starts the card, or is skipped before it
+has_none : (b : Option Bench) (m : Option machine.Bench) → b ≡ None → Has b m → m ≡ None
+has_none None None e h = refl
+has_none None (Some m) e h = absurd h
+has_none (Some b) m e h = absurd (none-some b (sym e))
+
+starts_as : (bench : Option Bench) (a : Taken) (x : Result (Option machine.Bench) FaultKind) → StartsBy (Ok bench) x → Does (Ok tt) a a None (Has bench) (said_without x)
+starts_as bench a (Ok b) h = (record { whole = appends_nothing a.contents; steady = refl }, h)
+starts_as bench a (Err kind) h = absurd h
+
+pub starts : (before bench : Option Bench) (a : Taken) (meaning : Meaning) (line : List ℕ) (m : Option machine.Bench) → before ≡ None → Has before m → Ok meaning ≡ read line
+    → StartsBy (Ok bench) (without_card meaning) → Does (Ok tt) a a m (Has bench) (said line m)
+starts before bench a meaning line m e h is k =
+    subst (λ n. Does (Ok tt) a a n (Has bench) (said line n)) (sym (has_none before m e h))
+    (subst (λ r. Does (Ok tt) a a None (Has bench) (said_by r None)) is (starts_as bench a (without_card meaning) k))

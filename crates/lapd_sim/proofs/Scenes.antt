@@ -1,0 +1,129 @@
+-- What a line says, event by event.
+use Rattle.std.proofs.Common.{◌≡◌, ℕ, zero, suc, ◌+◌, ◌<◌, ◌≤◌, nat_lt, nat_le, List, [], ◌∷◌, ◌++◌, length, take, drop, get_or, map, fold, Bool, true, false, cond, Option, None, Some, Result, Ok, Err, refl, sym, ap, ◌∙◌, subst, append_assoc}
+use Rattle.std.specs.Prelude.{◌&&◌}
+use Rattle.std.proofs.lemmas.Bool.{lt-ltb, le-leb, true≢false}
+use Rattle.lapd_script.specs.Meaning as meaning
+use Rattle.lapd_script.specs.declared.kind.FaultKind.TheVariants.{BadLine, BadFrame}
+use Rattle.std.proofs.lemmas.List.{append-nil, map-append, take_more, take-append-drop}
+use Rattle.std.proofs.lemmas.Grind.{fold-append}
+use Rattle.lapd_line_machine.specs.Answer.{octet}
+use Rattle.lapd_card_machine.specs.Event.{Event, at}
+use Rattle.lapd_card_machine.specs.Machine.{answer}
+use Rattle.lapd_transcript.specs.Streams.{Taken, IsWritten, IsBroken}
+use Rattle.lapd_transcript.proofs.Known.{broken_more}
+use Rattle.lapd_sim_machine.specs.Bench.{Bench}
+use Rattle.lapd_clock.specs.Timers.{due_at}
+use Rattle.lapd_script.specs.declared.kind.FaultKind.{FaultKind}
+use Rattle.lapd_sim_machine.specs.Steps.{Scene, with_event, with_events, octets_at, after_rx, at_line, answer_text, expiries, expired, Pulls, pulls, one_pull, after_pull, after_in, with_card}
+use Rattle.lapd_sim.specs.declared.faults.LineFault.{LineFault}
+use Rattle.lapd_sim.specs.declared.faults.LineFault.TheVariants.{Faulty, Write, OutOfMemory}
+use Rattle.lapd_sim.specs.Obeyed.{Obeys, scene}
+
+-- one octet more
+pub rx_more : (line : ℕ) (xs : List ℕ) (i : ℕ) (s : Scene) → i < length xs
+    → after_rx line (take (i + 1) xs) s ≡ with_event (after_rx line (take i xs) s) (at line (octet (get_or xs i 0)))
+rx_more line xs i s h =
+    ap (λ l. fold with_event s (octets_at line l)) (take_more xs i 0 h)
+    ∙ ap (fold with_event s) (map-append (λ value. at line (octet value)) (take i xs) (get_or xs i 0 ∷ []))
+    ∙ fold-append with_event s (octets_at line (take i xs)) (octets_at line (get_or xs i 0 ∷ []))
+
+-- what has been said stays said
+pub events_say : (es : List Event) (s : Scene) → (more : List ℕ) × ((with_events es s).text ≡ s.text ++ more)
+events_say [] s = ([], sym (append-nil s.text))
+events_say (e ∷ es) s =
+    let rest = events_say es (with_event s e) in
+    let said = answer_text e.line (answer e s.bench.card) in
+    (said ++ rest.0, rest.1 ∙ append_assoc s.text said rest.0)
+
+pub rx_says : (line : ℕ) (xs : List ℕ) (n : ℕ) (s : Scene) → (more : List ℕ) × ((after_rx line xs s).text ≡ (after_rx line (take n xs) s).text ++ more)
+rx_says line xs n s =
+    let rest = events_say (octets_at line (drop n xs)) (after_rx line (take n xs) s) in (
+      rest.0,
+      ap (λ l. (after_rx line l s).text) (sym (take-append-drop n xs))
+          ∙ ap (λ es. (fold with_event s es).text) (map-append (λ value. at line (octet value)) (take n xs) (drop n xs))
+          ∙ ap (λ z. Scene.text z) (fold-append with_event s (octets_at line (take n xs)) (octets_at line (drop n xs)))
+          ∙ rest.1,
+    )
+
+-- a beginning of the first octets' text is a beginning of the whole
+pub broken_rx : (a b : Taken) (line : ℕ) (xs : List ℕ) (n : ℕ) (s : Scene) → IsBroken a b (after_rx line (take n xs) s).text → IsBroken a b (after_rx line xs s).text
+broken_rx a b line xs n s h =
+    let rest = rx_says line xs n s in
+    subst (λ text. IsBroken a b text) (sym rest.1) (broken_more a b (after_rx line (take n xs) s).text rest.0 h)
+
+-- events leave the terminals, what was taken, and the card's configuration
+abbrev pub Keeps : Bench → Bench → Type 0
+Keeps m n = (n.terminals ≡ m.terminals) × (n.taken ≡ m.taken) × (n.card.config ≡ m.card.config)
+
+pub events_keep : (es : List Event) (s : Scene) → Keeps s.bench (with_events es s).bench
+events_keep [] s = (refl, refl, refl)
+events_keep (e ∷ es) s = events_keep es (with_event s e)
+
+-- where the line is there
+pub at_line_is : (line : ℕ) (s after : Scene) → line < s.bench.card.config.lines → at_line line s after ≡ Ok after
+at_line_is line s after h = rw (lt-ltb line s.bench.card.config.lines h) refl
+
+pub expiries_keep : (n end : ℕ) (s : Scene) → Keeps s.bench (expiries n end s).bench
+expiries_keep zero end s = (refl, refl, refl)
+expiries_keep (suc n) end s =
+    elim (due_at s.bench.clock end) as (λ o. Keeps s.bench (elim o as (λ _. Scene) [ None ↦ s | Some due ↦ expiries n end (expired end due.0 due.1 s) ]).bench) [
+      | None ↦ (refl, refl, refl)
+      | Some due ↦ expiries_keep n end (expired end due.0 due.1 s)
+    ]
+
+-- what has been obeyed at the exchange has been obeyed at the bench
+pub obeyed_at : (r : Result Unit LineFault) (a b : Taken) (P Q : Bench → Type 0) (test : Bool) (t : Scene) (kind : FaultKind) → (P t.bench → Q t.bench)
+    → Obeys r a b P (cond test (Ok t) (Err kind)) → Obeys r a b Q (cond test (Ok t) (Err kind))
+obeyed_at (Ok u) a b P Q true t kind f h = (h.0, f h.1)
+obeyed_at (Ok u) a b P Q false t kind f h = absurd h
+obeyed_at (Err (Faulty k)) a b P Q test t kind f h = h
+obeyed_at (Err Write) a b P Q true t kind f h = h
+obeyed_at (Err Write) a b P Q false t kind f h = absurd h
+obeyed_at (Err OutOfMemory) a b P Q test t kind f h = absurd h
+
+-- what happened at a line that is there
+pub obeyed_there : (a b : Taken) (Q : Bench → Type 0) (line : ℕ) (s after : Scene) → line < s.bench.card.config.lines → IsWritten a b after.text → Q after.bench → Obeys (Ok tt) a b Q (at_line line s after)
+obeyed_there a b Q line s after there written stands = subst (λ said. Obeys (Ok tt) a b Q said) (sym (at_line_is line s after there)) (written, stands)
+
+pub broken_there : (a b : Taken) (Q : Bench → Type 0) (line : ℕ) (s after : Scene) → line < s.bench.card.config.lines → IsBroken a b after.text → Obeys (Err Write) a b Q (at_line line s after)
+broken_there a b Q line s after there broken = subst (λ said. Obeys (Err Write) a b Q said) (sym (at_line_is line s after there)) broken
+
+pub pulls_keep : (n line : ℕ) (p : Pulls) → Keeps p.bench (pulls n line p).bench
+pulls_keep zero line p = (refl, refl, refl)
+pulls_keep (suc n) line p = pulls_keep n line (one_pull line p)
+
+-- what was pulled at a line that is there
+pub pull_obeyed : (a b : Taken) (Q : Bench → Type 0) {line at_it : ℕ} → line ≡ at_it → (count : ℕ) (m : Bench) → line < m.card.config.lines
+    → IsWritten a b (after_pull line count (scene m)).text → Q (after_pull line count (scene m)).bench → Obeys (Ok tt) a b Q (at_line at_it (scene m) (after_pull at_it count (scene m)))
+pull_obeyed a b Q {line} e count m there written stands =
+    subst (λ n. Obeys (Ok tt) a b Q (at_line n (scene m) (after_pull n count (scene m)))) e (obeyed_there a b Q line (scene m) (after_pull line count (scene m)) there written stands)
+
+pub pull_broken : (a b : Taken) (Q : Bench → Type 0) {line at_it : ℕ} → line ≡ at_it → (count : ℕ) (m : Bench) → line < m.card.config.lines
+    → IsBroken a b (after_pull line count (scene m)).text → Obeys (Err Write) a b Q (at_line at_it (scene m) (after_pull at_it count (scene m)))
+pull_broken a b Q {line} e count m there broken =
+    subst (λ n. Obeys (Err Write) a b Q (at_line n (scene m) (after_pull n count (scene m)))) e (broken_there a b Q line (scene m) (after_pull line count (scene m)) there broken)
+
+-- a frame from the terminal of a line that is there
+three_yes : {X : Type 0} (a b c : Bool) (x : X) (y z : X) → a ≡ true → b ≡ true → c ≡ true → cond a (cond (b && c) x y) z ≡ x
+three_yes true true true x y z e f h = refl
+three_yes false b c x y z e f h = absurd (true≢false (sym e))
+three_yes true false c x y z e f h = absurd (true≢false (sym f))
+three_yes true true false x y z e f h = absurd (true≢false (sym h))
+
+frame_is : (line : ℕ) (frame : List ℕ) (s : Scene) → line < s.bench.card.config.lines → 3 ≤ length frame → length frame ≤ 1028
+    → with_card (meaning.into line frame) s ≡ Ok (after_in line frame s)
+frame_is line frame s there short long =
+    three_yes (nat_lt line s.bench.card.config.lines) (nat_le 3 (length frame)) (nat_le (length frame) 1028) (Ok (after_in line frame s)) (Err BadFrame) (Err BadLine)
+    (lt-ltb line s.bench.card.config.lines there) (le-leb 3 (length frame) short) (le-leb (length frame) 1028 long)
+
+pub frame_obeyed : (a b : Taken) (Q : Bench → Type 0) {line at_it : ℕ} → line ≡ at_it → (frame : List ℕ) (m : Bench) → line < m.card.config.lines → 3 ≤ length frame → length frame ≤ 1028
+    → IsWritten a b (after_in line frame (scene m)).text → Q (after_in line frame (scene m)).bench → Obeys (Ok tt) a b Q (with_card (meaning.into at_it frame) (scene m))
+frame_obeyed a b Q {line} e frame m there short long written stands =
+    subst (λ n. Obeys (Ok tt) a b Q (with_card (meaning.into n frame) (scene m))) e
+    (subst (λ said. Obeys (Ok tt) a b Q said) (sym (frame_is line frame (scene m) there short long)) (written, stands))
+
+pub frame_broken : (a b : Taken) (Q : Bench → Type 0) {line at_it : ℕ} → line ≡ at_it → (frame : List ℕ) (m : Bench) → line < m.card.config.lines → 3 ≤ length frame → length frame ≤ 1028
+    → IsBroken a b (after_in line frame (scene m)).text → Obeys (Err Write) a b Q (with_card (meaning.into at_it frame) (scene m))
+frame_broken a b Q {line} e frame m there short long broken =
+    subst (λ n. Obeys (Err Write) a b Q (with_card (meaning.into n frame) (scene m))) e
+    (subst (λ said. Obeys (Err Write) a b Q said) (sym (frame_is line frame (scene m) there short long)) broken)

@@ -1,0 +1,21 @@
+use Rattle.std.proofs.Common.{◌≡◌, ◌+◌, sym, subst, nat_le}
+use Rattle.lapd_clock.specs.Timers.{time_until}
+use Rattle.lapd_script.specs.declared.kind.FaultKind.TheVariants.{TimeOver}
+use Rattle.lapd_sim_machine.specs.Bench as machine
+use Rattle.lapd_sim_machine.specs.Steps.{after_wait, last_moment}
+use Rattle.lapd_sim.specs.Obeyed.{scene}
+use Rattle.lapd_sim.specs.Stands.{Stands, Each, Hears, Holds, Sends}
+use Rattle.lapd_sim.proofs.Scenes.{obeyed_at, expiries_keep}
+use Rattle.lapd_sim.proofs.bench.Bench.wait.Goals as goal
+
+pub returns : goal.returns
+returns g c = λ m h.
+    let end = m.now + c.args.milliseconds in
+    let keep = expiries_keep (time_until end m.clock) end (scene m) in
+    obeyed_at c.wait.result _ _ (Holds c.wait.new.self) (Stands _) (nat_le end last_moment) (after_wait c.args.milliseconds (scene m)) TimeOver
+    (λ holds. record {
+      exchange = holds;
+      terminals = subst (λ ts. Each Sends c.args.self.now.terminals.items ts) (sym keep.0) h.terminals;
+      listeners = subst (λ ts. Each Hears c.args.self.now.listeners.items ts) (sym keep.1) h.listeners;
+    })
+    (c.wait.ensures.told m h.exchange)

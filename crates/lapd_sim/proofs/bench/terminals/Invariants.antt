@@ -1,6 +1,0 @@
-use Rattle.std.proofs.Common.{◌≡◌, vec_len}
-use Rattle.lapd_sim.proofs.bench.terminals.Given as goal
-
--- one for each line so far
-abbrev pub invariant-loop : goal.invariant-loop
-invariant-loop l = vec_len l.terminals ≡ l.counter

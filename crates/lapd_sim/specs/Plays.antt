@@ -1,0 +1,50 @@
+-- What a script that was played has written, and why it ended.
+use Rattle.std.specs.Prelude.{◌≡◌, ℕ, ◌==◌, List, [], ◌∷◌, ◌++◌, take, filter, Bool, Option, None, Some, Result, Ok, Err}
+use Rattle.std.specs.List.{list_any}
+use Rattle.lapd_transcript.specs.Streams.{Taken, IsWritten, IsBroken}
+use Rattle.lapd_sim_machine.specs.Pieces.{pieces_of}
+use Rattle.lapd_sim_machine.specs.Script.{played, transcript, first_fault}
+use Rattle.lapd_sim.specs.declared.faults.PlayFault.{PlayFault}
+use Rattle.lapd_sim.specs.declared.faults.PlayFault.TheVariants.{Read, Write, Script, OutOfMemory}
+
+-- The lines of what was read whose line feed (octet 10) had come.
+abbrev pub is_whole : List ℕ → Bool
+is_whole piece = list_any (λ octet. octet == 10) piece
+
+abbrev pub whole_lines : List ℕ → List (List ℕ)
+whole_lines read = filter is_whole (pieces_of read)
+
+-- The transcript of these lines has been written, and none of them is faulty.
+pub record AreAnswered (pieces : List (List ℕ)) (old new : Taken) : Type 0 where
+  pub sound : (played pieces).fault ≡ None
+  pub written : IsWritten old new (played pieces).written
+
+-- A read failed: what had been read by then, and what had not.
+pub record IsAnsweredToHere (text : List ℕ) (remaining : Option (List ℕ)) (old new : Taken) : Type 0 where
+  pub read : List ℕ
+  pub unread : List ℕ
+  pub is : text ≡ read ++ unread
+  pub tells : remaining ≡ Some unread
+  pub answered : AreAnswered (whole_lines read) old new
+
+-- Memory was refused: before the first line or at the card line, so that nothing has been written.
+pub record IsBeforeCard (text : List ℕ) (old new : Taken) : Type 0 where
+  pub lines : ℕ
+  pub no_card : (played (take lines (pieces_of text))).bench ≡ None
+  pub sound : (played (take lines (pieces_of text))).fault ≡ None
+  pub unwritten : IsWritten old new []
+
+abbrev pub Plays : Result Unit PlayFault → List ℕ → Option (List ℕ) → Taken → Taken → Type 0
+Plays (Ok _) text remaining old new = (first_fault text ≡ None) × IsWritten old new (transcript text) × (remaining ≡ Some [])
+Plays (Err (Script line kind)) text remaining old new = (first_fault text ≡ Some (record { line = line; kind = kind })) × IsWritten old new (transcript text)
+Plays (Err Read) text remaining old new = IsAnsweredToHere text remaining old new
+Plays (Err Write) text remaining old new = IsBroken old new (transcript text)
+Plays (Err OutOfMemory) text remaining old new = IsBeforeCard text old new
+
+-- The same of a script and a transcript in memory: what the transcript is, from what it was.
+abbrev pub PlaysOctets : Result Unit PlayFault → List ℕ → List ℕ → List ℕ → Type 0
+PlaysOctets (Ok _) text old new = (first_fault text ≡ None) × (new ≡ old ++ transcript text)
+PlaysOctets (Err (Script line kind)) text old new = (first_fault text ≡ Some (record { line = line; kind = kind })) × (new ≡ old ++ transcript text)
+PlaysOctets (Err Read) text old new = (n : ℕ) × ((played (whole_lines (take n text))).fault ≡ None) × (new ≡ old ++ (played (whole_lines (take n text))).written)
+PlaysOctets (Err Write) text old new = (n : ℕ) × (new ≡ old ++ take n (transcript text))
+PlaysOctets (Err OutOfMemory) text old new = (n : ℕ) × ((played (take n (pieces_of text))).bench ≡ None) × ((played (take n (pieces_of text))).fault ≡ None) × (new ≡ old)

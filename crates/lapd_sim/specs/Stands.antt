@@ -1,0 +1,51 @@
+-- What the parts of a simulator stand for: the bench of the machine that a script is played on.
+use Rattle.std.specs.Prelude.{◌≡◌, ℕ, List, [], ◌∷◌, length, Option, None, Some}
+use Rattle.lapd_bits.specs.Framer as framing
+use Rattle.lapd_bits.specs.Deframer as deframing
+use Rattle.lapd_bits.specs.declared.deframer.Deframer.{Deframer}
+use Rattle.lapd_card.specs.Stands as card
+use Rattle.lapd_store.specs.Store.{Store}
+use Rattle.lapd_sim_machine.specs.Bench as machine
+use Rattle.lapd_sim.specs.declared.bench.Bench.{Bench}
+use Rattle.lapd_sim.specs.declared.exchange.Exchange.{Exchange}
+use Rattle.lapd_sim.specs.declared.terminal.Terminal.{Terminal}
+
+-- a shelf is seen as what it stores
+abbrev pub as_store : Store → Store
+as_store shelf = shelf
+
+-- The card, its clock and the moment.
+pub record Holds (e : Exchange) (m : machine.Bench) : Type 0 where
+  pub config : m.card.config ≡ e.config
+  pub card : card.Stands as_store e.card m.card
+  pub clock : e.clock ≡ m.clock
+  pub now : e.moment ≡ m.now
+
+-- A terminal has put these items on its line, and given so many octets of them.
+pub record Sends (t : Terminal) (m : machine.Terminal) : Type 0 where
+  pub octets : List ℕ
+  pub stands : framing.Stands t.framer m.items octets
+  pub given : length octets ≡ m.given
+
+-- A listener has heard these octets, in which frames have up to 1,024 octets of information (profile).
+abbrev pub Hears : Deframer → List ℕ → Type 0
+Hears listener taken = deframing.Stands 1024 listener taken
+
+-- One by one.
+abbrev pub Each : {A B : Type 0} → (A → B → Type 0) → List A → List B → Type 0
+Each R [] [] = Unit {0}
+Each R [] (y ∷ ys) = ⊥
+Each R (x ∷ xs) [] = ⊥
+Each R (x ∷ xs) (y ∷ ys) = R x y × Each R xs ys
+
+pub record Stands (b : Bench) (m : machine.Bench) : Type 0 where
+  pub exchange : Holds b.exchange m
+  pub terminals : Each Sends b.terminals.items m.terminals
+  pub listeners : Each Hears b.listeners.items m.taken
+
+-- Before the card line there is no bench.
+abbrev pub Has : Option Bench → Option machine.Bench → Type 0
+Has None None = Unit {0}
+Has None (Some m) = ⊥
+Has (Some b) None = ⊥
+Has (Some b) (Some m) = Stands b m

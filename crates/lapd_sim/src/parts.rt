@@ -1,0 +1,78 @@
+//! What a bench begins with, and what the words of a script ask of it.
+
+ghost use Rattle.std.specs.Prelude.{◌≡◌, [], vec_len, replicate, IfOk};
+ghost use Rattle.lapd_line_machine.specs.Request as asking;
+ghost use Rattle.lapd_sim_machine.specs.Steps.{config_of, request_for};
+ghost use Rattle.lapd_sim.specs.Stands.{Each, Hears, Sends};
+
+use crate::terminal::{LONGEST_INFORMATION, Terminal};
+use lapd_bits::Deframer;
+use lapd_card::{Config, Request};
+use lapd_script::{Asked, CardNumbers};
+use std::alloc::{AllocError, Global};
+
+/// A terminal for each line.
+pub(crate) fn terminals(alloc: Global, lines: usize) -> Result<Vec<Terminal>, AllocError>
+    ensures count { IfOk result (λ terminals. vec_len terminals ≡ lines) }
+    ensures begun { IfOk result (λ terminals. Each Sends terminals.items (replicate lines (record { items = []; given = 0 }))) }
+{
+    let mut terminals = Vec::with_capacity(alloc, lines)?;
+    for _ in 0..lines {
+        if terminals.push(Terminal::start(alloc)?).is_err() {
+            return Err(AllocError);
+        }
+    }
+    Ok(terminals)
+}
+
+/// A listener for each line.
+pub(crate) fn listeners(alloc: Global, lines: usize) -> Result<Vec<Deframer>, AllocError>
+    ensures count { IfOk result (λ listeners. vec_len listeners ≡ lines) }
+    ensures begun { IfOk result (λ listeners. Each Hears listeners.items (replicate lines [])) }
+{
+    let mut listeners = Vec::with_capacity(alloc, lines)?;
+    for _ in 0..lines {
+        let Ok(listener) = Deframer::start(alloc, LONGEST_INFORMATION) else {
+            return Err(AllocError);
+        };
+        if listeners.push(listener).is_err() {
+            return Err(AllocError);
+        }
+    }
+    Ok(listeners)
+}
+
+/// The configuration that the numbers of a card line are.
+pub(crate) fn config_of(numbers: CardNumbers) -> Config
+    ensures { result ≡ config_of numbers }
+{
+    Config {
+        lines: numbers.lines,
+        terminals: numbers.terminals,
+        k: numbers.k,
+        k16: numbers.k16,
+        queue: numbers.queue,
+        unit_queue: numbers.unit_queue,
+        control: numbers.control,
+        slots: numbers.slots,
+        n201: numbers.n201,
+        n200: numbers.n200,
+    }
+}
+
+/// What a word of a script asks of the card.
+pub(crate) fn request_for(what: Asked, tei: u8, octets: &[u8]) -> Request<'_>
+    ensures { asking.request_of result ≡ request_for what tei octets.now }
+{
+    match what {
+        Asked::Assign => Request::Assign(tei),
+        Asked::Remove => Request::Remove(tei),
+        Asked::Check => Request::Check(tei),
+        Asked::Establish(service) => Request::Establish(service, tei),
+        Asked::Release(service) => Request::Release(service, tei),
+        Asked::SetBusy(service) => Request::SetBusy(service, tei),
+        Asked::ClearBusy(service) => Request::ClearBusy(service, tei),
+        Asked::Data(service) => Request::Data(service, tei, octets),
+        Asked::Unit(service) => Request::Unit(service, tei, octets),
+    }
+}

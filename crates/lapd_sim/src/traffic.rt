@@ -1,0 +1,143 @@
+//! What comes from a line, and what a line takes.
+
+ghost use Rattle.std.specs.Prelude.{◌≡◌, ◌<◌, ◌≤◌, ℕ, List, [], ◌++◌, length, flat_map, OnOk};
+ghost use Rattle.lapd_bits.specs.Framer as framing;
+ghost use Rattle.lapd_bits.specs.Sent.{Item};
+ghost use Rattle.lapd_transcript.specs.Streams.{Writes};
+ghost use Rattle.lapd_transcript.specs.Text.{frame_text};
+ghost use Rattle.lapd_sim_machine.specs.Bench as machine;
+ghost use Rattle.lapd_sim_machine.specs.Steps.{after_rx, pulls, pulled_text};
+ghost use Rattle.lapd_sim.specs.Gives.{Gives};
+ghost use Rattle.lapd_sim.specs.Obeyed.{scene, Tells};
+ghost use Rattle.lapd_sim.specs.Stands.{Hears, Holds, Sends};
+
+use crate::exchange::Exchange;
+use crate::terminal::Terminal;
+use lapd_bits::{Deframer, Heard};
+use lapd_transcript::{Target, WriteFailed, write_frame, write_sent};
+
+/// Octets come from a line.
+pub(crate) fn receive<T: Target>(
+    exchange: &mut Exchange,
+    line: usize,
+    octets: &[u8],
+    target: &mut T,
+) -> Result<(), WriteFailed>
+    requires { line < exchange.old.config.lines }
+    ensures config { exchange.new.config ≡ exchange.old.config }
+    ensures told { (m : machine.Bench) → Holds exchange.old m
+        → Tells result (T.taken target.old) (T.taken target.new) (Holds exchange.new) (after_rx line octets.now (scene m)) }
+{
+    for octet in octets {
+        if let Err(WriteFailed) = exchange.octet(line, *octet, target) {
+            return Err(WriteFailed);
+        }
+    }
+    Ok(())
+}
+
+/// The terminal of a line sends a frame, up to and with the last bit of its closing flag.
+pub(crate) fn send<T: Target>(
+    terminal: &mut Terminal,
+    frame: &[u8],
+    exchange: &mut Exchange,
+    line: usize,
+    target: &mut T,
+) -> Result<(), WriteFailed>
+    requires line { line < exchange.old.config.lines }
+    requires short { 3 ≤ length frame.now }
+    requires long { length frame.now ≤ 1028 }
+    ensures config { exchange.new.config ≡ exchange.old.config }
+    ensures told { (m : machine.Bench) (t : machine.Terminal) → Holds exchange.old m → Sends terminal.old t
+        → Tells result (T.taken target.old) (T.taken target.new) (Holds exchange.new) (after_rx line (machine.octets_sent frame.now t) (scene m)) }
+    ensures after { OnOk result ((t : machine.Terminal) → Sends terminal.old t → Sends terminal.new (machine.after_sending frame.now t)) }
+{
+    if let Err(WriteFailed) = give(terminal, exchange, line, target) {
+        return Err(WriteFailed);
+    }
+    terminal.load(frame);
+    if let Err(WriteFailed) = give(terminal, exchange, line, target) {
+        return Err(WriteFailed);
+    }
+    if terminal.has_rest() {
+        let octet = terminal.octet();
+        return exchange.octet(line, octet, target);
+    }
+    Ok(())
+}
+
+/// What a terminal has to send, but for the last bits that are no whole octet, comes from its line.
+fn give<T: Target>(
+    terminal: &mut Terminal,
+    exchange: &mut Exchange,
+    line: usize,
+    target: &mut T,
+) -> Result<(), WriteFailed>
+    requires { line < exchange.old.config.lines }
+    ensures config { exchange.new.config ≡ exchange.old.config }
+    ensures rest { OnOk result (length terminal.new.framer.left < 8) }
+    ensures told { (items : List Item) (given : List ℕ) → framing.Stands terminal.old.framer items given
+        → Gives result (T.taken target.old) (T.taken target.new) (Holds exchange.old) (Holds exchange.new) line items given terminal.new.framer }
+{
+    while terminal.is_busy() {
+        let octet = terminal.octet();
+        if let Err(WriteFailed) = exchange.octet(line, octet, target) {
+            return Err(WriteFailed);
+        }
+    }
+    Ok(())
+}
+
+/// A line takes as many octets as there is room for.
+pub(crate) fn pull(exchange: &mut Exchange, line: usize, room: &mut [u8])
+    requires { line < exchange.old.config.lines }
+    ensures config { exchange.new.config ≡ exchange.old.config }
+    ensures pulled { (m : machine.Bench) → Holds exchange.old m
+        → room.new ≡ (pulls (length room.old) line (record { bench = m; octets = [] })).octets }
+    ensures after { (m : machine.Bench) → Holds exchange.old m
+        → Holds exchange.new (pulls (length room.old) line (record { bench = m; octets = [] })).bench }
+{
+    for place in room.iter_mut() {
+        *place = exchange.pull(line);
+    }
+}
+
+/// Writes the octets that a line took, and the frames that are complete in them.
+pub(crate) fn tell<T: Target>(
+    listener: &mut Deframer,
+    line: usize,
+    octets: &[u8],
+    target: &mut T,
+) -> Result<(), WriteFailed>
+    requires { line < 65536 }
+    ensures told { (past : List ℕ) → Hears listener.old past
+        → Writes result (T.taken target.old) (T.taken target.new) (pulled_text line past octets.now) }
+    ensures after { OnOk result ((past : List ℕ) → Hears listener.old past → Hears listener.new (past ++ octets.now)) }
+{
+    if let Err(WriteFailed) = write_sent(target, line as u16, octets) {
+        return Err(WriteFailed);
+    }
+    show_frames(listener, line, octets, target)
+}
+
+/// Writes the frames that are complete in what a line took.
+fn show_frames<T: Target>(
+    listener: &mut Deframer,
+    line: usize,
+    octets: &[u8],
+    target: &mut T,
+) -> Result<(), WriteFailed>
+    requires { line < 65536 }
+    ensures told { (past : List ℕ) → Hears listener.old past
+        → Writes result (T.taken target.old) (T.taken target.new) (flat_map (frame_text line) (machine.found past octets.now)) }
+    ensures after { OnOk result ((past : List ℕ) → Hears listener.old past → Hears listener.new (past ++ octets.now)) }
+{
+    for octet in octets {
+        if let Heard::Frame(frame) = listener.octet(*octet) {
+            if let Err(WriteFailed) = write_frame(target, line as u16, frame) {
+                return Err(WriteFailed);
+            }
+        }
+    }
+    Ok(())
+}

@@ -11,9 +11,9 @@
 //! - `memory`: starts and long runs, of which `tests/memory` counts the allocations.
 #![tactic(auto)]
 
-mod kept;
 #[cfg(test)]
 mod example;
+mod kept;
 #[cfg(test)]
 mod memory;
 #[cfg(test)]

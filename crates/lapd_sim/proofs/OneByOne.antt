@@ -31,9 +31,10 @@ text_onto (e ∷ events) m x =
     ∙ ap (λ l. x ++ l) (sym (text_onto events (happened m e) said))
 
 tells_onto : (r : Result Unit WriteFailed) (a b c : Taken) (P : Bench → Type 0) (events : List Event) (s : Scene) → IsWritten a b s.text → Tells r b c P (with_events events (scene s.bench)) → Tells r a c P (with_events events s)
-tells_onto (Ok u) a b c P events s before told =
-    (subst (λ text. IsWritten a c text) (sym (text_onto events s.bench s.text)) (writes_then (Ok u) a b c s.text (with_events events (scene s.bench)).text before told.0),
-    subst P (bench_onto events s.bench [] s.text) told.1)
+tells_onto (Ok u) a b c P events s before told = (
+  subst (λ text. IsWritten a c text) (sym (text_onto events s.bench s.text)) (writes_then (Ok u) a b c s.text (with_events events (scene s.bench)).text before told.0),
+  subst P (bench_onto events s.bench [] s.text) told.1,
+)
 tells_onto (Err e) a b c P events s before told =
     subst (λ text. IsBroken a c text) (sym (text_onto events s.bench s.text)) (writes_then (Err e) a b c s.text (with_events events (scene s.bench)).text before told)
 

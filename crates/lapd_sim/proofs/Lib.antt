@@ -1,4 +1,6 @@
 pub mod Left
+pub mod OneByOne
+pub mod Terminals
 mod Scenes
 mod Eachs
 mod Wholes

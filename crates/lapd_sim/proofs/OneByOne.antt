@@ -1,6 +1,6 @@
 -- What comes from a line and what a line takes, one octet more.
-use Rattle.std.proofs.Common.{◌≡◌, ℕ, zero, suc, ◌+◌, ◌<◌, List, [], ◌∷◌, ◌++◌, length, take, drop, set, map, fold, Result, Ok, Err, refl, ap, sym, ◌∙◌, subst, arith, append_assoc, add-one}
-use Rattle.std.proofs.lemmas.List.{append-nil, map-append, take-append-drop, take_more_set}
+use Rattle.std.proofs.Common.{◌≡◌, ℕ, List, [], ◌∷◌, ◌++◌, map, Result, Ok, Err, refl, ap, sym, ◌∙◌, subst, append_assoc}
+use Rattle.std.proofs.lemmas.List.{append-nil, map-append}
 use Rattle.std.proofs.lemmas.List.Sums.{fold-append}
 use Rattle.lapd_line_machine.specs.Answer as happening
 use Rattle.lapd_card_machine.specs.Event.{Event, at}
@@ -9,7 +9,7 @@ use Rattle.lapd_transcript.specs.declared.streams.WriteFailed.{WriteFailed}
 use Rattle.lapd_transcript.specs.Streams.{Taken, IsWritten, IsBroken}
 use Rattle.lapd_transcript.proofs.Known.{writes_then, broken_more, appends_nothing}
 use Rattle.lapd_sim_machine.specs.Bench.{Bench, happened}
-use Rattle.lapd_sim_machine.specs.Steps.{Scene, with_event, with_events, answer_text, octets_at, after_rx, octet_in, Pulls, one_pull, pulls}
+use Rattle.lapd_sim_machine.specs.Steps.{Scene, with_event, with_events, answer_text, octets_at, after_rx}
 use Rattle.lapd_sim.specs.Obeyed.{scene, Tells}
 
 -- ---- what is said after what was said before
@@ -31,9 +31,10 @@ text_onto (e ∷ events) m x =
     ∙ ap (λ l. x ++ l) (sym (text_onto events (happened m e) said))
 
 tells_onto : (r : Result Unit WriteFailed) (a b c : Taken) (P : Bench → Type 0) (events : List Event) (s : Scene) → IsWritten a b s.text → Tells r b c P (with_events events (scene s.bench)) → Tells r a c P (with_events events s)
-tells_onto (Ok u) a b c P events s before told =
-    (subst (λ text. IsWritten a c text) (sym (text_onto events s.bench s.text)) (writes_then (Ok u) a b c s.text (with_events events (scene s.bench)).text before told.0),
-    subst P (bench_onto events s.bench [] s.text) told.1)
+tells_onto (Ok u) a b c P events s before told = (
+  subst (λ text. IsWritten a c text) (sym (text_onto events s.bench s.text)) (writes_then (Ok u) a b c s.text (with_events events (scene s.bench)).text before told.0),
+  subst P (bench_onto events s.bench [] s.text) told.1,
+)
 tells_onto (Err e) a b c P events s before told =
     subst (λ text. IsBroken a c text) (sym (text_onto events s.bench s.text)) (writes_then (Err e) a b c s.text (with_events events (scene s.bench)).text before told)
 

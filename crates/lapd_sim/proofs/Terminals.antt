@@ -14,7 +14,7 @@ use Rattle.lapd_line_machine.specs.Answer as happening
 use Rattle.lapd_card_machine.specs.Event.{at}
 use Rattle.lapd_transcript.specs.declared.streams.WriteFailed.{WriteFailed}
 use Rattle.lapd_transcript.specs.Streams.{Taken, IsBroken}
-use Rattle.lapd_sim_machine.specs.Bench.{Bench, Terminal, whole_octets, with_frame, sending, octets_sent, after_sending}
+use Rattle.lapd_sim_machine.specs.Bench.{Bench, Terminal, with_frame, sending, octets_sent, after_sending}
 use Rattle.lapd_sim_machine.specs.Steps.{with_event, after_rx}
 use Rattle.lapd_sim.specs.declared.terminal.Terminal as rust
 use Rattle.lapd_sim.specs.Gives.{Gives}
@@ -68,11 +68,12 @@ frame_tail octets t = whole_tail (length (line_text (with_frame octets t.items))
 
 pub items_tail : (octets : List ℕ) (t : Terminal) → (tail : List Bool) × (line_text (sending octets t) ≡ line_text t.items ++ tail)
 items_tail octets t =
-    let tail = frame_tail octets t in
-    (item_text (frame octets) ++ tail.0,
-    tail.1
-    ∙ ap (λ l. l ++ tail.0) (line_text-push t.items (frame octets))
-    ∙ append_assoc (line_text t.items) (item_text (frame octets)) tail.0)
+    let tail = frame_tail octets t in (
+      item_text (frame octets) ++ tail.0,
+      tail.1
+          ∙ ap (λ l. l ++ tail.0) (line_text-push t.items (frame octets))
+          ∙ append_assoc (line_text t.items) (item_text (frame octets)) tail.0,
+    )
 
 -- how many bits are left tells whether the last octet is whole
 length-text : (framer : Framing) (items : List Item) (given : List ℕ) → framing.Stands framer items given → length (line_text items) ≡ 8 * length given + length framer.left

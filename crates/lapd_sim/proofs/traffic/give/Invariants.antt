@@ -10,7 +10,7 @@ abbrev pub invariant-loop-terminal : goal.invariant-loop-terminal
 invariant-loop-terminal g l =
     (l.exchange.config ≡ l.fn.exchange.config)
     × ((items : List Item) (given : List ℕ) → framing.Stands l.fn.terminal.framer items given
-        → Gives (Ok tt) (g.T.Target.taken l.fn.target) (g.T.Target.taken l.target) (Holds l.fn.exchange) (Holds l.exchange) l.line items given l.terminal.framer)
+    → Gives (Ok tt) (g.T.Target.taken l.fn.target) (g.T.Target.taken l.target) (Holds l.fn.exchange) (Holds l.exchange) l.line items given l.terminal.framer)
 
 -- each octet takes eight of the bits that are left
 abbrev pub decreases-loop-terminal : goal.decreases-loop-terminal

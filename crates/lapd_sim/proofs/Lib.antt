@@ -2,6 +2,8 @@ pub mod Left
 pub mod Pieces
 pub mod Reading
 pub mod Advancing
+pub mod OneByOne
+pub mod Terminals
 mod Scenes
 mod Eachs
 mod Wholes

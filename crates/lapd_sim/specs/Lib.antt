@@ -4,3 +4,4 @@ pub mod Past
 pub mod Stands
 pub mod Obeyed
 pub mod Plays
+pub mod Gives

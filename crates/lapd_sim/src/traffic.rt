@@ -7,6 +7,7 @@ ghost use Rattle.lapd_transcript.specs.Streams.{Writes};
 ghost use Rattle.lapd_transcript.specs.Text.{frame_text};
 ghost use Rattle.lapd_sim_machine.specs.Bench as machine;
 ghost use Rattle.lapd_sim_machine.specs.Steps.{after_rx, pulls, pulled_text};
+ghost use Rattle.lapd_sim.specs.Gives.{Gives};
 ghost use Rattle.lapd_sim.specs.Obeyed.{scene, Tells};
 ghost use Rattle.lapd_sim.specs.Stands.{Hears, Holds, Sends};
 
@@ -75,11 +76,8 @@ fn give<T: Target>(
     requires { line < exchange.old.config.lines }
     ensures config { exchange.new.config ≡ exchange.old.config }
     ensures rest { OnOk result (length terminal.new.framer.left < 8) }
-    // There are octets that it gave, of which the last may not have been told; it has sent the same items.
-    ensures told { (m : machine.Bench) (items : List Item) (given : List ℕ)
-        → Holds exchange.old m → framing.Stands terminal.old.framer items given
-        → (octets : List ℕ) × framing.Stands terminal.new.framer items (given ++ octets)
-        × Tells result (T.taken target.old) (T.taken target.new) (Holds exchange.new) (after_rx line octets (scene m)) }
+    ensures told { (items : List Item) (given : List ℕ) → framing.Stands terminal.old.framer items given
+        → Gives result (T.taken target.old) (T.taken target.new) (Holds exchange.old) (Holds exchange.new) line items given terminal.new.framer }
 {
     while terminal.is_busy() {
         let octet = terminal.octet();

@@ -1,10 +1,16 @@
-use Rattle.std.proofs.Common.{◌≡◌, length}
+use Rattle.std.proofs.Common.{◌≡◌, ℕ, List, Ok, length}
+use Rattle.lapd_bits.specs.Framer as framing
+use Rattle.lapd_bits.specs.Sent.{Item}
+use Rattle.lapd_sim.specs.Gives.{Gives}
+use Rattle.lapd_sim.specs.Stands.{Holds}
 use Rattle.lapd_sim.proofs.traffic.give.Given as goal
 
--- no write has failed, and the lines are the same
+-- the lines are the same, and the octets so far have come
 abbrev pub invariant-loop-terminal : goal.invariant-loop-terminal
 invariant-loop-terminal g l =
-    ((g.T.Target.taken l.target).failures ≡ (g.T.Target.taken l.fn.target).failures) × (l.exchange.config ≡ l.fn.exchange.config)
+    (l.exchange.config ≡ l.fn.exchange.config)
+    × ((items : List Item) (given : List ℕ) → framing.Stands l.fn.terminal.framer items given
+    → Gives (Ok tt) (g.T.Target.taken l.fn.target) (g.T.Target.taken l.target) (Holds l.fn.exchange) (Holds l.exchange) l.line items given l.terminal.framer)
 
 -- each octet takes eight of the bits that are left
 abbrev pub decreases-loop-terminal : goal.decreases-loop-terminal

@@ -1,0 +1,62 @@
+-- What comes from a line and what a line takes, one octet more.
+use Rattle.std.proofs.Common.{◌≡◌, ℕ, List, [], ◌∷◌, ◌++◌, map, Result, Ok, Err, refl, ap, sym, ◌∙◌, subst, append_assoc}
+use Rattle.std.proofs.lemmas.List.{append-nil, map-append}
+use Rattle.std.proofs.lemmas.List.Sums.{fold-append}
+use Rattle.lapd_line_machine.specs.Answer as happening
+use Rattle.lapd_card_machine.specs.Event.{Event, at}
+use Rattle.lapd_card_machine.specs.Machine.{answer}
+use Rattle.lapd_transcript.specs.declared.streams.WriteFailed.{WriteFailed}
+use Rattle.lapd_transcript.specs.Streams.{Taken, IsWritten, IsBroken}
+use Rattle.lapd_transcript.proofs.Known.{writes_then, broken_more, appends_nothing}
+use Rattle.lapd_sim_machine.specs.Bench.{Bench, happened}
+use Rattle.lapd_sim_machine.specs.Steps.{Scene, with_event, with_events, answer_text, octets_at, after_rx}
+use Rattle.lapd_sim.specs.Obeyed.{scene, Tells}
+
+-- ---- what is said after what was said before
+
+-- what happens does not depend on it,
+bench_onto : (events : List Event) (m : Bench) (x y : List ℕ) → (with_events events (record { bench = m; text = x })).bench ≡ (with_events events (record { bench = m; text = y })).bench
+bench_onto [] m x y = refl
+bench_onto (e ∷ events) m x y =
+    let said = answer_text e.line (answer e m.card) in
+    bench_onto events (happened m e) (x ++ said) (y ++ said)
+
+-- and what is said follows it
+text_onto : (events : List Event) (m : Bench) (x : List ℕ) → (with_events events (record { bench = m; text = x })).text ≡ x ++ (with_events events (scene m)).text
+text_onto [] m x = sym (append-nil x)
+text_onto (e ∷ events) m x =
+    let said = answer_text e.line (answer e m.card) in
+    text_onto events (happened m e) (x ++ said)
+    ∙ append_assoc x said (with_events events (scene (happened m e))).text
+    ∙ ap (λ l. x ++ l) (sym (text_onto events (happened m e) said))
+
+tells_onto : (r : Result Unit WriteFailed) (a b c : Taken) (P : Bench → Type 0) (events : List Event) (s : Scene) → IsWritten a b s.text → Tells r b c P (with_events events (scene s.bench)) → Tells r a c P (with_events events s)
+tells_onto (Ok u) a b c P events s before told = (
+  subst (λ text. IsWritten a c text) (sym (text_onto events s.bench s.text)) (writes_then (Ok u) a b c s.text (with_events events (scene s.bench)).text before told.0),
+  subst P (bench_onto events s.bench [] s.text) told.1,
+)
+tells_onto (Err e) a b c P events s before told =
+    subst (λ text. IsBroken a c text) (sym (text_onto events s.bench s.text)) (writes_then (Err e) a b c s.text (with_events events (scene s.bench)).text before told)
+
+-- ---- octets that come from a line
+
+pub after_rx-append : (line : ℕ) (octets more : List ℕ) (s : Scene) → after_rx line (octets ++ more) s ≡ after_rx line more (after_rx line octets s)
+after_rx-append line octets more s =
+    let event : ℕ → Event = λ value. at line (happening.octet value) in
+    ap (λ events. with_events events s) (map-append event octets more) ∙ fold-append with_event s (map event octets) (map event more)
+
+-- some octets, and then more
+pub tells_then : (r : Result Unit WriteFailed) (a b c : Taken) (P : Bench → Type 0) (line : ℕ) (octets more : List ℕ) (m : Bench) → IsWritten a b (after_rx line octets (scene m)).text → Tells r b c P (after_rx line more (scene (after_rx line octets (scene m)).bench)) → Tells r a c P (after_rx line (octets ++ more) (scene m))
+tells_then r a b c P line octets more m before told =
+    subst (λ s. Tells r a c P s) (sym (after_rx-append line octets more (scene m))) (tells_onto r a b c P (octets_at line more) (after_rx line octets (scene m)) before told)
+
+-- where a write failed, octets that were to follow change nothing
+pub broken_then : (a b : Taken) (line : ℕ) (octets more : List ℕ) (m : Bench) → IsBroken a b (after_rx line octets (scene m)).text → IsBroken a b (after_rx line (octets ++ more) (scene m)).text
+broken_then a b line octets more m broken =
+    let s = after_rx line octets (scene m) in
+    let whole : (after_rx line (octets ++ more) (scene m)).text ≡ s.text ++ (after_rx line more (scene s.bench)).text =
+    ap (λ (t : Scene). t.text) (after_rx-append line octets more (scene m)) ∙ text_onto (octets_at line more) s.bench s.text in
+    subst (λ text. IsBroken a b text) (sym whole) (broken_more a b s.text (after_rx line more (scene s.bench)).text broken)
+
+pub tells_none : (a : Taken) (P : Bench → Type 0) (m : Bench) → P m → Tells {E = WriteFailed} (Ok tt) a a P (scene m)
+tells_none a P m holds = (record { whole = appends_nothing a.contents; steady = refl }, holds)

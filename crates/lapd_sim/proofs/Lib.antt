@@ -1,1 +1,4 @@
 pub mod Left
+pub mod Exchanges
+pub mod Expiries
+pub mod Waits

@@ -1,5 +1,6 @@
 pub mod Faults
 pub mod Lines
+pub mod Past
 pub mod Stands
 pub mod Obeyed
 pub mod Plays

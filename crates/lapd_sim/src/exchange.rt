@@ -8,6 +8,7 @@ ghost use Rattle.lapd_clock.specs.Timers as clocks;
 ghost use Rattle.lapd_line_machine.specs.Answer as happening;
 ghost use Rattle.lapd_line_machine.specs.Request.{request_of};
 ghost use Rattle.lapd_line_machine.specs.Sound.{IsInRange};
+ghost use Rattle.lapd_sim.specs.Past.{HasPast};
 ghost use Rattle.lapd_sim_machine.specs.Bench as machine;
 ghost use Rattle.lapd_sim_machine.specs.Steps.{with_event, octet_in, at_expiry, until, in_time, after_stored};
 
@@ -32,6 +33,7 @@ pub(crate) struct Exchange {
     moment: u64,
     ghost in_range: { IsInRange config },
     ghost same_lines: { line_count card ≡ config.lines },
+    ghost past: { ∥ HasPast config card ∥₁ },
     ghost clock_lines: { clock.lines ≡ config.lines },
     ghost in_time: { moment < 2 ^ 63 },
 }

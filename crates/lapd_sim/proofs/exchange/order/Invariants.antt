@@ -1,6 +1,9 @@
-use Rattle.std.proofs.Common.{◌≡◌}
+use Rattle.std.proofs.Common.{◌≡◌, fold, take}
+use Rattle.lapd_sim_machine.specs.Bench.{ordered}
 use Rattle.lapd_sim.proofs.exchange.order.Given as goal
 
--- the clock has the same lines
+-- the orders so far have been applied
 abbrev pub invariant-loop-order : goal.invariant-loop-order
-invariant-loop-order l = l.clock.lines ≡ l.fn.clock.lines
+invariant-loop-order l =
+    (l.clock.lines ≡ l.fn.clock.lines)
+    × (l.clock ≡ fold (ordered l.line l.now) l.fn.clock (take l.order-index l.fn.orders))

@@ -1,11 +1,17 @@
 use Rattle.std.proofs.Common.{◌≡◌}
 use Rattle.lapd_clock.specs.Timers.{time_until}
+use Rattle.lapd_sim.specs.Stands.{Holds}
+use Rattle.lapd_sim.proofs.Waits.{Waits}
+use Rattle.lapd_sim_machine.specs.Bench as machine
 use Rattle.lapd_sim.proofs.exchange.Exchange.until.Given as goal
 
--- the lines are the same
+-- from every bench for which the exchange stood, some timers have expired
 abbrev pub invariant-loop-line : goal.invariant-loop-line
-invariant-loop-line l = l.self.config ≡ l.fn.self.config
+invariant-loop-line g l = record {
+  config : l.self.config ≡ l.fn.self.config;
+  waits : (m : machine.Bench) → Holds l.fn.self m → Waits l.self (g.T.Target.taken l.fn.target) (g.T.Target.taken l.target) l.end m;
+}
 
--- how long the running timers still run until the end
+-- each expiry lowers the time that is left
 abbrev pub decreases-loop-line : goal.decreases-loop-line
-decreases-loop-line l = time_until l.end l.self.clock
+decreases-loop-line g l = time_until l.end l.self.clock

@@ -1,0 +1,13 @@
+-- What an event leaves of an exchange.
+use Rattle.std.proofs.Math.Logic.{∥∥₁_map}
+use Rattle.lapd_card.specs.Card.{Held}
+use Rattle.lapd_card.specs.Stands.{Leads}
+use Rattle.lapd_card_machine.specs.Event.{Event}
+use Rattle.lapd_card_machine.specs.Machine.{after}
+use Rattle.lapd_line_machine.specs.declared.config.Config.{Config}
+use Rattle.lapd_sim.specs.Past.{HasPast}
+use Rattle.lapd_store.specs.Store.{Store}
+
+-- a card that an event leads on has a past again
+pub past_on : (config : Config) (e : Event) (old new : Held Store) → Leads (λ shelf. shelf) e old new → ∥ HasPast config old ∥₁ → ∥ HasPast config new ∥₁
+past_on config e old new leads past = ∥∥₁_map past (λ p. let (m, is, stands) = p in (after e m, is, leads.stands m stands))

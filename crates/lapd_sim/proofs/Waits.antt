@@ -1,0 +1,88 @@
+-- What has been written, and what an exchange stands for, while it waits.
+use Rattle.std.proofs.Common.{◌≡◌, ℕ, ◌<◌, List, [], ◌++◌, Some, None, Ok, Err, refl, sym, ap, ◌∙◌, subst}
+use Rattle.std.proofs.Math.Logic.{∥∥₁_elim}
+use Rattle.std.proofs.Props.{props}
+use Rattle.lapd_card_machine.specs.Event.{at}
+use Rattle.lapd_card_machine.specs.Machine.{answer}
+use Rattle.lapd_clock.specs.Timer.{Timer}
+use Rattle.lapd_clock.specs.Timers.{due_at, time_until}
+use Rattle.lapd_line_machine.specs.Answer as happening
+use Rattle.lapd_sim_machine.specs.Bench.{Bench, happened}
+use Rattle.lapd_sim_machine.specs.Steps.{Scene, answer_text, with_event, at_expiry, expired, until}
+use Rattle.lapd_sim.specs.Obeyed.{scene, Tells}
+use Rattle.lapd_sim.specs.Stands.{as_store, Holds}
+use Rattle.lapd_sim.specs.declared.exchange.Exchange.{Exchange}
+use Rattle.lapd_card.specs.Card.{Held}
+use Rattle.lapd_card.specs.Stands.{Stands}
+use Rattle.lapd_store.specs.Store.{Store}
+use Rattle.lapd_transcript.proofs.Known.{appends_nothing, writes_then, broken_more}
+use Rattle.lapd_transcript.specs.Streams.{Taken, IsWritten, IsBroken}
+use Rattle.lapd_transcript.specs.declared.streams.WriteFailed.{WriteFailed}
+use Rattle.lapd_sim.proofs.Expiries.{expiry_lowers, until-expired, until-over, text_grows}
+
+-- From a bench, some timers have expired, and what they say has been written; what falls due until the end is the same.
+pub record Waits (e : Exchange) (before after : Taken) (end : ℕ) (m : Bench) : Type 0 where
+  pub by_now : Scene
+  pub written : IsWritten before after by_now.text
+  pub holds : Holds e by_now.bench
+  pub same : until end (scene m) ≡ until end by_now
+
+pub waits_begins : (e : Exchange) (t : Taken) (end : ℕ) (m : Bench) → Holds e m → Waits e t t end m
+waits_begins e t end m h = record {
+  by_now = scene m;
+  written = record { whole = appends_nothing t.contents; steady = refl };
+  holds = h;
+  same = refl;
+}
+
+module _ (e new : Exchange) (before after last : Taken) (end : ℕ) (m : Bench) (due : ℕ × Timer) (is : Some due ≡ due_at e.clock end) (w : Waits e before after end m) where
+  due_by_now : due_at w.by_now.bench.clock end ≡ Some due
+  due_by_now = ap (λ c. due_at c end) (sym w.holds.clock) ∙ sym is
+
+  abbrev said_then : List ℕ
+  said_then = answer_text due.0 (answer (at due.0 (happening.expiry due.1)) w.by_now.bench.card)
+
+  pub waits_on : (u : Unit {0}) → Tells {E = WriteFailed} (Ok u) after last (Holds new) (with_event (scene (at_expiry end w.by_now.bench)) (at due.0 (happening.expiry due.1))) → Waits new before last end m
+  waits_on u told = record {
+    by_now = expired end due.0 due.1 w.by_now;
+    written = writes_then (Ok u) before after last w.by_now.text said_then w.written told.0;
+    holds = told.1;
+    same = w.same ∙ until-expired end w.by_now due due_by_now;
+  }
+
+  pub waits_in_vain : (why : WriteFailed) → Tells (Err why) after last (Holds new) (with_event (scene (at_expiry end w.by_now.bench)) (at due.0 (happening.expiry due.1))) → Tells (Err why) before last (Holds new) (until end (scene m))
+  waits_in_vain why told =
+      let next = expired end due.0 due.1 w.by_now in
+      let later = text_grows (time_until end next.bench.clock) end next (due_at next.bench.clock end) refl in
+      let whole : (until end (scene m)).text ≡ next.text ++ later.0 = ap (λ (x : Scene). x.text) (w.same ∙ until-expired end w.by_now due due_by_now) ∙ later.1 in
+      subst (IsBroken before last) (sym whole) (broken_more before last next.text later.0 (writes_then (Err why) before after last w.by_now.text said_then w.written told))
+
+-- each expiry lowers what is left, whatever the past
+pub wait_lowers : (e middle new : Exchange) (end : ℕ) (due : ℕ × Timer) → Some due ≡ due_at e.clock end
+    → ((m : Bench) → Holds e m → Holds middle (at_expiry end m))
+    → ((m : Bench) → Holds middle m → Holds new (happened m (at due.0 (happening.expiry due.1))))
+    → time_until end new.clock < time_until end e.clock
+wait_lowers e middle new end due is out event =
+    let prop : IsProp (time_until end new.clock < time_until end e.clock) = hlevel props in
+    ∥∥₁_elim e.past prop (λ p.
+    let (now, config, stands) = p in
+    let m : Bench = record { card = now; clock = e.clock; now = e.moment; terminals = []; taken = [] } in
+    let held : Holds new (happened (at_expiry end m) (at due.0 (happening.expiry due.1))) =
+    event (at_expiry end m) (out m (record { config = config; card = stands; clock = refl; now = refl })) in
+    subst (λ c. time_until end c < time_until end e.clock) (sym held.clock) (expiry_lowers end due.0 due.1 due m (sym is)))
+
+-- at the end, the moment is the end
+pub waits_over : (e new : Exchange) (before after : Taken) (end : ℕ) (m : Bench) (u : Unit {0}) → None ≡ due_at e.clock end → Waits e before after end m
+    → new.config ≡ e.config → new.card ≡ e.card → new.clock ≡ e.clock → new.moment ≡ end → Tells {E = WriteFailed} (Ok u) before after (Holds new) (until end (scene m))
+waits_over e new before after end m u is w config card clock now =
+    let over : until end (scene m) ≡ record w.by_now { bench = record w.by_now.bench { now = end } } =
+    w.same ∙ until-over end w.by_now (ap (λ c. due_at c end) (sym w.holds.clock) ∙ sym is) in
+    subst (λ (s : Scene). IsWritten before after s.text × Holds new s.bench) (sym over) (
+      w.written,
+      record {
+        config = w.holds.config ∙ sym config;
+        card = subst (λ (c : Held Store). Stands as_store c w.by_now.bench.card) (sym card) w.holds.card;
+        clock = clock ∙ w.holds.clock;
+        now = now;
+      },
+    )

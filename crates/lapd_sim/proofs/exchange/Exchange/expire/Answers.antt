@@ -1,0 +1,15 @@
+use Rattle.std.proofs.Common.{ap, ◌∙◌}
+use Rattle.lapd_card_machine.specs.Event.{at}
+use Rattle.lapd_line_machine.specs.declared.config.Config.{Config}
+use Rattle.lapd_line_machine.specs.Answer as happening
+use Rattle.lapd_sim.proofs.Exchanges.{past_on}
+use Rattle.lapd_sim.proofs.exchange.Exchange.expire.Goals as goal
+
+pub invariant_of-self : goal.invariant_of-self
+invariant_of-self g c = record {
+  in_range = c.args.self.now.in_range;
+  same_lines = ap (λ (x : Config). x.lines) c.expire-report.ensures.after.config ∙ c.args.self.now.same_lines;
+  past = past_on c.args.self.now.config (at c.args.line (happening.expiry c.args.timer)) c.args.self.now.card c.expire-report.new.self c.expire-report.ensures.after c.args.self.now.past;
+  clock_lines = c.order.ensures.lines ∙ c.args.self.now.clock_lines;
+  in_time = c.args.self.now.in_time;
+}

@@ -1,0 +1,15 @@
+use Rattle.std.proofs.Common.{ap, ◌∙◌}
+use Rattle.lapd_card_machine.specs.Event.{at}
+use Rattle.lapd_line_machine.specs.declared.config.Config.{Config}
+use Rattle.lapd_line_machine.specs.Answer as happening
+use Rattle.lapd_sim.proofs.Exchanges.{past_on}
+use Rattle.lapd_sim.proofs.exchange.Exchange.pull.Goals as goal
+
+pub invariant_of-self : goal.invariant_of-self
+invariant_of-self c = record {
+  in_range = c.args.self.now.in_range;
+  same_lines = ap (λ (x : Config). x.lines) c.pull-pulled.ensures.after.config ∙ c.args.self.now.same_lines;
+  past = past_on c.args.self.now.config (at c.args.line happening.pull) c.args.self.now.card c.pull-pulled.new.self c.pull-pulled.ensures.after c.args.self.now.past;
+  clock_lines = c.order.ensures.lines ∙ c.args.self.now.clock_lines;
+  in_time = c.args.self.now.in_time;
+}

@@ -1,0 +1,11 @@
+-- What the card of an exchange holds of its past.
+use Rattle.std.specs.Prelude.{◌≡◌}
+use Rattle.lapd_card.specs.Card.{Held}
+use Rattle.lapd_card.specs.Stands.{Stands}
+use Rattle.lapd_card_machine.specs.Card as machine
+use Rattle.lapd_line_machine.specs.declared.config.Config.{Config}
+use Rattle.lapd_store.specs.Store.{Store}
+
+-- There is a card of the machine, with this configuration, for which the card stands.
+abbrev pub HasPast : Config → Held Store → Type 0
+HasPast config card = (m : machine.Card) × (m.config ≡ config) × Stands (λ shelf. shelf) card m

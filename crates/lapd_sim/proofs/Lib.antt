@@ -4,11 +4,13 @@ pub mod Reading
 pub mod Advancing
 pub mod OneByOne
 pub mod Terminals
-mod Scenes
-mod Eachs
-mod Wholes
-mod Playing
+pub mod Scenes
+pub mod Eachs
+pub mod Wholes
+pub mod Playing
 pub mod Exchanges
 pub mod Expiries
 pub mod Waits
-mod Octets
+pub mod Octets
+pub mod Listeners
+pub mod Pulls

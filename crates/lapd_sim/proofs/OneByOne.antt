@@ -1,6 +1,6 @@
 -- What comes from a line and what a line takes, one octet more.
-use Rattle.std.proofs.Common.{◌≡◌, ℕ, zero, suc, ◌+◌, ◌<◌, List, [], ◌∷◌, ◌++◌, length, take, drop, set, map, fold, Result, Ok, Err, refl, ap, sym, ◌∙◌, subst, arith, append_assoc, add-one}
-use Rattle.std.proofs.lemmas.List.{append-nil, map-append, take-append-drop, take_more_set}
+use Rattle.std.proofs.Common.{◌≡◌, ℕ, List, [], ◌∷◌, ◌++◌, map, Result, Ok, Err, refl, ap, sym, ◌∙◌, subst, append_assoc}
+use Rattle.std.proofs.lemmas.List.{append-nil, map-append}
 use Rattle.std.proofs.lemmas.List.Sums.{fold-append}
 use Rattle.lapd_line_machine.specs.Answer as happening
 use Rattle.lapd_card_machine.specs.Event.{Event, at}
@@ -9,7 +9,7 @@ use Rattle.lapd_transcript.specs.declared.streams.WriteFailed.{WriteFailed}
 use Rattle.lapd_transcript.specs.Streams.{Taken, IsWritten, IsBroken}
 use Rattle.lapd_transcript.proofs.Known.{writes_then, broken_more, appends_nothing}
 use Rattle.lapd_sim_machine.specs.Bench.{Bench, happened}
-use Rattle.lapd_sim_machine.specs.Steps.{Scene, with_event, with_events, answer_text, octets_at, after_rx, octet_in, Pulls, one_pull, pulls}
+use Rattle.lapd_sim_machine.specs.Steps.{Scene, with_event, with_events, answer_text, octets_at, after_rx}
 use Rattle.lapd_sim.specs.Obeyed.{scene, Tells}
 
 -- ---- what is said after what was said before

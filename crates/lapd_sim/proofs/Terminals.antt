@@ -14,7 +14,7 @@ use Rattle.lapd_line_machine.specs.Answer as happening
 use Rattle.lapd_card_machine.specs.Event.{at}
 use Rattle.lapd_transcript.specs.declared.streams.WriteFailed.{WriteFailed}
 use Rattle.lapd_transcript.specs.Streams.{Taken, IsBroken}
-use Rattle.lapd_sim_machine.specs.Bench.{Bench, Terminal, whole_octets, with_frame, sending, octets_sent, after_sending}
+use Rattle.lapd_sim_machine.specs.Bench.{Bench, Terminal, with_frame, sending, octets_sent, after_sending}
 use Rattle.lapd_sim_machine.specs.Steps.{with_event, after_rx}
 use Rattle.lapd_sim.specs.declared.terminal.Terminal as rust
 use Rattle.lapd_sim.specs.Gives.{Gives}

@@ -133,7 +133,8 @@ fn show_frames<T: Target>(
     ensures after { OnOk result ((past : List ℕ) → Hears listener.old past → Hears listener.new (past ++ octets.now)) }
 {
     for octet in octets {
-        if let Heard::Frame(frame) = listener.octet(*octet) {
+        listener.step(*octet);
+        if let Heard::Frame(frame) = listener.latest() {
             if let Err(WriteFailed) = write_frame(target, line as u16, frame) {
                 return Err(WriteFailed);
             }

@@ -1,6 +1,7 @@
-use Rattle.std.proofs.Common.{◌≡◌, vec_len}
+use Rattle.std.proofs.Common.{◌≡◌, [], vec_len, replicate}
+use Rattle.lapd_sim.specs.Stands.{Each, Hears}
 use Rattle.lapd_sim.proofs.parts.listeners.Given as goal
 
 -- one for each line so far
 abbrev pub invariant-loop : goal.invariant-loop
-invariant-loop l = vec_len l.listeners ≡ l.counter
+invariant-loop l = (vec_len l.listeners ≡ l.counter) × Each Hears l.listeners.items (replicate l.counter [])

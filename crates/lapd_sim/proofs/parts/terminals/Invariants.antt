@@ -1,6 +1,9 @@
-use Rattle.std.proofs.Common.{◌≡◌, vec_len}
+use Rattle.std.proofs.Common.{◌≡◌, [], vec_len, replicate}
+use Rattle.lapd_sim.specs.Stands.{Each, Sends}
 use Rattle.lapd_sim.proofs.parts.terminals.Given as goal
 
 -- one for each line so far
 abbrev pub invariant-loop : goal.invariant-loop
-invariant-loop l = vec_len l.terminals ≡ l.counter
+invariant-loop l =
+    (vec_len l.terminals ≡ l.counter)
+    × Each Sends l.terminals.items (replicate l.counter (record { items = []; given = 0 }))

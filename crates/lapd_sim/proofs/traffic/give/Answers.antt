@@ -1,4 +1,4 @@
-use Rattle.std.proofs.Common.{◌≡◌, refl, ◌∙◌, Ok, Err}
+use Rattle.std.proofs.Common.{refl, ◌∙◌, Ok, Err}
 use Rattle.lapd_sim.specs.Stands.{Holds}
 use Rattle.lapd_sim.proofs.Terminals.{gives_none, gives_more}
 use Rattle.lapd_sim.proofs.traffic.give.Goals as goal

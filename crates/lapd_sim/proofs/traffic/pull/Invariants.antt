@@ -1,6 +1,12 @@
-use Rattle.std.proofs.Common.{◌≡◌}
+use Rattle.std.proofs.Common.{◌≡◌, take}
+use Rattle.lapd_sim.specs.Stands.{Holds}
+use Rattle.lapd_sim.proofs.Pulls.{Pulled}
+use Rattle.lapd_sim_machine.specs.Bench as machine
 use Rattle.lapd_sim.proofs.traffic.pull.Given as goal
 
--- the lines are the same
+-- the lines are the same, and the places so far have been filled
 abbrev pub invariant-loop-place : goal.invariant-loop-place
-invariant-loop-place l = l.exchange.config ≡ l.fn.exchange.config
+invariant-loop-place l = record {
+  config : l.exchange.config ≡ l.fn.exchange.config;
+  pulled : (m : machine.Bench) → Holds l.fn.exchange m → Pulled l.exchange l.line l.place-index (take l.place-index l.room) m;
+}

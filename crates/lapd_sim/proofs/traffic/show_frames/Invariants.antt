@@ -1,6 +1,9 @@
-use Rattle.std.proofs.Common.{◌≡◌}
+use Rattle.std.proofs.Common.{ℕ, List, take}
+use Rattle.lapd_sim.specs.Stands.{Hears}
+use Rattle.lapd_sim.proofs.Listeners.{Shown}
 use Rattle.lapd_sim.proofs.traffic.show_frames.Given as goal
 
--- no write has failed
+-- the octets so far have been heard, and the frames in them told
 abbrev pub invariant-loop-octet : goal.invariant-loop-octet
-invariant-loop-octet g l = (g.T.Target.taken l.target).failures ≡ (g.T.Target.taken l.fn.target).failures
+invariant-loop-octet g l = (past : List ℕ) → Hears l.fn.listener past
+    → Shown l.line l.listener (g.T.Target.taken l.fn.target) (g.T.Target.taken l.target) past (take l.octet-index l.octets)

@@ -9,6 +9,7 @@ mod fault;
 mod line;
 mod lines;
 mod sender;
+mod shelves;
 mod terminal;
 mod work;
 

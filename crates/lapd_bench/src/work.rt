@@ -7,6 +7,7 @@ use crate::fault::Fault;
 use crate::line::{ROUND, framed, in_no_order, information, repeated};
 use crate::lines::{Traffic, exchange};
 use crate::sender::{N201, Sender};
+use crate::shelves::{Place, keep};
 use lapd_bits::{Deframer, Heard, fcs};
 use std::alloc::Global;
 
@@ -40,10 +41,12 @@ pub enum Work {
     SendLong,
     /// A card with so many lines.
     Card(Traffic, u16),
+    /// Contents of 8 octets (`true`) or of 260 that are kept for a moment.
+    Keep(Place, bool),
 }
 
 /// All of them.
-pub const WORKS: [Work; 20] = [
+pub const WORKS: [Work; 26] = [
     Work::Check,
     Work::HearShort,
     Work::HearLong,
@@ -64,6 +67,12 @@ pub const WORKS: [Work; 20] = [
     Work::Card(Traffic::Sabme, 64),
     Work::Card(Traffic::Faulty, 1),
     Work::Card(Traffic::Faulty, 64),
+    Work::Keep(Place::Raw, true),
+    Work::Keep(Place::Raw, false),
+    Work::Keep(Place::Slab, true),
+    Work::Keep(Place::Slab, false),
+    Work::Keep(Place::Array, true),
+    Work::Keep(Place::Array, false),
 ];
 
 impl Work {
@@ -79,6 +88,7 @@ impl Work {
             Work::SendShort => "send-short",
             Work::SendLong => "send-long",
             Work::Card(traffic, lines) => traffic.name(lines == 1),
+            Work::Keep(place, is_short) => place.name(is_short),
         }
     }
 
@@ -94,6 +104,7 @@ impl Work {
             Work::SendShort => send(alloc, SHORT, rounds),
             Work::SendLong => send(alloc, LONG, rounds),
             Work::Card(traffic, lines) => exchange(alloc, traffic, lines, rounds),
+            Work::Keep(place, is_short) => keep(alloc, place, is_short, rounds),
         }
     }
 }

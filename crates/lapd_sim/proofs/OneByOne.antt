@@ -10,7 +10,7 @@ each_next R zero (a ∷ xs) x y h r = absurd h
 each_next R (suc n) (a ∷ xs) x y h r = (h.0, each_next R n xs x y h.1 r)
 
 -- one more that is like the others
-pub each_more : {A B : Type 0} (R : A → B → Type 0) (n : ℕ) (xs : List A) (x : A) (y : B) → Each R xs (replicate n y) → R x y → Each R (xs ++ x ∷ []) (replicate (n + 1) y)
+each_more : {A B : Type 0} (R : A → B → Type 0) (n : ℕ) (xs : List A) (x : A) (y : B) → Each R xs (replicate n y) → R x y → Each R (xs ++ x ∷ []) (replicate (n + 1) y)
 each_more R n xs x y h r = subst (λ k. Each R (xs ++ x ∷ []) (replicate k y)) (suc-eq-add-one n) (each_next R n xs x y h r)
 
 -- pushed where there was room

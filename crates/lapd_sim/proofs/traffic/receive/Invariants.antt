@@ -11,4 +11,4 @@ abbrev pub invariant-loop-octet : goal.invariant-loop-octet
 invariant-loop-octet g l =
     (l.exchange.config ≡ l.fn.exchange.config)
     × ((m : machine.Bench) → Holds l.fn.exchange m
-        → Tells {E = WriteFailed} (Ok tt) (g.T.Target.taken l.fn.target) (g.T.Target.taken l.target) (Holds l.exchange) (after_rx l.line (take l.octet-index l.octets) (scene m)))
+    → Tells {E = WriteFailed} (Ok tt) (g.T.Target.taken l.fn.target) (g.T.Target.taken l.target) (Holds l.exchange) (after_rx l.line (take l.octet-index l.octets) (scene m)))

@@ -29,11 +29,10 @@ heard_grows : (past octets : List ℕ) → (more : List Event) × (heard_in 1024
 heard_grows past [] = ([], ap (heard_in 1024) (append-nil past) ∙ sym (append-nil (heard_in 1024 past)))
 heard_grows past (octet ∷ octets) =
     let one : (event : Option Event) × (heard_in 1024 (past ++ octet ∷ []) ≡ heard_in 1024 past ++ option_to_list event) = one_event_an_octet 1024 past octet in
-    let later : (more : List Event) × (heard_in 1024 ((past ++ octet ∷ []) ++ octets) ≡ heard_in 1024 (past ++ octet ∷ []) ++ more) = heard_grows (past ++ octet ∷ []) octets in
-    (
+    let later : (more : List Event) × (heard_in 1024 ((past ++ octet ∷ []) ++ octets) ≡ heard_in 1024 (past ++ octet ∷ []) ++ more) = heard_grows (past ++ octet ∷ []) octets in (
       option_to_list one.0 ++ later.0,
       ap (heard_in 1024) (sym (append_assoc past (octet ∷ []) octets)) ∙ later.1 ∙ ap (λ events. events ++ later.0) one.1
-      ∙ append_assoc (heard_in 1024 past) (option_to_list one.0) later.0,
+          ∙ append_assoc (heard_in 1024 past) (option_to_list one.0) later.0,
     )
 
 -- what is found is what is gained
@@ -112,6 +111,7 @@ nothing_told line t heard event is other =
   where
     nothing : IsWritten t t []
     nothing = record { whole = appends_nothing t.contents; steady = refl }
+
     silent : (heard : Heard) → ((octets : Bor (List ℕ)) → heard ≡ Frame octets → ⊥) → events_text line (option_to_list (heard_of heard)) ≡ []
     silent Nothing other = refl
     silent (Dropped cause) other = refl

@@ -7,5 +7,5 @@ pub loop-preserved : goal.loop-preserved
 loop-preserved c = (
   grind (arith, c.loop.invariant.0, c.push.ensures.len, c.if-is_err.ensures.negation),
   each_pushed Sends c.loop.counter c.loop.terminals.items c.push.new.self.items _ c.in_ok-start.field-0 (record { items = []; given = 0 }) _
-  (sym c.if-is_err.ensures.negation) c.push.ensures.items c.loop.invariant.1 c.in_ok-start.ensures,
+      (sym c.if-is_err.ensures.negation) c.push.ensures.items c.loop.invariant.1 c.in_ok-start.ensures,
 )

@@ -1,9 +1,8 @@
-use Rattle.std.proofs.Common.{◌≡◌, ℕ, List, Ok, Err, [], ◌∷◌, ◌++◌, ◌+◌, take, drop, get_or, sym, ap, ◌∙◌, subst, append-nil, option_to_list}
+use Rattle.std.proofs.Common.{◌≡◌, [], ◌∷◌, ◌++◌, ◌+◌, take, drop, get_or, sym, ap, ◌∙◌, subst, option_to_list}
 use Rattle.std.proofs.lemmas.List.{take_more, take-append-drop}
 use Rattle.std.specs.List.{flat_map}
 use Rattle.lapd_bits.specs.Deframer.{latest_of}
 use Rattle.lapd_bits.specs.Heard.{heard_of}
-use Rattle.lapd_bits.specs.declared.heard.Heard.{Heard}
 use Rattle.lapd_sim.proofs.Listeners.{events_text, Shown, shown_on, shown_in_vain, frame_told, frame_in_vain, nothing_told}
 use Rattle.lapd_sim_machine.specs.Bench.{found}
 use Rattle.lapd_transcript.specs.Streams.{IsWritten, IsBroken}
@@ -23,8 +22,8 @@ returns-in-Err-clause-told g c = λ past h.
     ap (λ front. front ++ drop (i + 1) octets) (sym (take_more octets i 0 c.loop-octet-test.true)) ∙ take-append-drop (i + 1) octets in
     subst (λ all. IsBroken before last (flat_map (frame_text c.args.line) (found past all))) split
     (shown_in_vain c.args.line c.loop-octet.listener c.step.new.self before after last past (take i octets) (get_or octets i 0) (latest_of c.step.new.self) s
-      (c.step.ensures.heard 1024 (past ++ take i octets) s.hears) (drop (i + 1) octets) c.in-Err.field-0
-      (frame_in_vain c.args.line after last _ c.in-Frame.frame (ap heard_of (sym c.in-Frame.is) ∙ c.latest.ensures.lent) c.in-Err.ensures))
+    (c.step.ensures.heard 1024 (past ++ take i octets) s.hears) (drop (i + 1) octets) c.in-Err.field-0
+    (frame_in_vain c.args.line after last _ c.in-Frame.frame (ap heard_of (sym c.in-Frame.is) ∙ c.latest.ensures.lent) c.in-Err.ensures))
 
 pub loop-octet-preserved : goal.loop-octet-preserved
 loop-octet-preserved g c = λ past h.
@@ -36,7 +35,7 @@ loop-octet-preserved g c = λ past h.
     let last = g.T.Target.taken c.match-latest.target in
     let event = latest_of c.step.new.self in
     let written : IsWritten after last (events_text c.args.line (option_to_list event)) = elim c.match-latest.branch [
-      in-Frame+in_default-write_frame w ↦
+      | in-Frame+in_default-write_frame w ↦
           subst (λ t. IsWritten after (g.T.Target.taken t) (events_text c.args.line (option_to_list event))) (sym w.target-is)
           (frame_told c.args.line after (g.T.Target.taken w.write_frame.new.target) event w.in-Frame.frame (ap heard_of (sym w.in-Frame.is) ∙ c.latest.ensures.lent) w.in_default-write_frame.ensures)
       | in_default w ↦
@@ -45,4 +44,4 @@ loop-octet-preserved g c = λ past h.
     ] in
     subst (λ front. Shown c.args.line c.step.new.self before last past front) (sym (take_more octets i 0 c.loop-octet-test.true))
     (shown_on c.args.line c.loop-octet.listener c.step.new.self before after last past (take i octets) (get_or octets i 0) event s
-      (c.step.ensures.heard 1024 (past ++ take i octets) s.hears) (c.step.ensures.after 1024 (past ++ take i octets) s.hears) written)
+    (c.step.ensures.heard 1024 (past ++ take i octets) s.hears) (c.step.ensures.after 1024 (past ++ take i octets) s.hears) written)

@@ -1,10 +1,9 @@
 -- How far a script has been played.
-use Rattle.std.proofs.Common.{◌≡◌, ℕ, ◌+◌, ◌^◌, ◌<◌, ◌≤◌, ◌++◌, List, [], ◌∷◌, length, take, fold, true, false, cond, Bool, Option, None, Some, Result, Ok, Err, refl, sym, ap, ◌∙◌, subst, append_assoc, arith, nat_lt}
+use Rattle.std.proofs.Common.{◌≡◌, ℕ, ◌+◌, ◌^◌, ◌<◌, ◌≤◌, ◌++◌, List, [], ◌∷◌, length, fold, true, false, cond, Bool, Option, None, Some, Result, Ok, Err, refl, sym, ap, ◌∙◌, subst, append_assoc, arith, nat_lt}
 use Rattle.std.specs.Prelude.{◌||◌}
 use Rattle.std.proofs.lemmas.Bool.{lt-ltb, le-ltb, ltb-false, true≢false}
 use Rattle.std.proofs.lemmas.Option.{none-some}
 use Rattle.std.proofs.lemmas.List.{append-nil}
-use Rattle.std.proofs.Math.Seq.{take-append_seam}
 use Rattle.std.proofs.lemmas.Grind.{fold-append}
 use Rattle.lapd_script.specs.declared.kind.FaultKind.{FaultKind}
 use Rattle.lapd_script.specs.declared.kind.FaultKind.TheVariants.{TooLong}
@@ -287,9 +286,6 @@ silent_after (piece ∷ pieces) p h = silent_after pieces (one_more p piece) (si
 silent : (pieces : List (List ℕ)) → (played pieces).bench ≡ None → (played pieces).written ≡ []
 silent pieces = silent_after pieces not_begun (λ e. refl)
 
-front_played : (text left : List ℕ) (done : List (List ℕ)) → pieces_of text ≡ done ++ pieces_of left → played (take (length done) (pieces_of text)) ≡ played done
-front_played text left done is = ap (λ pieces. played (take (length done) pieces)) is ∙ ap played (take-append_seam done (pieces_of left))
-
 -- the next line stops the script
 pub stops : (fault : LineFault) (lines new : Lines) (bench : Option Bench) (remaining left : Option (List ℕ)) (text : List ℕ) (a b c : Taken) (has : Option machine.Bench → Type 0)
     (p : IsPlayed lines bench remaining text a b) (n : IsNext lines new left p.left) → new.octets ≤ 2 ^ 63
@@ -303,12 +299,8 @@ stops line.Write lines new bench remaining left text a b c has p n bound h =
       stops_write : (x : Result Said FaultKind) → said (line_in n.piece) (played p.done).bench ≡ x → Does (Err line.Write) b c (played p.done).bench has x → IsBroken a c (transcript text)
       stops_write (Ok s) e k = stops_broken lines new bench remaining left text a b c p n bound s e k
       stops_write (Err kind) e k = absurd k
-stops line.OutOfMemory lines new bench remaining left text a b c has p n bound h = record {
-  lines = length p.done;
-  no_card = ap (λ q. Played.bench q) (front_played text p.left p.done p.is) ∙ h.1;
-  sound = ap (λ q. Played.fault q) (front_played text p.left p.done p.is) ∙ p.sound;
-  unwritten = subst (λ t. IsWritten a t []) (sym h.0) (subst (λ t. IsWritten a b t) (silent p.done h.1) p.written);
-}
+stops line.OutOfMemory lines new bench remaining left text a b c has p n bound h =
+    subst (λ t. IsWritten a t []) (sym h.0) (subst (λ t. IsWritten a b t) (silent p.done h.1) p.written)
 
 -- what the next line is, or that there is none
 pub over : (more : Bool) (old new : Lines) (remaining : Option (List ℕ)) (text : List ℕ) → more ≡ false → Advances (Ok more) old new remaining text → (text ≡ []) × (remaining ≡ Some [])

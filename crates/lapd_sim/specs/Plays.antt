@@ -27,24 +27,30 @@ pub record IsAnsweredToHere (text : List ℕ) (remaining : Option (List ℕ)) (o
   pub tells : remaining ≡ Some unread
   pub answered : AreAnswered (whole_lines read) old new
 
--- Memory was refused: before the first line or at the card line, so that nothing has been written.
-pub record IsBeforeCard (text : List ℕ) (old new : Taken) : Type 0 where
-  pub lines : ℕ
-  pub no_card : (played (take lines (pieces_of text))).bench ≡ None
-  pub sound : (played (take lines (pieces_of text))).fault ≡ None
-  pub unwritten : IsWritten old new []
-
+-- Memory is refused before the first line is played, or at the card line, if at all. So nothing has been written then.
 abbrev pub Plays : Result Unit PlayFault → List ℕ → Option (List ℕ) → Taken → Taken → Type 0
 Plays (Ok _) text remaining old new = (first_fault text ≡ None) × IsWritten old new (transcript text) × (remaining ≡ Some [])
 Plays (Err (Script line kind)) text remaining old new = (first_fault text ≡ Some (record { line = line; kind = kind })) × IsWritten old new (transcript text)
 Plays (Err Read) text remaining old new = IsAnsweredToHere text remaining old new
 Plays (Err Write) text remaining old new = IsBroken old new (transcript text)
-Plays (Err OutOfMemory) text remaining old new = IsBeforeCard text old new
+Plays (Err OutOfMemory) text remaining old new = IsWritten old new []
 
--- The same of a script and a transcript in memory: what the transcript is, from what it was.
+-- What a status says of the script that was played (profile): 0, it was played to its end; 1, there was a fault.
+abbrev pub status_of : Result Unit PlayFault → ℕ
+status_of (Ok _) = 0
+status_of (Err _) = 1
+
+abbrev pub Serves : ℕ → List ℕ → Option (List ℕ) → Taken → Taken → Type 0
+Serves status text remaining old new = (r : Result Unit PlayFault) × (status ≡ status_of r) × Plays r text remaining old new
+
+-- A text that is shown: 0, it has been written; 1, a write failed.
+abbrev pub Shows : ℕ → List ℕ → Taken → Taken → Type 0
+Shows status text old new = (status ≡ 0 → IsWritten old new text) × (status ≡ 1 → IsBroken old new text)
+
+-- The same of a script and a transcript in memory: what the transcript is, from what it was. No read fails.
 abbrev pub PlaysOctets : Result Unit PlayFault → List ℕ → List ℕ → List ℕ → Type 0
 PlaysOctets (Ok _) text old new = (first_fault text ≡ None) × (new ≡ old ++ transcript text)
 PlaysOctets (Err (Script line kind)) text old new = (first_fault text ≡ Some (record { line = line; kind = kind })) × (new ≡ old ++ transcript text)
-PlaysOctets (Err Read) text old new = (n : ℕ) × ((played (whole_lines (take n text))).fault ≡ None) × (new ≡ old ++ (played (whole_lines (take n text))).written)
+PlaysOctets (Err Read) text old new = ⊥
 PlaysOctets (Err Write) text old new = (n : ℕ) × (new ≡ old ++ take n (transcript text))
-PlaysOctets (Err OutOfMemory) text old new = (n : ℕ) × ((played (take n (pieces_of text))).bench ≡ None) × ((played (take n (pieces_of text))).fault ≡ None) × (new ≡ old)
+PlaysOctets (Err OutOfMemory) text old new = new ≡ old

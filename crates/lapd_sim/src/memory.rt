@@ -1,19 +1,42 @@
 //! Plays a script that lies in memory.
 
-ghost use Rattle.std.specs.Prelude.{◌≡◌, Some};
+ghost use Rattle.std.specs.Prelude.{◌≡◌};
 ghost use Rattle.lapd_sim.specs.Plays.{PlaysOctets};
 
 use crate::faults::PlayFault;
 use crate::player::play;
-use lapd_transcript::{ReadFrom, WriteTo};
+use lapd_transcript::{ReadFailed, Source, WriteTo};
 use std::alloc::Global;
+use std::io::Read;
+
+/// A script in memory. It tells what is left of it, and no read of it fails.
+#[derive(Drop)]
+struct Script<'a> {
+    left: &'a [u8],
+}
+
+impl Source for Script<'_> {
+    ghost use Rattle.std.specs.Prelude.{Some};
+
+    ghost failures = { λ _. 0 };
+
+    ghost remaining = { λ script. Some script.left.now };
+
+    fn read(&mut self, buffer: &mut [u8]) -> Result<usize, ReadFailed> {
+        match self.left.read(buffer) {
+            Ok(count) => Ok(count),
+            // A slice has no read that fails.
+            Err(_) => Ok(0),
+        }
+    }
+}
 
 /// Plays a script on a card, and puts its transcript at the end of `transcript`, which grows as it needs to.
 ///
 /// # Errors
 ///
-/// As [`play`] does: the transcript of the lines before the fault has been put; where there was no memory for more of it,
-/// `Write`, and a beginning.
+/// As [`play`] does, but that no read fails: the transcript of the lines before the fault has been put; where there was no
+/// memory for more of it, `Write`, and a beginning.
 pub fn play_octets(
     alloc: Global,
     script: &[u8],
@@ -21,7 +44,7 @@ pub fn play_octets(
 ) -> (Vec<u8>, Result<(), PlayFault>)
     ensures { PlaysOctets result.1 script.now transcript.items result.0.items }
 {
-    let mut source = ReadFrom::new(script);
+    let mut source = Script { left: script };
     let mut target = WriteTo::new(transcript);
     let played = play(alloc, &mut source, &mut target);
     (target.into_inner(), played)

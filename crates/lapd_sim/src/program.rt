@@ -1,8 +1,10 @@
 //! The program's work: what its words ask for, its fault lines and its exit status.
 
-ghost use Rattle.std.specs.Prelude.{◌≡◌, ◌≢◌, ◌≤◌, ◌↔◌, None};
-ghost use Rattle.lapd_script.specs.Job.{job};
+ghost use Rattle.std.specs.Prelude.{◌≡◌, ◌≢◌, ◌≤◌, ◌↔◌, ◌++◌, ℕ, List, Some, None, decimal, codes};
+ghost use Rattle.lapd_script.specs.Bound.{bound};
+ghost use Rattle.lapd_script.specs.Job.{job, run, limits};
 ghost use Rattle.lapd_script.specs.Words.{texts};
+ghost use Rattle.lapd_sim.specs.Plays.{Serves, Shows};
 
 use crate::faults::PlayFault;
 use crate::player::play;
@@ -45,6 +47,12 @@ pub fn serve<S: Source, T: Target, F: Target>(
     ensures no_read_failed { result ≢ 1 → S.failures source.new ≡ S.failures source.old }
     ensures no_write_failed { result ≢ 1 → (T.taken target.new).failures ≡ (T.taken target.old).failures }
     ensures no_fault_line_failed { result ≡ 0 → (F.taken faults.new).failures ≡ (F.taken faults.old).failures }
+    // `run`, where the source tells what it will give: the status is that of what `play` promises of this script.
+    ensures played { job (texts words.now) ≡ Some run → (text : List ℕ) → S.remaining source.old ≡ Some text
+        → Serves result text (S.remaining source.new) (T.taken target.old) (T.taken target.new) }
+    // `limits`: the bound has been written, or a write failed.
+    ensures bound { (l t c s n : ℕ) → job (texts words.now) ≡ Some (limits l t c s n)
+        → Shows result (decimal (bound l t c s n) ++ codes "\n") (T.taken target.old) (T.taken target.new) }
 {
     match job(words) {
         Some(Job::Run) => match play(alloc, source, target) {

@@ -9,7 +9,7 @@ ghost use Rattle.lapd_card_machine.specs.Machine.{answer};
 ghost use Rattle.lapd_card_machine.specs.Run.{run};
 ghost use Rattle.lapd_card.specs.Card.{line_count};
 ghost use Rattle.lapd_card.specs.Drive.{line_of, events_of, Taken, MissesAt};
-ghost use Rattle.lapd_card_machine.specs.Laws.{RefusedByTheTable, RunIsMoments};
+ghost use Rattle.lapd_card_machine.specs.Laws.{FramesByEvent, RefusedByTheTable, RunIsMoments};
 ghost use Rattle.lapd_card.specs.Headline.{IsWithinLimit, IsAmortised, IsLinear, IsIsolated, IsNeverFull, IsNumbered, IsNumberedFromZero, IsTextual};
 ghost use Rattle.lapd_card.specs.Sink.{one_failure_more};
 ghost use Rattle.lapd_card.specs.Stands.{Stands, Leads};
@@ -37,6 +37,8 @@ impl<S: Shelf> Card<S> {
     ///   count, number and compare.
     /// - `refused`: a request is refused exactly where a row of the table of refusals holds, for the reason of the first that
     ///   does, so for want of room exactly where its place is full; and then nothing changes.
+    /// - `by_event`: by how much each single event lets rise what may still be sent: an octet by two and k at most, and only where
+    ///   it ends a frame; an expiry of a running timer by k + 1; an accepted request by one; a pull by nothing.
     ///
     /// The rest holds after every front of the list, so after each event, and also where the sink failed on the way:
     ///
@@ -83,6 +85,7 @@ impl<S: Shelf> Card<S> {
         // The replies of `run` are the answers of `moments`, and its card is that of `after_all`: all below speaks of those.
         ensures moments { RunIsMoments }
         ensures refused { RefusedByTheTable }
+        ensures by_event { FramesByEvent }
 
         // After every front of the list, from every card or, where it says `fresh`, from one that has just begun.
         ensures within_limit { (m : machine.Card) (count : ℕ) → Stands S.store self.old m

@@ -21,7 +21,7 @@ use Rattle.lapd_card_machine.specs.Sound.{IsSound}
 use Rattle.lapd_card_machine.proofs.Amortised.{event_within}
 use Rattle.lapd_card_machine.proofs.Steps.{HasLines, by_room, line_sound, one_line}
 
-lines_of : (card : Card) → IsSound card → HasLines card
+pub lines_of : (card : Card) → IsSound card → HasLines card
 lines_of card s = record { config = s.config; count = s.count; lines = s.lines }
 
 -- only an octet ends a frame

@@ -1,6 +1,8 @@
 pub mod Steps
 pub mod Amortised
 pub mod ByEvent
+pub mod UnservedLinks
+pub mod Drops
 pub mod Stored
 pub mod Fold
 pub mod Refusals

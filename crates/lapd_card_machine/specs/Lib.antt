@@ -7,6 +7,7 @@ pub mod Sound
 pub mod Stored
 pub mod Counts
 pub mod ByEvent
+pub mod Drops
 pub mod Numbered
 pub mod Pulled
 pub mod Isolation

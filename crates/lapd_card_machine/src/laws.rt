@@ -1,6 +1,7 @@
 //! What holds of whole runs of the machine. Each law is the contract of a call that does nothing; it holds for every list
 //! of events, and so for every front of a list.
 
+ghost use Rattle.lapd_card_machine.specs.Drops.{DropsCostNothing};
 ghost use Rattle.lapd_card_machine.specs.Laws.{CardsStaySound, DeliveriesNumbered, FramesAmortised, FramesByEvent, FramesLinear, LinesIsolated, PoolNeverFull, RefusedByTheTable, RunIsMoments, StoredWithinLimit, TextGoesOn};
 
 /// A run as one fold is its moments, one after the other.
@@ -32,6 +33,12 @@ pub fn frames_amortised()
 /// nothing. A pull that begins a frame lets it fall by one or two, and any other pull leaves it as it is.
 pub fn frames_by_event()
     ensures { FramesByEvent }
+{}
+
+/// Where the answer to an octet names a cause, whichever, what may be sent stays as it is: a frame that is dropped lets it
+/// rise by nothing, for its address and for want of service too.
+pub fn drops_cost_nothing()
+    ensures { DropsCostNothing }
 {}
 
 /// A request is refused exactly where a row of the table of refusals holds, for the reason of the first that does. So it is

@@ -4,6 +4,7 @@ use Rattle.lapd_card_machine.specs.declared.events.Event.TheVariants.{Octet}
 use Rattle.lapd_card.proofs.Taken.{ran-more, taken-more, missed-at, at_ok, at_err}
 use Rattle.lapd_card_machine.proofs.Fold.{run_is_moments}
 use Rattle.lapd_card_machine.proofs.Refusals.{refused_by_the_table}
+use Rattle.lapd_card_machine.proofs.ByEvent.{frames_by_event}
 use Rattle.lapd_card.specs.Headline.{IsWithinLimit, IsAmortised, IsLinear, IsIsolated, IsNeverFull, IsNumbered, IsNumberedFromZero, IsTextual}
 use Rattle.lapd_card.proofs.Headline.{each_front, fresh_front, within_limit, amortised, linear, isolated, never_full, numbered, numbered_from_zero, textual}
 use Rattle.lapd_card.proofs.card.Card.drive.Goals as goal
@@ -36,6 +37,9 @@ returns-then-is_err-clause-moments g c = run_is_moments
 pub returns-then-is_err-clause-refused : goal.returns-then-is_err-clause-refused
 returns-then-is_err-clause-refused g c = refused_by_the_table
 
+pub returns-then-is_err-clause-by_event : goal.returns-then-is_err-clause-by_event
+returns-then-is_err-clause-by_event g c = frames_by_event
+
 pub returns-then-is_err-clause-within_limit : goal.returns-then-is_err-clause-within_limit
 returns-then-is_err-clause-within_limit g c = λ m count. each_front g.S.Shelf.store c.args.self.now c.args.events.now c.requires IsWithinLimit within_limit m count
 
@@ -53,6 +57,9 @@ returns-clause-moments g c = run_is_moments
 
 pub returns-clause-refused : goal.returns-clause-refused
 returns-clause-refused g c = refused_by_the_table
+
+pub returns-clause-by_event : goal.returns-clause-by_event
+returns-clause-by_event g c = frames_by_event
 
 pub returns-clause-within_limit : goal.returns-clause-within_limit
 returns-clause-within_limit g c = λ m count. each_front g.S.Shelf.store c.args.self.now c.args.events.now c.requires IsWithinLimit within_limit m count

@@ -1,0 +1,83 @@
+-- What is dropped costs nothing.
+use Rattle.std.proofs.Common.{◌≡◌, ℕ, Bool, true, false, Option, Some, None, is_some, IsSome, refl, ap, sym, ◌∙◌, subst, cond, arith}
+use Rattle.std.specs.Prelude.{sum_by}
+use Rattle.std.specs.Option.{option_map_or}
+use Rattle.std.proofs.lemmas.List.{set-get_or}
+use Rattle.lapd_bits.specs.Stream as stream
+use Rattle.lapd_bits.specs.declared.heard.Cause.{Cause}
+use Rattle.lapd_bits.specs.declared.heard.Cause.TheVariants.{Unserved}
+use Rattle.lapd_frame.specs.declared.services.Service.{Service}
+use Rattle.lapd_link_machine.specs.Events as link
+use Rattle.lapd_link_machine.specs.Link.{Link, fresh}
+use Rattle.lapd_tei.specs.Events as teis
+use Rattle.lapd_tei.specs.declared.outcome.Change.{Change}
+use Rattle.lapd_tei.specs.declared.outcome.Change.TheVariants.{Gained, Left}
+use Rattle.lapd_tei.proofs.LawLemmas as tei_lemmas
+use Rattle.lapd_line_machine.specs.declared.config.Config.{Config}
+use Rattle.lapd_line_machine.specs.Answer.{Told, octet, nothing}
+use Rattle.lapd_line_machine.specs.Counts as line
+use Rattle.lapd_line_machine.specs.Line.{Line, link_number, link_in, with_link, terms}
+use Rattle.lapd_line_machine.specs.Machine as lines
+use Rattle.lapd_line_machine.specs.Octet.{gained, aim_of_heard, with_received}
+use Rattle.lapd_line_machine.specs.Outcome.{Aim, at_none, unserved_cause, told_of_management, of_link, of_change, of_management, of_aim}
+use Rattle.lapd_line_machine.proofs.ProperAims.{heard_aims}
+use Rattle.lapd_card_machine.specs.Card.{line_at}
+use Rattle.lapd_card_machine.specs.Drops.{cause_in, DropsCostNothing}
+use Rattle.lapd_card_machine.specs.Event.{at}
+use Rattle.lapd_card_machine.proofs.ByEvent.{lines_of}
+use Rattle.lapd_card_machine.proofs.Steps.{by_room, one_line}
+use Rattle.lapd_card_machine.proofs.UnservedLinks.{unserved_leaves}
+
+-- a link or TEI management names a cause exactly where it does not serve
+is_unserved : (b : Bool) → IsSome (unserved_cause b) → b ≡ true
+is_unserved true h = refl
+is_unserved false h = h
+
+link_leaves : (c : Config) (service : Service) (tei place : ℕ) (what : link.Received) (l : Line)
+    → IsSome (of_link c service tei place (link.received what) l).told.cause → (of_link c service tei place (link.received what) l).line ≡ l
+link_leaves c service tei place what l h =
+    let n = link_number place service in
+    let same = unserved_leaves (terms c service tei) (link_in l service place) what (is_unserved _ h) in
+    ap (λ x. with_link n x l) same ∙ ap (λ ls. record l { links = ls }) (set-get_or l.links n fresh)
+
+-- what becomes of a TEI adds no cause
+cause_stays : (c : Config) (change : Option Change) (t : Told) (l : Line) → (of_change c change t l).told.cause ≡ t.cause
+cause_stays c None t l = refl
+cause_stays c (Some (Gained tei place)) t l = refl
+cause_stays c (Some (Left tei place)) t l = refl
+
+management_leaves : (c : Config) (event : teis.Event) (l : Line)
+    → IsSome (of_management c event l).told.cause → (of_management c event l).line ≡ l
+management_leaves c event l h =
+    let t = teis.told event l.management in
+    let next : Line = record l { management = teis.after event l.management } in
+    let cause = subst (λ o. IsSome o) (cause_stays c t.change (told_of_management t) next) h in
+    let still = tei_lemmas.unserved_changes_nothing event l.management (is_unserved t.unserved cause) in
+    let unchanged : t.change ≡ None = ap (λ x. x.change) still.1 in
+    subst (λ change. (of_change c change (told_of_management t) next).line ≡ l) (sym unchanged) (ap (λ m. record l { management = m }) still.0)
+
+-- an octet whose answer names a cause leaves the line as it is, but for what was received
+octet_leaves : (c : Config) (value : ℕ) (l : Line) → IsSome (cause_in (lines.answer c (octet value) l))
+    → lines.after c (octet value) l ≡ with_received value l
+unfolding lines.answer lines.after
+octet_leaves c value l = go (gained c.n201 l.received value)
+  where
+    go : (o : Option stream.Event) → let out = of_aim c (option_map_or (aim_of_heard l) o (at_none nothing)) (with_received value l) in
+        IsSome out.told.cause → out.line ≡ with_received value l
+    go None h = refl
+    go (Some e) h =
+        heard_aims l (λ aim. IsSome (of_aim c aim (with_received value l)).told.cause → (of_aim c aim (with_received value l)).line ≡ with_received value l)
+        (λ cause h. refl)
+        (λ service tei place what at h. link_leaves c service tei place what (with_received value l) h)
+        (λ info h. management_leaves c (teis.message info) (with_received value l) h) e h
+
+pub drops_cost_nothing : DropsCostNothing
+drops_cost_nothing card number value s within =
+    let e = at number (octet value) in
+    by_room (λ ls a. IsSome (cause_in a) → sum_by (line.waiting card.config) ls ≡ sum_by (line.waiting card.config) card.lines) e card
+    (λ full h. refl)
+    (λ served h.
+    let l = line_at number card in
+    let same : line.waiting card.config (lines.after card.config (octet value) l) ≡ line.waiting card.config l =
+    ap (line.waiting card.config) (octet_leaves card.config value l h) in
+    omega (arith, same, one_line (line.waiting card.config) card number (lines.after card.config (octet value) l) (lines_of card s) within))

@@ -1,8 +1,10 @@
 //! Readers and writers of std as sources and targets.
 
 use crate::fakes::{ESTABLISHED, Page, TRANSCRIPT};
+use crate::worked::WORKED;
 use lapd_sim::{
-    PlayFault, ReadFailed, ReadFrom, Source, Target, WriteFailed, WriteTo, play, refuse,
+    PlayFault, ReadFailed, ReadFrom, Source, Target, WriteFailed, WriteTo, play, play_octets,
+    refuse,
 };
 use std::io::{Error, ErrorKind, Read, Result, Write};
 
@@ -130,4 +132,18 @@ fn tells_of_refused_memory(rt: HostRuntime) {
     let mut faults = Page::new(rt.alloc());
     assert!(rt; refuse(PlayFault::OutOfMemory, &mut faults) == 1);
     assert!(rt; faults.text() == b"out of memory\n".as_slice());
+}
+
+/// A script in memory: its transcript comes behind what was there.
+#[test]
+fn plays_octets(rt: HostRuntime) {
+    for worked in WORKED.iter() {
+        let (once, played) = play_octets(rt.alloc(), worked.text, Vec::new(rt.alloc()));
+        assert!(rt; played == Ok(()));
+        assert!(rt; once.as_slice() == worked.transcript);
+        let (twice, played) = play_octets(rt.alloc(), worked.text, once);
+        assert!(rt; played == Ok(()));
+        let (first, second) = twice.as_slice().split_at(worked.transcript.len());
+        assert!(rt; first == worked.transcript && second == worked.transcript);
+    }
 }

@@ -9,6 +9,7 @@ ghost use Rattle.lapd_card_machine.specs.Machine.{answer};
 ghost use Rattle.lapd_card_machine.specs.Run.{run};
 ghost use Rattle.lapd_card.specs.Card.{line_count};
 ghost use Rattle.lapd_card.specs.Drive.{line_of, events_of, Taken, MissesAt};
+ghost use Rattle.lapd_card_machine.specs.Drops.{DropsCostNothing};
 ghost use Rattle.lapd_card_machine.specs.Laws.{FramesByEvent, RefusedByTheTable, RunIsMoments};
 ghost use Rattle.lapd_card.specs.Headline.{IsWithinLimit, IsAmortised, IsLinear, IsIsolated, IsNeverFull, IsNumbered, IsNumberedFromZero, IsTextual};
 ghost use Rattle.lapd_card.specs.Sink.{one_failure_more};
@@ -39,6 +40,7 @@ impl<S: Shelf> Card<S> {
     ///   does, so for want of room exactly where its place is full; and then nothing changes.
     /// - `by_event`: by how much each single event lets rise what may still be sent: an octet by two and k at most, and only where
     ///   it ends a frame; an expiry of a running timer by k + 1; an accepted request by one; a pull by nothing.
+    /// - `drops`: an octet whose answer names a cause, why it or its frame was dropped, leaves what may still be sent as it is.
     ///
     /// The rest holds after every front of the list, so after each event, and also where the sink failed on the way:
     ///
@@ -86,6 +88,7 @@ impl<S: Shelf> Card<S> {
         ensures moments { RunIsMoments }
         ensures refused { RefusedByTheTable }
         ensures by_event { FramesByEvent }
+        ensures drops { DropsCostNothing }
 
         // After every front of the list, from every card or, where it says `fresh`, from one that has just begun.
         ensures within_limit { (m : machine.Card) (count : ℕ) → Stands S.store self.old m

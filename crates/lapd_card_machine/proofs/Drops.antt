@@ -1,14 +1,12 @@
 -- What is dropped costs nothing.
-use Rattle.std.proofs.Common.{◌≡◌, ℕ, Bool, true, false, Option, Some, None, is_some, IsSome, refl, ap, sym, ◌∙◌, subst, cond, arith}
+use Rattle.std.proofs.Common.{◌≡◌, ℕ, Bool, true, false, Option, Some, None, IsSome, refl, ap, sym, ◌∙◌, subst, arith}
 use Rattle.std.specs.Prelude.{sum_by}
 use Rattle.std.specs.Option.{option_map_or}
 use Rattle.std.proofs.lemmas.List.{set-get_or}
 use Rattle.lapd_bits.specs.Stream as stream
-use Rattle.lapd_bits.specs.declared.heard.Cause.{Cause}
-use Rattle.lapd_bits.specs.declared.heard.Cause.TheVariants.{Unserved}
 use Rattle.lapd_frame.specs.declared.services.Service.{Service}
 use Rattle.lapd_link_machine.specs.Events as link
-use Rattle.lapd_link_machine.specs.Link.{Link, fresh}
+use Rattle.lapd_link_machine.specs.Link.{fresh}
 use Rattle.lapd_tei.specs.Events as teis
 use Rattle.lapd_tei.specs.declared.outcome.Change.{Change}
 use Rattle.lapd_tei.specs.declared.outcome.Change.TheVariants.{Gained, Left}
@@ -19,7 +17,7 @@ use Rattle.lapd_line_machine.specs.Counts as line
 use Rattle.lapd_line_machine.specs.Line.{Line, link_number, link_in, with_link, terms}
 use Rattle.lapd_line_machine.specs.Machine as lines
 use Rattle.lapd_line_machine.specs.Octet.{gained, aim_of_heard, with_received}
-use Rattle.lapd_line_machine.specs.Outcome.{Aim, at_none, unserved_cause, told_of_management, of_link, of_change, of_management, of_aim}
+use Rattle.lapd_line_machine.specs.Outcome.{at_none, unserved_cause, told_of_management, of_link, of_change, of_management, of_aim}
 use Rattle.lapd_line_machine.proofs.ProperAims.{heard_aims}
 use Rattle.lapd_card_machine.specs.Card.{line_at}
 use Rattle.lapd_card_machine.specs.Drops.{cause_in, DropsCostNothing}

@@ -50,8 +50,9 @@ pub record RefusedByTheTable : Type 0 where
       IsSome (refusal card.config (is_full card) r (line_at number card)) → after (at number (request r)) card ≡ card
 
 -- The frames sent, and those that may still be sent, rise by at most two for each frame that is recognised, by one for each
--- request that is accepted, by k + 1 for each expiry of a running timer, and by k for each REJ with a valid N(R). Pulls, drops and
--- refusals let them rise by nothing.
+-- request that is accepted, by k + 1 for each expiry of a running timer, and by k for each REJ with a valid N(R). Pulls and
+-- refusals let them rise by nothing, and so do drops by the deframer; a frame dropped later is one that was recognised here,
+-- though it costs nothing (`DropsCostNothing`).
 abbrev pub FramesAmortised : Type 0
 FramesAmortised =
     (card : Card) (events : List Event) → IsSound card → AreAtLines card events →

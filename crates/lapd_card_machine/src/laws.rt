@@ -29,8 +29,9 @@ pub fn frames_amortised()
 
 /// The same for single events. What may be sent rises by at most two for an octet that ends a frame which is recognised (one
 /// octet ends one frame at most), and by k more where that is an REJ with a valid N(R); by k + 1 for an expiry of a running
-/// timer; by one for an accepted request. A drop, a refusal and an expiry of a timer that does not run let it rise by
-/// nothing. A pull that begins a frame lets it fall by one or two, and any other pull leaves it as it is.
+/// timer; by one for an accepted request. A drop by the deframer (abort, ragged, short, frame check), a refusal and an expiry
+/// of a timer that does not run let it rise by nothing. A frame that is dropped later is one that was recognised: see
+/// [`drops_cost_nothing`]. A pull that begins a frame lets it fall by one or two, and any other pull leaves it as it is.
 pub fn frames_by_event()
     ensures { FramesByEvent }
 {}

@@ -5,6 +5,7 @@ use Rattle.lapd_card.proofs.Taken.{ran-more, taken-more, missed-at, at_ok, at_er
 use Rattle.lapd_card_machine.proofs.Fold.{run_is_moments}
 use Rattle.lapd_card_machine.proofs.Refusals.{refused_by_the_table}
 use Rattle.lapd_card_machine.proofs.ByEvent.{frames_by_event}
+use Rattle.lapd_card_machine.proofs.Drops.{drops_cost_nothing}
 use Rattle.lapd_card.specs.Headline.{IsWithinLimit, IsAmortised, IsLinear, IsIsolated, IsNeverFull, IsNumbered, IsNumberedFromZero, IsTextual}
 use Rattle.lapd_card.proofs.Headline.{each_front, fresh_front, within_limit, amortised, linear, isolated, never_full, numbered, numbered_from_zero, textual}
 use Rattle.lapd_card.proofs.card.Card.drive.Goals as goal
@@ -40,6 +41,9 @@ returns-then-is_err-clause-refused g c = refused_by_the_table
 pub returns-then-is_err-clause-by_event : goal.returns-then-is_err-clause-by_event
 returns-then-is_err-clause-by_event g c = frames_by_event
 
+pub returns-then-is_err-clause-drops : goal.returns-then-is_err-clause-drops
+returns-then-is_err-clause-drops g c = drops_cost_nothing
+
 pub returns-then-is_err-clause-within_limit : goal.returns-then-is_err-clause-within_limit
 returns-then-is_err-clause-within_limit g c = λ m count. each_front g.S.Shelf.store c.args.self.now c.args.events.now c.requires IsWithinLimit within_limit m count
 
@@ -60,6 +64,9 @@ returns-clause-refused g c = refused_by_the_table
 
 pub returns-clause-by_event : goal.returns-clause-by_event
 returns-clause-by_event g c = frames_by_event
+
+pub returns-clause-drops : goal.returns-clause-drops
+returns-clause-drops g c = drops_cost_nothing
 
 pub returns-clause-within_limit : goal.returns-clause-within_limit
 returns-clause-within_limit g c = λ m count. each_front g.S.Shelf.store c.args.self.now c.args.events.now c.requires IsWithinLimit within_limit m count

@@ -2,10 +2,12 @@
 
 ghost use Rattle.std.specs.Prelude.{◌≡◌};
 
+use crate::refusals::{refuse_at_a_line, refuse_when_full};
 use crate::starts::USUAL;
 use lapd_card::{Card, CardFault, Request};
 use lapd_frame::{Refusal, Service};
 use lapd_store::{Shelf, SlabShelf, Slot};
+use std::alloc::Global;
 use std::test::Fail;
 
 /// A shelf that counts what is put on it.
@@ -64,5 +66,19 @@ fn a_card_over_a_shelf_of_the_callers_own(rt: HostRuntime) -> Result<(), Fail> {
     assert!(rt; card.lines() == 1);
     assert!(rt; card.request(0, unit).err() == Some(Refusal::QueueFull));
     assert!(rt; card.stored() == 8);
+    Ok(())
+}
+
+/// A card of the usual sizes over such a shelf.
+fn counting_card(alloc: Global) -> Result<Card<Counting>, Fail> {
+    let shelf = SlabShelf::start(alloc, 64, 260)?;
+    Ok(Card::start(alloc, USUAL, Counting { shelf, puts: 0 })?)
+}
+
+/// The same refusals as over the crate's own shelf.
+#[test]
+fn refusals_over_a_shelf_of_the_callers_own(rt: HostRuntime) -> Result<(), Fail> {
+    refuse_at_a_line(&rt, &mut counting_card(rt.alloc())?);
+    refuse_when_full(&rt, &mut counting_card(rt.alloc())?);
     Ok(())
 }

@@ -2,5 +2,8 @@ pub mod Pieces
 pub mod Bench
 pub mod Steps
 pub mod Script
+pub mod Events
+pub mod Replies
 pub mod Worked
 pub mod WorkedScripts
+pub mod WorkedEvents

@@ -5,8 +5,8 @@ ghost use Rattle.lapd_sim_machine.specs.Replies.{TranscriptsAreReplies};
 
 /// A script is a run of the card. Where it has come to a card, that card is the one of the card line, fresh, after the
 /// events of the script's lines up to the first faulty one: an octet for each that comes from a line, a pull for each that
-/// a line takes, a request, and for a wait the expiries that fall due, one after the other. So what holds of every run of
-/// a card holds of every script.
+/// a line takes, a request, and for a wait the expiries that fall due, one after the other. So laws of runs speak of scripts,
+/// where what they ask of the configuration and of the events' lines holds: that is no part of this law.
 pub fn scripts_are_runs()
     ensures { ScriptsAreRuns }
 {}

@@ -22,7 +22,7 @@ pub enum Request<'a> {
     Remove(u8),
     /// Ask which terminals have the TEI (clause 5.3.3).
     Check(u8),
-    /// Take no I-frames on the link for now (own receiver busy, clause 5.6.5; the primitive is the profile's).
+    /// Take no I-frames on the link for now (own receiver busy, clause 5.6.6; the primitive is the profile's).
     SetBusy(Service, u8),
     /// Take I-frames again.
     ClearBusy(Service, u8),

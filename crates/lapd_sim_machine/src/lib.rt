@@ -12,4 +12,6 @@
 
 mod laws;
 
-pub use laws::{scripts_are_runs, transcripts_are_replies};
+pub use laws::{
+    scripts_are_runs, scripts_stay_within, transcripts_are_replies, waits_leave_nothing_due,
+};

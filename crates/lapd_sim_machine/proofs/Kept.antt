@@ -1,13 +1,13 @@
 -- What each line of a script keeps: the timers that run are in order, of lines of the card, and later than the moment.
-use Rattle.std.proofs.Common.{◌≡◌, ℕ, zero, suc, ◌+◌, ◌<◌, ◌≤◌, Bool, true, false, cond, nat_le, List, [], ◌∷◌, ◌++◌, replicate, Option, Some, None, refl, sym, ap, ◌∙◌, subst, arith}
-use Rattle.std.specs.Prelude.{fold, map, All}
+use Rattle.std.proofs.Common.{◌≡◌, ℕ, zero, suc, ◌+◌, ◌<◌, Bool, true, false, cond, nat_le, List, [], ◌∷◌, replicate, Option, Some, None, refl, sym, subst, arith}
+use Rattle.std.specs.Prelude.{fold, All}
 use Rattle.std.specs.List.{AllByRecursion}
 use Rattle.std.proofs.lemmas.Bool.{leb-false}
 use Rattle.std.proofs.lemmas.Option.{none-some}
-use Rattle.std.proofs.lemmas.List.Elements.{All-nil, All-cons, All-head, All-tail, All-map, All-replicate, recursion_from_All}
+use Rattle.std.proofs.lemmas.List.Elements.{All-nil, All-cons, All-head, All-tail, All-map, All-replicate}
 use Rattle.lapd_clock.specs.InOrder.{put_in_order, IsInOrder}
 use Rattle.lapd_clock.specs.Timer.{Timer, Order, Start, Stop, duration}
-use Rattle.lapd_clock.specs.Timers.{Expiry, Timers, is_before, is_of, without, finds_place, with_order, first_due, after_first_due, due_at}
+use Rattle.lapd_clock.specs.Timers.{Expiry, Timers, is_before, without, finds_place, with_order, first_due, after_first_due, due_at}
 use Rattle.lapd_clock.proofs.Calls.{all_later}
 use Rattle.lapd_clock.proofs.Ordered.{All-put_in_order, All-filter, IsInOrder-put_in_order, IsInOrder-filter}
 use Rattle.lapd_clock.proofs.TimerOrder.{before_order}

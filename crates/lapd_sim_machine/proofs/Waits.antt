@@ -1,10 +1,9 @@
 -- A wait leaves nothing that is due.
-use Rattle.std.proofs.Common.{◌≡◌, ℕ, ◌+◌, ◌<◌, ◌≤◌, List, Option, Some, None, refl, arith}
+use Rattle.std.proofs.Common.{◌≡◌, ℕ, ◌+◌, ◌<◌, None, refl, arith}
 use Rattle.std.proofs.lemmas.List.Elements.{All-from_recursion}
 use Rattle.lapd_clock.specs.InOrder.{IsInOrder}
 use Rattle.lapd_clock.specs.Timers.{is_before, due_at, time_until}
-use Rattle.lapd_sim_machine.specs.Bench.{Bench}
-use Rattle.lapd_sim_machine.specs.Steps.{Scene, expiries, after_wait}
+use Rattle.lapd_sim_machine.specs.Steps.{Scene, after_wait}
 use Rattle.lapd_sim_machine.specs.Waits.{AllLater, WaitsLeaveNothingDue}
 use Rattle.lapd_sim_machine.proofs.Events.{script_ran}
 use Rattle.lapd_sim_machine.proofs.Expiries.{drained}

@@ -1,5 +1,5 @@
 -- What a wait comes to: nothing that falls due up to its end is left.
-use Rattle.std.specs.Prelude.{◌≡◌, ℕ, ◌+◌, ◌<◌, List, All, Option, None, Some}
+use Rattle.std.specs.Prelude.{◌≡◌, ℕ, ◌+◌, ◌<◌, List, All, None, Some}
 use Rattle.lapd_clock.specs.InOrder.{IsInOrder}
 use Rattle.lapd_clock.specs.Timers.{is_before, due_at}
 use Rattle.lapd_sim_machine.specs.Pieces.{pieces_of}

@@ -1,5 +1,5 @@
 -- What a script's card stores, and the bound of it.
-use Rattle.std.specs.Prelude.{◌≡◌, ℕ, ◌≤◌, List, take, Option, Some}
+use Rattle.std.specs.Prelude.{◌≡◌, ℕ, ◌≤◌, List, take, Some}
 use Rattle.lapd_line_machine.specs.declared.config.Config.{Config}
 use Rattle.lapd_card_machine.specs.Card.{fresh}
 use Rattle.lapd_card_machine.specs.Run.{after_all}

@@ -10,9 +10,9 @@ ghost use Rattle.lapd_sim_machine.specs.Within.{ScriptsStayWithin};
 /// a line takes, a request, and for a wait the expiries that fall due, one after the other.
 ///
 /// The configuration is in range (`in_range`), and each event is at a line of the card (`at_lines`). The laws of runs of a
-/// card ask for nothing else of a configuration and of events, so each that speaks of a card which has just begun holds of
-/// each script: what is stored, numbered, sent and pulled is as they say. [`scripts_stay_within`] says so of what is stored.
-/// A law that asks for more, as that the pool is never full asks for slots enough, holds where the card line gives it.
+/// card ask for nothing else of a configuration and of events, but for one: that the pool is never full asks for slots
+/// enough, too, which a card line may give or not. So each law of a card that has just begun holds of each script: what is
+/// stored, numbered, sent and pulled is as they say. [`scripts_stay_within`] says so of what is stored.
 pub fn scripts_are_runs()
     ensures { ScriptsAreRuns }
 {}
@@ -24,10 +24,10 @@ pub fn transcripts_are_replies()
     ensures { TranscriptsAreReplies }
 {}
 
-/// A wait leaves nothing that is due. After it the moment is its end, and the clock has no timer to give at that moment
-/// (`none_due`): what falls due is tried often enough, though each expiry may start a timer anew. Where the clock has its
-/// timers in order, every timer that still runs falls due later than the end (`all_later`). On the bench of every script,
-/// after each line, every timer that runs falls due later than the moment (`of_scripts`), in milliseconds.
+/// A wait leaves nothing that is due. After it the moment, in milliseconds, is its end, and the clock has no timer to give at
+/// that moment (`none_due`): it is looked for one often enough, though each expiry may start a timer anew. Where the clock
+/// has its timers in order, every timer that still runs falls due later than the end (`all_later`). On the bench of every
+/// script, after each line, every timer that runs falls due later than the moment (`of_scripts`).
 pub fn waits_leave_nothing_due()
     ensures { WaitsLeaveNothingDue }
 {}

@@ -3,8 +3,7 @@
 ghost use Rattle.std.specs.Prelude.{◌≤◌, ◌<◌, length};
 
 use crate::reference::{Told, bits_of, hear, join, octets_in, repeat};
-use crate::told::Ended;
-use lapd_bits::{Deframer, Framer, Heard};
+use lapd_bits::{Deframer, Ended, Framer, Heard};
 use std::alloc::{AllocError, Global};
 use std::process::Abort;
 use std::test::Fail;

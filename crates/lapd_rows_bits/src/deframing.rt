@@ -27,10 +27,10 @@ fn silent(rt: &impl Abort, deframer: &mut Deframer, octets: &[u8]) {
     }
 }
 
-/// The last of the octets brings the event, and the others bring nothing.
+/// The last of the octets brings the event, and the others bring nothing. There is one at least.
 fn ends_in(rt: &impl Abort, deframer: &mut Deframer, octets: &[u8], heard: Heard<'_>) {
     let Some((last, front)) = octets.split_last() else {
-        return;
+        panic!(rt; "no octets");
     };
     silent(rt, deframer, front);
     assert!(rt; same(deframer.octet(*last), heard));

@@ -1,7 +1,7 @@
 //! Tests of `lapd_bits` by its public contracts; there is nothing to call.
 //!
 //! - `values`: worked frame checks. `framing`: what a framer gives. `deframing`: what a deframer hears, by hand.
-//! - `reference`, with `told`: a plain program that hears by the definitions; `compared`: the deframer against it.
+//! - `reference`: a plain program that hears by the definitions; `compared`: the deframer against it.
 //! - `carried`: starts, and frames from a framer to a deframer.
 #![tactic(auto)]
 
@@ -15,6 +15,5 @@ mod deframing;
 mod framing;
 #[cfg(test)]
 mod reference;
-pub mod told;
 #[cfg(test)]
 mod values;

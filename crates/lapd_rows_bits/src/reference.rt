@@ -7,10 +7,10 @@ ghost use Rattle.lapd_bits.specs.Bits.{low_bits, bits, number_of, octets_of, sam
 ghost use Rattle.lapd_bits.specs.Stuffing.{stuffed, unstuffed, octets_sent};
 ghost use Rattle.lapd_bits.specs.Check.{plus, brought_down, remainder, dividend, is_good};
 ghost use Rattle.lapd_bits.specs.Stream.{ends_flag, ends_abort, since_flag, has_abort, judged, gap_event, closed_by_flag, given_up, heard_at, heard_until, heard_in, room_for};
-ghost use Rattle.lapd_rows_bits.specs.Reference.{begins, event_in};
+ghost use Rattle.lapd_bits.specs.Heard.{event_in};
+ghost use Rattle.lapd_rows_bits.specs.Reference.{begins};
 
-use crate::told::Ended;
-use lapd_bits::Cause;
+use lapd_bits::{Cause, Ended};
 use std::alloc::{AllocError, Global};
 
 /// What has ended at a place, and the octets that it lies in.

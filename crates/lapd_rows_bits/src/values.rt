@@ -1,9 +1,6 @@
-//! Worked frame checks, the text of the fault, and calls of the laws.
+//! Worked frame checks, and the text of the fault.
 
-use lapd_bits::{
-    StartFault, abort_after_flag, fcs, flag_after_flag, frames_round_trip, heard_within_stream,
-    octets_of_a_text, one_event_an_octet, one_stuffed_text, only_check, stuffed_texts,
-};
+use lapd_bits::{StartFault, fcs};
 use std::test::Fail;
 
 /// Octets and their check: of nothing, the published value, and that of a SABME of the terminal with TEI 64.
@@ -25,17 +22,4 @@ fn the_faults_text(rt: HostRuntime) -> Result<(), Fail> {
     let text = format!(in rt.alloc(); "{}", StartFault::OutOfMemory)?;
     assert!(rt; text.as_str() == "out of memory");
     Ok(())
-}
-
-#[test]
-fn the_laws_can_be_cited() {
-    only_check();
-    one_stuffed_text();
-    stuffed_texts();
-    octets_of_a_text();
-    one_event_an_octet();
-    heard_within_stream();
-    flag_after_flag();
-    abort_after_flag();
-    frames_round_trip();
 }

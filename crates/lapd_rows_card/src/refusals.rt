@@ -25,7 +25,8 @@ pub fn bring_up<S: Shelf>(rt: &impl Abort, card: &mut Card<S>) {
     assert!(rt; card.state(0, CALL, 64) == Some(7));
 }
 
-/// What a request is refused for, where the card stores as much after it as before.
+/// What a request is refused for, where the card stores as much after it as before. None where it is accepted too, so a
+/// test compares this with a refusal.
 fn refused<S: Shelf>(card: &mut Card<S>, request: Request<'_>) -> Option<Refusal> {
     let before = (card.stored(), card.state(0, CALL, 64));
     if card.lines() == 0 {
@@ -50,7 +51,7 @@ pub fn refuse_at_a_line<S: Shelf>(rt: &impl Abort, card: &mut Card<S>) {
     for (request, refusal) in REFUSED {
         assert!(rt; refused(card, request) == Some(refusal));
     }
-    assert!(rt; refused(card, Request::Check(64)).is_none());
+    assert!(rt; accepts(card, Request::Check(64), 1));
     assert!(rt; refused(card, Request::Check(64)) == Some(Refusal::CheckRunning));
 }
 
@@ -129,7 +130,7 @@ fn a_pool_that_all_lines_share(rt: HostRuntime) -> Result<(), Fail> {
     let unit = Request::Unit(CALL, 127, &[0xAB]);
     assert!(rt; card.lines() == 2);
     assert!(rt; card.request(1, unit).is_ok());
-    assert!(rt; refused(&mut card, Request::Data(CALL, 64, &[1])).is_none());
+    assert!(rt; accepts(&mut card, DATA, 1));
     assert!(rt; refused(&mut card, Request::Data(CALL, 64, &[2])) == Some(Refusal::PoolFull));
     assert!(rt; refused(&mut card, Request::Assign(65)) == Some(Refusal::TableFull));
     // One unit of 1 octet, one content of 1, and UA with 3.

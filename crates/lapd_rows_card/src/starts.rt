@@ -46,20 +46,19 @@ fn with(field: Field, value: u16) -> Config {
     config
 }
 
-/// Why a card does not start with a shelf of so many slots of this width, 8 to 260; none where it does, and where the
-/// shelf does not.
-fn fault(alloc: Global, config: Config, slots: u32, width: u16) -> Option<CardFault>
+/// Why a card does not start with a shelf of so many slots of this width, 8 to 260; none where it does.
+fn fault(alloc: Global, config: Config, slots: u32, width: u16) -> Result<Option<CardFault>, Fail>
     requires least { 8 ≤ width }
     requires most { width ≤ 260 }
 {
-    let shelf = SlabShelf::start(alloc, slots, width).ok()?;
-    Card::start(alloc, config, shelf).err()
+    let shelf = SlabShelf::start(alloc, slots, width)?;
+    Ok(Card::start(alloc, config, shelf).err())
 }
 
 /// The field is told by the configuration and by a start alike.
-fn is_told(alloc: Global, config: Config, field: Field) -> bool {
-    config.fault() == Some(field)
-        && fault(alloc, config, 64, 260) == Some(CardFault::BadConfig(field))
+fn is_told(alloc: Global, config: Config, field: Field) -> Result<bool, Fail> {
+    let found = fault(alloc, config, 64, 260)?;
+    Ok(config.fault() == Some(field) && found == Some(CardFault::BadConfig(field)))
 }
 
 /// The values next to each field's range.
@@ -86,32 +85,34 @@ const OUTSIDE: [(Field, u16); 19] = [
 ];
 
 #[test]
-fn each_field_has_its_range(rt: HostRuntime) {
+fn each_field_has_its_range(rt: HostRuntime) -> Result<(), Fail> {
     for (field, value) in OUTSIDE.iter() {
         assert!(rt;
-            is_told(rt.alloc(), with(*field, *value), *field),
+            is_told(rt.alloc(), with(*field, *value), *field)?,
             "{value}"
         );
     }
+    Ok(())
 }
 
 #[test]
-fn the_first_of_two_fields_is_told(rt: HostRuntime) {
+fn the_first_of_two_fields_is_told(rt: HostRuntime) -> Result<(), Fail> {
     let both = Config {
         n200: 11,
         ..with(Field::N201, 261)
     };
-    assert!(rt; is_told(rt.alloc(), with(Field::K, 9), Field::Queue));
-    assert!(rt; is_told(rt.alloc(), with(Field::K16, 9), Field::Queue));
-    assert!(rt; is_told(rt.alloc(), both, Field::N201));
+    assert!(rt; is_told(rt.alloc(), with(Field::K, 9), Field::Queue)?);
+    assert!(rt; is_told(rt.alloc(), with(Field::K16, 9), Field::Queue)?);
+    assert!(rt; is_told(rt.alloc(), both, Field::N201)?);
+    Ok(())
 }
 
 #[test]
 fn a_shelf_that_is_too_small(rt: HostRuntime) -> Result<(), Fail> {
-    assert!(rt; fault(rt.alloc(), USUAL, 64, 260).is_none());
+    assert!(rt; fault(rt.alloc(), USUAL, 64, 260)?.is_none());
     for (slots, width) in [(63, 260), (64, 259), (0, 8)] {
         assert!(rt; 8 <= width && width <= 260);
-        assert!(rt; fault(rt.alloc(), USUAL, slots, width) == Some(CardFault::ShelfTooSmall));
+        assert!(rt; fault(rt.alloc(), USUAL, slots, width)? == Some(CardFault::ShelfTooSmall));
     }
     let mut shelf = SlabShelf::start(rt.alloc(), 64, 260)?;
     assert!(rt; shelf.put(&[]).is_some());
@@ -120,9 +121,10 @@ fn a_shelf_that_is_too_small(rt: HostRuntime) -> Result<(), Fail> {
 }
 
 #[test]
-fn a_field_is_told_before_the_shelf(rt: HostRuntime) {
-    let found = fault(rt.alloc(), with(Field::N201, 261), 1, 8);
+fn a_field_is_told_before_the_shelf(rt: HostRuntime) -> Result<(), Fail> {
+    let found = fault(rt.alloc(), with(Field::N201, 261), 1, 8)?;
     assert!(rt; found == Some(CardFault::BadConfig(Field::N201)));
+    Ok(())
 }
 
 /// Each fault in words.

@@ -2,7 +2,7 @@
 
 ghost use Rattle.std.specs.Prelude.{◌≤◌};
 
-use lapd_clock::{Clock, StartFault, orders_move_one_timer};
+use lapd_clock::{Clock, StartFault};
 use lapd_frame::{Order, Service, Timer};
 use std::alloc::Global;
 use std::process::Abort;
@@ -114,7 +114,6 @@ const ONE_MOMENT: [Step; 13] = [
 #[test]
 fn a_timer_has_one_moment(rt: HostRuntime) -> Result<(), Fail> {
     let mut clock = Clock::start(rt.alloc(), 2, 1)?;
-    orders_move_one_timer();
     play(&rt, &mut clock, &ONE_MOMENT);
     Ok(())
 }

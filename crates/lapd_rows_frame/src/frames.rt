@@ -4,8 +4,8 @@ ghost use Rattle.std.specs.Prelude.{◌≡◌};
 ghost use Rattle.lapd_frame.specs.Grammar.{Spells, parts_of};
 
 use lapd_frame::{
-    Address, Control, ErrorCode, Frame, Long, ReadFault, Refusal, Service, Side, one_spelling,
-    read, read_long, write,
+    Address, Control, ErrorCode, Frame, Long, ReadFault, Refusal, Service, Side, read, read_long,
+    write,
 };
 use lapd_seq::Seq;
 use std::process::Abort;
@@ -257,7 +257,6 @@ fn faults_in_words(rt: HostRuntime) -> Result<(), Fail> {
 
 #[test]
 fn a_frame_is_written_to_the_front(rt: HostRuntime) {
-    one_spelling();
     let mut out = [0xEE; 6];
     let frame = Frame {
         address: address(16, true, 1),

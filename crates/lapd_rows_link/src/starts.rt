@@ -1,4 +1,4 @@
-//! Starts at both ends of each range.
+//! Starts at both ends of each range, and the text of a start's fault.
 
 ghost use Rattle.std.specs.Prelude.{◌≤◌};
 ghost use Rattle.lapd_rows_link.specs.Works.{Works};
@@ -7,6 +7,7 @@ use crate::bench::Bench;
 use lapd_frame::{Control, Refusal};
 use lapd_link::{LinkRequest, StartFault};
 use std::alloc::Global;
+use std::test::Fail;
 
 // The most contents that a link keeps.
 const MOST: u32 = 127;
@@ -68,5 +69,13 @@ fn a_link_has_the_room_that_it_was_started_with(rt: HostRuntime) -> Result<(), S
     assert!(rt; has_room(rt.alloc(), 1, 16)?);
     assert!(rt; has_room(rt.alloc(), 127, 2)?);
     assert!(rt; has_room(rt.alloc(), 127, 16)?);
+    Ok(())
+}
+
+#[test]
+fn the_fault_has_its_text(rt: HostRuntime) -> Result<(), Fail> {
+    let text = format!(in rt.alloc(); "{}", StartFault::OutOfMemory)?;
+    assert!(rt; text.as_str() == "out of memory");
+    assert!(rt; StartFault::OutOfMemory as u8 == 1);
     Ok(())
 }

@@ -1,6 +1,6 @@
 //! Tests of the store as its users see it, by the public contracts of `lapd_store` alone; there is nothing to call.
 //!
-//! - `slab_shelf`: a slab shelf at its own type; `each_shelf`: the same tests of each shelf, through the trait;
+//! - `each_shelf`: the same tests of each shelf, through the trait; `slab_shelf`: what is of a slab shelf alone;
 //!   `slot_queue`: queues of slots.
 //! - `outbox`: a queue of messages on a shelf that others use too; `sharing`: two such queues.
 #![tactic(auto)]

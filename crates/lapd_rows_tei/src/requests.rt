@@ -1,8 +1,8 @@
-//! What layer management asks for, and what is refused.
+//! What layer management asks for, and what is refused; the text of a start's fault.
 
 use crate::heard::request;
 use lapd_frame::Refusal;
-use lapd_tei::{Change, Teis};
+use lapd_tei::{Change, StartFault, Teis};
 use std::test::Fail;
 
 #[test]
@@ -34,5 +34,13 @@ fn a_message_of_another_kind_is_not_served(rt: HostRuntime) -> Result<(), Fail> 
     assert!(rt; teis.message(&[0x0F, 0x12, 0x34, 0x01, 0xFF, 0x00]).unserved);
     assert!(rt; teis.message(&[]).unserved);
     assert!(rt; teis.held() == 0);
+    Ok(())
+}
+
+#[test]
+fn the_fault_has_its_text(rt: HostRuntime) -> Result<(), Fail> {
+    let text = format!(in rt.alloc(); "{}", StartFault::OutOfMemory)?;
+    assert!(rt; text.as_str() == "out of memory");
+    assert!(rt; StartFault::OutOfMemory as u8 == 1);
     Ok(())
 }

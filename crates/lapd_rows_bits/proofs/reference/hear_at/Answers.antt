@@ -1,6 +1,6 @@
 use Rattle.std.proofs.Common.{◌≡◌, ℕ, ◌+◌, Bool, false, List, ◌∷◌, take, ap, sym, ◌∙◌}
 use Rattle.lapd_bits.specs.Bits.{flag}
-use Rattle.lapd_rows_bits.specs.Reference.{event_in}
+use Rattle.lapd_bits.specs.Heard.{event_in}
 use Rattle.lapd_rows_bits.specs.Reference.{begins}
 use Rattle.lapd_bits.specs.Stream.{heard_at, given_up}
 use Rattle.lapd_rows_bits.proofs.ReferenceSteps.{heard_at-up}

@@ -1,6 +1,6 @@
 use Rattle.std.proofs.Common.{◌≡◌, ℕ, List, Some, option_map, ap, ◌∙◌, subst}
 use Rattle.lapd_bits.specs.Stuffing.{octets_sent}
-use Rattle.lapd_rows_bits.specs.Reference.{event_in}
+use Rattle.lapd_bits.specs.Heard.{event_in}
 use Rattle.lapd_bits.specs.Stream.{judged, text_event}
 use Rattle.lapd_rows_bits.proofs.reference.hear_gap.Goals as goal
 

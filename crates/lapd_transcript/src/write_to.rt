@@ -5,7 +5,7 @@ ghost use Rattle.std.specs.Io.KnownBytes.{Appends, WriteAppends};
 ghost use Rattle.lapd_transcript.specs.Streams.{Taken, Writes};
 
 use crate::streams::{Target, WriteFailed};
-use std::io;
+use std::{fmt, io};
 
 /// A writer of std as a [`Target`], which tells what the writer tells. A write that takes no octet is a failure; one
 /// that was interrupted is tried again, as std does. Each write is flushed.
@@ -77,5 +77,14 @@ impl<W: io::Write> Target for WriteTo<W> {
                 Err(WriteFailed)
             }
         }
+    }
+}
+
+/// Shows the failures alone, and asks nothing of the writer.
+impl<W> fmt::Debug for WriteTo<W> {
+    fn fmt<O: fmt::Write>(&self, f: &mut fmt::Formatter<O>) -> fmt::Result {
+        f.debug_struct("WriteTo")
+            .field("failures", &self.failures)
+            .finish_non_exhaustive()
     }
 }

@@ -10,6 +10,7 @@ use lapd_frame::Timer;
 /// A running timer, and the moment at which it falls due.
 #[derive(Clone, Copy, Debug)]
 pub(crate) struct Held {
+    /// In milliseconds.
     pub moment: u64,
     pub timer: Timer,
 }

@@ -53,8 +53,9 @@ disc_in_7_8 t p =
 abbrev pub ua_in_7_8 : Terms → Bool → Step
 ua_in_7_8 t f = by_bit f (error t code.C) (error t code.D)
 
--- An error that is told, and after which the link is established again: DM with F=0 (E), FRMR (K), an undefined frame (L),
--- one of wrong size (N), an I-frame over N201 (O) (clauses 5.7.1, 5.8.5 and 5.8.6, appendix II).
+-- An error that is told, and after which the link is established again: DM with F=0 (E), in state 8 DM with F=1 (B) and no
+-- answer to the last enquiry (I), FRMR (K), an undefined frame (L), one of wrong size (N), an I-frame over N201 (O) (clauses
+-- 5.6.7, 5.7.1, 5.8.5, 5.8.6 and 5.8.7, appendix II). An invalid N(R) (J) stands in `by_number`.
 abbrev pub failed : Terms → ErrorCode → Step
 failed t e = error t e then re_establish t
 

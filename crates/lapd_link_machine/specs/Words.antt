@@ -192,6 +192,7 @@ re_establish t =
     clear_flags then send t (command (Sabme true)) then repeats_are 0 then start T200 then asked_is false
     then enter AwaitingEstablishment
 
--- An N(R) means the one number of a..=s with that remainder; where there is none, it is invalid (clause 5.8.2).
+-- An N(R) means the one number of a..=s with that remainder; where there is none, it is invalid (clauses 3.5.2.3 and
+-- 5.8.2).
 abbrev pub by_number : Terms → Seq → (ℕ → Step) → Step
 by_number t nr step c = elim (named c.link.a c.link.s nr) [ None ↦ (error t code.J then re_establish t) c | Some n ↦ step n c ]

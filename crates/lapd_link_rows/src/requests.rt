@@ -60,6 +60,7 @@ impl Entity {
     {
         self.begin();
         told.started = None;
+        // all: a queue has no more
         told.released = 127;
     }
 

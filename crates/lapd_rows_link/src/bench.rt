@@ -11,7 +11,9 @@ use std::alloc::Global;
 /// A link of TEI 64 for call control, with a shelf of its own.
 #[derive(Drop)]
 pub struct Bench {
+    /// The link, opened.
     pub link: Link,
+    /// Where its contents lie.
     pub shelf: SlabShelf,
 }
 
@@ -112,12 +114,16 @@ impl Bench {
     }
 }
 
-/// The link's state, the octets of the control frames that wait, the contents on the shelf, and their octets.
+/// What can be seen of a link and its shelf.
 #[derive(Clone, Copy, PartialEq, Eq, Debug)]
 pub struct Seen {
+    /// The link's state, 4 to 8.
     pub state: u8,
+    /// The octets of the control frames that wait.
     pub held: u32,
+    /// How many contents are on the shelf.
     pub used: u32,
+    /// Their octets.
     pub octets: u64,
 }
 

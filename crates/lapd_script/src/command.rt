@@ -2,18 +2,29 @@
 
 use lapd_frame::Service;
 
-/// The numbers of a card line, in its order; `k16` stands last there, and is `k` where it is left out.
+/// The numbers of a card line, in its order; `k16` stands last there, and is `k` where it is left out. Their ranges are those
+/// of a card's configuration, and are not tested here.
 #[derive(Clone, Copy, PartialEq, Eq, Debug)]
 pub struct CardNumbers {
+    /// The lines of the card.
     pub lines: u16,
+    /// TEIs on each line.
     pub terminals: u16,
+    /// The window of call control links.
     pub k: u16,
+    /// Contents that wait on each link, sent or unsent.
     pub queue: u16,
+    /// Unit data that wait on each line.
     pub unit_queue: u16,
+    /// Control frames that wait on each link.
     pub control: u16,
+    /// Contents that wait on the whole card.
     pub slots: u16,
+    /// Octets of an information field at most.
     pub n201: u16,
+    /// How often a command is repeated.
     pub n200: u16,
+    /// The window of packet links.
     pub k16: u16,
 }
 

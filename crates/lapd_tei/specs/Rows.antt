@@ -74,8 +74,9 @@ serve (Some (IdentityVerify tei)) c = verify tei c
 serve (Some (IdentityCheckResponse tei)) c = respond tei c.now.check c
 serve None c = unserved c
 
--- T201 has expired (clause 5.3.3.2). In the first period the check is asked for again. At the end of the second the check ends, and
--- a TEI without a response in either period leaves the line. Where no check runs, T201 does not run.
+-- T201 has expired (clause 5.3.3.2). In the first period the check is asked for again. At the end of the second the check
+-- ends, and a TEI without a response in either period leaves the line (clauses 5.3.3.2 and 5.3.4). Where no check runs,
+-- T201 does not run, and nothing happens (profile).
 abbrev pub removed : ℕ → Step
 removed tei = end_check then note (Removed tei) then leave tei
 
@@ -97,7 +98,8 @@ expire_check (Some check) = expire_period check check.period
 abbrev pub expire : Step
 expire c = expire_check c.now.check c
 
--- A request of layer management to put a TEI on the line: at the lowest place that is free.
+-- A request of layer management to put a TEI on the line (MDL-ASSIGN request, clause 4.1.1.5): at the lowest place that is
+-- free (profile).
 abbrev pub join_at : ℕ → Option ℕ → Step
 join_at tei (Some place) = join tei place
 join_at tei None = nothing_happens

@@ -60,7 +60,6 @@ impl Entity {
     {
         self.begin();
         told.started = None;
-        // all: a queue has no more
         told.released = 127;
     }
 

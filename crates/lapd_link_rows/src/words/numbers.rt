@@ -11,7 +11,7 @@ use crate::entity::Entity;
 use crate::told::Told;
 use lapd_seq::{Seq, Window, distance, valid};
 
-// As many contents as a queue can have. The queue's owner releases no more than there are, so this is all of them.
+// All contents of a queue.
 const ALL: u8 = 127;
 
 impl Entity {

@@ -12,6 +12,7 @@ use lapd_frame::Timer;
 pub(crate) struct Held {
     /// In milliseconds.
     pub moment: u64,
+    /// Which timer it is.
     pub timer: Timer,
 }
 

@@ -60,30 +60,41 @@ pub enum Command {
     Card(CardNumbers),
     /// `rx LINE HEX`: octets come from the line.
     Rx {
+        /// The card's line.
         line: u16,
+        /// How many octets HEX stands for.
         octets: usize,
     },
     /// `in LINE HEX`: the line's terminal sends a frame.
     In {
+        /// The card's line.
         line: u16,
+        /// How many octets HEX stands for.
         octets: usize,
     },
     /// `pull LINE N`: the line takes 1 to 4,096 octets.
     Pull {
+        /// The card's line.
         line: u16,
+        /// N.
         count: u32,
     },
     /// `wait MS`: so many milliseconds pass, at most 3,600,000.
     Wait {
+        /// MS.
         milliseconds: u32,
     },
     /// `stored`: shows what the card holds.
     Stored,
     /// A request of layer 3, and the octets that it carries: those of `data` and `unit`, else none.
     Ask {
+        /// The card's line.
         line: u16,
+        /// The TEI.
         tei: u8,
+        /// What is asked for.
         what: Asked,
+        /// How many octets HEX stands for; 0 where there is none.
         octets: usize,
     },
 }

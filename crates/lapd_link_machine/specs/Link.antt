@@ -62,8 +62,8 @@ fresh = record {
   waiting = [];
 }
 
--- The contents that it still keeps: those from the first that is not acknowledged on. The first of them are outstanding,
--- the others not sent yet.
+-- The contents that it still keeps: those from the first that is not acknowledged on. The first of them are
+-- outstanding, the others not sent yet.
 abbrev pub queue_of : Link → List (List ℕ)
 queue_of l = drop l.a l.contents
 

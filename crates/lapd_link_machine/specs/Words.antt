@@ -111,7 +111,8 @@ start timer c = record c { link = record c.link { running = Some timer }; starte
 abbrev pub no_timer : Step
 no_timer c = record c { link = record c.link { running = None }; started = None }
 
--- V(A), V(S) and V(R) become 0, and the numbers of the next establishment begin. What is not sent yet begins the new list.
+-- V(A), V(S) and V(R) become 0, and the numbers of the next establishment begin. What is not sent yet begins the new
+-- list.
 abbrev pub with_zero : Link → Link
 with_zero l = record l { contents = drop l.s l.contents; a = 0; s = 0; r = 0 }
 

@@ -20,8 +20,8 @@ pub struct Bench {
 impl Bench {
     ghost use Rattle.lapd_rows_link.specs.Works.{Works};
 
-    /// A link that was opened, with a window and a queue of `k` contents of at most 8 octets, over as many slots, where four
-    /// control frames may wait.
+    /// A link that was opened, with a window and a queue of `k` contents of at most 8 octets, over as many slots, where
+    /// four control frames may wait.
     pub fn start(alloc: Global, k: u8, slots: u32) -> Result<Bench, StartFault>
         requires low { 1 ≤ k }
         requires high { k ≤ 127 }

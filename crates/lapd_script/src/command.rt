@@ -2,8 +2,8 @@
 
 use lapd_frame::Service;
 
-/// The numbers of a card line, in its order; `k16` stands last there, and is `k` where it is left out. Their ranges are those
-/// of a card's configuration, and are not tested here.
+/// The numbers of a card line, in its order; `k16` stands last there, and is `k` where it is left out. Their ranges are
+/// those of a card's configuration, and are not tested here.
 #[derive(Clone, Copy, PartialEq, Eq, Debug)]
 pub struct CardNumbers {
     /// The lines of the card.

@@ -242,8 +242,8 @@ fn lend_two<S: Shelf>(shelf: &S, one: Slot, other: Slot, order: &[u8; 260], roun
     done
 }
 
-/// The sum of the last octets of contents that are lent, now from one slot and now from the other, as `order` has it. Out
-/// of line, as `keep_all` is.
+/// The sum of the last octets of contents that are lent, now from one slot and now from the other, as `order` has it.
+/// Out of line, as `keep_all` is.
 #[inline(never)]
 fn lend_all<S: Shelf>(shelf: &S, one: Slot, other: Slot, order: &[u8; 260], least: u8) -> u64
     requires one { IsUsed (S.store shelf.now) one }

@@ -9,8 +9,9 @@ OneEventAnOctet =
     (n201 : ℕ) (past : List ℕ) (octet : ℕ) →
     (event : Option Event) × (heard_in n201 (past ++ octet ∷ []) ≡ heard_in n201 past ++ option_to_list event)
 
--- How many octets of a stream a frame takes that is heard, at least: its own, here without check, the check's and a flag.
--- One that is longer than the receiver's room has more octets than that, check and all. What is dropped may take none.
+-- How many octets of a stream a frame takes that is heard, at least: its own, here without check, the check's and a
+-- flag. One that is longer than the receiver's room has more octets than that, check and all. What is dropped may take
+-- none.
 abbrev pub octets_taken : ℕ → Event → ℕ
 octets_taken room (frame octets) = length octets + 3
 octets_taken room (overlong head) = room + 2

@@ -4,8 +4,8 @@
 //! sent. Both take all their memory when they start.
 //!
 //! A *gap* is what stands between two flags that follow one another. The *open gap* is what has come since the latest
-//! flag, as long as no seven 1s have given it up. An *item* is what is sent after a line's opening flag: an idle flag, or
-//! a stuffed frame with its check and its closing flag.
+//! flag, as long as no seven 1s have given it up. An *item* is what is sent after a line's opening flag: an idle flag,
+//! or a stuffed frame with its check and its closing flag.
 //!
 //! - `deframer`, over `gap` and `unstuffer`: from octets to frames; `heard`: what it answers.
 //! - `framer`, over `stuffer` and `waiting`: from frames to octets.

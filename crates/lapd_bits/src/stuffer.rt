@@ -1,7 +1,7 @@
 //! Stuffs an octet at once (clause 2.6), by tables.
 //!
-//! The tables have 256 entries for each number of 1s that went right before an octet, 0 to 4, in this order. The 0 after
-//! a fifth 1 goes with it, so no fifth 1 is ever the last bit.
+//! The tables have 256 entries for each number of 1s that went right before an octet, 0 to 4, in this order. The 0
+//! after a fifth 1 goes with it, so no fifth 1 is ever the last bit.
 ghost use Rattle.std.specs.Prelude.{◌≡◌, ◌<◌, ◌≤◌, ◌+◌, ◌^◌, length, slice_index, nat_le};
 ghost use Rattle.lapd_bits.specs.Stuffer.{IsStuffedOctet};
 

@@ -17,8 +17,8 @@ use Rattle.lapd_store.specs.Store.{Store, SameLimits}
 use Rattle.lapd_store.proofs.Focus.{FocusPair, focus_pair}
 use Rattle.lapd_card.specs.Lines.{IsFit, owned, Stand, Serve, Lead, line_in, told_of, told_at}
 
--- A line stands for its part of the machine, beside what the other lines own; and whatever it and the shelf are afterwards,
--- if it stands for another line of the machine, the lines stand with that in its place.
+-- A line stands for its part of the machine, beside what the other lines own; and whatever it and the shelf are
+-- afterwards, if it stands for another line of the machine, the lines stand with that in its place.
 pub record Focused (c : Config) (lines : List Line) (s : Store) (ms : List machine.Line) (i : ℕ) (x : Line) : Type 0 where
   pub config : config_of x ≡ c
   pub rest : List Owned

@@ -1,5 +1,5 @@
--- What holds of every list of events at a card, from a machine for which the card stands on. Each of these is a law of the
--- machine, stated there for all of them.
+-- What holds of every list of events at a card, from a machine for which the card stands on. Each of these is a law of
+-- the machine, stated there for all of them.
 use Rattle.std.specs.Prelude.{◌≡◌, ℕ, ◌+◌, ◌*◌, ◌≤◌, ◌<◌, List, length, map, All}
 use Rattle.lapd_card_machine.specs.Card.{Card, fresh, line_at}
 use Rattle.lapd_card_machine.specs.Counts.{waiting, frames_heard, octets_received, window, sent, accepted, expired, rejected}
@@ -17,8 +17,8 @@ use Rattle.lapd_line_machine.specs.declared.config.Config.{Config}
 abbrev pub IsWithinLimit : Card → List Event → Type 0
 IsWithinLimit m events = stored (after_all m events) ≤ limit m.config
 
--- The frames sent, and those that may still be sent, rise by at most two for each frame that is recognised, by one for each
--- request that is accepted, by k + 1 for each expiry of a running timer, and by k for each REJ with a valid N(R).
+-- The frames sent, and those that may still be sent, rise by at most two for each frame that is recognised, by one for
+-- each request that is accepted, by k + 1 for each expiry of a running timer, and by k for each REJ with a valid N(R).
 abbrev pub IsAmortised : Card → List Event → Type 0
 IsAmortised m events =
     let ms = moments m events in
@@ -47,8 +47,9 @@ IsIsolated c events =
 abbrev pub IsNeverFull : Config → List Event → Type 0
 IsNeverFull c events = c.lines * (2 * c.terminals * c.queue + c.unit_queue) ≤ c.slots → All IsNotRefusedForPool (moments (fresh c) events)
 
--- What each link has delivered since its latest establishment is numbered: the next delivery is the contents of the first
--- eligible frame that has the next number, modulo 128, and each is reported in the moment of its frame. V(R) counts them.
+-- What each link has delivered since its latest establishment is numbered: the next delivery is the contents of the
+-- first eligible frame that has the next number, modulo 128, and each is reported in the moment of its frame. V(R)
+-- counts them.
 pub record IsNumberedAt (m : Card) (events : List Event) (name : LinkName) : Type 0 where
   pub numbered : let h = history name m (moments m events) in Numbered h.first (frames_of h.shares) (deliveries_of h.shares)
   pub at_once : let h = history name m (moments m events) in AreNumbered h.first h.shares

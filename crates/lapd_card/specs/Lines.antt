@@ -25,7 +25,8 @@ pub record IsFit (c : Config) (p : Line × machine.Line) : Type 0 where
 abbrev pub owned : Line × machine.Line → List Owned
 owned p = pairs_of p.0 p.1
 
--- Each line stands for that of the machine at its place, on this shelf, which holds what the lines own, and nothing else.
+-- Each line stands for that of the machine at its place, on this shelf, which holds what the lines own, and nothing
+-- else.
 pub record Stand (c : Config) (lines : List Line) (store : Store) (ms : List machine.Line) : Type 0 where
   pub width : c.n201 ≤ store.width
   pub count : length lines ≡ length ms

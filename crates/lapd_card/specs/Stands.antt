@@ -8,8 +8,8 @@ use Rattle.lapd_card.specs.Card.{Held}
 use Rattle.lapd_card.specs.Lines as lines
 use Rattle.lapd_store.specs.Store.{Store}
 
--- A card stands for a machine: it has its configuration, and its lines stand for the machine's over its shelf, which has
--- as many slots as the configuration says, or more; and the machine is sound.
+-- A card stands for a machine: it has its configuration, and its lines stand for the machine's over its shelf, which
+-- has as many slots as the configuration says, or more; and the machine is sound.
 pub record Stands {S : Type 0} (store : S → Store) (card : Held S) (m : machine.Card) : Type 0 where
   pub config : m.config ≡ card.config
   pub lines : lines.Stand card.config card.lines (store card.shelf) m.lines

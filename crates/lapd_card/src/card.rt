@@ -57,14 +57,14 @@ impl<S: Shelf> Card<S> {
         usize::from(self.config.lines)
     }
 
-    /// Takes an octet that came from a line, low bit first, and tells what it led to. Contents that it delivers are lent
-    /// until the card's next event.
+    /// Takes an octet that came from a line, low bit first, and tells what it led to. Contents that it delivers are
+    /// lent until the card's next event.
     pub fn octet(&mut self, line: usize, octet: u8) -> Report<'_>
         requires { line < line_count self.old }
         ensures told { (m : machine.Card) → Stands S.store self.old m
             → happening.told (report_told result) ≡ answer (at line (happening.octet octet)) m }
-        // What may be sent rises by two at most for the frame that it ends, and by k more where that is an REJ with a valid
-        // N(R); else by nothing.
+        // What may be sent rises by two at most for the frame that it ends, and by k more where that is an REJ with a
+        // valid N(R); else by nothing.
         ensures frames { (m : machine.Card) → Stands S.store self.old m → RisesByOctet line octet m }
         ensures* after { sem 𝓛 (Rests (the_row S.row S.Shelf) self.entry (λ v. Leads S.store (at line (happening.octet octet)) self.old v)) }
     {

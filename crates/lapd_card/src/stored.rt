@@ -11,8 +11,8 @@ use lapd_line::Config;
 use lapd_store::Shelf;
 
 /// The most octets that a card of this configuration stores. The configuration is in range ([`Config::fault`] is None). It
-/// is for each line a frame that is received, one that is sent, and all control frames, messages and assignments that may
-/// wait; and for each slot, N201.
+/// is for each line a frame that is received, one that is sent, and all control frames, messages and assignments that
+/// may wait; and for each slot, N201.
 pub fn limit(config: &Config) -> u32
     requires { IsInRange config.now }
     ensures { result ≡ limit config.now }

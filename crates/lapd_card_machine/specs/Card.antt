@@ -24,8 +24,8 @@ used card = sum_by (slots_of card.config) card.lines
 abbrev pub is_full : Card → Bool
 is_full card = nat_le card.config.slots (used card)
 
--- The state of the link of a service with this TEI, by its number in Q.921; none where the card has no such line, or the
--- TEI is not on it.
+-- The state of the link of a service with this TEI, by its number in Q.921; none where the card has no such line, or
+-- the TEI is not on it.
 abbrev pub state : ℕ → Service → ℕ → Card → Option ℕ
 state number service tei card =
     if nat_lt number card.config.lines then state_of service tei (line_at number card) else None

@@ -57,9 +57,9 @@ abbrev pub contents_of : ℕ → Option Arrived → Option (List ℕ)
 contents_of i None = None
 contents_of i (Some frame) = if frame.ns.value == i % 128 then Some frame.contents else None
 
--- The eligible frames that came, in order, and what was delivered. That the deliveries of a history are numbered is said of
--- these two lists as a link's law says it: delivery i is the contents of the first frame after that of delivery i - 1 whose
--- N(S) is i modulo 128, and after the last one no frame has the next number.
+-- The eligible frames that came, in order, and what was delivered. That the deliveries of a history are numbered is
+-- said of these two lists as a link's law says it: delivery i is the contents of the first frame after that of delivery
+-- i - 1 whose N(S) is i modulo 128, and after the last one no frame has the next number.
 abbrev pub frame_of : Share → List Arrived
 frame_of share = option_to_list share.arrived
 
@@ -72,9 +72,9 @@ delivery_of share = option_to_list share.delivered
 abbrev pub deliveries_of : List Share → List (List ℕ)
 deliveries_of shares = flat_map delivery_of shares
 
--- And moment by moment, so that each delivery is told in the moment of its frame: from number i on, the next delivery is the
--- contents of the first eligible frame whose N(S) is i modulo 128, in that frame's moment, and the deliveries after it are
--- numbered from i + 1 on. A moment that brings no such frame delivers nothing.
+-- And moment by moment, so that each delivery is told in the moment of its frame: from number i on, the next delivery
+-- is the contents of the first eligible frame whose N(S) is i modulo 128, in that frame's moment, and the deliveries
+-- after it are numbered from i + 1 on. A moment that brings no such frame delivers nothing.
 abbrev pub AreNumbered : ℕ → List Share → Type 0
 AreNumbered i [] = Unit {0}
 AreNumbered i (share ∷ shares) = elim (contents_of i share.arrived) [

@@ -45,8 +45,8 @@ frames_among [] = []
 frames_among (idle ∷ items) = frames_among items
 frames_among (frame octets ∷ items) = octets ∷ frames_among items
 
--- Pulls go on with the text of a line: after what was given before, the octets that they gave are a beginning of the text of
--- the items before and of those that they put on the line, whose frames are those that they began, in order.
+-- Pulls go on with the text of a line: after what was given before, the octets that they gave are a beginning of the
+-- text of the items before and of those that they put on the line, whose frames are those that they began, in order.
 pub record GoesOn (before after : Line) (octets : List ℕ) (frames : List (List ℕ)) : Type 0 where
   pub more : List Item
   pub items : after.items ≡ before.items ++ more

@@ -34,7 +34,8 @@ answer_of reply = reply.1
 abbrev answers_after : Config → List Event → List Event → List Answer
 answers_after c before events = map answer_of (run (card_after c before) events).replies
 
--- TEI 64 on line 0, and its SABME: a flag, the frame, its check, and a flag that ends in the first bit of the last octet
+-- TEI 64 on line 0, and its SABME: a flag, the frame, its check, and a flag that ends in the first bit of the last
+-- octet
 abbrev up : List Event
 up =
     on_0 (Assign 64) ∷ octet_on_0 0x7E ∷ octet_on_0 0x00 ∷ octet_on_0 0x81 ∷ octet_on_0 0xEF ∷ octet_on_0 0x50

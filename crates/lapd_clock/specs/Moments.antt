@@ -8,7 +8,8 @@ abbrev pub moment_of : ℕ → Timer → List Expiry → Option ℕ
 moment_of line timer [] = None
 moment_of line timer (e ∷ es) = if is_of line timer e then Some e.moment else moment_of line timer es
 
--- This timer of this line now has this moment, or none; every other timer has the moment that it had, or none as before.
+-- This timer of this line now has this moment, or none; every other timer has the moment that it had, or none as
+-- before.
 pub record MovesOne (line : ℕ) (timer : Timer) (moment : Option ℕ) (old new : Timers) : Type 0 where
   pub own : moment_of line timer new.running ≡ moment
   pub others : (l : ℕ) (t : Timer) → (line == l && is_same timer t) ≡ false → moment_of l t new.running ≡ moment_of l t old.running

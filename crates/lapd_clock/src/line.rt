@@ -10,7 +10,9 @@ use lapd_frame::Timer;
 /// A running timer, and the moment at which it falls due.
 #[derive(Clone, Copy, Debug)]
 pub(crate) struct Held {
+    /// In milliseconds.
     pub moment: u64,
+    /// Which timer it is.
     pub timer: Timer,
 }
 

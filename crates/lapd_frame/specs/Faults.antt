@@ -7,7 +7,8 @@ use Rattle.lapd_frame.specs.declared.faults.ReadFault.{ReadFault}
 use Rattle.lapd_frame.specs.declared.faults.ReadFault.TheVariants.{BadExtension, Undefined, WrongSize, Short}
 use Rattle.lapd_frame.specs.Grammar.{Parts, address_field, allows, row, Spells}
 
--- Clause 2.9: fewer than 3 octets, or 3 that end within a control field of two octets (of one octet are those that end in 11).
+-- Clause 2.9: fewer than 3 octets, or 3 that end within a control field of two octets (of one octet are those that end
+-- in 11).
 abbrev pub is_short : List ℕ → Bool
 is_short [] = true
 is_short (first ∷ []) = true

@@ -1,5 +1,5 @@
--- The grammar of frames: which octets spell which frame (Q.921 clauses 2 and 3). The octets are those between two flags, without
--- bit stuffing and frame check.
+-- The grammar of frames: which octets spell which frame (Q.921 clauses 2 and 3). The octets are those between two
+-- flags, without bit stuffing and frame check.
 use Rattle.std.specs.Prelude.{◌≡◌, ℕ, ◌+◌, ◌*◌, ◌<◌, Bool, true, false, IsTrue, not, if◌then◌else◌, ◌==◌, List, [], ◌∷◌, ◌++◌, length, All}
 use Rattle.lapd_frame.specs.declared.addresses.Side.{Side}
 use Rattle.lapd_frame.specs.declared.addresses.Side.TheVariants.{User, Network}
@@ -63,7 +63,8 @@ second_octet nr pf = 2 * nr.value + (if pf then 1 else 0)
 abbrev pub one_of : ℕ → ℕ → Bool → List ℕ
 one_of without with_pf pf = (if pf then with_pf else without) ∷ []
 
--- Table 5. In a numbered frame the first octet is N(S) and 0; in a supervisory one it names the function, its upper bits reserved as 0.
+-- Table 5. In a numbered frame the first octet is N(S) and 0; in a supervisory one it names the function, its upper
+-- bits reserved as 0.
 abbrev pub row : Control → Row
 row (Information ns nr pf) = record { kind = command; field = 2 * ns.value ∷ second_octet nr pf ∷ []; info = any }
 row (ReceiveReady nr pf) = record { kind = either; field = 0x01 ∷ second_octet nr pf ∷ []; info = exactly 0 }

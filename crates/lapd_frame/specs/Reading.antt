@@ -1,4 +1,5 @@
--- The grammar read backwards: which frame octets spell, or why none. `one_spelling` has the laws that tie it to the grammar.
+-- The grammar read backwards: which frame octets spell, or why none. `one_spelling` has the laws that tie it to the
+-- grammar.
 use Rattle.std.specs.Prelude.{ℕ, ◌+◌, ◌/◌, ◌%◌, Bool, true, false, if◌then◌else◌, ◌==◌, List, length, drop, slice_index, Option, Some, None, Result, Ok, Err}
 use Rattle.lapd_frame.specs.declared.addresses.Side.{Side}
 use Rattle.lapd_frame.specs.declared.addresses.Address.{Address}

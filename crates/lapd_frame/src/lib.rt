@@ -13,7 +13,7 @@
 //! - `services`, `timers`, `notes`, `refusals`, `short_lists`: the types that links, lines and their users share.
 //!
 //! The grammar stands in `specs/Grammar.antt`, one equation for each row of table 5. No call takes
-//! memory, and nothing is copied but by `write`.
+//! memory. Octets of frames are copied by `write` alone; a `ShortList` copies its items.
 #![tactic(auto)]
 
 mod addresses;

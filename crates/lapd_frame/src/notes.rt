@@ -8,14 +8,14 @@ use crate::services::Service;
 /// What happened on a line, as its user is told. The number is the TEI that it is about.
 #[derive(Clone, Copy, PartialEq, Eq, Debug)]
 pub enum Note {
-    /// The link is established, or established again, without a request for it: by the terminal, or
-    /// by this side after an error if contents were lost (DL-ESTABLISH indication, Q.921 clause
-    /// 4.1.1.1).
+    /// The link is established without a request for it, by the terminal; or it is established again, by the
+    /// terminal or by this side after an error, and contents that were sent and not acknowledged are lost. One
+    /// that is established again with none outstanding is not told (DL-ESTABLISH indication, Q.921 clause 4.1.1.1).
     EstablishIndication(Service, u8),
     /// The link that was asked for is established (DL-ESTABLISH confirm).
     EstablishConfirm(Service, u8),
-    /// The link is down without a request to release it: the terminal released it or gave no
-    /// answer, or its TEI left the line (DL-RELEASE indication, clause 4.1.1.2).
+    /// The link is down without a request to release it: the terminal released it, refused its establishment (DM
+    /// with F=1) or gave no answer to it, or its TEI left the line (DL-RELEASE indication, clause 4.1.1.2).
     ReleaseIndication(Service, u8),
     /// The link is down, as was asked for (DL-RELEASE confirm).
     ReleaseConfirm(Service, u8),
@@ -28,7 +28,7 @@ pub enum Note {
     Error(Service, u8, ErrorCode),
     /// TEI management assigned the TEI to a terminal that asked for one (clause 5.3.2).
     Assigned(u8),
-    /// The TEI left the line, since no terminal answered an identity check (clause 5.3.4).
+    /// The TEI left the line, since no terminal answered an identity check (clauses 5.3.3.2 and 5.3.4).
     Removed(u8),
     /// The TEI left the line, since two terminals answered an identity check (clause 5.3.4).
     Doubled(u8),

@@ -5,7 +5,7 @@ use crate::services::Service;
 /// A timer of a line. A link's timers name its service and its TEI, 0 to 126.
 #[derive(Clone, Copy, PartialEq, Eq, Debug)]
 pub enum Timer {
-    /// An answer to a command is awaited (Q.921 clause 5.9.1).
+    /// An answer to a command, or an acknowledgement, is awaited (Q.921 clause 5.9.1).
     T200(Service, u8),
     /// The longest time without frames exchanged (clause 5.9.8).
     T203(Service, u8),

@@ -75,8 +75,8 @@ nothing_given t l none = go l.waiting refl (may_send_information t l) refl l.pen
         ∙ ap (λ b. (cond {A = Course} b (send_information (begun l)) (cond {A = Course} l.pending (send_acknowledgement (begun l)) (begun l))).link) m
         ∙ ap (λ b. (cond {A = Course} b (send_acknowledgement (begun l)) (begun l)).link) p
 
--- The parameters of a link as it is. Where no TEI is at its place it gives nothing, whatever they are; else they are those
--- of its TEI.
+-- The parameters of a link as it is. Where no TEI is at its place it gives nothing, whatever they are; else they are
+-- those of its TEI.
 record Known (e : Entities) (m : Line) (number : ℕ) : Type 0 where
   pub t : Terms
   pub has : HasTerms e.links number t

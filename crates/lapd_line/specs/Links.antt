@@ -76,7 +76,8 @@ Refuses number full request old s why =
     (c : Config) (terms : Terms) (others : List Owned) (ms : List machine.Link) → HasTerms old number terms → LinksStand c old s others ms
     → refusal terms (machine_at ms number) full request ≡ why
 
--- What the link at a place has to give is what its machine gives: a frame, and contents that lie in a slot that is in use.
+-- What the link at a place has to give is what its machine gives: a frame, and contents that lie in a slot that is in
+-- use.
 pub record IsGiven (store : Store) (terms : Terms) (m : machine.Link) (o : Option Offer) : Type 0 where
   pub given : given_by store o ≡ given terms m
   pub frame : IfSome o (λ x. IsFrame (frame_of terms x.frame))

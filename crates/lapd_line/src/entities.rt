@@ -62,8 +62,8 @@ impl Entities {
     ghost use Rattle.lapd_tei.specs.Sound.{IsAt};
     ghost use Rattle.lapd_line.specs.Entities.{Standing, Stands, Serves, always};
 
-    /// Something came from the terminal for a link of the TEI at a place. Its information begins at `start` of the octets
-    /// that came.
+    /// Something came from the terminal for a link of the TEI at a place. Its information begins at `start` of the
+    /// octets that came.
     pub(crate) fn receive<S: Shelf>(
         &mut self,
         service: Service,

@@ -7,7 +7,7 @@ use thiserror::Error;
 /// Why a line could not be started.
 #[derive(Clone, Copy, PartialEq, Eq, Debug, Error)]
 pub enum StartFault {
-    /// There is no memory for all the room that it needs. None was kept.
+    /// There is no memory for all the room that it needs. What was taken by then is given back (tested).
     #[error("out of memory")]
     OutOfMemory = 1,
 }

@@ -4,11 +4,11 @@
 //! every past (`specs/Stands.antt` says what a line stands for). Contents that wait lie on a shelf that other lines use
 //! too. After the start no call takes memory.
 //!
-//! - `line`: the calls: an octet that comes, a timer that expires, a request, and an octet that goes out; and the state of
-//!   a link, and how many octets the line stores.
-//! - `entities`: what the calls change beside the bits: TEI management, links and units; `starts`, how they begin; `aims`,
-//!   what is heard; `expiries`, timers; `changes`, links that open and are cleared; `asks`, what is requested of a
-//!   link, of TEI management and as unit data; `takes`, what goes out; `held`, what they store.
+//! - `line`: the calls: an octet that comes, a timer that expires, a request, and an octet that goes out; and the state
+//!   of a link, and how many octets the line stores.
+//! - `entities`: what the calls change beside the bits: TEI management, links and units; `starts`, how they begin;
+//!   `aims`, what is heard; `expiries`, timers; `changes`, links that open and are cleared; `asks`, what is requested
+//!   of a link, of TEI management and as unit data; `takes`, what goes out; `held`, what they store.
 //! - `links`, `units`: the links of all places of the TEI table, and the unit data that waits.
 //! - `reports`, `pulled`: the answers; `fault`: why a line can't be started.
 #![tactic(auto)]

@@ -64,8 +64,8 @@ impl Line {
         })
     }
 
-    /// Takes an octet that came from the line, low bit first, and tells what it led to. Contents that it delivers are lent
-    /// until the next octet.
+    /// Takes an octet that came from the line, low bit first, and tells what it led to. Contents that it delivers are
+    /// lent until the next octet.
     pub fn octet<S: Shelf>(&mut self, octet: u8, shelf: &mut S) -> Report<'_>
         requires { (others : List Owned) × (m : machine.Line) × Stands self.old (S.store shelf.old) others m }
         ensures told { (others : List Owned) (m : machine.Line) → Stands self.old (S.store shelf.old) others m
@@ -77,8 +77,8 @@ impl Line {
         self.lend(&outcome)
     }
 
-    /// Takes an octet as [`Line::octet`] does, and answers without references, for a caller that has more to change before
-    /// it looks at the contents. [`Line::lend`] makes the report of it.
+    /// Takes an octet as [`Line::octet`] does, and answers without references, for a caller that has more to change
+    /// before it looks at the contents. [`Line::lend`] makes the report of it.
     pub fn step<S: Shelf>(&mut self, octet: u8, shelf: &mut S) -> Outcome
         requires { (others : List Owned) × (m : machine.Line) × Stands self.old (S.store shelf.old) others m }
         ensures told { (others : List Owned) (m : machine.Line) → Stands self.old (S.store shelf.old) others m
@@ -96,8 +96,8 @@ impl Line {
         outcome.report(self.frame())
     }
 
-    /// A timer expires: T200 or T203 of a link, or T201 of the check of a TEI (Q.921 clause 5.9). Where it does not run,
-    /// nothing happens (profile).
+    /// A timer expires: T200 or T203 of a link, or T201 of the check of a TEI (Q.921 clause 5.9). Where it does not
+    /// run, nothing happens (profile).
     pub fn expire<S: Shelf>(&mut self, timer: Timer, shelf: &mut S) -> Report<'static>
         requires { (others : List Owned) × (m : machine.Line) × Stands self.old (S.store shelf.old) others m }
         ensures told { (others : List Owned) (m : machine.Line) → Stands self.old (S.store shelf.old) others m
@@ -107,8 +107,8 @@ impl Line {
         self.entities.expire(timer, shelf).report(&[])
     }
 
-    /// Serves a request of layer 3 or management (Q.921 clause 4.1.1). One that is refused changes nothing. The whole card
-    /// may hold `slots` contents, which is at most what the shelf has.
+    /// Serves a request of layer 3 or management (Q.921 clause 4.1.1). One that is refused changes nothing. The whole
+    /// card may hold `slots` contents, which is at most what the shelf has.
     ///
     /// # Errors
     ///
@@ -140,8 +140,8 @@ impl Line {
     }
 
     /// Gives the next octet of the line, low bit first. Where fewer than eight bits are left to send, the frame that is
-    /// next is taken: a message of TEI management, else unit data, else one of a link, each link in its turn; or an idle
-    /// flag where none waits (profile).
+    /// next is taken: a message of TEI management, else unit data, else one of a link, each link in its turn; or an
+    /// idle flag where none waits (profile).
     pub fn pull<S: Shelf>(&mut self, shelf: &mut S) -> Pulled
         requires { (others : List Owned) × (m : machine.Line) × Stands self.old (S.store shelf.old) others m }
         ensures told { (others : List Owned) (m : machine.Line) → Stands self.old (S.store shelf.old) others m

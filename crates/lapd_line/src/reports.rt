@@ -11,8 +11,8 @@ use lapd_frame::{Note, Order, ShortList};
 pub struct Report<'a> {
     notes: ShortList<Note>,
     orders: ShortList<Order>,
-    /// The contents that a frame delivered: of the I-frame or the UI frame that a note tells of. They are lent until the
-    /// line's next octet.
+    /// The contents that a frame delivered: of the I-frame or the UI frame that a note tells of. They are lent until
+    /// the line's next octet.
     pub delivered: Option<&'a [u8]>,
     /// Why something was dropped.
     pub cause: Option<Cause>,
@@ -20,8 +20,8 @@ pub struct Report<'a> {
     pub lost: u8,
 }
 
-/// The same without references: where in the frame that the latest octet ended the delivered contents begin, in place of
-/// the contents. [`Line::lend`](crate::Line::lend) makes the report of it.
+/// The same without references: where in the frame that the latest octet ended the delivered contents begin, in place
+/// of the contents. [`Line::lend`](crate::Line::lend) makes the report of it.
 #[derive(Clone, Copy, PartialEq, Eq, Debug)]
 pub struct Outcome {
     pub(crate) notes: ShortList<Note>,

@@ -51,9 +51,9 @@ fn contents<S: Shelf>(shelf: &S, slot: Option<Slot>) -> &[u8]
 impl Entities {
     ghost use Rattle.lapd_line.specs.Entities.{Standing};
 
-    /// Takes the frame that is next, if there is one, and loads it: the oldest message of TEI management, else the oldest
-    /// unit data, else what the first of the links has to give, going round from the one after that which was served last.
-    /// Answers the orders for timers.
+    /// Takes the frame that is next, if there is one, and loads it: the oldest message of TEI management, else the
+    /// oldest unit data, else what the first of the links has to give, going round from the one after that which was
+    /// served last. Answers the orders for timers.
     pub(crate) fn take<S: Shelf>(
         &mut self,
         framer: &mut Framer,

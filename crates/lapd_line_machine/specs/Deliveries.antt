@@ -27,8 +27,8 @@ arrived_aimed c number l (at_units unit) = None
 abbrev pub arrived : Config → ℕ → Event → Line → Option links.Arrived
 arrived c number event l = arrived_aimed c number l (aim_of c event l)
 
--- An establishment of a link, or its end: an event that sets its numbers to zero, or clears it, since a TEI comes to its
--- place or leaves it.
+-- An establishment of a link, or its end: an event that sets its numbers to zero, or clears it, since a TEI comes to
+-- its place or leaves it.
 abbrev pub is_change_at : ℕ → Option Change → Bool
 is_change_at place None = false
 is_change_at place (Some (Gained tei other)) = other == place
@@ -44,8 +44,8 @@ restarts_aimed c number l (at_units unit) = false
 abbrev pub restarts : Config → ℕ → Event → Line → Bool
 restarts c number event l = restarts_aimed c number l (aim_of c event l)
 
--- What an answer says is delivered by the link of a service with this TEI: the contents that it has, where it notes that
--- they are data of that link.
+-- What an answer says is delivered by the link of a service with this TEI: the contents that it has, where it notes
+-- that they are data of that link.
 abbrev pub same_service : Service → Service → Bool
 same_service Call Call = true
 same_service Packet Packet = true

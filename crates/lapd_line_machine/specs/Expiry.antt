@@ -12,8 +12,8 @@ use Rattle.lapd_line_machine.specs.Answer.{nothing}
 use Rattle.lapd_line_machine.specs.Line.{Line, link_in, place_in}
 use Rattle.lapd_line_machine.specs.Outcome.{Aim, at_none, at_link, at_management}
 
--- What an expiry is to the line: that of a link's timer is one of the link, where its TEI is on the line, and that of T201
--- one of TEI management. An expiry of a timer that does not run has no effect on either (profile).
+-- What an expiry is to the line: that of a link's timer is one of the link, where its TEI is on the line, and that of
+-- T201 one of TEI management. An expiry of a timer that does not run has no effect on either (profile).
 abbrev pub at_timer : Service → ℕ → LinkTimer → Option ℕ → Aim
 at_timer service tei timer None = at_none nothing
 at_timer service tei timer (Some place) = at_link service tei place (link.expired timer)

@@ -15,8 +15,8 @@ pub record LinesStaySound : Type 0 where
   pub each : (c : Config) (e : Event) (l : Line) → IsInRange c → IsSound c l → IsSound c (after c e l)
 
 -- What a line has sent, and may still send without anything else happening, rises by no more than two for each frame
--- that is recognised, one for an accepted request, k + 1 for the expiry of a running timer, and k for an REJ with a valid
--- N(R), where k is the greater of both windows.
+-- that is recognised, one for an accepted request, k + 1 for the expiry of a running timer, and k for an REJ with a
+-- valid N(R), where k is the greater of both windows.
 abbrev pub Rises : Config → Event → Line → Type 0
 Rises c e l =
     let k = max c.k c.k16 in
@@ -32,8 +32,8 @@ IsRejectHeard c e l = one (rejects c e l) + long_frames_heard c l ≤ long_frame
 abbrev pub HearsOne : Config → Event → Line → Type 0
 HearsOne c e l = frames_heard c (after c e l) ≤ frames_heard c l + one (is_octet e)
 
--- A pull that begins a frame lets what may be sent fall by one, or by two where the frame makes an acknowledgement needless.
--- Any other pull leaves it as it is.
+-- A pull that begins a frame lets what may be sent fall by one, or by two where the frame makes an acknowledgement
+-- needless. Any other pull leaves it as it is.
 abbrev pub FallsByPull : Config → Line → Type 0
 FallsByPull c l =
     let begun = one (is_begun (answer c pull l)) in

@@ -87,7 +87,8 @@ has_tei tei l = is_on tei l.management.places
 abbrev pub place_in : Line → ℕ → Option ℕ
 place_in l tei = place tei l.management
 
--- The TEI at a place, and the parameters of a link by its number. (Where the place is free, its links have nothing to send.)
+-- The TEI at a place, and the parameters of a link by its number. (Where the place is free, its links have nothing to
+-- send.)
 abbrev pub tei_at : ℕ → Line → Option ℕ
 tei_at place l = get_or l.management.places place None
 

@@ -31,9 +31,9 @@ gained n201 received octet =
 abbrev pub drop_for : Cause → Aim
 drop_for cause = at_none (dropped cause)
 
--- Layer 2 management has SAPI 63, and its frames are for the group, TEI 127 (Q.921 clauses 3.3.3 and 5.3.1). Of the other
--- SAPIs 0 and 16 are served, and their frames are for the links of a TEI on the line. An unknown SAPI is told before an
--- unknown TEI (profile).
+-- Layer 2 management has SAPI 63, and its frames are for the group, TEI 127 (Q.921 clauses 3.3.3 and 5.3.1). Of the
+-- other SAPIs 0 and 16 are served, and their frames are for the links of a TEI on the line. An unknown SAPI is told
+-- before an unknown TEI (profile).
 abbrev pub management_sapi : ℕ
 management_sapi = 63
 

@@ -33,7 +33,7 @@ with_message l octets = record { frame = octets; orders = []; line = record l { 
 abbrev pub message_taken : Line → Option Taken
 message_taken l = option_map (with_message l) (teis.offered l.management)
 
--- else the oldest unit data, in a UI command with P=0 (Q.921 clauses 3.6.7 and 5.2.2),
+-- else the oldest unit data, in a UI command with P=0 (Q.921 clauses 3.6.5 and 5.2.2),
 abbrev pub unit_frame : UnitData → List ℕ
 unit_frame u =
     spelling Network (record { address = record { sapi = sapi_of u.service; command = true; tei = u.tei }; control = Ui false; info = u.contents })

@@ -1,5 +1,6 @@
 -- The octets that a line stores (profile): what it holds of a frame that is received, of the frame that is sent, of the
--- frames that wait and of assignments that are remembered; and the contents that wait, which stand in slots of the card.
+-- frames that wait and of assignments that are remembered; and the contents that wait, which stand in slots of the
+-- card.
 use Rattle.std.specs.Prelude.{ℕ, ◌+◌, length, sum_by, List}
 use Rattle.std.specs.List.{range_with_len}
 use Rattle.lapd_bits.specs.Deframer.{octets_held}
@@ -31,7 +32,8 @@ held_by_link c l number = links.held (terms_at c number l) (link_at number l)
 abbrev pub held_in : Config → Line → ℕ
 held_in c l = held_received c l + held_sent l + held l.management + sum_of_links c (held_by_link c l)
 
--- The slots that a line uses: one for each contents that a link keeps until they are acknowledged, and for each unit data.
+-- The slots that a line uses: one for each contents that a link keeps until they are acknowledged, and for each unit
+-- data.
 abbrev pub slots_by_link : Line → ℕ → ℕ
 slots_by_link l number = length (queue_of (link_at number l))
 

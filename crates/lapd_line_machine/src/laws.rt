@@ -9,16 +9,16 @@ pub fn lines_stay_sound()
     ensures { LinesStaySound }
 {}
 
-/// What a line has sent, and may still send without anything else happening, rises by no more than an event's price: two
-/// for a frame that an octet ends, and it ends one at most; one for an accepted request; k + 1 for the expiry of a running
-/// timer; k more for an REJ with a valid N(R), which is a frame of four octets; else 0. A pull that begins a frame lets
-/// what may be sent fall by one or two, and any other leaves it as it is.
+/// What a line has sent, and may still send without anything else happening, rises by no more than an event's price:
+/// two for a frame that an octet ends, and it ends one at most; one for an accepted request; k + 1 for the expiry of a
+/// running timer; k more for an REJ with a valid N(R), which is a frame of four octets; else 0. A pull that begins a
+/// frame lets what may be sent fall by one or two, and any other leaves it as it is.
 pub fn lines_rise()
     ensures { LinesRise }
 {}
 
-/// An answer has at most four notes and at most four orders for timers, so a list of four holds each. A line answers most of
-/// both where a TEI leaves it: one of TEI management and one of each of its two links.
+/// An answer has at most four notes and at most four orders for timers, so a list of four holds each. A line answers
+/// most of both where a TEI leaves it: one of TEI management and one of each of its two links.
 pub fn answers_are_short()
     ensures { AnswersAreShort }
 {}

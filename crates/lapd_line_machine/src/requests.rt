@@ -20,7 +20,7 @@ pub enum Request<'a> {
     Assign(u8),
     /// Take the TEI from the line (MDL-REMOVE request, clause 4.1.1.6).
     Remove(u8),
-    /// Ask which terminals have the TEI (clause 5.3.3).
+    /// Ask which terminals have the TEI (clause 5.3.3.2).
     Check(u8),
     /// Take no I-frames on the link for now (own receiver busy, clause 5.6.6; the primitive is the profile's).
     SetBusy(Service, u8),

@@ -21,16 +21,16 @@ terms_of link = link.terms
 abbrev pub slots_of : Link → List ℕ
 slots_of link = link.queue.slots
 
--- A link holds what a link of the machine is, but for its past: its numbers are the remainders of the machine's. The machine's
--- link is sound, so that the bounds hold from any link on.
+-- A link holds what a link of the machine is, but for its past: its numbers are the remainders of the machine's. The
+-- machine's link is sound, so that the bounds hold from any link on.
 pub record Fits (link : Link) (m : machine.Link) : Type 0 where
   pub range : IsInRange (terms_of link)
   pub sound : IsSound (terms_of link) m
   pub rests : Rests (terms_of link) link.entity m
   pub capacity : link.queue.capacity ≡ (terms_of link).queue
 
--- A link stands for a link of the machine, beside what others own on the shelf: the shelf keeps the contents of the machine's
--- queue in the slots of the link's, and what others own, and nothing else.
+-- A link stands for a link of the machine, beside what others own on the shelf: the shelf keeps the contents of the
+-- machine's queue in the slots of the link's, and what others own, and nothing else.
 pub record Stands (link : Link) (store : Store) (others : List Owned) (m : machine.Link) : Type 0 where
   pub fits : Fits link m
   pub wide : (terms_of link).n201 ≤ store.width

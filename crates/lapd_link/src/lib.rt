@@ -1,5 +1,5 @@
-//! One data link: the acknowledged exchange of contents with one terminal for one service (Q.921 clause 5, states 4 to 8 of
-//! annex B, network side, modulo 128).
+//! One data link: the acknowledged exchange of contents with one terminal for one service (Q.921 clause 5, states 4 to
+//! 8 of annex B, network side, modulo 128).
 //!
 //! A [`Link`] takes what happens to it one event at a time and answers what its user is told:
 //!
@@ -8,11 +8,12 @@
 //! - [`Link::request`]: layer 3 asks for something;
 //! - [`Link::offer`]: the next frame to be sent;
 //! - [`Link::open`], [`Link::clear`]: its TEI comes to the line, or leaves it.
-//! - [`two_ends`]: a law of two links that face each other: what each has delivered is what the other accepted, in order.
+//! - [`two_ends`]: a law of two links that face each other from an establishment on: while both stay in states 7 and 8,
+//!   what each has delivered are the first contents that the other accepted, in order.
 //!
-//! What it is proved to be is the machine of `lapd_link_machine`: `specs/Stands.antt` says what a link stands for. The contents
-//! that layer 3 gives lie in slots of a shelf that other links use too. They are copied there once, and freed when they are
-//! acknowledged or given up. After the start no call takes memory.
+//! What it is proved to be is the machine of `lapd_link_machine`: `specs/Stands.antt` says what a link stands for. The
+//! contents that layer 3 gives lie in slots of a shelf that other links use too. They are copied there once, and freed
+//! when they are acknowledged or given up. After the start no call takes memory.
 #![tactic(auto)]
 
 mod events;

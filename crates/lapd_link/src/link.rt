@@ -16,6 +16,8 @@ use lapd_store::SlotQueue;
 use std::alloc::Global;
 
 /// A data link of one TEI and one service.
+///
+/// To drop it frees no slot on the shelf: [`Link::clear`] releases what it keeps there.
 #[derive(Drop, Debug)]
 pub struct Link {
     pub(crate) terms: Terms,
@@ -27,8 +29,8 @@ pub struct Link {
 impl Link {
     ghost use Rattle.lapd_link.specs.Stands.{Stands, terms_of};
 
-    /// A link that is down, with room for `queue` contents (1 to 127) and `control` control frames that wait (2 to 16). It is
-    /// opened before it serves.
+    /// A link that is down, with room for `queue` contents (1 to 127) and `control` control frames that wait (2 to 16).
+    /// It is opened before it serves: until then its service and its TEI are any.
     ///
     /// # Errors
     ///
@@ -59,10 +61,9 @@ impl Link {
         })
     }
 
-    /// The link's TEI (0 to 126) comes to the line: the link is as one that begins, with a window of `k` (1 to its queue's
-    /// capacity), `n200` repeats (0 to 10) and at most `n201` octets of information (8 to 260, no wider than the shelf).
-    ///
-    /// The link is in state 4.
+    /// The link's TEI (0 to 126) comes to the line: the link, which has to be in state 4, is as one that begins, with a
+    /// window of `k` (1 to its queue's capacity), `n200` repeats (0 to 10) and at most `n201` octets of information (8
+    /// to 260). That is so on the shelf for which it stood, where that is at least as wide as `n201` (`fresh`).
     pub fn open(&mut self, service: Service, tei: u8, k: u8, n200: u8, n201: u16)
         requires tei { tei ≤ 126 }
         requires k_low { 1 ≤ k }
@@ -101,8 +102,8 @@ impl Link {
         self.entity.held()
     }
 
-    /// The address of the frames that the link sends: of its service and its TEI, in a command or a response (Q.921 clause
-    /// 3.3).
+    /// The address of the frames that the link sends: of its service and its TEI, in a command or a response (Q.921
+    /// clause 3.3).
     pub fn address(&self, command: bool) -> Address
         ensures { result ≡ address_at (terms_of self.now) command }
     {

@@ -11,9 +11,9 @@ pub enum Received<'a> {
     Frame(Frame<'a>),
     /// A frame whose control field is undefined (Q.921 clause 5.8.5).
     Undefined,
-    /// A frame of wrong size.
+    /// A frame of wrong size (clause 5.8.5).
     WrongSize,
-    /// An I-frame that was too long to keep.
+    /// An I-frame that was too long to keep (clause 5.8.5).
     Overlong,
 }
 

@@ -40,14 +40,14 @@ impl Link {
     ghost use Rattle.lapd_link.specs.Events.{request_of};
     ghost use Rattle.lapd_link.specs.Outcome.{told_with};
 
-    /// Layer 3 asks for something, where all users of the shelf together may hold `slots` contents, at most as many as the
-    /// shelf has slots.
+    /// Layer 3 asks for something, where all users of the shelf together may hold `slots` contents, at most as many as
+    /// the shelf has slots.
     ///
     /// # Errors
     ///
-    /// The first of these that holds; then nothing changes, neither link nor shelf. `WrongState`: `Establish` not in state 4,
-    /// `Release` not in 4, 7 or 8, the others not in 7 or 8. `TooLong`: contents over N201. `QueueFull`: the link keeps as many
-    /// contents as it may. `PoolFull`: `slots` contents are held.
+    /// The first of these that holds; then nothing changes, neither link nor shelf. `WrongState`: `Establish` not in
+    /// state 4, `Release` not in 4, 7 or 8, the others not in 7 or 8. `TooLong`: contents over N201. `QueueFull`: the
+    /// link keeps as many contents as it may. `PoolFull`: `slots` contents are held.
     pub fn request<S: Shelf>(
         &mut self,
         request: LinkRequest<'_>,

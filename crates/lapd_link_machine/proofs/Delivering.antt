@@ -1,4 +1,5 @@
--- Every event delivers the contents of the next eligible I-frame, if it brings it, and counts them; or the numbers begin anew.
+-- Every event delivers the contents of the next eligible I-frame, if it brings it, and counts them; or the numbers
+-- begin anew.
 use Rattle.std.proofs.Common.{◌≡◌, ℕ, ◌+◌, ◌%◌, ◌<◌, ◌≤◌, Bool, true, false, cond, not, ◌&&◌, ◌==◌, List, [], ◌∷◌, length, Option, Some, None, is_some, refl, sym, ap, subst, inl, inr, arith}
 use Rattle.std.specs.Prelude.{nat_lt, nat_le}
 use Rattle.std.proofs.lemmas.Bool.{ltb-true, ltb-false, leb-true, leb-false, false_from_ne_true, true_from_ne_false}

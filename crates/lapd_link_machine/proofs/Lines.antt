@@ -7,7 +7,8 @@ use Rattle.lapd_frame.specs.declared.controls.Control.{Control}
 use Rattle.lapd_frame.specs.declared.controls.Control.TheVariants.{Information, ReceiveReady, ReceiveNotReady, Reject, Sabme, Disc, Ui, Ua, Dm, Frmr, Xid}
 use Rattle.lapd_frame.specs.Grammar.{Parts}
 
--- An I-frame carries contents number i of the sender, which its N(S) means for a receiver whose V(R) is at most i + 127.
+-- An I-frame carries contents number i of the sender, which its N(S) means for a receiver whose V(R) is at most
+-- i + 127.
 pub record Carries (contents : List (List ℕ)) (high r top : ℕ) (ns : Seq) (octets : List ℕ) : Type 0 where
   pub number : ℕ
   pub is_seq : ns ≡ seq number

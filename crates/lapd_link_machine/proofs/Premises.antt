@@ -1,4 +1,5 @@
--- The premises on two ends are met: two links that the terminal established, through the loss of a frame and its recovery.
+-- The premises on two ends are met: two links that the terminal established, through the loss of a frame and its
+-- recovery.
 use Rattle.std.proofs.Common.{◌≡◌, Bool, true, ◌&&◌, List, [], ◌∷◌, refl, arith}
 use Rattle.std.proofs.lemmas.Bool.{and_parts}
 use Rattle.lapd_seq.specs.Numbers.{seq}

@@ -31,7 +31,7 @@ pub record Link : Type 0 where
   -- the terminal can take no I-frames, or this side can't (clauses 5.6.5 and 5.6.6)
   pub peer_busy : Bool
   pub own_busy : Bool
-  -- REJ was sent, and the I-frame that it asks for has not come (clause 5.6.4)
+  -- REJ was sent, and the I-frame that it asks for has not come (clause 5.8.1)
   pub rejecting : Bool
   -- an acknowledgement is owed for I-frames received
   pub pending : Bool
@@ -62,8 +62,8 @@ fresh = record {
   waiting = [];
 }
 
--- The contents that it still keeps: those from the first that is not acknowledged on. The first of them are outstanding,
--- the others not sent yet.
+-- The contents that it still keeps: those from the first that is not acknowledged on. The first of them are
+-- outstanding, the others not sent yet.
 abbrev pub queue_of : Link → List (List ℕ)
 queue_of l = drop l.a l.contents
 

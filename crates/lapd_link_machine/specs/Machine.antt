@@ -93,7 +93,8 @@ expire_running timer t c = expired_in c.link.state timer t c
 abbrev pub expired_step : Terms → LinkTimer → Step
 expired_step t timer = depending_on (is_running timer) (expire_running timer t) nothing
 
--- The TEI leaves the line (clause 5.3.4, MDL-REMOVE request): layer 3 is told as the state has it, and the link is as one that begins.
+-- The TEI leaves the line (clause 5.3.4, MDL-REMOVE request): layer 3 is told as the state has it, and the link is as
+-- one that begins.
 abbrev pub told_of_clearing : State → Terms → Step
 told_of_clearing TeiAssigned t = nothing
 told_of_clearing AwaitingEstablishment t = release_indication t

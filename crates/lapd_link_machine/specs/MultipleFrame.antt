@@ -1,5 +1,5 @@
--- What states 7 and 8 have in common: multiple-frame operation. In both, the choice of the timer, the counts of repeats, the
--- flags and the order of effects are the profile's.
+-- What states 7 and 8 have in common: multiple-frame operation. In both, the choice of the timer, the counts of
+-- repeats, the flags and the order of effects are the profile's.
 use Rattle.std.specs.Prelude.{ℕ, Bool, true, false, not, ◌&&◌, ◌==◌, nat_lt, List, [], ◌∷◌, ◌++◌, length}
 use Rattle.lapd_seq.specs.declared.numbers.Seq.{Seq}
 use Rattle.lapd_seq.specs.Numbers.{seq}
@@ -36,8 +36,8 @@ clear_busy_in_7_8 t = depending_on is_own_busy (own_busy_is false then report_re
 
 -- Unnumbered frames.
 
--- SABME: the terminal establishes the link again (clauses 5.5.1.2 and 5.7). Contents of which none is outstanding stay, and are
--- sent from number 0 on.
+-- SABME: the terminal establishes the link again (clauses 5.5.1.2 and 5.7). Contents of which none is outstanding stay,
+-- and are sent from number 0 on.
 abbrev pub sabme_in_7_8 : Terms → Bool → Step
 sabme_in_7_8 t p =
     send t (response (Ua p)) then clear_flags then error t code.F
@@ -53,8 +53,9 @@ disc_in_7_8 t p =
 abbrev pub ua_in_7_8 : Terms → Bool → Step
 ua_in_7_8 t f = by_bit f (error t code.C) (error t code.D)
 
--- An error that is told, and after which the link is established again: DM with F=0 (E), FRMR (K), an undefined frame (L),
--- one of wrong size (N), an I-frame over N201 (O) (clauses 5.7.1, 5.8.5 and 5.8.6, appendix II).
+-- An error that is told, and after which the link is established again: DM with F=0 (E), in state 8 DM with F=1 (B) and
+-- no answer to the last enquiry (I), FRMR (K), an undefined frame (L), one of wrong size (N), an I-frame over N201 (O)
+-- (clauses 5.6.7, 5.7.1, 5.8.5, 5.8.6 and 5.8.7, appendix II). An invalid N(R) (J) stands in `by_number`.
 abbrev pub failed : Terms → ErrorCode → Step
 failed t e = error t e then re_establish t
 

@@ -1,5 +1,5 @@
--- Numbered deliveries: what is delivered since an establishment are the contents of the first eligible I-frame with N(S) 0, of
--- the first after it with N(S) 1, and so on modulo 128 (clauses 3.5.2.4 to 3.5.2.6).
+-- Numbered deliveries: what is delivered since an establishment are the contents of the first eligible I-frame with
+-- N(S) 0, of the first after it with N(S) 1, and so on modulo 128 (clauses 3.5.2.4 to 3.5.2.6).
 use Rattle.std.specs.Prelude.{◌≡◌, ◌≢◌, ℕ, ◌+◌, ◌%◌, List, [], ◌∷◌, ◌++◌, length, All, option_to_list, if◌then◌else◌}
 use Rattle.lapd_link_machine.specs.declared.terms.Terms.{Terms}
 use Rattle.lapd_link_machine.specs.Link.{Link}

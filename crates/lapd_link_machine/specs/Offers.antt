@@ -23,8 +23,8 @@ with_waiting_rest fs l = record l { waiting = fs }
 abbrev pub give_waiting : ControlFrame → List ControlFrame → Step
 give_waiting f fs = give f None then changed (with_waiting_rest fs)
 
--- An I-frame may be sent in state 7 while the terminal is not busy, fewer than k are outstanding, and contents are unsent
--- (clauses 5.6.1 and 5.6.5).
+-- An I-frame may be sent in state 7 while the terminal is not busy, fewer than k are outstanding, and contents are
+-- unsent (clauses 5.6.1 and 5.6.5).
 abbrev pub is_established : State → Bool
 is_established TeiAssigned = false
 is_established AwaitingEstablishment = false

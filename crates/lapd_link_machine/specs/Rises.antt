@@ -18,8 +18,8 @@ use Rattle.lapd_link_machine.specs.Machine.{is_running, course, after}
 abbrev pub held : Terms → Link → ℕ
 held t l = sum_by (λ f. length (spelling Network (frame_of t f))) l.waiting
 
--- What a link may send without anything else happening: the frames that wait, the contents that are unsent, the acknowledgement
--- that is owed, and in state 8 the window, which the answer to the enquiry may bring back.
+-- What a link may send without anything else happening: the frames that wait, the contents that are unsent, the
+-- acknowledgement that is owed, and in state 8 the window, which the answer to the enquiry may bring back.
 abbrev pub window_back : State → ℕ → ℕ
 window_back TeiAssigned k = 0
 window_back AwaitingEstablishment k = 0

@@ -39,8 +39,9 @@ frame_in_8 t is_command octets (Sabme p) = sabme_in_7_8 t p
 frame_in_8 t is_command octets (Disc p) = disc_in_7_8 t p
 -- clause 5.8.7
 frame_in_8 t is_command octets (Ua f) = ua_in_7_8 t f
--- clause 5.7.1
+-- clauses 5.8.7 and 5.7.1
 frame_in_8 t is_command octets (Dm true) = failed t code.B
+-- clause 5.7.1
 frame_in_8 t is_command octets (Dm false) = failed t code.E
 -- clause 5.8.6
 frame_in_8 t is_command octets (Frmr f) = failed t code.K

@@ -44,8 +44,8 @@ abbrev pub timer_at : Terms → LinkTimer → Timer
 timer_at t T200 = line_timer.T200 t.service t.tei
 timer_at t T203 = line_timer.T203 t.service t.tei
 
--- Start where the event started the timer and left it running, Stop where it ran before the event and does not run after it
--- (profile). A timer's own expiry is an event before which it ran.
+-- Start where the event started the timer and left it running, Stop where it ran before the event and does not run
+-- after it (profile). A timer's own expiry is an event before which it ran.
 abbrev pub order_for : Terms → LinkTimer → Option LinkTimer → Option LinkTimer → Option LinkTimer → List Order
 order_for t timer before started after =
     if runs timer started && runs timer after then Start (timer_at t timer) ∷ []

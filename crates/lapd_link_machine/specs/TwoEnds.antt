@@ -1,5 +1,5 @@
--- Two links that face each other, each with its frames on the way to the other. The way keeps the order of the frames that it
--- doesn't lose.
+-- Two links that face each other, each with its frames on the way to the other. The way keeps the order of the frames
+-- that it doesn't lose.
 use Rattle.std.specs.Prelude.{◌≡◌, ℕ, ◌≤◌, Bool, false, IsTrue, List, [], ◌∷◌, ◌++◌, length, take, drop, Option, None, Some, unwrap_or, option_to_list}
 use Rattle.lapd_frame.specs.Grammar.{Parts}
 use Rattle.lapd_link_machine.specs.declared.states.State.TheVariants.{Established}
@@ -22,8 +22,8 @@ pub record Ends : Type 0 where
   pub near : End
   pub far : End
 
--- What can happen at an end: layer 3 asks for something, a timer expires, the link gives a frame to the way, it receives the
--- first frame of the other's way, or the first frame of its own way is lost.
+-- What can happen at an end: layer 3 asks for something, a timer expires, the link gives a frame to the way, it
+-- receives the first frame of the other's way, or the first frame of its own way is lost.
 pub data Act : Type 0 where
   asks : Request → Bool → Act
   expires : LinkTimer → Act
@@ -97,8 +97,8 @@ unfoldable pub StayUp : List Doing → Ends → Type 0
 StayUp [] e = Unit {0}
 StayUp (d ∷ ds) e = IsUp (doing d e) × StayUp ds (doing d e)
 
--- What one end has delivered are exactly the first contents that the other accepted, in order, as many as V(R) counts; and the
--- other takes no more of them for acknowledged.
+-- What one end has delivered are exactly the first contents that the other accepted, in order, as many as V(R) counts;
+-- and the other takes no more of them for acknowledged.
 pub record Agree (n m : End) : Type 0 where
   pub delivered : n.delivered ≡ take n.link.r m.link.contents
   pub accepted : n.link.r ≤ length m.link.contents

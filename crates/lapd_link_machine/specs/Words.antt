@@ -111,7 +111,8 @@ start timer c = record c { link = record c.link { running = Some timer }; starte
 abbrev pub no_timer : Step
 no_timer c = record c { link = record c.link { running = None }; started = None }
 
--- V(A), V(S) and V(R) become 0, and the numbers of the next establishment begin. What is not sent yet begins the new list.
+-- V(A), V(S) and V(R) become 0, and the numbers of the next establishment begin. What is not sent yet begins the new
+-- list.
 abbrev pub with_zero : Link → Link
 with_zero l = record l { contents = drop l.s l.contents; a = 0; s = 0; r = 0 }
 
@@ -192,6 +193,7 @@ re_establish t =
     clear_flags then send t (command (Sabme true)) then repeats_are 0 then start T200 then asked_is false
     then enter AwaitingEstablishment
 
--- An N(R) means the one number of a..=s with that remainder; where there is none, it is invalid (clause 5.8.2).
+-- An N(R) means the one number of a..=s with that remainder; where there is none, it is invalid (clauses 3.5.2.3 and
+-- 5.8.2).
 abbrev pub by_number : Terms → Seq → (ℕ → Step) → Step
 by_number t nr step c = elim (named c.link.a c.link.s nr) [ None ↦ (error t code.J then re_establish t) c | Some n ↦ step n c ]

@@ -9,8 +9,8 @@ use Rattle.lapd_link_machine.specs.Steps.{Course, Sent}
 use Rattle.lapd_link_rows.specs.declared.entity.Entity.{Entity}
 use Rattle.lapd_link_rows.specs.declared.told.Told.{Told}
 
--- The past: the contents accepted since the numbers were last zero, and the plain numbers of those acknowledged, sent and
--- received; and of the event under way, what it sent and whether it set the numbers to zero.
+-- The past: the contents accepted since the numbers were last zero, and the plain numbers of those acknowledged, sent
+-- and received; and of the event under way, what it sent and whether it set the numbers to zero.
 pub record Past : Type 0 where
   pub contents : List (List ℕ)
   pub a : ℕ
@@ -64,9 +64,9 @@ course_of info e t p = record {
   zeroed = p.zeroed;
 }
 
--- The past is one of this entity in the course of an event, at whose beginning these messages were queued: the window and
--- V(R) are the remainders of its numbers, and the messages without those that are to be released are the contents from
--- the first that is not acknowledged on.
+-- The past is one of this entity in the course of an event, at whose beginning these messages were queued: the window
+-- and V(R) are the remainders of its numbers, and the messages without those that are to be released are the contents
+-- from the first that is not acknowledged on.
 pub record Fits (terms : Terms) (messages : List (List ℕ)) (e : Entity) (t : Told) (p : Past) : Type 0 where
   pub window : window.Stands e.window p.a p.s
   pub received : e.vr ≡ seq p.r

@@ -6,20 +6,29 @@ use lapd_seq::{Seq, Window};
 use std::alloc::{AllocError, Global};
 
 /// The data link layer entity of one link, without its queue of contents.
+///
+/// Calls that take the link's `Terms` say nothing where `terms.control` is not the `control` of the start.
 #[derive(Drop, Debug)]
 pub struct Entity {
     pub(crate) state: State,
+    // V(A) and V(S)
     pub(crate) window: Window,
     // V(R)
     pub(crate) vr: Seq,
+    // the terminal can take no I-frames
     pub(crate) peer_busy: bool,
+    // this side can take no I-frames
     pub(crate) own_busy: bool,
+    // REJ was sent, and the I-frame that it asks for has not come
     pub(crate) rejecting: bool,
+    // an acknowledgement is owed for I-frames received
     pub(crate) pending: bool,
+    // layer 3 asked for the establishment that is awaited
     pub(crate) asked: bool,
     // RC
     pub(crate) repeats: u8,
     pub(crate) running: Option<LinkTimer>,
+    // control frames that wait to be sent, oldest first
     pub(crate) waiting: HeapCircularBuffer<ControlFrame>,
 }
 

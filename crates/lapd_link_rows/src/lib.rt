@@ -1,5 +1,5 @@
-//! The rows of a link's state tables, as code: what each event does to a link and what it tells, but for the slots in which
-//! the contents of its queue lie (Q.921 clause 5, states 4 to 8 of annex B).
+//! The rows of a link's state tables, as code: what each event does to a link and what it tells, but for the slots in
+//! which the contents of its queue lie (Q.921 clause 5, states 4 to 8 of annex B).
 //!
 //! - `entity`: `Entity`, the state and the variables of one link, and the control frames that wait.
 //! - `told`: `Told`, what an event told so far.
@@ -7,8 +7,8 @@
 //! - `states`: the rows, by state; `multiple_frame` has those that states 7 and 8 have in common.
 //! - `frames`, `timers`, `requests`, `offers`: the kinds of events, each of which goes to the rows of the state.
 //!
-//! Each method is proved to do its word or row of the machine in `lapd_link_machine`. The contents themselves stay with the
-//! queue's owner: rows say by `Told::released` how many of the oldest are to go, and by `Told::delivered` that the
+//! Each method is proved to do its word or row of the machine in `lapd_link_machine`. The contents themselves stay with
+//! the queue's owner: rows say by `Told::released` how many of the oldest are to go, and by `Told::delivered` that the
 //! information of the frame is delivered.
 #![tactic(auto)]
 

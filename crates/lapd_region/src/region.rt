@@ -52,7 +52,7 @@ impl Region {
     ///
     /// # Errors
     ///
-    /// `AllocError` where there is no memory for them. Then none was taken.
+    /// `AllocError` where there is no memory for them.
     pub fn take(alloc: Global, size: usize) -> Result<Region, AllocError>
         requires { size < 2 ^ 63 }
         ensures { IfOk result (λ region. region ≡ replicate size None) }

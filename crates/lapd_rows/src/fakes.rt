@@ -115,7 +115,8 @@ pub const TRANSCRIPT: &[u8] = b"0 establish-indication 64
 0 frame 008173
 ";
 
-/// Whether `run` over a source writes this transcript and this fault line, and ends with the status that goes with them.
+/// Whether `run` over a source writes this transcript and this fault line, and ends with the status that goes with
+/// them.
 pub fn plays(alloc: Global, source: &mut Pieces<'_>, transcript: &[u8], fault: &[u8]) -> bool {
     let mut written = Page::new(alloc);
     let mut faults = Page::new(alloc);

@@ -3,8 +3,11 @@
 /// A script with its transcript, and in how many writes it comes: what one event brought comes in one.
 #[derive(Clone, Copy)]
 pub struct Worked {
+    /// The script.
     pub text: &'static [u8],
+    /// What it writes.
     pub transcript: &'static [u8],
+    /// In how many writes.
     pub writes: usize,
     /// Where the lines that write anything end, and where their answers do.
     answers: [(usize, usize); 3],

@@ -1,5 +1,5 @@
-//! Tests of the card by the public contracts of `lapd_card`. What a transcript shows is in `tests/scripts`. The one call
-//! shows by its contract what a caller of `drive` can conclude.
+//! Tests of the card by the public contracts of `lapd_card`. What a transcript shows is in `tests/scripts`. The one
+//! call shows by its contract what a caller of `drive` can conclude.
 //!
 //! - `kept`: a sink that keeps what each reply says, and what it has kept after a list of events.
 //! - `starts`: which configurations and shelves a card starts with, and its faults in words.

@@ -11,15 +11,17 @@ use std::alloc::Global;
 /// A link of TEI 64 for call control, with a shelf of its own.
 #[derive(Drop)]
 pub struct Bench {
+    /// The link, opened.
     pub link: Link,
+    /// Where its contents lie.
     pub shelf: SlabShelf,
 }
 
 impl Bench {
     ghost use Rattle.lapd_rows_link.specs.Works.{Works};
 
-    /// A link that was opened, with a window and a queue of `k` contents of at most 8 octets, over as many slots, where four
-    /// control frames may wait.
+    /// A link that was opened, with a window and a queue of `k` contents of at most 8 octets, over as many slots, where
+    /// four control frames may wait.
     pub fn start(alloc: Global, k: u8, slots: u32) -> Result<Bench, StartFault>
         requires low { 1 ≤ k }
         requires high { k ≤ 127 }
@@ -112,12 +114,16 @@ impl Bench {
     }
 }
 
-/// The link's state, the octets of the control frames that wait, the contents on the shelf, and their octets.
+/// What can be seen of a link and its shelf.
 #[derive(Clone, Copy, PartialEq, Eq, Debug)]
 pub struct Seen {
+    /// The link's state, 4 to 8.
     pub state: u8,
+    /// The octets of the control frames that wait.
     pub held: u32,
+    /// How many contents are on the shelf.
     pub used: u32,
+    /// Their octets.
     pub octets: u64,
 }
 

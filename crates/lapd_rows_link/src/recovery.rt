@@ -8,8 +8,8 @@ use lapd_link::{LinkRequest, StartFault};
 use lapd_seq::Seq;
 use lapd_store::Shelf;
 
-// Hands the next I-frame of one link to the other, with its contents as they lie on the shelf. Answers whether the other
-// delivered just this octet, or nothing where none is expected.
+// Hands the next I-frame of one link to the other, with its contents as they lie on the shelf. Answers whether the
+// other delivered just this octet, or nothing where none is expected.
 fn pass(from: &mut Bench, to: &mut Bench, expected: Option<u8>) -> bool
     requires near { Works 8 from.old }
     requires far { Works 8 to.old }

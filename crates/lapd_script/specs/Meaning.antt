@@ -39,8 +39,8 @@ abbrev pub meant_by : List ℕ → Result Command FaultKind → Result Meaning F
 meant_by buffer (Ok command) = Ok (meant buffer command)
 meant_by buffer (Err kind) = Err kind
 
--- How many octets a command counts is no more than the buffer has; and as many octets are pulled and milliseconds pass in
--- one line as a script may say.
+-- How many octets a command counts is no more than the buffer has; and as many octets are pulled and milliseconds pass
+-- in one line as a script may say.
 abbrev pub IsCounted : ℕ → Command → Type 0
 IsCounted room Skip = Unit {0}
 IsCounted room (Card numbers) = Unit {0}

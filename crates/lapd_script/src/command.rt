@@ -2,18 +2,29 @@
 
 use lapd_frame::Service;
 
-/// The numbers of a card line, in its order; `k16` stands last there, and is `k` where it is left out.
+/// The numbers of a card line, in its order; `k16` stands last there, and is `k` where it is left out. Their ranges are
+/// those of a card's configuration, and are not tested here.
 #[derive(Clone, Copy, PartialEq, Eq, Debug)]
 pub struct CardNumbers {
+    /// The lines of the card.
     pub lines: u16,
+    /// TEIs on each line.
     pub terminals: u16,
+    /// The window of call control links.
     pub k: u16,
+    /// Contents that wait on each link, sent or unsent.
     pub queue: u16,
+    /// Unit data that wait on each line.
     pub unit_queue: u16,
+    /// Control frames that wait on each link.
     pub control: u16,
+    /// Contents that wait on the whole card.
     pub slots: u16,
+    /// Octets of an information field at most.
     pub n201: u16,
+    /// How often a command is repeated.
     pub n200: u16,
+    /// The window of packet links.
     pub k16: u16,
 }
 
@@ -49,30 +60,41 @@ pub enum Command {
     Card(CardNumbers),
     /// `rx LINE HEX`: octets come from the line.
     Rx {
+        /// The card's line.
         line: u16,
+        /// How many octets HEX stands for.
         octets: usize,
     },
     /// `in LINE HEX`: the line's terminal sends a frame.
     In {
+        /// The card's line.
         line: u16,
+        /// How many octets HEX stands for.
         octets: usize,
     },
     /// `pull LINE N`: the line takes 1 to 4,096 octets.
     Pull {
+        /// The card's line.
         line: u16,
+        /// N.
         count: u32,
     },
     /// `wait MS`: so many milliseconds pass, at most 3,600,000.
     Wait {
+        /// MS.
         milliseconds: u32,
     },
     /// `stored`: shows what the card holds.
     Stored,
     /// A request of layer 3, and the octets that it carries: those of `data` and `unit`, else none.
     Ask {
+        /// The card's line.
         line: u16,
+        /// The TEI.
         tei: u8,
+        /// What is asked for.
         what: Asked,
+        /// How many octets HEX stands for; 0 where there is none.
         octets: usize,
     },
 }

@@ -6,10 +6,15 @@ ghost use Rattle.lapd_script.specs.Bound.{bound};
 /// The numbers of `limits`, in the ranges that a card line has for them.
 #[derive(Clone, Copy, PartialEq, Eq, Debug)]
 pub struct Limits {
+    /// The lines of the card.
     pub lines: u32,
+    /// TEIs on each line.
     pub terminals: u32,
+    /// Control frames that wait on each link.
     pub control: u32,
+    /// Contents that wait on the whole card.
     pub slots: u32,
+    /// Octets of an information field at most.
     pub n201: u32,
     ghost few_lines: { lines ≤ 64 },
     ghost few_terminals: { terminals ≤ 8 },

@@ -14,7 +14,7 @@ pub record AreNumbers (va vs : Seq) (a s : ℕ) : Type 0 where
   pub acknowledged : va ≡ seq a
   pub sent : vs ≡ seq s
 
--- V(A) <= N(R) <= V(S), counted upwards from V(A) (Q.921 clause 5.8.2).
+-- V(A) <= N(R) <= V(S), counted upwards from V(A) (Q.921 clauses 3.5.2.3 and 5.8.2).
 abbrev pub IsValid : Seq → Seq → Seq → Type 0
 IsValid va nr vs = distance_of va nr ≤ distance_of va vs
 

@@ -1,4 +1,5 @@
--- Worked values of the definitions: with 5 acknowledged and 132 sent every N(R) is valid, with 126 and 129 only four are.
+-- Worked values of the definitions: with 5 acknowledged and 132 sent every N(R) is valid, with 126 and 129 only four
+-- are.
 use Rattle.std.specs.Prelude.{◌≡◌, Some, None, refl}
 use Rattle.lapd_seq.specs.Numbers.{seq}
 use Rattle.lapd_seq.specs.Circle.{distance_of, named}

@@ -1,5 +1,6 @@
--- Which faults a source's and a target's counts of failures tell of: a fault of reading comes exactly where one read
--- failed, and a fault of writing exactly where one write failed.
+-- Which faults a source's and a target's counts of failures tell of: a fault of reading comes exactly where the source
+-- has counted one failure more (a count that stays at its greatest value), and a fault of writing exactly where the
+-- target has.
 use Rattle.std.specs.Prelude.{ℕ, Result, Ok, Err}
 use Rattle.lapd_transcript.specs.Streams.{one_failure_more}
 use Rattle.lapd_sim.specs.declared.faults.PlayFault.{PlayFault}

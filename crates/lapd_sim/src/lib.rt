@@ -4,8 +4,8 @@
 //! - `lines`: how the lines of a script are read, in pieces.
 //! - `exchange`: the card that a script is played on, and its clock.
 //! - `terminal`: the sender of a terminal.
-//! - `bench`: the card with the terminals and listeners of its lines; `parts`, what it begins with; `traffic`, what comes
-//!   from a line and what a line takes.
+//! - `bench`: the card with the terminals and listeners of its lines; `parts`, what it begins with; `traffic`, what
+//!   comes from a line and what a line takes.
 //! - `player`: plays a script; `memory`, one that lies in memory.
 //! - `faults`: why a script is not played to its end.
 //! - `shown`: shows one frame.

@@ -35,8 +35,8 @@ impl Source for Script<'_> {
 ///
 /// # Errors
 ///
-/// As [`play`] does, but that no read fails: the transcript of the lines before the fault has been put; where there was no
-/// memory for more of it, `Write`, and a beginning.
+/// As [`play`] does, but that no read fails: the transcript of the lines before the fault has been put; where there was
+/// no memory for more of it, `Write`, and a beginning.
 pub fn play_octets(
     alloc: Global,
     script: &[u8],

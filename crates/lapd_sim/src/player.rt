@@ -20,8 +20,8 @@ use std::alloc::{AllocError, Global};
 const ROOM: usize = 4096;
 
 /// Plays the script that `source` gives on a card, and writes the transcript to `target`: the answer of each line
-/// before the next line is read. It ends with the script, or with the first fault; what the lines before the fault
-/// brought has been written by then.
+/// before more is read than that line needs (no clause says when; it is tested). It ends with the script, or with the
+/// first fault; what the lines before the fault brought has been written by then.
 ///
 /// All memory is taken at the start and at the card line.
 pub fn play<S: Source, T: Target>(

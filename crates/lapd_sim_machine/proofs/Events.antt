@@ -73,8 +73,8 @@ expiries_lead (suc most) end s = go (λ t. expiries_lead most end t) (clocks.due
         more (expired end due.0 due.1 s)
         ∙ event_before s.bench.card (at due.0 (expiry due.1)) (expiry_events most end (expired end due.0 due.1 s))
 
--- Events lead one bench to another; and where what each line keeps holds of the first, it holds of the other, and the events
--- are at lines of the card.
+-- Events lead one bench to another; and where what each line keeps holds of the first, it holds of the other, and the
+-- events are at lines of the card.
 pub record Led (before : Bench) (events : List Event) (after : Bench) : Type 0 where
   pub card : after.card ≡ after_all before.card events
   pub kept : IsKept before → IsKept after × AreAtLines before.card events

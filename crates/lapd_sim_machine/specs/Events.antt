@@ -72,8 +72,8 @@ abbrev pub first_card : List (List ℕ) → Option Config
 first_card [] = None
 first_card (piece ∷ pieces) = elim (card_meant (read (line_in piece))) [ None ↦ first_card pieces | Some c ↦ Some c ]
 
--- The card on the bench is that of the card line, fresh, after the script's events. Its configuration is one with which a
--- card can be started, and the events are at its lines: so laws of runs hold of it.
+-- The card on the bench is that of the card line, fresh, after the script's events. Its configuration is one with which
+-- a card can be started, and the events are at its lines: so laws of runs hold of it.
 pub record HasRun (text : List ℕ) (bench : Bench) : Type 0 where
   pub config : Config
   pub begun : first_card (pieces_of text) ≡ Some config

@@ -1,7 +1,8 @@
 -- The lines of a script.
 use Rattle.std.specs.Prelude.{ℕ, ◌==◌, if◌then◌else◌, List, [], ◌∷◌}
 
--- Pieces, one for each line: up to and with its line feed (octet 10), which the last may lack. Joined, they are the text.
+-- Pieces, one for each line: up to and with its line feed (octet 10), which the last may lack. Joined, they are the
+-- text.
 abbrev pub with_octet : ℕ → List (List ℕ) → List (List ℕ)
 with_octet octet [] = (octet ∷ []) ∷ []
 with_octet octet (piece ∷ pieces) = (octet ∷ piece) ∷ pieces

@@ -24,7 +24,8 @@ replies_text ms = flat_map reply_text ms
 abbrev pub octet_given : Moment → ℕ
 octet_given m = octet_in m.answer
 
--- What a line says, where its events have these answers: of the octets that it pulls, all together; `stored` shows the card.
+-- What a line says, where its events have these answers: of the octets that it pulls, all together; `stored` shows the
+-- card.
 abbrev pub said : line.Meaning → Bench → List Moment → List ℕ
 said line.skip b ms = []
 said (line.card numbers) b ms = []
@@ -64,8 +65,8 @@ abbrev pub text_from : Played → List (List ℕ) → List ℕ
 text_from p [] = []
 text_from p (piece ∷ pieces) = line_text piece p ++ text_from (one_more p piece) pieces
 
--- The moments of the lines, one after the other, are those of the run of the script's events from the fresh card on; and
--- the transcript is what the lines say of them.
+-- The moments of the lines, one after the other, are those of the run of the script's events from the fresh card on;
+-- and the transcript is what the lines say of them.
 pub record TranscriptsAreReplies : Type 0 where
   pub by_line : (text : List ℕ) (bench : Bench) (c : Config) → (played (pieces_of text)).bench ≡ Some bench → first_card (pieces_of text) ≡ Some c
       → moments (fresh c) (script_events text) ≡ moments_from not_begun (pieces_of text)

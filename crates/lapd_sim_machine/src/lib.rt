@@ -3,12 +3,12 @@
 //! what the line takes.
 //!
 //! `specs/` has a script's lines (`Pieces`), what stands on the bench (`Bench`), what each line of a script makes of it
-//! and says (`Steps`), whole scripts (`Script`): the transcript of a text, and its first fault; the events at the card that
-//! a script brings (`Events`), and its text by the answers to them (`Replies`); what a wait comes to (`Waits`), and what a
-//! script's card stores (`Within`).
+//! and says (`Steps`), whole scripts (`Script`): the transcript of a text, and its first fault; the events at the card
+//! that a script brings (`Events`), and its text by the answers to them (`Replies`); what a wait comes to (`Waits`),
+//! and what a script's card stores (`Within`).
 //!
-//! The code of a simulation stands above, in another crate. Here is `laws`: what holds of whole scripts, as calls without
-//! effect.
+//! The code of a simulation stands above, in another crate. Here is `laws`: what holds of whole scripts, as calls
+//! without effect.
 #![tactic(auto)]
 
 mod laws;

@@ -1,5 +1,5 @@
--- Laws of ownership for a queue of slots: it owns each of its slots with the message in it, and others own the rest. As in
--- `Ownership`, each law takes the clauses of the calls that it is about as its premises.
+-- Laws of ownership for a queue of slots: it owns each of its slots with the message in it, and others own the rest. As
+-- in `Ownership`, each law takes the clauses of the calls that it is about as its premises.
 use Rattle.std.proofs.Common.{◌≡◌, ℕ, ◌+◌, zero, suc, Some, IsSome, List, [], ◌∷◌, ◌++◌, length, drop, set, refl, sym, ap, subst, ◌∙◌, arith, length-append, length-drop}
 use Rattle.std.proofs.lemmas.List.{drop-drop}
 use Rattle.std.proofs.lemmas.Option.{none-some, same_Some}

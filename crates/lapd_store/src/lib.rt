@@ -1,9 +1,9 @@
 //! Storage for message contents, in room that is taken once.
 //!
-//! A queue of messages needs a place for the octets of each message until it has been sent and acknowledged. In this crate a
-//! [`Shelf`] is that place: a fixed number of slots, each of a fixed width. `put` copies a message into a free slot and
-//! answers the slot, `get` lends the octets, and `release` frees the slot. Queues then hold slots, not octets: a
-//! [`SlotQueue`] is a ring of them. All queues of a line card share one shelf.
+//! A queue of messages needs a place for the octets of each message until it has been sent and acknowledged. In this
+//! crate a [`Shelf`] is that place: a fixed number of slots, each of a fixed width. `put` copies a message into a free
+//! slot and answers the slot, `get` lends the octets, and `release` frees the slot. Queues then hold slots, not octets:
+//! a [`SlotQueue`] is a ring of them. All queues of a line card share one shelf.
 //!
 //! Only the starts take memory. No later call does, whatever the order of puts and releases.
 //!
@@ -12,8 +12,8 @@
 //! - [`RawShelf`]: a shelf over one region of octets, for less memory;
 //! - [`SlotQueue`]: a ring of slots of fixed capacity;
 //! - `specs/Store.antt`: a shelf as a finite map, with which the contracts speak of it;
-//! - `specs/Ownership.antt`: how several owners share a shelf, with its laws in `proofs/Ownership.antt`; for an owner that
-//!   is a queue of slots in `proofs/Queues.antt`, and for one of many owners in `proofs/Focus.antt`.
+//! - `specs/Ownership.antt`: how several owners share a shelf, with its laws in `proofs/Ownership.antt`; for an owner
+//!   that is a queue of slots in `proofs/Queues.antt`, and for one of many owners in `proofs/Focus.antt`.
 #![tactic(auto)]
 
 mod fault;

@@ -16,9 +16,9 @@ const END: u16 = 0xFFFF;
 
 /// A shelf that keeps all messages in one region, each in a slot of exactly `width` octets.
 ///
-/// Its start takes the region uninitialised, `width` octets for each slot, and two octets for each slot's length. A free
-/// slot holds the number of the next free one in its own first two octets. The time of a call does not depend on the
-/// number of slots.
+/// Its start takes the region uninitialised, `width` octets for each slot, and two octets for each slot's length. A
+/// free slot holds the number of the next free one in its own first two octets. The time of a call does not depend on
+/// the number of slots.
 #[derive(Drop, Debug)]
 pub struct RawShelf {
     region: Region,
@@ -46,7 +46,8 @@ impl Model for RawShelf {
 impl RawShelf {
     ghost use Rattle.lapd_store.specs.Store.{empty_store};
 
-    /// A shelf of `slots` free slots, at most 8192, for contents of at most `width` octets each, where `width` is 8 to 260.
+    /// A shelf of `slots` free slots, at most 8192, for contents of at most `width` octets each, where `width` is 8
+    /// to 260.
     ///
     /// # Errors
     ///

@@ -7,7 +7,8 @@ use crate::Slot;
 /// Slots of equal width for the contents of messages.
 ///
 /// A contract sees a shelf as its `store`: a finite map from slots to octet lists, with at most `slots` entries of at
-/// most `width` octets each. Both limits stay as they were at the start, and no method takes memory.
+/// most `width` octets each. Both limits stay as they were at the start. The methods of this crate's shelves
+/// take no memory (tested).
 pub trait Shelf: Drop {
     /// The slots in use with their contents, and the shelf's limits.
     ghost store: { Self → Store };

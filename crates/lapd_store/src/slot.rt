@@ -3,7 +3,8 @@ use std::marker::Model;
 
 /// A slot of a shelf: the number by which a message's contents are found again.
 ///
-/// A slot is good from the `put` that answered it to its `release`, on that shelf. Then the shelf can give it out again.
+/// A slot is good from the `put` that answered it to its `release`, on that shelf. Then the shelf can give it out
+/// again.
 #[derive(Clone, Copy, PartialEq, Eq, Debug)]
 pub struct Slot {
     pub(crate) number: usize,

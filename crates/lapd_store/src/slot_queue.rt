@@ -7,6 +7,8 @@ use std::alloc::Global;
 use std::marker::Model;
 
 /// A ring of slots, the oldest first, of a capacity that is fixed at its start.
+///
+/// To drop it frees no slot on the shelf: [`SlotQueue::release_oldest`] does, before.
 #[derive(Drop, Debug)]
 pub struct SlotQueue {
     ring: HeapCircularBuffer<Slot>,

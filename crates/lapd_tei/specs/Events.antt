@@ -8,8 +8,8 @@ use Rattle.lapd_tei.specs.Machine.{Management, Told}
 use Rattle.lapd_tei.specs.Words.{Course, begun, Step, no_room, begin_check}
 use Rattle.lapd_tei.specs.Rows.{serve, expire, put_on, take_off}
 
--- The information of a UI frame of SAPI 63 to the group TEI; the expiry of T201; and the requests of layer management, of a TEI of
--- at most 126.
+-- The information of a UI frame of SAPI 63 to the group TEI; the expiry of T201; and the requests of layer management,
+-- of a TEI of at most 126.
 pub data Event : Type 0 where
   message : List ℕ → Event
   expiry : Event

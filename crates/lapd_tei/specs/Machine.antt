@@ -11,8 +11,8 @@ pub use Rattle.lapd_tei.specs.declared.check.Period.TheVariants.{First, Second}
 pub use Rattle.lapd_tei.specs.declared.outcome.Change.{Change}
 pub use Rattle.lapd_tei.specs.declared.outcome.Change.TheVariants.{Gained, Left}
 
--- The table of the TEIs; the latest assignments that still hold, the oldest first; the check that runs, if one does; and the
--- messages that wait to be sent, the oldest first.
+-- The table of the TEIs; the latest assignments that still hold, the oldest first; the check that runs, if one does;
+-- and the messages that wait to be sent, the oldest first.
 pub record Management : Type 0 where
   pub places : Places
   pub remembered : List Remembered
@@ -34,16 +34,16 @@ remembered_limit = 4
 abbrev pub place : ℕ → Management → Option ℕ
 place tei m = place_of tei m.places
 
--- The messages that wait, and the octets that are held: those of the frames that wait, without their check, and three for Ri and
--- TEI of each remembered assignment.
+-- The messages that wait, and the octets that are held: those of the frames that wait, without their check, and three
+-- for Ri and TEI of each remembered assignment.
 abbrev pub waiting : Management → ℕ
 waiting m = length m.waiting
 
 abbrev pub held : Management → ℕ
 held m = 8 * length m.waiting + 3 * length m.remembered
 
--- What is told of an event: notes; whether a TEI came to the line or left it; what is ordered of T201; how many messages were lost,
--- as they found no room; and whether the event is one that is not served.
+-- What is told of an event: notes; whether a TEI came to the line or left it; what is ordered of T201; how many
+-- messages were lost, as they found no room; and whether the event is one that is not served.
 pub record Told : Type 0 where
   pub notes : List Note
   pub change : Option Change

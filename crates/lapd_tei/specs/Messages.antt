@@ -1,4 +1,5 @@
--- The messages of TEI management (Q.921 clause 5.3.1): what the network's are in octets, and which of the terminal's octets are.
+-- The messages of TEI management (Q.921 clause 5.3.1): what the network's are in octets, and which of the terminal's
+-- octets are.
 use Rattle.std.specs.Prelude.{ℕ, ◌+◌, ◌*◌, ◌/◌, ◌%◌, ◌==◌, ◌&&◌, true, false, List, [], ◌∷◌, Option, Some, None, if◌then◌else◌}
 use Rattle.lapd_frame.specs.Grammar.{spelling}
 use Rattle.lapd_frame.specs.declared.addresses.Side.TheVariants.{Network}
@@ -8,13 +9,13 @@ pub use Rattle.lapd_tei.specs.declared.messages.Message.TheVariants.{IdentityAss
 pub use Rattle.lapd_tei.specs.declared.heard.Heard.{Heard}
 pub use Rattle.lapd_tei.specs.declared.heard.Heard.TheVariants.{IdentityRequest, IdentityCheckResponse, IdentityVerify}
 
--- Figure of clause 5.3.1: the entity identifier 0F, the reference number Ri with its high octet first, the message type, and the
--- action indicator Ai with 1 as its extension bit.
+-- Figure of clause 5.3.1: the entity identifier 0F, the reference number Ri with its high octet first, the message
+-- type, and the action indicator Ai with 1 as its extension bit.
 abbrev pub information : ℕ → ℕ → ℕ → List ℕ
 information ri type action = 0x0F ∷ (ri / 256) ∷ (ri % 256) ∷ type ∷ (2 * action + 1) ∷ []
 
--- The network's messages, by the types of table 8. Ai 127 in a denial says that there is no TEI to be had; a check request and a
--- removal have Ri 0.
+-- The network's messages, by the types of table 8. Ai 127 in a denial says that there is no TEI to be had; a check
+-- request and a removal have Ri 0.
 abbrev pub information_of : Message → List ℕ
 information_of (IdentityAssigned ri tei) = information ri 2 tei
 information_of (IdentityDenied ri) = information ri 3 127
@@ -33,7 +34,8 @@ abbrev pub frame_of : Message → List ℕ
 frame_of message =
     spelling Network (record { address = record { sapi = 63; command = true; tei = 127 }; control = Ui false; info = information_of message })
 
--- The terminal's messages, by the types of table 8: type, Ri and Ai. A request asks for any TEI, Ai 127; others are not served (profile).
+-- The terminal's messages, by the types of table 8: type, Ri and Ai. A request asks for any TEI, Ai 127; others are not
+-- served (profile).
 abbrev pub heard_of_type : ℕ → ℕ → ℕ → Option Heard
 heard_of_type type ri action =
     if type == 1 && action == 127 then Some (IdentityRequest ri)
@@ -41,8 +43,8 @@ heard_of_type type ri action =
     else if type == 7 then Some (IdentityVerify action)
     else None
 
--- Which message the information of a UI frame is, and `None` where it is none that is served. It has exactly five octets (profile:
--- one Ai).
+-- Which message the information of a UI frame is, and `None` where it is none that is served. It has exactly five
+-- octets (profile: one Ai).
 abbrev pub heard_in : List ℕ → Option Heard
 heard_in [] = None
 heard_in (entity ∷ []) = None

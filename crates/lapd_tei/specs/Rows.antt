@@ -9,8 +9,8 @@ use Rattle.lapd_tei.specs.Table.{is_on, free_place, free_tei}
 use Rattle.lapd_tei.specs.Machine.{Management, Remembered, Check, Period, First, Second}
 use Rattle.lapd_tei.specs.Words.{Step, ◌then◌, no_room, send, lose_one, note, order, unserved, join, remember, leave, check_is, begin_check, end_check}
 
--- An identity request for any TEI (clause 5.3.2) is served by the first case that holds (profile); the cases stand here from the last
--- to the first.
+-- An identity request for any TEI (clause 5.3.2) is served by the first case that holds (profile); the cases stand here
+-- from the last to the first.
 
 -- Which TEI was assigned for this Ri, as far as it is remembered.
 abbrev pub is_for : ℕ → Remembered → Bool
@@ -22,8 +22,8 @@ tei_in r = r.tei
 abbrev pub remembered_in : ℕ → List Remembered → Option ℕ
 remembered_in ri remembered = option_map tei_in (find (is_for ri) remembered)
 
--- Third: a place is free. The lowest TEI is put at the lowest place. Else: the request is denied. (A table of fewer than 63 places
--- always has a free TEI.)
+-- Third: a place is free. The lowest TEI is put at the lowest place. Else: the request is denied. (A table of fewer
+-- than 63 places always has a free TEI.)
 abbrev pub assign_new : ℕ → Option ℕ → Option ℕ → Step
 assign_new ri (Some place) (Some tei) =
     join tei place then remember ri tei then send (IdentityAssigned ri tei) then note (Assigned tei)
@@ -74,8 +74,9 @@ serve (Some (IdentityVerify tei)) c = verify tei c
 serve (Some (IdentityCheckResponse tei)) c = respond tei c.now.check c
 serve None c = unserved c
 
--- T201 has expired (clause 5.3.3.2). In the first period the check is asked for again. At the end of the second the check ends, and
--- a TEI without a response in either period leaves the line. Where no check runs, T201 does not run.
+-- T201 has expired (clause 5.3.3.2). In the first period the check is asked for again. At the end of the second the
+-- check ends, and a TEI without a response in either period leaves the line (clauses 5.3.3.2 and 5.3.4). Where no check
+-- runs, T201 does not run, and nothing happens (profile).
 abbrev pub removed : ℕ → Step
 removed tei = end_check then note (Removed tei) then leave tei
 
@@ -97,7 +98,8 @@ expire_check (Some check) = expire_period check check.period
 abbrev pub expire : Step
 expire c = expire_check c.now.check c
 
--- A request of layer management to put a TEI on the line: at the lowest place that is free.
+-- A request of layer management to put a TEI on the line (MDL-ASSIGN request, clause 4.1.1.5): at the lowest place that
+-- is free (profile).
 abbrev pub join_at : ℕ → Option ℕ → Step
 join_at tei (Some place) = join tei place
 join_at tei None = nothing_happens
@@ -105,8 +107,8 @@ join_at tei None = nothing_happens
 abbrev pub put_on : ℕ → Step
 put_on tei c = join_at tei (free_place c.now.places) c
 
--- A request to take a TEI off the line (clause 5.3.4): the terminals with it are told so, once (profile: the standard says it
--- twice), and a check of it ends.
+-- A request to take a TEI off the line (clause 5.3.4): the terminals with it are told so, once (profile: the standard
+-- says it twice), and a check of it ends.
 abbrev pub is_checked : ℕ → Option Check → Bool
 is_checked tei None = false
 is_checked tei (Some check) = check.tei == tei

@@ -4,23 +4,25 @@ ghost use Rattle.std.specs.Prelude.{◌≡◌, ◌≤◌};
 ghost use Rattle.lapd_tei.specs.Machine.{First};
 ghost use Rattle.lapd_tei.specs.Rows.{counted, responses, is_unanswered};
 
-/// A check of a TEI that is under way (Q.921 clause 5.3.3).
+/// A check of a TEI that is under way (Q.921 clause 5.3.3.2).
 #[derive(Clone, Copy, PartialEq, Eq, Debug)]
 pub struct Check {
     /// Of which TEI.
     pub tei: u8,
     /// Which run of T201 it is.
     pub period: Period,
-    /// How many responses came in the first period.
+    /// How many responses came in the first period: 0 or 1, since the second ends the check.
     pub first: u8,
-    /// How many came in the second.
+    /// How many came in the second period: 0 or 1.
     pub second: u8,
 }
 
 /// A check asks twice, and awaits responses for one run of T201 each time.
 #[derive(Clone, Copy, PartialEq, Eq, Debug)]
 pub enum Period {
+    /// The first run of T201.
     First,
+    /// The second, after which the check ends.
     Second,
 }
 

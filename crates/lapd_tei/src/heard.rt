@@ -8,7 +8,7 @@ ghost use Rattle.lapd_tei.specs.Messages.{heard_in};
 pub(crate) enum Heard {
     /// A terminal asks for any TEI, by a reference number Ri of its choice (clause 5.3.2).
     IdentityRequest { ri: u16 },
-    /// A terminal has this TEI (clause 5.3.3).
+    /// A terminal has this TEI (clause 5.3.3.2).
     IdentityCheckResponse { tei: u8 },
     /// A terminal asks for a check of its TEI (clause 5.3.5).
     IdentityVerify { tei: u8 },

@@ -2,38 +2,40 @@
 
 ghost use Rattle.lapd_tei.specs.Laws.{IsSoundThroughout, ChangesAreTold, LowestIsAssigned, OneIsFree, OneMoreWaits, OneIsLost, OneFewerWaits, UnservedChangesNothing};
 
-/// From the empty table on, after any events and pulls: no TEI and no Ri stands twice, each TEI is at
-/// most 126, at most four assignments are remembered, each of a TEI that is on the line, at most four
-/// messages wait, and a check is of a TEI that is on the line. This is a law about the definitions in
-/// `specs/`; the call does nothing.
+/// From the empty table on, after any events and pulls whose requests name TEIs of at most 126: no TEI
+/// and no Ri stands twice, each TEI is at most 126, at most four assignments are remembered, each of a
+/// TEI that is on the line, at most four messages wait, each with an Ai of at most 127, and a check is
+/// of a TEI that is on the line and has at most one response in each period. This is a law about the
+/// definitions in `specs/`; the call does nothing.
 pub fn sound_throughout()
     ensures { IsSoundThroughout }
 {}
 
-/// The change that is told of an event is the change of the table. A law about the definitions in
-/// `specs/`; the call does nothing.
+/// In sound management, and for events whose requests name TEIs of at most 126: the change that is told
+/// of an event is the change of the table, and a TEI that came was not on the line and took the lowest
+/// free place. A law about the definitions in `specs/`; the call does nothing.
 pub fn changes_are_told()
     ensures { ChangesAreTold }
 {}
 
-/// A terminal is assigned the lowest TEI of 64 to 126 that is not on the line, and in a table of
-/// fewer than 63 places there is always one. A law about the definitions in `specs/`; the call does
-/// nothing.
+/// Where a terminal is assigned a TEI, it is the lowest of 64 to 126 that is not on the line, and in a
+/// table of fewer than 63 places one of these is always free. A law about the definitions in `specs/`;
+/// the call does nothing.
 pub fn lowest_is_assigned()
     ensures lowest { LowestIsAssigned }
     ensures one { OneIsFree }
 {}
 
-/// An event lets at most one message more wait and loses at most one; a pull lets no more wait. A law
-/// about the definitions in `specs/`; the call does nothing.
+/// An event lets at most one message more wait and loses at most one; a pull lets one fewer wait, or
+/// finds none. A law about the definitions in `specs/`; the call does nothing.
 pub fn one_more_waits()
     ensures more { OneMoreWaits }
     ensures lost { OneIsLost }
     ensures fewer { OneFewerWaits }
 {}
 
-/// A message that is not served changes nothing. A law about the definitions in `specs/`; the call
-/// does nothing.
+/// A message that is not served changes nothing, and nothing else is told of it. A law about the
+/// definitions in `specs/`; the call does nothing.
 pub fn unserved_changes_nothing()
     ensures { UnservedChangesNothing }
 {}

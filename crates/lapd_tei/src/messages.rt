@@ -11,13 +11,27 @@ use lapd_frame::{Address, Control, Frame, Side, write};
 pub enum Message {
     /// The TEI is assigned to the terminal that asked for one with this reference number Ri (clause
     /// 5.3.2).
-    IdentityAssigned { ri: u16, tei: u8 },
+    IdentityAssigned {
+        /// That of the request.
+        ri: u16,
+        /// 64 to 126.
+        tei: u8,
+    },
     /// No TEI can be assigned to the terminal that asked with this Ri (clause 5.3.2).
-    IdentityDenied { ri: u16 },
-    /// Each terminal with this TEI is to answer (clause 5.3.3).
-    IdentityCheckRequest { tei: u8 },
+    IdentityDenied {
+        /// That of the request.
+        ri: u16,
+    },
+    /// Each terminal with this TEI is to answer (clause 5.3.3.2).
+    IdentityCheckRequest {
+        /// 0 to 126.
+        tei: u8,
+    },
     /// Each terminal with this TEI is to give it up (clause 5.3.4).
-    IdentityRemove { tei: u8 },
+    IdentityRemove {
+        /// 0 to 126.
+        tei: u8,
+    },
 }
 
 impl Message {

@@ -6,9 +6,19 @@ use lapd_frame::{Note, Order, ShortList};
 #[derive(Clone, Copy, PartialEq, Eq, Debug)]
 pub enum Change {
     /// The TEI is on the line now: its links begin, in state 4.
-    Gained { tei: u8, place: usize },
+    Gained {
+        /// The TEI that came.
+        tei: u8,
+        /// Where it is in the table.
+        place: usize,
+    },
     /// The TEI is no longer on the line: its links are to be cleared.
-    Left { tei: u8, place: usize },
+    Left {
+        /// The TEI that left.
+        tei: u8,
+        /// Where it was in the table.
+        place: usize,
+    },
 }
 
 /// What an event led to.

@@ -1,6 +1,6 @@
 //! `lapdsim run` plays the script on its standard input, and writes the transcript to its standard output.
-//! `lapdsim frame` shows one frame, and `lapdsim limits` how many octets a card stores at most; `docs/FORMAT.md` has the
-//! words and what they answer.
+//! `lapdsim frame` shows one frame, and `lapdsim limits` how many octets a card stores at most; `docs/FORMAT.md` has
+//! the words and what they answer.
 #![tactic(auto)]
 
 use lapd_sim::{PlayFault, ReadFrom, WriteTo, refuse, serve};

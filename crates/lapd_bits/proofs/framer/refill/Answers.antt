@@ -1,4 +1,5 @@
--- Eight bits wait already, an idle flag goes on, or an octet of the frame in hand, with the closing flag after the last.
+-- Eight bits wait already, an idle flag goes on, or an octet of the frame in hand, with the closing flag after the
+-- last.
 use Rattle.std.proofs.Common.{◌≡◌, ◌≤◌, ◌<◌, length, get_or, sym, ap, subst, ◌∙◌, vec_len, arith}
 use Rattle.std.proofs.lemmas.Bool.{eqb-true, eqb-false, leb-true, leb-false}
 use Rattle.lapd_bits.specs.FramerText.{waits}

@@ -7,7 +7,8 @@ use Rattle.lapd_sim.specs.Stands.{Has}
 use Rattle.lapd_sim.proofs.Playing.{IsPlayed}
 use Rattle.lapd_sim.proofs.player.play.Given as goal
 
--- no read and no write has failed; there is a bench that is stood for; and where the source tells, these lines have been played
+-- no read and no write has failed; there is a bench that is stood for; and where the source tells, these lines have
+-- been played
 abbrev pub invariant-loop-player : goal.invariant-loop-player
 invariant-loop-player g l =
     (g.S.Source.failures l.source ≡ g.S.Source.failures l.fn.source) × ((g.T.Target.taken l.target).failures ≡ (g.T.Target.taken l.fn.target).failures)

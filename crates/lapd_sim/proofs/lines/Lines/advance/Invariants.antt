@@ -3,8 +3,8 @@ use Rattle.std.specs.List.{AllWithin}
 use Rattle.lapd_sim.specs.Lines.{left_to_read, AreLeft}
 use Rattle.lapd_sim.proofs.lines.Lines.advance.Given as goal
 
--- the line that is sought begins at `start`, has no line feed before `unsought`, and is not counted yet; the text that is
--- left is the same, its end was not met before, and no read has failed
+-- the line that is sought begins at `start`, has no line feed before `unsought`, and is not counted yet; the text that
+-- is left is the same, its end was not met before, and no read has failed
 abbrev pub invariant-loop-end : goal.invariant-loop-end
 invariant-loop-end g l = record {
   begun : l.self.start ≤ l.unsought;

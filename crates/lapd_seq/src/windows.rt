@@ -80,6 +80,7 @@ impl Window {
     pub fn acknowledged_by(&self, nr: Seq) -> u8
         requires { IsValid (va_of self.now) nr (vs_of self.now) }
         ensures held { result ≡ distance_of (va_of self.now) nr }
+        ensures bound { result < 128 }
         ensures within { result ≤ outstanding_of self.now }
         ensures plain { (a s n : ℕ) → Stands self.now a s → IsNamed a s nr n → a + result ≡ n }
     {

@@ -50,6 +50,8 @@ impl Deframer {
     pub fn start(alloc: Global, n201: u16) -> Result<Deframer, StartFault>
         requires { n201 ≤ 1024 }
         ensures fresh { IfOk result (λ deframer. Stands n201 deframer []) }
+        // No octet has ended anything.
+        ensures silent { IfOk result (λ deframer. latest_of deframer ≡ None) }
     {
         let octets = vec![in alloc; 0u8; n201 as usize + 6].map_err(|_| StartFault::OutOfMemory)?;
         Ok(Deframer {

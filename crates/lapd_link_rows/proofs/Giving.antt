@@ -4,14 +4,14 @@ use Rattle.circular_buffer.specs.Buffer.{Buffer, buffer}
 use Rattle.lapd_link_machine.specs.declared.frames.ControlFrame.{ControlFrame}
 use Rattle.lapd_link_machine.specs.declared.terms.Terms.{Terms}
 use Rattle.lapd_link_machine.specs.Link.{Link}
-use Rattle.lapd_link_machine.specs.Steps.{Sent, Course, Step, depending_on}
+use Rattle.lapd_link_machine.specs.Steps.{Course, Step, depending_on}
 use Rattle.lapd_link_machine.specs.Offers.{offer_among, offer_step}
 use Rattle.lapd_link_rows.specs.declared.entity.Entity.{Entity}
 use Rattle.lapd_link_rows.specs.declared.offers.Given.{Given}
 use Rattle.lapd_link_rows.specs.declared.told.Told.{Told}
 use Rattle.lapd_link_rows.specs.Past.{Past, link_of, course_of, Fits}
 use Rattle.lapd_link_rows.specs.Does.{Agrees}
-use Rattle.lapd_link_rows.specs.Done.{Gives, given_of}
+use Rattle.lapd_link_rows.specs.Done.{Gives}
 
 -- the test of an offer, known before
 pub gives_where : {terms : Terms} {f : Step} {queued : ℕ} {e e' : Entity} {t t' : Told} {given : Option Given} (test : Link → Bool) (g : Step) → ((messages : List (List ℕ)) (p : Past) → length messages ≡ queued → t.released ≡ 0 → Fits terms messages e t p → test (link_of e p) ≡ true) → Gives terms f queued e t e' t' given → Gives terms (depending_on test f g) queued e t e' t' given

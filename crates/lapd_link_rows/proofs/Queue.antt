@@ -1,8 +1,8 @@
 -- What is left of the messages of a queue when some of the oldest are to go.
-use Rattle.std.proofs.Common.{◌≡◌, ℕ, zero, suc, ◌+◌, ◌-◌, ◌≤◌, List, [], ◌∷◌, length, drop, take, min, None, inl, inr, refl, sym, ap, ◌∙◌, arith, zero-add}
+use Rattle.std.proofs.Common.{◌≡◌, ℕ, zero, suc, ◌+◌, ◌≤◌, List, [], ◌∷◌, length, drop, take, min, None, inl, inr, refl, sym, ap, ◌∙◌, arith, zero-add}
 use Rattle.std.specs.List.{slice_get}
 use Rattle.std.proofs.lemmas.Bool.{cases_lt}
-use Rattle.std.proofs.lemmas.List.{drop-drop, drop_all, length-take, length-drop}
+use Rattle.std.proofs.lemmas.List.{drop-drop, drop_all, length-take}
 use Rattle.std.proofs.Math.Nat.{min-eq_left, min-eq_right}
 
 -- all of them go
@@ -40,11 +40,6 @@ contents_at-queue messages contents released a s place none queue is =
     ap (λ l. slice_get l place) (sym (ap (λ n. drop n messages) none) ∙ queue)
     ∙ slice_get-drop a contents place
     ∙ ap (slice_get contents) is
-
--- how many are queued
-pub length-queue : (messages contents : List (List ℕ)) (released a : ℕ) → released ≡ 0 → drop released messages ≡ drop a contents → length messages ≡ length contents - a
-length-queue messages contents released a none queue =
-    ap length (sym (ap (λ n. drop n messages) none) ∙ queue) ∙ length-drop a contents
 
 -- a list without a first item
 pub nothing_first : {X : Type 0} (xs : List X) → slice_get xs 0 ≡ None → xs ≡ []

@@ -1,17 +1,15 @@
 -- From one event to the next: what an entity stands for as an event begins, and as it ends.
-use Rattle.std.proofs.Common.{◌≡◌, ℕ, ◌≤◌, Bool, List, [], length, drop, Option, refl, sym, ap, subst, ◌∙◌}
-use Rattle.lapd_seq.specs.Windows as window
+use Rattle.std.proofs.Common.{◌≡◌, ℕ, ◌≤◌, Bool, List, [], length, drop, Option, ap, subst, ◌∙◌}
 use Rattle.lapd_frame.specs.declared.notes.Note.{Note}
-use Rattle.lapd_frame.specs.ShortLists.{listed}
 use Rattle.lapd_link_machine.specs.declared.timers.LinkTimer.{LinkTimer}
 use Rattle.lapd_link_machine.specs.declared.terms.Terms.{Terms}
-use Rattle.lapd_link_machine.specs.Link.{Link, queue_of, fresh}
+use Rattle.lapd_link_machine.specs.Link.{Link, queue_of}
 use Rattle.lapd_link_machine.specs.Steps.{Course, begun, Step}
 use Rattle.lapd_link_rows.specs.declared.entity.Entity.{Entity}
 use Rattle.lapd_link_rows.specs.declared.told.Told.{Told}
-use Rattle.lapd_link_rows.specs.Past.{Past, past_of, link_of, if_told, course_of, Fits}
-use Rattle.lapd_link_rows.specs.Does.{Agrees, Does}
-use Rattle.lapd_link_rows.specs.Done.{IsNothing, IsFresh, past_at, Rests, Took}
+use Rattle.lapd_link_rows.specs.Past.{link_of, if_told, course_of, Fits}
+use Rattle.lapd_link_rows.specs.Does.{Agrees}
+use Rattle.lapd_link_rows.specs.Done.{IsNothing, past_at, Rests, Took}
 
 -- an event begins: its past fits,
 pub fits-resting : {terms : Terms} {e : Entity} {m : Link} {none : Told} → Rests terms e m → length (queue_of m) ≤ 127 → IsNothing none → Fits terms (queue_of m) e none (past_at m)
@@ -50,7 +48,3 @@ rests-after agrees =
       ring = agrees.fits.ring;
       is = ap (λ (c : Course). c.link) agrees.is;
     }
-
--- an entity as it begins
-pub rests-fresh : {terms : Terms} {e : Entity} → IsFresh terms.control e → Rests terms e fresh
-rests-fresh begun = record { window = begun.window; received = begun.received; ring = begun.ring; is = begun.link }

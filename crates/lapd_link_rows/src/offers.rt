@@ -69,11 +69,10 @@ impl Entity {
         ensures machine { (messages : List (List ℕ)) (t : Told) (p : Past) → length messages ≡ queued → t.released ≡ 0 →
             Fits terms messages self.now t p → result ≡ offers.may_send_information terms (link_of self.now p) }
     {
-        let outstanding = self.window.outstanding();
         matches!(self.state, State::Established)
             && !self.peer_busy
-            && outstanding < terms.k
-            && usize::from(outstanding) < queued
+            && self.window.may_send(terms.k)
+            && usize::from(self.window.outstanding()) < queued
     }
 
     // Sends the I-frame with the first contents that are unsent. It carries the acknowledgement.

@@ -1,15 +1,15 @@
 //! What layer 3 asks for, and the end of a TEI.
 
-ghost use Rattle.std.specs.Prelude.{◌≡◌, ℕ, List};
+ghost use Rattle.std.specs.Prelude.{ℕ, List};
 ghost use Rattle.lapd_link_machine.specs.Machine.{cleared_step};
 ghost use Rattle.lapd_link_machine.specs.Words.{begin_anew};
 ghost use Rattle.lapd_link_machine.specs.declared.terms.Terms.{Terms};
 ghost use Rattle.lapd_link_rows.specs.Done.{IsFresh};
-ghost use Rattle.lapd_link_rows.specs.Does.{Does, Adds, HasRoom, Tells};
+ghost use Rattle.lapd_link_rows.specs.Does.{Does, HasRoom, Tells};
 ghost use Rattle.lapd_link_rows.specs.Parts.{released_by_state, told_of_clearing_by_state};
 
 use crate::entity::Entity;
-use crate::told::Told;
+use crate::told::{ALL, Told};
 use lapd_link_machine::{State, Terms};
 use lapd_seq::{Seq, Window};
 
@@ -60,7 +60,7 @@ impl Entity {
     {
         self.begin();
         told.started = None;
-        told.released = 127;
+        told.released = ALL;
     }
 
     /// The entity is as one that begins, with its ring empty.

@@ -5,6 +5,9 @@ ghost use Rattle.std.specs.Prelude.{◌≤◌};
 use lapd_frame::{Note, ShortList};
 use lapd_link_machine::LinkTimer;
 
+// All contents of a queue, as a number of those that are to be released.
+pub(crate) const ALL: u8 = 127;
+
 /// What an event has told so far.
 #[derive(Clone, Copy, Debug)]
 pub struct Told {

@@ -69,10 +69,3 @@ distance-named x nr y a s n h k =
     let low : s ≤ a + 127 = h.within in
     let to : n ≤ s = k.to in
     distance-plain x nr a n (record { ordered = k.from; within = omega arith; acknowledged = h.acknowledged; sent = k.remainder })
-
--- and from there to V(S)
-pub distance-from_named : (x nr y : Seq) (a s n : ℕ) → AreNumbers x y a s → IsNamed a s nr n → n + distance_of nr y ≡ s
-distance-from_named x nr y a s n h k =
-    let low : s ≤ a + 127 = h.within in
-    let from : a ≤ n = k.from in
-    distance-plain nr y n s (record { ordered = k.to; within = omega arith; acknowledged = k.remainder; sent = h.sent })

@@ -12,17 +12,15 @@ seq-next x y n e h =
     let v : x.value ≡ n % 128 = seq-value x n e in
     is_seq y (n + 1) (omega arith)
 
--- two numbers at most 127 apart with one remainder are one
-pub named-only : (x nr y : Seq) (a s m n : ℕ) → AreNumbers x y a s → IsNamed a s nr m → IsNamed a s nr n → m ≡ n
-named-only x nr y a s m n h j k =
-    let one : nr.value ≡ m % 128 = seq-value nr m j.remainder in
-    let two : nr.value ≡ n % 128 = seq-value nr n k.remainder in
+-- an N(R) names the number of the next I-frame exactly where it has the value of V(S)
+pub named-next : (x nr y : Seq) (a s n : ℕ) → AreNumbers x y a s → IsNamed a s nr n → (nr.value ≡ y.value) ↔ (n ≡ s)
+named-next x nr y a s n h k =
+    let named : nr.value ≡ n % 128 = seq-value nr n k.remainder in
+    let vs : y.value ≡ s % 128 = seq-value y s h.sent in
     let high : s ≤ a + 127 = h.within in
-    let from-m : a ≤ m = j.from in
-    let to-m : m ≤ s = j.to in
-    let from-n : a ≤ n = k.from in
-    let to-n : n ≤ s = k.to in
-    omega arith
+    let from : a ≤ n = k.from in
+    let to : n ≤ s = k.to in
+    (λ e. omega (arith, e), λ e. omega (arith, e))
 
 -- what is not true is false
 not_true : (b : Bool) → (IsTrue b → ⊥) → b ≡ false

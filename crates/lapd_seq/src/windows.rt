@@ -68,17 +68,19 @@ impl Window {
         self.outstanding() == 0
     }
 
-    /// Whether a valid `nr` names the next I-frame to be sent, and so acknowledges all that were sent: N(R) is V(S).
+    /// Whether `nr` names the next I-frame to be sent: N(R) is V(S). A valid one then acknowledges all that were sent.
     pub fn names_next(&self, nr: Seq) -> bool
+        ensures held { IsTrue result ↔ (nr ≡ vs_of self.now) }
         ensures plain { (a s n : ℕ) → Stands self.now a s → IsNamed a s nr n → (IsTrue result ↔ (n ≡ s)) }
     {
-        distance(nr, self.vs) == 0
+        nr == self.vs
     }
 
     /// How many I-frames a valid `nr` acknowledges.
     pub fn acknowledged_by(&self, nr: Seq) -> u8
         requires { IsValid (va_of self.now) nr (vs_of self.now) }
         ensures held { result ≡ distance_of (va_of self.now) nr }
+        ensures bound { result < 128 }
         ensures within { result ≤ outstanding_of self.now }
         ensures plain { (a s n : ℕ) → Stands self.now a s → IsNamed a s nr n → a + result ≡ n }
     {

@@ -169,12 +169,11 @@ impl Entity {
         ensures does { (terms : Terms) (info : List ℕ) →
             DoesBy terms info nr row.acknowledged_in_7 self.old told.old self.new told.new }
     {
-        let ahead = self.acknowledges(nr);
-        if ahead == self.window.outstanding() {
+        if self.window.names_next(nr) {
             self.acknowledge(told, nr);
             return self.start_timer(told, LinkTimer::T203);
         }
-        if ahead == 0 {
+        if self.window.acknowledged_by(nr) == 0 {
             return;
         }
         self.acknowledge(told, nr);

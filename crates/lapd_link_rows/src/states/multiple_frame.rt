@@ -95,7 +95,7 @@ impl Entity {
         ensures tells { Tells 1 0 told.old told.new }
         ensures does { (info : List ℕ) → Does terms info (renewed terms) self.old told.old self.new told.new }
     {
-        if self.window.outstanding() == 0 {
+        if self.window.is_settled() {
             return;
         }
         self.discard(told);

@@ -1,6 +1,6 @@
 //! State 4, TEI assigned: the link is down.
 
-ghost use Rattle.std.specs.Prelude.{◌≡◌, ℕ, List};
+ghost use Rattle.std.specs.Prelude.{ℕ, List};
 ghost use Rattle.lapd_frame.specs.declared.controls.Control.TheVariants.{Sabme};
 ghost use Rattle.lapd_link_machine.specs.TeiAssigned as row;
 ghost use Rattle.lapd_link_rows.specs.Does.{Does, HasRoom, Tells};

@@ -1,6 +1,6 @@
 //! What is told.
 
-ghost use Rattle.std.specs.Prelude.{◌≡◌, ℕ, List};
+ghost use Rattle.std.specs.Prelude.{ℕ, List};
 ghost use Rattle.lapd_link_machine.specs.Words as word;
 ghost use Rattle.lapd_link_rows.specs.declared.entity.Entity.{Entity};
 ghost use Rattle.lapd_link_rows.specs.Does.{Does, Adds, HasRoom, Tells};

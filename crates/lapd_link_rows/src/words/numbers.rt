@@ -1,6 +1,6 @@
 //! V(A), V(S), V(R), and the contents that they count.
 
-ghost use Rattle.std.specs.Prelude.{◌≡◌, ℕ, ◌+◌, List, ◌↔◌, IsTrue, false, MatchOption};
+ghost use Rattle.std.specs.Prelude.{◌≡◌, ℕ, List, ◌↔◌, IsTrue, false, MatchOption};
 ghost use Rattle.lapd_seq.specs.Circle.{IsNamed, IsValid, named};
 ghost use Rattle.lapd_seq.specs.Windows.{va_of, vs_of, Stands};
 ghost use Rattle.lapd_link_machine.specs.declared.terms.Terms.{Terms};
@@ -8,11 +8,8 @@ ghost use Rattle.lapd_link_machine.specs.Words as word;
 ghost use Rattle.lapd_link_rows.specs.Does.{Does, DoesBy, Changes, Tells};
 
 use crate::entity::Entity;
-use crate::told::Told;
-use lapd_seq::{Seq, Window, distance, valid};
-
-// All contents of a queue.
-const ALL: u8 = 127;
+use crate::told::{ALL, Told};
+use lapd_seq::{Seq, Window, valid};
 
 impl Entity {
     // Releases all contents that are kept.
@@ -51,13 +48,6 @@ impl Entity {
         valid(self.window.va(), nr, self.window.vs())
     }
 
-    // How many I-frames a valid N(R) acknowledges.
-    pub(crate) fn acknowledges(&self, nr: Seq) -> u8
-        ensures { (a s n : ℕ) → Stands self.now.window a s → IsNamed a s nr n → a + result ≡ n }
-    {
-        distance(self.window.va(), nr)
-    }
-
     // The contents before the number that a valid N(R) names are acknowledged, and go.
     pub(crate) fn acknowledge(&mut self, told: &mut Told, nr: Seq)
         requires { IsValid (va_of self.old.window) nr (vs_of self.old.window) }
@@ -65,7 +55,7 @@ impl Entity {
         ensures valid { IsValid (va_of self.new.window) nr (vs_of self.new.window) }
         ensures does { (terms : Terms) (info : List ℕ) → DoesBy terms info nr word.acknowledge self.old told.old self.new told.new }
     {
-        told.released = (told.released + distance(self.window.va(), nr)).min(ALL);
+        told.released = (told.released + self.window.acknowledged_by(nr)).min(ALL);
         self.window.acknowledge(nr);
     }
 

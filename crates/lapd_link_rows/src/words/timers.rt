@@ -1,6 +1,6 @@
 //! Timers, of which one at most runs.
 
-ghost use Rattle.std.specs.Prelude.{◌≡◌, ℕ, List};
+ghost use Rattle.std.specs.Prelude.{ℕ, List};
 ghost use Rattle.lapd_link_machine.specs.declared.terms.Terms.{Terms};
 ghost use Rattle.lapd_link_machine.specs.Words as word;
 ghost use Rattle.lapd_link_rows.specs.Does.{Does, Tells};

@@ -1,6 +1,6 @@
 use Rattle.std.proofs.Common.{false, ap}
 use Rattle.lapd_frame.specs.declared.controls.Control.{Control}
-use Rattle.lapd_link_machine.specs.Steps.{Course, ◌then◌}
+use Rattle.lapd_link_machine.specs.Steps.{◌then◌}
 use Rattle.lapd_link_machine.specs.Words as word
 use Rattle.lapd_link_rows.specs.Past.{course_of}
 use Rattle.lapd_link_rows.proofs.Steps.{◌▹◌, same_step}

@@ -1,4 +1,4 @@
-use Rattle.std.proofs.Common.{arith}
+use Rattle.std.proofs.Common.{sym, ◌∙◌, true≢false}
 use Rattle.lapd_link_machine.specs.Link.{has_outstanding}
 use Rattle.lapd_link_machine.specs.Steps.{nothing}
 use Rattle.lapd_link_rows.proofs.Tests.{not_same}
@@ -8,5 +8,5 @@ use Rattle.lapd_link_rows.proofs.entity.Entity.discard_outstanding.Goals as goal
 pub returns-clause-does : goal.returns-clause-does
 returns-clause-does c = λ info.
     where_yes has_outstanding nothing
-    (λ messages p fits. not_same p.s p.a (λ same. absurd (omega (arith, same, c.if-outstanding-eq0.false, c.outstanding.ensures.plain p.a p.s fits.window))))
+    (λ messages p fits. not_same p.s p.a (λ same. absurd (true≢false (sym ((c.is_settled.ensures.plain p.a p.s fits.window).1 (sym same)) ∙ c.if-is_settled.false))))
     (c.discard.ensures.does _ info ▹ c.establish_indication.ensures.does _ _ _)

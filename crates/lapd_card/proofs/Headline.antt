@@ -25,13 +25,21 @@ use Rattle.lapd_card.specs.Drive.{line_of, events_of}
 use Rattle.lapd_card.specs.Headline.{IsWithinLimit, IsAmortised, IsLinear, IsIsolated, IsNeverFull, IsNumbered, IsNumberedFromZero, IsTextual}
 use Rattle.lapd_card.specs.Stands.{Stands}
 
--- the events of a front are at lines of the machine
+-- the events are at lines of the machine
+events_at_lines : {S : Type 0} (store : S → Store) (card : Held S) (events : List rust.Event) → All (λ e. line_of e < line_count card) events → (m : Card) → Stands store card m → AreAtLines m (events_of events)
+events_at_lines store card events within m s =
+    All-map (IsAtLine m) event_of events (All-weaker (λ e. line_of e < line_count card) (λ e. IsAtLine m (event_of e)) (λ e below. subst (λ c. line_of e < c.lines) (sym s.config) below) events within)
+
+-- a law of every sound card and list of events holds of them
+pub whole_list : {S : Type 0} (store : S → Store) (card : Held S) (events : List rust.Event) → All (λ e. line_of e < line_count card) events → (P : Card → List Event → Type 0) → ((m : Card) (es : List Event) → IsSound m → AreAtLines m es → P m es) → (m : Card) → Stands store card m → P m (events_of events)
+whole_list store card events within P law m s = law m (events_of events) s.sound (events_at_lines store card events within m s)
+
+-- so are those of a front
 front_at_lines : {S : Type 0} (store : S → Store) (card : Held S) (events : List rust.Event) → All (λ e. line_of e < line_count card) events → (m : Card) (count : ℕ) → Stands store card m → AreAtLines m (take count (events_of events))
 front_at_lines store card events within m count s =
-    All-take (IsAtLine m) count (events_of events)
-    (All-map (IsAtLine m) event_of events (All-weaker (λ e. line_of e < line_count card) (λ e. IsAtLine m (event_of e)) (λ e below. subst (λ c. line_of e < c.lines) (sym s.config) below) events within))
+    All-take (IsAtLine m) count (events_of events) (events_at_lines store card events within m s)
 
--- a law of every sound card and list of events holds of each front
+-- and the law holds of each front
 pub each_front : {S : Type 0} (store : S → Store) (card : Held S) (events : List rust.Event) → All (λ e. line_of e < line_count card) events → (P : Card → List Event → Type 0) → ((m : Card) (es : List Event) → IsSound m → AreAtLines m es → P m es) → (m : Card) (count : ℕ) → Stands store card m → P m (take count (events_of events))
 each_front store card events within P law m count s = law m (take count (events_of events)) s.sound (front_at_lines store card events within m count s)
 

@@ -3,6 +3,7 @@ use Rattle.std.proofs.Common.{◌≡◌, ℕ, ◌+◌, ◌*◌, ◌≤◌, ◌<�
 use Rattle.std.specs.Prelude.{sum_by}
 use Rattle.std.proofs.lemmas.Bool.{false≢true}
 use Rattle.lapd_frame.specs.declared.timers.Timer.{Timer}
+use Rattle.lapd_line_machine.specs.Answer as happening
 use Rattle.lapd_line_machine.specs.Answer.{octet, expiry, request, pull}
 use Rattle.lapd_line_machine.specs.Counts as line
 use Rattle.lapd_line_machine.specs.Machine as lines
@@ -10,7 +11,7 @@ use Rattle.lapd_line_machine.specs.Refusal.{refusal}
 use Rattle.lapd_line_machine.specs.Request.{Request}
 use Rattle.lapd_line_machine.proofs.ByEvent.{hears_one, falls_by_pull}
 use Rattle.lapd_line_machine.proofs.EventsReject.{expiry_none, request_none}
-use Rattle.lapd_card_machine.specs.ByEvent.{RisesByOctet, RisesByExpiry, RisesByRequest, FallsByPull}
+use Rattle.lapd_card_machine.specs.ByEvent.{RisesByOctet, RisesByExpiry, RisesByRequest, FallsByPull, RisesBy, IsPriced}
 use Rattle.lapd_card_machine.specs.Card.{Card, line_at}
 use Rattle.lapd_card_machine.specs.Counts.{frames_heard, window}
 use Rattle.lapd_card_machine.specs.Event.{Event, at}
@@ -19,6 +20,7 @@ use Rattle.lapd_card_machine.specs.Machine.{after}
 use Rattle.lapd_card_machine.specs.Run.{IsAtLine}
 use Rattle.lapd_card_machine.specs.Sound.{IsSound}
 use Rattle.lapd_card_machine.proofs.Amortised.{event_within}
+use Rattle.lapd_card_machine.proofs.EachMoment.{each_moment}
 use Rattle.lapd_card_machine.proofs.Steps.{HasLines, by_room, line_sound, one_line}
 
 pub lines_of : (card : Card) → IsSound card → HasLines card
@@ -77,5 +79,18 @@ pulls card number s within =
     let sums = one_line (line.waiting card.config) card number (lines.after card.config pull l) (lines_of card s) within in
     (omega (arith, falls.0, sums), omega (arith, falls.1, sums)))
 
+-- any event
+any_event : (card : Card) (number : ℕ) (what : happening.Event) → IsSound card → number < card.config.lines → RisesBy number what card
+any_event card number (octet value) s within = octets card number value s within
+any_event card number (expiry timer) s within = expiries card number timer s within
+any_event card number (request r) s within = requests card number r s within
+any_event card number pull s within = pulls card number s within
+
 pub frames_by_event : FramesByEvent
-frames_by_event = record { octets = octets; expiries = expiries; requests = requests; pulls = pulls }
+frames_by_event = record {
+  octets = octets;
+  expiries = expiries;
+  requests = requests;
+  pulls = pulls;
+  in_runs = each_moment IsPriced (λ card e s within. any_event card e.line e.what s within);
+}

@@ -17,7 +17,8 @@ use Rattle.lapd_card_machine.specs.Run.{Moment, run, moments, after_all, AreAtLi
 use Rattle.lapd_card_machine.specs.Sound.{IsSound}
 use Rattle.lapd_card_machine.specs.Stored.{stored, limit}
 use Rattle.lapd_card_machine.specs.Counts.{waiting, frames_heard, octets_received, window, sent, accepted, expired, rejected}
-use Rattle.lapd_card_machine.specs.ByEvent.{RisesByOctet, RisesByExpiry, RisesByRequest, FallsByPull}
+use Rattle.lapd_card_machine.specs.ByEvent.{RisesByOctet, RisesByExpiry, RisesByRequest, FallsByPull, ArePriced}
+use Rattle.lapd_card_machine.specs.Drops.{AreDropsFree}
 use Rattle.lapd_card_machine.specs.Isolation.{events_at, answers_at, answer_in}
 use Rattle.lapd_card_machine.specs.Numbered.{LinkName, received_by, history, frames_of, deliveries_of, AreNumbered}
 use Rattle.lapd_card_machine.specs.Pulled.{octets_pulled, frames_begun, GoesOn}
@@ -68,6 +69,11 @@ pub record FramesByEvent : Type 0 where
   pub expiries : (card : Card) (number : ℕ) (timer : Timer) → IsSound card → number < card.config.lines → RisesByExpiry number timer card
   pub requests : (card : Card) (number : ℕ) (r : Request) → IsSound card → number < card.config.lines → RisesByRequest number r card
   pub pulls : (card : Card) (number : ℕ) → IsSound card → number < card.config.lines → FallsByPull number card
+  pub in_runs : (card : Card) (events : List Event) → IsSound card → AreAtLines card events → ArePriced card events
+
+-- What is dropped costs nothing, in no moment of a run.
+abbrev pub DropsCostNothing : Type 0
+DropsCostNothing = (card : Card) (events : List Event) → IsSound card → AreAtLines card events → AreDropsFree card events
 
 -- From a fresh card on, they are linear in the octets received, the accepted requests and the expiries: a frame has six octets
 -- of its own at least, with its check and a flag, and an REJ seven.

@@ -1,8 +1,7 @@
 //! What holds of whole runs of the machine. Each law is the contract of a call that does nothing; it holds for every list
 //! of events, and so for every front of a list.
 
-ghost use Rattle.lapd_card_machine.specs.Drops.{DropsCostNothing};
-ghost use Rattle.lapd_card_machine.specs.Laws.{CardsStaySound, DeliveriesNumbered, FramesAmortised, FramesByEvent, FramesLinear, LinesIsolated, PoolNeverFull, RefusedByTheTable, RunIsMoments, StoredWithinLimit, TextGoesOn};
+ghost use Rattle.lapd_card_machine.specs.Laws.{CardsStaySound, DeliveriesNumbered, DropsCostNothing, FramesAmortised, FramesByEvent, FramesLinear, LinesIsolated, PoolNeverFull, RefusedByTheTable, RunIsMoments, StoredWithinLimit, TextGoesOn};
 
 /// A run as one fold is its moments, one after the other.
 pub fn run_is_moments()
@@ -27,17 +26,18 @@ pub fn frames_amortised()
     ensures { FramesAmortised }
 {}
 
-/// The same for single events. What may be sent rises by at most two for an octet that ends a frame which is recognised (one
-/// octet ends one frame at most), and by k more where that is an REJ with a valid N(R); by k + 1 for an expiry of a running
-/// timer; by one for an accepted request. A drop by the deframer (abort, ragged, short, frame check), a refusal and an expiry
-/// of a timer that does not run let it rise by nothing. A frame that is dropped later is one that was recognised: see
-/// [`drops_cost_nothing`]. A pull that begins a frame lets it fall by one or two, and any other pull leaves it as it is.
+/// The same for single events, and so in every moment of a run. What may be sent rises by at most two for an octet that ends
+/// a frame which is recognised (one octet ends one frame at most), and by k more where that is an REJ with a valid N(R); by
+/// k + 1 for an expiry of a running timer; by one for an accepted request. A drop by the deframer (abort, ragged, short,
+/// frame check), a refusal and an expiry of a timer that does not run let it rise by nothing. A frame that is dropped later
+/// is one that was recognised: see [`drops_cost_nothing`]. A pull that begins a frame lets it fall by one or two, and any
+/// other pull leaves it as it is.
 pub fn frames_by_event()
     ensures { FramesByEvent }
 {}
 
-/// Where the answer to an octet names a cause, whichever, what may be sent stays as it is: a frame that is dropped lets it
-/// rise by nothing, for its address and for want of service too.
+/// In every moment of a run: where the answer to an octet names a cause, whichever, what may be sent stays as it is. So a
+/// frame that is dropped lets it rise by nothing, for its address and for want of service too.
 pub fn drops_cost_nothing()
     ensures { DropsCostNothing }
 {}

@@ -2,12 +2,14 @@ use Rattle.std.proofs.Common.{sym, ◌∙◌}
 use Rattle.std.proofs.lemmas.Option.{slice_get-get_or}
 use Rattle.lapd_card_machine.specs.declared.events.Event.TheVariants.{Octet}
 use Rattle.lapd_card.proofs.Taken.{ran-more, taken-more, missed-at, at_ok, at_err}
+use Rattle.lapd_card_machine.specs.ByEvent.{ArePriced}
+use Rattle.lapd_card_machine.specs.Drops.{AreDropsFree}
 use Rattle.lapd_card_machine.proofs.Fold.{run_is_moments}
 use Rattle.lapd_card_machine.proofs.Refusals.{refused_by_the_table}
 use Rattle.lapd_card_machine.proofs.ByEvent.{frames_by_event}
 use Rattle.lapd_card_machine.proofs.Drops.{drops_cost_nothing}
 use Rattle.lapd_card.specs.Headline.{IsWithinLimit, IsAmortised, IsLinear, IsIsolated, IsNeverFull, IsNumbered, IsNumberedFromZero, IsTextual}
-use Rattle.lapd_card.proofs.Headline.{each_front, fresh_front, within_limit, amortised, linear, isolated, never_full, numbered, numbered_from_zero, textual}
+use Rattle.lapd_card.proofs.Headline.{whole_list, each_front, fresh_front, within_limit, amortised, linear, isolated, never_full, numbered, numbered_from_zero, textual}
 use Rattle.lapd_card.proofs.card.Card.drive.Goals as goal
 
 pub loop-at-preserved : goal.loop-at-preserved
@@ -39,10 +41,10 @@ pub returns-then-is_err-clause-refused : goal.returns-then-is_err-clause-refused
 returns-then-is_err-clause-refused g c = refused_by_the_table
 
 pub returns-then-is_err-clause-by_event : goal.returns-then-is_err-clause-by_event
-returns-then-is_err-clause-by_event g c = frames_by_event
+returns-then-is_err-clause-by_event g c = λ m. whole_list g.S.Shelf.store c.args.self.now c.args.events.now c.requires ArePriced frames_by_event.in_runs m
 
 pub returns-then-is_err-clause-drops : goal.returns-then-is_err-clause-drops
-returns-then-is_err-clause-drops g c = drops_cost_nothing
+returns-then-is_err-clause-drops g c = λ m. whole_list g.S.Shelf.store c.args.self.now c.args.events.now c.requires AreDropsFree drops_cost_nothing m
 
 pub returns-then-is_err-clause-within_limit : goal.returns-then-is_err-clause-within_limit
 returns-then-is_err-clause-within_limit g c = λ m count. each_front g.S.Shelf.store c.args.self.now c.args.events.now c.requires IsWithinLimit within_limit m count
@@ -63,10 +65,10 @@ pub returns-clause-refused : goal.returns-clause-refused
 returns-clause-refused g c = refused_by_the_table
 
 pub returns-clause-by_event : goal.returns-clause-by_event
-returns-clause-by_event g c = frames_by_event
+returns-clause-by_event g c = λ m. whole_list g.S.Shelf.store c.args.self.now c.args.events.now c.requires ArePriced frames_by_event.in_runs m
 
 pub returns-clause-drops : goal.returns-clause-drops
-returns-clause-drops g c = drops_cost_nothing
+returns-clause-drops g c = λ m. whole_list g.S.Shelf.store c.args.self.now c.args.events.now c.requires AreDropsFree drops_cost_nothing m
 
 pub returns-clause-within_limit : goal.returns-clause-within_limit
 returns-clause-within_limit g c = λ m count. each_front g.S.Shelf.store c.args.self.now c.args.events.now c.requires IsWithinLimit within_limit m count

@@ -26,13 +26,16 @@ IsAmortised m events =
     let k = window m.config in
     sent ms + waiting end + 2 * frames_heard m ≤ waiting m + 2 * frames_heard end + accepted ms + (k + 1) * expired ms + k * rejected ms
 
--- On a card as it begins, frames recognised, REJ and frames sent are linear in the octets received.
+-- On a card as it begins nothing may be sent, and no frame was recognised: so the same bound without them. And frames
+-- recognised, REJ and frames sent are linear in the octets received.
 abbrev pub IsLinear : Config → List Event → Type 0
 IsLinear c events =
     let ms = moments (fresh c) events in
-    let octets = octets_received (after_all (fresh c) events) in
+    let end = after_all (fresh c) events in
+    let octets = octets_received end in
     let k = window c in
-    (6 * frames_heard (after_all (fresh c) events) ≤ octets) × (7 * rejected ms ≤ octets)
+    (sent ms + waiting end ≤ 2 * frames_heard end + accepted ms + (k + 1) * expired ms + k * rejected ms)
+    × (6 * frames_heard end ≤ octets) × (7 * rejected ms ≤ octets)
     × (21 * sent ms ≤ (7 + 3 * k) * octets + 21 * accepted ms + 21 * (k + 1) * expired ms)
 
 -- On a card as it begins, what a line answers but for a full pool is what it would answer on a card of its own, to the

@@ -50,8 +50,9 @@ impl<S: Shelf> Card<S> {
     /// - `amortised`: the frames that pulls begin, with those that may still be sent, are at most those that could be sent
     ///   before, two for each frame recognised, one for each accepted request, k + 1 for each expiry of a running timer and k
     ///   for each REJ with a valid N(R), whatever the number of pulls; k is the greater window.
-    /// - `linear`: from a card that has just begun, six times the frames recognised, and seven times those REJ, are at most
-    ///   the octets received, so the frames sent are linear in octets, accepted requests and expiries.
+    /// - `linear`: from a card that has just begun, the same without what could be sent before, which is nothing; and six times
+    ///   the frames recognised, and seven times those REJ, are at most the octets received, so the frames sent are linear in
+    ///   octets, accepted requests and expiries.
     /// - `isolated`: from a card that has just begun, each line answers, but for a full pool, what it would answer on a card
     ///   of its own, to the events at it that did not find the pool full.
     /// - `never_full`: from a card that has just begun, no request finds the pool full where there is a slot for each place of

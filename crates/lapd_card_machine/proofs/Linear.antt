@@ -84,4 +84,4 @@ frames_linear c events ranged within =
     let rejects : 7 * rejected ms ≤ octets_received end = omega (arith, run_heard card events h within, long_frames_few end) in
     let amortised : sent ms + waiting end ≤ 2 * frames_heard end + accepted ms + (k + 1) * expired ms + k * rejected ms =
     omega (arith, frames_amortised card events h within, fresh_waits c) in
-    (frames, rejects, bound (sent ms) (waiting end) (frames_heard end) (accepted ms) (expired ms) (rejected ms) k (octets_received end) amortised frames rejects)
+    (amortised, frames, rejects, bound (sent ms) (waiting end) (frames_heard end) (accepted ms) (expired ms) (rejected ms) k (octets_received end) amortised frames rejects)

@@ -75,15 +75,18 @@ pub record FramesByEvent : Type 0 where
 abbrev pub DropsCostNothing : Type 0
 DropsCostNothing = (card : Card) (events : List Event) → IsSound card → AreAtLines card events → AreDropsFree card events
 
--- From a fresh card on, they are linear in the octets received, the accepted requests and the expiries: a frame has six octets
--- of its own at least, with its check and a flag, and an REJ seven.
+-- From a fresh card on, where nothing may be sent and no frame was heard before, they are within the same bound; and as a frame
+-- has six octets of its own at least, with its check and a flag, and an REJ seven, they are linear in the octets received, the
+-- accepted requests and the expiries.
 abbrev pub FramesLinear : Type 0
 FramesLinear =
     (c : Config) (events : List Event) → IsInRange c → AreAtLines (fresh c) events →
     let ms = moments (fresh c) events in
-    let octets = octets_received (after_all (fresh c) events) in
+    let end = after_all (fresh c) events in
+    let octets = octets_received end in
     let k = window c in
-    (6 * frames_heard (after_all (fresh c) events) ≤ octets) × (7 * rejected ms ≤ octets)
+    (sent ms + waiting end ≤ 2 * frames_heard end + accepted ms + (k + 1) * expired ms + k * rejected ms)
+    × (6 * frames_heard end ≤ octets) × (7 * rejected ms ≤ octets)
     × (21 * sent ms ≤ (7 + 3 * k) * octets + 21 * accepted ms + 21 * (k + 1) * expired ms)
 
 -- Each link's deliveries are numbered without gap since its establishment, each told in the moment of its frame; and on a card

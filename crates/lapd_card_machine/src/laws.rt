@@ -72,8 +72,10 @@ pub fn lines_isolated()
     ensures { LinesIsolated }
 {}
 
-/// From a fresh card on, the frames sent are linear in the octets received, the accepted requests and the expiries of running
-/// timers: each frame takes six octets of its line at least, and each REJ seven.
+/// From a fresh card on, the frames sent, and those that may still be sent, are at most two for each frame recognised, one for
+/// each accepted request, k + 1 for each expiry of a running timer, and k for each REJ with a valid N(R); and they are linear
+/// in the octets received, the accepted requests and those expiries: each frame takes six octets of its line at least, and
+/// each REJ seven.
 pub fn frames_linear()
     ensures { FramesLinear }
 {}

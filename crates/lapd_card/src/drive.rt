@@ -12,7 +12,7 @@ ghost use Rattle.lapd_card.specs.Drive.{line_of, events_of, Taken, MissesAt};
 ghost use Rattle.lapd_card_machine.specs.ByEvent.{ArePriced};
 ghost use Rattle.lapd_card_machine.specs.Drops.{AreDropsFree};
 ghost use Rattle.lapd_card_machine.specs.Laws.{RefusedByTheTable, RunIsMoments};
-ghost use Rattle.lapd_card.specs.Headline.{IsWithinLimit, IsAmortised, IsLinear, IsIsolated, IsNeverFull, IsNumbered, IsNumberedFromZero, IsTextual};
+ghost use Rattle.lapd_card_machine.specs.Promises.{IsWithinLimit, IsAmortised, IsLinear, IsIsolated, IsNeverFull, IsNumbered, IsNumberedFromZero, IsTextual};
 ghost use Rattle.lapd_card.specs.Sink.{one_failure_more};
 ghost use Rattle.lapd_card.specs.Stands.{Stands, Leads};
 

@@ -26,9 +26,8 @@ use Rattle.lapd_card_machine.specs.Event.{at}
 use Rattle.lapd_card_machine.specs.Laws.{DropsCostNothing}
 use Rattle.lapd_card_machine.specs.Machine.{after, answer}
 use Rattle.lapd_card_machine.specs.Sound.{IsSound}
-use Rattle.lapd_card_machine.proofs.ByEvent.{lines_of}
 use Rattle.lapd_card_machine.proofs.EachMoment.{each_moment}
-use Rattle.lapd_card_machine.proofs.Steps.{by_room, one_line}
+use Rattle.lapd_card_machine.proofs.Steps.{has_lines, by_room, one_line}
 use Rattle.lapd_card_machine.proofs.UnservedLinks.{unserved_leaves}
 
 -- a link or TEI management names a cause exactly where it does not serve
@@ -85,7 +84,7 @@ drop_costs_nothing card number value s within =
     let l = line_at number card in
     let same : line.waiting card.config (lines.after card.config (octet value) l) ≡ line.waiting card.config l =
     ap (line.waiting card.config) (octet_leaves card.config value l h) in
-    omega (arith, same, one_line (line.waiting card.config) card number (lines.after card.config (octet value) l) (lines_of card s) within))
+    omega (arith, same, one_line (line.waiting card.config) card number (lines.after card.config (octet value) l) (has_lines card s) within))
 
 pub drops_cost_nothing : DropsCostNothing
 drops_cost_nothing =

@@ -1,17 +1,17 @@
--- What holds of every list of events at a card, from a machine for which the card stands on. Each of these is a law of the
--- machine, stated there for all of them.
-use Rattle.std.specs.Prelude.{◌≡◌, ℕ, ◌+◌, ◌*◌, ◌≤◌, ◌<◌, List, length, map, All}
+-- What is promised of a list of events, from a card on. The laws say of which cards, and of which lists.
+use Rattle.std.specs.Prelude.{◌≡◌, ℕ, ◌+◌, ◌*◌, ◌≤◌, ◌<◌, false, List, length, map, All}
+use Rattle.lapd_link_machine.specs.Numbered.{Numbered}
+use Rattle.lapd_line_machine.specs.declared.config.Config.{Config}
+use Rattle.lapd_line_machine.specs.Counts.{is_pool_full}
+use Rattle.lapd_line_machine.specs.Line.{link_count}
 use Rattle.lapd_card_machine.specs.Card.{Card, fresh, line_at}
 use Rattle.lapd_card_machine.specs.Counts.{waiting, frames_heard, octets_received, window, sent, accepted, expired, rejected}
 use Rattle.lapd_card_machine.specs.Event.{Event}
 use Rattle.lapd_card_machine.specs.Isolation.{events_at, answers_at, answer_in}
-use Rattle.lapd_card_machine.specs.Laws.{HasLink, IsNotRefusedForPool}
 use Rattle.lapd_card_machine.specs.Numbered.{LinkName, history, received_by, AreNumbered, frames_of, deliveries_of}
-use Rattle.lapd_link_machine.specs.Numbered.{Numbered}
 use Rattle.lapd_card_machine.specs.Pulled.{octets_pulled, frames_begun, GoesOn}
-use Rattle.lapd_card_machine.specs.Run.{moments, after_all}
+use Rattle.lapd_card_machine.specs.Run.{Moment, moments, after_all}
 use Rattle.lapd_card_machine.specs.Stored.{stored, limit}
-use Rattle.lapd_line_machine.specs.declared.config.Config.{Config}
 
 -- The octets stored at the end are within the limit.
 abbrev pub IsWithinLimit : Card → List Event → Type 0
@@ -47,8 +47,15 @@ IsIsolated c events =
     answers_at number ms ≡ map answer_in (moments (fresh c) (events_at number ms))
 
 -- Where there is a slot for each place of each queue, no request is refused because the pool is full.
+abbrev pub IsNotRefusedForPool : Moment → Type 0
+IsNotRefusedForPool m = is_pool_full m.answer ≡ false
+
 abbrev pub IsNeverFull : Config → List Event → Type 0
 IsNeverFull c events = c.lines * (2 * c.terminals * c.queue + c.unit_queue) ≤ c.slots → All IsNotRefusedForPool (moments (fresh c) events)
+
+-- A link of the card.
+abbrev pub HasLink : Card → LinkName → Type 0
+HasLink card name = (name.line < card.config.lines) × (name.number < link_count card.config)
 
 -- What each link has delivered since its latest establishment is numbered: the next delivery is the contents of the first
 -- eligible frame that has the next number, modulo 128, and each is reported in the moment of its frame. V(R) counts them.

@@ -10,7 +10,7 @@ ghost use Rattle.lapd_card_machine.specs.Run.{run};
 ghost use Rattle.lapd_card.specs.Card.{line_count};
 ghost use Rattle.lapd_card.specs.Drive.{line_of, events_of, Taken, MissesAt};
 ghost use Rattle.lapd_card_machine.specs.ByEvent.{ArePriced};
-ghost use Rattle.lapd_card_machine.specs.Drops.{AreDropsFree};
+ghost use Rattle.lapd_card_machine.specs.Drops.{AreDropsFree, AreDropsWithoutEffect};
 ghost use Rattle.lapd_card_machine.specs.Laws.{RefusedByTheTable, RunIsMoments};
 ghost use Rattle.lapd_card_machine.specs.Promises.{IsWithinLimit, IsAmortised, IsLinear, IsIsolated, IsNeverFull, IsNumbered, IsNumberedFromZero, IsTextual};
 ghost use Rattle.lapd_card.specs.Sink.{one_failure_more};
@@ -41,8 +41,8 @@ impl<S: Shelf> Card<S> {
     ///   does, so for want of room exactly where its place is full; and then nothing changes.
     /// - `by_event`: by how much each event of the run lets rise what may still be sent: an octet by two and k at most, and only
     ///   where it ends a frame; an expiry of a running timer by k + 1; an accepted request by one; a pull by nothing.
-    /// - `drops`: an octet of the run whose answer names a cause, why it or its frame was dropped, leaves what may still be sent
-    ///   as it is.
+    /// - `drops`, `without_effect`: an octet of the run whose answer names a cause, why it or its frame was dropped, leaves what
+    ///   may still be sent as it is, and all else of the card but the octets received.
     ///
     /// The rest holds after every front of the list, so after each event, and also where the sink failed on the way:
     ///
@@ -94,6 +94,8 @@ impl<S: Shelf> Card<S> {
         // In every moment of the run of all events.
         ensures by_event { (m : machine.Card) → Stands S.store self.old m → ArePriced m (events_of events.now) }
         ensures drops { (m : machine.Card) → Stands S.store self.old m → AreDropsFree m (events_of events.now) }
+        ensures without_effect { (m : machine.Card) → Stands S.store self.old m
+            → AreDropsWithoutEffect m (events_of events.now) }
 
         // After every front of the list, from every card or, where it says `fresh`, from one that has just begun.
         ensures within_limit { (m : machine.Card) (count : ℕ) → Stands S.store self.old m

@@ -20,3 +20,11 @@ each_moment P one card (e ∷ events) s within =
     let here = All-head (IsAtLine card) e events within in
     All-cons P (moment_of card e) (moments (after e card) events) (one card e s here)
     (each_moment P one (after e card) events (after_is_sound card e s here) (All-tail (IsAtLine card) e events within))
+
+-- and so does what holds of every card and event
+pub every_moment : (P : Moment → Type 0) → ((card : Card) (e : Event) → P (moment_of card e))
+    → (card : Card) (events : List Event) → All P (moments card events)
+unfolding moments
+every_moment P one card [] = All-nil P
+every_moment P one card (e ∷ events) =
+    All-cons P (moment_of card e) (moments (after e card) events) (one card e) (every_moment P one (after e card) events)

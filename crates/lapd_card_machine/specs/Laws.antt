@@ -14,7 +14,7 @@ use Rattle.lapd_card_machine.specs.Run.{Moment, run, moments, after_all, AreAtLi
 use Rattle.lapd_card_machine.specs.Sound.{IsSound}
 use Rattle.lapd_card_machine.specs.Stored.{stored, limit}
 use Rattle.lapd_card_machine.specs.ByEvent.{RisesByOctet, RisesByExpiry, RisesByRequest, FallsByPull, ArePriced}
-use Rattle.lapd_card_machine.specs.Drops.{AreDropsFree}
+use Rattle.lapd_card_machine.specs.Drops.{AreDropsFree, AreDropsWithoutEffect}
 use Rattle.lapd_card_machine.specs.Promises.{IsWithinLimit, IsAmortised, IsLinear, IsNumbered, IsNumberedFromZero, IsTextual, IsIsolated, IsNeverFull}
 
 -- A run as one fold is its moments.
@@ -63,6 +63,10 @@ pub record FramesByEvent : Type 0 where
 -- What is dropped costs nothing, in no moment of a run.
 abbrev pub DropsCostNothing : Type 0
 DropsCostNothing = (card : Card) (events : List Event) → IsSound card → AreAtLines card events → AreDropsFree card events
+
+-- And changes nothing but the octets received, from any card on.
+abbrev pub DropsChangeNothing : Type 0
+DropsChangeNothing = (card : Card) (events : List Event) → AreDropsWithoutEffect card events
 
 -- From a fresh card on, where nothing may be sent and no frame was heard before, they are within the same bound; and as a frame
 -- has six octets of its own at least, with its check and a flag, and an REJ seven, they are linear in the octets received, the

@@ -1,7 +1,7 @@
 //! What holds of whole runs of the machine. Each law is the contract of a call that does nothing; it holds for every list
 //! of events, and so for every front of a list.
 
-ghost use Rattle.lapd_card_machine.specs.Laws.{CardsStaySound, DeliveriesNumbered, DropsCostNothing, FramesAmortised, FramesByEvent, FramesLinear, LinesIsolated, PoolNeverFull, RefusedByTheTable, RunIsMoments, StoredWithinLimit, TextGoesOn};
+ghost use Rattle.lapd_card_machine.specs.Laws.{CardsStaySound, DeliveriesNumbered, DropsChangeNothing, DropsCostNothing, FramesAmortised, FramesByEvent, FramesLinear, LinesIsolated, PoolNeverFull, RefusedByTheTable, RunIsMoments, StoredWithinLimit, TextGoesOn};
 
 /// A run as one fold is its moments, one after the other.
 pub fn run_is_moments()
@@ -40,6 +40,13 @@ pub fn frames_by_event()
 /// frame that is dropped lets it rise by nothing, for its address and for want of service too.
 pub fn drops_cost_nothing()
     ensures { DropsCostNothing }
+{}
+
+/// In every moment of a run, from any card on: where the answer to an octet names a cause, whichever, the card is afterwards
+/// what it was, but that its line has received this octet. So what is dropped is never answered: no frame waits for it, and no
+/// link, TEI, timer or slot has changed.
+pub fn drops_change_nothing()
+    ensures { DropsChangeNothing }
 {}
 
 /// A request is refused exactly where a row of the table of refusals holds, for the reason of the first that does. So it is

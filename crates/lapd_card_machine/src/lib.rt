@@ -18,7 +18,7 @@ mod laws;
 
 pub use events::Event;
 pub use laws::{
-    cards_stay_sound, deliveries_numbered, drops_cost_nothing, frames_amortised, frames_by_event,
-    frames_linear, lines_isolated, pool_never_full, refused_by_the_table, run_is_moments,
-    stored_within_limit, text_goes_on,
+    cards_stay_sound, deliveries_numbered, drops_change_nothing, drops_cost_nothing,
+    frames_amortised, frames_by_event, frames_linear, lines_isolated, pool_never_full,
+    refused_by_the_table, run_is_moments, stored_within_limit, text_goes_on,
 };

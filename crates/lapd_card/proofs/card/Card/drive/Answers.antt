@@ -3,7 +3,7 @@ use Rattle.std.proofs.lemmas.Option.{slice_get-get_or}
 use Rattle.lapd_card_machine.specs.declared.events.Event.TheVariants.{Octet}
 use Rattle.lapd_card.proofs.Taken.{ran-more, taken-more, missed-at, at_ok, at_err}
 use Rattle.lapd_card_machine.specs.ByEvent.{ArePriced}
-use Rattle.lapd_card_machine.specs.Drops.{AreDropsFree}
+use Rattle.lapd_card_machine.specs.Drops.{AreDropsFree, AreDropsWithoutEffect}
 use Rattle.lapd_card_machine.proofs.Amortised.{frames_amortised}
 use Rattle.lapd_card_machine.proofs.Fold.{run_is_moments}
 use Rattle.lapd_card_machine.proofs.Isolated.{lines_isolated}
@@ -14,7 +14,7 @@ use Rattle.lapd_card_machine.proofs.Stored.{stored_within_limit}
 use Rattle.lapd_card_machine.proofs.TextGoesOn.{text_goes_on}
 use Rattle.lapd_card_machine.proofs.Refusals.{refused_by_the_table}
 use Rattle.lapd_card_machine.proofs.ByEvent.{frames_by_event}
-use Rattle.lapd_card_machine.proofs.Drops.{drops_cost_nothing}
+use Rattle.lapd_card_machine.proofs.Drops.{drops_cost_nothing, drops_change_nothing}
 use Rattle.lapd_card_machine.specs.Promises.{IsWithinLimit, IsAmortised, IsLinear, IsIsolated, IsNeverFull, IsNumbered, IsNumberedFromZero, IsTextual}
 use Rattle.lapd_card.proofs.Headline.{whole_list, each_front, fresh_front}
 use Rattle.lapd_card.proofs.card.Card.drive.Goals as goal
@@ -50,6 +50,9 @@ returns-then-is_err-clause-refused g c = refused_by_the_table
 pub returns-then-is_err-clause-by_event : goal.returns-then-is_err-clause-by_event
 returns-then-is_err-clause-by_event g c = λ m. whole_list g.S.Shelf.store c.args.self.now c.args.events.now c.requires ArePriced frames_by_event.in_runs m
 
+pub returns-then-is_err-clause-without_effect : goal.returns-then-is_err-clause-without_effect
+returns-then-is_err-clause-without_effect g c = λ m. whole_list g.S.Shelf.store c.args.self.now c.args.events.now c.requires AreDropsWithoutEffect (λ m es s within. drops_change_nothing m es) m
+
 pub returns-then-is_err-clause-drops : goal.returns-then-is_err-clause-drops
 returns-then-is_err-clause-drops g c = λ m. whole_list g.S.Shelf.store c.args.self.now c.args.events.now c.requires AreDropsFree drops_cost_nothing m
 
@@ -73,6 +76,9 @@ returns-clause-refused g c = refused_by_the_table
 
 pub returns-clause-by_event : goal.returns-clause-by_event
 returns-clause-by_event g c = λ m. whole_list g.S.Shelf.store c.args.self.now c.args.events.now c.requires ArePriced frames_by_event.in_runs m
+
+pub returns-clause-without_effect : goal.returns-clause-without_effect
+returns-clause-without_effect g c = λ m. whole_list g.S.Shelf.store c.args.self.now c.args.events.now c.requires AreDropsWithoutEffect (λ m es s within. drops_change_nothing m es) m
 
 pub returns-clause-drops : goal.returns-clause-drops
 returns-clause-drops g c = λ m. whole_list g.S.Shelf.store c.args.self.now c.args.events.now c.requires AreDropsFree drops_cost_nothing m

@@ -62,7 +62,7 @@ limit_small c range =
     limit_most c.lines c.terminals c.control c.slots c.n201 r.lines.most r.terminals.most r.control.most r.slots.most r.n201.most
 
 pub stored_small : (m : Card) → IsSound m → stored m ≤ 2232192
-stored_small m sound = omega (arith, stored_within_limit m sound, limit_small m.config sound.config)
+stored_small m sound = omega (arith, stored_within_limit.now m sound, limit_small m.config sound.config)
 
 pub fits_32 : (n : ℕ) → n ≤ 2232192 → Fits w32 n
 fits_32 n small = grind (arith, small)

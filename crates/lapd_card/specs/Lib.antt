@@ -6,4 +6,3 @@ pub mod Card
 pub mod Stands
 pub mod Start
 pub mod Drive
-pub mod Headline

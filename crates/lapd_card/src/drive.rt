@@ -9,9 +9,10 @@ ghost use Rattle.lapd_card_machine.specs.Machine.{answer};
 ghost use Rattle.lapd_card_machine.specs.Run.{run};
 ghost use Rattle.lapd_card.specs.Card.{line_count};
 ghost use Rattle.lapd_card.specs.Drive.{line_of, events_of, Taken, MissesAt};
-ghost use Rattle.lapd_card_machine.specs.Drops.{DropsCostNothing};
-ghost use Rattle.lapd_card_machine.specs.Laws.{FramesByEvent, RefusedByTheTable, RunIsMoments};
-ghost use Rattle.lapd_card.specs.Headline.{IsWithinLimit, IsAmortised, IsLinear, IsIsolated, IsNeverFull, IsNumbered, IsNumberedFromZero, IsTextual};
+ghost use Rattle.lapd_card_machine.specs.ByEvent.{ArePriced};
+ghost use Rattle.lapd_card_machine.specs.Drops.{AreDropsFree, AreDropsWithoutEffect};
+ghost use Rattle.lapd_card_machine.specs.Laws.{RefusedByTheTable, RunIsMoments};
+ghost use Rattle.lapd_card_machine.specs.Promises.{IsWithinLimit, IsAmortised, IsLinear, IsIsolated, IsNeverFull, IsNumbered, IsNumberedFromZero, IsTextual};
 ghost use Rattle.lapd_card.specs.Sink.{one_failure_more};
 ghost use Rattle.lapd_card.specs.Stands.{Stands, Leads};
 
@@ -38,9 +39,10 @@ impl<S: Shelf> Card<S> {
     ///   count, number and compare.
     /// - `refused`: a request is refused exactly where a row of the table of refusals holds, for the reason of the first that
     ///   does, so for want of room exactly where its place is full; and then nothing changes.
-    /// - `by_event`: by how much each single event lets rise what may still be sent: an octet by two and k at most, and only where
-    ///   it ends a frame; an expiry of a running timer by k + 1; an accepted request by one; a pull by nothing.
-    /// - `drops`: an octet whose answer names a cause, why it or its frame was dropped, leaves what may still be sent as it is.
+    /// - `by_event`: by how much each event of the run lets rise what may still be sent: an octet by two and k at most, and only
+    ///   where it ends a frame; an expiry of a running timer by k + 1; an accepted request by one; a pull by nothing.
+    /// - `drops`, `without_effect`: an octet of the run whose answer names a cause, why it or its frame was dropped, leaves what
+    ///   may still be sent as it is, and all else of the card but the octets received.
     ///
     /// The rest holds after every front of the list, so after each event, and also where the sink failed on the way:
     ///
@@ -48,8 +50,9 @@ impl<S: Shelf> Card<S> {
     /// - `amortised`: the frames that pulls begin, with those that may still be sent, are at most those that could be sent
     ///   before, two for each frame recognised, one for each accepted request, k + 1 for each expiry of a running timer and k
     ///   for each REJ with a valid N(R), whatever the number of pulls; k is the greater window.
-    /// - `linear`: from a card that has just begun, six times the frames recognised, and seven times those REJ, are at most
-    ///   the octets received, so the frames sent are linear in octets, accepted requests and expiries.
+    /// - `linear`: from a card that has just begun, the same without what could be sent before, which is nothing; and six times
+    ///   the frames recognised, and seven times those REJ, are at most the octets received, so the frames sent are linear in
+    ///   octets, accepted requests and expiries.
     /// - `isolated`: from a card that has just begun, each line answers, but for a full pool, what it would answer on a card
     ///   of its own, to the events at it that did not find the pool full.
     /// - `never_full`: from a card that has just begun, no request finds the pool full where there is a slot for each place of
@@ -87,8 +90,12 @@ impl<S: Shelf> Card<S> {
         // The replies of `run` are the answers of `moments`, and its card is that of `after_all`: all below speaks of those.
         ensures moments { RunIsMoments }
         ensures refused { RefusedByTheTable }
-        ensures by_event { FramesByEvent }
-        ensures drops { DropsCostNothing }
+
+        // In every moment of the run of all events.
+        ensures by_event { (m : machine.Card) → Stands S.store self.old m → ArePriced m (events_of events.now) }
+        ensures drops { (m : machine.Card) → Stands S.store self.old m → AreDropsFree m (events_of events.now) }
+        ensures without_effect { (m : machine.Card) → Stands S.store self.old m
+            → AreDropsWithoutEffect m (events_of events.now) }
 
         // After every front of the list, from every card or, where it says `fresh`, from one that has just begun.
         ensures within_limit { (m : machine.Card) (count : ℕ) → Stands S.store self.old m

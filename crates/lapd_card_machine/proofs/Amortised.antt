@@ -10,9 +10,11 @@ use Rattle.lapd_line_machine.proofs.EventsRise.{event_rises}
 use Rattle.lapd_card_machine.specs.Event.{Event}
 use Rattle.lapd_card_machine.specs.Card.{Card, line_at}
 use Rattle.lapd_card_machine.specs.Counts.{waiting, frames_heard, window, sent, accepted, expired, rejected, is_sent, is_accepted, is_running_expiry, is_reject}
+use Rattle.lapd_card_machine.specs.Laws.{FramesAmortised}
 use Rattle.lapd_card_machine.specs.Machine.{after, answer}
+use Rattle.lapd_card_machine.specs.Promises.{IsAmortised}
 use Rattle.lapd_card_machine.specs.Run.{Moment, moments, after_all, IsAtLine, AreAtLines}
-use Rattle.lapd_card_machine.proofs.Steps.{HasLines, by_room, line_sound, after_lines, one_line, count_cons}
+use Rattle.lapd_card_machine.proofs.Steps.{HasLines, has_lines, by_room, line_sound, after_lines, one_line, count_cons}
 
 refused_is_none : (e : LineEvent) → line.is_accepted e (refused PoolFull) ≡ false
 refused_is_none (octet value) = refl
@@ -81,10 +83,8 @@ run_within card (e ∷ events) h within =
     (line.one (line.is_running_expiry e.what (line_at e.line card))) (line.one (line.rejects card.config e.what (line_at e.line card)))
     (sent ms) (accepted ms) (expired ms) (rejected ms) (event_within card e h here) rest)
 
-pub frames_amortised : (card : Card) (events : List Event) → HasLines card → AreAtLines card events
-    → let ms = moments card events in
-    let end = after_all card events in
-    let k = window card.config in
-    sent ms + waiting end + 2 * frames_heard card
-    ≤ waiting card + 2 * frames_heard end + accepted ms + (k + 1) * expired ms + k * rejected ms
-frames_amortised card events h within = (run_within card events h within).bound
+pub amortised : (card : Card) (events : List Event) → HasLines card → AreAtLines card events → IsAmortised card events
+amortised card events h within = (run_within card events h within).bound
+
+pub frames_amortised : FramesAmortised
+frames_amortised card events s within = amortised card events (has_lines card s) within

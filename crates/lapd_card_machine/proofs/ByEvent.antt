@@ -3,6 +3,7 @@ use Rattle.std.proofs.Common.{◌≡◌, ℕ, ◌+◌, ◌*◌, ◌≤◌, ◌<�
 use Rattle.std.specs.Prelude.{sum_by}
 use Rattle.std.proofs.lemmas.Bool.{false≢true}
 use Rattle.lapd_frame.specs.declared.timers.Timer.{Timer}
+use Rattle.lapd_line_machine.specs.Answer as happening
 use Rattle.lapd_line_machine.specs.Answer.{octet, expiry, request, pull}
 use Rattle.lapd_line_machine.specs.Counts as line
 use Rattle.lapd_line_machine.specs.Machine as lines
@@ -10,7 +11,7 @@ use Rattle.lapd_line_machine.specs.Refusal.{refusal}
 use Rattle.lapd_line_machine.specs.Request.{Request}
 use Rattle.lapd_line_machine.proofs.ByEvent.{hears_one, falls_by_pull}
 use Rattle.lapd_line_machine.proofs.EventsReject.{expiry_none, request_none}
-use Rattle.lapd_card_machine.specs.ByEvent.{RisesByOctet, RisesByExpiry, RisesByRequest, FallsByPull}
+use Rattle.lapd_card_machine.specs.ByEvent.{RisesByOctet, RisesByExpiry, RisesByRequest, FallsByPull, RisesBy, IsPriced}
 use Rattle.lapd_card_machine.specs.Card.{Card, line_at}
 use Rattle.lapd_card_machine.specs.Counts.{frames_heard, window}
 use Rattle.lapd_card_machine.specs.Event.{Event, at}
@@ -19,10 +20,8 @@ use Rattle.lapd_card_machine.specs.Machine.{after}
 use Rattle.lapd_card_machine.specs.Run.{IsAtLine}
 use Rattle.lapd_card_machine.specs.Sound.{IsSound}
 use Rattle.lapd_card_machine.proofs.Amortised.{event_within}
-use Rattle.lapd_card_machine.proofs.Steps.{HasLines, by_room, line_sound, one_line}
-
-pub lines_of : (card : Card) → IsSound card → HasLines card
-lines_of card s = record { config = s.config; count = s.count; lines = s.lines }
+use Rattle.lapd_card_machine.proofs.EachMoment.{each_moment}
+use Rattle.lapd_card_machine.proofs.Steps.{HasLines, has_lines, by_room, line_sound, one_line}
 
 -- only an octet ends a frame
 hears_at_most : (card : Card) (e : Event) → HasLines card → IsAtLine card e
@@ -42,15 +41,15 @@ no_reject k false e = omega arith
 octets : (card : Card) (number value : ℕ) → IsSound card → number < card.config.lines → RisesByOctet number value card
 octets card number value s within =
     let e = at number (octet value) in
-    let heard = hears_at_most card e (lines_of card s) within in
-    let rise = event_within card e (lines_of card s) within in
+    let heard = hears_at_most card e (has_lines card s) within in
+    let rise = event_within card e (has_lines card s) within in
     (omega (arith, heard), omega (arith, rise))
 
 expiries : (card : Card) (number : ℕ) (timer : Timer) → IsSound card → number < card.config.lines → RisesByExpiry number timer card
 expiries card number timer s within =
     let e = at number (expiry timer) in
-    let heard = hears_at_most card e (lines_of card s) within in
-    let rise = event_within card e (lines_of card s) within in
+    let heard = hears_at_most card e (has_lines card s) within in
+    let rise = event_within card e (has_lines card s) within in
     let none = no_reject (window card.config) (line.rejects card.config e.what (line_at number card)) (expiry_none (line_at number card) timer) in
     omega (arith, heard, rise, none)
 
@@ -58,8 +57,8 @@ requests : (card : Card) (number : ℕ) (r : Request) → IsSound card → numbe
 requests card number r s within =
     let e = at number (request r) in
     let l = line_at number card in
-    let heard = hears_at_most card e (lines_of card s) within in
-    let rise = event_within card e (lines_of card s) within in
+    let heard = hears_at_most card e (has_lines card s) within in
+    let rise = event_within card e (has_lines card s) within in
     let none = no_reject (window card.config) (line.rejects card.config e.what l) (request_none l r (refusal card.config false r l)) in
     omega (arith, heard, rise, none)
 
@@ -73,9 +72,22 @@ pulls card number s within =
     (λ full. (omega arith, omega arith))
     (λ served.
     let l = line_at number card in
-    let falls = falls_by_pull card.config l s.config (line_sound card number (lines_of card s) within) in
-    let sums = one_line (line.waiting card.config) card number (lines.after card.config pull l) (lines_of card s) within in
+    let falls = falls_by_pull card.config l s.config (line_sound card number (has_lines card s) within) in
+    let sums = one_line (line.waiting card.config) card number (lines.after card.config pull l) (has_lines card s) within in
     (omega (arith, falls.0, sums), omega (arith, falls.1, sums)))
 
+-- any event
+any_event : (card : Card) (number : ℕ) (what : happening.Event) → IsSound card → number < card.config.lines → RisesBy number what card
+any_event card number (octet value) s within = octets card number value s within
+any_event card number (expiry timer) s within = expiries card number timer s within
+any_event card number (request r) s within = requests card number r s within
+any_event card number pull s within = pulls card number s within
+
 pub frames_by_event : FramesByEvent
-frames_by_event = record { octets = octets; expiries = expiries; requests = requests; pulls = pulls }
+frames_by_event = record {
+  octets = octets;
+  expiries = expiries;
+  requests = requests;
+  pulls = pulls;
+  in_runs = each_moment IsPriced (λ card e s within. any_event card e.line e.what s within);
+}

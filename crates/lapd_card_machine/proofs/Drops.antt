@@ -1,7 +1,8 @@
--- What is dropped costs nothing.
-use Rattle.std.proofs.Common.{◌≡◌, ℕ, Bool, true, false, Option, Some, None, IsSome, refl, ap, sym, ◌∙◌, subst, arith}
+-- What is dropped costs nothing, and changes nothing.
+use Rattle.std.proofs.Common.{◌≡◌, ℕ, ◌<◌, Bool, true, false, Option, Some, None, IsSome, refl, ap, sym, ◌∙◌, subst, arith}
 use Rattle.std.specs.Prelude.{sum_by}
 use Rattle.std.specs.Option.{option_map_or}
+use Rattle.std.proofs.lemmas.Bool.{false≢true}
 use Rattle.std.proofs.lemmas.List.{set-get_or}
 use Rattle.lapd_bits.specs.Stream as stream
 use Rattle.lapd_frame.specs.declared.services.Service.{Service}
@@ -19,11 +20,15 @@ use Rattle.lapd_line_machine.specs.Machine as lines
 use Rattle.lapd_line_machine.specs.Octet.{gained, aim_of_heard, with_received}
 use Rattle.lapd_line_machine.specs.Outcome.{at_none, unserved_cause, told_of_management, of_link, of_change, of_management, of_aim}
 use Rattle.lapd_line_machine.proofs.ProperAims.{heard_aims}
-use Rattle.lapd_card_machine.specs.Card.{line_at}
-use Rattle.lapd_card_machine.specs.Drops.{cause_in, DropsCostNothing}
+use Rattle.lapd_card_machine.specs.Card.{Card, line_at}
+use Rattle.lapd_card_machine.specs.Counts.{waiting}
+use Rattle.lapd_card_machine.specs.Drops.{cause_in, IsDropFree, with_octet, IsDropWithoutEffect}
 use Rattle.lapd_card_machine.specs.Event.{at}
-use Rattle.lapd_card_machine.proofs.ByEvent.{lines_of}
-use Rattle.lapd_card_machine.proofs.Steps.{by_room, one_line}
+use Rattle.lapd_card_machine.specs.Laws.{DropsCostNothing, DropsChangeNothing}
+use Rattle.lapd_card_machine.specs.Machine.{after, answer, with_line}
+use Rattle.lapd_card_machine.specs.Sound.{IsSound}
+use Rattle.lapd_card_machine.proofs.EachMoment.{each_moment, every_moment}
+use Rattle.lapd_card_machine.proofs.Steps.{has_lines, by_room, one_line}
 use Rattle.lapd_card_machine.proofs.UnservedLinks.{unserved_leaves}
 
 -- a link or TEI management names a cause exactly where it does not serve
@@ -69,8 +74,10 @@ octet_leaves c value l = go (gained c.n201 l.received value)
         (λ service tei place what at h. link_leaves c service tei place what (with_received value l) h)
         (λ info h. management_leaves c (teis.message info) (with_received value l) h) e h
 
-pub drops_cost_nothing : DropsCostNothing
-drops_cost_nothing card number value s within =
+drop_costs_nothing : (card : Card) (number value : ℕ) → IsSound card → number < card.config.lines
+    → let e = at number (octet value) in
+    IsSome (cause_in (answer e card)) → waiting (after e card) ≡ waiting card
+drop_costs_nothing card number value s within =
     let e = at number (octet value) in
     by_room (λ ls a. IsSome (cause_in a) → sum_by (line.waiting card.config) ls ≡ sum_by (line.waiting card.config) card.lines) e card
     (λ full h. refl)
@@ -78,4 +85,26 @@ drops_cost_nothing card number value s within =
     let l = line_at number card in
     let same : line.waiting card.config (lines.after card.config (octet value) l) ≡ line.waiting card.config l =
     ap (line.waiting card.config) (octet_leaves card.config value l h) in
-    omega (arith, same, one_line (line.waiting card.config) card number (lines.after card.config (octet value) l) (lines_of card s) within))
+    omega (arith, same, one_line (line.waiting card.config) card number (lines.after card.config (octet value) l) (has_lines card s) within))
+
+pub drops_cost_nothing : DropsCostNothing
+drops_cost_nothing =
+    each_moment IsDropFree (λ card e s within value is.
+    subst (λ what. IsSome (cause_in (answer (at e.line what) card)) → waiting (after (at e.line what) card) ≡ waiting card)
+    (sym is) (drop_costs_nothing card e.line value s within))
+
+drop_changes_nothing : (card : Card) (number value : ℕ)
+    → let e = at number (octet value) in
+    IsSome (cause_in (answer e card)) → after e card ≡ with_octet number value card
+drop_changes_nothing card number value =
+    let e = at number (octet value) in
+    by_room (λ ls a. IsSome (cause_in a) → record card { lines = ls } ≡ with_octet number value card) e card
+    (λ full none. absurd (false≢true none))
+    (λ served some.
+    ap (λ (x : Line). record card { lines = with_line number x card.lines }) (octet_leaves card.config value (line_at number card) some))
+
+pub drops_change_nothing : DropsChangeNothing
+drops_change_nothing =
+    every_moment IsDropWithoutEffect (λ card e value is.
+    subst (λ what. IsSome (cause_in (answer (at e.line what) card)) → after (at e.line what) card ≡ with_octet e.line value card)
+    (sym is) (drop_changes_nothing card e.line value))

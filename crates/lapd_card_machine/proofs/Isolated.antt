@@ -177,7 +177,7 @@ isolated number (e ∷ events) card ls a =
         (later like.next like.alone ∙ ap (λ (k : Card). map answer_in (moments k others)) (sym like.moves))
 
 pub lines_isolated : LinesIsolated
-lines_isolated c events number ranged within few =
+lines_isolated c events ranged within number few =
     let h = fresh_lines c ranged in
     let size : length (fresh c).lines ≡ c.lines = h.count in
     let there : line_at number (fresh c) ≡ fresh_line c = get_or-replicate c.lines number (fresh_line c) (fresh_line c) few in

@@ -1,5 +1,6 @@
 pub mod Steps
 pub mod Amortised
+pub mod EachMoment
 pub mod ByEvent
 pub mod UnservedLinks
 pub mod Drops

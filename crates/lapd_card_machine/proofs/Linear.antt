@@ -19,7 +19,7 @@ use Rattle.lapd_card_machine.specs.Counts.{octets_of_line, octets_received, wait
 use Rattle.lapd_card_machine.specs.Laws.{FramesLinear}
 use Rattle.lapd_card_machine.specs.Machine.{after, answer}
 use Rattle.lapd_card_machine.specs.Run.{Moment, moments, after_all, IsAtLine, AreAtLines}
-use Rattle.lapd_card_machine.proofs.Amortised.{frames_amortised}
+use Rattle.lapd_card_machine.proofs.Amortised.{amortised}
 use Rattle.lapd_card_machine.proofs.Steps.{HasLines, by_room, line_sound, after_lines, fresh_lines, one_line, count_cons}
 
 -- REJ frames are among the frames of four octets or more
@@ -82,6 +82,6 @@ frames_linear c events ranged within =
     let k = window c in
     let frames = frames_few end in
     let rejects : 7 * rejected ms ≤ octets_received end = omega (arith, run_heard card events h within, long_frames_few end) in
-    let amortised : sent ms + waiting end ≤ 2 * frames_heard end + accepted ms + (k + 1) * expired ms + k * rejected ms =
-    omega (arith, frames_amortised card events h within, fresh_waits c) in
-    (frames, rejects, bound (sent ms) (waiting end) (frames_heard end) (accepted ms) (expired ms) (rejected ms) k (octets_received end) amortised frames rejects)
+    let within_bound : sent ms + waiting end ≤ 2 * frames_heard end + accepted ms + (k + 1) * expired ms + k * rejected ms =
+    omega (arith, amortised card events h within, fresh_waits c) in
+    (within_bound, frames, rejects, bound (sent ms) (waiting end) (frames_heard end) (accepted ms) (expired ms) (rejected ms) k (octets_received end) within_bound frames rejects)

@@ -14,8 +14,9 @@ use Rattle.lapd_line_machine.proofs.NotPool.{line_not_pool}
 use Rattle.lapd_line_machine.proofs.RoomForAll.{places_of, slots_few, taker_finds}
 use Rattle.lapd_card_machine.specs.Card.{Card, fresh, line_at, used, is_full}
 use Rattle.lapd_card_machine.specs.Event.{Event}
-use Rattle.lapd_card_machine.specs.Laws.{IsNotRefusedForPool, PoolNeverFull}
+use Rattle.lapd_card_machine.specs.Laws.{PoolNeverFull}
 use Rattle.lapd_card_machine.specs.Machine.{after, answer}
+use Rattle.lapd_card_machine.specs.Promises.{IsNotRefusedForPool}
 use Rattle.lapd_card_machine.specs.Run.{moments, IsAtLine, AreAtLines}
 use Rattle.lapd_card_machine.proofs.Steps.{HasLines, by_room, line_sound, after_lines, fresh_lines}
 

@@ -17,13 +17,13 @@ use Rattle.lapd_line_machine.proofs.Numbered.{Part, quiet, none_at}
 use Rattle.lapd_line_machine.proofs.NumberedEvents.{event_parts, slot_brings_nothing}
 use Rattle.lapd_card_machine.specs.Event.{Event}
 use Rattle.lapd_card_machine.specs.Card.{Card, fresh, line_at}
-use Rattle.lapd_card_machine.specs.Laws.{HasLink, DeliveriesNumbered}
+use Rattle.lapd_card_machine.specs.Laws.{DeliveriesNumbered}
 use Rattle.lapd_card_machine.specs.Machine.{wants_room, after, answer}
 use Rattle.lapd_card_machine.specs.Numbered.{LinkName, Share, no_share, share_of, restarts, History, one_more, received_by, history, contents_of, AreNumbered, deliveries_of}
-use Rattle.lapd_card_machine.specs.Sound.{IsSound}
+use Rattle.lapd_card_machine.specs.Promises.{HasLink}
 use Rattle.lapd_card_machine.specs.Run.{Moment, moments, after_all, IsAtLine, AreAtLines}
 use Rattle.lapd_card_machine.proofs.NumberedForms.{numbered-whole}
-use Rattle.lapd_card_machine.proofs.Steps.{HasLines, by_room, line_sound, after_lines}
+use Rattle.lapd_card_machine.proofs.Steps.{HasLines, has_lines, by_room, line_sound, after_lines}
 
 -- How many of the shares deliver.
 abbrev one_if : Option (List ℕ) → ℕ
@@ -218,18 +218,16 @@ begins-zero c name named =
     ap (λ (l : Line). (link_at name.number l).r) (get_or-replicate c.lines name.line (fresh_line c) (fresh_line c) named.0)
     ∙ ap (λ (l : Link). l.r) (get_or-replicate (link_count c) name.number fresh_link fresh_link named.1)
 
-lines_of : (card : Card) → IsSound card → HasLines card
-lines_of card s = record { config = s.config; count = s.count; lines = s.lines }
-
 pub deliveries_numbered : DeliveriesNumbered
 deliveries_numbered = record {
-  numbered = λ card events name s all named.
+  numbered = λ card events s all name named.
       let h = history name card (moments card events) in
-      numbered-whole h.first h.shares (ran card events name (lines_of card s) all named).numbered;
-  at_once = λ card events name s all named. (ran card events name (lines_of card s) all named).numbered;
-  counted = λ card events name s all named.
-      let h = history name card (moments card events) in
-      (ran card events name (lines_of card s) all named).counted ∙ ap (λ n. h.first + n) (delivered-length h.shares);
-  from_zero = λ c events name ranged all named.
+      let kept = ran card events name (has_lines card s) all named in
+      record {
+        numbered = numbered-whole h.first h.shares kept.numbered;
+        at_once = kept.numbered;
+        counted = kept.counted ∙ ap (λ n. h.first + n) (delivered-length h.shares);
+      };
+  from_zero = λ c events ranged all name named.
       first-zero name (moments (fresh c) events) (record { first = received_by name (fresh c); shares = [] }) (begins-zero c name named);
 }

@@ -14,12 +14,16 @@ use Rattle.lapd_line_machine.proofs.LineSound.{after_sound, fresh_sound}
 use Rattle.lapd_card_machine.specs.Event.{Event}
 use Rattle.lapd_card_machine.specs.Card.{Card, fresh, line_at}
 use Rattle.lapd_card_machine.specs.Machine.{wants_room, after, answer}
+use Rattle.lapd_card_machine.specs.Sound.{IsSound}
 
 -- A card of sound lines.
 pub record HasLines (card : Card) : Type 0 where
   pub config : line.IsInRange card.config
   pub count : length card.lines ≡ card.config.lines
   pub lines : All (line.IsSound card.config) card.lines
+
+pub has_lines : (card : Card) → IsSound card → HasLines card
+has_lines card s = record { config = s.config; count = s.count; lines = s.lines }
 
 -- What an event is to a card: either it finds the pool full, or it is one of its line.
 pub line_after : Event → Card → Line

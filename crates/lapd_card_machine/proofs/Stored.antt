@@ -1,5 +1,5 @@
 -- The octets stored, and their limit.
-use Rattle.std.proofs.Common.{◌≡◌, ℕ, suc, ◌+◌, ◌*◌, ◌≤◌, List, [], ◌∷◌, length, sym, subst, arith}
+use Rattle.std.proofs.Common.{◌≡◌, ℕ, suc, ◌+◌, ◌*◌, ◌≤◌, List, [], ◌∷◌, length, refl, sym, subst, arith}
 use Rattle.std.specs.Prelude.{sum_by, All}
 use Rattle.std.proofs.lemmas.List.Elements.{All-head, All-tail}
 use Rattle.std.proofs.lemmas.List.Sums.{sum_by-cons}
@@ -9,9 +9,14 @@ use Rattle.lapd_line_machine.specs.Line.{Line}
 use Rattle.lapd_line_machine.specs.Sound as line
 use Rattle.lapd_line_machine.specs.Stored.{slots_of, stored_in}
 use Rattle.lapd_line_machine.proofs.StoredBounds.{stored_few}
-use Rattle.lapd_card_machine.specs.Card.{used}
+use Rattle.lapd_card_machine.specs.Card.{Card, used}
+use Rattle.lapd_card_machine.specs.Event.{Event}
 use Rattle.lapd_card_machine.specs.Laws.{StoredWithinLimit}
-use Rattle.lapd_card_machine.specs.Stored.{limit_in}
+use Rattle.lapd_card_machine.specs.Machine.{after}
+use Rattle.lapd_card_machine.specs.Run.{after_all}
+use Rattle.lapd_card_machine.specs.Sound.{IsSound}
+use Rattle.lapd_card_machine.specs.Stored.{limit_in, stored, limit}
+use Rattle.lapd_card_machine.proofs.CardSound.{always_sound}
 
 stored_by_lines : (c : Config) (ls : List Line) → All (line.IsSound c) ls
     → sum_by (stored_in c) ls ≤ length ls * limit_in c + sum_by (slots_of c) ls * c.n201
@@ -33,8 +38,22 @@ within_limit n most slots free m lines' e few = subst (λ x. n * most + slots * 
     scale : (a b : ℕ) → a ≤ b → n * most + a * m ≤ n * most + b * m
     scale a b h = omega (arith, mul-le-mul_left m h)
 
-pub stored_within_limit : StoredWithinLimit
-stored_within_limit card s =
+stored_now : (card : Card) → IsSound card → stored card ≤ limit card.config
+stored_now card s =
     let all = stored_by_lines card.config card.lines s.lines in
     let most = within_limit (length card.lines) (limit_in card.config) (used card) card.config.slots card.config.n201 card.config.lines s.count s.slots in
     omega (arith, all, most)
+
+-- an event leaves the configuration as it is
+config_stays : (card : Card) (events : List Event) → (after_all card events).config ≡ card.config
+unfolding after_all
+config_stays card [] = refl
+config_stays card (e ∷ events) = config_stays (after e card) events
+
+pub stored_within_limit : StoredWithinLimit
+stored_within_limit = record {
+  now = stored_now;
+  always = λ card events s within.
+      subst (λ c. stored (after_all card events) ≤ limit c) (config_stays card events)
+      (stored_now (after_all card events) (always_sound card events s within));
+}

@@ -23,10 +23,11 @@ use Rattle.lapd_line_machine.specs.Sound as line
 use Rattle.lapd_line_machine.proofs.PullSound.{TakesSoundly, taken_sound}
 use Rattle.lapd_card_machine.specs.Event.{Event}
 use Rattle.lapd_card_machine.specs.Card.{Card, line_at}
+use Rattle.lapd_card_machine.specs.Laws.{TextGoesOn}
 use Rattle.lapd_card_machine.specs.Machine.{wants_room, after, answer}
-use Rattle.lapd_card_machine.specs.Pulled.{octet_in, frame_taken, frame_in, octets_pulled, frames_begun, frames_among, GoesOn}
+use Rattle.lapd_card_machine.specs.Pulled.{octet_in, frame_taken, frame_in, octets_pulled, frames_begun, frames_among}
 use Rattle.lapd_card_machine.specs.Run.{moments, after_all, IsAtLine, AreAtLines}
-use Rattle.lapd_card_machine.proofs.Steps.{HasLines, by_room, line_sound, after_lines}
+use Rattle.lapd_card_machine.proofs.Steps.{HasLines, has_lines, by_room, line_sound, after_lines}
 
 -- What comes to the items of a line and to the octets given of it.
 record Adds (before after : Line) (octets : List ℕ) (frames : List (List ℕ)) : Type 0 where
@@ -169,10 +170,9 @@ run_adds card (e ∷ events) number h all within =
     let rest = run_adds next events number (after_lines e card h here) (All-tail (IsAtLine card) e events all) within in
     record { adds = adds_both (event_adds card e number h here within) rest.adds; lines = rest.lines; few = rest.few }
 
-pub text_goes_on : (card : Card) (events : List Event) (number : ℕ) → HasLines card → AreAtLines card events → number < card.config.lines
-    → GoesOn (line_at number card) (line_at number (after_all card events)) (octets_pulled number (moments card events)) (frames_begun number (moments card events))
-text_goes_on card events number h all within =
-    let ran = run_adds card events number h all within in
+pub text_goes_on : TextGoesOn
+text_goes_on card events s all number within =
+    let ran = run_adds card events number (has_lines card s) all within in
     record {
       more = ran.adds.more;
       items = ran.adds.items;

@@ -1,14 +1,16 @@
 -- By how much each event lets rise what may be sent. The window k is the greater of both services.
-use Rattle.std.specs.Prelude.{ℕ, ◌+◌, ◌*◌, ◌≤◌}
+use Rattle.std.specs.Prelude.{ℕ, ◌+◌, ◌*◌, ◌≤◌, List, All}
 use Rattle.lapd_frame.specs.declared.timers.Timer.{Timer}
+use Rattle.lapd_line_machine.specs.Answer as happening
 use Rattle.lapd_line_machine.specs.Answer.{octet, expiry, request, pull}
 use Rattle.lapd_line_machine.specs.Counts.{one, is_begun, is_accepted, rejects}
 use Rattle.lapd_line_machine.specs.Expiry.{is_running}
 use Rattle.lapd_line_machine.specs.Request.{Request}
 use Rattle.lapd_card_machine.specs.Card.{Card, line_at}
 use Rattle.lapd_card_machine.specs.Counts.{waiting, frames_heard, window}
-use Rattle.lapd_card_machine.specs.Event.{at}
+use Rattle.lapd_card_machine.specs.Event.{Event, at}
 use Rattle.lapd_card_machine.specs.Machine.{after, answer}
+use Rattle.lapd_card_machine.specs.Run.{Moment, moments}
 
 -- An octet ends one frame at most. By two where it does and the frame is recognised, and by k more where that is an REJ with a
 -- valid N(R); else by nothing.
@@ -37,3 +39,16 @@ FallsByPull number m =
     let e = at number pull in
     let begun = one (is_begun (answer e m)) in
     (begun + waiting (after e m) ≤ waiting m) × (waiting m ≤ waiting (after e m) + 2 * begun)
+
+-- Any of them, as a moment of a run; and every moment of a run.
+abbrev pub RisesBy : ℕ → happening.Event → Card → Type 0
+RisesBy number (octet value) m = RisesByOctet number value m
+RisesBy number (expiry timer) m = RisesByExpiry number timer m
+RisesBy number (request r) m = RisesByRequest number r m
+RisesBy number pull m = FallsByPull number m
+
+abbrev pub IsPriced : Moment → Type 0
+IsPriced moment = RisesBy moment.event.line moment.event.what moment.card
+
+abbrev pub ArePriced : Card → List Event → Type 0
+ArePriced m events = All IsPriced (moments m events)

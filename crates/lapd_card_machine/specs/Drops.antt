@@ -1,12 +1,13 @@
--- What is dropped costs nothing.
-use Rattle.std.specs.Prelude.{◌≡◌, ℕ, ◌<◌, Option, None, IsSome}
+-- What is dropped costs nothing, and changes nothing.
+use Rattle.std.specs.Prelude.{◌≡◌, ℕ, List, Option, None, IsSome, All}
 use Rattle.lapd_bits.specs.declared.heard.Cause.{Cause}
 use Rattle.lapd_line_machine.specs.Answer.{Answer, octet, told, refused, pulled}
-use Rattle.lapd_card_machine.specs.Event.{at}
-use Rattle.lapd_card_machine.specs.Card.{Card}
+use Rattle.lapd_line_machine.specs.Octet.{with_received}
+use Rattle.lapd_card_machine.specs.Event.{Event}
+use Rattle.lapd_card_machine.specs.Card.{Card, line_at}
 use Rattle.lapd_card_machine.specs.Counts.{waiting}
-use Rattle.lapd_card_machine.specs.Machine.{after, answer}
-use Rattle.lapd_card_machine.specs.Sound.{IsSound}
+use Rattle.lapd_card_machine.specs.Machine.{after, with_line}
+use Rattle.lapd_card_machine.specs.Run.{Moment, moments}
 
 -- Why an octet, or the frame that it ended, was dropped.
 abbrev pub cause_in : Answer → Option Cause
@@ -14,9 +15,24 @@ cause_in (told t) = t.cause
 cause_in (refused why) = None
 cause_in (pulled value begun orders) = None
 
--- Where the answer to an octet names a cause, whichever, what may be sent stays as it is.
-abbrev pub DropsCostNothing : Type 0
-DropsCostNothing =
-    (card : Card) (number value : ℕ) → IsSound card → number < card.config.lines →
-    let e = at number (octet value) in
-    IsSome (cause_in (answer e card)) → waiting (after e card) ≡ waiting card
+-- Where the answer to an octet names a cause, whichever, what may be sent stays as it is: in one moment, and in every moment
+-- of a run.
+abbrev pub IsDropFree : Moment → Type 0
+IsDropFree moment =
+    (value : ℕ) → moment.event.what ≡ octet value → IsSome (cause_in moment.answer) →
+    waiting (after moment.event moment.card) ≡ waiting moment.card
+
+abbrev pub AreDropsFree : Card → List Event → Type 0
+AreDropsFree m events = All IsDropFree (moments m events)
+
+-- And the card is as it was, but for the octet received on its line.
+abbrev pub with_octet : ℕ → ℕ → Card → Card
+with_octet number value card = record card { lines = with_line number (with_received value (line_at number card)) card.lines }
+
+abbrev pub IsDropWithoutEffect : Moment → Type 0
+IsDropWithoutEffect moment =
+    (value : ℕ) → moment.event.what ≡ octet value → IsSome (cause_in moment.answer) →
+    after moment.event moment.card ≡ with_octet moment.event.line value moment.card
+
+abbrev pub AreDropsWithoutEffect : Card → List Event → Type 0
+AreDropsWithoutEffect m events = All IsDropWithoutEffect (moments m events)

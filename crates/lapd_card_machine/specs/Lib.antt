@@ -11,5 +11,6 @@ pub mod Drops
 pub mod Numbered
 pub mod Pulled
 pub mod Isolation
+pub mod Promises
 pub mod Laws
 pub mod Worked

@@ -1,8 +1,7 @@
 //! What holds of whole runs of the machine. Each law is the contract of a call that does nothing; it holds for every list
 //! of events, and so for every front of a list.
 
-ghost use Rattle.lapd_card_machine.specs.Drops.{DropsCostNothing};
-ghost use Rattle.lapd_card_machine.specs.Laws.{CardsStaySound, DeliveriesNumbered, FramesAmortised, FramesByEvent, FramesLinear, LinesIsolated, PoolNeverFull, RefusedByTheTable, RunIsMoments, StoredWithinLimit, TextGoesOn};
+ghost use Rattle.lapd_card_machine.specs.Laws.{CardsStaySound, DeliveriesNumbered, DropsChangeNothing, DropsCostNothing, FramesAmortised, FramesByEvent, FramesLinear, LinesIsolated, PoolNeverFull, RefusedByTheTable, RunIsMoments, StoredWithinLimit, TextGoesOn};
 
 /// A run as one fold is its moments, one after the other.
 pub fn run_is_moments()
@@ -27,19 +26,27 @@ pub fn frames_amortised()
     ensures { FramesAmortised }
 {}
 
-/// The same for single events. What may be sent rises by at most two for an octet that ends a frame which is recognised (one
-/// octet ends one frame at most), and by k more where that is an REJ with a valid N(R); by k + 1 for an expiry of a running
-/// timer; by one for an accepted request. A drop by the deframer (abort, ragged, short, frame check), a refusal and an expiry
-/// of a timer that does not run let it rise by nothing. A frame that is dropped later is one that was recognised: see
-/// [`drops_cost_nothing`]. A pull that begins a frame lets it fall by one or two, and any other pull leaves it as it is.
+/// The same for single events, and so in every moment of a run. What may be sent rises by at most two for an octet that ends
+/// a frame which is recognised (one octet ends one frame at most), and by k more where that is an REJ with a valid N(R); by
+/// k + 1 for an expiry of a running timer; by one for an accepted request. A drop by the deframer (abort, ragged, short,
+/// frame check), a refusal and an expiry of a timer that does not run let it rise by nothing. A frame that is dropped later
+/// is one that was recognised: see [`drops_cost_nothing`]. A pull that begins a frame lets it fall by one or two, and any
+/// other pull leaves it as it is.
 pub fn frames_by_event()
     ensures { FramesByEvent }
 {}
 
-/// Where the answer to an octet names a cause, whichever, what may be sent stays as it is: a frame that is dropped lets it
-/// rise by nothing, for its address and for want of service too.
+/// In every moment of a run: where the answer to an octet names a cause, whichever, what may be sent stays as it is. So a
+/// frame that is dropped lets it rise by nothing, for its address and for want of service too.
 pub fn drops_cost_nothing()
     ensures { DropsCostNothing }
+{}
+
+/// In every moment of a run, from any card on: where the answer to an octet names a cause, whichever, the card is afterwards
+/// what it was, but that its line has received this octet. So what is dropped is never answered: no frame waits for it, and no
+/// link, TEI, timer or slot has changed.
+pub fn drops_change_nothing()
+    ensures { DropsChangeNothing }
 {}
 
 /// A request is refused exactly where a row of the table of refusals holds, for the reason of the first that does. So it is
@@ -72,8 +79,10 @@ pub fn lines_isolated()
     ensures { LinesIsolated }
 {}
 
-/// From a fresh card on, the frames sent are linear in the octets received, the accepted requests and the expiries of running
-/// timers: each frame takes six octets of its line at least, and each REJ seven.
+/// From a fresh card on, the frames sent, and those that may still be sent, are at most two for each frame recognised, one for
+/// each accepted request, k + 1 for each expiry of a running timer, and k for each REJ with a valid N(R); and they are linear
+/// in the octets received, the accepted requests and those expiries: each frame takes six octets of its line at least, and
+/// each REJ seven.
 pub fn frames_linear()
     ensures { FramesLinear }
 {}

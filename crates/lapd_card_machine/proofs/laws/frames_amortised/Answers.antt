@@ -3,4 +3,4 @@ use Rattle.lapd_card_machine.proofs.Amortised.{frames_amortised}
 use Rattle.lapd_card_machine.proofs.laws.frames_amortised.Goals as goal
 
 pub returns : goal.returns
-returns c = λ card events s within. frames_amortised card events (record { config = s.config; count = s.count; lines = s.lines }) within
+returns c = frames_amortised

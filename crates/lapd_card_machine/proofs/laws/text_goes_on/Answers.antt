@@ -3,4 +3,4 @@ use Rattle.lapd_card_machine.proofs.TextGoesOn.{text_goes_on}
 use Rattle.lapd_card_machine.proofs.laws.text_goes_on.Goals as goal
 
 pub returns : goal.returns
-returns c = λ card events number s within few. text_goes_on card events number (record { config = s.config; count = s.count; lines = s.lines }) within few
+returns c = text_goes_on

@@ -2,12 +2,21 @@ use Rattle.std.proofs.Common.{sym, ◌∙◌}
 use Rattle.std.proofs.lemmas.Option.{slice_get-get_or}
 use Rattle.lapd_card_machine.specs.declared.events.Event.TheVariants.{Octet}
 use Rattle.lapd_card.proofs.Taken.{ran-more, taken-more, missed-at, at_ok, at_err}
+use Rattle.lapd_card_machine.specs.ByEvent.{ArePriced}
+use Rattle.lapd_card_machine.specs.Drops.{AreDropsFree, AreDropsWithoutEffect}
+use Rattle.lapd_card_machine.proofs.Amortised.{frames_amortised}
 use Rattle.lapd_card_machine.proofs.Fold.{run_is_moments}
+use Rattle.lapd_card_machine.proofs.Isolated.{lines_isolated}
+use Rattle.lapd_card_machine.proofs.Linear.{frames_linear}
+use Rattle.lapd_card_machine.proofs.NeverFull.{pool_never_full}
+use Rattle.lapd_card_machine.proofs.Numbering.{deliveries_numbered}
+use Rattle.lapd_card_machine.proofs.Stored.{stored_within_limit}
+use Rattle.lapd_card_machine.proofs.TextGoesOn.{text_goes_on}
 use Rattle.lapd_card_machine.proofs.Refusals.{refused_by_the_table}
 use Rattle.lapd_card_machine.proofs.ByEvent.{frames_by_event}
-use Rattle.lapd_card_machine.proofs.Drops.{drops_cost_nothing}
-use Rattle.lapd_card.specs.Headline.{IsWithinLimit, IsAmortised, IsLinear, IsIsolated, IsNeverFull, IsNumbered, IsNumberedFromZero, IsTextual}
-use Rattle.lapd_card.proofs.Headline.{each_front, fresh_front, within_limit, amortised, linear, isolated, never_full, numbered, numbered_from_zero, textual}
+use Rattle.lapd_card_machine.proofs.Drops.{drops_cost_nothing, drops_change_nothing}
+use Rattle.lapd_card_machine.specs.Promises.{IsWithinLimit, IsAmortised, IsLinear, IsIsolated, IsNeverFull, IsNumbered, IsNumberedFromZero, IsTextual}
+use Rattle.lapd_card.proofs.Headline.{whole_list, each_front, fresh_front}
 use Rattle.lapd_card.proofs.card.Card.drive.Goals as goal
 
 pub loop-at-preserved : goal.loop-at-preserved
@@ -39,22 +48,25 @@ pub returns-then-is_err-clause-refused : goal.returns-then-is_err-clause-refused
 returns-then-is_err-clause-refused g c = refused_by_the_table
 
 pub returns-then-is_err-clause-by_event : goal.returns-then-is_err-clause-by_event
-returns-then-is_err-clause-by_event g c = frames_by_event
+returns-then-is_err-clause-by_event g c = λ m. whole_list g.S.Shelf.store c.args.self.now c.args.events.now c.requires ArePriced frames_by_event.in_runs m
+
+pub returns-then-is_err-clause-without_effect : goal.returns-then-is_err-clause-without_effect
+returns-then-is_err-clause-without_effect g c = λ m. whole_list g.S.Shelf.store c.args.self.now c.args.events.now c.requires AreDropsWithoutEffect (λ m es s within. drops_change_nothing m es) m
 
 pub returns-then-is_err-clause-drops : goal.returns-then-is_err-clause-drops
-returns-then-is_err-clause-drops g c = drops_cost_nothing
+returns-then-is_err-clause-drops g c = λ m. whole_list g.S.Shelf.store c.args.self.now c.args.events.now c.requires AreDropsFree drops_cost_nothing m
 
 pub returns-then-is_err-clause-within_limit : goal.returns-then-is_err-clause-within_limit
-returns-then-is_err-clause-within_limit g c = λ m count. each_front g.S.Shelf.store c.args.self.now c.args.events.now c.requires IsWithinLimit within_limit m count
+returns-then-is_err-clause-within_limit g c = λ m count. each_front g.S.Shelf.store c.args.self.now c.args.events.now c.requires IsWithinLimit stored_within_limit.always m count
 
 pub returns-then-is_err-clause-amortised : goal.returns-then-is_err-clause-amortised
-returns-then-is_err-clause-amortised g c = λ m count. each_front g.S.Shelf.store c.args.self.now c.args.events.now c.requires IsAmortised amortised m count
+returns-then-is_err-clause-amortised g c = λ m count. each_front g.S.Shelf.store c.args.self.now c.args.events.now c.requires IsAmortised frames_amortised m count
 
 pub returns-then-is_err-clause-linear : goal.returns-then-is_err-clause-linear
-returns-then-is_err-clause-linear g c = λ count. fresh_front g.S.Shelf.store c.args.self.now c.args.events.now c.requires IsLinear linear count
+returns-then-is_err-clause-linear g c = λ count. fresh_front g.S.Shelf.store c.args.self.now c.args.events.now c.requires IsLinear frames_linear count
 
 pub returns-then-is_err-clause-isolated : goal.returns-then-is_err-clause-isolated
-returns-then-is_err-clause-isolated g c = λ count. fresh_front g.S.Shelf.store c.args.self.now c.args.events.now c.requires IsIsolated isolated count
+returns-then-is_err-clause-isolated g c = λ count. fresh_front g.S.Shelf.store c.args.self.now c.args.events.now c.requires IsIsolated lines_isolated count
 
 pub returns-clause-moments : goal.returns-clause-moments
 returns-clause-moments g c = run_is_moments
@@ -63,43 +75,46 @@ pub returns-clause-refused : goal.returns-clause-refused
 returns-clause-refused g c = refused_by_the_table
 
 pub returns-clause-by_event : goal.returns-clause-by_event
-returns-clause-by_event g c = frames_by_event
+returns-clause-by_event g c = λ m. whole_list g.S.Shelf.store c.args.self.now c.args.events.now c.requires ArePriced frames_by_event.in_runs m
+
+pub returns-clause-without_effect : goal.returns-clause-without_effect
+returns-clause-without_effect g c = λ m. whole_list g.S.Shelf.store c.args.self.now c.args.events.now c.requires AreDropsWithoutEffect (λ m es s within. drops_change_nothing m es) m
 
 pub returns-clause-drops : goal.returns-clause-drops
-returns-clause-drops g c = drops_cost_nothing
+returns-clause-drops g c = λ m. whole_list g.S.Shelf.store c.args.self.now c.args.events.now c.requires AreDropsFree drops_cost_nothing m
 
 pub returns-clause-within_limit : goal.returns-clause-within_limit
-returns-clause-within_limit g c = λ m count. each_front g.S.Shelf.store c.args.self.now c.args.events.now c.requires IsWithinLimit within_limit m count
+returns-clause-within_limit g c = λ m count. each_front g.S.Shelf.store c.args.self.now c.args.events.now c.requires IsWithinLimit stored_within_limit.always m count
 
 pub returns-clause-amortised : goal.returns-clause-amortised
-returns-clause-amortised g c = λ m count. each_front g.S.Shelf.store c.args.self.now c.args.events.now c.requires IsAmortised amortised m count
+returns-clause-amortised g c = λ m count. each_front g.S.Shelf.store c.args.self.now c.args.events.now c.requires IsAmortised frames_amortised m count
 
 pub returns-clause-linear : goal.returns-clause-linear
-returns-clause-linear g c = λ count. fresh_front g.S.Shelf.store c.args.self.now c.args.events.now c.requires IsLinear linear count
+returns-clause-linear g c = λ count. fresh_front g.S.Shelf.store c.args.self.now c.args.events.now c.requires IsLinear frames_linear count
 
 pub returns-clause-isolated : goal.returns-clause-isolated
-returns-clause-isolated g c = λ count. fresh_front g.S.Shelf.store c.args.self.now c.args.events.now c.requires IsIsolated isolated count
+returns-clause-isolated g c = λ count. fresh_front g.S.Shelf.store c.args.self.now c.args.events.now c.requires IsIsolated lines_isolated count
 
 pub returns-then-is_err-clause-numbered : goal.returns-then-is_err-clause-numbered
-returns-then-is_err-clause-numbered g c = λ m count. each_front g.S.Shelf.store c.args.self.now c.args.events.now c.requires IsNumbered numbered m count
+returns-then-is_err-clause-numbered g c = λ m count. each_front g.S.Shelf.store c.args.self.now c.args.events.now c.requires IsNumbered deliveries_numbered.numbered m count
 
 pub returns-then-is_err-clause-textual : goal.returns-then-is_err-clause-textual
-returns-then-is_err-clause-textual g c = λ m count. each_front g.S.Shelf.store c.args.self.now c.args.events.now c.requires IsTextual textual m count
+returns-then-is_err-clause-textual g c = λ m count. each_front g.S.Shelf.store c.args.self.now c.args.events.now c.requires IsTextual text_goes_on m count
 
 pub returns-then-is_err-clause-never_full : goal.returns-then-is_err-clause-never_full
-returns-then-is_err-clause-never_full g c = λ count. fresh_front g.S.Shelf.store c.args.self.now c.args.events.now c.requires IsNeverFull never_full count
+returns-then-is_err-clause-never_full g c = λ count. fresh_front g.S.Shelf.store c.args.self.now c.args.events.now c.requires IsNeverFull pool_never_full count
 
 pub returns-then-is_err-clause-from_zero : goal.returns-then-is_err-clause-from_zero
-returns-then-is_err-clause-from_zero g c = λ count. fresh_front g.S.Shelf.store c.args.self.now c.args.events.now c.requires IsNumberedFromZero numbered_from_zero count
+returns-then-is_err-clause-from_zero g c = λ count. fresh_front g.S.Shelf.store c.args.self.now c.args.events.now c.requires IsNumberedFromZero deliveries_numbered.from_zero count
 
 pub returns-clause-numbered : goal.returns-clause-numbered
-returns-clause-numbered g c = λ m count. each_front g.S.Shelf.store c.args.self.now c.args.events.now c.requires IsNumbered numbered m count
+returns-clause-numbered g c = λ m count. each_front g.S.Shelf.store c.args.self.now c.args.events.now c.requires IsNumbered deliveries_numbered.numbered m count
 
 pub returns-clause-textual : goal.returns-clause-textual
-returns-clause-textual g c = λ m count. each_front g.S.Shelf.store c.args.self.now c.args.events.now c.requires IsTextual textual m count
+returns-clause-textual g c = λ m count. each_front g.S.Shelf.store c.args.self.now c.args.events.now c.requires IsTextual text_goes_on m count
 
 pub returns-clause-never_full : goal.returns-clause-never_full
-returns-clause-never_full g c = λ count. fresh_front g.S.Shelf.store c.args.self.now c.args.events.now c.requires IsNeverFull never_full count
+returns-clause-never_full g c = λ count. fresh_front g.S.Shelf.store c.args.self.now c.args.events.now c.requires IsNeverFull pool_never_full count
 
 pub returns-clause-from_zero : goal.returns-clause-from_zero
-returns-clause-from_zero g c = λ count. fresh_front g.S.Shelf.store c.args.self.now c.args.events.now c.requires IsNumberedFromZero numbered_from_zero count
+returns-clause-from_zero g c = λ count. fresh_front g.S.Shelf.store c.args.self.now c.args.events.now c.requires IsNumberedFromZero deliveries_numbered.from_zero count

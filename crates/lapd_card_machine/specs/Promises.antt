@@ -1,17 +1,17 @@
--- What holds of every list of events at a card, from a machine for which the card stands on. Each of these is a law of
--- the machine, stated there for all of them.
-use Rattle.std.specs.Prelude.{◌≡◌, ℕ, ◌+◌, ◌*◌, ◌≤◌, ◌<◌, List, length, map, All}
+-- What is promised of a list of events, from a card on. The laws say of which cards, and of which lists.
+use Rattle.std.specs.Prelude.{◌≡◌, ℕ, ◌+◌, ◌*◌, ◌≤◌, ◌<◌, false, List, length, map, All}
+use Rattle.lapd_link_machine.specs.Numbered.{Numbered}
+use Rattle.lapd_line_machine.specs.declared.config.Config.{Config}
+use Rattle.lapd_line_machine.specs.Counts.{is_pool_full}
+use Rattle.lapd_line_machine.specs.Line.{link_count}
 use Rattle.lapd_card_machine.specs.Card.{Card, fresh, line_at}
 use Rattle.lapd_card_machine.specs.Counts.{waiting, frames_heard, octets_received, window, sent, accepted, expired, rejected}
 use Rattle.lapd_card_machine.specs.Event.{Event}
 use Rattle.lapd_card_machine.specs.Isolation.{events_at, answers_at, answer_in}
-use Rattle.lapd_card_machine.specs.Laws.{HasLink, IsNotRefusedForPool}
 use Rattle.lapd_card_machine.specs.Numbered.{LinkName, history, received_by, AreNumbered, frames_of, deliveries_of}
-use Rattle.lapd_link_machine.specs.Numbered.{Numbered}
 use Rattle.lapd_card_machine.specs.Pulled.{octets_pulled, frames_begun, GoesOn}
-use Rattle.lapd_card_machine.specs.Run.{moments, after_all}
+use Rattle.lapd_card_machine.specs.Run.{Moment, moments, after_all}
 use Rattle.lapd_card_machine.specs.Stored.{stored, limit}
-use Rattle.lapd_line_machine.specs.declared.config.Config.{Config}
 
 -- The octets stored at the end are within the limit.
 abbrev pub IsWithinLimit : Card → List Event → Type 0
@@ -26,13 +26,16 @@ IsAmortised m events =
     let k = window m.config in
     sent ms + waiting end + 2 * frames_heard m ≤ waiting m + 2 * frames_heard end + accepted ms + (k + 1) * expired ms + k * rejected ms
 
--- On a card as it begins, frames recognised, REJ and frames sent are linear in the octets received.
+-- On a card as it begins nothing may be sent, and no frame was recognised: so the same bound without them. And frames
+-- recognised, REJ and frames sent are linear in the octets received.
 abbrev pub IsLinear : Config → List Event → Type 0
 IsLinear c events =
     let ms = moments (fresh c) events in
-    let octets = octets_received (after_all (fresh c) events) in
+    let end = after_all (fresh c) events in
+    let octets = octets_received end in
     let k = window c in
-    (6 * frames_heard (after_all (fresh c) events) ≤ octets) × (7 * rejected ms ≤ octets)
+    (sent ms + waiting end ≤ 2 * frames_heard end + accepted ms + (k + 1) * expired ms + k * rejected ms)
+    × (6 * frames_heard end ≤ octets) × (7 * rejected ms ≤ octets)
     × (21 * sent ms ≤ (7 + 3 * k) * octets + 21 * accepted ms + 21 * (k + 1) * expired ms)
 
 -- On a card as it begins, what a line answers but for a full pool is what it would answer on a card of its own, to the
@@ -44,12 +47,18 @@ IsIsolated c events =
     answers_at number ms ≡ map answer_in (moments (fresh c) (events_at number ms))
 
 -- Where there is a slot for each place of each queue, no request is refused because the pool is full.
+abbrev pub IsNotRefusedForPool : Moment → Type 0
+IsNotRefusedForPool m = is_pool_full m.answer ≡ false
+
 abbrev pub IsNeverFull : Config → List Event → Type 0
 IsNeverFull c events = c.lines * (2 * c.terminals * c.queue + c.unit_queue) ≤ c.slots → All IsNotRefusedForPool (moments (fresh c) events)
 
--- What each link has delivered since its latest establishment is numbered: the next delivery is the contents of the
--- first eligible frame that has the next number, modulo 128, and each is reported in the moment of its frame. V(R)
--- counts them.
+-- A link of the card.
+abbrev pub HasLink : Card → LinkName → Type 0
+HasLink card name = (name.line < card.config.lines) × (name.number < link_count card.config)
+
+-- What each link has delivered since its latest establishment is numbered: the next delivery is the contents of the first
+-- eligible frame that has the next number, modulo 128, and each is reported in the moment of its frame. V(R) counts them.
 pub record IsNumberedAt (m : Card) (events : List Event) (name : LinkName) : Type 0 where
   pub numbered : let h = history name m (moments m events) in Numbered h.first (frames_of h.shares) (deliveries_of h.shares)
   pub at_once : let h = history name m (moments m events) in AreNumbered h.first h.shares

@@ -1,18 +1,25 @@
 -- By how much each event lets rise what may be sent.
-use Rattle.std.proofs.Common.{◌≡◌, ℕ, ◌+◌, ◌*◌, ◌≤◌, ◌<◌, Bool, true, false, sym, arith}
-use Rattle.std.specs.Prelude.{sum_by}
-use Rattle.std.proofs.lemmas.Bool.{false≢true}
+use Rattle.std.proofs.Common.{◌≡◌, ℕ, ◌+◌, ◌*◌, ◌≤◌, ◌<◌, Bool, true, false, length, nat_le, Option, Some, None, option_to_list, ap, sym, cond, arith}
+use Rattle.std.specs.Prelude.{sum_by, count_by}
+use Rattle.std.proofs.lemmas.Bool.{false≢true, and_parts}
+use Rattle.lapd_bits.specs.Stream as stream
 use Rattle.lapd_frame.specs.declared.timers.Timer.{Timer}
 use Rattle.lapd_line_machine.specs.Answer as happening
 use Rattle.lapd_line_machine.specs.Answer.{octet, expiry, request, pull}
 use Rattle.lapd_line_machine.specs.Counts as line
+use Rattle.lapd_line_machine.specs.declared.config.Config.{Config}
+use Rattle.lapd_line_machine.specs.Line.{Line}
 use Rattle.lapd_line_machine.specs.Machine as lines
+use Rattle.lapd_line_machine.specs.Octet.{aim_of_octet, with_received}
 use Rattle.lapd_line_machine.specs.Refusal.{refusal}
 use Rattle.lapd_line_machine.specs.Request.{Request}
 use Rattle.lapd_line_machine.proofs.ByEvent.{hears_one, falls_by_pull}
-use Rattle.lapd_line_machine.proofs.EventsReject.{expiry_none, request_none}
+use Rattle.lapd_line_machine.proofs.EventsReject.{expiry_none, request_none, takes_no_reject}
+use Rattle.lapd_line_machine.proofs.EventsRise.{heard_same}
+use Rattle.lapd_line_machine.proofs.LineRises.{brings}
+use Rattle.lapd_line_machine.proofs.RejectsHeard.{octet_rejects}
 use Rattle.lapd_card_machine.specs.ByEvent.{RisesByOctet, RisesByExpiry, RisesByRequest, FallsByPull, RisesBy, IsPriced}
-use Rattle.lapd_card_machine.specs.Card.{Card, line_at}
+use Rattle.lapd_card_machine.specs.Card.{Card, line_at, is_full}
 use Rattle.lapd_card_machine.specs.Counts.{frames_heard, window}
 use Rattle.lapd_card_machine.specs.Event.{Event, at}
 use Rattle.lapd_card_machine.specs.Laws.{FramesByEvent}
@@ -38,12 +45,47 @@ no_reject : (k : ℕ) (b : Bool) → b ≡ false → k * line.one b ≡ 0
 no_reject k true e = absurd (false≢true (sym e))
 no_reject k false e = omega arith
 
+-- an REJ is a frame that is recognised
+long_is_frame : (o : Option stream.Event) → count_by line.is_long_frame (option_to_list o) ≤ count_by line.is_frame (option_to_list o)
+long_is_frame None = omega arith
+long_is_frame (Some (stream.frame octets)) = go (nat_le 4 (length octets))
+  where
+    go : (b : Bool) → 0 + cond {A = ℕ} b 1 0 ≤ 1
+    go true = omega arith
+    go false = omega arith
+long_is_frame (Some (stream.overlong head)) = omega arith
+long_is_frame (Some (stream.dropped cause)) = omega arith
+
+line_rejects : (c : Config) (value : ℕ) (l : Line)
+    → line.one (line.rejects c (octet value) l) + line.frames_heard c l ≤ line.frames_heard c (lines.after c (octet value) l)
+unfolding lines.after
+line_rejects c value l =
+    let b = brings c l value in
+    omega (arith, octet_rejects c value l, b.long_frames, b.frames, long_is_frame b.event, heard_same c (aim_of_octet c value l) (with_received value l))
+
+rejects_heard : (card : Card) (number value : ℕ) → HasLines card → number < card.config.lines
+    → let e = at number (octet value) in
+    line.one (line.rejects card.config e.what (line_at number card)) + frames_heard card ≤ frames_heard (after e card)
+rejects_heard card number value h within =
+    let e = at number (octet value) in
+    let l = line_at number card in
+    by_room (λ ls a. line.one (line.rejects card.config e.what l) + frames_heard card ≤ sum_by (line.frames_heard card.config) ls) e card
+    (λ full.
+    let takes = (and_parts (lines.takes_slot card.config e.what l) (is_full card) full).0 in
+    omega (arith, ap line.one (takes_no_reject card.config e.what l takes)))
+    (λ served.
+    omega (
+      arith,
+      line_rejects card.config value l,
+      one_line (line.frames_heard card.config) card number (lines.after card.config e.what l) h within,
+    ))
+
 octets : (card : Card) (number value : ℕ) → IsSound card → number < card.config.lines → RisesByOctet number value card
 octets card number value s within =
     let e = at number (octet value) in
     let heard = hears_at_most card e (has_lines card s) within in
     let rise = event_within card e (has_lines card s) within in
-    (omega (arith, heard), omega (arith, rise))
+    (omega (arith, heard), rejects_heard card number value (has_lines card s) within, omega (arith, rise))
 
 expiries : (card : Card) (number : ℕ) (timer : Timer) → IsSound card → number < card.config.lines → RisesByExpiry number timer card
 expiries card number timer s within =

@@ -12,14 +12,14 @@ use Rattle.lapd_card_machine.specs.Event.{Event, at}
 use Rattle.lapd_card_machine.specs.Machine.{after, answer}
 use Rattle.lapd_card_machine.specs.Run.{Moment, moments}
 
--- An octet ends one frame at most. By two where it does and the frame is recognised, and by k more where that is an REJ with a
--- valid N(R); else by nothing.
+-- An octet ends one frame at most that is recognised, and does where it brings an REJ with a valid N(R). By two where it does,
+-- and by k more where that is such an REJ; else by nothing.
 abbrev pub RisesByOctet : ℕ → ℕ → Card → Type 0
 RisesByOctet number value m =
     let e = at number (octet value) in
-    (frames_heard (after e m) ≤ frames_heard m + 1)
-    × (waiting (after e m) + 2 * frames_heard m
-    ≤ waiting m + 2 * frames_heard (after e m) + window m.config * one (rejects m.config e.what (line_at number m)))
+    let reject = one (rejects m.config e.what (line_at number m)) in
+    (frames_heard (after e m) ≤ frames_heard m + 1) × (reject + frames_heard m ≤ frames_heard (after e m))
+    × (waiting (after e m) + 2 * frames_heard m ≤ waiting m + 2 * frames_heard (after e m) + window m.config * reject)
 
 -- An expiry: by k + 1 where the timer was running, else by nothing.
 abbrev pub RisesByExpiry : ℕ → Timer → Card → Type 0

@@ -1,6 +1,6 @@
 //! What holds of the table of TEI management itself.
 
-ghost use Rattle.lapd_tei.specs.Laws.{IsSoundThroughout, ChangesAreTold, LowestIsAssigned, OneIsFree, OneMoreWaits, OneIsLost, OneFewerWaits, UnservedChangesNothing};
+ghost use Rattle.lapd_tei.specs.Laws.{IsSoundThroughout, ChangesAreTold, LowestIsAssigned, NewIsAssigned, OneIsFree, OneMoreWaits, OneIsLost, OneFewerWaits, UnservedChangesNothing};
 
 /// From the empty table on, after any events and pulls: no TEI and no Ri stands twice, each TEI is at
 /// most 126, at most four assignments are remembered, each of a TEI that is on the line, at most four
@@ -17,10 +17,12 @@ pub fn changes_are_told()
 {}
 
 /// A terminal is assigned the lowest TEI of 64 to 126 that is not on the line, and in a table of
-/// fewer than 63 places there is always one. A law about the definitions in `specs/`; the call does
+/// fewer than 63 places there is always one. One whose Ri is not remembered gets it, where there is
+/// room for the answer and a place is free. A law about the definitions in `specs/`; the call does
 /// nothing.
 pub fn lowest_is_assigned()
     ensures lowest { LowestIsAssigned }
+    ensures new { NewIsAssigned }
     ensures one { OneIsFree }
 {}
 

@@ -3,6 +3,7 @@ pub mod Leads
 pub mod Waits
 pub mod Numbers
 pub mod Settled
+pub mod Quiet
 pub mod SoundRows
 pub mod SoundEvents
 pub mod Owes

@@ -17,8 +17,9 @@ ghost use Rattle.lapd_link_machine.specs.Sound.{IsInRange, IsSound, IsGiven};
 ghost use Rattle.lapd_link_machine.specs.TwoEnds.{Ends, Doing, doing_all, Begins, StayUp, Agree};
 
 /// A link is sound as it begins, and every event keeps it sound: its numbers are in order and
-/// within the window (Q.921 clause 5.6.1), nothing is queued where it must not be, and its contents
-/// and its control frames keep within their capacities.
+/// within the window (Q.921 clause 5.6.1), nothing is queued where it must not be, no acknowledgement is
+/// owed while its own receiver is busy, and its contents and its control frames keep within their
+/// capacities.
 pub fn stays_sound()
     ensures begins { (t : Terms) → IsInRange t → IsSound t fresh }
     ensures each { (t : Terms) (e : Event) (l : Link) → IsInRange t → IsSound t l → IsSound t (after t e l) }

@@ -16,6 +16,7 @@ pub mod Numbering
 pub mod Slots
 pub mod Telling
 pub mod TellRows
+pub mod Losing
 pub mod OwnNotes
 pub mod Lines
 pub mod Facing

@@ -3,6 +3,7 @@ pub mod Leads
 pub mod Waits
 pub mod Numbers
 pub mod Settled
+pub mod Quiet
 pub mod SoundRows
 pub mod SoundEvents
 pub mod Owes
@@ -15,6 +16,7 @@ pub mod Numbering
 pub mod Slots
 pub mod Telling
 pub mod TellRows
+pub mod Losing
 pub mod OwnNotes
 pub mod Lines
 pub mod Facing

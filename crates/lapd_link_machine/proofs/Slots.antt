@@ -179,6 +179,7 @@ fitted t l h =
       settled = h.settled;
       queue = le_refl (length (queue_of l));
       ring = h.ring;
+      quiet = h.quiet;
       sizes = h.sizes;
       frames = All-weaker (IsWaitingFrame t) (IsWaitingFrame (record t { queue = length (queue_of l) })) (λ f w. record { is_frame = w.is_frame; octets = w.octets }) l.waiting h.frames;
     }

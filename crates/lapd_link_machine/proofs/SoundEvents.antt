@@ -27,6 +27,7 @@ use Rattle.lapd_link_machine.specs.Machine
 use Rattle.lapd_link_machine.proofs.Leads.{Leads, keeping_then, nothing_leads, depending_leads, bit_leads, tested_leads, Passed, from_more}
 use Rattle.lapd_link_machine.proofs.Numbers.{Claim, Bound, note_keeps, deliver_unit_keeps, refuse_keeps, pending_keeps, start_keeps}
 use Rattle.lapd_link_machine.proofs.Settled.{multiple, down, awaiting, settled, settled-multiple, multiple_ends, down_ends, awaiting_ends}
+use Rattle.lapd_link_machine.proofs.Quiet.{Quiet, quiet-step}
 use Rattle.lapd_link_machine.proofs.SoundRows.{frames_in_4, establish_leads, frames_in_5, t200_leads_5, frames_in_6, t200_leads_6, failed_leads, frames_in_7, timer_leads_7, frames_in_8, t200_leads_8, release_leads, set_busy_leads, clear_busy_leads}
 
 -- What holds of a sound link in each state.
@@ -77,8 +78,8 @@ bound-sound t l h =
       claim = settled-in l.state l h.settled;
     }
 
-pub sound-bound : (t : Terms) (c : Course) → Bound t settled c → IsSound t c.link
-sound-bound t c h =
+pub sound-bound : (t : Terms) (c : Course) → Bound t settled c → Quiet c → IsSound t c.link
+sound-bound t c h q =
     let room : length c.link.contents ≤ c.link.a + t.queue = h.bounded.queue in
     let e : length (drop c.link.a c.link.contents) ≡ length c.link.contents - c.link.a = length-drop c.link.a c.link.contents in
     record {
@@ -88,6 +89,7 @@ sound-bound t c h =
       settled = in-settled c.link.state c.link h.claim;
       queue = omega arith;
       ring = h.bounded.ring;
+      quiet = q.quiet;
       sizes = h.bounded.sizes;
       frames = h.bounded.frames;
     }
@@ -351,7 +353,8 @@ module _ (t : Terms) (r : t.tei ≤ 126) where
 
 -- A sound link stays sound.
 pub sound-step : (t : Terms) → t.tei ≤ 126 → (e : Events.Event) (l : Link) → IsSound t l → IsSound t (Machine.after t e l)
-sound-step t r e l h = sound-bound t (Machine.course t e l) ((steps_lead t r e).leads (begun l) (bound-sound t l h))
+sound-step t r e l h =
+    sound-bound t (Machine.course t e l) ((steps_lead t r e).leads (begun l) (bound-sound t l h)) (quiet-step t e (begun l) (record { quiet = h.quiet }))
 
 pub sound-after : (t : Terms) → IsInRange t → (e : Events.Event) (l : Link) → IsSound t l → IsSound t (Machine.after t e l)
 sound-after t r e l h = sound-step t r.tei e l h
@@ -360,7 +363,7 @@ pub sound-fresh : (t : Terms) → IsInRange t → IsSound t fresh
 sound-fresh t r = sound-bound t (Words.begin_anew (begun fresh)) ((begins_anew t r.tei settled).leads (begun fresh) (record {
   bounded = record { ordered = omega arith; accepted = omega arith; within = omega arith; queue = omega arith; ring = omega arith; sizes = All-nil (λ octets. length octets ≤ t.n201); frames = All-nil (IsWaitingFrame t) };
   claim = refl;
-}))
+})) (record { quiet = λ on. refl })
 
 pub sound-all : (t : Terms) → IsInRange t → (es : List Events.Event) (l : Link) → IsSound t l → IsSound t (Machine.after_all t es l)
 unfolding Machine.after_all

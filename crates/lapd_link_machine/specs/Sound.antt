@@ -1,5 +1,5 @@
 -- What holds of every link between two events.
-use Rattle.std.specs.Prelude.{◌≡◌, ℕ, ◌+◌, ◌≤◌, IsTrue, List, [], length, All, Option, IfSome, unwrap_or}
+use Rattle.std.specs.Prelude.{◌≡◌, ℕ, ◌+◌, ◌≤◌, false, IsTrue, List, [], length, All, Option, IfSome, unwrap_or}
 use Rattle.lapd_frame.specs.declared.addresses.Side.TheVariants.{Network}
 use Rattle.lapd_frame.specs.Grammar.{IsFrame, spelling}
 use Rattle.lapd_link_machine.specs.declared.states.State.{State}
@@ -43,6 +43,8 @@ pub record IsSound (t : Terms) (l : Link) : Type 0 where
   -- the queue and the control frames keep within their capacities
   pub queue : length (queue_of l) ≤ t.queue
   pub ring : length l.waiting ≤ t.control
+  -- with own busy on no acknowledgement is owed, so that one that is owed is RR and never RNR (clauses 5.6.3.1 and 5.6.6)
+  pub quiet : IsTrue l.own_busy → l.pending ≡ false
   -- contents have at most N201 octets
   pub sizes : All (λ octets. length octets ≤ t.n201) l.contents
   -- what waits are frames

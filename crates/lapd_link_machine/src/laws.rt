@@ -17,8 +17,9 @@ ghost use Rattle.lapd_link_machine.specs.Sound.{IsInRange, IsSound, IsGiven};
 ghost use Rattle.lapd_link_machine.specs.TwoEnds.{Ends, Doing, doing_all, Begins, StayUp, Agree};
 
 /// A link is sound as it begins, and every event keeps it sound: its numbers are in order and
-/// within the window (Q.921 clause 5.6.1), nothing is queued where it must not be, and its contents
-/// and its control frames keep within their capacities.
+/// within the window (Q.921 clause 5.6.1), nothing is queued where it must not be, no acknowledgement is
+/// owed while its own receiver is busy, and its contents and its control frames keep within their
+/// capacities.
 pub fn stays_sound()
     ensures begins { (t : Terms) → IsInRange t → IsSound t fresh }
     ensures each { (t : Terms) (e : Event) (l : Link) → IsInRange t → IsSound t l → IsSound t (after t e l) }
@@ -60,14 +61,15 @@ pub fn numbered()
     ensures always { (t : Terms) (es : List Event) → IsNumbered (with_all t es fresh nothing_yet) (after_all t es fresh) }
 {}
 
-/// An event tells at most two notes and gives at most two orders, and the clearing of a link at
-/// most one of each. There is a note of data exactly where contents are delivered, and no event
+/// An event tells at most two notes, gives at most two orders and loses at most two control frames,
+/// and the clearing of a link gives at most one note and one order. There is a note of data exactly where contents are delivered, and no event
 /// delivers both contents and unit data.
 pub fn tells_little()
     ensures notes { (t : Terms) (e : Event) (l : Link) → length (told t e l).notes ≤ 2 }
     ensures data { (t : Terms) (e : Event) (l : Link) → list_any is_data (told t e l).notes ≡ is_some (told t e l).delivered }
     ensures unit { (t : Terms) (e : Event) (l : Link) → ((told t e l).delivered ≡ None) ⊎ ((told t e l).unit ≡ None) }
     ensures orders { (t : Terms) (before started after : Option LinkTimer) → length (orders_for t before started after) ≤ 2 }
+    ensures lost { (t : Terms) (e : Event) (l : Link) → (told t e l).lost ≤ 2 }
     ensures clearing { (t : Terms) (l : Link) → (length (told t cleared l).notes ≤ 1) × (length (told t cleared l).orders ≤ 1) }
 {}
 

@@ -15,9 +15,7 @@ use Rattle.lapd_sim_machine.specs.Within.{bound_of, ScriptsStayWithin}
 use Rattle.lapd_sim_machine.proofs.Events.{config_stays, scripts_are_runs}
 
 run_within : (c : Config) (events : List Event) → IsInRange c → AreAtLines (fresh c) events → stored (after_all (fresh c) events) ≤ bound_of c
-run_within c events ranged within =
-    subst (λ (x : Config). stored (after_all (fresh c) events) ≤ bound_of x) (config_stays (fresh c) events)
-    (stored_within_limit (after_all (fresh c) events) (cards_stay_sound.always (fresh c) events (cards_stay_sound.begins c ranged) within))
+run_within c events ranged within = stored_within_limit.always (fresh c) events (cards_stay_sound.begins c ranged) within
 
 module _ (text : List ℕ) (bench : Bench) (run : HasRun text bench) where
   same_config : run.config ≡ bench.card.config

@@ -1,11 +1,12 @@
 -- How many messages wait after each row of the table, and how many are lost; what a message does that is not served; and which TEI
 -- a terminal is assigned.
-use Rattle.std.proofs.Common.{◌≡◌, ℕ, ◌+◌, ◌≤◌, ◌==◌, nat_le, true, false, cond, List, [], ◌∷◌, ◌++◌, length, Option, Some, None, subst, ◌∙◌, refl, sym, arith, length-append}
+use Rattle.std.proofs.Common.{◌≡◌, ℕ, ◌+◌, ◌<◌, ◌≤◌, ◌==◌, nat_le, true, false, cond, List, [], ◌∷◌, ◌++◌, length, Option, Some, None, subst, ap, ◌∙◌, refl, sym, arith, length-append}
 use Rattle.std.specs.Option.{option_map}
 use Rattle.std.proofs.lemmas.Bool.{false≢true}
+use Rattle.std.proofs.lemmas.Bool.Decides.{nat_tests}
 use Rattle.lapd_tei.specs.Messages.{Message, IdentityAssigned, IdentityDenied, IdentityCheckRequest, IdentityRemove, Heard, IdentityRequest, IdentityVerify, IdentityCheckResponse}
 use Rattle.lapd_tei.specs.Table.{Places, place_of, free_place, free_tei}
-use Rattle.lapd_tei.specs.Machine.{Management, Check, Period, First, Second}
+use Rattle.lapd_tei.specs.Machine.{Management, Check, Period, First, Second, Gained, messages_limit}
 use Rattle.lapd_tei.specs.Words.{Course, begun, no_room, with_message, lost_after, left, leave, check_is, begin_check, end_check, lose_one, send, unserved}
 use Rattle.lapd_tei.specs.Rows.{assign, assign_new, request, remembered_in, verify, may_be_checked, counted, responses, doubled, count, respond, serve, expire_period, expire_check, expire, is_unanswered, removed, join_at, put_on, is_checked, take_off, nothing_happens}
 use Rattle.lapd_tei.specs.Laws.{AssignsLowest}
@@ -168,3 +169,26 @@ lowest-serve (Some (IdentityRequest ri)) m =
 lowest-serve (Some (IdentityVerify tei)) m =
     elim (may_be_checked tei m) as (λ b. Assigned m ((cond b (begin_check tei) unserved) (begun m))) [ true ↦ tt | false ↦ tt ]
 lowest-serve (Some (IdentityCheckResponse tei)) m = lowest-respond tei m m.check
+
+-- A request with a new Ri gets the place and the TEI that are free, and its answer.
+abbrev Gains : ℕ → ℕ → ℕ → Management → Course → Type 0
+Gains ri place tei m c = (c.told.change ≡ Some (Gained tei place)) × (c.now.waiting ≡ m.waiting ++ IdentityAssigned ri tei ∷ [])
+
+roomy : (waiting : List Message) → length waiting < messages_limit → no_room waiting ≡ false
+roomy waiting few = grind (arith, nat_tests)
+
+gains-new : (ri place tei : ℕ) (m : Management) → no_room m.waiting ≡ false → Gains ri place tei m (assign_new ri (Some place) (Some tei) (begun m))
+gains-new ri place tei m room = (refl, ap (λ b. cond b m.waiting (m.waiting ++ IdentityAssigned ri tei ∷ [])) room)
+
+gains-request : (ri place tei : ℕ) (m : Management) → no_room m.waiting ≡ false → remembered_in ri m.remembered ≡ None
+    → free_place m.places ≡ Some place → free_tei m.places ≡ Some tei → Gains ri place tei m (request ri (begun m))
+gains-request ri place tei m room new at free =
+    subst (λ b. Gains ri place tei m ((cond b lose_one (assign ri (remembered_in ri m.remembered))) (begun m))) (sym room)
+    (subst (λ o. Gains ri place tei m (assign ri o (begun m))) (sym new)
+    (subst (λ o. Gains ri place tei m (assign_new ri o (free_tei m.places) (begun m))) (sym at)
+    (subst (λ o. Gains ri place tei m (assign_new ri (Some place) o (begun m))) (sym free) (gains-new ri place tei m room))))
+
+pub gains-serve : (ri place tei : ℕ) (m : Management) (o : Option Heard) → o ≡ Some (IdentityRequest ri) → remembered_in ri m.remembered ≡ None
+    → length m.waiting < messages_limit → free_place m.places ≡ Some place → free_tei m.places ≡ Some tei → Gains ri place tei m (serve o (begun m))
+gains-serve ri place tei m o asks new room at free =
+    subst (λ o. Gains ri place tei m (serve o (begun m))) (sym asks) (gains-request ri place tei m (roomy m.waiting room) new at free)

@@ -10,11 +10,11 @@ use Rattle.lapd_tei.specs.Words.{begun, Step}
 use Rattle.lapd_tei.specs.Rows.{put_on, take_off}
 use Rattle.lapd_tei.specs.Events.{Event, message, expiry, assign, remove, check, refusal_if, refusal, step, unless_refused, course, after, after_offer}
 use Rattle.lapd_tei.specs.Sound.{IsSound}
-use Rattle.lapd_tei.specs.Laws.{IsInRange, Act, event, pull, AreInRange, after_acts, IsSoundThroughout, ChangesAreTold, LowestIsAssigned, OneMoreWaits, OneIsLost, UnservedChangesNothing}
+use Rattle.lapd_tei.specs.Laws.{IsInRange, Act, event, pull, AreInRange, after_acts, IsSoundThroughout, ChangesAreTold, LowestIsAssigned, NewIsAssigned, OneMoreWaits, OneIsLost, UnservedChangesNothing}
 use Rattle.lapd_tei.proofs.SoundWords.{table-empty, memory-empty, queue-empty, queue-rest}
 use Rattle.lapd_tei.proofs.Tables.{not_not}
 use Rattle.lapd_tei.proofs.Served.{Leads, stands_still, leads-serve, leads-expire, leads-put_on, leads-take_off, leads-check}
-use Rattle.lapd_tei.proofs.Counted.{Counts, counts-serve, counts-expire, counts-put_on, counts-take_off, counts-begin, counts-nothing, lowest-serve}
+use Rattle.lapd_tei.proofs.Counted.{Counts, counts-serve, counts-expire, counts-put_on, counts-take_off, counts-begin, counts-nothing, lowest-serve, gains-serve}
 
 -- a test that does not refuse
 not_refused : (b : Bool) (why : Refusal) (others : Option Refusal) → refusal_if b why others ≡ None → (b ≡ false) × (others ≡ None)
@@ -84,3 +84,9 @@ unserved_changes_nothing e m is =
 pub lowest_is_assigned : LowestIsAssigned
 unfolding course refusal
 lowest_is_assigned octets m = lowest-serve (heard_in octets) m
+
+pub new_is_assigned : NewIsAssigned
+unfolding course refusal
+new_is_assigned octets m ri place tei h =
+    let gains = gains-serve ri place tei m (heard_in octets) h.asks h.is_new h.room h.place_is h.tei_is in
+    record { change = gains.0; answer = gains.1 }

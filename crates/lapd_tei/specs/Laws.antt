@@ -1,7 +1,9 @@
 -- What holds of the table of TEI management, beside what its rows say.
-use Rattle.std.specs.Prelude.{◌≡◌, ℕ, ◌+◌, ◌≤◌, ◌<◌, true, false, List, [], ◌∷◌, length, set, get_or, Option, Some, None, IsSome}
+use Rattle.std.specs.Prelude.{◌≡◌, ℕ, ◌+◌, ◌≤◌, ◌<◌, true, false, List, [], ◌∷◌, ◌++◌, length, set, get_or, Option, Some, None, IsSome}
 use Rattle.lapd_tei.specs.Table.{Places, is_on, free_place, free_tei}
-use Rattle.lapd_tei.specs.Machine.{Management, empty, waiting, nothing, Change, Gained, Left}
+use Rattle.lapd_tei.specs.Messages.{IdentityAssigned, IdentityRequest, heard_in}
+use Rattle.lapd_tei.specs.Machine.{Management, empty, waiting, messages_limit, nothing, Change, Gained, Left}
+use Rattle.lapd_tei.specs.Rows.{remembered_in}
 use Rattle.lapd_tei.specs.Events.{Event, message, expiry, assign, remove, check, after, told, offered, after_offer}
 use Rattle.lapd_tei.specs.Sound.{IsAt, IsSound}
 
@@ -75,6 +77,22 @@ AssignsLowest places (Some (Left tei place)) = Unit {0}
 
 abbrev pub LowestIsAssigned : Type 0
 LowestIsAssigned = (octets : List ℕ) (m : Management) → AssignsLowest m.places (told (message octets) m).change
+
+-- A terminal asks for a TEI: its Ri is not remembered, there is room for an answer, and a place and a TEI are free.
+pub record MayBeAssigned (octets : List ℕ) (m : Management) (ri place tei : ℕ) : Type 0 where
+  pub asks : heard_in octets ≡ Some (IdentityRequest ri)
+  pub is_new : remembered_in ri m.remembered ≡ None
+  pub room : waiting m < messages_limit
+  pub place_is : free_place m.places ≡ Some place
+  pub tei_is : free_tei m.places ≡ Some tei
+
+-- It gets that TEI at that place, and its answer waits behind the others.
+pub record IsAssigned (octets : List ℕ) (m : Management) (ri place tei : ℕ) : Type 0 where
+  pub change : (told (message octets) m).change ≡ Some (Gained tei place)
+  pub answer : (after (message octets) m).waiting ≡ m.waiting ++ IdentityAssigned ri tei ∷ []
+
+abbrev pub NewIsAssigned : Type 0
+NewIsAssigned = (octets : List ℕ) (m : Management) (ri place tei : ℕ) → MayBeAssigned octets m ri place tei → IsAssigned octets m ri place tei
 
 -- In a table of fewer than 63 places one of these is always free.
 abbrev pub OneIsFree : Type 0

@@ -1,6 +1,6 @@
 //! What holds of the table of TEI management itself.
 
-ghost use Rattle.lapd_tei.specs.Laws.{IsSoundThroughout, ChangesAreTold, LowestIsAssigned, OneIsFree, OneMoreWaits, OneIsLost, OneFewerWaits, UnservedChangesNothing};
+ghost use Rattle.lapd_tei.specs.Laws.{IsSoundThroughout, ChangesAreTold, LowestIsAssigned, NewIsAssigned, OneIsFree, OneMoreWaits, OneIsLost, OneFewerWaits, UnservedChangesNothing};
 
 /// From the empty table on, after any events and pulls whose requests name TEIs of at most 126: no TEI
 /// and no Ri stands twice, each TEI is at most 126, at most four assignments are remembered, each of a
@@ -19,10 +19,12 @@ pub fn changes_are_told()
 {}
 
 /// Where a terminal is assigned a TEI, it is the lowest of 64 to 126 that is not on the line, and in a
-/// table of fewer than 63 places one of these is always free. A law about the definitions in `specs/`;
+/// table of fewer than 63 places one of these is always free. One whose Ri is not remembered gets it,
+/// where there is room for the answer and a place is free. A law about the definitions in `specs/`;
 /// the call does nothing.
 pub fn lowest_is_assigned()
     ensures lowest { LowestIsAssigned }
+    ensures new { NewIsAssigned }
     ensures one { OneIsFree }
 {}
 

@@ -1,4 +1,5 @@
 use Rattle.lapd_link_machine.proofs.TellRows.{event-tells, cleared-tells, two-orders, cleared-orders}
+use Rattle.lapd_link_machine.proofs.Losing.{event-loses}
 use Rattle.lapd_link_machine.proofs.laws.tells_little.Goals as goal
 
 pub returns-clause-notes : goal.returns-clause-notes
@@ -12,6 +13,9 @@ returns-clause-unit c = λ t e l. (event-tells t e l).2
 
 pub returns-clause-orders : goal.returns-clause-orders
 returns-clause-orders c = λ t before started after. two-orders t before started after
+
+pub returns-clause-lost : goal.returns-clause-lost
+returns-clause-lost c = λ t e l. event-loses t e l
 
 pub returns-clause-clearing : goal.returns-clause-clearing
 returns-clause-clearing c = λ t l. (cleared-tells t l, cleared-orders t l)

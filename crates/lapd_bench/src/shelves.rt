@@ -1,64 +1,202 @@
 //! Contents that are put on a shelf, lent and released, and plain copies of as many octets.
 
+ghost use Rattle.std.specs.Prelude.{◌≤◌};
+ghost use Rattle.lapd_store.specs.Store.{IsUsed};
+
 use crate::done::Done;
 use crate::fault::Fault;
-use lapd_store::{RawShelf, Shelf, SlabShelf};
+use crate::line::information;
+use lapd_store::{RawShelf, Shelf, SlabShelf, Slot};
 use std::alloc::Global;
 
-/// How many contents go over a shelf in a round.
+/// How many contents are kept or copied in a round.
 const CONTENTS: u32 = 1000;
 
-/// Where contents go.
+/// How many shelves are filled in turn, so that no `put` has to wait for the one before it.
+const SHELVES: u32 = 4;
+
+/// How many slots a shelf has: with contents of 260 octets all of them lie in the nearest cache.
+const SLOTS: u32 = 32;
+
+/// How wide a slot is.
+const WIDTH: u16 = 260;
+
+/// The kinds of shelves.
 #[derive(Clone, Copy, PartialEq, Eq, Debug)]
-pub enum Place {
-    /// A shelf in one region.
+pub enum Shelves {
+    /// `RawShelf`.
     Raw,
-    /// A shelf of a slab.
+    /// `SlabShelf`.
     Slab,
-    /// An array, beside the others for comparison.
-    Array,
 }
 
-impl Place {
-    /// Its word on the command line, for 8 octets or for 260.
-    pub fn name(self, is_short: bool) -> &'static str {
+/// How long contents are.
+#[derive(Clone, Copy, PartialEq, Eq, Debug)]
+pub enum Size {
+    /// 8 octets, the narrowest width of a slot.
+    Short,
+    /// 260 octets, the widest.
+    Long,
+}
+
+/// What is done with contents.
+#[derive(Clone, Copy, PartialEq, Eq, Debug)]
+pub enum Keeping {
+    /// A shelf is started and dropped.
+    Start(Shelves),
+    /// A shelf is started, contents are put in each slot, and it is dropped.
+    Fill(Shelves, Size),
+    /// Contents are put on a shelf, lent and released.
+    Keep(Shelves, Size),
+    /// Contents are lent.
+    Lend(Shelves, Size),
+    /// Contents are copied into an array, for comparison.
+    Copy(Size),
+}
+
+/// A shelf that a work starts by itself.
+trait Started: Shelf + Drop {
+    fn started(alloc: Global) -> Result<Self, Fault>;
+}
+
+impl Started for RawShelf {
+    fn started(alloc: Global) -> Result<RawShelf, Fault> {
+        Ok(RawShelf::start(alloc, SLOTS, WIDTH)?)
+    }
+}
+
+impl Started for SlabShelf {
+    fn started(alloc: Global) -> Result<SlabShelf, Fault> {
+        Ok(SlabShelf::start(alloc, SLOTS, WIDTH)?)
+    }
+}
+
+impl Size {
+    fn octets(self) -> usize
+        ensures { result ≤ 260 }
+    {
         match self {
-            Place::Raw if is_short => "raw-8",
-            Place::Raw => "raw-260",
-            Place::Slab if is_short => "slab-8",
-            Place::Slab => "slab-260",
-            Place::Array if is_short => "copy-8",
-            Place::Array => "copy-260",
+            Size::Short => 8,
+            Size::Long => 260,
+        }
+    }
+
+    fn pick(self, short: &'static str, long: &'static str) -> &'static str {
+        match self {
+            Size::Short => short,
+            Size::Long => long,
         }
     }
 }
 
-/// Puts contents of 8 or of 260 octets at a place, so many rounds of them.
-pub fn keep(alloc: Global, place: Place, is_short: bool, rounds: u32) -> Result<Done, Fault> {
-    let contents = [0x5Au8; 260];
-    let len = if is_short { 8 } else { 260 };
-    let octets = &contents[..len];
+impl Keeping {
+    /// Its word on the command line.
+    pub fn name(self) -> &'static str {
+        match self {
+            Keeping::Start(Shelves::Raw) => "raw-start",
+            Keeping::Start(Shelves::Slab) => "slab-start",
+            Keeping::Fill(Shelves::Raw, size) => size.pick("raw-fill-8", "raw-fill-260"),
+            Keeping::Fill(Shelves::Slab, size) => size.pick("slab-fill-8", "slab-fill-260"),
+            Keeping::Keep(Shelves::Raw, size) => size.pick("raw-keep-8", "raw-keep-260"),
+            Keeping::Keep(Shelves::Slab, size) => size.pick("slab-keep-8", "slab-keep-260"),
+            Keeping::Lend(Shelves::Raw, size) => size.pick("raw-lend-8", "raw-lend-260"),
+            Keeping::Lend(Shelves::Slab, size) => size.pick("slab-lend-8", "slab-lend-260"),
+            Keeping::Copy(size) => size.pick("copy-8", "copy-260"),
+        }
+    }
+
+    /// Does so many rounds of it.
+    pub fn run(self, alloc: Global, rounds: u32) -> Result<Done, Fault> {
+        match self {
+            Keeping::Start(Shelves::Raw) => start::<RawShelf>(alloc, rounds),
+            Keeping::Start(Shelves::Slab) => start::<SlabShelf>(alloc, rounds),
+            Keeping::Fill(Shelves::Raw, size) => fill::<RawShelf>(alloc, size, rounds),
+            Keeping::Fill(Shelves::Slab, size) => fill::<SlabShelf>(alloc, size, rounds),
+            Keeping::Keep(Shelves::Raw, size) => keep::<RawShelf>(alloc, size, rounds),
+            Keeping::Keep(Shelves::Slab, size) => keep::<SlabShelf>(alloc, size, rounds),
+            Keeping::Lend(Shelves::Raw, size) => lend::<RawShelf>(alloc, size, rounds),
+            Keeping::Lend(Shelves::Slab, size) => lend::<SlabShelf>(alloc, size, rounds),
+            Keeping::Copy(size) => Ok(copy(size, rounds)),
+        }
+    }
+}
+
+/// Counts a round over so many contents of so many octets.
+fn count(contents: u32, len: usize, done: &mut Done) {
+    let octets = len.saturating_mul(contents as usize);
+    done.count(octets, u64::from(contents), 0);
+}
+
+/// The shelves that are filled in turn.
+fn row_of<S: Started>(alloc: Global) -> Result<Vec<S>, Fault> {
+    let mut shelves = Vec::with_capacity(alloc, SHELVES as usize)?;
+    for _ in 0..SHELVES {
+        shelves.push(S::started(alloc)?)?;
+    }
+    Ok(shelves)
+}
+
+fn start<S: Started>(alloc: Global, rounds: u32) -> Result<Done, Fault> {
     let mut done = Done::new();
-    match place {
-        Place::Raw => shelve(RawShelf::start(alloc, 64, 260)?, octets, rounds, &mut done),
-        Place::Slab => shelve(SlabShelf::start(alloc, 64, 260)?, octets, rounds, &mut done),
-        Place::Array => copy(octets, rounds, &mut done),
+    for _ in 0..rounds {
+        let shelves = row_of::<S>(alloc)?;
+        done.add(octets_on(&shelves));
+        count(SHELVES * SLOTS, 0, &mut done);
     }
     Ok(done)
 }
 
-fn shelve<S: Shelf + Drop>(mut shelf: S, octets: &[u8], rounds: u32, done: &mut Done) {
+fn fill<S: Started>(alloc: Global, size: Size, rounds: u32) -> Result<Done, Fault> {
+    let contents = information();
+    let mut done = Done::new();
     for _ in 0..rounds {
-        for _ in 0..CONTENTS {
-            let last = pass(&mut shelf, octets);
-            done.add(last);
+        let mut shelves = row_of::<S>(alloc)?;
+        for _ in 0..SLOTS {
+            put_each(&mut shelves, &contents[..size.octets()]);
         }
-        done.count(
-            octets.len().saturating_mul(CONTENTS as usize),
-            u64::from(CONTENTS),
-            0,
-        );
+        done.add(octets_on(&shelves));
+        count(SHELVES * SLOTS, size.octets(), &mut done);
     }
+    Ok(done)
+}
+
+/// Puts contents on each shelf.
+fn put_each<S: Shelf>(shelves: &mut [S], octets: &[u8]) {
+    for shelf in shelves {
+        if octets.len() <= usize::from(shelf.width()) {
+            let _ = shelf.put(octets);
+        }
+    }
+}
+
+/// How many octets lie on some shelves.
+fn octets_on<S: Shelf>(shelves: &[S]) -> u64 {
+    let mut octets = 0u64;
+    for shelf in shelves {
+        octets = octets.wrapping_add(shelf.octets());
+    }
+    octets
+}
+
+fn keep<S: Started>(alloc: Global, size: Size, rounds: u32) -> Result<Done, Fault> {
+    let contents = information();
+    let mut shelf = S::started(alloc)?;
+    let mut done = Done::new();
+    for _ in 0..rounds {
+        done.add(keep_all(&mut shelf, &contents[..size.octets()]));
+        count(CONTENTS, size.octets(), &mut done);
+    }
+    Ok(done)
+}
+
+/// Keeps contents for a moment, one after the other. Out of line, so that a compiler does not know how long they are.
+#[inline(never)]
+fn keep_all<S: Shelf>(shelf: &mut S, octets: &[u8]) -> u64 {
+    let mut sum = 0u64;
+    for _ in 0..CONTENTS {
+        sum = sum.wrapping_add(pass(shelf, octets));
+    }
+    sum
 }
 
 /// Puts contents on a shelf, reads the last of them and releases them.
@@ -74,6 +212,51 @@ fn pass<S: Shelf>(shelf: &mut S, octets: &[u8]) -> u64 {
     last
 }
 
+#[tactic(auto, using(crate::proofs::Slots::stays_used))]
+fn lend<S: Started>(alloc: Global, size: Size, rounds: u32) -> Result<Done, Fault> {
+    let contents = information();
+    let octets = &contents[..size.octets()];
+    let mut shelf = S::started(alloc)?;
+    if octets.len() > usize::from(shelf.width()) {
+        return Ok(Done::new());
+    }
+    let Some(one) = shelf.put(octets) else {
+        return Ok(Done::new());
+    };
+    let Some(other) = shelf.put(octets) else {
+        return Ok(Done::new());
+    };
+    Ok(lend_two(&shelf, one, other, &contents, rounds))
+}
+
+fn lend_two<S: Shelf>(shelf: &S, one: Slot, other: Slot, order: &[u8; 260], rounds: u32) -> Done
+    requires one { IsUsed (S.store shelf.now) one }
+    requires other { IsUsed (S.store shelf.now) other }
+{
+    let len = shelf.get(&one).len();
+    let mut done = Done::new();
+    for round in 0..rounds {
+        done.add(lend_all(shelf, one, other, order, (round % 256) as u8));
+        count(order.len() as u32, len, &mut done);
+    }
+    done
+}
+
+/// The sum of the last octets of contents that are lent, now from one slot and now from the other, as `order` has it. Out
+/// of line, as `keep_all` is.
+#[inline(never)]
+fn lend_all<S: Shelf>(shelf: &S, one: Slot, other: Slot, order: &[u8; 260], least: u8) -> u64
+    requires one { IsUsed (S.store shelf.now) one }
+    requires other { IsUsed (S.store shelf.now) other }
+{
+    let mut sum = 0u64;
+    for octet in order {
+        let slot = if *octet < least { one } else { other };
+        sum = sum.wrapping_add(last_of(shelf.get(&slot)));
+    }
+    sum
+}
+
 fn last_of(octets: &[u8]) -> u64 {
     match octets.last() {
         Some(last) => u64::from(*last),
@@ -81,18 +264,25 @@ fn last_of(octets: &[u8]) -> u64 {
     }
 }
 
-fn copy(octets: &[u8], rounds: u32, done: &mut Done) {
-    let mut kept = [0u8; 260];
+fn copy(size: Size, rounds: u32) -> Done {
+    let contents = information();
+    let mut done = Done::new();
     for round in 0..rounds {
-        for _ in 0..CONTENTS {
-            done.add(copied(&mut kept, octets, (round % 256) as u8));
-        }
-        done.count(
-            octets.len().saturating_mul(CONTENTS as usize),
-            u64::from(CONTENTS),
-            0,
-        );
+        done.add(copy_all(&contents[..size.octets()], (round % 256) as u8));
+        count(CONTENTS, size.octets(), &mut done);
     }
+    done
+}
+
+/// Copies contents into an array, one after the other. Out of line, as `keep_all` is.
+#[inline(never)]
+fn copy_all(octets: &[u8], at: u8) -> u64 {
+    let mut kept = [0u8; 260];
+    let mut sum = 0u64;
+    for _ in 0..CONTENTS {
+        sum = sum.wrapping_add(copied(&mut kept, octets, at));
+    }
+    sum
 }
 
 /// Copies the octets, and reads one of them.

@@ -7,7 +7,7 @@ use crate::fault::Fault;
 use crate::line::{ROUND, framed, in_no_order, information, repeated};
 use crate::lines::{Traffic, exchange};
 use crate::sender::{N201, Sender};
-use crate::shelves::{Place, keep};
+use crate::shelves::{Keeping, Shelves, Size};
 use lapd_bits::{Deframer, Heard, fcs};
 use std::alloc::Global;
 
@@ -41,12 +41,12 @@ pub enum Work {
     SendLong,
     /// A card with so many lines.
     Card(Traffic, u16),
-    /// Contents of 8 octets (`true`) or of 260 that are kept for a moment.
-    Keep(Place, bool),
+    /// Contents that are put on a shelf, lent or copied.
+    Keep(Keeping),
 }
 
 /// All of them.
-pub const WORKS: [Work; 26] = [
+pub const WORKS: [Work; 36] = [
     Work::Check,
     Work::HearShort,
     Work::HearLong,
@@ -67,12 +67,22 @@ pub const WORKS: [Work; 26] = [
     Work::Card(Traffic::Sabme, 64),
     Work::Card(Traffic::Faulty, 1),
     Work::Card(Traffic::Faulty, 64),
-    Work::Keep(Place::Raw, true),
-    Work::Keep(Place::Raw, false),
-    Work::Keep(Place::Slab, true),
-    Work::Keep(Place::Slab, false),
-    Work::Keep(Place::Array, true),
-    Work::Keep(Place::Array, false),
+    Work::Keep(Keeping::Start(Shelves::Raw)),
+    Work::Keep(Keeping::Fill(Shelves::Raw, Size::Short)),
+    Work::Keep(Keeping::Fill(Shelves::Raw, Size::Long)),
+    Work::Keep(Keeping::Keep(Shelves::Raw, Size::Short)),
+    Work::Keep(Keeping::Keep(Shelves::Raw, Size::Long)),
+    Work::Keep(Keeping::Lend(Shelves::Raw, Size::Short)),
+    Work::Keep(Keeping::Lend(Shelves::Raw, Size::Long)),
+    Work::Keep(Keeping::Start(Shelves::Slab)),
+    Work::Keep(Keeping::Fill(Shelves::Slab, Size::Short)),
+    Work::Keep(Keeping::Fill(Shelves::Slab, Size::Long)),
+    Work::Keep(Keeping::Keep(Shelves::Slab, Size::Short)),
+    Work::Keep(Keeping::Keep(Shelves::Slab, Size::Long)),
+    Work::Keep(Keeping::Lend(Shelves::Slab, Size::Short)),
+    Work::Keep(Keeping::Lend(Shelves::Slab, Size::Long)),
+    Work::Keep(Keeping::Copy(Size::Short)),
+    Work::Keep(Keeping::Copy(Size::Long)),
 ];
 
 impl Work {
@@ -88,7 +98,7 @@ impl Work {
             Work::SendShort => "send-short",
             Work::SendLong => "send-long",
             Work::Card(traffic, lines) => traffic.name(lines == 1),
-            Work::Keep(place, is_short) => place.name(is_short),
+            Work::Keep(keeping) => keeping.name(),
         }
     }
 
@@ -104,7 +114,7 @@ impl Work {
             Work::SendShort => send(alloc, SHORT, rounds),
             Work::SendLong => send(alloc, LONG, rounds),
             Work::Card(traffic, lines) => exchange(alloc, traffic, lines, rounds),
-            Work::Keep(place, is_short) => keep(alloc, place, is_short, rounds),
+            Work::Keep(keeping) => keeping.run(alloc, rounds),
         }
     }
 }

@@ -9,7 +9,6 @@ pub mod Eachs
 pub mod Wholes
 pub mod Playing
 pub mod Exchanges
-pub mod Expiries
 pub mod Waits
 pub mod Octets
 pub mod Listeners

@@ -18,7 +18,7 @@ use Rattle.lapd_store.specs.Store.{Store}
 use Rattle.lapd_transcript.proofs.Known.{appends_nothing, writes_then, broken_more}
 use Rattle.lapd_transcript.specs.Streams.{Taken, IsWritten, IsBroken}
 use Rattle.lapd_transcript.specs.declared.streams.WriteFailed.{WriteFailed}
-use Rattle.lapd_sim.proofs.Expiries.{expiry_lowers, until-expired, until-over, text_grows}
+use Rattle.lapd_sim_machine.proofs.Expiries.{expiry_lowers, until-expired, until-over, text_grows}
 
 -- From a bench, some timers have expired, and what they say has been written; what falls due until the end is the same.
 pub record Waits (e : Exchange) (before after : Taken) (end : ℕ) (m : Bench) : Type 0 where

@@ -1,2 +1,6 @@
+pub mod Expiries
+pub mod Kept
 pub mod Events
 pub mod Replies
+pub mod Waits
+pub mod Within

@@ -173,7 +173,7 @@ lines_moments (piece ∷ pieces) p b e =
     let step = one_goes piece b p e in
     moments-append b.card (line_events piece p) (events_from (one_more p piece) pieces)
     ∙ ap (λ ms. ms ++ moments (after_all b.card (line_events piece p)) (events_from (one_more p piece) pieces)) (line_moments_are piece p b e)
-    ∙ ap (λ ms. line_moments piece p ++ ms) (ap (λ c. moments c (events_from (one_more p piece) pieces)) (sym step.card) ∙ lines_moments pieces (one_more p piece) step.bench step.there)
+    ∙ ap (λ ms. line_moments piece p ++ ms) (ap (λ c. moments c (events_from (one_more p piece) pieces)) (sym step.led.card) ∙ lines_moments pieces (one_more p piece) step.bench step.there)
 
 nothing_met : (fault : Option Fault) (r : Result line.Meaning FaultKind) → unless_fault fault (read_moments r None) ≡ []
 nothing_met (Some fault) r = refl
@@ -201,7 +201,7 @@ moments_run (piece ∷ pieces) p last c e there is_card =
         → Begins (read (line_in piece)) next → moments (fresh c) (events_from next pieces) ≡ moments_from next pieces
     go more (waits none no_card) = more none (sym (ap after_line no_card) ∙ is_card)
     go more (stops none fault f) = absurd (none-some last (sym none ∙ sym (stopped pieces next fault f) ∙ there))
-    go more (begins d begun_with starts) =
+    go more (begins d begun_with starts ranged) =
         let told : Some d ≡ Some c = sym (ap after_line begun_with) ∙ is_card in
         let same : d ≡ c = cc in
         subst (λ x. moments (fresh x) (events_from next pieces) ≡ moments_from next pieces) same (lines_moments pieces next (begun d) starts)

@@ -6,7 +6,7 @@ use Rattle.lapd_bits.specs.Sent.{Item, idle, frame, line_text}
 use Rattle.lapd_frame.specs.declared.timers.Order.{Order}
 use Rattle.lapd_clock.specs.Timers as clocks
 use Rattle.lapd_line_machine.specs.declared.config.Config.{Config}
-use Rattle.lapd_line_machine.specs.Answer.{Answer, Told, told, refused, pulled}
+use Rattle.lapd_line_machine.specs.Answer.{Answer, told, refused, pulled}
 use Rattle.lapd_card_machine.specs.Event.{Event}
 use Rattle.lapd_card_machine.specs.Card.{Card, fresh}
 use Rattle.lapd_card_machine.specs.Machine.{after, answer}

@@ -3,9 +3,10 @@ use Rattle.std.specs.Prelude.{◌≡◌, ℕ, zero, suc, ◌+◌, List, [], ◌�
 use Rattle.lapd_clock.specs.Timers as clocks
 use Rattle.lapd_line_machine.specs.declared.config.Config.{Config}
 use Rattle.lapd_line_machine.specs.Answer.{expiry, request, pull}
+use Rattle.lapd_line_machine.specs.Sound.{IsInRange}
 use Rattle.lapd_card_machine.specs.Event.{Event, at}
 use Rattle.lapd_card_machine.specs.Card.{fresh}
-use Rattle.lapd_card_machine.specs.Run.{after_all}
+use Rattle.lapd_card_machine.specs.Run.{after_all, AreAtLines}
 use Rattle.lapd_script.specs.declared.kind.FaultKind.{FaultKind}
 use Rattle.lapd_script.specs.Meaning as line
 use Rattle.lapd_script.specs.Read.{read}
@@ -71,10 +72,13 @@ abbrev pub first_card : List (List ℕ) → Option Config
 first_card [] = None
 first_card (piece ∷ pieces) = elim (card_meant (read (line_in piece))) [ None ↦ first_card pieces | Some c ↦ Some c ]
 
--- The card on the bench is that of the card line, fresh, after the script's events.
+-- The card on the bench is that of the card line, fresh, after the script's events. Its configuration is one with which a
+-- card can be started, and the events are at its lines: so laws of runs hold of it.
 pub record HasRun (text : List ℕ) (bench : Bench) : Type 0 where
   pub config : Config
   pub begun : first_card (pieces_of text) ≡ Some config
+  pub in_range : IsInRange config
+  pub at_lines : AreAtLines (fresh config) (script_events text)
   pub card : bench.card ≡ after_all (fresh config) (script_events text)
 
 abbrev pub ScriptsAreRuns : Type 0

@@ -4,6 +4,8 @@ pub mod Steps
 pub mod Script
 pub mod Events
 pub mod Replies
+pub mod Waits
+pub mod Within
 pub mod Worked
 pub mod WorkedScripts
 pub mod WorkedEvents

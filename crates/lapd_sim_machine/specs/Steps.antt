@@ -1,10 +1,10 @@
 -- What each line of a script makes of the bench, and what it says in the transcript.
-use Rattle.std.specs.Prelude.{ℕ, zero, suc, ◌+◌, ◌-◌, ◌^◌, nat_lt, nat_le, Bool, ◌&&◌, not, if◌then◌else◌, List, [], ◌∷◌, ◌++◌, length, map, fold, flat_map, Option, None, Some, is_some, Result, Ok, Err}
+use Rattle.std.specs.Prelude.{ℕ, zero, suc, ◌+◌, ◌-◌, ◌^◌, nat_lt, nat_le, Bool, ◌&&◌, if◌then◌else◌, List, [], ◌∷◌, ◌++◌, length, map, fold, flat_map, Option, None, Some, Result, Ok, Err}
 use Rattle.lapd_frame.specs.declared.timers.Timer.{Timer}
 use Rattle.lapd_clock.specs.Timers as clocks
 use Rattle.lapd_line_machine.specs.declared.config.Config.{Config}
 use Rattle.lapd_line_machine.specs.Config.{first_fault}
-use Rattle.lapd_line_machine.specs.Answer.{Answer, Told, told, refused, pulled, octet, expiry, request, pull}
+use Rattle.lapd_line_machine.specs.Answer.{Answer, told, refused, pulled, octet, expiry, request, pull}
 use Rattle.lapd_line_machine.specs.Request as asking
 use Rattle.lapd_card_machine.specs.Event.{Event, at}
 use Rattle.lapd_card_machine.specs.Machine.{answer}

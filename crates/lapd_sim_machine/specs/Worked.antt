@@ -1,6 +1,6 @@
 -- Whole scripts and their transcripts: each computes.
-use Rattle.std.specs.Prelude.{◌≡◌, ℕ, List, ◌++◌, codes, Some, None, refl}
-use Rattle.lapd_script.specs.declared.kind.FaultKind.TheVariants.{UnknownWord, NoCard, BadLine, SecondCard, BadCard}
+use Rattle.std.specs.Prelude.{◌≡◌, codes, Some, refl}
+use Rattle.lapd_script.specs.declared.kind.FaultKind.TheVariants.{NoCard, BadLine, SecondCard, BadCard}
 use Rattle.lapd_sim_machine.specs.Script.{transcript, first_fault}
 
 empty : transcript (codes "") ≡ codes ""

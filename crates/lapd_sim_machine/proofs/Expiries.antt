@@ -118,7 +118,7 @@ expiry_starts line timer m = aim_starts m.config timer (card.line_at line m)
 
 -- ---- so the time that is left falls
 
-runs_long : (timer : Timer) → 1 ≤ duration timer
+pub runs_long : (timer : Timer) → 1 ≤ duration timer
 runs_long (T200 service n) = omega arith
 runs_long (T203 service n) = omega arith
 runs_long T201 = omega arith
@@ -189,6 +189,15 @@ more zero n end s h =
 more (suc extra) n end s h =
     let one : suc extra + n ≡ suc (extra + n) = omega arith in
     ap (λ k. expiries k end s) one ∙ one_more (extra + n) end s (due_at s.bench.clock end) refl (omega (arith, h)) ∙ more extra n end s h
+
+-- and it is tried often enough: none is due any more
+pub drained : (n end : ℕ) (s : Scene) (o : Option (ℕ × Timer)) → due_at s.bench.clock end ≡ o → time_until end s.bench.clock ≤ n → due_at (expiries n end s).bench.clock end ≡ None
+drained n end s None is h = ap (λ (x : Scene). due_at x.bench.clock end) (none_left n end s is) ∙ is
+drained zero end s (Some due) is h = absurd (omega (arith, h, expiry_lowers end due.0 due.1 due s.bench is))
+drained (suc n) end s (Some due) is h =
+    let next = expired end due.0 due.1 s in
+    let lower = expiry_lowers end due.0 due.1 due s.bench is in
+    ap (λ (x : Scene). due_at x.bench.clock end) (one_left n end s due is) ∙ drained n end next (due_at next.bench.clock end) refl (omega (arith, h, lower))
 
 -- the first that falls due may be applied before
 pub until-expired : (end : ℕ) (s : Scene) (due : ℕ × Timer) → due_at s.bench.clock end ≡ Some due → until end s ≡ until end (expired end due.0 due.1 s)

@@ -17,7 +17,7 @@ use Rattle.lapd_card_machine.specs.Laws.{CardsStaySound}
 use Rattle.lapd_card_machine.specs.Machine.{after}
 use Rattle.lapd_card_machine.specs.Run.{after_all, IsAtLine, AreAtLines}
 use Rattle.lapd_card_machine.specs.Sound.{IsSound}
-use Rattle.lapd_card_machine.proofs.Steps.{HasLines, has_lines, by_room, line_sound, after_lines, fresh_lines, one_line}
+use Rattle.lapd_card_machine.proofs.Steps.{has_lines, by_room, line_sound, after_lines, fresh_lines, one_line}
 
 -- who is not turned away finds room
 room_found : (takes : Bool) (slots in_use : ℕ) → (takes && nat_le slots in_use) ≡ false → in_use ≤ slots → in_use + one takes ≤ slots

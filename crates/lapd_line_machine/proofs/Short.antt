@@ -114,7 +114,7 @@ module _ (c : Config) where
 
   -- A pull orders what the frame's timer wants.
   HasFewOrders : Taken → Type 0
-  HasFewOrders t = length t.orders ≤ 4
+  HasFewOrders t = length t.orders ≤ 2
 
   mapped : {X Y : Type 0} (f : X → Y) (P : Y → Type 0) (o : Option X) → IfSome o (λ x. P (f x)) → IfSome (option_map f o) P
   mapped f P None h = tt
@@ -124,10 +124,10 @@ module _ (c : Config) where
   anything P None h = tt
   anything P (Some x) h = h x
 
-  given_few : (t : Terms) (l : Link) → IfSome (links.given t l) (λ g. length g.orders ≤ 4)
+  given_few : (t : Terms) (l : Link) → IfSome (links.given t l) (λ g. length g.orders ≤ 2)
   given_few t l = go (links.course t link.offer l).sent
     where
-      go : (o : Option Sent) → IfSome (links.given_of t l (links.course t link.offer l) o) (λ g. length g.orders ≤ 4)
+      go : (o : Option Sent) → IfSome (links.given_of t l (links.course t link.offer l) o) (λ g. length g.orders ≤ 2)
       go None = tt
       go (Some s) = omega (arith, two-orders t l.running (links.course t link.offer l).started (links.course t link.offer l).link.running)
 
@@ -147,15 +147,15 @@ module _ (c : Config) where
   unfolding HasFewOrders
   taken_few l =
       first_few HasFewOrders (message_taken l) (option_or (unit_taken l) (first_taken c l (round c l)))
-      (mapped (with_message l) HasFewOrders _ (anything (λ octets. 0 ≤ 4) _ (λ octets. omega arith)))
+      (mapped (with_message l) HasFewOrders _ (anything (λ octets. 0 ≤ 2) _ (λ octets. omega arith)))
       (first_few HasFewOrders (unit_taken l) (first_taken c l (round c l))
-      (mapped (with_unit l) HasFewOrders _ (anything (λ u. 0 ≤ 4) _ (λ u. omega arith))) (links_few l (round c l)))
+      (mapped (with_unit l) HasFewOrders _ (anything (λ u. 0 ≤ 2) _ (λ u. omega arith))) (links_few l (round c l)))
 
-  pull_few : (l : Line) → length (option_map_or orders_of (begun c l) []) ≤ 4
+  pull_few : (l : Line) → length (option_map_or orders_of (begun c l) []) ≤ 2
   unfolding HasFewOrders
   pull_few l = go (is_due l) (taken c l) (taken_few l)
     where
-      go : (due : Bool) (o : Option Taken) → IfSome o HasFewOrders → length (option_map_or orders_of (cond due o None) []) ≤ 4
+      go : (due : Bool) (o : Option Taken) → IfSome o HasFewOrders → length (option_map_or orders_of (cond due o None) []) ≤ 2
       go false o h = omega arith
       go true None h = omega arith
       go true (Some t) h = h
@@ -181,7 +181,11 @@ module _ (c : Config) where
   orders_few (octet value) l = (octet_short l (with_received value l) (gained c.n201 l.received value)).orders
   orders_few (expiry timer) l = (expiry_short l timer).orders
   orders_few (request r) l = request_orders r l (refusal c false r l)
-  orders_few pull l = pull_few l
+  orders_few pull l = omega (arith, pull_few l)
+
+  pull_orders : (l : Line) → length (orders_in (answer c pull l)) ≤ 2
+  unfolding answer
+  pull_orders l = pull_few l
 
 pub answers_are_short : AnswersAreShort
-answers_are_short = record { notes = notes_few; orders = orders_few }
+answers_are_short = record { notes = notes_few; orders = orders_few; pulls = pull_orders }

@@ -45,7 +45,7 @@ pub record LinesRise : Type 0 where
   pub hears : (c : Config) (e : Event) (l : Line) → IsInRange c → IsSound c l → HearsOne c e l
   pub pulls : (c : Config) (l : Line) → IsInRange c → IsSound c l → FallsByPull c l
 
--- An answer has at most four notes and at most four orders.
+-- An answer has at most four notes and at most four orders, and that to a pull at most two orders.
 abbrev pub notes_in : Answer → List Note
 notes_in (told t) = t.notes
 notes_in (refused why) = []
@@ -59,3 +59,4 @@ orders_in (pulled value begun orders) = orders
 pub record AnswersAreShort : Type 0 where
   pub notes : (c : Config) (e : Event) (l : Line) → length (notes_in (answer c e l)) ≤ 4
   pub orders : (c : Config) (e : Event) (l : Line) → length (orders_in (answer c e l)) ≤ 4
+  pub pulls : (c : Config) (l : Line) → length (orders_in (answer c pull l)) ≤ 2

@@ -5,3 +5,5 @@ pub mod Stands
 pub mod Obeyed
 pub mod Plays
 pub mod Gives
+pub mod Shown
+pub mod OnLine

@@ -1,10 +1,11 @@
 //! The program's work: what its words ask for, its fault lines and its exit status.
 
-ghost use Rattle.std.specs.Prelude.{◌≡◌, ◌≢◌, ◌≤◌, ◌↔◌, ◌++◌, ℕ, List, Some, None, decimal, codes};
+ghost use Rattle.std.specs.Prelude.{◌≡◌, ◌≢◌, ◌≤◌, ◌↔◌, ◌++◌, ℕ, Bool, List, Some, None, decimal, codes};
 ghost use Rattle.lapd_script.specs.Bound.{bound};
-ghost use Rattle.lapd_script.specs.Job.{job, run, limits};
+ghost use Rattle.lapd_script.specs.Job.{job, run, frame, limits};
 ghost use Rattle.lapd_script.specs.Words.{texts};
 ghost use Rattle.lapd_sim.specs.Plays.{Serves, Shows};
+ghost use Rattle.lapd_sim.specs.Shown.{side_of, ServesFrame};
 
 use crate::faults::PlayFault;
 use crate::player::play;
@@ -50,6 +51,9 @@ pub fn serve<S: Source, T: Target, F: Target>(
     // `run`, where the source tells what it will give: the status is that of what `play` promises of this script.
     ensures played { job (texts words.now) ≡ Some run → (text : List ℕ) → S.remaining source.old ≡ Some text
         → Serves result text (S.remaining source.new) (T.taken target.old) (T.taken target.new) }
+    // `frame`: what the frame says and what it is on a line, or the first fault of its digits.
+    ensures shown { (digits : List ℕ) (network : Bool) → job (texts words.now) ≡ Some (frame digits network)
+        → ServesFrame result (side_of network) digits (T.taken target.old) (T.taken target.new) }
     // `limits`: the bound has been written, or a write failed.
     ensures bound { (l t c s n : ℕ) → job (texts words.now) ≡ Some (limits l t c s n)
         → Shows result (decimal (bound l t c s n) ++ codes "\n") (T.taken target.old) (T.taken target.new) }
@@ -60,8 +64,7 @@ pub fn serve<S: Source, T: Target, F: Target>(
             Err(fault) => refuse(fault, faults),
         },
         Some(Job::Frame { hex, network }) => {
-            let side = if network { Side::Network } else { Side::User };
-            match show_frame(alloc, hex.as_bytes(), side, target) {
+            match show_frame(alloc, hex.as_bytes(), side_of(network), target) {
                 Ok(()) => DONE,
                 Err(fault) => fail(fault, faults),
             }
@@ -75,6 +78,13 @@ pub fn serve<S: Source, T: Target, F: Target>(
             WRONG_WORDS
         }
     }
+}
+
+/// Who sent a frame: the network with `--network`, else the user.
+fn side_of(network: bool) -> Side
+    ensures { result ≡ side_of network }
+{
+    if network { Side::Network } else { Side::User }
 }
 
 /// Writes the line that tells of `fault`, and answers the exit status after it.

@@ -7,3 +7,5 @@ pub mod Plays
 pub mod Gives
 pub mod Shown
 pub mod OnLine
+pub mod FaultLines
+pub mod Serves

@@ -50,6 +50,3 @@ ShowsFrame (Err (NoFrame fault)) side digits old new = IsUnshown (NoFrame fault)
 abbrev pub frame_status : Result Unit FrameFault → ℕ
 frame_status (Ok _) = 0
 frame_status (Err _) = 1
-
-abbrev pub ServesFrame : ℕ → Side → List ℕ → Taken → Taken → Type 0
-ServesFrame status side digits old new = (r : Result Unit FrameFault) × (status ≡ frame_status r) × ShowsFrame r side digits old new

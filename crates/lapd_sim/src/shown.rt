@@ -6,6 +6,7 @@ ghost use Rattle.std.specs.Char.{is_ascii_hexdigit};
 ghost use Rattle.lapd_bits.specs.Sent.{Item, line_text};
 ghost use Rattle.lapd_frame.specs.declared.addresses.Side.{Side};
 ghost use Rattle.lapd_script.specs.Octets.{octets};
+ghost use Rattle.lapd_sim.specs.FaultLines.{frame_line};
 ghost use Rattle.lapd_sim.specs.OnLine.{HasPut};
 ghost use Rattle.lapd_sim.specs.declared.shown.FrameFault.TheVariants as frame;
 ghost use Rattle.lapd_sim.specs.Shown.{on_line, IsUnshown, ShowsFrame};
@@ -16,29 +17,41 @@ use lapd_frame::{ReadFault, Side, read};
 use lapd_script::octets;
 use lapd_transcript::{Target, WriteFailed, write_line_octets, write_shown};
 use std::alloc::{AllocError, Global};
-use thiserror::Error;
 
 /// More octets than the longest frame is on a line, with its check, stuffed bits and two flags.
 const MOST_ON_LINE: usize = 1300;
 
 /// Why a frame is not shown.
-#[derive(Clone, Copy, PartialEq, Eq, Debug, Error)]
+#[derive(Clone, Copy, PartialEq, Eq, Debug)]
 pub(crate) enum FrameFault {
     /// The word is no even number of hexadecimal digits.
-    #[error("bad octets")]
     BadOctets,
     /// They are more octets than any frame that a terminal sends.
-    #[error("frame: too long")]
     TooLong,
     /// They are no frame.
-    #[error("frame: {0}")]
     NoFrame(ReadFault),
     /// A write to the target failed.
-    #[error("write failed")]
     Write,
     /// Memory was refused.
-    #[error("out of memory")]
     OutOfMemory,
+}
+
+impl FrameFault {
+    /// The line that tells of it.
+    pub(crate) fn line(self) -> &'static [u8]
+        ensures { result.now ≡ frame_line self }
+    {
+        match self {
+            FrameFault::BadOctets => b"bad octets\n",
+            FrameFault::TooLong => b"frame: too long\n",
+            FrameFault::NoFrame(ReadFault::BadExtension) => b"frame: bad extension\n",
+            FrameFault::NoFrame(ReadFault::Undefined(_)) => b"frame: undefined\n",
+            FrameFault::NoFrame(ReadFault::WrongSize(_)) => b"frame: wrong size\n",
+            FrameFault::NoFrame(ReadFault::Short) => b"frame: short\n",
+            FrameFault::Write => b"write failed\n",
+            FrameFault::OutOfMemory => b"out of memory\n",
+        }
+    }
 }
 
 impl From<WriteFailed> for FrameFault {

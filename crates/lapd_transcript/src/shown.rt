@@ -6,7 +6,7 @@ ghost use Rattle.lapd_transcript.specs.Shown.{fields, number_text, on_line_text,
 ghost use Rattle.lapd_transcript.specs.Streams.{Writes, joined};
 ghost use Rattle.lapd_transcript.specs.Text.{octets_text};
 
-use crate::output::{Page, decimal, finish, put_all, put_octets_line};
+use crate::output::{Digits, Page, decimal, finish, put_all, put_octets_line};
 use crate::streams::{Target, WriteFailed};
 use arrayvec::ArrayVec;
 use lapd_frame::{Control, Frame};
@@ -20,8 +20,8 @@ use lapd_seq::Seq;
 pub fn write_shown<T: Target>(target: &mut T, frame: &Frame<'_>) -> Result<(), WriteFailed>
     ensures { Writes result (T.taken target.old) (T.taken target.new) (shown_text (parts_of frame.now)) }
 {
-    let sapi = decimal(u32::from(frame.address.sapi));
-    let tei = decimal(u32::from(frame.address.tei));
+    let sapi = decimal(u64::from(frame.address.sapi));
+    let tei = decimal(u64::from(frame.address.tei));
     let (command, bit) = (frame.address.command, bit_of(&frame.control));
     let (ns, nr) = numbers_of(&frame.control);
     let (ns_digits, nr_digits) = (digits_of(ns), digits_of(nr));
@@ -74,7 +74,7 @@ pub fn write_bound<T: Target>(target: &mut T, bound: u32) -> Result<(), WriteFai
     ensures { Writes result (T.taken target.old) (T.taken target.new) (decimal bound ++ codes "\n") }
 {
     let mut page = Page::new();
-    let bound = decimal(bound);
+    let bound = decimal(u64::from(bound));
     let put = put_all(target, &mut page, &[bound.as_slice(), b"\n"]);
     finish(target, &page, put)
 }
@@ -86,11 +86,11 @@ fn one_of(test: bool, yes: &'static [u8], no: &'static [u8]) -> &'static [u8]
 }
 
 /// The digits of a number, where there is one.
-fn digits_of(number: Option<Seq>) -> ArrayVec<u8, 11>
+fn digits_of(number: Option<Seq>) -> Digits
     ensures { result.items ≡ number_text [] (option_map (λ n. n.value) number) }
 {
     match number {
-        Some(number) => decimal(u32::from(number.value)),
+        Some(number) => decimal(u64::from(number.value)),
         None => ArrayVec::new(),
     }
 }

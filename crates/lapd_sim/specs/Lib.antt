@@ -9,3 +9,4 @@ pub mod Shown
 pub mod OnLine
 pub mod FaultLines
 pub mod Serves
+pub mod WorkedShown

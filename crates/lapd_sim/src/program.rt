@@ -46,17 +46,20 @@ pub fn serve<S: Source, T: Target, F: Target>(
 ) -> u8
     ensures range { result ≤ 2 }
     ensures wrong_words { (result ≡ 2) ↔ (job (texts words.now) ≡ None) }
-    // Any other words are told by `usage`.
+    // Other words are told by one line, and where all was done nothing is told.
     ensures usage { job (texts words.now) ≡ None → IsTold (codes "usage\n") (F.taken faults.old) (F.taken faults.new) }
     ensures untold { result ≡ 0 → F.taken faults.new ≡ F.taken faults.old }
     ensures no_read_failed { result ≢ 1 → S.failures source.new ≡ S.failures source.old }
     ensures no_write_failed { result ≢ 1 → (T.taken target.new).failures ≡ (T.taken target.old).failures }
     // `run` ends as an answer of `play` says: the status, the fault line, and the transcript of the script.
-    ensures played { job (texts words.now) ≡ Some run → (r : Result Unit PlayFault)
-        × Runs r result (record { remaining = S.remaining source.old; failures = S.failures source.old }) (record { remaining = S.remaining source.new; failures = S.failures source.new }) (T.taken target.old) (T.taken target.new) (F.taken faults.old) (F.taken faults.new) }
+    ensures played { job (texts words.now) ≡ Some run → (r : Result Unit PlayFault) × Runs r result
+        (record { remaining = S.remaining source.old; failures = S.failures source.old })
+        (record { remaining = S.remaining source.new; failures = S.failures source.new })
+        (T.taken target.old) (T.taken target.new) (F.taken faults.old) (F.taken faults.new) }
     // `frame`: what the frame says and what it is on a line, or the first fault of its digits.
-    ensures shown { (digits : List ℕ) (network : Bool) → job (texts words.now) ≡ Some (frame digits network) → (r : Result Unit FrameFault)
-        × Frames r result (side_of network) digits (T.taken target.old) (T.taken target.new) (F.taken faults.old) (F.taken faults.new) }
+    ensures shown { (digits : List ℕ) (network : Bool) → job (texts words.now) ≡ Some (frame digits network)
+        → (r : Result Unit FrameFault) × Frames r result (side_of network) digits
+        (T.taken target.old) (T.taken target.new) (F.taken faults.old) (F.taken faults.new) }
     // `limits`: the bound has been written, or a write failed.
     ensures bound { (l t c s n : ℕ) → job (texts words.now) ≡ Some (limits l t c s n)
         → Shows result (decimal (bound l t c s n) ++ codes "\n") (T.taken target.old) (T.taken target.new) }

@@ -3,9 +3,10 @@
 use crate::fakes::{ESTABLISHED, Page, TRANSCRIPT};
 use crate::worked::WORKED;
 use lapd_sim::{
-    PlayFault, ReadFailed, ReadFrom, Source, Target, WriteFailed, WriteTo, play, play_octets,
-    refuse,
+    FaultKind, PlayFault, ReadFailed, ReadFrom, Source, Target, WriteFailed, WriteTo, play,
+    play_octets, refuse,
 };
+use std::alloc::AllocError;
 use std::io::{Error, ErrorKind, Read, Result, Write};
 
 /// Is interrupted once, gives one octet, and fails from then on.
@@ -132,6 +133,34 @@ fn tells_of_refused_memory(rt: HostRuntime) {
     let mut faults = Page::new(rt.alloc());
     assert!(rt; refuse(PlayFault::OutOfMemory, &mut faults) == 1);
     assert!(rt; faults.text() == b"out of memory\n".as_slice());
+}
+
+/// The faults of a script, and what they say of themselves.
+const FAULTS: [(PlayFault, &str); 4] = [
+    (PlayFault::Read, "read failed"),
+    (PlayFault::Write, "write failed"),
+    (
+        PlayFault::Script {
+            line: 12,
+            kind: FaultKind::BadLine,
+        },
+        "line 12: bad line",
+    ),
+    (PlayFault::OutOfMemory, "out of memory"),
+];
+
+/// What a fault says of itself is what its line tells.
+#[test]
+fn a_fault_says_what_its_line_tells(rt: HostRuntime) -> std::result::Result<(), AllocError> {
+    for (fault, text) in FAULTS {
+        let said = format!(in rt.alloc(); "{fault}")?;
+        assert!(rt; said.as_str() == text);
+        let mut faults = Page::new(rt.alloc());
+        assert!(rt; refuse(fault, &mut faults) == 1);
+        let line = format!(in rt.alloc(); "{text}\n")?;
+        assert!(rt; faults.text() == line.as_str().as_bytes());
+    }
+    Ok(())
 }
 
 /// A script in memory: its transcript comes behind what was there.

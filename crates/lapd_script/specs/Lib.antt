@@ -7,3 +7,4 @@ pub mod Read
 pub mod Worked
 pub mod Job
 pub mod Bound
+pub mod Kinds

@@ -5,23 +5,24 @@
 //! - `command`: what a line says.
 //! - `word`: the first words.
 //! - `words`: the words of a line, and how many a line takes.
-//! - `number`, `octets`: words that stand for numbers and for octets.
+//! - `number`, `hex_word`: words that stand for numbers and for octets.
 //! - `read`: reads a line.
 //! - `jobs`, `arguments`: what the program can be asked for, and its words.
 #![tactic(auto)]
 
 mod arguments;
 mod command;
+mod hex_word;
 mod jobs;
 mod kind;
 mod number;
-mod octets;
 mod read;
 mod word;
 mod words;
 
 pub use arguments::job;
 pub use command::{Asked, CardNumbers, Command};
+pub use hex_word::octets;
 pub use jobs::{Job, Limits};
 pub use kind::FaultKind;
 pub use read::read_line;

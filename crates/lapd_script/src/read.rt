@@ -7,9 +7,9 @@ ghost use Rattle.lapd_script.specs.Read.{read, read_words, read_as, card_numbers
 ghost use Rattle.lapd_script.specs.declared.word.Word.TheVariants.{Ask};
 
 use crate::command::{Asked, CardNumbers, Command};
+use crate::hex_word::octets;
 use crate::kind::FaultKind;
 use crate::number::{number, octet, short};
-use crate::octets::octets;
 use crate::word::Word;
 use crate::words::{none, one, three, two, words_of};
 

@@ -13,3 +13,6 @@ pub mod Waits
 pub mod Octets
 pub mod Listeners
 pub mod Pulls
+pub mod OneFrame
+pub mod LongDigits
+pub mod Showing

@@ -33,7 +33,7 @@ octets_of-bits_then (octet ∷ octets) more h =
     ∙ ap (λ l. octet ∷ l) (octets_of-bits_then octets more (All-tail (λ x. x < 256) octet octets h))
 
 -- fewer than eight bits
-octets_of-few : (few : List Bool) → length few < 8 → octets_of few ≡ []
+pub octets_of-few : (few : List Bool) → length few < 8 → octets_of few ≡ []
 octets_of-few [] h = refl
 octets_of-few (a ∷ []) h = refl
 octets_of-few (a ∷ b ∷ []) h = refl
@@ -45,7 +45,7 @@ octets_of-few (a ∷ b ∷ c ∷ d ∷ e ∷ f ∷ g ∷ []) h = refl
 octets_of-few (a ∷ b ∷ c ∷ d ∷ e ∷ f ∷ g ∷ i ∷ more) h = absurd (omega arith)
 
 -- what is left of a line's octets after those that were given before
-octets_since : (framer : Framing) (items : List Item) (given octets : List ℕ) (tail : List Bool) → AreOctets octets → framing.Stands framer items (given ++ octets)
+pub octets_since : (framer : Framing) (items : List Item) (given octets : List ℕ) (tail : List Bool) → AreOctets octets → framing.Stands framer items (given ++ octets)
     → octets_of (drop (8 * length given) (line_text items ++ tail)) ≡ octets ++ octets_of (framer.left ++ tail)
 octets_since framer items given octets tail are_octets s =
     let text : line_text items ++ tail ≡ bits given ++ (bits octets ++ (framer.left ++ tail)) =
@@ -76,7 +76,7 @@ items_tail octets t =
     )
 
 -- how many bits are left tells whether the last octet is whole
-length-text : (framer : Framing) (items : List Item) (given : List ℕ) → framing.Stands framer items given → length (line_text items) ≡ 8 * length given + length framer.left
+pub length-text : (framer : Framing) (items : List Item) (given : List ℕ) → framing.Stands framer items given → length (line_text items) ≡ 8 * length given + length framer.left
 length-text framer items given s = ap length s.text ∙ length-append (bits given) framer.left ∙ ap (λ n. n + length framer.left) (length-bits given)
 
 pub whole_where : (framer : Framing) (octets : List ℕ) (t : Terminal) (given : List ℕ) → framing.Stands framer (with_frame octets t.items) given → length framer.left ≡ 0 → with_frame octets t.items ≡ sending octets t

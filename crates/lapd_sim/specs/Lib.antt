@@ -5,3 +5,8 @@ pub mod Stands
 pub mod Obeyed
 pub mod Plays
 pub mod Gives
+pub mod Shown
+pub mod OnLine
+pub mod FaultLines
+pub mod Serves
+pub mod WorkedShown

@@ -40,9 +40,6 @@ abbrev pub status_of : Result Unit PlayFault → ℕ
 status_of (Ok _) = 0
 status_of (Err _) = 1
 
-abbrev pub Serves : ℕ → List ℕ → Option (List ℕ) → Taken → Taken → Type 0
-Serves status text remaining old new = (r : Result Unit PlayFault) × (status ≡ status_of r) × Plays r text remaining old new
-
 -- A text that is shown: 0, it has been written; 1, a write failed.
 abbrev pub Shows : ℕ → List ℕ → Taken → Taken → Type 0
 Shows status text old new = (status ≡ 0 → IsWritten old new text) × (status ≡ 1 → IsBroken old new text)

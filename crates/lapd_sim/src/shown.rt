@@ -1,44 +1,70 @@
 //! Shows one frame: what it says, and what it is on a line.
 
-ghost use Rattle.std.specs.Prelude.{◌≡◌, ◌<◌, ◌≤◌, length, OnOk};
+ghost use Rattle.std.specs.Prelude.{◌≡◌, ℕ, ◌*◌, ◌<◌, ◌≤◌, List, length, take, Ok, IfOk, IfErr};
+ghost use Rattle.std.specs.List.{list_all};
+ghost use Rattle.std.specs.Char.{is_ascii_hexdigit};
+ghost use Rattle.lapd_bits.specs.Sent.{Item, line_text};
+ghost use Rattle.lapd_frame.specs.declared.addresses.Side.{Side};
+ghost use Rattle.lapd_script.specs.Octets.{octets};
+ghost use Rattle.lapd_sim.specs.FaultLines.{frame_line};
+ghost use Rattle.lapd_sim.specs.OnLine.{HasPut};
+ghost use Rattle.lapd_sim.specs.declared.shown.FrameFault.TheVariants as frame;
+ghost use Rattle.lapd_sim.specs.Shown.{on_line, IsUnshown, ShowsFrame};
 
-use crate::terminal::{LONGEST_FRAME, SHORTEST_FRAME, Terminal};
+use crate::terminal::{LONGEST_FRAME, Terminal};
 use arrayvec::ArrayVec;
 use lapd_frame::{ReadFault, Side, read};
+use lapd_script::octets;
 use lapd_transcript::{Target, WriteFailed, write_line_octets, write_shown};
 use std::alloc::{AllocError, Global};
-use thiserror::Error;
 
 /// More octets than the longest frame is on a line, with its check, stuffed bits and two flags.
 const MOST_ON_LINE: usize = 1300;
 
 /// Why a frame is not shown.
-#[derive(Clone, Copy, PartialEq, Eq, Debug, Error)]
+#[derive(Clone, Copy, PartialEq, Eq, Debug)]
 pub(crate) enum FrameFault {
     /// The word is no even number of hexadecimal digits.
-    #[error("bad octets")]
     BadOctets,
     /// They are more octets than any frame that a terminal sends.
-    #[error("frame: too long")]
     TooLong,
     /// They are no frame.
-    #[error("frame: {0}")]
     NoFrame(ReadFault),
     /// A write to the target failed.
-    #[error("write failed")]
     Write,
     /// Memory was refused.
-    #[error("out of memory")]
     OutOfMemory,
 }
 
+impl FrameFault {
+    /// The line that tells of it.
+    pub(crate) fn line(self) -> &'static [u8]
+        ensures { result.now ≡ frame_line self }
+    {
+        match self {
+            FrameFault::BadOctets => b"bad octets\n",
+            FrameFault::TooLong => b"frame: too long\n",
+            FrameFault::NoFrame(ReadFault::BadExtension) => b"frame: bad extension\n",
+            FrameFault::NoFrame(ReadFault::Undefined(_)) => b"frame: undefined\n",
+            FrameFault::NoFrame(ReadFault::WrongSize(_)) => b"frame: wrong size\n",
+            FrameFault::NoFrame(ReadFault::Short) => b"frame: short\n",
+            FrameFault::Write => b"write failed\n",
+            FrameFault::OutOfMemory => b"out of memory\n",
+        }
+    }
+}
+
 impl From<WriteFailed> for FrameFault {
+    ghost from_gives = { λ _ fault. fault ≡ frame.Write };
+
     fn from(_error: WriteFailed) -> FrameFault {
         FrameFault::Write
     }
 }
 
 impl From<AllocError> for FrameFault {
+    ghost from_gives = { λ _ fault. fault ≡ frame.OutOfMemory };
+
     fn from(_error: AllocError) -> FrameFault {
         FrameFault::OutOfMemory
     }
@@ -51,58 +77,67 @@ pub(crate) fn show_frame<T: Target>(
     side: Side,
     target: &mut T,
 ) -> Result<(), FrameFault>
-    ensures { OnOk result ((T.taken target.new).failures ≡ (T.taken target.old).failures) }
+    ensures { ShowsFrame result side digits.now (T.taken target.old) (T.taken target.new) }
 {
-    // A dash stands for no octets, as in a script.
-    let digits = if digits == b"-".as_slice() {
-        &[]
-    } else {
-        digits
-    };
-    if digits.len() % 2 == 1 || !digits.iter().all(|digit| digit.is_ascii_hexdigit()) {
-        return Err(FrameFault::BadOctets);
-    }
-    let count = digits.len() / 2;
-    if count > LONGEST_FRAME {
-        return Err(FrameFault::TooLong);
-    }
     let mut room = [0; LONGEST_FRAME];
-    if hex::decode_to_slice(digits, &mut room[..count]).is_err() {
-        return Err(FrameFault::BadOctets);
-    }
+    let count = octets_of(digits, &mut room)?;
     let octets = &room[..count];
-    let frame = read(side, octets).map_err(FrameFault::NoFrame)?;
-    if octets.len() < SHORTEST_FRAME {
-        return Err(FrameFault::NoFrame(ReadFault::Short));
-    }
-    let mut terminal = Terminal::start(alloc)?;
-    let line = on_line(&mut terminal, octets);
+    let frame = match read(side, octets) {
+        Ok(frame) => frame,
+        Err(fault) => return Err(FrameFault::NoFrame(fault)),
+    };
+    let line = on_line(alloc, octets)?;
     write_shown(target, &frame)?;
     write_line_octets(target, line.as_slice())?;
     Ok(())
 }
 
-/// What a terminal puts on its line until the closing flag of this frame is out.
-fn on_line(terminal: &mut Terminal, frame: &[u8]) -> ArrayVec<u8, MOST_ON_LINE>
+/// Puts the octets that the digits stand for into the beginning of `room`, and tells how many.
+fn octets_of(digits: &[u8], room: &mut [u8; LONGEST_FRAME]) -> Result<usize, FrameFault>
+    ensures octets { IfOk result (λ count. octets digits.now ≡ Ok (take count room.new)) }
+    ensures short { IfOk result (λ count. count ≤ 1028) }
+    ensures fault { (side : Side) → IfErr result (λ fault. IsUnshown fault side digits.now) }
+{
+    if digits.len() <= 2 * LONGEST_FRAME {
+        return octets(digits, room).map_err(|_| FrameFault::BadOctets);
+    }
+    if digits.len() % 2 == 0 && are_hex(digits) {
+        return Err(FrameFault::TooLong);
+    }
+    Err(FrameFault::BadOctets)
+}
+
+fn are_hex(digits: &[u8]) -> bool
+    ensures { result ≡ list_all is_ascii_hexdigit digits.now }
+{
+    digits.iter().all(|digit| digit.is_ascii_hexdigit())
+}
+
+/// What a fresh terminal puts on its line until the closing flag of this frame is out.
+fn on_line(alloc: Global, frame: &[u8]) -> Result<ArrayVec<u8, MOST_ON_LINE>, AllocError>
     requires short { 3 ≤ length frame.now }
     requires long { length frame.now ≤ 1028 }
+    ensures { IfOk result (λ line. line.items ≡ on_line frame.now) }
 {
-    let mut octets = ArrayVec::new();
-    put_sent(terminal, &mut octets);
+    let mut terminal = Terminal::start(alloc)?;
+    let mut line = ArrayVec::new();
+    put_sent(&mut terminal, &mut line);
     terminal.load(frame);
-    put_sent(terminal, &mut octets);
-    if terminal.has_rest() {
-        let _ = octets.try_push(terminal.octet());
+    put_sent(&mut terminal, &mut line);
+    if !terminal.has_rest() {
+        return Ok(line);
     }
-    octets
+    line.push(terminal.octet());
+    Ok(line)
 }
 
 /// Puts what a terminal has to send, but for the last bits that are no whole octet.
-fn put_sent(terminal: &mut Terminal, octets: &mut ArrayVec<u8, MOST_ON_LINE>)
-    ensures { length terminal.new.framer.left < 8 }
+fn put_sent(terminal: &mut Terminal, line: &mut ArrayVec<u8, MOST_ON_LINE>)
+    requires room { (items : List Item) × HasPut terminal.old line.old.items items × (length (line_text items) ≤ 8 * 1300) }
+    ensures rest { length terminal.new.framer.left < 8 }
+    ensures put { (items : List Item) → HasPut terminal.old line.old.items items → HasPut terminal.new line.new.items items }
 {
     while terminal.is_busy() {
-        let octet = terminal.octet();
-        let _ = octets.try_push(octet);
+        line.push(terminal.octet());
     }
 }

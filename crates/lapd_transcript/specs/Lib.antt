@@ -1,2 +1,4 @@
 pub mod Streams
 pub mod Text
+pub mod Shown
+pub mod Worked

@@ -95,6 +95,10 @@ sent_text line octets = line_text line (codes "tx " ++ octets_text octets)
 abbrev pub frame_text : ℕ → List ℕ → List ℕ
 frame_text line octets = line_text line (codes "frame " ++ octets_text octets)
 
+-- A faulty line of a script, and what is wrong with it.
+abbrev pub faulty_text : ℕ → List ℕ → List ℕ
+faulty_text line words = codes "line " ++ decimal line ++ codes ": " ++ words ++ codes "\n"
+
 -- What the card holds, and its bound.
 abbrev pub stored_text : ℕ → ℕ → List ℕ
 stored_text stored limit = codes "stored " ++ decimal stored ++ codes " limit " ++ decimal limit ++ codes "\n"

@@ -19,7 +19,7 @@ mod shown;
 mod streams;
 mod write_to;
 
-pub use lines::{write_frame, write_refused, write_report, write_sent, write_stored};
+pub use lines::{write_faulty, write_frame, write_refused, write_report, write_sent, write_stored};
 pub use read_from::ReadFrom;
 pub use shown::{write_bound, write_line_octets, write_shown};
 pub use streams::{ReadFailed, Source, Target, WriteFailed};

@@ -2,7 +2,7 @@
 
 ghost use Rattle.std.specs.Prelude.{◌≡◌, ◌++◌, List, ℕ, option_copied, decimal, codes};
 ghost use Rattle.lapd_transcript.specs.Streams.{Writes};
-ghost use Rattle.lapd_transcript.specs.Text.{line_text, octets_text, report_text, refused_text, sent_text, frame_text, stored_text};
+ghost use Rattle.lapd_transcript.specs.Text.{line_text, octets_text, report_text, refused_text, sent_text, frame_text, faulty_text, stored_text};
 
 use crate::names::refusal_name;
 use crate::notes::put_report;
@@ -46,7 +46,7 @@ pub fn write_refused<T: Target>(
     ensures { Writes result (T.taken target.old) (T.taken target.new) (refused_text line refusal) }
 {
     let mut page = Page::new();
-    let line = decimal(u32::from(line));
+    let line = decimal(u64::from(line));
     let pieces = [line.as_slice(), b" refused ", refusal_name(refusal), b"\n"];
     let put = put_all(target, &mut page, &pieces);
     finish(target, &page, put)
@@ -83,8 +83,23 @@ fn write_octets<T: Target>(
     ensures { Writes result (T.taken target.old) (T.taken target.new) (line_text line (name.now ++ octets_text octets.now)) }
 {
     let mut page = Page::new();
-    let line = decimal(u32::from(line));
+    let line = decimal(u64::from(line));
     let put = put_octets_line(target, &mut page, &[line.as_slice(), b" ", name], octets);
+    finish(target, &page, put)
+}
+
+/// A faulty line of a script, by its number, and what is wrong with it, in words.
+///
+/// # Errors
+///
+/// [`WriteFailed`] where a write failed: a beginning has been written then.
+pub fn write_faulty<T: Target>(target: &mut T, line: u64, words: &[u8]) -> Result<(), WriteFailed>
+    ensures { Writes result (T.taken target.old) (T.taken target.new) (faulty_text line words.now) }
+{
+    let mut page = Page::new();
+    let line = decimal(line);
+    let pieces = [b"line ".as_slice(), line.as_slice(), b": ", words, b"\n"];
+    let put = put_all(target, &mut page, &pieces);
     finish(target, &page, put)
 }
 
@@ -97,8 +112,8 @@ pub fn write_stored<T: Target>(target: &mut T, stored: u32, limit: u32) -> Resul
     ensures { Writes result (T.taken target.old) (T.taken target.new) (stored_text stored limit) }
 {
     let mut page = Page::new();
-    let stored = decimal(stored);
-    let limit = decimal(limit);
+    let stored = decimal(u64::from(stored));
+    let limit = decimal(u64::from(limit));
     let pieces = [
         b"stored ".as_slice(),
         stored.as_slice(),

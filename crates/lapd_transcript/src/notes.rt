@@ -60,7 +60,7 @@ fn put_dropped<T: Target>(
     let Some(cause) = cause else {
         return Ok(());
     };
-    let line = decimal(u32::from(line));
+    let line = decimal(u64::from(line));
     put_all(
         target,
         page,
@@ -79,8 +79,8 @@ fn put_lost<T: Target>(
     if lost == 0 {
         return Ok(());
     }
-    let line = decimal(u32::from(line));
-    let lost = decimal(u32::from(lost));
+    let line = decimal(u64::from(line));
+    let lost = decimal(u64::from(lost));
     put_all(
         target,
         page,
@@ -135,8 +135,8 @@ fn put_of_link<T: Target>(
 ) -> Result<(), WriteFailed>
     ensures { Puts result (T.taken target.old) page.old.items (T.taken target.new) page.new.items (line_text line (link_words name.now service tei)) }
 {
-    let line = decimal(u32::from(line));
-    let tei = decimal(u32::from(tei));
+    let line = decimal(u64::from(line));
+    let tei = decimal(u64::from(tei));
     put_all(
         target,
         page,
@@ -163,8 +163,8 @@ fn put_error<T: Target>(
 ) -> Result<(), WriteFailed>
     ensures { Puts result (T.taken target.old) page.old.items (T.taken target.new) page.new.items (line_text line (link_words (codes "error") service tei ++ codes " " ++ letter_of code ∷ [])) }
 {
-    let line = decimal(u32::from(line));
-    let tei = decimal(u32::from(tei));
+    let line = decimal(u64::from(line));
+    let tei = decimal(u64::from(tei));
     let letter = [code.letter() as u8];
     put_all(
         target,
@@ -194,8 +194,8 @@ fn put_contents<T: Target>(
 ) -> Result<(), WriteFailed>
     ensures { Puts result (T.taken target.old) page.old.items (T.taken target.new) page.new.items (line_text line (link_words name.now service tei ++ codes " " ++ octets_text contents.now)) }
 {
-    let line = decimal(u32::from(line));
-    let tei = decimal(u32::from(tei));
+    let line = decimal(u64::from(line));
+    let tei = decimal(u64::from(tei));
     let head = [
         line.as_slice(),
         b" ",
@@ -218,8 +218,8 @@ fn put_of_tei<T: Target>(
 ) -> Result<(), WriteFailed>
     ensures { Puts result (T.taken target.old) page.old.items (T.taken target.new) page.new.items (line_text line (tei_words name.now tei)) }
 {
-    let line = decimal(u32::from(line));
-    let tei = decimal(u32::from(tei));
+    let line = decimal(u64::from(line));
+    let tei = decimal(u64::from(tei));
     put_all(
         target,
         page,

@@ -14,9 +14,12 @@ const ROOM: usize = 256;
 /// What is on its way to a target.
 pub(crate) type Page = ArrayVec<u8, ROOM>;
 
+/// The digits of a number of 64 bits.
+pub(crate) type Digits = ArrayVec<u8, 20>;
+
 /// The digits of a number.
 // `write!` would give them too, but does not tell that it succeeds where there is room.
-pub(crate) fn decimal(number: u32) -> ArrayVec<u8, 11>
+pub(crate) fn decimal(number: u64) -> Digits
     ensures { result.items ≡ decimal number }
 {
     if number < 10 {

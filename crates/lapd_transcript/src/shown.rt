@@ -1,10 +1,12 @@
 //! Writes what a frame says, octets of a line, and the bound of a card.
 
-ghost use Rattle.std.specs.Prelude.{◌≡◌, ◌++◌, decimal, codes, OnOk};
+ghost use Rattle.std.specs.Prelude.{◌≡◌, ◌++◌, if◌then◌else◌, [], decimal, codes, option_map};
+ghost use Rattle.lapd_frame.specs.Grammar.{parts_of};
+ghost use Rattle.lapd_transcript.specs.Shown.{fields, number_text, on_line_text, shown_text};
 ghost use Rattle.lapd_transcript.specs.Streams.{Writes, joined};
 ghost use Rattle.lapd_transcript.specs.Text.{octets_text};
 
-use crate::output::{Page, decimal, finish, put_all, put_octets_line};
+use crate::output::{Digits, Page, decimal, finish, put_all, put_octets_line};
 use crate::streams::{Target, WriteFailed};
 use arrayvec::ArrayVec;
 use lapd_frame::{Control, Frame};
@@ -16,10 +18,10 @@ use lapd_seq::Seq;
 ///
 /// [`WriteFailed`] where a write failed: a beginning has been written then.
 pub fn write_shown<T: Target>(target: &mut T, frame: &Frame<'_>) -> Result<(), WriteFailed>
-    ensures { OnOk result ((T.taken target.new).failures ≡ (T.taken target.old).failures) }
+    ensures { Writes result (T.taken target.old) (T.taken target.new) (shown_text (parts_of frame.now)) }
 {
-    let sapi = decimal(u32::from(frame.address.sapi));
-    let tei = decimal(u32::from(frame.address.tei));
+    let sapi = decimal(u64::from(frame.address.sapi));
+    let tei = decimal(u64::from(frame.address.tei));
     let (command, bit) = (frame.address.command, bit_of(&frame.control));
     let (ns, nr) = numbers_of(&frame.control);
     let (ns_digits, nr_digits) = (digits_of(ns), digits_of(nr));
@@ -47,7 +49,7 @@ pub fn write_shown<T: Target>(target: &mut T, frame: &Frame<'_>) -> Result<(), W
 ///
 /// [`WriteFailed`] where a write failed: a beginning has been written then.
 pub fn write_line_octets<T: Target>(target: &mut T, octets: &[u8]) -> Result<(), WriteFailed>
-    ensures { Writes result (T.taken target.old) (T.taken target.new) (codes "line " ++ octets_text octets.now ++ codes "\n") }
+    ensures { Writes result (T.taken target.old) (T.taken target.new) (on_line_text octets.now) }
 {
     let mut page = Page::new();
     let put = put_octets_line(target, &mut page, &[b"line ".as_slice()], octets);
@@ -72,25 +74,32 @@ pub fn write_bound<T: Target>(target: &mut T, bound: u32) -> Result<(), WriteFai
     ensures { Writes result (T.taken target.old) (T.taken target.new) (decimal bound ++ codes "\n") }
 {
     let mut page = Page::new();
-    let bound = decimal(bound);
+    let bound = decimal(u64::from(bound));
     let put = put_all(target, &mut page, &[bound.as_slice(), b"\n"]);
     finish(target, &page, put)
 }
 
-fn one_of(test: bool, yes: &'static [u8], no: &'static [u8]) -> &'static [u8] {
+fn one_of(test: bool, yes: &'static [u8], no: &'static [u8]) -> &'static [u8]
+    ensures { result.now ≡ if test then yes.now else no.now }
+{
     if test { yes } else { no }
 }
 
 /// The digits of a number, where there is one.
-fn digits_of(number: Option<Seq>) -> ArrayVec<u8, 11> {
+fn digits_of(number: Option<Seq>) -> Digits
+    ensures { result.items ≡ number_text [] (option_map (λ n. n.value) number) }
+{
     match number {
-        Some(number) => decimal(u32::from(number.value)),
+        Some(number) => decimal(u64::from(number.value)),
         None => ArrayVec::new(),
     }
 }
 
 /// N(S) and N(R), where the frame has them.
-fn numbers_of(control: &Control) -> (Option<Seq>, Option<Seq>) {
+fn numbers_of(control: &Control) -> (Option<Seq>, Option<Seq>)
+    ensures ns { option_map (λ n. n.value) result.0 ≡ (fields control.now).ns }
+    ensures nr { option_map (λ n. n.value) result.1 ≡ (fields control.now).nr }
+{
     match *control {
         Control::Information { ns, nr, .. } => (Some(ns), Some(nr)),
         Control::ReceiveReady { nr, .. }
@@ -101,7 +110,9 @@ fn numbers_of(control: &Control) -> (Option<Seq>, Option<Seq>) {
 }
 
 /// P of a command, or F of a response.
-fn bit_of(control: &Control) -> bool {
+fn bit_of(control: &Control) -> bool
+    ensures { result ≡ (fields control.now).bit }
+{
     match *control {
         Control::Information { pf, .. }
         | Control::ReceiveReady { pf, .. }
@@ -117,7 +128,9 @@ fn bit_of(control: &Control) -> bool {
     }
 }
 
-fn name_of(control: &Control) -> &'static [u8] {
+fn name_of(control: &Control) -> &'static [u8]
+    ensures { result.now ≡ (fields control.now).name }
+{
     match control {
         Control::Information { .. } => b"i",
         Control::ReceiveReady { .. } => b"rr",

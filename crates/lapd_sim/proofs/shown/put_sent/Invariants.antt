@@ -1,6 +1,15 @@
-use Rattle.std.proofs.Common.{length}
+use Rattle.std.proofs.Common.{◌*◌, ◌≤◌, List, length}
+use Rattle.lapd_bits.specs.Sent.{Item, line_text}
+use Rattle.lapd_sim.specs.OnLine.{HasPut}
 use Rattle.lapd_sim.proofs.shown.put_sent.Given as goal
 
+-- the octets so far were put, and there is room for what is left
+abbrev pub invariant-loop-line : goal.invariant-loop-line
+invariant-loop-line l = record {
+  room : (items : List Item) × HasPut l.terminal l.line.items items × (length (line_text items) ≤ 8 * 1300);
+  put : (items : List Item) → HasPut l.fn.terminal l.fn.line.items items → HasPut l.terminal l.line.items items;
+}
+
 -- each octet takes eight of the bits that are left
-abbrev pub decreases-loop-terminal : goal.decreases-loop-terminal
-decreases-loop-terminal l = length l.terminal.framer.left
+abbrev pub decreases-loop-line : goal.decreases-loop-line
+decreases-loop-line l = length l.terminal.framer.left

@@ -6,8 +6,13 @@ ghost use Rattle.lapd_script.specs.Octets.{octets};
 use crate::kind::FaultKind;
 
 /// Puts the octets that a word of hexadecimal digits stands for into the beginning of `room`, and tells how many.
-/// `-` stands for no octets, as a word without digits does.
-pub(crate) fn octets(word: &[u8], room: &mut [u8]) -> Result<usize, FaultKind>
+/// `-` stands for no octets, as a word without digits does. `room` has at least half as many places as the word has
+/// digits.
+///
+/// # Errors
+///
+/// [`FaultKind::BadOctets`] where the word is neither an even number of hexadecimal digits nor `-`.
+pub fn octets(word: &[u8], room: &mut [u8]) -> Result<usize, FaultKind>
     requires { length word.now ≤ 2 * length room.old }
     ensures octets { MatchResult result (λ count. octets word.now ≡ Ok (take count room.new)) (λ kind. octets word.now ≡ Err kind) }
     ensures counted { IfOk result (λ count. count ≤ length room.new) }

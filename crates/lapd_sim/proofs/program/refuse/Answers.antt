@@ -1,0 +1,4 @@
+use Rattle.lapd_sim.proofs.program.refuse.Goals as goal
+
+pub returns-clause-told : goal.returns-clause-told
+returns-clause-told g c = (c.write_fault.result, c.write_fault.ensures)

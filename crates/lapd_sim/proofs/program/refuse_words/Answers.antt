@@ -1,0 +1,4 @@
+use Rattle.lapd_sim.proofs.program.refuse_words.Goals as goal
+
+pub returns-clause-told : goal.returns-clause-told
+returns-clause-told g c = (c.write.result, c.write.ensures)

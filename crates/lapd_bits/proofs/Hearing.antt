@@ -22,9 +22,6 @@ opened_gap_more : (b : Bool) (past g : List Bool) → ends_flag (b ∷ past) ≡
 opened_gap_more b past g none e few h =
     opened_gap (b ∷ past) (b ∷ g) (rw (none, e) refl) (or_from (ends_abort (b ∷ g)) (has_abort g) few h)
 
-no_gap : (past : List Bool) → since_flag past ≡ None → open_gap past ≡ None
-no_gap past e = rw e refl
-
 -- ---- a 1 after fewer than six brings nothing, and goes into the gap
 
 pub heard_at-one : (room : ℕ) (past : List Bool) → run_of past < 6 → heard_at room (true ∷ past) ≡ None

@@ -1,5 +1,5 @@
 -- What a deframer lends until its next octet.
-use Rattle.std.proofs.Common.{◌≡◌, ℕ, List, [], ◌∷◌, ◌++◌, Option, length, reverse, option_to_list, refl, sym, ap, subst, ◌∙◌, length-append, arith}
+use Rattle.std.proofs.Common.{◌≡◌, ℕ, List, [], ◌∷◌, ◌++◌, Option, length, reverse, option_to_list, refl, sym, ap, subst, ◌∙◌}
 use Rattle.std.proofs.lemmas.List.{same_from_push, length-take-le}
 use Rattle.lapd_bits.specs.Bits.{bits}
 use Rattle.lapd_bits.specs.Stream.{Event, heard_until, heard_in, room_for}
@@ -23,12 +23,6 @@ pub latest_more : (n201 : ℕ) (past : List ℕ) (octet : ℕ) (e : Option Event
     → (front : List ℕ) (last : ℕ) → past ++ octet ∷ [] ≡ front ++ last ∷ [] → heard_in n201 (past ++ octet ∷ []) ≡ heard_in n201 front ++ option_to_list e
 latest_more n201 past octet e heard front last same =
     heard ∙ ap (λ p. heard_in n201 p ++ option_to_list e) (same_from_push past front octet last same).0
-
--- and no octets in none
-pub none_latest : {P : Type 0} (front : List ℕ) (last : ℕ) → [] ≡ front ++ last ∷ [] → P
-none_latest front last same =
-    let one : 0 ≡ length (front ++ last ∷ []) = ap length same in
-    absurd (omega (arith, one, length-append front (last ∷ [])))
 
 -- what has ended, without its octets
 pub told_is : (octets : List ℕ) (e : Ended) → FitsIn (length octets) e → e ≡ without_octets (event_in octets e)

@@ -134,9 +134,6 @@ heard_at_close room b r past c h =
 pub hears_flag : (room : ℕ) (past : List Bool) → hears room (after_flag past) flag ≡ []
 hears_flag room past = refl
 
-pub hears_first_flag : (room : ℕ) → hears room [] flag ≡ []
-hears_first_flag room = refl
-
 pub hears_cut_flag : (room : ℕ) (past : List Bool) (more : ℕ) → more < 8 → hears room (after_flag past) (take more flag) ≡ []
 hears_cut_flag room past zero h = refl
 hears_cut_flag room past (suc zero) h = refl

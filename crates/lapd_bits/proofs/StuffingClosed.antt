@@ -20,9 +20,6 @@ abbrev pub six_ones : List Bool
 six_ones = true ∷ true ∷ true ∷ true ∷ true ∷ true ∷ []
 
 -- one bit more of a text
-pub ones_after-push : (text : List Bool) (b : Bool) → ones_after 0 (text ++ b ∷ []) ≡ ones_after (ones_after 0 text) (b ∷ [])
-ones_after-push text b = ones_after-append 0 text (b ∷ [])
-
 pub unstuffed-push : (text : List Bool) (b : Bool) → unstuffed (text ++ b ∷ []) ≡ unstuffed text ++ unstuffed_after (ones_after 0 text) (b ∷ [])
 unstuffed-push text b =
     unstuffed-counted (text ++ b ∷ [])

@@ -1,9 +1,9 @@
 //! What goes out on a line (clauses 2.2, 2.6 and 2.7): frames, and idle flags between them.
-ghost use Rattle.std.specs.Prelude.{◌≡◌, ℕ, ◌+◌, ◌<◌, ◌≤◌, ◌↔◌, Bool, List, [], ◌∷◌, ◌++◌, length, take, min, vec_len, vec_capacity, IsTrue, IfOk};
+ghost use Rattle.std.specs.Prelude.{◌≡◌, ℕ, ◌+◌, ◌<◌, ◌≤◌, ◌↔◌, List, [], ◌∷◌, ◌++◌, length, take, min, vec_len, vec_capacity, IsTrue, IfOk};
 ghost use Rattle.lapd_bits.specs.Bits.{low_bits, flag, number_of};
 ghost use Rattle.lapd_bits.specs.Sent.{Item, frame, item_text};
 ghost use Rattle.lapd_bits.specs.Framer.{Framing, Stands, refilled, with_idle, still_held};
-ghost use Rattle.lapd_bits.specs.FramerText.{waits, to_give};
+ghost use Rattle.lapd_bits.specs.FramerText.{to_give};
 
 use crate::check::fcs;
 use crate::start_fault::StartFault;

@@ -1,7 +1,7 @@
 //! Takes the stuffed 0s out of an octet at once (clause 2.6), by tables.
 //!
 //! The tables have 256 entries for each number of 1s that came right before an octet, 0 to 5, in this order.
-ghost use Rattle.std.specs.Prelude.{◌≡◌, ◌≤◌, ◌<◌, ◌^◌, ◌↔◌, true, replicate, ◌++◌, IsNone, IsTrue, IfSome};
+ghost use Rattle.std.specs.Prelude.{◌≤◌, ◌<◌, ◌^◌, ◌↔◌, true, replicate, ◌++◌, IsNone, IsTrue, IfSome};
 ghost use Rattle.lapd_bits.specs.Bits.{low_bits};
 ghost use Rattle.lapd_bits.specs.Unstuffer.{has_six, IsContent};
 

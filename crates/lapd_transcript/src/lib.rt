@@ -4,7 +4,7 @@
 //! - `streams`: where a script is read from and a transcript is written to, [`Source`] and [`Target`].
 //! - `read_from`, `write_to`: any reader of std as a source, any writer of std as a target.
 //! - `output`: writes pieces of text.
-//! - `lines`: writes the lines of a transcript.
+//! - `lines`: writes the lines of a transcript, and what tells of a faulty line of a script.
 //! - `notes`: what an event brought.
 //! - `shown`: what a frame says, octets of a line, and the bound of a card.
 //! - `names`: the names that stand in them.

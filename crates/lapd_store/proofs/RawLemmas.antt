@@ -1,5 +1,5 @@
 -- A region of slots as a store.
-use Rattle.std.proofs.Common.{◌≡◌, ◌≢◌, ℕ, zero, suc, ◌+◌, ◌*◌, ◌/◌, ◌%◌, ◌<◌, ◌≤◌, ◌⊎◌, inl, inr, Option, Some, None, List, [], ◌∷◌, map, length, get_or, refl, sym, ap, ◌∙◌, arith}
+use Rattle.std.proofs.Common.{◌≡◌, ◌≢◌, ℕ, zero, suc, ◌+◌, ◌*◌, ◌<◌, ◌≤◌, ◌⊎◌, inl, inr, Option, Some, None, List, [], ◌∷◌, map, length, get_or, refl, sym, ap, ◌∙◌, arith}
 use native.Mathlib.Nat.{zero-mul, suc-mul}
 use Rattle.std.specs.FinMap as finmap
 use Rattle.std.specs.FinMap.Entries.{find}
@@ -117,10 +117,6 @@ list_kept old new lens lens' width slot len same short two others (other ∷ res
   list.2,
   (list.3.0, kept old new width slot other len (link list.3.0) same short apart.0 two list.3.1, list_kept old new lens lens' width slot len same short two others rest list.3.0 apart.1 list.3.2),
 )
-
--- the number that a link holds
-pub link_read : (a b next : ℕ) → a ≡ next % 256 → b ≡ next / 256 → a + 256 * b ≡ next
-link_read a b next low high = omega (arith, low, high)
 
 -- a length that was read is that of the list
 pub read_length : (lens : List ℕ) (slot len : ℕ) → slot < length lens → len ≡ get_or lens slot len → len ≡ get_or lens slot free_mark

@@ -1,5 +1,5 @@
 //! A shelf over one region of octets.
-ghost use Rattle.std.specs.Prelude.{◌≡◌, ℕ, ◌+◌, ◌*◌, ◌<◌, ◌≤◌, List, length, IfOk};
+ghost use Rattle.std.specs.Prelude.{◌≡◌, ℕ, ◌+◌, ◌*◌, ◌<◌, ◌≤◌, length, IfOk};
 ghost use Rattle.lapd_region.specs.Region.{Holds, SameOutside};
 ghost use Rattle.lapd_store.specs.RawStore.{link, or_end};
 

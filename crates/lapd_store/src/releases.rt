@@ -1,5 +1,5 @@
 //! Messages that a queue lets go.
-ghost use Rattle.std.specs.Prelude.{◌≡◌, ◌≤◌, List, ℕ, drop, length};
+ghost use Rattle.std.specs.Prelude.{◌≡◌, List, ℕ, drop};
 ghost use Rattle.lapd_store.specs.Ownership.{Owned, Keeps};
 ghost use Rattle.lapd_store.specs.Store.{SameLimits};
 

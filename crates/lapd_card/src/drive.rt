@@ -42,7 +42,7 @@ impl<S: Shelf> Card<S> {
     /// - `by_event`: by how much each event of the run lets rise what may still be sent: an octet by two and k at most, and only
     ///   where it ends a frame; an expiry of a running timer by k + 1; an accepted request by one; a pull by nothing.
     /// - `drops`, `without_effect`: an octet of the run whose answer names a cause, why it or its frame was dropped, leaves what
-    ///   may still be sent as it is, and all else of the card but the octets received.
+    ///   may still be sent as it is, and all else of the card but the octets received; and the answer says nothing else.
     ///
     /// The rest holds after every front of the list, so after each event, and also where the sink failed on the way:
     ///

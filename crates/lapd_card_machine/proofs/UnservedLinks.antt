@@ -1,4 +1,4 @@
--- An event of a link that its state does not serve leaves the link as it is.
+-- An event of a link that its state does not serve leaves the link as it is, and nothing else is told.
 use Rattle.std.proofs.Common.{◌≡◌, ℕ, Bool, true, false, List, Option, Some, None, refl, sym, ◌∙◌}
 use Rattle.std.proofs.lemmas.Bool.{false≢true}
 use Rattle.lapd_seq.specs.declared.numbers.Seq.{Seq}
@@ -106,7 +106,7 @@ ruleset words = (keeping_then, nothing_leads, depending_leads, bit_leads, number
 
 -- What an event leaves where it is not served.
 abbrev Leaves : Link → Course → Type 0
-Leaves l c = c.unserved ≡ true → c.link ≡ l
+Leaves l c = c.unserved ≡ true → c ≡ Words.refuse_frame (begun l)
 
 -- a row that serves
 serving : (l : Link) {f : Step} → Leads Served f Served → Leaves l (f (begun l))
@@ -198,7 +198,7 @@ module _ (t : Terms) (l : Link) where
   malformed TimerRecovery e = serving l {f = MultipleFrame.failed t e} (search words depth 12 fits 4000)
 
   pub unserved_leaves : (what : Events.Received) → (Machine.told t (Events.received what) l).unserved ≡ true
-      → Machine.after t (Events.received what) l ≡ l
+      → Machine.course t (Events.received what) l ≡ Words.refuse_frame (begun l)
   unserved_leaves (Events.frame f) = frames f.address.command f.info f.control
   unserved_leaves Events.undefined = malformed l.state code.L
   unserved_leaves Events.wrong_size = malformed l.state code.N

@@ -1,7 +1,7 @@
 -- What is dropped costs nothing, and changes nothing.
-use Rattle.std.specs.Prelude.{◌≡◌, ℕ, List, Option, None, IsSome, All}
+use Rattle.std.specs.Prelude.{◌≡◌, ℕ, List, Option, Some, None, IsSome, All}
 use Rattle.lapd_bits.specs.declared.heard.Cause.{Cause}
-use Rattle.lapd_line_machine.specs.Answer.{Answer, octet, told, refused, pulled}
+use Rattle.lapd_line_machine.specs.Answer.{Answer, octet, told, refused, pulled, dropped}
 use Rattle.lapd_line_machine.specs.Octet.{with_received}
 use Rattle.lapd_card_machine.specs.Event.{Event}
 use Rattle.lapd_card_machine.specs.Card.{Card, line_at}
@@ -25,14 +25,14 @@ IsDropFree moment =
 abbrev pub AreDropsFree : Card → List Event → Type 0
 AreDropsFree m events = All IsDropFree (moments m events)
 
--- And the card is as it was, but for the octet received on its line.
+-- And the cause is all that is told, and the card is as it was, but for the octet received on its line.
 abbrev pub with_octet : ℕ → ℕ → Card → Card
 with_octet number value card = record card { lines = with_line number (with_received value (line_at number card)) card.lines }
 
 abbrev pub IsDropWithoutEffect : Moment → Type 0
 IsDropWithoutEffect moment =
-    (value : ℕ) → moment.event.what ≡ octet value → IsSome (cause_in moment.answer) →
-    after moment.event moment.card ≡ with_octet moment.event.line value moment.card
+    (value : ℕ) (cause : Cause) → moment.event.what ≡ octet value → cause_in moment.answer ≡ Some cause →
+    (moment.answer ≡ told (dropped cause)) × (after moment.event moment.card ≡ with_octet moment.event.line value moment.card)
 
 abbrev pub AreDropsWithoutEffect : Card → List Event → Type 0
 AreDropsWithoutEffect m events = All IsDropWithoutEffect (moments m events)

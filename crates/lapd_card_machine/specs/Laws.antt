@@ -64,7 +64,7 @@ pub record FramesByEvent : Type 0 where
 abbrev pub DropsCostNothing : Type 0
 DropsCostNothing = (card : Card) (events : List Event) → IsSound card → AreAtLines card events → AreDropsFree card events
 
--- And changes nothing but the octets received, from any card on.
+-- And nothing else is told of it, and it changes nothing but the octets received, from any card on.
 abbrev pub DropsChangeNothing : Type 0
 DropsChangeNothing = (card : Card) (events : List Event) → AreDropsWithoutEffect card events
 

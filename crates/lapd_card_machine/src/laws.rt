@@ -42,9 +42,9 @@ pub fn drops_cost_nothing()
     ensures { DropsCostNothing }
 {}
 
-/// In every moment of a run, from any card on: where the answer to an octet names a cause, whichever, the card is afterwards
-/// what it was, but that its line has received this octet. So what is dropped is never answered: no frame waits for it, and no
-/// link, TEI, timer or slot has changed.
+/// In every moment of a run, from any card on: where the answer to an octet names a cause, whichever, the cause is all that it
+/// says, and the card is afterwards what it was, but that its line has received this octet. So what is dropped is never
+/// answered: no frame waits for it, no note and no order is told, and no link, TEI, timer or slot has changed.
 pub fn drops_change_nothing()
     ensures { DropsChangeNothing }
 {}

@@ -28,40 +28,43 @@ impl<S: Shelf> Card<S> {
     ///
     /// What its contract promises, of every list of events and every card, clause by clause:
     ///
-    /// - `ok`, `ran`, `taken`: every event has happened, the card is where the machine of the profile is after them, and the
-    ///   sink has taken the machine's reply to each, once and in order.
-    /// - `at`, `stopped`, `taken_before`: after a fault, the events up to the one whose reply the sink did not take have
-    ///   happened and no later one, and the sink has taken the replies before it.
-    /// - `failed`, `not_failed`: after a fault the sink has counted one failure more (a count that stays at its greatest value),
-    ///   and else none.
+    /// - `ok`, `ran`, `taken`: every event has happened, the card is where the machine of the profile is after them,
+    ///   and the sink has taken the machine's reply to each, once and in order.
+    /// - `at`, `stopped`, `taken_before`: after a fault, the events up to the one whose reply the sink did not take
+    ///   have happened and no later one, and the sink has taken the replies before it.
+    /// - `failed`, `not_failed`: after a fault the sink has counted one failure more (a count that stays at its
+    ///   greatest value), and else none.
     /// - `config`: the configuration stays as it is.
-    /// - `moments`: the replies that the sink takes are the answers in the moments of the run, which the sentences below
-    ///   count, number and compare.
-    /// - `refused`: a request is refused exactly where a row of the table of refusals holds, for the reason of the first that
-    ///   does, so for want of room exactly where its place is full; and then nothing changes.
-    /// - `by_event`: by how much each event of the run lets rise what may still be sent: an octet by two and k at most, and only
-    ///   where it ends a frame; an expiry of a running timer by k + 1; an accepted request by one; a pull by nothing.
-    /// - `drops`, `without_effect`: an octet of the run whose answer names a cause, why it or its frame was dropped, leaves what
-    ///   may still be sent as it is, and all else of the card but the octets received; and the answer says nothing else.
+    /// - `moments`: the replies that the sink takes are the answers in the moments of the run, which the sentences
+    ///   below count, number and compare.
+    /// - `refused`: a request is refused exactly where a row of the table of refusals holds, for the reason of the
+    ///   first that does, so for want of room exactly where its place is full; and then nothing changes.
+    /// - `by_event`: by how much each event of the run lets rise what may still be sent: an octet by two and k at most,
+    ///   and only where it ends a frame; an expiry of a running timer by k + 1; an accepted request by one; a pull by
+    ///   nothing.
+    /// - `drops`, `without_effect`: an octet of the run whose answer names a cause, why it or its frame was dropped,
+    ///   leaves what may still be sent as it is, and all else of the card but the octets received; and the answer says
+    ///   nothing else.
     ///
     /// The rest holds after every front of the list, so after each event, and also where the sink failed on the way:
     ///
     /// - `within_limit`: the octets stored are at most [`crate::limit`] of the configuration.
-    /// - `amortised`: the frames that pulls begin, with those that may still be sent, are at most those that could be sent
-    ///   before, two for each frame recognised, one for each accepted request, k + 1 for each expiry of a running timer and k
-    ///   for each REJ with a valid N(R), whatever the number of pulls; k is the greater window.
-    /// - `linear`: from a card that has just begun, the same without what could be sent before, which is nothing; and six times
-    ///   the frames recognised, and seven times those REJ, are at most the octets received, so the frames sent are linear in
-    ///   octets, accepted requests and expiries.
-    /// - `isolated`: from a card that has just begun, each line answers, but for a full pool, what it would answer on a card
-    ///   of its own, to the events at it that did not find the pool full.
-    /// - `never_full`: from a card that has just begun, no request finds the pool full where there is a slot for each place of
-    ///   each queue.
-    /// - `numbered`: what each link delivers since its establishment is numbered 0, 1, 2, .. modulo 128, each delivery told in
-    ///   the answer to its own frame (Q.921 clause 5.6.2); before an establishment the numbers go on with the link's V(R).
+    /// - `amortised`: the frames that pulls begin, with those that may still be sent, are at most those that could be
+    ///   sent before, two for each frame recognised, one for each accepted request, k + 1 for each expiry of a running
+    ///   timer and k for each REJ with a valid N(R), whatever the number of pulls; k is the greater window.
+    /// - `linear`: from a card that has just begun, the same without what could be sent before, which is nothing; and
+    ///   six times the frames recognised, and seven times those REJ, are at most the octets received, so the frames
+    ///   sent are linear in octets, accepted requests and expiries.
+    /// - `isolated`: from a card that has just begun, each line answers, but for a full pool, what it would answer on a
+    ///   card of its own, to the events at it that did not find the pool full.
+    /// - `never_full`: from a card that has just begun, no request finds the pool full where there is a slot for each
+    ///   place of each queue.
+    /// - `numbered`: what each link delivers since its establishment is numbered 0, 1, 2, .. modulo 128, each delivery
+    ///   told in the answer to its own frame (Q.921 clause 5.6.2); before an establishment the numbers go on with the
+    ///   link's V(R).
     /// - `from_zero`: on a card that has just begun they begin with 0, too.
-    /// - `textual`: the octets pulled of a line, after those given before, are a beginning of one text of flags and whole frames
-    ///   (Q.921 clause 2), whose frames are those that pulls began, in order.
+    /// - `textual`: the octets pulled of a line, after those given before, are a beginning of one text of flags and
+    ///   whole frames (Q.921 clause 2), whose frames are those that pulls began, in order.
     ///
     /// # Errors
     ///
@@ -87,7 +90,8 @@ impl<S: Shelf> Card<S> {
         ensures taken_before { IfErr result (λ fault. (m : machine.Card) → Stands S.store self.old m
             → MissesAt K.takes K.misses m (events_of events.now) fault.at sink.old sink.new) }
 
-        // The replies of `run` are the answers of `moments`, and its card is that of `after_all`: all below speaks of those.
+        // The replies of `run` are the answers of `moments`, and its card is that of `after_all`: all below speaks of
+        // those.
         ensures moments { RunIsMoments }
         ensures refused { RefusedByTheTable }
 

@@ -47,8 +47,8 @@ which e card = go (wants_room e card) refl
       answers = ap (λ b. cond b (refused PoolFull) (lines.answer card.config e.what (line_at e.line card))) w;
     })
 
--- A card of the same configuration on which only the events at one line happened: the line is the same, and all slots in use
--- are the line's.
+-- A card of the same configuration on which only the events at one line happened: the line is the same, and all slots
+-- in use are the line's.
 abbrev with_lines : Card → List Line → Card
 with_lines card ls = record { config = card.config; lines = ls }
 

@@ -12,8 +12,8 @@ use Rattle.lapd_card_machine.specs.Event.{Event, at}
 use Rattle.lapd_card_machine.specs.Machine.{after, answer}
 use Rattle.lapd_card_machine.specs.Run.{Moment, moments}
 
--- An octet ends one frame at most that is recognised, and does where it brings an REJ with a valid N(R). By two where it does,
--- and by k more where that is such an REJ; else by nothing.
+-- An octet ends one frame at most that is recognised, and does where it brings an REJ with a valid N(R). By two where
+-- it does, and by k more where that is such an REJ; else by nothing.
 abbrev pub RisesByOctet : ℕ → ℕ → Card → Type 0
 RisesByOctet number value m =
     let e = at number (octet value) in
@@ -32,8 +32,8 @@ RisesByRequest number r m =
     let e = at number (request r) in
     waiting (after e m) ≤ waiting m + one (is_accepted e.what (answer e m))
 
--- A pull that begins a frame lets it fall by one, or by two where the frame makes an acknowledgement needless. Any other pull
--- leaves it as it is.
+-- A pull that begins a frame lets it fall by one, or by two where the frame makes an acknowledgement needless. Any
+-- other pull leaves it as it is.
 abbrev pub FallsByPull : ℕ → Card → Type 0
 FallsByPull number m =
     let e = at number pull in

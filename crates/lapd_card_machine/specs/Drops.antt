@@ -15,8 +15,8 @@ cause_in (told t) = t.cause
 cause_in (refused why) = None
 cause_in (pulled value begun orders) = None
 
--- Where the answer to an octet names a cause, whichever, what may be sent stays as it is: in one moment, and in every moment
--- of a run.
+-- Where the answer to an octet names a cause, whichever, what may be sent stays as it is: in one moment, and in every
+-- moment of a run.
 abbrev pub IsDropFree : Moment → Type 0
 IsDropFree moment =
     (value : ℕ) → moment.event.what ≡ octet value → IsSome (cause_in moment.answer) →

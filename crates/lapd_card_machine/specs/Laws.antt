@@ -36,8 +36,8 @@ pub record StoredWithinLimit : Type 0 where
   pub now : (card : Card) → IsSound card → stored card ≤ limit card.config
   pub always : (card : Card) (events : List Event) → IsSound card → AreAtLines card events → IsWithinLimit card events
 
--- A request is refused exactly where a row of the table of refusals holds, for the reason of the first that does; and then
--- nothing changes.
+-- A request is refused exactly where a row of the table of refusals holds, for the reason of the first that does; and
+-- then nothing changes.
 pub record RefusedByTheTable : Type 0 where
   pub refused_exactly : (card : Card) (number : ℕ) (r : Request) (why : Refusal) →
       (answer (at number (request r)) card ≡ refused why)
@@ -45,10 +45,10 @@ pub record RefusedByTheTable : Type 0 where
   pub unchanged : (card : Card) (number : ℕ) (r : Request) →
       IsSome (refusal card.config (is_full card) r (line_at number card)) → after (at number (request r)) card ≡ card
 
--- The frames sent, and those that may still be sent, rise by at most two for each frame that is recognised, by one for each
--- request that is accepted, by k + 1 for each expiry of a running timer, and by k for each REJ with a valid N(R). Pulls and
--- refusals let them rise by nothing, and so do drops by the deframer; a frame dropped later is one that was recognised here,
--- though it costs nothing (`DropsCostNothing`).
+-- The frames sent, and those that may still be sent, rise by at most two for each frame that is recognised, by one for
+-- each request that is accepted, by k + 1 for each expiry of a running timer, and by k for each REJ with a valid N(R).
+-- Pulls and refusals let them rise by nothing, and so do drops by the deframer; a frame dropped later is one that was
+-- recognised here, though it costs nothing (`DropsCostNothing`).
 abbrev pub FramesAmortised : Type 0
 FramesAmortised = (card : Card) (events : List Event) → IsSound card → AreAtLines card events → IsAmortised card events
 
@@ -68,14 +68,14 @@ DropsCostNothing = (card : Card) (events : List Event) → IsSound card → AreA
 abbrev pub DropsChangeNothing : Type 0
 DropsChangeNothing = (card : Card) (events : List Event) → AreDropsWithoutEffect card events
 
--- From a fresh card on, where nothing may be sent and no frame was heard before, they are within the same bound; and as a frame
--- has six octets of its own at least, with its check and a flag, and an REJ seven, they are linear in the octets received, the
--- accepted requests and the expiries.
+-- From a fresh card on, where nothing may be sent and no frame was heard before, they are within the same bound; and as
+-- a frame has six octets of its own at least, with its check and a flag, and an REJ seven, they are linear in the
+-- octets received, the accepted requests and the expiries.
 abbrev pub FramesLinear : Type 0
 FramesLinear = (c : Config) (events : List Event) → IsInRange c → AreAtLines (fresh c) events → IsLinear c events
 
--- Each link's deliveries are numbered without gap since its establishment, each told in the moment of its frame; and on a card
--- that began fresh from 0 on.
+-- Each link's deliveries are numbered without gap since its establishment, each told in the moment of its frame; and on
+-- a card that began fresh from 0 on.
 pub record DeliveriesNumbered : Type 0 where
   pub numbered : (card : Card) (events : List Event) → IsSound card → AreAtLines card events → IsNumbered card events
   pub from_zero : (c : Config) (events : List Event) → IsInRange c → AreAtLines (fresh c) events → IsNumberedFromZero c events
@@ -84,8 +84,8 @@ pub record DeliveriesNumbered : Type 0 where
 abbrev pub TextGoesOn : Type 0
 TextGoesOn = (card : Card) (events : List Event) → IsSound card → AreAtLines card events → IsTextual card events
 
--- From a fresh card on, what a line answers but for a full pool is what it would answer on a card of its own, to the events
--- at it that did not find the pool full.
+-- From a fresh card on, what a line answers but for a full pool is what it would answer on a card of its own, to the
+-- events at it that did not find the pool full.
 abbrev pub LinesIsolated : Type 0
 LinesIsolated = (c : Config) (events : List Event) → IsInRange c → AreAtLines (fresh c) events → IsIsolated c events
 

@@ -57,8 +57,9 @@ IsNeverFull c events = c.lines * (2 * c.terminals * c.queue + c.unit_queue) ≤ 
 abbrev pub HasLink : Card → LinkName → Type 0
 HasLink card name = (name.line < card.config.lines) × (name.number < link_count card.config)
 
--- What each link has delivered since its latest establishment is numbered: the next delivery is the contents of the first
--- eligible frame that has the next number, modulo 128, and each is reported in the moment of its frame. V(R) counts them.
+-- What each link has delivered since its latest establishment is numbered: the next delivery is the contents of the
+-- first eligible frame that has the next number, modulo 128, and each is reported in the moment of its frame. V(R)
+-- counts them.
 pub record IsNumberedAt (m : Card) (events : List Event) (name : LinkName) : Type 0 where
   pub numbered : let h = history name m (moments m events) in Numbered h.first (frames_of h.shares) (deliveries_of h.shares)
   pub at_once : let h = history name m (moments m events) in AreNumbered h.first h.shares

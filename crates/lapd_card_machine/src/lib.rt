@@ -4,8 +4,8 @@
 //! `specs/` has the card and its events (`Card`, `Event`), what each event makes of it and what it answers
 //! (`Machine`), whole lists of events (`Run`), what is counted of them (`Counts`, `Stored`), of
 //! single events too (`ByEvent`, `Drops`), what a link delivers
-//! (`Numbered`), what pulls give (`Pulled`), one line beside the others (`Isolation`), what is promised of whole lists of
-//! events (`Promises`), and the laws, which say of which cards and lists (`Laws`).
+//! (`Numbered`), what pulls give (`Pulled`), one line beside the others (`Isolation`), what is promised of whole lists
+//! of events (`Promises`), and the laws, which say of which cards and lists (`Laws`).
 //!
 //! The code of a card stands above, in another crate. Here is the type that it shares with the definitions:
 //!

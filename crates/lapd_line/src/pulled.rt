@@ -17,8 +17,8 @@ pub struct Pulled {
 impl Pulled {
     ghost use Rattle.lapd_frame.specs.ShortLists.{listed};
 
-    /// What is to be done with timers of the link whose frame was taken, in order: at most two orders (`answers_are_short`
-    /// of `lapd_line_machine`).
+    /// What is to be done with timers of the link whose frame was taken, in order: at most two orders
+    /// (`answers_are_short` of `lapd_line_machine`).
     pub fn orders(&self) -> &[Order]
         ensures { result.now ≡ listed self.now.orders }
     {

@@ -17,9 +17,9 @@ pub fn lines_rise()
     ensures { LinesRise }
 {}
 
-/// An answer has at most four notes and at most four orders for timers, so a list of four holds each. A line answers most of
-/// both where a TEI leaves it: one of TEI management and one of each of its two links. The answer to a pull has at most two
-/// orders, those of the link whose frame it takes.
+/// An answer has at most four notes and at most four orders for timers, so a list of four holds each. A line answers
+/// most of both where a TEI leaves it: one of TEI management and one of each of its two links. The answer to a pull has
+/// at most two orders, those of the link whose frame it takes.
 pub fn answers_are_short()
     ensures { AnswersAreShort }
 {}

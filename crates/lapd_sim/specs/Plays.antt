@@ -27,7 +27,8 @@ pub record IsAnsweredToHere (text : List ℕ) (remaining : Option (List ℕ)) (o
   pub tells : remaining ≡ Some unread
   pub answered : AreAnswered (whole_lines read) old new
 
--- Where memory was refused nothing has been written. (That it is not refused once there is a card is `Does` of what obeys a line.)
+-- Where memory was refused nothing has been written. (That it is not refused once there is a card is `Does` of what
+-- obeys a line.)
 abbrev pub Plays : Result Unit PlayFault → List ℕ → Option (List ℕ) → Taken → Taken → Type 0
 Plays (Ok _) text remaining old new = (first_fault text ≡ None) × IsWritten old new (transcript text) × (remaining ≡ Some [])
 Plays (Err (Script line kind)) text remaining old new = (first_fault text ≡ Some (record { line = line; kind = kind })) × IsWritten old new (transcript text)

@@ -14,7 +14,8 @@ pub record Given : Type 0 where
   pub remaining : Option (List ℕ)
   pub failures : ℕ
 
--- `run` ends as this answer of `play` says: for every source and target, and where the source tells what it gives, of its script.
+-- `run` ends as this answer of `play` says: for every source and target, and where the source tells what it gives, of
+-- its script.
 pub record Runs (r : Result Unit PlayFault) (status : ℕ) (before after : Given) (old new told_old told_new : Taken) : Type 0 where
   pub status_is : status ≡ status_of r
   pub told : TellsOf play_line r told_old told_new

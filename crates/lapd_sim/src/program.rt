@@ -33,10 +33,10 @@ const WRONG_WORDS: u8 = 2;
 /// Does what the words after the program's name ask for, and answers the exit status.
 ///
 /// `run` plays the script that `source` gives, and writes its transcript to `target`. `frame HEX` writes what the frame
-/// of these digits says, as the user sent it, or the network with `--network` after it, and what it is on a line. `limits`
-/// with five numbers writes how many octets a card with these sizes stores at most. The status is 0, or 1 after a fault,
-/// which is told by one line on `faults`. Any other words have status 2 and the line `usage` there. A fault line that
-/// can't be written changes nothing else.
+/// of these digits says, as the user sent it, or the network with `--network` after it, and what it is on a line.
+/// `limits` with five numbers writes how many octets a card with these sizes stores at most. The status is 0, or 1
+/// after a fault, which is told by one line on `faults`. Any other words have status 2 and the line `usage` there. A
+/// fault line that can't be written changes nothing else.
 pub fn serve<S: Source, T: Target, F: Target>(
     alloc: Global,
     words: &[&str],

@@ -1,5 +1,5 @@
--- How many messages wait after each row of the table, and how many are lost; what a message does that is not served; and which TEI
--- a terminal is assigned.
+-- How many messages wait after each row of the table, and how many are lost; what a message does that is not served;
+-- and which TEI a terminal is assigned.
 use Rattle.std.proofs.Common.{◌≡◌, ℕ, ◌+◌, ◌<◌, ◌≤◌, ◌==◌, nat_le, true, false, cond, List, [], ◌∷◌, ◌++◌, length, Option, Some, None, subst, ap, ◌∙◌, refl, sym, arith, length-append}
 use Rattle.std.specs.Option.{option_map}
 use Rattle.std.proofs.lemmas.Bool.{false≢true}

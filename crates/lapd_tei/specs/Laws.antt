@@ -40,8 +40,8 @@ after_acts (act ∷ acts) m = after_acts acts (after_act act m)
 abbrev pub IsSoundThroughout : Type 0
 IsSoundThroughout = (terminals : ℕ) (acts : List Act) → AreInRange acts → IsSound (after_acts acts (empty terminals))
 
--- What a change says of the table before and after: a TEI that was not on the line has taken the lowest free place; a TEI has left
--- its place free; or the table stays as it was.
+-- What a change says of the table before and after: a TEI that was not on the line has taken the lowest free place; a
+-- TEI has left its place free; or the table stays as it was.
 pub record HasJoined (old new : Places) (tei place : ℕ) : Type 0 where
   pub lowest : free_place old ≡ Some place
   pub within : place < length old

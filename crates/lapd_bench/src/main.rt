@@ -1,5 +1,5 @@
-//! `lapd_bench WORK ROUNDS` does one kind of work over 65,000 octets so many times, and prints how many octets and
-//! frames there were and how many octets the workers held at most. Its time is taken outside, by `tests/bench`.
+//! `lapd_bench WORK ROUNDS` does one kind of work so many times, and prints how many octets and frames, or contents, there
+//! were and how many octets the workers held at most. Its time is taken outside, by `tests/bench`.
 //!
 //! `WORK` is the name of one of the works (`Work::name`), or `all`, which does each of them in turn.
 #![tactic(auto)]

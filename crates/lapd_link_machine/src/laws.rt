@@ -61,9 +61,9 @@ pub fn numbered()
     ensures always { (t : Terms) (es : List Event) → IsNumbered (with_all t es fresh nothing_yet) (after_all t es fresh) }
 {}
 
-/// An event tells at most two notes, gives at most two orders and loses at most two control frames,
-/// and the clearing of a link gives at most one note and one order. There is a note of data exactly where contents are
-/// delivered, and no event delivers both contents and unit data.
+/// An event tells at most two notes, gives at most two orders and loses at most two control frames, and the clearing of a
+/// link gives at most one note and one order. There is a note of data exactly where contents are delivered, and no event
+/// delivers both contents and unit data.
 pub fn tells_little()
     ensures notes { (t : Terms) (e : Event) (l : Link) → length (told t e l).notes ≤ 2 }
     ensures data { (t : Terms) (e : Event) (l : Link) → list_any is_data (told t e l).notes ≡ is_some (told t e l).delivered }

@@ -117,8 +117,8 @@ fn answers_before_it_reads_on(rt: HostRuntime) {
 /// Whether words that ask for nothing that there is end with a status of 2 and a line on standard error, without a read
 /// or a write.
 fn is_refused(alloc: Global, words: &[&str]) -> bool {
-    let mut source = Pieces::failing(b"card\n", 5, 0);
-    let mut target = Page::failing(alloc, 0);
+    let mut source = Pieces::of(b"card\n", 5);
+    let mut target = Page::new(alloc);
     let mut faults = Page::new(alloc);
     let status = serve(alloc, words, &mut source, &mut target, &mut faults);
     status == 2

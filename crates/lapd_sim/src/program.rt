@@ -51,6 +51,9 @@ pub fn serve<S: Source, T: Target, F: Target>(
     ensures untold { result ≡ 0 → F.taken faults.new ≡ F.taken faults.old }
     ensures no_read_failed { result ≢ 1 → S.failures source.new ≡ S.failures source.old }
     ensures no_write_failed { result ≢ 1 → (T.taken target.new).failures ≡ (T.taken target.old).failures }
+    // The source is read for `run` alone, and other words write nothing to the target.
+    ensures unread { (job (texts words.now) ≡ Some run → ⊥) → source.new ≡ source.old }
+    ensures unwritten { job (texts words.now) ≡ None → target.new ≡ target.old }
     // `run` ends as an answer of `play` says: the status, the fault line, and the transcript of the script.
     ensures played { job (texts words.now) ≡ Some run → (r : Result Unit PlayFault) × Runs r result
         (record { remaining = S.remaining source.old; failures = S.failures source.old })

@@ -1,6 +1,6 @@
 -- A clock as a map from the timers of its lines to moments, and what an order does to that map.
-use Rattle.std.specs.Prelude.{◌≡◌, ℕ, ◌+◌, false, ◌&&◌, ◌==◌, if◌then◌else◌, List, [], ◌∷◌, Option, None, Some}
-use Rattle.lapd_clock.specs.Timer.{Timer, Order, Start, Stop, duration, is_same}
+use Rattle.std.specs.Prelude.{◌≡◌, ℕ, false, ◌&&◌, ◌==◌, if◌then◌else◌, List, [], ◌∷◌, Option, None, Some}
+use Rattle.lapd_clock.specs.Timer.{Timer, is_same}
 use Rattle.lapd_clock.specs.Timers.{Expiry, Timers, is_of}
 
 -- when a timer of a line falls due, if it runs

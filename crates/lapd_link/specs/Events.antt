@@ -1,5 +1,5 @@
 -- What is handed to a link, as events of the machine.
-use Rattle.std.specs.Prelude.{ℕ, List, [], Option, Some, None}
+use Rattle.std.specs.Prelude.{ℕ, List, []}
 use Rattle.lapd_frame.specs.Grammar.{parts_of}
 use Rattle.lapd_link_machine.specs.Events as machine
 use Rattle.lapd_link.specs.declared.received.Received.{Received}

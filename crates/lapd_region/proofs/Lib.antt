@@ -2,3 +2,4 @@ mod Memory
 mod Sharing
 mod Values
 pub mod Runs
+pub mod Blocks

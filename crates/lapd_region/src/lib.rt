@@ -7,5 +7,6 @@
 
 mod octets;
 mod region;
+mod run;
 
 pub use region::Region;

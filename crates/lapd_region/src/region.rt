@@ -3,6 +3,7 @@ ghost use Rattle.std.specs.Prelude.{◌≡◌, ℕ, ◌+◌, ◌^◌, ◌<◌, �
 ghost use Rattle.lapd_region.specs.Region.{Holds, SameOutside};
 
 use crate::octets::{Base, Deed, Octets, give_back, take};
+use crate::run::write_run;
 use std::alloc::{AllocError, Global};
 use std::fmt;
 use std::marker::Model;
@@ -31,20 +32,6 @@ impl Model for Region {
     ghost view = { λ r. r.octets.written };
 
     ghost invariant = { IsBlock };
-}
-
-// Writes the octets one by one.
-fn write_run(memory: &mut Octets, base: Base, from: usize, octets: &[u8])
-    requires base { base.ptr ≡ memory.old.at }
-    requires within { from + length octets.now ≤ length memory.old.written }
-    requires small { length memory.old.written < 2 ^ 63 }
-    ensures at { memory.new.at ≡ memory.old.at }
-    ensures written { Holds memory.new.written from octets.now }
-    ensures others { SameOutside memory.old.written memory.new.written from (length octets.now) }
-{
-    for i in 0..octets.len() {
-        memory.write(base, from + i, octets[i]);
-    }
 }
 
 impl Region {

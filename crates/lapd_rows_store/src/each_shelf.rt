@@ -53,14 +53,31 @@ fn each_gives_back(alloc: Global, width: u16, octets: &[u8]) -> Result<bool, Fai
     Ok(gives_back(slab, octets) && gives_back(raw, octets))
 }
 
+// The first octets of some come back, for every number of them.
+fn every_length_comes_back(alloc: Global, octets: &[u8; 260]) -> Result<bool, Fail> {
+    for len in 0..261 {
+        if !each_gives_back(alloc, 260, &octets[..len])? {
+            return Ok(false);
+        }
+    }
+    Ok(true)
+}
+
+// Octets of which no two that lie near each other are the same.
+fn rising() -> [u8; 260] {
+    let mut octets = [0u8; 260];
+    for at in 0..260 {
+        octets[at] = (at * 7 % 251) as u8;
+    }
+    octets
+}
+
 #[test]
 fn contents_of_every_length_come_back(rt: HostRuntime) -> Result<(), Fail> {
-    let long = [0xA5u8; 260];
     assert!(rt; each_gives_back(rt.alloc(), 8, &[])?);
     assert!(rt; each_gives_back(rt.alloc(), 8, &PATTERN[..7])?);
     assert!(rt; each_gives_back(rt.alloc(), 8, PATTERN.as_slice())?);
-    assert!(rt; each_gives_back(rt.alloc(), 260, &long[..259])?);
-    assert!(rt; each_gives_back(rt.alloc(), 260, long.as_slice())?);
+    assert!(rt; every_length_comes_back(rt.alloc(), &rising())?);
     Ok(())
 }
 

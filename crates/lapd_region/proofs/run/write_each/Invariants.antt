@@ -1,6 +1,6 @@
 use Rattle.std.proofs.Common.{◌≡◌, ℕ, ◌+◌, ◌<◌, get_or, slice_get, None}
 use Rattle.lapd_region.specs.Region.{SameOutside}
-use Rattle.lapd_region.proofs.region.write_run.Given as goal
+use Rattle.lapd_region.proofs.run.write_each.Given as goal
 
 -- the first octets are there, and nothing else changed
 abbrev pub invariant-loop-i : goal.invariant-loop-i

@@ -4,12 +4,15 @@
 //! `WORK` is the name of one of the works (`Work::name`), or `all`, which does each of them in turn.
 #![tactic(auto)]
 
+mod copies;
 mod done;
 mod fault;
+mod lengths;
 mod line;
 mod lines;
 mod sender;
 mod shelves;
+mod size;
 mod terminal;
 mod work;
 

@@ -1,25 +1,27 @@
-//! Contents that are put on a shelf, lent and released, and plain copies of as many octets.
+//! Contents that are put on a shelf, lent and released.
 
 ghost use Rattle.std.specs.Prelude.{◌≤◌};
 ghost use Rattle.lapd_store.specs.Store.{IsUsed};
 
 use crate::done::Done;
 use crate::fault::Fault;
+use crate::lengths::{CONTENTS, Lengths, Window, first};
 use crate::line::information;
+use crate::size::Size;
 use lapd_store::{RawShelf, Shelf, SlabShelf, Slot};
 use std::alloc::Global;
 
-/// How many contents are kept or copied in a round.
-const CONTENTS: u32 = 1000;
+/// How many contents are kept in a round.
+const KEPT: u32 = 1000;
 
 /// How many shelves are filled in turn, so that no `put` has to wait for the one before it.
-const SHELVES: u32 = 4;
+pub const SHELVES: usize = 4;
 
 /// How many slots a shelf has: with contents of 260 octets all of them lie in the nearest cache.
-const SLOTS: u32 = 32;
+pub const SLOTS: usize = CONTENTS / SHELVES;
 
 /// How wide a slot is.
-const WIDTH: u16 = 260;
+pub const WIDTH: u16 = 260;
 
 /// The kinds of shelves.
 #[derive(Clone, Copy, PartialEq, Eq, Debug)]
@@ -30,28 +32,17 @@ pub enum Shelves {
     Slab,
 }
 
-/// How long contents are.
-#[derive(Clone, Copy, PartialEq, Eq, Debug)]
-pub enum Size {
-    /// 8 octets, the narrowest width of a slot.
-    Short,
-    /// 260 octets, the widest.
-    Long,
-}
-
 /// What is done with contents.
 #[derive(Clone, Copy, PartialEq, Eq, Debug)]
 pub enum Keeping {
     /// A shelf is started and dropped.
     Start(Shelves),
     /// A shelf is started, contents are put in each slot, and it is dropped.
-    Fill(Shelves, Size),
+    Fill(Shelves, Lengths),
     /// Contents are put on a shelf, lent and released.
     Keep(Shelves, Size),
     /// Contents are lent.
     Lend(Shelves, Size),
-    /// Contents are copied into an array, for comparison.
-    Copy(Size),
 }
 
 /// A shelf that a work starts by itself.
@@ -61,31 +52,13 @@ trait Started: Shelf + Drop {
 
 impl Started for RawShelf {
     fn started(alloc: Global) -> Result<RawShelf, Fault> {
-        Ok(RawShelf::start(alloc, SLOTS, WIDTH)?)
+        Ok(RawShelf::start(alloc, SLOTS as u32, WIDTH)?)
     }
 }
 
 impl Started for SlabShelf {
     fn started(alloc: Global) -> Result<SlabShelf, Fault> {
-        Ok(SlabShelf::start(alloc, SLOTS, WIDTH)?)
-    }
-}
-
-impl Size {
-    fn octets(self) -> usize
-        ensures { result ≤ 260 }
-    {
-        match self {
-            Size::Short => 8,
-            Size::Long => 260,
-        }
-    }
-
-    fn pick(self, short: &'static str, long: &'static str) -> &'static str {
-        match self {
-            Size::Short => short,
-            Size::Long => long,
-        }
+        Ok(SlabShelf::start(alloc, SLOTS as u32, WIDTH)?)
     }
 }
 
@@ -95,13 +68,54 @@ impl Keeping {
         match self {
             Keeping::Start(Shelves::Raw) => "raw-start",
             Keeping::Start(Shelves::Slab) => "slab-start",
-            Keeping::Fill(Shelves::Raw, size) => size.pick("raw-fill-8", "raw-fill-260"),
-            Keeping::Fill(Shelves::Slab, size) => size.pick("slab-fill-8", "slab-fill-260"),
-            Keeping::Keep(Shelves::Raw, size) => size.pick("raw-keep-8", "raw-keep-260"),
-            Keeping::Keep(Shelves::Slab, size) => size.pick("slab-keep-8", "slab-keep-260"),
-            Keeping::Lend(Shelves::Raw, size) => size.pick("raw-lend-8", "raw-lend-260"),
-            Keeping::Lend(Shelves::Slab, size) => size.pick("slab-lend-8", "slab-lend-260"),
-            Keeping::Copy(size) => size.pick("copy-8", "copy-260"),
+            Keeping::Fill(Shelves::Raw, lengths) => lengths.pick(
+                [
+                    "raw-fill-8",
+                    "raw-fill-20",
+                    "raw-fill-64",
+                    "raw-fill-128",
+                    "raw-fill-260",
+                ],
+                "raw-fill-mixed",
+            ),
+            Keeping::Fill(Shelves::Slab, lengths) => lengths.pick(
+                [
+                    "slab-fill-8",
+                    "slab-fill-20",
+                    "slab-fill-64",
+                    "slab-fill-128",
+                    "slab-fill-260",
+                ],
+                "slab-fill-mixed",
+            ),
+            Keeping::Keep(Shelves::Raw, size) => size.pick([
+                "raw-keep-8",
+                "raw-keep-20",
+                "raw-keep-64",
+                "raw-keep-128",
+                "raw-keep-260",
+            ]),
+            Keeping::Keep(Shelves::Slab, size) => size.pick([
+                "slab-keep-8",
+                "slab-keep-20",
+                "slab-keep-64",
+                "slab-keep-128",
+                "slab-keep-260",
+            ]),
+            Keeping::Lend(Shelves::Raw, size) => size.pick([
+                "raw-lend-8",
+                "raw-lend-20",
+                "raw-lend-64",
+                "raw-lend-128",
+                "raw-lend-260",
+            ]),
+            Keeping::Lend(Shelves::Slab, size) => size.pick([
+                "slab-lend-8",
+                "slab-lend-20",
+                "slab-lend-64",
+                "slab-lend-128",
+                "slab-lend-260",
+            ]),
         }
     }
 
@@ -110,13 +124,12 @@ impl Keeping {
         match self {
             Keeping::Start(Shelves::Raw) => start::<RawShelf>(alloc, rounds),
             Keeping::Start(Shelves::Slab) => start::<SlabShelf>(alloc, rounds),
-            Keeping::Fill(Shelves::Raw, size) => fill::<RawShelf>(alloc, size, rounds),
-            Keeping::Fill(Shelves::Slab, size) => fill::<SlabShelf>(alloc, size, rounds),
+            Keeping::Fill(Shelves::Raw, lengths) => fill::<RawShelf>(alloc, lengths, rounds),
+            Keeping::Fill(Shelves::Slab, lengths) => fill::<SlabShelf>(alloc, lengths, rounds),
             Keeping::Keep(Shelves::Raw, size) => keep::<RawShelf>(alloc, size, rounds),
             Keeping::Keep(Shelves::Slab, size) => keep::<SlabShelf>(alloc, size, rounds),
             Keeping::Lend(Shelves::Raw, size) => lend::<RawShelf>(alloc, size, rounds),
             Keeping::Lend(Shelves::Slab, size) => lend::<SlabShelf>(alloc, size, rounds),
-            Keeping::Copy(size) => Ok(copy(size, rounds)),
         }
     }
 }
@@ -129,7 +142,7 @@ fn count(contents: u32, len: usize, done: &mut Done) {
 
 /// The shelves that are filled in turn.
 fn row_of<S: Started>(alloc: Global) -> Result<Vec<S>, Fault> {
-    let mut shelves = Vec::with_capacity(alloc, SHELVES as usize)?;
+    let mut shelves = Vec::with_capacity(alloc, SHELVES)?;
     for _ in 0..SHELVES {
         shelves.push(S::started(alloc)?)?;
     }
@@ -141,28 +154,36 @@ fn start<S: Started>(alloc: Global, rounds: u32) -> Result<Done, Fault> {
     for _ in 0..rounds {
         let shelves = row_of::<S>(alloc)?;
         done.add(octets_on(&shelves));
-        count(SHELVES * SLOTS, 0, &mut done);
+        count(CONTENTS as u32, 0, &mut done);
     }
     Ok(done)
 }
 
-fn fill<S: Started>(alloc: Global, size: Size, rounds: u32) -> Result<Done, Fault> {
+fn fill<S: Started>(alloc: Global, lengths: Lengths, rounds: u32) -> Result<Done, Fault> {
     let contents = information();
+    let windows = lengths.windows(alloc)?;
     let mut done = Done::new();
-    for _ in 0..rounds {
+    for window in windows.iter().cycle().take(rounds as usize) {
         let mut shelves = row_of::<S>(alloc)?;
-        for _ in 0..SLOTS {
-            put_each(&mut shelves, &contents[..size.octets()]);
-        }
+        fill_all(&mut shelves, &contents, window);
         done.add(octets_on(&shelves));
-        count(SHELVES * SLOTS, size.octets(), &mut done);
+        done.count(window.octets, CONTENTS as u64, 0);
     }
     Ok(done)
+}
+
+/// Puts contents in each slot of each shelf. Out of line, as `keep_all` is.
+#[inline(never)]
+fn fill_all<S: Shelf>(shelves: &mut [S], contents: &[u8; 260], window: &Window) {
+    for lengths in window.lengths.chunks(SHELVES) {
+        put_each(shelves, contents, lengths);
+    }
 }
 
 /// Puts contents on each shelf.
-fn put_each<S: Shelf>(shelves: &mut [S], octets: &[u8]) {
-    for shelf in shelves {
+fn put_each<S: Shelf>(shelves: &mut [S], contents: &[u8; 260], lengths: &[u16]) {
+    for (shelf, length) in shelves.iter_mut().zip(lengths) {
+        let octets = first(contents, *length);
         if octets.len() <= usize::from(shelf.width()) {
             let _ = shelf.put(octets);
         }
@@ -184,7 +205,7 @@ fn keep<S: Started>(alloc: Global, size: Size, rounds: u32) -> Result<Done, Faul
     let mut done = Done::new();
     for _ in 0..rounds {
         done.add(keep_all(&mut shelf, &contents[..size.octets()]));
-        count(CONTENTS, size.octets(), &mut done);
+        count(KEPT, size.octets(), &mut done);
     }
     Ok(done)
 }
@@ -193,7 +214,7 @@ fn keep<S: Started>(alloc: Global, size: Size, rounds: u32) -> Result<Done, Faul
 #[inline(never)]
 fn keep_all<S: Shelf>(shelf: &mut S, octets: &[u8]) -> u64 {
     let mut sum = 0u64;
-    for _ in 0..CONTENTS {
+    for _ in 0..KEPT {
         sum = sum.wrapping_add(pass(shelf, octets));
     }
     sum
@@ -261,34 +282,4 @@ fn last_of(octets: &[u8]) -> u64 {
         Some(last) => u64::from(*last),
         None => 0,
     }
-}
-
-fn copy(size: Size, rounds: u32) -> Done {
-    let contents = information();
-    let mut done = Done::new();
-    for round in 0..rounds {
-        done.add(copy_all(&contents[..size.octets()], (round % 256) as u8));
-        count(CONTENTS, size.octets(), &mut done);
-    }
-    done
-}
-
-/// Copies contents into an array, one after the other. Out of line, as `keep_all` is.
-#[inline(never)]
-fn copy_all(octets: &[u8], at: u8) -> u64 {
-    let mut kept = [0u8; 260];
-    let mut sum = 0u64;
-    for _ in 0..CONTENTS {
-        sum = sum.wrapping_add(copied(&mut kept, octets, at));
-    }
-    sum
-}
-
-/// Copies the octets, and reads one of them.
-fn copied(kept: &mut [u8; 260], octets: &[u8], at: u8) -> u64 {
-    if octets.len() > 260 {
-        return 0;
-    }
-    kept[..octets.len()].copy_from_slice(octets);
-    u64::from(kept[usize::from(at)])
 }

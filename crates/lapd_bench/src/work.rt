@@ -2,12 +2,15 @@
 
 ghost use Rattle.std.specs.Prelude.{◌≤◌};
 
+use crate::copies::Copying;
 use crate::done::Done;
 use crate::fault::Fault;
+use crate::lengths::Lengths;
 use crate::line::{ROUND, framed, in_no_order, information, repeated};
 use crate::lines::{Traffic, exchange};
 use crate::sender::{N201, Sender};
-use crate::shelves::{Keeping, Shelves, Size};
+use crate::shelves::{Keeping, Shelves};
+use crate::size::Size;
 use lapd_bits::{Deframer, Heard, fcs};
 use std::alloc::Global;
 
@@ -41,12 +44,14 @@ pub enum Work {
     SendLong,
     /// A card with so many lines.
     Card(Traffic, u16),
-    /// Contents that are put on a shelf, lent or copied.
+    /// Contents that are put on a shelf, or lent.
     Keep(Keeping),
+    /// Contents that are copied.
+    Copy(Copying),
 }
 
 /// All of them.
-pub const WORKS: [Work; 36] = [
+pub const WORKS: [Work; 66] = [
     Work::Check,
     Work::HearShort,
     Work::HearLong,
@@ -68,21 +73,51 @@ pub const WORKS: [Work; 36] = [
     Work::Card(Traffic::Faulty, 1),
     Work::Card(Traffic::Faulty, 64),
     Work::Keep(Keeping::Start(Shelves::Raw)),
-    Work::Keep(Keeping::Fill(Shelves::Raw, Size::Short)),
-    Work::Keep(Keeping::Fill(Shelves::Raw, Size::Long)),
+    Work::Keep(Keeping::Fill(Shelves::Raw, Lengths::Equal(Size::Narrow))),
+    Work::Keep(Keeping::Fill(Shelves::Raw, Lengths::Equal(Size::Short))),
+    Work::Keep(Keeping::Fill(Shelves::Raw, Lengths::Equal(Size::Middle))),
+    Work::Keep(Keeping::Fill(Shelves::Raw, Lengths::Equal(Size::Long))),
+    Work::Keep(Keeping::Fill(Shelves::Raw, Lengths::Equal(Size::Wide))),
+    Work::Keep(Keeping::Fill(Shelves::Raw, Lengths::Mixed)),
+    Work::Keep(Keeping::Keep(Shelves::Raw, Size::Narrow)),
     Work::Keep(Keeping::Keep(Shelves::Raw, Size::Short)),
+    Work::Keep(Keeping::Keep(Shelves::Raw, Size::Middle)),
     Work::Keep(Keeping::Keep(Shelves::Raw, Size::Long)),
+    Work::Keep(Keeping::Keep(Shelves::Raw, Size::Wide)),
+    Work::Keep(Keeping::Lend(Shelves::Raw, Size::Narrow)),
     Work::Keep(Keeping::Lend(Shelves::Raw, Size::Short)),
+    Work::Keep(Keeping::Lend(Shelves::Raw, Size::Middle)),
     Work::Keep(Keeping::Lend(Shelves::Raw, Size::Long)),
+    Work::Keep(Keeping::Lend(Shelves::Raw, Size::Wide)),
     Work::Keep(Keeping::Start(Shelves::Slab)),
-    Work::Keep(Keeping::Fill(Shelves::Slab, Size::Short)),
-    Work::Keep(Keeping::Fill(Shelves::Slab, Size::Long)),
+    Work::Keep(Keeping::Fill(Shelves::Slab, Lengths::Equal(Size::Narrow))),
+    Work::Keep(Keeping::Fill(Shelves::Slab, Lengths::Equal(Size::Short))),
+    Work::Keep(Keeping::Fill(Shelves::Slab, Lengths::Equal(Size::Middle))),
+    Work::Keep(Keeping::Fill(Shelves::Slab, Lengths::Equal(Size::Long))),
+    Work::Keep(Keeping::Fill(Shelves::Slab, Lengths::Equal(Size::Wide))),
+    Work::Keep(Keeping::Fill(Shelves::Slab, Lengths::Mixed)),
+    Work::Keep(Keeping::Keep(Shelves::Slab, Size::Narrow)),
     Work::Keep(Keeping::Keep(Shelves::Slab, Size::Short)),
+    Work::Keep(Keeping::Keep(Shelves::Slab, Size::Middle)),
     Work::Keep(Keeping::Keep(Shelves::Slab, Size::Long)),
+    Work::Keep(Keeping::Keep(Shelves::Slab, Size::Wide)),
+    Work::Keep(Keeping::Lend(Shelves::Slab, Size::Narrow)),
     Work::Keep(Keeping::Lend(Shelves::Slab, Size::Short)),
+    Work::Keep(Keeping::Lend(Shelves::Slab, Size::Middle)),
     Work::Keep(Keeping::Lend(Shelves::Slab, Size::Long)),
-    Work::Keep(Keeping::Copy(Size::Short)),
-    Work::Keep(Keeping::Copy(Size::Long)),
+    Work::Keep(Keeping::Lend(Shelves::Slab, Size::Wide)),
+    Work::Copy(Copying::Here(Lengths::Equal(Size::Narrow))),
+    Work::Copy(Copying::Here(Lengths::Equal(Size::Short))),
+    Work::Copy(Copying::Here(Lengths::Equal(Size::Middle))),
+    Work::Copy(Copying::Here(Lengths::Equal(Size::Long))),
+    Work::Copy(Copying::Here(Lengths::Equal(Size::Wide))),
+    Work::Copy(Copying::Here(Lengths::Mixed)),
+    Work::Copy(Copying::Apart(Lengths::Equal(Size::Narrow))),
+    Work::Copy(Copying::Apart(Lengths::Equal(Size::Short))),
+    Work::Copy(Copying::Apart(Lengths::Equal(Size::Middle))),
+    Work::Copy(Copying::Apart(Lengths::Equal(Size::Long))),
+    Work::Copy(Copying::Apart(Lengths::Equal(Size::Wide))),
+    Work::Copy(Copying::Apart(Lengths::Mixed)),
 ];
 
 impl Work {
@@ -99,6 +134,7 @@ impl Work {
             Work::SendLong => "send-long",
             Work::Card(traffic, lines) => traffic.name(lines == 1),
             Work::Keep(keeping) => keeping.name(),
+            Work::Copy(copying) => copying.name(),
         }
     }
 
@@ -115,6 +151,7 @@ impl Work {
             Work::SendLong => send(alloc, LONG, rounds),
             Work::Card(traffic, lines) => exchange(alloc, traffic, lines, rounds),
             Work::Keep(keeping) => keeping.run(alloc, rounds),
+            Work::Copy(copying) => copying.run(alloc, rounds),
         }
     }
 }

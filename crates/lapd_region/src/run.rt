@@ -1,7 +1,8 @@
 //! Runs of octets that are written.
 //!
-//! A short run goes as two blocks that may lie one over the other. A block has a size that is known where the code is
-//! compiled, and is a value before it is written, so it goes by one or two wide instructions, with no loop.
+//! A run of 8 to 256 octets goes as two blocks that may lie one over the other. A block has a size that is known where
+//! the code is compiled, and is a value before it is written. So it goes by a few wide instructions and no loop, whose
+//! end a processor would have to guess anew for each length.
 ghost use Rattle.std.specs.Prelude.{◌≡◌, ℕ, ◌+◌, ◌^◌, ◌<◌, ◌≤◌, length, slice_get};
 ghost use Rattle.lapd_region.specs.Region.{Holds, SameOutside};
 
@@ -17,9 +18,11 @@ pub(crate) fn write_run(memory: &mut Octets, base: Base, from: usize, octets: &[
     ensures others { SameOutside memory.old.written memory.new.written from (length octets.now) }
 {
     match octets.len() {
-        8..=15 => write_ends::<8>(memory, base, from, octets),
-        16..=31 => write_ends::<16>(memory, base, from, octets),
-        32..=63 => write_ends::<32>(memory, base, from, octets),
+        8..=16 => write_ends::<8>(memory, base, from, octets),
+        17..=32 => write_ends::<16>(memory, base, from, octets),
+        33..=64 => write_ends::<32>(memory, base, from, octets),
+        65..=128 => write_ends::<64>(memory, base, from, octets),
+        129..=256 => write_ends::<128>(memory, base, from, octets),
         _ => write_each(memory, base, from, octets),
     }
 }

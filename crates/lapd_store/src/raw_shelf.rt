@@ -141,10 +141,10 @@ impl Shelf for RawShelf {
         let number = usize::from(self.first);
         let at = number * usize::from(self.width);
         self.first = read_link(&self.region, at);
-        self.region.write(at, octets);
         self.lengths[number] = octets.len() as u16;
         self.octets += octets.len() as u64;
         self.used += 1;
+        self.region.write(at, octets);
         Some(Slot { number })
     }
 

@@ -1,0 +1,73 @@
+//! The lengths of contents that are put or copied one after the other.
+
+use crate::fault::Fault;
+use crate::line::Shuffled;
+use crate::size::Size;
+use std::alloc::Global;
+
+/// How many contents are put or copied in a round.
+pub const CONTENTS: usize = 128;
+
+/// How many rounds have lengths of their own: more than a processor remembers of the turns that it took.
+const WINDOWS: usize = 64;
+
+/// The lengths of contents, one after the other.
+#[derive(Clone, Copy, PartialEq, Eq, Debug)]
+pub enum Lengths {
+    /// All of one length.
+    Equal(Size),
+    /// From 8 to 260 octets, in no order.
+    Mixed,
+}
+
+/// The lengths of a round.
+#[derive(Clone, Copy, Drop, Debug)]
+pub struct Window {
+    /// One for each of its contents, at most 260.
+    pub lengths: [u16; 128],
+    /// How many octets these are.
+    pub octets: usize,
+}
+
+impl Lengths {
+    /// Its word of six.
+    pub fn pick(self, words: [&'static str; 5], mixed: &'static str) -> &'static str {
+        match self {
+            Lengths::Equal(size) => size.pick(words),
+            Lengths::Mixed => mixed,
+        }
+    }
+
+    /// The lengths of the rounds, which come again from the first on.
+    pub fn windows(self, alloc: Global) -> Result<Vec<Window>, Fault> {
+        let mut shuffled = Shuffled::new();
+        let mut windows = Vec::with_capacity(alloc, WINDOWS)?;
+        for _ in 0..WINDOWS {
+            windows.push(self.window(&mut shuffled))?;
+        }
+        Ok(windows)
+    }
+
+    fn window(self, shuffled: &mut Shuffled) -> Window {
+        let mut lengths = [0u16; 128];
+        let mut octets = 0usize;
+        for place in 0..CONTENTS {
+            let length = self.length(shuffled);
+            lengths[place] = length;
+            octets = octets.saturating_add(usize::from(length));
+        }
+        Window { lengths, octets }
+    }
+
+    fn length(self, shuffled: &mut Shuffled) -> u16 {
+        match self {
+            Lengths::Equal(size) => size.octets() as u16,
+            Lengths::Mixed => u16::from(shuffled.octet().min(252)) + 8,
+        }
+    }
+}
+
+/// The first octets of some contents.
+pub fn first(contents: &[u8; 260], length: u16) -> &[u8] {
+    &contents[..usize::from(length.min(260))]
+}

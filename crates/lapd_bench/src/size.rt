@@ -1,0 +1,45 @@
+//! How long contents are.
+
+ghost use Rattle.std.specs.Prelude.{◌≤◌};
+
+/// How long contents are that are kept or copied.
+#[derive(Clone, Copy, PartialEq, Eq, Debug)]
+pub enum Size {
+    /// 8 octets, the narrowest width of a slot.
+    Narrow,
+    /// 20 octets, about a short message of layer 3.
+    Short,
+    /// 64 octets.
+    Middle,
+    /// 128 octets.
+    Long,
+    /// 260 octets, the widest.
+    Wide,
+}
+
+impl Size {
+    /// How many octets they are.
+    pub fn octets(self) -> usize
+        ensures { result ≤ 260 }
+    {
+        match self {
+            Size::Narrow => 8,
+            Size::Short => 20,
+            Size::Middle => 64,
+            Size::Long => 128,
+            Size::Wide => 260,
+        }
+    }
+
+    /// Its word of five.
+    pub fn pick(self, words: [&'static str; 5]) -> &'static str {
+        let [narrow, short, middle, long, wide] = words;
+        match self {
+            Size::Narrow => narrow,
+            Size::Short => short,
+            Size::Middle => middle,
+            Size::Long => long,
+            Size::Wide => wide,
+        }
+    }
+}

@@ -1,7 +1,8 @@
 //! The card that a script is played on, with the clock of its lines.
 
-ghost use Rattle.std.specs.Prelude.{◌≡◌, ◌<◌, ◌≤◌, ◌^◌, ℕ, fold, IfOk, IfSome, IfNone};
+ghost use Rattle.std.specs.Prelude.{◌≡◌, ◌<◌, ◌≤◌, ◌^◌, ℕ, fold, Ok, IfOk, IfSome, IfNone};
 ghost use Rattle.lapd_card.specs.Card.{line_count};
+ghost use Rattle.lapd_card.specs.Reply.{answer_of_result};
 ghost use Rattle.lapd_card_machine.specs.Event.{at};
 ghost use Rattle.lapd_card_machine.specs.Machine.{answer};
 ghost use Rattle.lapd_clock.specs.Timers as clocks;
@@ -10,10 +11,11 @@ ghost use Rattle.lapd_line_machine.specs.Request.{request_of};
 ghost use Rattle.lapd_line_machine.specs.Sound.{IsInRange};
 ghost use Rattle.lapd_sim.specs.Past.{HasPast};
 ghost use Rattle.lapd_sim_machine.specs.Bench as machine;
-ghost use Rattle.lapd_sim_machine.specs.Steps.{with_event, octet_in, at_expiry, until, in_time, after_stored};
+ghost use Rattle.lapd_sim_machine.specs.Steps.{answer_text, with_event, octet_in, at_expiry, until, in_time, after_stored};
+ghost use Rattle.lapd_transcript.specs.Streams.{Writes};
 
 use crate::faults::LineFault;
-use lapd_card::{Card, CardFault, Config, Request, limit};
+use lapd_card::{Card, CardFault, Config, Report, Request, limit};
 use lapd_clock::Clock;
 use lapd_frame::{Order, Timer};
 use lapd_script::FaultKind;
@@ -89,15 +91,7 @@ impl Exchange {
             → Tells result (T.taken target.old) (T.taken target.new) (Holds self.new) (with_event (scene m) (at line (happening.octet octet))) }
     {
         let report = self.card.octet(line, octet);
-        order(&mut self.clock, line, report.orders(), self.moment);
-        write_report(
-            target,
-            line as u16,
-            report.notes(),
-            report.delivered,
-            report.cause,
-            report.lost,
-        )
+        carry_out(&mut self.clock, line, &report, self.moment, target)
     }
 
     /// A line takes an octet.
@@ -126,17 +120,7 @@ impl Exchange {
             (with_event (scene m) (at line (happening.request (request_of request.entry)))) }
     {
         match self.card.request(line, request) {
-            Ok(report) => {
-                order(&mut self.clock, line, report.orders(), self.moment);
-                write_report(
-                    target,
-                    line as u16,
-                    report.notes(),
-                    report.delivered,
-                    report.cause,
-                    report.lost,
-                )
-            }
+            Ok(report) => carry_out(&mut self.clock, line, &report, self.moment, target),
             Err(refusal) => write_refused(target, line as u16, refusal),
         }
     }
@@ -206,15 +190,7 @@ impl Exchange {
             → Tells result (T.taken target.old) (T.taken target.new) (Holds self.new) (with_event (scene m) (at line (happening.expiry timer))) }
     {
         let report = self.card.expire(line, timer);
-        order(&mut self.clock, line, report.orders(), self.moment);
-        write_report(
-            target,
-            line as u16,
-            report.notes(),
-            report.delivered,
-            report.cause,
-            report.lost,
-        )
+        carry_out(&mut self.clock, line, &report, self.moment, target)
     }
 
     /// Shows how many octets the card holds, and the bound of it.
@@ -224,6 +200,32 @@ impl Exchange {
     {
         write_stored(target, self.card.stored(), limit(&self.config))
     }
+}
+
+/// Carries out what a report on a line orders of its timers, and writes what it tells.
+fn carry_out<T: Target>(
+    clock: &mut Clock,
+    line: usize,
+    report: &Report<'_>,
+    now: u64,
+    target: &mut T,
+) -> Result<(), WriteFailed>
+    requires line { line < clock.old.lines }
+    requires number { line < 2 ^ 16 }
+    requires now { now < 2 ^ 63 }
+    ensures lines { clock.new.lines ≡ clock.old.lines }
+    ensures ordered { clock.new ≡ fold (machine.ordered line now) clock.old (machine.orders_in (answer_of_result (Ok report.now))) }
+    ensures written { Writes result (T.taken target.old) (T.taken target.new) (answer_text line (answer_of_result (Ok report.now))) }
+{
+    order(clock, line, report.orders(), now);
+    write_report(
+        target,
+        line as u16,
+        report.notes(),
+        report.delivered,
+        report.cause,
+        report.lost,
+    )
 }
 
 /// Carries out what a line of the card orders of its timers.

@@ -11,7 +11,7 @@ invariant_of-self g c = record {
   in_range = c.args.self.now.in_range;
   same_lines = ap (λ (x : Config). x.lines) c.request.ensures.after.config ∙ c.args.self.now.same_lines;
   past = past_on c.args.self.now.config (at c.args.line (happening.request (request_of c.args.request))) c.args.self.now.card c.request.new.self c.request.ensures.after c.args.self.now.past;
-  clock_lines = c.order.ensures.lines ∙ c.args.self.now.clock_lines;
+  clock_lines = c.carry_out.ensures.lines ∙ c.args.self.now.clock_lines;
   in_time = c.args.self.now.in_time;
 }
 

@@ -10,6 +10,6 @@ invariant_of-self g c = record {
   in_range = c.args.self.now.in_range;
   same_lines = ap (λ (x : Config). x.lines) c.octet.follows.holds-at-none.config ∙ c.args.self.now.same_lines;
   past = past_on c.args.self.now.config (at c.args.line (happening.octet c.args.octet)) c.args.self.now.card c.octet.follows.lender-at-none c.octet.follows.holds-at-none c.args.self.now.past;
-  clock_lines = c.order.ensures.lines ∙ c.args.self.now.clock_lines;
+  clock_lines = c.carry_out.ensures.lines ∙ c.args.self.now.clock_lines;
   in_time = c.args.self.now.in_time;
 }

@@ -1,6 +1,7 @@
 -- A request of a line: what its arms say as one refusal, and what the line makes of it.
-use Rattle.std.proofs.Common.{◌≡◌, Bool, true, false, List, [], ◌∷◌, ◌++◌, Option, Some, None, Result, IfOk, IfErr, OnOk, refl, sym, ap, subst, ◌∙◌, cond}
+use Rattle.std.proofs.Common.{◌≡◌, ℕ, Bool, true, false, List, [], ◌∷◌, ◌++◌, Option, Some, None, Result, IfOk, IfErr, OnOk, refl, sym, ap, subst, ◌∙◌, cond}
 use Rattle.lapd_frame.specs.declared.refusals.Refusal.{Refusal}
+use Rattle.lapd_frame.specs.declared.services.Service.{Service}
 use Rattle.lapd_store.specs.Ownership.{Owned}
 use Rattle.lapd_store.specs.Store.{Store}
 use Rattle.lapd_line_machine.specs.declared.config.Config.{Config}
@@ -8,11 +9,16 @@ use Rattle.lapd_line_machine.specs.Answer as event
 use Rattle.lapd_line_machine.specs.Answer.{told}
 use Rattle.lapd_line_machine.specs.Line as machine
 use Rattle.lapd_line_machine.specs.Machine.{after, answer, unless_refused, unless_refused_told}
-use Rattle.lapd_line_machine.specs.Outcome.{of_aim}
+use Rattle.lapd_line_machine.specs.Outcome.{Aim, of_aim}
 use Rattle.lapd_line_machine.specs.Refusal.{Row, first_that_holds, bad_tei, bad_tei_or_group, no_link, no_link_nor_group, wrong_state, too_long, queue_full, unit_queue_full, pool_full, refusal}
-use Rattle.lapd_line_machine.specs.Request.{Request, Establish, Release, Data, Unit, Assign, Remove, Check, SetBusy, ClearBusy}
-use Rattle.lapd_line_machine.specs.Requested.{aim_of_request}
+use Rattle.lapd_line_machine.specs.declared.requests.Request as asking
+use Rattle.lapd_line_machine.specs.Request.{Request, request_of, Establish, Release, Data, Unit, Assign, Remove, Check, SetBusy, ClearBusy}
+use Rattle.lapd_line_machine.specs.Requested.{aim_of_request, at_requested}
 use Rattle.lapd_link_machine.specs.Events as link
+use Rattle.lapd_link.specs.declared.requests.LinkRequest as links
+use Rattle.lapd_link.specs.declared.requests.LinkRequest.{LinkRequest}
+use Rattle.lapd_link.specs.Events.{request_of as link_request_of}
+use Rattle.lapd_line.specs.Asks.{link_refusal}
 use Rattle.lapd_line.specs.declared.entities.Entities.{Entities}
 use Rattle.lapd_line.specs.declared.line.Line.{Line}
 use Rattle.lapd_line.specs.declared.reports.Outcome.{Outcome}
@@ -21,6 +27,7 @@ use Rattle.lapd_line.specs.Entities as entities
 use Rattle.lapd_line.specs.Entities.{Serves}
 use Rattle.lapd_line.specs.Reports.{report_told, told_in}
 use Rattle.lapd_line.specs.Stands.{Stands, Leads, config_of}
+use Rattle.lapd_line.proofs.AskSteps.{establish_rows, release_rows, data_rows, set_busy_rows, clear_busy_rows}
 use Rattle.lapd_line.proofs.LinkSteps.{if_err, on_ok}
 use Rattle.lapd_line.proofs.LineSteps.{with_entities}
 
@@ -35,10 +42,34 @@ module _ {X : Type 0} (e : Entities) (s : Store) (full : Bool) {r this : Request
       → OnOk result ((others : List Owned) (m : machine.Line) → entities.Stands e s others m → refusal e.config full r m ≡ None)
   granted_as h = on_ok result (λ k. λ others m st. ap (λ x. refusal e.config full x m) is ∙ same m ∙ k others m st) h
 
--- and what is done for this one is done for the request
-pub served_as : {r this : Request} (e : Entities) (s : Store) (new : Entities) (t : Store) (result : Result Outcome Refusal) → r ≡ this
-    → IfOk result (Serves (aim_of_request this) [] e s new t) → IfOk result (Serves (aim_of_request r) [] e s new t)
-served_as e s new t result is h = subst (λ x. IfOk result (Serves (aim_of_request x) [] e s new t)) (sym is) h
+-- and what is done for its aim is done for the request
+pub aimed_as : (r : Request) {aim : machine.Line → Aim} (e : Entities) (s : Store) (new : Entities) (t : Store) (result : Result Outcome Refusal) → aim_of_request r ≡ aim
+    → IfOk result (Serves aim [] e s new t) → IfOk result (Serves (aim_of_request r) [] e s new t)
+aimed_as r e s new t result is h = subst (λ x. IfOk result (Serves x [] e s new t)) (sym is) h
+
+-- a request that asks this of the link of a service with a TEI: its rows, and its aim
+pub record Asks (r : asking.Request) (asked : Service × ℕ × LinkRequest) : Type 0 where
+  pub rows : (c : Config) (full : Bool) (m : machine.Line) → refusal c full (request_of r) m ≡ link_refusal c full asked.0 asked.1 (link_request_of asked.2) m
+  pub aim : aim_of_request (request_of r) ≡ (λ m. at_requested asked.0 asked.1 (link_request_of asked.2) (machine.place_in m asked.1))
+
+pub asks_as : {r this : asking.Request} {asked other : Service × ℕ × LinkRequest} → r ≡ this → asked ≡ other → Asks this other → Asks r asked
+asks_as {this = this} {asked} is so h = subst (λ x. Asks x asked) (sym is) (subst (λ x. Asks this x) (sym so) h)
+
+module _ (service : Service) (tei : ℕ) where
+  pub establish_asks : Asks (asking.TheVariants.Establish service tei) (service, tei, links.TheVariants.Establish)
+  establish_asks = record { rows = λ c full m. establish_rows c full service tei m; aim = refl }
+
+  pub release_asks : Asks (asking.TheVariants.Release service tei) (service, tei, links.TheVariants.Release)
+  release_asks = record { rows = λ c full m. release_rows c full service tei m; aim = refl }
+
+  pub data_asks : (contents : _) → Asks (asking.TheVariants.Data service tei contents) (service, tei, links.TheVariants.Data contents)
+  data_asks contents = record { rows = λ c full m. data_rows c full service tei m contents.now; aim = refl }
+
+  pub set_busy_asks : Asks (asking.TheVariants.SetBusy service tei) (service, tei, links.TheVariants.SetBusy)
+  set_busy_asks = record { rows = λ c full m. set_busy_rows c full service tei m; aim = refl }
+
+  pub clear_busy_asks : Asks (asking.TheVariants.ClearBusy service tei) (service, tei, links.TheVariants.ClearBusy)
+  clear_busy_asks = record { rows = λ c full m. clear_busy_rows c full service tei m; aim = refl }
 
 -- where the pool is the last reason and no row holds, none holds with room
 last_row : (rows : List Row) (full : Bool) → first_that_holds (rows ++ pool_full full ∷ []) ≡ None → first_that_holds (rows ++ pool_full false ∷ []) ≡ None

@@ -50,49 +50,20 @@ impl Entities {
             → refusal self.old.config (nat_le slots (used_slots (S.store shelf.old))) (request_of request.entry) m ≡ None) }
         ensures served { IfOk result (Serves (aim_of_request (request_of request.entry)) [] self.old (S.store shelf.old) self.new (S.store shelf.new)) }
     {
-        match request {
-            Request::Establish(service, tei) => self.ask(
-                service,
-                tei,
-                LinkRequest::Establish,
-                shelf,
-                slots,
-            ),
-            Request::Release(service, tei) => self.ask(
-                service,
-                tei,
-                LinkRequest::Release,
-                shelf,
-                slots,
-            ),
-            Request::Data(service, tei, contents) => self.ask(
-                service,
-                tei,
-                LinkRequest::Data(contents),
-                shelf,
-                slots,
-            ),
-            Request::Unit(service, tei, contents) => self.unit(
-                service, tei, contents, shelf, slots,
-            ),
-            Request::Assign(tei) => self.assign(tei, shelf),
-            Request::Remove(tei) => self.remove(tei, shelf),
-            Request::Check(tei) => self.check(tei, shelf),
-            Request::SetBusy(service, tei) => self.ask(
-                service,
-                tei,
-                LinkRequest::SetBusy,
-                shelf,
-                slots,
-            ),
-            Request::ClearBusy(service, tei) => self.ask(
-                service,
-                tei,
-                LinkRequest::ClearBusy,
-                shelf,
-                slots,
-            ),
-        }
+        let (service, tei, request) = match request {
+            Request::Unit(service, tei, contents) => {
+                return self.unit(service, tei, contents, shelf, slots);
+            }
+            Request::Assign(tei) => return self.assign(tei, shelf),
+            Request::Remove(tei) => return self.remove(tei, shelf),
+            Request::Check(tei) => return self.check(tei, shelf),
+            Request::Establish(service, tei) => (service, tei, LinkRequest::Establish),
+            Request::Release(service, tei) => (service, tei, LinkRequest::Release),
+            Request::Data(service, tei, contents) => (service, tei, LinkRequest::Data(contents)),
+            Request::SetBusy(service, tei) => (service, tei, LinkRequest::SetBusy),
+            Request::ClearBusy(service, tei) => (service, tei, LinkRequest::ClearBusy),
+        };
+        self.ask(service, tei, request, shelf, slots)
     }
 
     /// Asks the link of a service with a TEI.

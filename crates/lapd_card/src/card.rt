@@ -1,6 +1,6 @@
 //! The card: one call an event.
 
-ghost use Rattle.std.specs.Prelude.{◌≡◌, ◌<◌, Some, None, IfOk, IfErr, OnOk, OnErr};
+ghost use Rattle.std.specs.Prelude.{◌≡◌, ◌<◌, Some, None, IfOk, IfErr, OnErr};
 ghost use Rattle.lapd_card_machine.specs.ByEvent.{RisesByOctet, RisesByExpiry, RisesByRequest, FallsByPull};
 ghost use Rattle.lapd_card_machine.specs.Card as machine;
 ghost use Rattle.lapd_card_machine.specs.Event.{at};

@@ -1,6 +1,6 @@
 //! A whole list of events, with the replies handed to a sink.
 
-ghost use Rattle.std.specs.Prelude.{◌≡◌, ◌<◌, ◌+◌, ℕ, length, map, take, All, IfOk, IfErr, OnOk, OnErr};
+ghost use Rattle.std.specs.Prelude.{◌≡◌, ◌<◌, ◌+◌, ℕ, length, take, All, IfOk, IfErr, OnOk, OnErr};
 ghost use Rattle.lapd_card_machine.specs.Card as machine;
 ghost use Rattle.lapd_card_machine.specs.Event.{at, event_of};
 ghost use Rattle.lapd_line_machine.specs.Answer as happening;

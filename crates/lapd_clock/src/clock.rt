@@ -1,6 +1,6 @@
 //! The clock: which timers of which lines run, and until when.
 
-ghost use Rattle.std.specs.Prelude.{◌≡◌, ℕ, false, ◌^◌, ◌<◌, ◌≤◌, All, IfOk, IfSome, IfNone};
+ghost use Rattle.std.specs.Prelude.{◌≡◌, false, ◌^◌, ◌<◌, ◌≤◌, All, IfOk, IfSome, IfNone};
 ghost use Rattle.lapd_clock.specs.Timers.{idle, finds_place, with_order, due_at, after_due, next_moment};
 ghost use Rattle.lapd_clock.specs.Sound.{IsSound, IsLeastDue};
 

@@ -2,7 +2,6 @@
 
 ghost use Rattle.std.specs.Prelude.{◌≡◌, ◌≤◌, ◌==◌, ◌||◌, ℕ, List, [], length, Some, None, IfOk, IfErr, OnOk, OnErr, nat_le};
 ghost use Rattle.lapd_frame.specs.declared.services.Service.{Service};
-ghost use Rattle.lapd_frame.specs.declared.refusals.Refusal.TheVariants.{PoolFull};
 ghost use Rattle.lapd_store.specs.Ownership.{Owned};
 ghost use Rattle.lapd_store.specs.Store.{Store, used_slots};
 ghost use Rattle.lapd_tei.specs.Events as teis;

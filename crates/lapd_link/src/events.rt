@@ -1,6 +1,6 @@
 //! Frames, timers, and the end of the TEI.
 
-ghost use Rattle.std.specs.Prelude.{◌≡◌, ℕ, ◌+◌, ◌≤◌, List, [], drop};
+ghost use Rattle.std.specs.Prelude.{◌≡◌, ℕ, ◌+◌, ◌≤◌, List, []};
 ghost use Rattle.lapd_store.specs.Store.{SameLimits};
 ghost use Rattle.lapd_store.specs.Ownership.{Owned, Keeps};
 ghost use Rattle.lapd_link_machine.specs.Link as machine;

@@ -1,6 +1,6 @@
 //! A link.
 
-ghost use Rattle.std.specs.Prelude.{◌≡◌, ℕ, List, ◌≤◌, IfOk};
+ghost use Rattle.std.specs.Prelude.{◌≡◌, List, ◌≤◌, IfOk};
 ghost use Rattle.lapd_store.specs.Store.{Store};
 ghost use Rattle.lapd_store.specs.Ownership.{Owned, Holds};
 ghost use Rattle.lapd_link_machine.specs.declared.states.State.TheVariants.{TeiAssigned};

@@ -3,7 +3,6 @@
 ghost use Rattle.std.specs.Prelude.{◌≡◌, ℕ, ◌+◌, ◌<◌, ◌≤◌, nat_le, false, List, [], length, None, Some, ◌++◌, ◌∷◌, IfOk, IfErr, IfNone, OnOk, OnErr};
 ghost use Rattle.lapd_store.specs.Store.{Store, used_slots, SameLimits};
 ghost use Rattle.lapd_store.specs.Ownership.{Owned, Keeps};
-ghost use Rattle.lapd_frame.specs.declared.refusals.Refusal.{Refusal};
 ghost use Rattle.lapd_link_machine.specs.Link as machine;
 ghost use Rattle.lapd_link_machine.specs.Events as event;
 ghost use Rattle.lapd_link_machine.specs.Steps.{begun};

@@ -1,6 +1,6 @@
 //! Starts at the ends of their range, and frames that a framer gives and a deframer hears.
 
-ghost use Rattle.std.specs.Prelude.{◌≡◌, ◌≤◌};
+ghost use Rattle.std.specs.Prelude.{◌≤◌};
 
 use lapd_bits::{Deframer, Framer, Heard};
 use std::alloc::Global;

@@ -2,11 +2,11 @@
 //! place to the next, and makes each list anew. Tests compare the deframer with it.
 //!
 //! A place in a stream is given by the bits up to it, the latest first, as the definitions have it.
-ghost use Rattle.std.specs.Prelude.{◌≡◌, ℕ, ◌+◌, ◌<◌, ◌≤◌, ◌^◌, Bool, List, [], ◌∷◌, ◌++◌, length, replicate, take, reverse, fold, flat_map, IfOk, IfSome, IsTrue, Option, Some, option_map, option_to_list};
+ghost use Rattle.std.specs.Prelude.{◌≡◌, ◌+◌, ◌<◌, ◌≤◌, ◌^◌, [], ◌∷◌, ◌++◌, length, replicate, take, reverse, fold, flat_map, IfOk, IfSome, IsTrue, Some, option_map, option_to_list};
 ghost use Rattle.lapd_bits.specs.Bits.{low_bits, bits, number_of, octets_of, same_bits};
 ghost use Rattle.lapd_bits.specs.Stuffing.{stuffed, unstuffed, octets_sent};
-ghost use Rattle.lapd_bits.specs.Check.{plus, brought_down, remainder, dividend, is_good};
-ghost use Rattle.lapd_bits.specs.Stream.{ends_flag, ends_abort, since_flag, has_abort, judged, gap_event, closed_by_flag, given_up, heard_at, heard_until, heard_in, room_for};
+ghost use Rattle.lapd_bits.specs.Check.{plus, brought_down, dividend, is_good};
+ghost use Rattle.lapd_bits.specs.Stream.{since_flag, has_abort, judged, gap_event, closed_by_flag, given_up, heard_at, heard_until, heard_in};
 ghost use Rattle.lapd_bits.specs.Heard.{event_in};
 ghost use Rattle.lapd_rows_bits.specs.Reference.{begins};
 

@@ -1,6 +1,5 @@
 //! A shelf of the caller's own.
 
-ghost use Rattle.std.specs.Prelude.{◌≡◌};
 
 use crate::refusals::{refuse_at_a_line, refuse_when_full};
 use crate::starts::USUAL;

@@ -1,6 +1,6 @@
 //! A link with its shelf.
 
-ghost use Rattle.std.specs.Prelude.{◌≡◌, ◌≤◌, IfOk, IfSome};
+ghost use Rattle.std.specs.Prelude.{◌≤◌, IfOk, IfSome};
 ghost use Rattle.lapd_store.specs.Store.{IsUsed};
 
 use lapd_frame::{Address, Control, Frame, Refusal, Service};

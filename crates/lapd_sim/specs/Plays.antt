@@ -1,5 +1,5 @@
 -- What a script that was played has written, and why it ended.
-use Rattle.std.specs.Prelude.{◌≡◌, ℕ, ◌==◌, List, [], ◌∷◌, ◌++◌, take, filter, Bool, Option, None, Some, Result, Ok, Err}
+use Rattle.std.specs.Prelude.{◌≡◌, ℕ, ◌==◌, List, [], ◌++◌, take, filter, Bool, Option, None, Some, Result, Ok, Err}
 use Rattle.std.specs.List.{list_any}
 use Rattle.lapd_transcript.specs.Streams.{Taken, IsWritten, IsBroken}
 use Rattle.lapd_sim_machine.specs.Pieces.{pieces_of}

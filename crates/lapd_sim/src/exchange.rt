@@ -1,6 +1,6 @@
 //! The card that a script is played on, with the clock of its lines.
 
-ghost use Rattle.std.specs.Prelude.{◌≡◌, ◌<◌, ◌≤◌, ◌^◌, ℕ, fold, Ok, IfOk, IfSome, IfNone};
+ghost use Rattle.std.specs.Prelude.{◌≡◌, ◌<◌, ◌^◌, fold, Ok, IfOk, IfSome, IfNone};
 ghost use Rattle.lapd_card.specs.Card.{line_count};
 ghost use Rattle.lapd_card.specs.Reply.{answer_of_result};
 ghost use Rattle.lapd_card_machine.specs.Event.{at};

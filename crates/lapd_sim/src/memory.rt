@@ -1,6 +1,5 @@
 //! Plays a script that lies in memory.
 
-ghost use Rattle.std.specs.Prelude.{◌≡◌};
 ghost use Rattle.lapd_sim.specs.Plays.{PlaysOctets};
 
 use crate::faults::PlayFault;

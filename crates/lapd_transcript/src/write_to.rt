@@ -2,7 +2,6 @@
 
 ghost use Rattle.std.specs.Prelude.{◌≡◌, ◌≤◌, ℕ, length, take, IfOk, OnOk, OnErr};
 ghost use Rattle.std.specs.Io.KnownBytes.{Appends, WriteAppends};
-ghost use Rattle.lapd_transcript.specs.Streams.{Taken, Writes};
 
 use crate::streams::{Target, WriteFailed};
 use std::{fmt, io};

@@ -1,7 +1,7 @@
 //! State 8, timer recovery: multiple-frame operation while this side asks how far the terminal has received.
 
 ghost use Rattle.std.specs.Prelude.{◌≡◌, ℕ, List, length};
-ghost use Rattle.lapd_frame.specs.declared.controls.Control.TheVariants.{ReceiveReady, ReceiveNotReady, Reject};
+ghost use Rattle.lapd_frame.specs.declared.controls.Control.TheVariants.{ReceiveReady, ReceiveNotReady};
 ghost use Rattle.lapd_seq.specs.Circle.{IsValid};
 ghost use Rattle.lapd_seq.specs.Windows.{va_of, vs_of};
 ghost use Rattle.lapd_link_machine.specs.declared.terms.Terms.{Terms};

@@ -1,5 +1,4 @@
-use Rattle.std.proofs.Common.{◌≡◌, ◌∙◌, ℕ, List, Some, None, Ok, Err, refl, sym, ap, subst}
-use Rattle.lapd_transcript.specs.Streams.{IsWritten}
+use Rattle.std.proofs.Common.{◌∙◌, None, Ok, Err, refl, sym, ap, subst}
 use Rattle.lapd_sim_machine.specs.Script.{played}
 use Rattle.lapd_sim.specs.Faults.{fault_at, line_writes_failed}
 use Rattle.lapd_sim.specs.Lines.{AreLeft}

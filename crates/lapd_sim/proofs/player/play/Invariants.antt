@@ -1,8 +1,5 @@
-use Rattle.std.proofs.Common.{◌≡◌, ◌-◌, ◌^◌, ◌++◌, ℕ, List, Some, None, Option, fold}
-use Rattle.lapd_transcript.specs.Streams.{IsWritten}
+use Rattle.std.proofs.Common.{◌≡◌, ◌-◌, ◌^◌, ℕ, List, Some, Option}
 use Rattle.lapd_sim_machine.specs.Bench as machine
-use Rattle.lapd_sim_machine.specs.Script.{Played, played, one_more}
-use Rattle.lapd_sim.specs.Lines.{AreLeft}
 use Rattle.lapd_sim.specs.Stands.{Has}
 use Rattle.lapd_sim.proofs.Playing.{IsPlayed}
 use Rattle.lapd_sim.proofs.player.play.Given as goal

@@ -1,9 +1,8 @@
-use Rattle.std.proofs.Common.{◌≡◌, ◌+◌, ℕ, Ok, Err, sym, subst, take, take_all, get_or, ◌∙◌}
+use Rattle.std.proofs.Common.{◌+◌, Ok, Err, sym, subst, take, take_all, get_or, ◌∙◌}
 use Rattle.lapd_line_machine.specs.Answer.{octet}
 use Rattle.lapd_card_machine.specs.Event.{at}
 use Rattle.lapd_transcript.specs.Streams.{IsWritten, IsBroken}
 use Rattle.lapd_transcript.proofs.Known.{writes_then}
-use Rattle.lapd_sim_machine.specs.Bench as machine
 use Rattle.lapd_sim_machine.specs.Steps.{Scene, after_rx, with_event}
 use Rattle.lapd_sim.specs.Obeyed.{scene}
 use Rattle.lapd_sim.specs.Stands.{Holds}

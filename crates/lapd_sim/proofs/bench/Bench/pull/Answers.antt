@@ -1,10 +1,8 @@
-use Rattle.std.proofs.Common.{◌≡◌, ◌<◌, ◌++◌, ℕ, List, [], Ok, Err, length, take, get_or, sym, ap, subst, arith}
+use Rattle.std.proofs.Common.{◌≡◌, ◌<◌, ◌++◌, [], length, take, get_or, sym, ap, subst, arith}
 use Rattle.std.proofs.lemmas.List.{length-take}
 use Rattle.lapd_transcript.specs.Streams.{IsWritten, IsBroken}
 use Rattle.lapd_sim_machine.specs.Bench.{taken_at}
-use Rattle.lapd_sim_machine.specs.Steps.{pulls, pulled_text, after_pull, at_line}
-use Rattle.lapd_sim.specs.declared.faults.LineFault.TheVariants.{Write}
-use Rattle.lapd_sim.specs.Obeyed.{scene, Obeys}
+use Rattle.lapd_sim_machine.specs.Steps.{pulls, pulled_text}
 use Rattle.lapd_sim.specs.Stands.{Stands, Holds, Each, Hears, Sends}
 use Rattle.lapd_sim.proofs.Eachs.{each_at, each_set}
 use Rattle.lapd_sim.proofs.Scenes.{pulls_keep, pull_obeyed, pull_broken}

@@ -1,4 +1,4 @@
-use Rattle.std.proofs.Common.{◌≡◌, ◌<◌, ℕ, Ok, sym, subst, ap}
+use Rattle.std.proofs.Common.{◌<◌, sym, subst, ap}
 use Rattle.lapd_transcript.specs.Streams.{IsWritten}
 use Rattle.lapd_sim_machine.specs.Steps.{after_rx, octets_at}
 use Rattle.lapd_sim.specs.Obeyed.{scene}

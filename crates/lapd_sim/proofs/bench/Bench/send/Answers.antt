@@ -1,4 +1,4 @@
-use Rattle.std.proofs.Common.{◌≡◌, ◌<◌, ◌≤◌, ◌++◌, ℕ, List, [], Ok, Err, length, set, get_or, sym, ap, subst, arith}
+use Rattle.std.proofs.Common.{◌<◌, [], length, set, sym, ap, subst, arith}
 use Rattle.lapd_sim_machine.specs.Bench.{terminal_at, octets_sent, after_sending, with_terminal}
 use Rattle.lapd_sim_machine.specs.Steps.{octets_at}
 use Rattle.lapd_sim.specs.Obeyed.{scene}

@@ -1,4 +1,3 @@
-use Rattle.std.proofs.Common.{◌≡◌}
 use Rattle.lapd_script.specs.Meaning.{meant}
 use Rattle.lapd_sim.proofs.Playing.{starts}
 use Rattle.lapd_sim.proofs.player.Player.obey.Goals as goal

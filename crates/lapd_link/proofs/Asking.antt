@@ -1,9 +1,9 @@
 -- Requests of layer 3.
-use Rattle.std.proofs.Common.{◌≡◌, ℕ, ◌<◌, Bool, true, List, [], ◌∷◌, ◌++◌, length, drop, Option, Some, None, sym, ap, ◌∙◌, arith, length-append}
+use Rattle.std.proofs.Common.{◌≡◌, ℕ, ◌<◌, Bool, Bor, true, List, [], ◌∷◌, ◌++◌, length, drop, Option, Some, None, sym, ap, subst, ◌∙◌, arith, length-append}
 use Rattle.std.specs.Prelude.{if◌then◌else◌}
 use Rattle.std.proofs.lemmas.List.{drop-append-le}
 use Rattle.lapd_store.specs.Store.{Store}
-use Rattle.lapd_store.specs.Ownership.{Owned}
+use Rattle.lapd_store.specs.Ownership.{Owned, Keeps}
 use Rattle.lapd_frame.specs.declared.refusals.Refusal.{Refusal}
 use Rattle.lapd_frame.specs.declared.refusals.Refusal.TheVariants.{WrongState}
 use Rattle.lapd_link_machine.specs.declared.terms.Terms.{Terms}
@@ -13,12 +13,17 @@ use Rattle.lapd_link_machine.specs.Steps.{Course, begun}
 use Rattle.lapd_link_machine.specs.MultipleFrame.{transfer_in_7_8}
 use Rattle.lapd_link_machine.specs.Requests.{serves, refusal, refusal_for_room, granted}
 use Rattle.lapd_link_machine.specs.Machine.{course}
+use Rattle.lapd_link_rows.specs.declared.entity.Entity.{Entity}
 use Rattle.lapd_link_rows.specs.declared.told.Told.{Told}
 use Rattle.lapd_link_rows.specs.Does.{Agrees}
-use Rattle.lapd_link_rows.specs.Done.{IsNothing}
+use Rattle.lapd_link_rows.specs.Done.{IsNothing, Took}
 use Rattle.lapd_link_rows.proofs.Resting.{begun-resting}
 use Rattle.lapd_link.specs.declared.link.Link.{Link}
-use Rattle.lapd_link.specs.Stands.{Stands, terms_of}
+use Rattle.lapd_link.specs.declared.requests.LinkRequest.{LinkRequest}
+use Rattle.lapd_link.specs.declared.requests.LinkRequest.TheVariants.{Data}
+use Rattle.lapd_link.specs.Events.{request_of}
+use Rattle.lapd_link.specs.Stands.{Stands, Stays, terms_of}
+use Rattle.lapd_link.proofs.Ending.{reached}
 
 -- a request that the state serves
 pub served : (t : Terms) (m : machine.Link) (pool_is_full : Bool) (r : Request) → serves m.state r ≡ true → refusal t m pool_is_full r ≡ refusal_for_room t m pool_is_full r
@@ -45,3 +50,33 @@ transferred {m = m} octets s place nothing =
           };
       is = ap (λ (c : Course). transfer_in_7_8 octets c) (begun-resting [] s.fits.rests nothing);
     }
+
+-- what was done of a request that is granted, before it settles
+pub record Granted (r : LinkRequest) (old link : Link) (store : Store) (t : Told) (others : List Owned) (m : machine.Link) : Type 0 where
+  pub messages : List (List ℕ)
+  pub kept : Keeps store link.queue.slots messages others
+  pub agrees : Agrees (terms_of link) [] messages (granted (terms_of old) (request_of r) (begun m)) link.entity t
+
+pub granted_as : {r r' : LinkRequest} {old link link' : Link} {store store' : Store} {t t' : Told} {others : List Owned} {m : machine.Link} → r ≡ r' → link ≡ link' → store ≡ store' → t ≡ t' → Granted r' old link' store' t' others m → Granted r old link store t others m
+granted_as {r} {r'} {old} {link} {link'} {store} {store'} {t} {t'} {others} {m} asked is stored told h =
+    subst (λ x. Granted x old link store t others m) (sym asked)
+    (subst (λ x. Granted r' old x store t others m) (sym is)
+    (subst (λ x. Granted r' old link' x t others m) (sym stored)
+    (subst (λ x. Granted r' old link' store' x others m) (sym told) h)))
+
+-- the rows of the entity did it,
+pub by_rows : {link : Link} {store : Store} {others : List Owned} {m : machine.Link} {e : Entity} {t : Told} (r : LinkRequest) → Took (terms_of link) [] (granted (terms_of link) (request_of r)) link.entity e t → Stands link store others m → Granted r link (record link { entity = e }) store t others m
+by_rows {m = m} r took s = record { messages = machine.queue_of m; kept = s.kept; agrees = reached took s }
+
+-- or contents went to the end of the queue
+pub by_contents : {old link : Link} {store new : Store} {others : List Owned} {m : machine.Link} {none : Told} (octets : Bor (List ℕ)) → Stands old store others m → length old.queue.slots < old.queue.capacity → IsNothing none
+    → ((messages : List (List ℕ)) (others : List Owned) → Keeps store old.queue.slots messages others → Keeps new link.queue.slots (messages ++ octets.now ∷ []) others)
+    → link.entity ≡ old.entity → Stays old link → Granted (Data octets) old link new none others m
+by_contents {old} {link} {others = others} {m} {none} octets s place nothing kept entity stays = record {
+  messages = machine.queue_of m ++ octets.now ∷ [];
+  kept = kept (machine.queue_of m) others s.kept;
+  agrees =
+      subst (λ (t : Terms). Agrees t [] (machine.queue_of m ++ octets.now ∷ []) (transfer_in_7_8 octets.now (begun m)) link.entity none) (sym stays.terms)
+      (subst (λ (e : Entity). Agrees (terms_of old) [] (machine.queue_of m ++ octets.now ∷ []) (transfer_in_7_8 octets.now (begun m)) e none) (sym entity)
+      (transferred octets.now s place nothing));
+}

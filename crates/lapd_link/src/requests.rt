@@ -9,8 +9,6 @@ ghost use Rattle.lapd_link_machine.specs.Steps.{begun};
 ghost use Rattle.lapd_link_machine.specs.Requests as asked;
 ghost use Rattle.lapd_link_machine.specs.Machine.{after, told};
 ghost use Rattle.lapd_link_machine.specs.Rises.{sent, waiting, price};
-ghost use Rattle.lapd_link_machine.specs.TeiAssigned.{establish_in_4};
-ghost use Rattle.lapd_link_machine.specs.MultipleFrame.{transfer_in_7_8, set_busy_in_7_8, clear_busy_in_7_8};
 
 use crate::link::Link;
 use crate::outcome::Answer;
@@ -118,81 +116,19 @@ impl Link {
         ensures stays { Stays self.old self.new }
         ensures limits { SameLimits (S.store shelf.old) (S.store shelf.new) }
     {
+        let before = self.entity.running();
+        let mut told = Told::nothing();
         match request {
-            LinkRequest::Establish => self.establish(shelf),
-            LinkRequest::Release => self.release(shelf),
-            LinkRequest::Data(octets) => self.transfer(octets, shelf),
-            LinkRequest::SetBusy => self.set_busy(shelf),
-            LinkRequest::ClearBusy => self.clear_busy(shelf),
+            LinkRequest::Establish => self.entity.establish_in_4(self.terms, &mut told),
+            LinkRequest::Release => self.entity.release(self.terms, &mut told),
+            LinkRequest::Data(octets) => self.keep(octets, shelf),
+            LinkRequest::SetBusy => self.entity.set_busy_in_7_8(self.terms, &mut told),
+            LinkRequest::ClearBusy => self.entity.clear_busy_in_7_8(self.terms, &mut told),
         }
-    }
-
-    fn establish<S: Shelf>(&mut self, shelf: &mut S) -> Answer
-        requires { (others : List Owned) × (m : machine.Link) × Stands self.old (S.store shelf.old) others m }
-        ensures reaches { (others : List Owned) (m : machine.Link) → Stands self.old (S.store shelf.old) others m →
-            Reaches [] m (establish_in_4 (terms_of self.old) (begun m)) self.new (S.store shelf.new) others result }
-        ensures stays { Stays self.old self.new }
-        ensures limits { SameLimits (S.store shelf.old) (S.store shelf.new) }
-    {
-        let before = self.entity.running();
-        let mut told = Told::nothing();
-        self.entity.establish_in_4(self.terms, &mut told);
-        self.settle(before, told, shelf)
-    }
-
-    fn release<S: Shelf>(&mut self, shelf: &mut S) -> Answer
-        requires { (others : List Owned) × (m : machine.Link) × Stands self.old (S.store shelf.old) others m }
-        ensures reaches { (others : List Owned) (m : machine.Link) → Stands self.old (S.store shelf.old) others m →
-            Reaches [] m (asked.release_in m.state (terms_of self.old) (begun m)) self.new (S.store shelf.new) others result }
-        ensures stays { Stays self.old self.new }
-        ensures limits { SameLimits (S.store shelf.old) (S.store shelf.new) }
-    {
-        let before = self.entity.running();
-        let mut told = Told::nothing();
-        self.entity.release(self.terms, &mut told);
-        self.settle(before, told, shelf)
-    }
-
-    fn set_busy<S: Shelf>(&mut self, shelf: &mut S) -> Answer
-        requires { (others : List Owned) × (m : machine.Link) × Stands self.old (S.store shelf.old) others m }
-        ensures reaches { (others : List Owned) (m : machine.Link) → Stands self.old (S.store shelf.old) others m →
-            Reaches [] m (set_busy_in_7_8 (terms_of self.old) (begun m)) self.new (S.store shelf.new) others result }
-        ensures stays { Stays self.old self.new }
-        ensures limits { SameLimits (S.store shelf.old) (S.store shelf.new) }
-    {
-        let before = self.entity.running();
-        let mut told = Told::nothing();
-        self.entity.set_busy_in_7_8(self.terms, &mut told);
-        self.settle(before, told, shelf)
-    }
-
-    fn clear_busy<S: Shelf>(&mut self, shelf: &mut S) -> Answer
-        requires { (others : List Owned) × (m : machine.Link) × Stands self.old (S.store shelf.old) others m }
-        ensures reaches { (others : List Owned) (m : machine.Link) → Stands self.old (S.store shelf.old) others m →
-            Reaches [] m (clear_busy_in_7_8 (terms_of self.old) (begun m)) self.new (S.store shelf.new) others result }
-        ensures stays { Stays self.old self.new }
-        ensures limits { SameLimits (S.store shelf.old) (S.store shelf.new) }
-    {
-        let before = self.entity.running();
-        let mut told = Told::nothing();
-        self.entity.clear_busy_in_7_8(self.terms, &mut told);
         self.settle(before, told, shelf)
     }
 
     // The contents go to the end of the queue.
-    fn transfer<S: Shelf>(&mut self, octets: &[u8], shelf: &mut S) -> Answer
-        requires stands { (others : List Owned) × (m : machine.Link) × Stands self.old (S.store shelf.old) others m }
-        requires place { HasPlace (event.transfer octets.now) self.old (S.store shelf.old) }
-        ensures reaches { (others : List Owned) (m : machine.Link) → Stands self.old (S.store shelf.old) others m →
-            Reaches [] m (transfer_in_7_8 octets.now (begun m)) self.new (S.store shelf.new) others result }
-        ensures stays { Stays self.old self.new }
-        ensures limits { SameLimits (S.store shelf.old) (S.store shelf.new) }
-    {
-        let before = self.entity.running();
-        self.keep(octets, shelf);
-        self.settle(before, Told::nothing(), shelf)
-    }
-
     fn keep<S: Shelf>(&mut self, octets: &[u8], shelf: &mut S)
         requires { HasPlace (event.transfer octets.now) self.old (S.store shelf.old) }
         ensures kept { (messages : List (List ℕ)) (others : List Owned) → Keeps (S.store shelf.old) self.old.queue.slots messages others →

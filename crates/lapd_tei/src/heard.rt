@@ -3,6 +3,8 @@
 ghost use Rattle.std.specs.Prelude.{◌≡◌};
 ghost use Rattle.lapd_tei.specs.Messages.{heard_in};
 
+use crate::messages::{ENTITY, NO_TEI};
+
 /// A message of TEI management that a terminal sends (Q.921 clause 5.3.1, table 8).
 #[derive(Clone, Copy, PartialEq, Eq, Debug)]
 pub(crate) enum Heard {
@@ -22,12 +24,12 @@ impl Heard {
         let &[entity, high, low, kind, last] = information else {
             return None;
         };
-        if entity != 0x0F || last % 2 != 1 {
+        if entity != ENTITY || last % 2 != 1 {
             return None;
         }
         let tei = last / 2;
         match kind {
-            1 if tei == 127 => Some(Heard::IdentityRequest {
+            1 if tei == NO_TEI => Some(Heard::IdentityRequest {
                 ri: u16::from_be_bytes([high, low]),
             }),
             5 => Some(Heard::IdentityCheckResponse { tei }),

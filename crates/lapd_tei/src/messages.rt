@@ -3,7 +3,17 @@
 ghost use Rattle.std.specs.Prelude.{◌≡◌, ◌<◌};
 ghost use Rattle.lapd_tei.specs.Messages.{action_of, information_of, frame_of};
 
+use crate::table::GROUP;
 use lapd_frame::{Address, Control, Frame, Side, write};
+
+/// The SAPI of layer 2 management (Q.921 clause 3.3.3).
+const MANAGEMENT: u8 = 63;
+
+/// The entity identifier of TEI management, and the Ai that names no TEI: any will do, or there is none to be had
+/// (Q.921 clause 5.3.1).
+pub(crate) const ENTITY: u8 = 0x0F;
+
+pub(crate) const NO_TEI: u8 = 127;
 
 /// A message of TEI management that the network sends to the terminals of a line (Q.921 clause
 /// 5.3.1, table 8).
@@ -43,9 +53,9 @@ impl Message {
         let information = self.information();
         let frame = Frame {
             address: Address {
-                sapi: 63,
+                sapi: MANAGEMENT,
                 command: true,
-                tei: 127,
+                tei: GROUP,
             },
             control: Control::Ui { pf: false },
             info: &information,
@@ -62,11 +72,11 @@ impl Message {
     {
         let (ri, kind, action) = match self {
             Message::IdentityAssigned { ri, tei } => (ri, 2, tei),
-            Message::IdentityDenied { ri } => (ri, 3, 127),
+            Message::IdentityDenied { ri } => (ri, 3, NO_TEI),
             Message::IdentityCheckRequest { tei } => (0, 4, tei),
             Message::IdentityRemove { tei } => (0, 6, tei),
         };
         let [high, low] = ri.to_be_bytes();
-        [0x0F, high, low, kind, 2 * action + 1]
+        [ENTITY, high, low, kind, 2 * action + 1]
     }
 }

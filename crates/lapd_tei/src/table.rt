@@ -9,6 +9,11 @@ use std::marker::Model;
 
 const MOST: usize = 8;
 
+/// The lowest TEI that the network assigns, and that of the group, below which they end (Q.921 clause 3.3.4).
+const LOWEST: u8 = 64;
+
+pub(crate) const GROUP: u8 = 127;
+
 /// The TEI at each place, `None` where it is free.
 #[derive(Drop, Debug)]
 pub(crate) struct Table {
@@ -64,7 +69,7 @@ impl Table {
     pub fn free_tei(&self) -> Option<u8>
         ensures { result ≡ free_tei self.now }
     {
-        (64..127).find(|tei| !self.is_on(*tei))
+        (LOWEST..GROUP).find(|tei| !self.is_on(*tei))
     }
 
     /// Puts a TEI at a place.

@@ -16,7 +16,7 @@ use Rattle.lapd_bits.specs.declared.heard.Cause.TheVariants.{Ragged}
 use Rattle.lapd_bits.proofs.BitLemmas.{length-bits, length-low_bits, bits-push}
 use Rattle.lapd_bits.proofs.Division.Holds.{low_bits-next}
 use Rattle.lapd_bits.proofs.Places.{reverse-cons, latest_ones, latest_ones-below, ones_after-reverse, run_of-gap, gap_has_no_flag, NoFlag, NoSix-reverse, front_of_flag}
-use Rattle.lapd_bits.proofs.Hearing.{open_gap-one, open_gap-abort, open_gap-zero, open_gap-flag}
+use Rattle.lapd_bits.proofs.Hearing.{open_gap-one, open_gap-abort, open_gap-zero}
 use Rattle.lapd_bits.proofs.StuffingCounted.{NoSix}
 use Rattle.lapd_bits.proofs.StuffingClosed.{unstuffed-push_one, unstuffed-push_zero, unstuffed-push_stuffed, octets_sent-assembled}
 
@@ -99,13 +99,6 @@ module _ (octets octets' : List ℕ) (ones ones' : ℕ) (gap gap' : Option Gap) 
       record {
         run = e;
         open_is = subst (HoldsGap octets' gap') (sym (open_gap-zero past (λ six. other (h.run ∙ six)))) taken;
-      }
-
-  pub HoldsPast-flag : ones ≡ 6 → ones' ≡ 0 → HoldsGap octets' gap' (Some []) → HoldsPast octets' ones' gap' (false ∷ past)
-  HoldsPast-flag six e opened =
-      record {
-        run = e;
-        open_is = subst (HoldsGap octets' gap') (sym (open_gap-flag past (sym h.run ∙ six))) opened;
       }
 
 -- ---- what a flag's last bit ends

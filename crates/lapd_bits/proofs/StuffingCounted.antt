@@ -160,11 +160,6 @@ NoSix-append ones [] t p q = q
 NoSix-append ones (false ∷ s) t p q = NoSix-append 0 s t p q
 NoSix-append ones (true ∷ s) t p q = (p.0, NoSix-append (suc ones) s t p.1 q)
 
-pub NoSix_front : (ones : ℕ) (s t : List Bool) → NoSix ones (s ++ t) → NoSix ones s
-NoSix_front ones [] t p = tt
-NoSix_front ones (false ∷ s) t p = NoSix_front 0 s t p
-NoSix_front ones (true ∷ s) t p = (p.0, NoSix_front (suc ones) s t p.1)
-
 pub NoSix_back : (ones : ℕ) (s t : List Bool) → NoSix ones (s ++ t) → NoSix (ones_after ones s) t
 NoSix_back ones [] t p = p
 NoSix_back ones (false ∷ s) t p = NoSix_back 0 s t p

@@ -1,9 +1,7 @@
 -- The frames sent, amortised.
-use Rattle.std.proofs.Common.{◌≡◌, ℕ, ◌+◌, ◌*◌, ◌≤◌, false, List, [], ◌∷◌, refl, sym, subst, arith}
+use Rattle.std.proofs.Common.{◌≡◌, ℕ, ◌+◌, ◌*◌, ◌≤◌, List, [], ◌∷◌, sym, subst, arith}
 use Rattle.std.specs.Prelude.{sum_by}
 use Rattle.std.proofs.lemmas.List.Elements.{All-head, All-tail}
-use Rattle.lapd_frame.specs.declared.refusals.Refusal.TheVariants.{PoolFull}
-use Rattle.lapd_line_machine.specs.Answer.{Event as LineEvent, octet, expiry, request, pull, refused}
 use Rattle.lapd_line_machine.specs.Machine as lines
 use Rattle.lapd_line_machine.specs.Counts as line
 use Rattle.lapd_line_machine.proofs.EventsRise.{event_rises}
@@ -15,12 +13,6 @@ use Rattle.lapd_card_machine.specs.Machine.{after, answer}
 use Rattle.lapd_card_machine.specs.Promises.{IsAmortised}
 use Rattle.lapd_card_machine.specs.Run.{Moment, moments, after_all, IsAtLine, AreAtLines}
 use Rattle.lapd_card_machine.proofs.Steps.{HasLines, has_lines, by_room, line_sound, after_lines, one_line, count_cons}
-
-refused_is_none : (e : LineEvent) → line.is_accepted e (refused PoolFull) ≡ false
-refused_is_none (octet value) = refl
-refused_is_none (expiry timer) = refl
-refused_is_none (request r) = refl
-refused_is_none pull = refl
 
 -- one event
 pub event_within : (card : Card) (e : Event) → HasLines card → IsAtLine card e

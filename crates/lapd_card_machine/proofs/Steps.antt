@@ -26,9 +26,6 @@ pub has_lines : (card : Card) → IsSound card → HasLines card
 has_lines card s = record { config = s.config; count = s.count; lines = s.lines }
 
 -- What an event is to a card: either it finds the pool full, or it is one of its line.
-pub line_after : Event → Card → Line
-line_after e card = lines.after card.config e.what (line_at e.line card)
-
 pub by_room : (P : List Line → Answer → Type 0) (e : Event) (card : Card)
     → (wants_room e card ≡ true → P card.lines (refused PoolFull))
     → (wants_room e card ≡ false → P (set card.lines e.line (lines.after card.config e.what (line_at e.line card))) (lines.answer card.config e.what (line_at e.line card)))

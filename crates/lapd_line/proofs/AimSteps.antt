@@ -94,16 +94,3 @@ message_of_ui (control.Ua f) info is = absurd (false≢true is)
 message_of_ui (control.Dm f) info is = absurd (false≢true is)
 message_of_ui (control.Frmr f) info is = absurd (false≢true is)
 message_of_ui (control.Xid pf) info is = absurd (false≢true is)
-
-pub message_of_other : (k : Control) (info : List ℕ) → is_ui k ≡ false → message_of k info ≡ drop_for Unserved
-message_of_other (control.Ui p) info is = absurd (false≢true (sym is))
-message_of_other (control.Information ns nr p) info is = refl
-message_of_other (control.ReceiveReady nr pf) info is = refl
-message_of_other (control.ReceiveNotReady nr pf) info is = refl
-message_of_other (control.Reject nr pf) info is = refl
-message_of_other (control.Sabme p) info is = refl
-message_of_other (control.Disc p) info is = refl
-message_of_other (control.Ua f) info is = refl
-message_of_other (control.Dm f) info is = refl
-message_of_other (control.Frmr f) info is = refl
-message_of_other (control.Xid pf) info is = refl

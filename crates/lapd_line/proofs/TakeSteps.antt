@@ -26,20 +26,6 @@ use Rattle.lapd_line.specs.declared.entities.Entities.{Entities}
 use Rattle.lapd_line.specs.Entities.{Stands}
 use Rattle.lapd_line.specs.Takes.{HasTaken, Took, Takes}
 
--- the head of a frame has three octets or four
-pub head_short : (address : Address) (control : Control) → (3 ≤ length (head_of Network address control)) × (length (head_of Network address control) ≤ 4)
-head_short address (Information ns nr pf) = (omega arith, omega arith)
-head_short address (ReceiveReady nr pf) = (omega arith, omega arith)
-head_short address (ReceiveNotReady nr pf) = (omega arith, omega arith)
-head_short address (Reject nr pf) = (omega arith, omega arith)
-head_short address (Sabme pf) = (omega arith, omega arith)
-head_short address (Disc pf) = (omega arith, omega arith)
-head_short address (Ui pf) = (omega arith, omega arith)
-head_short address (Ua pf) = (omega arith, omega arith)
-head_short address (Dm pf) = (omega arith, omega arith)
-head_short address (Frmr pf) = (omega arith, omega arith)
-head_short address (Xid pf) = (omega arith, omega arith)
-
 pub append_none : {A : Type 0} (xs : List A) → xs ++ [] ≡ xs
 append_none [] = refl
 append_none (x ∷ xs) = ap (λ l. x ∷ l) (append_none xs)
@@ -122,18 +108,6 @@ none_waits m none = go m.waiting refl none
     go : (w : List Message) → m.waiting ≡ w → option_map frame_of (slice_get w 0) ≡ None → after_offer m ≡ m
     go [] e h = ap (λ l. record m { waiting = drop 1 l }) e ∙ ap (λ l. record m { waiting = l }) (sym e)
     go (x ∷ xs) e h = absurd (cc)
-
-pub no_message : (e : Entities) (s : Store) (f : Framing) → None ≡ offered e.teis → Takes (λ c m. message_taken m) e s f (record e { teis = after_offer e.teis }) s f None
-no_message e s f none = record {
-  config = refl;
-  limits = record { slots = refl; width = refl };
-  room = refl;
-  took = λ others m st.
-      let same : message_taken m ≡ None = ap (λ o. option_map (with_message m) o) (ap offered st.management ∙ sym none) in
-      let stays : Stands (record e { teis = after_offer e.teis }) s others m =
-      subst (λ t. Stands (record e { teis = t }) s others m) (sym (none_waits e.teis (sym none))) st in
-      subst (λ o. Took o None m (record e { teis = after_offer e.teis }) s others f f) (sym same) (stays, refl);
-}
 
 -- a message is its first four octets and four more
 whole_message : (x : Message) → take 4 (frame_of x) ++ take 4 (drop 4 (frame_of x)) ≡ frame_of x

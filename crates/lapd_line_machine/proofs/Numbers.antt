@@ -1,5 +1,5 @@
 -- Links by their numbers, and sums over them.
-use Rattle.std.proofs.Common.{◌≡◌, ◌≢◌, ℕ, zero, suc, ◌+◌, ◌*◌, ◌/◌, ◌%◌, ◌≤◌, ◌<◌, ◌⊎◌, ◌==◌, refl, ap, sym, ◌∙◌, cond, arith, ⊎_elim, inl, inr}
+use Rattle.std.proofs.Common.{◌≡◌, ◌≢◌, ℕ, zero, suc, ◌+◌, ◌*◌, ◌%◌, ◌≤◌, ◌<◌, ◌⊎◌, ◌==◌, refl, ap, sym, ◌∙◌, cond, arith, ⊎_elim, inl, inr}
 use Rattle.std.specs.Prelude.{sum_by}
 use Rattle.std.specs.List.{range_with_len}
 use Rattle.std.proofs.lemmas.List.Sums.{sum_by-cons}
@@ -9,9 +9,6 @@ use Rattle.lapd_frame.specs.declared.services.Service.TheVariants.{Call, Packet}
 use Rattle.lapd_line_machine.specs.Line.{link_number, service_at, place_at}
 
 -- a number has its service and its place
-halved : (n : ℕ) → 2 * n / 2 ≡ n
-halved n = omega arith
-
 pub place_at-number : (place : ℕ) (service : Service) → place_at (link_number place service) ≡ place
 place_at-number place Call = omega arith
 place_at-number place Packet = omega arith
@@ -61,13 +58,6 @@ sum_changed f g a (suc n) i from to same =
     let rest = sum_changed f g (a + 1) n i (omega (arith, from, other)) (omega (arith, to)) same in
     omega (arith, head, rest, sum_by-cons g a (range_with_len (a + 1) n), sum_by-cons f a (range_with_len (a + 1) n)))
     (cases_eq i a)
-
-pub sum_same : (f g : ℕ → ℕ) (a n : ℕ) → ((j : ℕ) → g j ≡ f j) → sum_by g (range_with_len a n) ≡ sum_by f (range_with_len a n)
-sum_same f g a zero same = refl
-sum_same f g a (suc n) same =
-    let head = same a in
-    let rest = sum_same f g (a + 1) n same in
-    sum_by-cons g a (range_with_len (a + 1) n) ∙ omega (arith, head, rest) ∙ sym (sum_by-cons f a (range_with_len (a + 1) n))
 
 pub sum_bounded : (f : ℕ → ℕ) (a n m : ℕ) → ((j : ℕ) → j < a + n → f j ≤ m) → sum_by f (range_with_len a n) ≤ n * m
 sum_bounded f a zero m below = omega arith

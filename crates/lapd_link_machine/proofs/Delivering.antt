@@ -103,10 +103,6 @@ not-over true n m e = false_from_ne_true (nat_le m n) (λ h. let one : n < m = l
 not-over false n m e = true_from_ne_false (nat_le m n) (λ h. let one : m ≤ n = ltb-false n m e in let two : n < m = leb-false m n h in absurd (omega arith))
 
 module _ (t : Terms) (l : Link) where
-  -- what an event comes to
-  Delivers : Events.Event → Type 0
-  Delivers e = On (done (counted_on l.r (delivery l.r (eligible t e l))) (delivery l.r (eligible t e l))) (Machine.course t e l)
-
   quiet : {f : Step} → Leads (On (counted l.r None)) f (On (done l.r None)) → On (done l.r None) (f (begun l))
   quiet x = x.leads (begun l) (begins t l)
 

@@ -284,9 +284,6 @@ module _ (t : Terms) (r : t.tei ≤ 126) where
   requests_lead request full = record { leads = λ c h. requested-by request full c h (Requests.refusal t c.link full request) refl }
 
   -- Offers.
-  give_keeps : (X : Claim) (f : ControlFrame) (o : Option (List ℕ)) → Leads (Bound t X) (Offers.give f o) (Bound t X)
-  give_keeps X f o = record { leads = λ c h. record { bounded = h.bounded; claim = h.claim } }
-
   is-established : (here : State) → Offers.is_established here ≡ true → IsTrue (is_multiple_frame here)
   is-established TeiAssigned e = e
   is-established AwaitingEstablishment e = e

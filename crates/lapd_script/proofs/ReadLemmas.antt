@@ -1,17 +1,16 @@
 -- What is read of words that stand in references, and of lines with too many.
-use Rattle.std.proofs.Common.{◌≡◌, ℕ, Bool, true, false, cond, eqb, List, [], ◌∷◌, length, take, drop, get_or, Some, None, Ok, Err, Result, Option, refl, sym, ap, ◌∙◌, Bor, arith}
+use Rattle.std.proofs.Common.{◌≡◌, ℕ, Bool, true, false, cond, List, [], ◌∷◌, length, take, drop, get_or, Some, None, Ok, Err, Result, Option, refl, sym, ap, ◌∙◌, Bor, arith}
 use Rattle.std.specs.Prelude.{IsErr, IsErrAnd}
 use Rattle.std.proofs.lemmas.Bool.{false≢true}
 use Rattle.lapd_script.specs.declared.kind.FaultKind.{FaultKind}
-use Rattle.lapd_script.specs.declared.kind.FaultKind.TheVariants.{BadNumberOfWords, UnknownWord}
+use Rattle.lapd_script.specs.declared.kind.FaultKind.TheVariants.{BadNumberOfWords}
 use Rattle.lapd_script.specs.declared.command.CardNumbers.{CardNumbers}
 use Rattle.lapd_script.specs.declared.word.Word.{Word}
 use Rattle.lapd_script.specs.declared.word.Word.TheVariants.{Card, Rx, In, Pull, Wait, Stored, Ask}
-use Rattle.lapd_script.specs.Words.{words_of, texts}
+use Rattle.lapd_script.specs.Words.{texts}
 use Rattle.lapd_script.specs.Word.{word_named, carries_octets}
 use Rattle.lapd_script.specs.Number.{number}
-use Rattle.lapd_script.specs.Meaning.{skip}
-use Rattle.lapd_script.specs.Read.{read, read_words, read_after, read_as, card_numbers, nine_numbers, three_numbers, with_k16, ◌>>=◌}
+use Rattle.lapd_script.specs.Read.{read_words, read_after, read_as, card_numbers, nine_numbers, three_numbers, with_k16, ◌>>=◌}
 
 abbrev pub nowhere : Bor (List ℕ)
 nowhere = record { ref_ptr = (0, 0); now = [] }
@@ -121,10 +120,6 @@ abbrev first_word : List (List ℕ) → List ℕ
 first_word [] = []
 first_word (name ∷ more) = name
 
-taken_after : (word : Option Word) (words : List (List ℕ)) → read_after word (take 11 words) ≡ read_after word words
-taken_after None words = refl
-taken_after (Some word) words = taken_words word words
-
 -- where the first twelve words are these, they say what all the words say
 pub read_taken : (all : List (List ℕ)) (name : List ℕ) (words : List (List ℕ)) (word : Option Word) → name ∷ words ≡ take 12 all → word ≡ word_named name → read_after word words ≡ read_words all
 read_taken [] name words word e w = cc
@@ -138,19 +133,6 @@ read_taken (first ∷ more) name words word e w =
     by_word : (one : Option Word) (list : List (List ℕ)) → read_after one (take 11 list) ≡ read_after one list
     by_word None list = refl
     by_word (Some it) list = taken_words it list
-
-pub read_none : (all : List (List ℕ)) → [] ≡ take 12 all → Err UnknownWord ≡ read_words all
-read_none [] e = refl
-read_none (first ∷ more) e = cc
-
-unskipped : {A : Type 0} (t : Bool) (x y : A) → (t ≡ true → ⊥) → y ≡ cond t x y
-unskipped true x y h = absurd (h refl)
-unskipped false x y h = refl
-
--- lines that are not skipped
-pub read_unskipped : (line : List ℕ) → (length line ≡ 0 → ⊥) → (get_or line 0 0 ≡ 35 → ⊥) → read_words (words_of line) ≡ read line
-read_unskipped [] full first = absurd (full refl)
-read_unskipped (octet ∷ more) full first = unskipped (eqb octet 35) (Ok skip) (read_words (words_of (octet ∷ more))) (λ e. first (grind (arith, e)))
 
 -- the exit of a `?`
 pub err_is : {A : Type 0} (r : Result A FaultKind) (kind : FaultKind) → IsErr r × IsErrAnd r (λ why. why ≡ kind) → r ≡ Err kind

@@ -48,19 +48,6 @@ pub record Shown (line : ℕ) (listener : Deframer) (before after : Taken) (past
   pub written : IsWritten before after (events_text line gained)
   pub hears : Hears listener (past ++ octets)
 
-pub shown_begins : (line : ℕ) (listener : Deframer) (t : Taken) (past : List ℕ) → Hears listener past → Shown line listener t t past []
-shown_begins line listener t past h = record {
-  gained = [];
-  heard = ap (heard_in 1024) (append-nil past) ∙ sym (append-nil (heard_in 1024 past));
-  written = record { whole = appends_nothing t.contents; steady = refl };
-  hears = subst (Hears listener) (sym (append-nil past)) h;
-}
-
-pub shown_over : (line : ℕ) (listener : Deframer) (before after : Taken) (past octets : List ℕ) → Shown line listener before after past octets
-    → IsWritten before after (flat_map (frame_text line) (found past octets))
-shown_over line listener before after past octets s =
-    subst (IsWritten before after) (sym (found_gained line past octets s.gained s.heard)) s.written
-
 module _ (line : ℕ) (listener new : Deframer) (before after last : Taken) (past octets : List ℕ) (octet : ℕ) (event : Option Event)
     (s : Shown line listener before after past octets) (is : heard_in 1024 ((past ++ octets) ++ octet ∷ []) ≡ heard_in 1024 (past ++ octets) ++ option_to_list event) where
   heard_more : heard_in 1024 (past ++ (octets ++ octet ∷ [])) ≡ heard_in 1024 past ++ (s.gained ++ option_to_list event)

@@ -19,9 +19,6 @@ pub record Pulled (e : Exchange) (line count : ℕ) (taken : List ℕ) (m : Benc
   pub octets : taken ≡ (pulls count line (record { bench = m; octets = [] })).octets
   pub stands : Holds e (pulls count line (record { bench = m; octets = [] })).bench
 
-pub pulled_none : (e : Exchange) (line : ℕ) (m : Bench) → Holds e m → Pulled e line 0 [] m
-pulled_none e line m h = record { octets = refl; stands = h }
-
 pub pulled_on : (e new : Exchange) (line count value : ℕ) (taken : List ℕ) (m : Bench) → Pulled e line count taken m
     → ((b : Bench) → Holds e b → value ≡ octet_in (answer (at line pull) b.card))
     → ((b : Bench) → Holds e b → Holds new (happened b (at line pull)))

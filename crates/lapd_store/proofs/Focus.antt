@@ -56,16 +56,7 @@ pub record Part (s : Store) (own : List Owned) (whole : List Owned → List Owne
   pub held : Holds s (own ++ rest)
   pub back : (t : Store) (new : List Owned) → Holds t (new ++ rest) → Holds t (whole new)
 
--- the first of two lists that an owner has
-pub first_part : (s : Store) (own more others : List Owned) → Holds s ((own ++ more) ++ others) → Part s own (λ new. (new ++ more) ++ others)
-first_part s own more others held =
-    record {
-      rest = more ++ others;
-      held = subst (Holds s) (append_assoc own more others) held;
-      back = λ t new h. subst (Holds t) (sym (append_assoc new more others)) h;
-    }
-
--- and the second
+-- the second of two lists that an owner has
 pub second_part : (s : Store) (first own others : List Owned) → Holds s ((first ++ own) ++ others) → Part s own (λ new. (first ++ new) ++ others)
 second_part s first own others held =
     record {

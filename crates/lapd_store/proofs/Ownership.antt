@@ -3,17 +3,17 @@
 use Rattle.std.proofs.Common.{◌≡◌, ℕ, ◌+◌, ◌<◌, Some, List, [], ◌∷◌, ◌++◌, map, length, drop, take, suc, refl, sym, ap, subst, ◌∙◌, eqb, append_assoc, get_or, set}
 use Rattle.std.proofs.lemmas.List.Concat.{flat_map-append}
 use Rattle.std.proofs.lemmas.List.{set_split, set-get_or}
-use Rattle.std.proofs.lemmas.List.Elements.{All-head, All-tail, All-contains, Contains-append_left}
+use Rattle.std.proofs.lemmas.List.Elements.{All-contains, Contains-append_left}
 use Rattle.std.proofs.lemmas.Option.{slice_get_within, get_or_from_slice_get}
-use Rattle.std.proofs.lemmas.List.Sorted.{IsPermutation-refl, IsPermutation-sym, IsPermutation-cons, IsPermutation-trans, IsPermutation-middle, IsPermutation-append_comm, IsPermutation-append_left, All-permutation, Contains-permutation, length_permutation}
-use Rattle.std.proofs.lemmas.List.Sums.{sum_by-append, sum_by-cons}
+use Rattle.std.proofs.lemmas.List.Sorted.{IsPermutation-refl, IsPermutation-sym, IsPermutation-cons, IsPermutation-trans, IsPermutation-middle, IsPermutation-append_comm, IsPermutation-append_left, All-permutation, length_permutation}
+use Rattle.std.proofs.lemmas.List.Sums.{sum_by-append}
 use Rattle.std.proofs.lemmas.Map.Entries.{sum_by_values_permutation}
 use Rattle.std.specs.FinMap as finmap
-use Rattle.std.specs.List.{All, Contains, IsDistinct, flat_map, fold, remove, slice_get, sum_by}
+use Rattle.std.specs.List.{Contains, IsDistinct, flat_map, fold, remove, slice_get}
 use Rattle.std.specs.List.Sorted.{IsPermutation}
 use Rattle.lapd_store.specs.Store.{Store, empty_store, contents_of, IsFree, used_slots, stored_octets, with_contents, without}
 use Rattle.lapd_store.specs.Ownership.{Owned, Holds, owned_octets}
-use Rattle.lapd_store.proofs.Entries.{entries-empty, entries-insert_free, entries-remove, entries_found, keys_distinct, get_contained}
+use Rattle.lapd_store.proofs.Entries.{entries-empty, entries-insert_free, entries-remove, entries_found, keys_distinct}
 
 -- a fresh shelf holds nothing
 pub Holds-empty : (slots width : ℕ) → Holds (empty_store slots width) []
@@ -48,10 +48,6 @@ contents_of-held {s} owned slot octets among held =
     (All-permutation (λ p. contents_of s p.0 ≡ Some p.1) _ _ (IsPermutation-sym _ _ held.entries) (entries_found s.contents))
     among
 
--- a slot in use is in the list
-pub Contains-held : {s : Store} (owned : List Owned) (slot : ℕ) (octets : List ℕ) → contents_of s slot ≡ Some octets → Holds s owned → Contains owned (slot, octets)
-Contains-held {s} owned slot octets is held = Contains-permutation _ _ _ (IsPermutation-sym _ _ held.entries) (get_contained s.contents slot octets is)
-
 -- no slot stands twice
 pub slots_distinct : {s : Store} (owned : List Owned) → Holds s owned → IsDistinct eqb (map (λ p. p.0) owned)
 slots_distinct {s} owned held = keys_distinct s.contents owned held.entries
@@ -72,14 +68,6 @@ stored_octets-held {s} owned held = sum_by_values_permutation length _ _ held.en
 pub owned_octets-append : (xs ys : List Owned) → owned_octets (xs ++ ys) ≡ owned_octets xs + owned_octets ys
 owned_octets-append = sum_by-append (λ p. length p.1)
 
--- the octets of many owners are those of each, all together
-pub owned_octets-flat_map : {X : Type 0} (f : X → List Owned) (xs : List X) → owned_octets (flat_map f xs) ≡ sum_by (λ x. owned_octets (f x)) xs
-owned_octets-flat_map f [] = refl
-owned_octets-flat_map f (x ∷ xs) =
-    owned_octets-append (f x) (flat_map f xs)
-    ∙ ap (λ n. owned_octets (f x) + n) (owned_octets-flat_map f xs)
-    ∙ sym (sum_by-cons (λ y. owned_octets (f y)) x xs)
-
 -- The same with several owners, whose lists are appended: `own` is one owner's list, and `others` that of all others.
 
 -- the pair at a place of an owner's list
@@ -95,12 +83,6 @@ Holds-put_newest slot octets own others free stored held =
     subst (Holds _) (sym (append_assoc own ((slot, octets) ∷ []) others))
     (Holds-permutation _ _ (IsPermutation-sym _ _ (IsPermutation-middle own (slot, octets) others))
     (Holds-put slot octets (own ++ others) free stored held))
-
--- after a `release` of any pair of an owner it has its other pairs
-pub Holds-release_between : {old new : Store} (slot : ℕ) (octets : List ℕ) (front back others : List Owned) → new ≡ without old slot → Holds old ((front ++ (slot, octets) ∷ back) ++ others) → Holds new ((front ++ back) ++ others)
-Holds-release_between slot octets front back others released held =
-    Holds-release slot octets ((front ++ back) ++ others) released
-    (Holds-permutation _ _ (IsPermutation-append_left others _ _ (IsPermutation-middle front (slot, octets) back)) held)
 
 -- two owners change places
 pub Holds-swap : {s : Store} (xs ys : List Owned) → Holds s (xs ++ ys) → Holds s (ys ++ xs)
@@ -138,9 +120,3 @@ pub Holds-put_back : {s : Store} {X : Type 0} (f : X → List Owned) (xs : List 
 Holds-put_back f xs i x others within held =
     Holds-permutation _ _ (IsPermutation-append_left others _ _ (IsPermutation-sym _ _ (replaced f xs i x within)))
     (subst (Holds _) (sym (append_assoc (f x) (flat_map f (remove xs i)) others)) held)
-
--- owners who have nothing yet own nothing together
-pub flat_map-nothing : {X : Type 0} (f : X → List Owned) (xs : List X) → All (λ x. f x ≡ []) xs → flat_map f xs ≡ []
-flat_map-nothing f [] none = refl
-flat_map-nothing f (x ∷ xs) none =
-    ap (λ l. l ++ flat_map f xs) (All-head (λ y. f y ≡ []) x xs none) ∙ flat_map-nothing f xs (All-tail (λ y. f y ≡ []) x xs none)

@@ -6,7 +6,7 @@ use Rattle.std.specs.List.{count_by}
 use Rattle.std.specs.Option.{option_map, is_some}
 use Rattle.std.specs.Ordering.{nat_cmp}
 use Rattle.std.specs.Cmp.{nat_cmp_total}
-use Rattle.slab.specs.Slab.{Slab, get, slab_len, entries_from, ContainsKey, HasRoomFor, Updates}
+use Rattle.slab.specs.Slab.{Slab, get, slab_len, entries_from, ContainsKey, Updates}
 use Rattle.arrayvec.specs.ArrayVec.{ArrayVec}
 use Rattle.lapd_store.specs.Ownership.{Owned}
 use Rattle.lapd_store.specs.SlabStore.{filled, slab_store, IsSound}
@@ -78,10 +78,6 @@ module _ (a : Inside) (sound : IsSound a) where
 
   pub ContainsKey-slab : (slot : ℕ) → IsUsed (slab_store a) slot → ContainsKey a.contents slot
   ContainsKey-slab slot used = some_mapped (get a.contents slot) (subst IsSome (contents_of-slab slot) used)
-
-  -- where a slot is free, the slab has room
-  pub HasRoomFor-one : used_slots (slab_store a) < a.slots → HasRoomFor a.contents 1
-  HasRoomFor-one free = omega (arith, sound.room, sound.counted)
 
   -- the octets with those of one message more are no more than a count of 64 bits can hold
   pub octets_fit : (more : ℕ) → more ≤ 260 → a.octets + more < 2 ^ 64

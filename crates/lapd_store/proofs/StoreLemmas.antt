@@ -1,5 +1,5 @@
 -- What a `put` and a `release` do to the contents, the counts and the limits of a store.
-use Rattle.std.proofs.Common.{◌≡◌, ◌≢◌, ℕ, ◌+◌, ◌*◌, ◌<◌, ◌≤◌, Some, None, List, [], map, length, sym, ap, subst, ◌∙◌, arith}
+use Rattle.std.proofs.Common.{◌≡◌, ℕ, ◌+◌, ◌*◌, ◌<◌, ◌≤◌, Some, List, [], map, length, sym, ap, subst, ◌∙◌, arith}
 use Rattle.std.proofs.lemmas.List.{length-map}
 use Rattle.std.proofs.lemmas.List.Elements.{All-nil, All-cons, All-tail, All-contains, All-weaker}
 use Rattle.std.proofs.lemmas.List.Sorted.{IsPermutation-map, IsPermutation-sym, All-permutation, length_permutation}
@@ -10,7 +10,7 @@ use Rattle.std.specs.FinMap as finmap
 use Rattle.std.specs.List.{All, sum_by}
 use Rattle.std.specs.Ordering.{nat_cmp}
 use Rattle.lapd_store.specs.Store.{Store, empty_store, contents_of, IsFree, used_slots, stored_octets, with_contents, without, IsWithinLimits}
-use Rattle.lapd_store.proofs.Entries.{entries-empty, entries-insert_free, insert-remove_same, get-insert_same, get-insert_other, get-remove_same, get-remove_other, get_contained}
+use Rattle.lapd_store.proofs.Entries.{entries-empty, entries-insert_free, insert-remove_same, get-insert_same, get-remove_same, get_contained}
 
 pub used_slots-empty : (slots width : ℕ) → used_slots (empty_store slots width) ≡ 0
 used_slots-empty slots width = finmap.len-empty nat_cmp (List ℕ)
@@ -29,15 +29,6 @@ IsWithinLimits-empty slots width = record {
 
 pub contents_of-with_contents : (s : Store) (slot : ℕ) (octets : List ℕ) → contents_of (with_contents s slot octets) slot ≡ Some octets
 contents_of-with_contents s = get-insert_same s.contents
-
-pub contents_of-with_contents_other : (s : Store) (slot : ℕ) (octets : List ℕ) (other : ℕ) → other ≢ slot → contents_of (with_contents s slot octets) other ≡ contents_of s other
-contents_of-with_contents_other s = get-insert_other s.contents
-
-pub contents_of-without : (s : Store) (slot : ℕ) → contents_of (without s slot) slot ≡ None
-contents_of-without s = get-remove_same s.contents
-
-pub contents_of-without_other : (s : Store) (slot other : ℕ) → other ≢ slot → contents_of (without s slot) other ≡ contents_of s other
-contents_of-without_other s = get-remove_other s.contents
 
 pub used_slots-with_contents : (s : Store) (slot : ℕ) (octets : List ℕ) → IsFree s slot → used_slots (with_contents s slot octets) ≡ used_slots s + 1
 used_slots-with_contents s slot octets free =

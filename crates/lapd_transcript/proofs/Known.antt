@@ -37,10 +37,7 @@ flat_map-take_more : {X : Type 0} (f : X → List ℕ) (xs : List X) (i : ℕ) (
 flat_map-take_more f xs i d h =
     ap (flat_map f) (take_more xs i d h) ∙ flat_map-append f (take i xs) (get_or xs i d ∷ []) ∙ ap (λ text. flat_map f (take i xs) ++ text) (append-nil (f (get_or xs i d)))
 
--- Nothing is put; and one text after another.
-pub puts_nothing : (a : Taken) (page : List ℕ) (u : Unit {0}) → Puts (Ok u) a page a page []
-puts_nothing a page u = λ later end more h. h
-
+-- One text after another.
 pub puts_then : (r : Result Unit WriteFailed) (u : Unit {0}) (a b c : Taken) (page next last x y : List ℕ) → Puts (Ok u) a page b next x → Puts r b next c last y → Puts r a page c last (x ++ y)
 puts_then (Ok v) u a b c page next last x y h k = λ later end more w. subst (λ text. Writes later a end (page ++ text)) (sym (append_assoc x y more)) (h later end (y ++ more) (k later end more w))
 puts_then (Err e) u a b c page next last x y h k = λ more. subst (λ text. IsBroken a c (page ++ text)) (sym (append_assoc x y more)) (h (Err e) c (y ++ more) (k more))
@@ -55,11 +52,7 @@ puts_written r u a b c next x h w = subst (λ text. Writes r a c text) (append-n
 pub puts_unwritten : (e : WriteFailed) (a b : Taken) (last x : List ℕ) → Puts (Err e) a [] b last x → IsBroken a b x
 puts_unwritten e a b last x h = subst (λ text. IsBroken a b text) (append-nil x) (h [])
 
--- One piece: it finds room on the page,
-pub puts_room : (u : Unit {0}) (a : Taken) (page piece : List ℕ) → Puts (Ok u) a page a (page ++ piece) piece
-puts_room u a page piece = λ later end more h. subst (λ text. Writes later a end text) (append_assoc page piece more) h
-
--- or the page goes out before it.
+-- One piece: the page goes out before it.
 pub puts_out : (r : Result Unit WriteFailed) (a b c : Taken) (page piece : List ℕ) → IsWritten a b page → Writes r b c piece → Puts r a page c [] piece
 puts_out (Ok u) a b c page piece h k = λ later end more w. writes_then later a b end page (piece ++ more) h (writes_then later b c end piece more k w)
 puts_out (Err e) a b c page piece h k = λ more. writes_then (Err e) a b c page (piece ++ more) h (broken_more b c piece more k)
@@ -68,11 +61,6 @@ pub puts_stuck : (e : WriteFailed) (a b : Taken) (page last piece : List ℕ) �
 puts_stuck e a b page last piece h = λ more. broken_more a b page (piece ++ more) h
 
 -- A loop over pieces.
-pub puts_more : {X : Type 0} (f : X → List ℕ) (xs : List X) (i : ℕ) (d : X) (u v : Unit {0}) (a b c : Taken) (page next last : List ℕ) → i < length xs
-    → Puts (Ok u) a page b next (flat_map f (take i xs)) → Puts (Ok v) b next c last (f (get_or xs i d)) → Puts (Ok v) a page c last (flat_map f (take (i + 1) xs))
-puts_more f xs i d u v a b c page next last h p q =
-    subst (λ text. Puts (Ok v) a page c last text) (sym (flat_map-take_more f xs i d h)) (puts_then (Ok v) u a b c page next last _ _ p q)
-
 pub puts_stop : {X : Type 0} (f : X → List ℕ) (xs : List X) (i : ℕ) (d : X) (u : Unit {0}) (e : WriteFailed) (a b c : Taken) (page next last : List ℕ) → i < length xs
     → Puts (Ok u) a page b next (flat_map f (take i xs)) → Puts (Err e) b next c last (f (get_or xs i d)) → Puts (Err e) a page c last (flat_map f xs)
 puts_stop f xs i d u e a b c page next last h p q =
@@ -97,19 +85,12 @@ pub record IsHanded (before after : Option (List ℕ)) (text rest : List ℕ) : 
   pub split : done ++ rest ≡ text
   pub handed : Appends before after done
 
-pub handed_none : (a : Option (List ℕ)) (text : List ℕ) → IsHanded a a text text
-handed_none a text = record { done = []; split = refl; handed = appends_nothing a }
-
 pub handed_more : (a b c : Option (List ℕ)) (text rest : List ℕ) (n : ℕ) → IsHanded a b text rest → Appends b c (take n rest) → IsHanded a c text (drop n rest)
 handed_more a b c text rest n h k = record {
   done = h.done ++ take n rest;
   split = append_assoc h.done (take n rest) (drop n rest) ∙ ap (λ list. h.done ++ list) (take-append-drop n rest) ∙ h.split;
   handed = appends_then a b c h.done (take n rest) h.handed k;
 }
-
-pub handed_all : (a b c : Option (List ℕ)) (text rest : List ℕ) → IsHanded a b text rest → length rest ≡ 0 → Keeps b c → Appends a c text
-handed_all a b c text [] h n k = subst (λ list. Appends a c list) (sym (append-nil h.done) ∙ h.split) (appends_keeps a b c h.done h.handed k)
-handed_all a b c text (octet ∷ rest) h n k = absurd (omega (arith, n))
 
 pub handed_part : (a b c : Option (List ℕ)) (text rest : List ℕ) → IsHanded a b text rest → Keeps b c → (n : ℕ) × Appends a c (take n text)
 handed_part a b c text rest h k =

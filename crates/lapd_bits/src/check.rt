@@ -3,7 +3,7 @@
 //!
 //! The low-order bit of an octet goes first on a line and is the highest power, so a register holds the
 //! remainder of the division turned round: its lowest bit is the highest power.
-ghost use Rattle.std.specs.Prelude.{◌≡◌, ◌++◌, ◌*◌, ◌/◌, ◌-◌, List, Bool, false, length, take, replicate};
+ghost use Rattle.std.specs.Prelude.{◌≡◌, ◌++◌, ◌*◌, ◌/◌, List, Bool, false, length, take, replicate};
 ghost use Rattle.lapd_bits.specs.Bits.{low_bits, bits};
 ghost use Rattle.lapd_bits.specs.Check.{remainder, check, is_good};
 ghost use Rattle.lapd_bits.specs.CheckLaws.{OnlyCheck};

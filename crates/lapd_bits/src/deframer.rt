@@ -1,5 +1,5 @@
 //! What is heard on a line (clauses 2.2 to 2.10): octets go in one by one, and the frames in them come out.
-ghost use Rattle.std.specs.Prelude.{◌≡◌, ℕ, ◌<◌, ◌≤◌, ◌-◌, ◌+◌, Bool, true, false, List, [], ◌∷◌, ◌++◌, length, vec_len, IsTrue, IfOk, Option, Some, None, option_to_list, option_map, take};
+ghost use Rattle.std.specs.Prelude.{◌≡◌, ℕ, ◌≤◌, ◌+◌, Bool, true, false, List, [], ◌∷◌, ◌++◌, length, vec_len, IsTrue, IfOk, Option, Some, None, option_to_list, option_map};
 ghost use Rattle.std.specs.Option.{ForSome};
 ghost use Rattle.lapd_bits.specs.Bits.{low_bits};
 ghost use Rattle.lapd_bits.specs.Ended.{FitsIn};

@@ -1,5 +1,5 @@
 //! What a deframer keeps of the bits since the latest flag, and what the next flag makes of it.
-ghost use Rattle.std.specs.Prelude.{◌≡◌, ℕ, ◌<◌, ◌≤◌, ◌-◌, ◌+◌, ◌^◌, Bool, List, [], ◌∷◌, ◌++◌, length, min, vec_len, IsFalse, Some, take};
+ghost use Rattle.std.specs.Prelude.{◌≡◌, ℕ, ◌<◌, ◌≤◌, ◌+◌, ◌^◌, Bool, List, [], ◌∷◌, ◌++◌, length, min, vec_len, IsFalse, Some, take};
 ghost use Rattle.lapd_bits.specs.Bits.{low_bits};
 ghost use Rattle.lapd_bits.specs.Stream.{is_short};
 

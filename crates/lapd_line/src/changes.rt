@@ -1,6 +1,6 @@
 //! What TEI management leads to: links that open and links that are cleared.
 
-ghost use Rattle.std.specs.Prelude.{◌≡◌, ℕ, ◌≤◌, ◌++◌, ◌+◌, List, [], length, Some, None};
+ghost use Rattle.std.specs.Prelude.{◌≡◌, ℕ, ◌≤◌, ◌++◌, ◌+◌, List, [], length, Some};
 ghost use Rattle.lapd_frame.specs.ShortLists.{listed};
 ghost use Rattle.lapd_link.specs.Outcome as link;
 ghost use Rattle.lapd_tei.specs.Events as teis;

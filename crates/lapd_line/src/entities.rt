@@ -1,6 +1,6 @@
 //! The data link layer entities of a line: TEI management, the links, and the unit data that waits.
 
-ghost use Rattle.std.specs.Prelude.{◌≡◌, ℕ, ◌<◌, ◌≤◌, List, [], drop};
+ghost use Rattle.std.specs.Prelude.{◌≡◌, ℕ, ◌≤◌, List, [], drop};
 ghost use Rattle.lapd_store.specs.Ownership.{Owned};
 ghost use Rattle.lapd_store.specs.Store.{Store};
 ghost use Rattle.lapd_link_machine.specs.Events as event;

@@ -1,6 +1,6 @@
 //! The deframer against the plain program, on the same streams.
 
-ghost use Rattle.std.specs.Prelude.{◌≤◌, ◌<◌, length};
+ghost use Rattle.std.specs.Prelude.{◌≤◌, length};
 
 use crate::reference::{Told, bits_of, hear, join, octets_in, repeat};
 use lapd_bits::{Deframer, Ended, Framer, Heard};

@@ -1,6 +1,6 @@
 //! How the lines of a script are read: in pieces, into a buffer of fixed size.
 
-ghost use Rattle.std.specs.Prelude.{◌≡◌, ℕ, ◌+◌, ◌-◌, ◌^◌, ◌<◌, ◌≤◌, false, List, Some, length, take, vec_len, IfOk, IfErr, IfSome, IfNone, OnOk, OnErr, IsTrue, ◌≢◌, ◌==◌};
+ghost use Rattle.std.specs.Prelude.{◌≡◌, ℕ, ◌+◌, ◌^◌, ◌<◌, ◌≤◌, false, List, Some, length, take, vec_len, IfOk, IfErr, IfSome, IfNone, OnOk, OnErr, IsTrue, ◌≢◌, ◌==◌};
 ghost use Rattle.std.specs.List.{AllWithin, HoldsAt, position};
 ghost use Rattle.lapd_sim.specs.Faults.{reads_failed, reads_failed_by, writes_failed};
 ghost use Rattle.lapd_sim.specs.declared.faults.PlayFault.TheVariants as play;

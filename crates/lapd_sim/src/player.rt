@@ -1,6 +1,6 @@
 //! Plays a script on a card.
 
-ghost use Rattle.std.specs.Prelude.{◌≡◌, ◌≤◌, ℕ, List, Some, None, Option, Ok, length, vec_len, IfOk};
+ghost use Rattle.std.specs.Prelude.{◌≡◌, ◌≤◌, ℕ, List, Some, None, Option, length, vec_len, IfOk};
 ghost use Rattle.lapd_script.specs.Meaning.{meant, IsCounted};
 ghost use Rattle.lapd_sim_machine.specs.Bench as machine;
 ghost use Rattle.lapd_sim_machine.specs.Steps.{with_card, without_card};

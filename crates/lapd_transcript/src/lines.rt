@@ -1,6 +1,6 @@
 //! Writes the lines of a transcript.
 
-ghost use Rattle.std.specs.Prelude.{◌++◌, option_copied, decimal};
+ghost use Rattle.std.specs.Prelude.{◌++◌, option_copied};
 ghost use Rattle.lapd_transcript.specs.Streams.{Writes};
 ghost use Rattle.lapd_transcript.specs.Text.{line_text, octets_text, report_text, refused_text, sent_text, frame_text, faulty_text, stored_text};
 

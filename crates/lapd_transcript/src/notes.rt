@@ -1,6 +1,6 @@
 //! Puts what an event brought onto a page.
 
-ghost use Rattle.std.specs.Prelude.{◌++◌, [], ◌∷◌, codes, decimal, flat_map};
+ghost use Rattle.std.specs.Prelude.{◌++◌, [], ◌∷◌, codes, flat_map};
 ghost use Rattle.lapd_frame.specs.Services.{letter_of};
 ghost use Rattle.lapd_transcript.specs.Streams.{Puts};
 ghost use Rattle.lapd_transcript.specs.Text.{octets_text, line_text, link_words, tei_words, note_text, dropped_text, lost_text};

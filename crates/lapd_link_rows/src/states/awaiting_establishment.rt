@@ -1,6 +1,6 @@
 //! State 5, awaiting establishment: SABME was sent.
 
-ghost use Rattle.std.specs.Prelude.{ℕ, List, true, false};
+ghost use Rattle.std.specs.Prelude.{ℕ, List, true};
 ghost use Rattle.lapd_frame.specs.declared.controls.Control.TheVariants.{Ua, Dm};
 ghost use Rattle.lapd_link_machine.specs.AwaitingEstablishment as row;
 ghost use Rattle.lapd_link_rows.specs.Does.{Does, HasRoom, Tells};

@@ -1,6 +1,6 @@
 //! State 6, awaiting release: DISC was sent.
 
-ghost use Rattle.std.specs.Prelude.{ℕ, List, true, false};
+ghost use Rattle.std.specs.Prelude.{ℕ, List, true};
 ghost use Rattle.lapd_frame.specs.declared.controls.Control.TheVariants.{Ua};
 ghost use Rattle.lapd_link_machine.specs.AwaitingRelease as row;
 ghost use Rattle.lapd_link_rows.specs.Does.{Does, HasRoom, Tells};

@@ -1,6 +1,6 @@
 //! Flags, RC and the state.
 
-ghost use Rattle.std.specs.Prelude.{◌≡◌, ◌<◌, false};
+ghost use Rattle.std.specs.Prelude.{◌≡◌, ◌<◌};
 ghost use Rattle.lapd_link_machine.specs.Words as word;
 ghost use Rattle.lapd_link_rows.specs.Does.{Changes};
 

@@ -1,6 +1,6 @@
 //! Control frames, which wait to be sent.
 
-ghost use Rattle.std.specs.Prelude.{◌≡◌, ℕ, List, true, false};
+ghost use Rattle.std.specs.Prelude.{◌≡◌, ℕ, List};
 ghost use Rattle.lapd_seq.specs.Numbers.{seq};
 ghost use Rattle.lapd_link_machine.specs.Words as word;
 ghost use Rattle.lapd_link_rows.specs.Past.{Past, link_of};

@@ -17,10 +17,11 @@ use lapd_frame::{Address, Control, Frame, Long, ReadFault, Service, Side, read, 
 use lapd_link::Received;
 use lapd_store::Shelf;
 
-/// The SAPI of layer 2 management (Q.921 clause 3.3.3), and the TEI of the group, for which its frames are.
+/// The SAPI of layer 2 management (Q.921 clause 3.3.3).
 const MANAGEMENT: u8 = 63;
 
-const GROUP: u8 = 127;
+/// The TEI of the group (Q.921 clause 3.3.4), for which the frames of management are.
+pub(crate) const GROUP: u8 = 127;
 
 /// For whom a frame is, by its address.
 #[derive(Clone, Copy, PartialEq, Eq, Debug)]

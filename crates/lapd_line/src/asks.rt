@@ -15,6 +15,7 @@ ghost use Rattle.lapd_line_machine.specs.Request.{request_of};
 ghost use Rattle.lapd_line_machine.specs.Requested.{aim_of_request, at_requested};
 ghost use Rattle.lapd_line.specs.Asks.{link_refusal, management_refusal};
 
+use crate::aims::GROUP;
 use crate::entities::{Entities, link_number};
 use crate::reports::Outcome;
 use crate::units::QueuedUnit;
@@ -23,10 +24,8 @@ use lapd_line_machine::Request;
 use lapd_link::LinkRequest;
 use lapd_store::Shelf;
 
-/// The greatest TEI of a terminal, and that of the group (Q.921 clause 3.3.4).
+/// The greatest TEI of a terminal (Q.921 clause 3.3.4).
 const LAST_TEI: u8 = 126;
-
-const GROUP: u8 = 127;
 
 impl Entities {
     ghost use Rattle.lapd_link.specs.Events as link;

@@ -1,5 +1,5 @@
 -- What a sink that keeps all replies keeps of them.
-use Rattle.std.specs.Prelude.{ℕ, Bool, List, [], ◌∷◌, Option, Some, None}
+use Rattle.std.specs.Prelude.{ℕ, List, [], ◌∷◌, Option, Some, None}
 use Rattle.lapd_bits.specs.declared.heard.Cause.{Cause}
 use Rattle.lapd_frame.specs.declared.notes.Note.{Note}
 use Rattle.lapd_line_machine.specs.Answer.{Answer, told, refused, pulled}

@@ -28,3 +28,5 @@ pub mod Hearing
 pub mod Sending
 pub mod Joined
 pub mod Premises
+pub mod Timing
+pub mod InStep

@@ -15,6 +15,7 @@ pub mod Offers
 pub mod Machine
 pub mod Sound
 pub mod Rises
+pub mod Timed
 pub mod Deliveries
 pub mod Numbered
 pub mod Notes

@@ -1,11 +1,11 @@
 //! What holds of the machine itself. Each law is the contract of a call that does nothing.
 
-ghost use Rattle.std.specs.Prelude.{◌≡◌, ℕ, ◌+◌, ◌*◌, ◌%◌, ◌≤◌, ◌⊎◌, List, length, None, is_some, IfSome};
+ghost use Rattle.std.specs.Prelude.{◌≡◌, ℕ, ◌+◌, ◌*◌, ◌%◌, ◌≤◌, ◌⊎◌, Bool, true, false, List, length, None, is_some, IfSome};
 ghost use Rattle.std.specs.List.{list_any};
 ghost use Rattle.std.specs.Prelude.{Option};
 ghost use Rattle.lapd_link_machine.specs.declared.terms.Terms.{Terms};
 ghost use Rattle.lapd_link_machine.specs.Link.{Link, fresh, queue_of};
-ghost use Rattle.lapd_link_machine.specs.Events.{Event, offer, cleared};
+ghost use Rattle.lapd_link_machine.specs.Events.{Event, offer, expired, cleared};
 ghost use Rattle.lapd_link_machine.specs.Machine.{after, after_all, told, given};
 ghost use Rattle.lapd_link_machine.specs.Notes.{is_data};
 ghost use Rattle.lapd_link_machine.specs.Told.{orders_for};
@@ -14,6 +14,10 @@ ghost use Rattle.lapd_link_machine.specs.Deliveries.{Arrived, eligible};
 ghost use Rattle.lapd_link_machine.specs.Numbered.{History, nothing_yet, with_event, with_all, IsNumbered};
 ghost use Rattle.lapd_link_machine.specs.Rises.{waiting, grows, sent, price, sent_in_all, price_of_all};
 ghost use Rattle.lapd_link_machine.specs.Sound.{IsInRange, IsSound, IsGiven};
+ghost use Rattle.lapd_link_machine.specs.Timed.{IsTimed, StaysInStep, ComesInStep, obeyed, is_same};
+ghost use Rattle.lapd_link_machine.specs.declared.timers.LinkTimer.TheVariants.{T200, T203};
+ghost use Rattle.lapd_link_machine.specs.Told.{timer_at, runs};
+ghost use Rattle.lapd_frame.specs.declared.timers.Timer.{Timer};
 ghost use Rattle.lapd_link_machine.specs.TwoEnds.{Ends, Doing, doing_all, Begins, StayUp, Agree};
 
 /// A link is sound as it begins, and every event keeps it sound: its numbers are in order and
@@ -71,6 +75,22 @@ pub fn tells_little()
     ensures orders { (t : Terms) (before started after : Option LinkTimer) → length (orders_for t before started after) ≤ 2 }
     ensures lost { (t : Terms) (e : Event) (l : Link) → (told t e l).lost ≤ 2 }
     ensures clearing { (t : Terms) (l : Link) → (length (told t cleared l).notes ≤ 1) × (length (told t cleared l).orders ≤ 1) }
+{}
+
+/// A link that awaits something has its timer: in states 5, 6 and 8 T200 runs; in state 7 T200 runs, or
+/// T203 where no I-frame is outstanding; in state 4 none does. And orders keep a caller's timers in step
+/// with the link's: where it obeys them, each of its timers of this link runs exactly where the link
+/// runs it, after every event, also after the timer's own expiry. No order is for a timer that is not
+/// this link's (Q.921 clauses 5.5.1 to 5.6.7 and 5.10.3).
+pub fn keeps_its_timers()
+    ensures begins { IsTimed fresh }
+    ensures each { (t : Terms) (e : Event) (l : Link) → IsTimed l → IsTimed (after t e l) }
+    ensures always { (t : Terms) (es : List Event) → IsTimed (after_all t es fresh) }
+    ensures in_step { (t : Terms) (e : Event) (l : Link) (timer : LinkTimer) → StaysInStep t e l timer }
+    ensures expired { (t : Terms) (l : Link) (timer : LinkTimer) → IsTimed l → runs timer l.running ≡ true → ComesInStep t (expired timer) l timer }
+    ensures own { (t : Terms) (e : Event) (l : Link) (timer : Timer) (running : Bool) →
+        is_same (timer_at t T200) timer ≡ false → is_same (timer_at t T203) timer ≡ false →
+        obeyed timer running (told t e l).orders ≡ running }
 {}
 
 /// Two links that face each other, each in state 7 with its numbers zero and its flags off, and

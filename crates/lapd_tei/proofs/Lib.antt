@@ -7,3 +7,4 @@ pub mod Counted
 pub mod Pigeonholes
 pub mod LawLemmas
 pub mod Brief
+pub mod Followed

@@ -1,5 +1,8 @@
 -- What holds of the table of TEI management, beside what its rows say.
-use Rattle.std.specs.Prelude.{◌≡◌, ℕ, ◌+◌, ◌≤◌, ◌<◌, true, false, List, [], ◌∷◌, ◌++◌, length, set, get_or, Option, Some, None, IsSome}
+use Rattle.std.specs.Prelude.{◌≡◌, ℕ, ◌+◌, ◌≤◌, ◌<◌, Bool, true, false, is_some, List, [], ◌∷◌, ◌++◌, length, set, get_or, Option, Some, None, IsSome}
+use Rattle.lapd_frame.specs.declared.timers.Order.{Order}
+use Rattle.lapd_frame.specs.declared.timers.Order.TheVariants.{Start, Stop}
+use Rattle.lapd_frame.specs.declared.timers.Timer.TheVariants.{T201}
 use Rattle.lapd_tei.specs.Table.{Places, is_on, free_place, free_tei}
 use Rattle.lapd_tei.specs.Messages.{IdentityAssigned, IdentityRequest, heard_in}
 use Rattle.lapd_tei.specs.Machine.{Management, empty, waiting, messages_limit, nothing, Change, Gained, Left}
@@ -115,3 +118,18 @@ OneFewerWaits = (m : Management) → waiting (after_offer m) + taken (offered m)
 -- A message that is not served changes nothing, and nothing else is told of it.
 abbrev pub UnservedChangesNothing : Type 0
 UnservedChangesNothing = (e : Event) (m : Management) → (told e m).unserved ≡ true → (after e m ≡ m) × (told e m ≡ record nothing { unserved = true })
+
+-- T201 runs while a TEI is under check, and orders say so to a caller: the one order of an event is a Start of T201 after
+-- which a check runs, or a Stop after which none does; without an order T201 runs where it ran. No other timer is ordered.
+abbrev pub Follows : Bool → List Order → Bool → Type 0
+Follows before [] after = after ≡ before
+Follows before (Start T201 ∷ []) after = after ≡ true
+Follows before (Stop T201 ∷ []) after = after ≡ false
+Follows before others after = ⊥
+
+abbrev pub T201Follows : Type 0
+T201Follows = (e : Event) (m : Management) → Follows (is_some m.check) (told e m).orders (is_some (after e m).check)
+
+-- After its own expiry, too, where the caller's runs no more when the event begins.
+abbrev pub ExpiredT201Follows : Type 0
+ExpiredT201Follows = (m : Management) → Follows false (told expiry m).orders (is_some (after expiry m).check)

@@ -1,6 +1,6 @@
 //! What holds of the table of TEI management itself.
 
-ghost use Rattle.lapd_tei.specs.Laws.{IsSoundThroughout, ChangesAreTold, LowestIsAssigned, NewIsAssigned, OneIsFree, OneMoreWaits, OneIsLost, OneFewerWaits, UnservedChangesNothing};
+ghost use Rattle.lapd_tei.specs.Laws.{IsSoundThroughout, ChangesAreTold, LowestIsAssigned, NewIsAssigned, OneIsFree, OneMoreWaits, OneIsLost, OneFewerWaits, UnservedChangesNothing, T201Follows, ExpiredT201Follows};
 
 /// From the empty table on, after any events and pulls whose requests name TEIs of at most 126: no TEI
 /// and no Ri stands twice, each TEI is at most 126, at most four assignments are remembered, each of a
@@ -40,4 +40,13 @@ pub fn one_more_waits()
 /// definitions in `specs/`; the call does nothing.
 pub fn unserved_changes_nothing()
     ensures { UnservedChangesNothing }
+{}
+
+/// T201 runs while a TEI is under check, and a caller that obeys the orders runs it then, and only then: an event has
+/// one order at most, a Start of T201 after which a check runs or a Stop after which none does, and none where T201 goes
+/// on as it was; after its own expiry it is started anew, or no check runs. A law about the definitions in `specs/`; the
+/// call does nothing.
+pub fn orders_follow_the_check()
+    ensures each { T201Follows }
+    ensures expired { ExpiredT201Follows }
 {}

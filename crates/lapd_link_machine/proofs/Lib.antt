@@ -29,4 +29,8 @@ pub mod Sending
 pub mod Joined
 pub mod Premises
 pub mod Timing
+pub mod TimedRows
 pub mod InStep
+pub mod Obeying
+pub mod Knowing
+pub mod KnownRows

@@ -19,6 +19,7 @@ pub mod Timed
 pub mod Deliveries
 pub mod Numbered
 pub mod Notes
+pub mod Known
 pub mod TwoEnds
 pub mod Worked
 pub mod WorkedRelease

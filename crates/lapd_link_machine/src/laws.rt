@@ -8,6 +8,7 @@ ghost use Rattle.lapd_link_machine.specs.Link.{Link, fresh, queue_of};
 ghost use Rattle.lapd_link_machine.specs.Events.{Event, offer, expired, cleared};
 ghost use Rattle.lapd_link_machine.specs.Machine.{after, after_all, told, given};
 ghost use Rattle.lapd_link_machine.specs.Notes.{is_data};
+ghost use Rattle.lapd_link_machine.specs.Known.{is_up, known};
 ghost use Rattle.lapd_link_machine.specs.Told.{orders_for};
 ghost use Rattle.lapd_link_machine.specs.declared.timers.LinkTimer.{LinkTimer};
 ghost use Rattle.lapd_link_machine.specs.Deliveries.{Arrived, eligible};
@@ -75,6 +76,16 @@ pub fn tells_little()
     ensures orders { (t : Terms) (before started after : Option LinkTimer) → length (orders_for t before started after) ≤ 2 }
     ensures lost { (t : Terms) (e : Event) (l : Link) → (told t e l).lost ≤ 2 }
     ensures clearing { (t : Terms) (l : Link) → (length (told t cleared l).notes ≤ 1) × (length (told t cleared l).orders ≤ 1) }
+{}
+
+/// Layer 3 knows by the notes alone whether a link is up: an indication or a confirm of an establishment
+/// says that it is, one of a release that it is not, and no event changes it without such a note. Up is a
+/// link in states 7 and 8, in state 5 where it establishes itself anew (Q.921 clause 5.7), and in state 6
+/// until its release is confirmed; down is one in state 4, and in state 5 while layer 3 awaits the
+/// establishment that it asked for.
+pub fn layer_3_knows()
+    ensures begins { is_up fresh ≡ false }
+    ensures each { (t : Terms) (e : Event) (l : Link) → known (is_up l) (told t e l).notes ≡ is_up (after t e l) }
 {}
 
 /// A link that awaits something has its timer: in states 5, 6 and 8 T200 runs; in state 7 T200 runs, or

@@ -26,7 +26,9 @@ mod terms;
 mod timers;
 
 pub use frames::ControlFrame;
-pub use laws::{keeps_its_timers, numbered, rises, stays_sound, tells_little, two_ends};
+pub use laws::{
+    keeps_its_timers, layer_3_knows, numbered, rises, stays_sound, tells_little, two_ends,
+};
 pub use states::State;
 pub use terms::Terms;
 pub use timers::LinkTimer;

@@ -1,6 +1,6 @@
 use Rattle.lapd_link_machine.specs.Link.{fresh}
-use Rattle.lapd_link_machine.proofs.InStep.{stays-in-step, comes-in-step, leaves-others}
-use Rattle.lapd_link_machine.proofs.Timing.{timed-after, timed-all, timed-fresh}
+use Rattle.lapd_link_machine.proofs.Obeying.{stays-in-step, comes-in-step, leaves-others}
+use Rattle.lapd_link_machine.proofs.TimedRows.{timed-after, timed-all, timed-fresh}
 use Rattle.lapd_link_machine.proofs.laws.keeps_its_timers.Goals as goal
 
 pub returns-clause-each : goal.returns-clause-each

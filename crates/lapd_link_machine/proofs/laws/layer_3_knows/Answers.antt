@@ -1,0 +1,5 @@
+use Rattle.lapd_link_machine.proofs.KnownRows
+use Rattle.lapd_link_machine.proofs.laws.layer_3_knows.Goals as goal
+
+pub returns-clause-each : goal.returns-clause-each
+returns-clause-each c = λ t e l. KnownRows.layer_3_knows t e l

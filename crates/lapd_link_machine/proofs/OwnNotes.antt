@@ -1,4 +1,4 @@
--- The notes of data that an event tells are of its own link.
+-- The notes that an event tells are of its own link.
 use Rattle.std.proofs.Common.{◌≡◌, ℕ, Bool, true, false, cond, List, [], ◌∷◌, Option, Some, None, refl}
 use Rattle.std.specs.Prelude.{All}
 use Rattle.std.proofs.lemmas.List.Elements.{All-nil, All-push}
@@ -6,7 +6,6 @@ use Rattle.lapd_seq.specs.declared.numbers.Seq.{Seq}
 use Rattle.lapd_seq.specs.Circle.{named}
 use Rattle.lapd_frame.specs.declared.controls.Control.{Control}
 use Rattle.lapd_frame.specs.declared.controls.Control.TheVariants.{Information, ReceiveReady, ReceiveNotReady, Reject, Sabme, Disc, Ui, Ua, Dm, Frmr, Xid}
-use Rattle.lapd_frame.specs.declared.notes.Note.{Note}
 use Rattle.lapd_frame.specs.declared.notes.Note.TheVariants as notes
 use Rattle.lapd_frame.specs.declared.notes.ErrorCode.{ErrorCode}
 use Rattle.lapd_frame.specs.declared.notes.ErrorCode.TheVariants as code
@@ -30,35 +29,8 @@ use Rattle.lapd_link_machine.specs.Machine
 use Rattle.lapd_link_machine.specs.Events
 use Rattle.lapd_link_machine.specs.Offers
 use Rattle.lapd_link_machine.specs.Words
-use Rattle.lapd_link_machine.specs.Notes.{is_data}
+pub use Rattle.lapd_link_machine.specs.Known.{IsOwn}
 use Rattle.lapd_link_machine.proofs.Leads.{Leads, keeping_then, nothing_leads, depending_leads, bit_leads}
-
--- A note that is of data only where it names the link of these terms.
-abbrev pub IsOwn : Terms → Note → Type 0
-IsOwn t (notes.EstablishIndication service tei) = Unit {0}
-IsOwn t (notes.EstablishConfirm service tei) = Unit {0}
-IsOwn t (notes.ReleaseIndication service tei) = Unit {0}
-IsOwn t (notes.ReleaseConfirm service tei) = Unit {0}
-IsOwn t (notes.Data service tei) = (service ≡ t.service) × (tei ≡ t.tei)
-IsOwn t (notes.Unit service tei) = Unit {0}
-IsOwn t (notes.Error service tei code) = Unit {0}
-IsOwn t (notes.Assigned tei) = Unit {0}
-IsOwn t (notes.Removed tei) = Unit {0}
-IsOwn t (notes.Doubled tei) = Unit {0}
-IsOwn t (notes.Xid service tei) = Unit {0}
-
-other_note : (t : Terms) (n : Note) → is_data n ≡ false → IsOwn t n
-other_note t (notes.EstablishIndication service tei) e = tt
-other_note t (notes.EstablishConfirm service tei) e = tt
-other_note t (notes.ReleaseIndication service tei) e = tt
-other_note t (notes.ReleaseConfirm service tei) e = tt
-other_note t (notes.Data service tei) e = cc
-other_note t (notes.Unit service tei) e = tt
-other_note t (notes.Error service tei code) e = tt
-other_note t (notes.Assigned tei) e = tt
-other_note t (notes.Removed tei) e = tt
-other_note t (notes.Doubled tei) e = tt
-other_note t (notes.Xid service tei) e = tt
 
 -- All notes so far are.
 abbrev pub Own : Terms → Course → Type 0
@@ -137,28 +109,41 @@ module _ (own : Terms) where
   transfer_own : (octets : List ℕ) → Leads (Own own) (MultipleFrame.transfer_in_7_8 octets) (Own own)
   transfer_own octets = record { leads = λ c h. h }
 
-  -- a note that is not of data, and those that are of the link
-  note_own : (n : Note) → is_data n ≡ false → Leads (Own own) (Words.note n) (Own own)
-  note_own n e = record { leads = λ c h. All-push (IsOwn own) c.notes n h (other_note own n e) }
+  -- notes of the link
+  error_own : (e : ErrorCode) → Leads (Own own) (Words.error own e) (Own own)
+  error_own e = record { leads = λ c h. All-push (IsOwn own) c.notes (notes.Error own.service own.tei e) h (refl, refl) }
 
-  deliver_unit_own : (t : Terms) (octets : List ℕ) → Leads (Own own) (Words.deliver_unit t octets) (Own own)
-  deliver_unit_own t octets = record { leads = λ c h. All-push (IsOwn own) c.notes (notes.Unit t.service t.tei) h tt }
+  establish_indication_own : Leads (Own own) (Words.establish_indication own) (Own own)
+  establish_indication_own = record { leads = λ c h. All-push (IsOwn own) c.notes (notes.EstablishIndication own.service own.tei) h (refl, refl) }
+
+  establish_confirm_own : Leads (Own own) (Words.establish_confirm own) (Own own)
+  establish_confirm_own = record { leads = λ c h. All-push (IsOwn own) c.notes (notes.EstablishConfirm own.service own.tei) h (refl, refl) }
+
+  release_indication_own : Leads (Own own) (Words.release_indication own) (Own own)
+  release_indication_own = record { leads = λ c h. All-push (IsOwn own) c.notes (notes.ReleaseIndication own.service own.tei) h (refl, refl) }
+
+  release_confirm_own : Leads (Own own) (Words.release_confirm own) (Own own)
+  release_confirm_own = record { leads = λ c h. All-push (IsOwn own) c.notes (notes.ReleaseConfirm own.service own.tei) h (refl, refl) }
+
+  xid_own : Leads (Own own) (Machine.xid own) (Own own)
+  xid_own = record { leads = λ c h. All-push (IsOwn own) c.notes (notes.Xid own.service own.tei) h (refl, refl) }
+
+  deliver_unit_own : (octets : List ℕ) → Leads (Own own) (Words.deliver_unit own octets) (Own own)
+  deliver_unit_own octets = record { leads = λ c h. All-push (IsOwn own) c.notes (notes.Unit own.service own.tei) h (refl, refl) }
 
   deliver_own : (octets : List ℕ) → Leads (Own own) (Words.deliver own octets) (Own own)
   deliver_own octets = record { leads = λ c h. All-push (IsOwn own) c.notes (notes.Data own.service own.tei) h (refl, refl) }
 
   -- by the N(R): an invalid one is told
-  by-number : (t : Terms) (nr : Seq) (f : ℕ → Step) → ((m : ℕ) → Leads (Own own) (f m) (Own own))
-      → (c : Course) → Own own c → (o : Option ℕ)
-      → Own own (elim o [ None ↦ (Words.error t code.J then Words.re_establish t) c | Some n ↦ f n c ])
-  by-number t nr f x c h None = (note_own (notes.Error t.service t.tei code.J) refl).leads c h
-  by-number t nr f x c h (Some m) = (x m).leads c h
+  by-number : (nr : Seq) (f : ℕ → Step) → ((m : ℕ) → Leads (Own own) (f m) (Own own)) → (c : Course) → Own own c → (o : Option ℕ)
+      → Own own (elim o [ None ↦ (Words.error own code.J then Words.re_establish own) c | Some n ↦ f n c ])
+  by-number nr f x c h None = (error_own code.J).leads c h
+  by-number nr f x c h (Some m) = (x m).leads c h
 
-  number_own : (t : Terms) (nr : Seq) (f : ℕ → Step) → ((m : ℕ) → Leads (Own own) (f m) (Own own))
-      → Leads (Own own) (Words.by_number t nr f) (Own own)
-  number_own t nr f x = record { leads = λ c h. by-number t nr f x c h (named c.link.a c.link.s nr) }
+  number_own : (nr : Seq) (f : ℕ → Step) → ((m : ℕ) → Leads (Own own) (f m) (Own own)) → Leads (Own own) (Words.by_number own nr f) (Own own)
+  number_own nr f x = record { leads = λ c h. by-number nr f x c h (named c.link.a c.link.s nr) }
 
-ruleset words = (keeping_then, nothing_leads, depending_leads, bit_leads, note_own, deliver_own, deliver_unit_own, number_own, refuse_own, peer_busy_own, own_busy_own, rejecting_own, pending_own, asked_own, repeats_own, repeated_own, enter_own, flags_own, start_own, no_timer_own, discard_own, zero_own, begin_anew_own, count_own, acknowledge_own, send_again_own, send_own, enquire_own, answer_own, report_own, reject_own, transfer_own, refl)
+ruleset words = (keeping_then, nothing_leads, depending_leads, bit_leads, error_own, establish_indication_own, establish_confirm_own, release_indication_own, release_confirm_own, deliver_own, deliver_unit_own, number_own, refuse_own, peer_busy_own, own_busy_own, rejecting_own, pending_own, asked_own, repeats_own, repeated_own, enter_own, flags_own, start_own, no_timer_own, discard_own, zero_own, begin_anew_own, count_own, acknowledge_own, send_again_own, send_own, enquire_own, answer_own, report_own, reject_own, transfer_own, refl)
 
 module _ (t : Terms) where
   frames_in_4 : (control : Control) → Leads (Own t) (frame_in_4 t control) (Own t)
@@ -272,7 +257,7 @@ module _ (t : Terms) where
 
   frame-own : (b : Bool) (octets : List ℕ) (control : Control) (l : Link) → Own t (Machine.frame_step t b octets control (begun l))
   frame-own b octets (Ui p) l = (units _ octets).leads (begun l) (begins l)
-  frame-own b octets (Xid pf) l = (note_own t (notes.Xid t.service t.tei) refl).leads (begun l) (begins l)
+  frame-own b octets (Xid pf) l = (xid_own t).leads (begun l) (begins l)
   frame-own b octets (Information ns nr p) l = (frames-by-state l.state b octets (Information ns nr p)).leads (begun l) (begins l)
   frame-own b octets (ReceiveReady nr pf) l = (frames-by-state l.state b octets (ReceiveReady nr pf)).leads (begun l) (begins l)
   frame-own b octets (ReceiveNotReady nr pf) l = (frames-by-state l.state b octets (ReceiveNotReady nr pf)).leads (begun l) (begins l)

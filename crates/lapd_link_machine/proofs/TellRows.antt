@@ -1,5 +1,5 @@
 -- Each row of the tables tells at most two notes.
-use Rattle.std.proofs.Common.{◌≡◌, ℕ, ◌≤◌, Bool, true, false, cond, not, ◌&&◌, List, [], ◌∷◌, length, Option, Some, None, is_some, ◌⊎◌, inl, inr, refl, arith, length-append}
+use Rattle.std.proofs.Common.{◌≡◌, ℕ, ◌≤◌, Bool, true, false, cond, not, ◌&&◌, List, [], ◌∷◌, length, Option, Some, None, is_some, ◌⊎◌, inl, inr, refl, sym, ap, ◌∙◌, arith, length-append}
 use Rattle.lapd_frame.specs.declared.controls.Control.{Control}
 use Rattle.lapd_frame.specs.declared.controls.Control.TheVariants.{Information, ReceiveReady, ReceiveNotReady, Reject, Sabme, Disc, Ui, Ua, Dm, Frmr, Xid}
 use Rattle.lapd_frame.specs.declared.notes.Note.{Note}
@@ -28,7 +28,7 @@ use Rattle.lapd_link_machine.specs.Offers
 use Rattle.std.specs.List.{list_any}
 use Rattle.lapd_frame.specs.declared.timers.Order.{Order}
 use Rattle.lapd_frame.specs.declared.timers.Order.TheVariants.{Start, Stop}
-use Rattle.lapd_link_machine.specs.Notes.{is_data}
+use Rattle.lapd_link_machine.specs.Notes.{is_data, is_unit}
 use Rattle.lapd_link_machine.specs.Told.{runs, timer_at, order_for, orders_for}
 use Rattle.lapd_link_machine.proofs.Leads.{Leads}
 use Rattle.lapd_link_machine.proofs.Telling.{Notes, no_more, another, how_many, Telling, HasTold, Told, rows, words}
@@ -130,7 +130,7 @@ module _ (t : Terms) where
 
   -- Each event.
   begins : (p : Notes) (total : ℕ) → how_many p ≤ total → (l : Link) → Telling total p (begun l)
-  begins p total room l = record { count = omega (arith, room); data_told = refl; no_unit = refl }
+  begins p total room l = record { count = omega (arith, room); data_told = refl; no_unit = refl; no_note = refl }
 
   two : {f : Step} (l : Link) → Leads (Telling 2 (another (another no_more))) f (HasTold 2) → HasTold 2 (f (begun l))
   unfolding how_many
@@ -146,21 +146,21 @@ module _ (t : Terms) where
 
   -- what is told: notes of data where contents are delivered, and unit data only where none are
   TellsOf : Course → Type 0
-  TellsOf c = (length c.notes ≤ 2) × (list_any is_data c.notes ≡ is_some c.delivered) × ((c.delivered ≡ None) ⊎ (c.unit ≡ None))
+  TellsOf c = (length c.notes ≤ 2) × (list_any is_data c.notes ≡ is_some c.delivered) × ((c.delivered ≡ None) ⊎ (c.unit ≡ None)) × (list_any is_unit c.notes ≡ is_some c.unit)
 
   from-told : {ns : List Note} {d u : Option (List ℕ)} → Told 2 ns d u
-      → (length ns ≤ 2) × (list_any is_data ns ≡ is_some d) × ((d ≡ None) ⊎ (u ≡ None))
-  from-told h = (h.count, h.data_told, inr h.no_unit)
+      → (length ns ≤ 2) × (list_any is_data ns ≡ is_some d) × ((d ≡ None) ⊎ (u ≡ None)) × (list_any is_unit ns ≡ is_some u)
+  from-told h = (h.count, h.data_told, inr h.no_unit, h.no_note ∙ sym (ap is_some h.no_unit))
 
   units : (b : Bool) (octets : List ℕ) (l : Link) → TellsOf (by_bit b Words.refuse_frame (Words.deliver_unit t octets) (begun l))
   unfolding TellsOf
-  units true octets l = (omega arith, refl, inl refl)
-  units false octets l = (omega arith, refl, inl refl)
+  units true octets l = (omega arith, refl, inl refl, refl)
+  units false octets l = (omega arith, refl, inl refl, refl)
 
   frame-tells : (b : Bool) (octets : List ℕ) (control : Control) (l : Link) → TellsOf (Machine.frame_step t b octets control (begun l))
   unfolding TellsOf
   frame-tells b octets (Ui p) l = units _ octets l
-  frame-tells b octets (Xid pf) l = (omega arith, refl, inl refl)
+  frame-tells b octets (Xid pf) l = (omega arith, refl, inl refl, refl)
   frame-tells b octets (Information ns nr p) l = from-told (two l (frames-by-state l.state b octets (Information ns nr p)))
   frame-tells b octets (ReceiveReady nr pf) l = from-told (two l (frames-by-state l.state b octets (ReceiveReady nr pf)))
   frame-tells b octets (ReceiveNotReady nr pf) l = from-told (two l (frames-by-state l.state b octets (ReceiveNotReady nr pf)))
@@ -172,7 +172,7 @@ module _ (t : Terms) where
   frame-tells b octets (Frmr f) l = from-told (two l (frames-by-state l.state b octets (Frmr f)))
 
   nothing-told : (l : Link) → HasTold 2 (begun l)
-  nothing-told l = record { count = omega arith; data_told = refl; no_unit = refl }
+  nothing-told l = record { count = omega arith; data_told = refl; no_unit = refl; no_note = refl }
 
   either : (b : Bool) (u v : Course) → HasTold 2 u → HasTold 2 v → HasTold 2 (cond b u v)
   either true u v x y = x
@@ -186,9 +186,9 @@ module _ (t : Terms) where
   offers-tell : (l : Link) (ws : List ControlFrame) → HasTold 2 (Offers.offer_among t ws (begun l))
   offers-tell l [] =
       either (Offers.may_send_information t l) _ _
-      (either (Offers.is_awaiting_acknowledgement (Offers.with_one_sent l)) _ _ (record { count = omega arith; data_told = refl; no_unit = refl }) (record { count = omega arith; data_told = refl; no_unit = refl }))
-      (either l.pending _ _ (record { count = omega arith; data_told = refl; no_unit = refl }) (nothing-told l))
-  offers-tell l (f ∷ fs) = record { count = omega arith; data_told = refl; no_unit = refl }
+      (either (Offers.is_awaiting_acknowledgement (Offers.with_one_sent l)) _ _ (record { count = omega arith; data_told = refl; no_unit = refl; no_note = refl }) (record { count = omega arith; data_told = refl; no_unit = refl; no_note = refl }))
+      (either l.pending _ _ (record { count = omega arith; data_told = refl; no_unit = refl; no_note = refl }) (nothing-told l))
+  offers-tell l (f ∷ fs) = record { count = omega arith; data_told = refl; no_unit = refl; no_note = refl }
 
   -- the TEI leaves the line: one note
   clears : (here : State) (l : Link) → Telling 1 no_more (Machine.told_of_clearing here t (begun l))
@@ -201,6 +201,7 @@ module _ (t : Terms) where
   pub event-tells : (e : Events.Event) (l : Link)
       → (length (Machine.told t e l).notes ≤ 2) × (list_any is_data (Machine.told t e l).notes ≡ is_some (Machine.told t e l).delivered)
       × (((Machine.told t e l).delivered ≡ None) ⊎ ((Machine.told t e l).unit ≡ None))
+      × (list_any is_unit (Machine.told t e l).notes ≡ is_some (Machine.told t e l).unit)
   unfolding TellsOf
   event-tells (Events.received (Events.frame f)) l = frame-tells f.address.command f.info f.control l
   event-tells (Events.received Events.undefined) l = from-told (two l (malformed_tells l.state code.L))
@@ -209,7 +210,7 @@ module _ (t : Terms) where
   event-tells (Events.expired timer) l = from-told (either (Machine.is_running timer l) _ _ (two l (expired_tells l.state timer)) (nothing-told l))
   event-tells (Events.requested request full) l = from-told (requests-tell request l (Requests.refusal t l full request))
   event-tells Events.offer l = from-told (offers-tell l l.waiting)
-  event-tells Events.cleared l = let one = (clears l.state l).count in (omega (arith, one), (clears l.state l).data_told, inr (clears l.state l).no_unit)
+  event-tells Events.cleared l = let one = (clears l.state l).count in (omega (arith, one), (clears l.state l).data_told, inr (clears l.state l).no_unit, (clears l.state l).no_note ∙ sym (ap is_some (clears l.state l).no_unit))
 
 -- At most one order for each timer, and at a clear only for the one that runs.
 one-order : (a b : Bool) (x y : Order) → length (cond a (x ∷ []) (cond b (y ∷ []) [])) ≤ 1

@@ -14,7 +14,7 @@ use Rattle.lapd_link_machine.specs.declared.terms.Terms.{Terms}
 use Rattle.lapd_link_machine.specs.Steps.{Course, Step, ◌then◌}
 use Rattle.lapd_link_machine.specs.Words
 use Rattle.lapd_link_machine.specs.MultipleFrame
-use Rattle.lapd_link_machine.specs.Notes.{is_data}
+use Rattle.lapd_link_machine.specs.Notes.{is_data, is_unit}
 use Rattle.lapd_link_machine.proofs.Leads.{Leads, then_leads, keeping_then, nothing_leads, depending_leads, bit_leads}
 
 -- How many notes may still be told.
@@ -30,6 +30,7 @@ pub record Tells (total : ℕ) (p : Notes) (notes : List Note) (delivered unit :
   pub count : length notes + how_many p ≤ total
   pub data_told : list_any is_data notes ≡ is_some delivered
   pub no_unit : unit ≡ None
+  pub no_note : list_any is_unit notes ≡ false
 
 abbrev pub Telling : ℕ → Notes → Course → Type 0
 Telling total p c = Tells total p c.notes c.delivered c.unit
@@ -39,6 +40,7 @@ pub record Told (total : ℕ) (notes : List Note) (delivered unit : Option (List
   pub count : length notes ≤ total
   pub data_told : list_any is_data notes ≡ is_some delivered
   pub no_unit : unit ≡ None
+  pub no_note : list_any is_unit notes ≡ false
 
 abbrev pub HasTold : ℕ → Course → Type 0
 HasTold total c = Told total c.notes c.delivered c.unit
@@ -117,15 +119,15 @@ module _ (total : ℕ) (p : Notes) where
   transfer_tells octets = record { leads = λ c h. h }
 
   -- a note that is not of data, and one that is
-  pub note_tells : (n : Note) → is_data n ≡ false → Leads (Telling total (another p)) (Words.note n) (Telling total p)
+  pub note_tells : (n : Note) → is_data n ≡ false → is_unit n ≡ false → Leads (Telling total (another p)) (Words.note n) (Telling total p)
   unfolding how_many
-  note_tells n other =
+  note_tells n other plain =
       record {
         leads = λ c h.
             let size : length (c.notes ++ n ∷ []) ≡ length c.notes + 1 = length-append c.notes (n ∷ []) in
             let more : length c.notes + (1 + how_many p) ≤ total = h.count in
             let has : list_any is_data (c.notes ++ n ∷ []) ≡ (list_any is_data c.notes || (is_data n || false)) = list_any-append is_data c.notes (n ∷ []) in
-            record { count = omega arith; data_told = has ∙ (rw other (or-false (list_any is_data c.notes) ∙ h.data_told)); no_unit = h.no_unit };
+            record { count = omega arith; data_told = has ∙ (rw other (or-false (list_any is_data c.notes) ∙ h.data_told)); no_unit = h.no_unit; no_note = list_any-append is_unit c.notes (n ∷ []) ∙ (rw plain (or-false (list_any is_unit c.notes) ∙ h.no_note)) };
       }
     where
       or-false : (b : Bool) → (b || (false || false)) ≡ b
@@ -141,12 +143,16 @@ module _ (total : ℕ) (p : Notes) where
             let size : length (c.notes ++ n ∷ []) ≡ length c.notes + 1 = length-append c.notes (n ∷ []) in
             let more : length c.notes + (1 + how_many p) ≤ total = h.count in
             let has : list_any is_data (c.notes ++ n ∷ []) ≡ (list_any is_data c.notes || (is_data n || false)) = list_any-append is_data c.notes (n ∷ []) in
-            record { count = omega arith; data_told = has ∙ or-true (list_any is_data c.notes); no_unit = h.no_unit };
+            record { count = omega arith; data_told = has ∙ or-true (list_any is_data c.notes); no_unit = h.no_unit; no_note = list_any-append is_unit c.notes (n ∷ []) ∙ (or-neither (list_any is_unit c.notes) ∙ h.no_note) };
       }
     where
       or-true : (b : Bool) → (b || (true || false)) ≡ true
       or-true true = refl
       or-true false = refl
+
+      or-neither : (b : Bool) → (b || (false || false)) ≡ b
+      or-neither true = refl
+      or-neither false = refl
 
 -- a step that tells a note, and then the rest
 pub telling_then : {total : ℕ} {p : Notes} {R : Course → Type 0} {f g : Step} → Leads (Telling total (another p)) f (Telling total p)
@@ -159,7 +165,7 @@ module _ (total : ℕ) where
   unfolding how_many
   untold p ns d u h =
       let more : length ns + (1 + how_many p) ≤ total = h.count in
-      record { count = omega arith; data_told = h.data_told; no_unit = h.no_unit }
+      record { count = omega arith; data_told = h.data_told; no_unit = h.no_unit; no_note = h.no_note }
 
   pub loosen : {p : Notes} {R : Course → Type 0} {f : Step} → Leads (Telling total p) f R → Leads (Telling total (another p)) f R
   loosen {p} x = record { leads = λ c h. x.leads c (untold p c.notes c.delivered c.unit h) }
@@ -168,7 +174,7 @@ module _ (total : ℕ) where
   free_tells {p} {f} x = record { leads = λ c h. untold p (f c).notes (f c).delivered (f c).unit (x.leads c h) }
 
   enough : (p : Notes) (ns : List Note) (d u : Option (List ℕ)) → Tells total p ns d u → Told total ns d u
-  enough p ns d u h = record { count = omega (arith, h.count); data_told = h.data_told; no_unit = h.no_unit }
+  enough p ns d u h = record { count = omega (arith, h.count); data_told = h.data_told; no_unit = h.no_unit; no_note = h.no_note }
 
   pub free_ends : {p : Notes} {f : Step} → Leads (Telling total p) f (Telling total p) → Leads (Telling total p) f (HasTold total)
   free_ends {p} {f} x = record { leads = λ c h. enough p (f c).notes (f c).delivered (f c).unit (x.leads c h) }
@@ -182,7 +188,7 @@ module _ (total : ℕ) where
       → HasTold total (elim o [ None ↦ (Words.error t code.J then Words.re_establish t) c | Some n ↦ f n c ])
   by-number p t nr f x c h None =
       enough p (Words.error t code.J c).notes (Words.error t code.J c).delivered (Words.error t code.J c).unit
-      ((note_tells total p (notes.Error t.service t.tei code.J) refl).leads c h)
+      ((note_tells total p (notes.Error t.service t.tei code.J) refl refl).leads c h)
   by-number p t nr f x c h (Some m) = (x m).leads c h
 
   pub number_tells : (p : Notes) (t : Terms) (nr : Seq) (f : ℕ → Step) → ((m : ℕ) → Leads (Telling total (another p)) (f m) (HasTold total))

@@ -16,3 +16,17 @@ is_data (Assigned tei) = false
 is_data (Removed tei) = false
 is_data (Doubled tei) = false
 is_data (Xid service tei) = false
+
+-- Whether it says that unit data is told.
+abbrev pub is_unit : Note → Bool
+is_unit (EstablishIndication service tei) = false
+is_unit (EstablishConfirm service tei) = false
+is_unit (ReleaseIndication service tei) = false
+is_unit (ReleaseConfirm service tei) = false
+is_unit (Data service tei) = false
+is_unit (Unit service tei) = true
+is_unit (Error service tei code) = false
+is_unit (Assigned tei) = false
+is_unit (Removed tei) = false
+is_unit (Doubled tei) = false
+is_unit (Xid service tei) = false

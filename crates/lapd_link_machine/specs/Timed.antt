@@ -16,8 +16,8 @@ use Rattle.lapd_link_machine.specs.Events.{Event}
 use Rattle.lapd_link_machine.specs.Machine.{after, told}
 use Rattle.lapd_link_machine.specs.Told.{runs, timer_at}
 
--- In state 4 no timer runs. In states 5, 6 and 8 the link awaits an answer, and T200 runs. In state 7 T200 runs, or T203
--- where no I-frame is outstanding.
+-- In state 4 no timer runs. In states 5, 6 and 8 the link awaits an answer, and T200 runs. In state 7 T200 runs, or
+-- T203 where no I-frame is outstanding.
 abbrev pub IsTimedIn : State → Link → Type 0
 IsTimedIn TeiAssigned l = l.running ≡ None
 IsTimedIn AwaitingEstablishment l = l.running ≡ Some T200
@@ -41,8 +41,8 @@ is_same (line_timer.T203 service tei) (line_timer.T203 other by) = is_service se
 is_same line_timer.T201 line_timer.T201 = true
 is_same one other = false
 
--- Whether a timer runs at a caller's that obeys orders, one after the other: a Start of it starts it, or starts it anew,
--- a Stop stops it, and an order for another timer leaves it.
+-- Whether a timer runs at a caller's that obeys orders, one after the other: a Start of it starts it, or starts it
+-- anew, a Stop stops it, and an order for another timer leaves it.
 abbrev pub obey : Timer → Bool → Order → Bool
 obey timer running (Start other) = if is_same other timer then true else running
 obey timer running (Stop other) = if is_same other timer then false else running

@@ -1,14 +1,14 @@
 //! What holds of the machine itself. Each law is the contract of a call that does nothing.
 
-ghost use Rattle.std.specs.Prelude.{◌≡◌, ℕ, ◌+◌, ◌*◌, ◌%◌, ◌≤◌, ◌⊎◌, Bool, true, false, List, length, None, is_some, IfSome};
+ghost use Rattle.std.specs.Prelude.{◌≡◌, ℕ, ◌+◌, ◌*◌, ◌%◌, ◌≤◌, ◌⊎◌, Bool, true, false, All, List, length, None, is_some, IfSome};
 ghost use Rattle.std.specs.List.{list_any};
 ghost use Rattle.std.specs.Prelude.{Option};
 ghost use Rattle.lapd_link_machine.specs.declared.terms.Terms.{Terms};
 ghost use Rattle.lapd_link_machine.specs.Link.{Link, fresh, queue_of};
 ghost use Rattle.lapd_link_machine.specs.Events.{Event, offer, expired, cleared};
 ghost use Rattle.lapd_link_machine.specs.Machine.{after, after_all, told, given};
-ghost use Rattle.lapd_link_machine.specs.Notes.{is_data};
-ghost use Rattle.lapd_link_machine.specs.Known.{is_up, known};
+ghost use Rattle.lapd_link_machine.specs.Notes.{is_data, is_unit};
+ghost use Rattle.lapd_link_machine.specs.Known.{is_up, known, IsOwn};
 ghost use Rattle.lapd_link_machine.specs.Told.{orders_for};
 ghost use Rattle.lapd_link_machine.specs.declared.timers.LinkTimer.{LinkTimer};
 ghost use Rattle.lapd_link_machine.specs.Deliveries.{Arrived, eligible};
@@ -67,11 +67,12 @@ pub fn numbered()
 {}
 
 /// An event tells at most two notes, gives at most two orders and loses at most two control frames, and the clearing of a
-/// link gives at most one note and one order. There is a note of data exactly where contents are delivered, and no event
-/// delivers both contents and unit data.
+/// link gives at most one note and one order. There is a note of data exactly where contents are delivered, one of unit data
+/// exactly where that is told, and no event delivers both contents and unit data.
 pub fn tells_little()
     ensures notes { (t : Terms) (e : Event) (l : Link) → length (told t e l).notes ≤ 2 }
     ensures data { (t : Terms) (e : Event) (l : Link) → list_any is_data (told t e l).notes ≡ is_some (told t e l).delivered }
+    ensures unit_data { (t : Terms) (e : Event) (l : Link) → list_any is_unit (told t e l).notes ≡ is_some (told t e l).unit }
     ensures unit { (t : Terms) (e : Event) (l : Link) → ((told t e l).delivered ≡ None) ⊎ ((told t e l).unit ≡ None) }
     ensures orders { (t : Terms) (before started after : Option LinkTimer) → length (orders_for t before started after) ≤ 2 }
     ensures lost { (t : Terms) (e : Event) (l : Link) → (told t e l).lost ≤ 2 }
@@ -79,13 +80,15 @@ pub fn tells_little()
 {}
 
 /// Layer 3 knows by the notes alone whether a link is up: an indication or a confirm of an establishment
-/// says that it is, one of a release that it is not, and no event changes it without such a note. Up is a
+/// says that it is, one of a release that it is not, and no event changes it without such a note. Every note
+/// names the link's own service and TEI (`own`). Up is a
 /// link in states 7 and 8, in state 5 where it establishes itself anew (Q.921 clause 5.7), and in state 6
 /// until its release is confirmed; down is one in state 4, and in state 5 while layer 3 awaits the
 /// establishment that it asked for.
 pub fn layer_3_knows()
     ensures begins { is_up fresh ≡ false }
     ensures each { (t : Terms) (e : Event) (l : Link) → known (is_up l) (told t e l).notes ≡ is_up (after t e l) }
+    ensures own { (t : Terms) (e : Event) (l : Link) → All (IsOwn t) (told t e l).notes }
 {}
 
 /// A link that awaits something has its timer: in states 5, 6 and 8 T200 runs; in state 7 T200 runs, or

@@ -119,8 +119,9 @@ OneFewerWaits = (m : Management) → waiting (after_offer m) + taken (offered m)
 abbrev pub UnservedChangesNothing : Type 0
 UnservedChangesNothing = (e : Event) (m : Management) → (told e m).unserved ≡ true → (after e m ≡ m) × (told e m ≡ record nothing { unserved = true })
 
--- T201 runs while a TEI is under check, and orders say so to a caller: the one order of an event is a Start of T201 after
--- which a check runs, or a Stop after which none does; without an order T201 runs where it ran. No other timer is ordered.
+-- T201 runs while a TEI is under check, and orders say so to a caller: the one order of an event is a Start of T201
+-- after which a check runs, or a Stop after which none does; without an order T201 runs where it ran. No other timer is
+-- ordered.
 abbrev pub Follows : Bool → List Order → Bool → Type 0
 Follows before [] after = after ≡ before
 Follows before (Start T201 ∷ []) after = after ≡ true

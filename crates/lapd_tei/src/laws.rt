@@ -42,10 +42,10 @@ pub fn unserved_changes_nothing()
     ensures { UnservedChangesNothing }
 {}
 
-/// T201 runs while a TEI is under check, and a caller that obeys the orders runs it then, and only then: an event has
-/// one order at most, a Start of T201 after which a check runs or a Stop after which none does, and none where T201 goes
-/// on as it was; after its own expiry it is started anew, or no check runs. A law about the definitions in `specs/`; the
-/// call does nothing.
+/// T201 runs while a TEI is under check, and a caller that obeys the orders runs it then, and only then: an
+/// event has one order at most, a Start of T201 after which a check runs or a Stop after which none does,
+/// and none where T201 goes on as it was; after its own expiry it is started anew, or no check runs. A law
+/// about the definitions in `specs/`; the call does nothing.
 pub fn orders_follow_the_check()
     ensures each { T201Follows }
     ensures expired { ExpiredT201Follows }

@@ -11,6 +11,9 @@ returns-clause-data c = λ t e l. (event-tells t e l).1
 pub returns-clause-unit : goal.returns-clause-unit
 returns-clause-unit c = λ t e l. (event-tells t e l).2
 
+pub returns-clause-unit_data : goal.returns-clause-unit_data
+returns-clause-unit_data c = λ t e l. (event-tells t e l).3
+
 pub returns-clause-orders : goal.returns-clause-orders
 returns-clause-orders c = λ t before started after. two-orders t before started after
 

@@ -34,3 +34,4 @@ pub mod InStep
 pub mod Obeying
 pub mod Knowing
 pub mod KnownRows
+pub mod Restarts

@@ -1,10 +1,11 @@
 -- The I-frames that may be delivered, and what is delivered, since the numbers of an establishment began.
-use Rattle.std.specs.Prelude.{ℕ, ◌&&◌, not, nat_le, Bool, List, length, Option, None, Some, if◌then◌else◌}
+use Rattle.std.specs.Prelude.{◌≡◌, ℕ, ◌&&◌, not, nat_le, Bool, true, false, List, length, Option, None, Some, if◌then◌else◌}
 use Rattle.lapd_seq.specs.declared.numbers.Seq.{Seq}
 use Rattle.lapd_frame.specs.declared.controls.Control.{Control}
 use Rattle.lapd_frame.specs.declared.controls.Control.TheVariants.{Information, ReceiveReady, ReceiveNotReady, Reject, Sabme, Disc, Ui, Ua, Dm, Frmr, Xid}
+use Rattle.lapd_link_machine.specs.declared.states.State.TheVariants.{Established}
 use Rattle.lapd_link_machine.specs.declared.terms.Terms.{Terms}
-use Rattle.lapd_link_machine.specs.Link.{Link, is_multiple_frame}
+use Rattle.lapd_link_machine.specs.Link.{Link, fresh, is_multiple_frame}
 use Rattle.lapd_link_machine.specs.Events.{frame, undefined, wrong_size, overlong, Event, received, expired, requested, offer, cleared}
 use Rattle.lapd_link_machine.specs.Machine.{course}
 
@@ -50,3 +51,36 @@ eligible t e l = eligible_of t l (information_in e)
 -- Whether the event is an establishment: the numbers begin anew.
 abbrev pub restarts : Terms → Event → Link → Bool
 restarts t e l = (course t e l).zeroed
+
+-- The frames by which a link is established (clause 5.5.1.2): SABME, and UA with F=1, which answers one.
+abbrev pub MayEstablish : Control → Type 0
+MayEstablish (Sabme p) = Unit {0}
+MayEstablish (Ua true) = Unit {0}
+MayEstablish (Ua false) = ⊥
+MayEstablish (Information ns nr p) = ⊥
+MayEstablish (ReceiveReady nr pf) = ⊥
+MayEstablish (ReceiveNotReady nr pf) = ⊥
+MayEstablish (Reject nr pf) = ⊥
+MayEstablish (Disc p) = ⊥
+MayEstablish (Ui p) = ⊥
+MayEstablish (Dm f) = ⊥
+MayEstablish (Frmr f) = ⊥
+MayEstablish (Xid pf) = ⊥
+
+-- After an establishment the link is in state 7 with its numbers zero; after the end of its TEI it is as one that begins.
+pub record IsEstablished (control : Control) (l : Link) : Type 0 where
+  pub by : MayEstablish control
+  pub state : l.state ≡ Established
+  pub a : l.a ≡ 0
+  pub s : l.s ≡ 0
+  pub r : l.r ≡ 0
+
+abbrev pub Establishes : Event → Link → Type 0
+Establishes (received (frame f)) l = IsEstablished f.control l
+Establishes (received undefined) l = ⊥
+Establishes (received wrong_size) l = ⊥
+Establishes (received overlong) l = ⊥
+Establishes (expired timer) l = ⊥
+Establishes (requested request pool_is_full) l = ⊥
+Establishes offer l = ⊥
+Establishes cleared l = l ≡ fresh

@@ -11,7 +11,7 @@ ghost use Rattle.lapd_link_machine.specs.Notes.{is_data, is_unit};
 ghost use Rattle.lapd_link_machine.specs.Known.{is_up, known, IsOwn};
 ghost use Rattle.lapd_link_machine.specs.Told.{orders_for};
 ghost use Rattle.lapd_link_machine.specs.declared.timers.LinkTimer.{LinkTimer};
-ghost use Rattle.lapd_link_machine.specs.Deliveries.{Arrived, eligible};
+ghost use Rattle.lapd_link_machine.specs.Deliveries.{Arrived, eligible, restarts, Establishes};
 ghost use Rattle.lapd_link_machine.specs.Numbered.{History, nothing_yet, with_event, with_all, IsNumbered};
 ghost use Rattle.lapd_link_machine.specs.Rises.{waiting, grows, sent, price, sent_in_all, price_of_all};
 ghost use Rattle.lapd_link_machine.specs.Sound.{IsInRange, IsSound, IsGiven};
@@ -56,19 +56,23 @@ pub fn rises()
 /// one, no eligible frame has the next number. V(R) counts them (Q.921 clauses 3.5.2.4 to
 /// 3.5.2.6). An I-frame is eligible where it has at most N201 octets and meets state 7 or 8 with
 /// own busy off; an establishment is an event in which the numbers are set to zero, or the link is
-/// cleared.
+/// cleared. That is a SABME, or a UA with F=1, after which the link is in state 7 with V(S), V(A) and
+/// V(R) 0, or the end of its TEI, and no other event (`restarts`).
 pub fn numbered()
     ensures begins { IsNumbered nothing_yet fresh }
     ensures each { (t : Terms) (e : Event) (l : Link) (h : History) → IsNumbered h l → IsNumbered (with_event t e l h) (after t e l) }
     // Contents are delivered in the event that brings their frame.
     ensures at_once { (t : Terms) (e : Event) (l : Link) (contents : List ℕ) → (told t e l).delivered ≡ Some contents →
         (i : Arrived) × (eligible t e l ≡ Some i) × (i.contents ≡ contents) × (i.ns.value ≡ l.r % 128) }
+    // The numbers begin anew by nothing but an establishment, or the end of the TEI.
+    ensures restarts { (t : Terms) (e : Event) (l : Link) → restarts t e l ≡ true → Establishes e (after t e l) }
     ensures always { (t : Terms) (es : List Event) → IsNumbered (with_all t es fresh nothing_yet) (after_all t es fresh) }
 {}
 
-/// An event tells at most two notes, gives at most two orders and loses at most two control frames, and the clearing of a
-/// link gives at most one note and one order. There is a note of data exactly where contents are delivered, one of unit data
-/// exactly where that is told, and no event delivers both contents and unit data.
+/// An event tells at most two notes, gives at most two orders and loses at most two control frames, and
+/// the clearing of a link gives at most one note and one order. There is a note of data exactly where
+/// contents are delivered, one of unit data exactly where that is told, and no event delivers both
+/// contents and unit data.
 pub fn tells_little()
     ensures notes { (t : Terms) (e : Event) (l : Link) → length (told t e l).notes ≤ 2 }
     ensures data { (t : Terms) (e : Event) (l : Link) → list_any is_data (told t e l).notes ≡ is_some (told t e l).delivered }

@@ -1,3 +1,4 @@
+use Rattle.lapd_link_machine.proofs.Restarts.{establishes}
 use Rattle.lapd_link_machine.specs.Link.{fresh}
 use Rattle.lapd_link_machine.specs.Numbered.{nothing_yet}
 use Rattle.lapd_link_machine.proofs.Numbering.{numbered-after, numbered-fresh, numbered-all, delivered-at_once}
@@ -14,3 +15,6 @@ returns-clause-at_once c = λ t e l contents d. delivered-at_once t e l contents
 
 pub returns-clause-always : goal.returns-clause-always
 returns-clause-always c = λ t es. numbered-all t es fresh nothing_yet numbered-fresh
+
+pub returns-clause-restarts : goal.returns-clause-restarts
+returns-clause-restarts c = λ t e l is. establishes t l e is

@@ -22,3 +22,4 @@ pub mod RejectsHeard
 pub mod EventsReject
 pub mod RoomForAll
 pub mod Short
+pub mod InTurn

@@ -16,3 +16,4 @@ pub mod Deliveries
 pub mod Worked
 pub mod Sound
 pub mod Laws
+pub mod Turns

@@ -1,6 +1,7 @@
 //! What holds of the machine of a line itself. Each law is the contract of a call that does nothing.
 
 ghost use Rattle.lapd_line_machine.specs.Laws.{AnswersAreShort, LinesRise, LinesStaySound};
+ghost use Rattle.lapd_line_machine.specs.Turns.{LinksTakeTurns};
 
 /// A line is sound as it begins, and each event keeps it so: TEI management and the links are, the links of free
 /// places are as they begin, no queue holds more than it may, and the octets given are a beginning of the text of the
@@ -22,4 +23,11 @@ pub fn lines_rise()
 /// at most two orders, those of the link whose frame it takes.
 pub fn answers_are_short()
     ensures { AnswersAreShort }
+{}
+
+/// Links take turns: a frame of a link that a pull takes is that of the first link in the round that has one, and the
+/// next round begins with the link after it. So no link that has something to give is passed over, and one that was
+/// served waits until the round comes back to it.
+pub fn links_take_turns()
+    ensures { LinksTakeTurns }
 {}

@@ -19,5 +19,5 @@ mod laws;
 mod requests;
 
 pub use config::{Config, Field};
-pub use laws::{answers_are_short, lines_rise, lines_stay_sound};
+pub use laws::{answers_are_short, lines_rise, lines_stay_sound, links_take_turns};
 pub use requests::Request;

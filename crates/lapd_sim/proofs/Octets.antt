@@ -18,4 +18,4 @@ in_memory (Ok u) text remaining a b old new e f steady h = (h.0, appended a.cont
 in_memory (Err (Script line kind)) text remaining a b old new e f steady h = (h.0, appended a.contents b.contents old new _ e f h.1.whole)
 in_memory (Err Read) text remaining a b old new e f steady h = omega (arith, steady)
 in_memory (Err Write) text remaining a b old new e f steady h = (h.begun.0, appended a.contents b.contents old new _ e f h.begun.1)
-in_memory (Err OutOfMemory) text remaining a b old new e f steady h = appended a.contents b.contents old new [] e f h.whole ∙ append-nil old
+in_memory (Err OutOfMemory) text remaining a b old new e f steady h = appended a.contents b.contents old new [] e f h.0.whole ∙ append-nil old

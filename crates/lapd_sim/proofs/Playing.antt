@@ -1,5 +1,5 @@
 -- How far a script has been played.
-use Rattle.std.proofs.Common.{◌≡◌, ℕ, ◌+◌, ◌^◌, ◌<◌, ◌≤◌, ◌++◌, List, [], ◌∷◌, length, fold, true, false, cond, Bool, Option, None, Some, Result, Ok, Err, refl, sym, ap, ◌∙◌, subst, append_assoc, nat_lt}
+use Rattle.std.proofs.Common.{◌≡◌, ℕ, ◌+◌, ◌^◌, ◌<◌, ◌≤◌, ◌++◌, List, [], ◌∷◌, length, fold, true, false, cond, Bool, Option, None, Some, Result, Ok, Err, refl, sym, ap, ◌∙◌, subst, append_assoc, arith, nat_lt, inr}
 use Rattle.std.specs.Prelude.{◌||◌}
 use Rattle.std.proofs.lemmas.Bool.{lt-ltb, le-ltb, ltb-false, true≢false}
 use Rattle.std.proofs.lemmas.Option.{none-some}
@@ -23,7 +23,7 @@ use Rattle.lapd_sim.specs.declared.faults.PlayFault.{PlayFault}
 use Rattle.lapd_sim.specs.declared.faults.PlayFault.TheVariants.{Read, Write, Script, OutOfMemory}
 use Rattle.lapd_sim.specs.declared.lines.Lines.{Lines}
 use Rattle.lapd_sim.specs.Faults.{fault_at, line_writes_failed}
-use Rattle.lapd_sim.specs.Lines.{AreLeft, IsNext, IsTooLong, Advances}
+use Rattle.lapd_sim.specs.Lines.{AreLeft, IsNext, IsTooLong, Advances, held}
 use Rattle.lapd_sim.specs.Obeyed.{Said, Does, StartsBy, said, said_by, said_of, said_with, said_without, scene}
 use Rattle.lapd_sim.specs.Plays.{Plays, AreAnswered}
 use Rattle.lapd_sim.specs.Stands.{Has}
@@ -300,7 +300,23 @@ stops line.Write lines new bench remaining left text a b c has p n bound h =
       stops_write (Ok s) e k = stops_broken lines new bench remaining left text a b c p n bound s e k
       stops_write (Err kind) e k = absurd k
 stops line.OutOfMemory lines new bench remaining left text a b c has p n bound h =
-    subst (λ t. IsWritten a t []) (sym h.0) (subst (λ t. IsWritten a b t) (silent p.done h.1) p.written)
+    let is : played (p.done ++ n.piece ∷ []) ≡ after_said n.piece (Ok (record { bench = Some h.1.card; text = [] })) (played p.done) =
+    played_more p.done n.piece p.sound ∙ next_is lines new bench remaining left text a b p n bound ∙ ap (λ x. after_said n.piece x (played p.done)) h.1.begins in (
+      subst (λ t. IsWritten a t []) (sym h.0) (subst (λ t. IsWritten a b t) (silent p.done h.1.none) p.written),
+      inr (record {
+        before = p.done;
+        piece = n.piece;
+        after = n.more;
+        pieces = p.is ∙ ap (λ pieces. p.done ++ pieces) n.pieces;
+        no_card = h.1.none;
+        card = h.1.card;
+        starts = ap (λ q. Played.bench q) is;
+        read = held new;
+        unread = n.left.rest;
+        is = n.left.is;
+        tells = n.left.tells;
+      }),
+    )
 
 -- what the next line is, or that there is none
 pub over : (more : Bool) (old new : Lines) (remaining : Option (List ℕ)) (text : List ℕ) → more ≡ false → Advances (Ok more) old new remaining text → (text ≡ []) × (remaining ≡ Some [])

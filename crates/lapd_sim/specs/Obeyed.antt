@@ -1,5 +1,5 @@
 -- What a line of a script was answered with: what has been written, and what the bench stands for after it.
-use Rattle.std.specs.Prelude.{◌≡◌, ℕ, List, [], true, Option, None, Some, Result, Ok, Err, is_ok}
+use Rattle.std.specs.Prelude.{◌≡◌, ℕ, List, [], Option, None, Some, Result, Ok, Err}
 use Rattle.lapd_script.specs.declared.kind.FaultKind.{FaultKind}
 use Rattle.lapd_script.specs.Meaning.{Meaning}
 use Rattle.lapd_script.specs.Read.{read}
@@ -41,13 +41,13 @@ Begins (Err (Faulty kind)) c stands = begun_with c ≡ Err kind
 Begins (Err Write) c stands = ⊥
 Begins (Err OutOfMemory) c stands = first_fault c ≡ None
 
--- The same of any line where there is no card yet.
+-- The same of any line where there is no card yet: memory is taken, and can be refused, at a card line alone.
 abbrev pub StartsBy : Result (Option rust.Bench) LineFault → Result (Option Bench) FaultKind → Type 0
 StartsBy (Ok bench) (Ok m) = Has bench m
 StartsBy (Ok bench) (Err kind) = ⊥
 StartsBy (Err (Faulty kind)) said = said ≡ Err kind
 StartsBy (Err Write) said = ⊥
-StartsBy (Err OutOfMemory) said = is_ok said ≡ true
+StartsBy (Err OutOfMemory) said = (m : Bench) × (said ≡ Ok (Some m))
 
 -- What a line says, whatever stands before it: the bench after it, where there is one, and its text.
 pub record Said : Type 0 where
@@ -73,6 +73,12 @@ said_by (Ok meaning) bench = said_of meaning bench
 abbrev pub said : List ℕ → Option Bench → Result Said FaultKind
 said line bench = said_by (read line) bench
 
+-- A line that starts the card, where there was none.
+pub record IsCardLine (before : Option Bench) (said : Result Said FaultKind) : Type 0 where
+  pub none : before ≡ None
+  pub card : Bench
+  pub begins : said ≡ Ok (record { bench = Some card; text = [] })
+
 -- A line can start the card: memory can be refused then, and nothing has been written.
 abbrev pub Does : Result Unit LineFault → Taken → Taken → Option Bench → (Option Bench → Type 0) → Result Said FaultKind → Type 0
 Does (Ok _) old new before has (Ok s) = IsWritten old new s.text × has s.bench
@@ -80,4 +86,4 @@ Does (Ok _) old new before has (Err kind) = ⊥
 Does (Err (Faulty kind)) old new before has said = (new ≡ old) × (said ≡ Err kind)
 Does (Err Write) old new before has (Ok s) = IsBroken old new s.text
 Does (Err Write) old new before has (Err kind) = ⊥
-Does (Err OutOfMemory) old new before has said = (new ≡ old) × (before ≡ None)
+Does (Err OutOfMemory) old new before has said = (new ≡ old) × IsCardLine before said

@@ -1,7 +1,8 @@
 -- What a script that was played has written, and why it ended.
-use Rattle.std.specs.Prelude.{◌≡◌, ℕ, ◌==◌, List, [], ◌++◌, take, filter, Bool, Option, None, Some, Result, Ok, Err}
+use Rattle.std.specs.Prelude.{◌≡◌, ℕ, ◌==◌, ◌⊎◌, List, [], ◌∷◌, ◌++◌, take, filter, Bool, Option, None, Some, Result, Ok, Err}
 use Rattle.std.specs.List.{list_any}
 use Rattle.lapd_transcript.specs.Streams.{Taken, IsWritten, IsBroken}
+use Rattle.lapd_sim_machine.specs.Bench.{Bench}
 use Rattle.lapd_sim_machine.specs.Pieces.{pieces_of}
 use Rattle.lapd_sim_machine.specs.Script.{played, transcript, first_fault}
 use Rattle.lapd_sim.specs.declared.faults.PlayFault.{PlayFault}
@@ -27,14 +28,32 @@ pub record IsAnsweredToHere (text : List ℕ) (remaining : Option (List ℕ)) (o
   pub tells : remaining ≡ Some unread
   pub answered : AreAnswered (whole_lines read) old new
 
--- Where memory was refused nothing has been written. (That it is not refused once there is a card is `Does` of what
--- obeys a line.)
+-- Memory was refused at a line that starts the card: before it there was none, and with it there is one. What is still
+-- unread is an end of what follows that line.
+pub record IsRefusedAtCard (text : List ℕ) (remaining : Option (List ℕ)) : Type 0 where
+  pub before : List (List ℕ)
+  pub piece : List ℕ
+  pub after : List ℕ
+  pub pieces : pieces_of text ≡ before ++ piece ∷ pieces_of after
+  pub no_card : (played before).bench ≡ None
+  pub card : Bench
+  pub starts : (played (before ++ piece ∷ [])).bench ≡ Some card
+  pub read : List ℕ
+  pub unread : List ℕ
+  pub is : after ≡ read ++ unread
+  pub tells : remaining ≡ Some unread
+
+-- It is refused there, or at the start, when nothing has been read: at no other line, and never once there is a card.
+abbrev pub IsRefused : List ℕ → Option (List ℕ) → Type 0
+IsRefused text remaining = (remaining ≡ Some text) ⊎ IsRefusedAtCard text remaining
+
+-- Where memory was refused nothing has been written.
 abbrev pub Plays : Result Unit PlayFault → List ℕ → Option (List ℕ) → Taken → Taken → Type 0
 Plays (Ok _) text remaining old new = (first_fault text ≡ None) × IsWritten old new (transcript text) × (remaining ≡ Some [])
 Plays (Err (Script line kind)) text remaining old new = (first_fault text ≡ Some (record { line = line; kind = kind })) × IsWritten old new (transcript text)
 Plays (Err Read) text remaining old new = IsAnsweredToHere text remaining old new
 Plays (Err Write) text remaining old new = IsBroken old new (transcript text)
-Plays (Err OutOfMemory) text remaining old new = IsWritten old new []
+Plays (Err OutOfMemory) text remaining old new = IsWritten old new [] × IsRefused text remaining
 
 -- What a status says of the script that was played (profile): 0, it was played to its end; 1, there was a fault.
 abbrev pub status_of : Result Unit PlayFault → ℕ

@@ -23,7 +23,8 @@ const ROOM: usize = 4096;
 /// before more is read than that line needs (no clause says when; it is tested). It ends with the script, or with the
 /// first fault; what the lines before the fault brought has been written by then.
 ///
-/// All memory is taken at the start and at the card line.
+/// All memory is taken at the start and at the card line: where it is refused nothing has been read, or the line that
+/// starts the card is the one that is answered.
 pub fn play<S: Source, T: Target>(
     alloc: Global,
     source: &mut S,

@@ -1,6 +1,6 @@
 //! Reads a line of a script.
 
-ghost use Rattle.std.specs.Prelude.{◌≡◌, ◌*◌, ◌≤◌, ℕ, List, take, length, All, IfOk};
+ghost use Rattle.std.specs.Prelude.{◌≡◌, ◌*◌, ◌/◌, ◌≤◌, ℕ, List, take, drop, length, All, IfOk};
 ghost use Rattle.lapd_script.specs.Words.{texts};
 ghost use Rattle.lapd_script.specs.Meaning.{meant_by, IsCounted};
 ghost use Rattle.lapd_script.specs.Read.{read, read_words, read_as, card_numbers, nine_numbers, three_numbers};
@@ -26,6 +26,8 @@ pub fn read_line(line: &[u8], room: &mut [u8]) -> Result<Command, FaultKind>
     requires room { length line.now ≤ 2 * length room.old }
     ensures read { meant_by room.new result ≡ read line.now }
     ensures counted { IfOk result (IsCounted (length room.new)) }
+    // Behind as many places as a word of the line can fill, all stays.
+    ensures rest { drop (length line.now / 2) room.new ≡ drop (length line.now / 2) room.old }
 {
     if line.is_empty() || line[0] == b'#' {
         return Ok(Command::Skip);
@@ -39,6 +41,7 @@ fn read_words(words: &[&[u8]], room: &mut [u8]) -> Result<Command, FaultKind>
     requires room { All (λ word. length word.now ≤ 2 * length room.old) words.now }
     ensures read { (all : List (List ℕ)) → texts words.now ≡ take 12 all → meant_by room.new result ≡ read_words all }
     ensures counted { IfOk result (IsCounted (length room.new)) }
+    ensures rest { (n : ℕ) → All (λ word. length word.now ≤ n) words.now → drop (n / 2) room.new ≡ drop (n / 2) room.old }
 {
     let Some((name, words)) = words.split_first() else {
         return Err(FaultKind::UnknownWord);
@@ -49,10 +52,12 @@ fn read_words(words: &[&[u8]], room: &mut [u8]) -> Result<Command, FaultKind>
     }
 }
 
+#[tactic(auto, using(crate::proofs::Rests::second_kept))]
 fn read_as(word: Word, words: &[&[u8]], room: &mut [u8]) -> Result<Command, FaultKind>
     requires room { All (λ word. length word.now ≤ 2 * length room.old) words.now }
     ensures read { meant_by room.new result ≡ read_as word (texts words.now) }
     ensures counted { IfOk result (IsCounted (length room.new)) }
+    ensures rest { (n : ℕ) → All (λ word. length word.now ≤ n) words.now → drop (n / 2) room.new ≡ drop (n / 2) room.old }
 {
     match word {
         Word::Card => Ok(Command::Card(card_numbers(words)?)),
@@ -91,6 +96,7 @@ fn ask(what: Asked, words: &[&[u8]], room: &mut [u8]) -> Result<Command, FaultKi
     requires room { All (λ word. length word.now ≤ 2 * length room.old) words.now }
     ensures read { meant_by room.new result ≡ read_as (Ask what) (texts words.now) }
     ensures counted { IfOk result (IsCounted (length room.new)) }
+    ensures rest { (n : ℕ) → All (λ word. length word.now ≤ n) words.now → drop (n / 2) room.new ≡ drop (n / 2) room.old }
 {
     if what.carries_octets() {
         let (line, tei, digits) = three(words)?;

@@ -1,4 +1,6 @@
-use Rattle.std.proofs.Common.{Some, sym, ap, ◌∙◌}
+use Rattle.std.proofs.Common.{Some, sym, ap, subst, ◌∙◌, length, ◌≤◌}
+use Rattle.std.specs.Prelude.{All}
+use Rattle.std.proofs.lemmas.List.Elements.{All-tail}
 use Rattle.lapd_script.specs.Words.{texts}
 use Rattle.lapd_script.proofs.ReadLemmas.{read_taken}
 use Rattle.lapd_script.proofs.read.read_words.Goals as goal
@@ -9,4 +11,6 @@ returns-in-Some-named c = record {
       ∙ read_taken all c.in-Some.name.now.now (texts c.in-Some.words.now) (Some c.in-Some-named.word)
       (sym (ap texts c.in-Some.ensures.cases.0) ∙ e) c.in-Some-named.ensures;
   counted = c.read_as.ensures.counted;
+  rest = λ n all. c.read_as.ensures.rest n
+      (All-tail (λ word. length word.now ≤ n) c.in-Some.name.now c.in-Some.words.now (subst (λ l. All (λ word. length word.now ≤ n) l) c.in-Some.ensures.cases.0 all));
 }

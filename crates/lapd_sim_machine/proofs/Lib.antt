@@ -4,3 +4,4 @@ pub mod Events
 pub mod Replies
 pub mod Waits
 pub mod Within
+pub mod Asked

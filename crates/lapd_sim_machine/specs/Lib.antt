@@ -6,6 +6,7 @@ pub mod Events
 pub mod Replies
 pub mod Waits
 pub mod Within
+pub mod Asked
 pub mod Worked
 pub mod WorkedScripts
 pub mod WorkedEvents

@@ -1,5 +1,6 @@
 //! What holds of whole scripts. Each law is the contract of a call that does nothing; it holds for every text.
 
+ghost use Rattle.lapd_sim_machine.specs.Asked.{LimitsAreOfCards};
 ghost use Rattle.lapd_sim_machine.specs.Events.{ScriptsAreRuns};
 ghost use Rattle.lapd_sim_machine.specs.Replies.{TranscriptsAreReplies};
 ghost use Rattle.lapd_sim_machine.specs.Waits.{WaitsLeaveNothingDue};
@@ -36,4 +37,11 @@ pub fn waits_leave_nothing_due()
 /// is the limit that a line `stored` tells: after each event, and so after each line.
 pub fn scripts_stay_within()
     ensures { ScriptsStayWithin }
+{}
+
+/// The program's word `limits` can be asked about each configuration that a card can be started with, and about no
+/// others: its numbers, in decimal digits, ask for the bound of that card (`each`), and words that ask for a bound have
+/// the numbers of such a configuration (`only`).
+pub fn limits_are_of_cards()
+    ensures { LimitsAreOfCards }
 {}

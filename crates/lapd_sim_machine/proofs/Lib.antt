@@ -5,3 +5,4 @@ pub mod Replies
 pub mod Waits
 pub mod Within
 pub mod Asked
+pub mod Heard

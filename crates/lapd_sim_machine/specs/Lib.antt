@@ -7,6 +7,7 @@ pub mod Replies
 pub mod Waits
 pub mod Within
 pub mod Asked
+pub mod Heard
 pub mod Worked
 pub mod WorkedScripts
 pub mod WorkedEvents

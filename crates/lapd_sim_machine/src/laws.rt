@@ -2,6 +2,7 @@
 
 ghost use Rattle.lapd_sim_machine.specs.Asked.{LimitsAreOfCards};
 ghost use Rattle.lapd_sim_machine.specs.Events.{ScriptsAreRuns};
+ghost use Rattle.lapd_sim_machine.specs.Heard.{FramesAreHeard};
 ghost use Rattle.lapd_sim_machine.specs.Replies.{TranscriptsAreReplies};
 ghost use Rattle.lapd_sim_machine.specs.Waits.{WaitsLeaveNothingDue};
 ghost use Rattle.lapd_sim_machine.specs.Within.{ScriptsStayWithin};
@@ -44,4 +45,12 @@ pub fn scripts_stay_within()
 /// the numbers of such a configuration (`only`).
 pub fn limits_are_of_cards()
     ensures { LimitsAreOfCards }
+{}
+
+/// What the terminal of a line puts there is heard: all its octets since it began, on a line to which nothing else
+/// comes, are heard as exactly the frames of the `in` lines, in order, each of them once its `in` is over (`sent`).
+/// And the frames that are told of pulls are those that are heard in all that the line took, none of them twice and
+/// none left out, however many octets each pull took (`found_all`, `found_on`).
+pub fn frames_are_heard()
+    ensures { FramesAreHeard }
 {}

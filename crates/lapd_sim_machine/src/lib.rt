@@ -5,7 +5,8 @@
 //! `specs/` has a script's lines (`Pieces`), what stands on the bench (`Bench`), what each line of a script makes of it
 //! and says (`Steps`), whole scripts (`Script`): the transcript of a text, and its first fault; the events at the card
 //! that a script brings (`Events`), and its text by the answers to them (`Replies`); what a wait comes to (`Waits`),
-//! what a script's card stores (`Within`), and about which cards `limits` can be asked (`Asked`).
+//! what a script's card stores (`Within`), about which cards `limits` can be asked (`Asked`), and how
+//! what terminals send is heard (`Heard`).
 //!
 //! The code of a simulation stands above, in another crate. Here is `laws`: what holds of whole scripts, as calls
 //! without effect.
@@ -14,6 +15,6 @@
 mod laws;
 
 pub use laws::{
-    limits_are_of_cards, scripts_are_runs, scripts_stay_within, transcripts_are_replies,
-    waits_leave_nothing_due,
+    frames_are_heard, limits_are_of_cards, scripts_are_runs, scripts_stay_within,
+    transcripts_are_replies, waits_leave_nothing_due,
 };

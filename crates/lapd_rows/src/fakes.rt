@@ -85,9 +85,9 @@ impl Page {
 }
 
 impl Target for Page {
-    ghost use Rattle.std.specs.Prelude.{None};
+    ghost use Rattle.std.specs.Prelude.{None, false};
 
-    ghost taken = { λ target. record { contents = None; failures = target.failures } };
+    ghost taken = { λ target. record { contents = None; failures = target.failures; leaves_out = false } };
 
     fn write(&mut self, octets: &[u8]) -> Result<(), WriteFailed> {
         if octets.is_empty() {

@@ -1,5 +1,5 @@
 -- Scripts and transcripts in memory.
-use Rattle.std.proofs.Common.{◌≡◌, ℕ, ◌++◌, List, [], Option, Some, Result, Ok, Err, ◌∙◌, subst, arith}
+use Rattle.std.proofs.Common.{◌≡◌, ℕ, ◌++◌, true, List, [], Option, None, Some, Result, Ok, Err, ◌∙◌, subst, arith}
 use Rattle.std.proofs.lemmas.List.{append-nil}
 use Rattle.std.specs.Io.KnownBytes.{Appends}
 use Rattle.lapd_transcript.specs.Streams.{Taken}
@@ -12,10 +12,10 @@ use Rattle.lapd_sim.specs.Plays.{Plays, PlaysOctets}
 appended : (a b : Option (List ℕ)) (old new text : List ℕ) → a ≡ Some old → b ≡ Some new → Appends a b text → new ≡ old ++ text
 appended a b old new text e f h = subst (λ y. Appends (Some old) y text) f (subst (λ x. Appends x b text) e h)
 
-pub in_memory : (r : Result Unit PlayFault) (text : List ℕ) (remaining : Option (List ℕ)) (a b : Taken) (old new : List ℕ) → a.contents ≡ Some old → b.contents ≡ Some new
+pub in_memory : (r : Result Unit PlayFault) (text : List ℕ) (remaining : Option (List ℕ)) (a b : Taken) (old new : List ℕ) → a.contents ≡ Some old → b.contents ≡ Some new → b.leaves_out ≡ true
     → 0 ≡ reads_failed_by r 0 → Plays r text remaining a b → PlaysOctets r text old new
-in_memory (Ok u) text remaining a b old new e f steady h = (h.0, appended a.contents b.contents old new _ e f h.1.whole)
-in_memory (Err (Script line kind)) text remaining a b old new e f steady h = (h.0, appended a.contents b.contents old new _ e f h.1.whole)
-in_memory (Err Read) text remaining a b old new e f steady h = omega (arith, steady)
-in_memory (Err Write) text remaining a b old new e f steady h = (h.begun.0, appended a.contents b.contents old new _ e f h.begun.1)
-in_memory (Err OutOfMemory) text remaining a b old new e f steady h = appended a.contents b.contents old new [] e f h.0.whole ∙ append-nil old
+in_memory (Ok u) text remaining a b old new e f out steady h = (h.0, appended a.contents b.contents old new _ e f h.1.whole)
+in_memory (Err (Script line kind)) text remaining a b old new e f out steady h = (h.0, appended a.contents b.contents old new _ e f h.1.whole)
+in_memory (Err Read) text remaining a b old new e f out steady h = omega (arith, steady)
+in_memory (Err Write) text remaining a b old new e f out steady h = (h.begun.0, appended a.contents b.contents old new _ e f h.begun.1, h.begun.2 out)
+in_memory (Err OutOfMemory) text remaining a b old new e f out steady h = appended a.contents b.contents old new [] e f h.0.whole ∙ append-nil old

@@ -1,5 +1,5 @@
 -- What a script that was played has written, and why it ended.
-use Rattle.std.specs.Prelude.{◌≡◌, ℕ, ◌==◌, ◌⊎◌, List, [], ◌∷◌, ◌++◌, take, filter, Bool, Option, None, Some, Result, Ok, Err}
+use Rattle.std.specs.Prelude.{◌≡◌, ℕ, ◌<◌, ◌==◌, ◌⊎◌, List, [], ◌∷◌, ◌++◌, length, take, filter, Bool, Option, None, Some, Result, Ok, Err}
 use Rattle.std.specs.List.{list_any}
 use Rattle.lapd_transcript.specs.Streams.{Taken, IsWritten, IsBroken}
 use Rattle.lapd_sim_machine.specs.Bench.{Bench}
@@ -64,10 +64,11 @@ status_of (Err _) = 1
 abbrev pub Shows : ℕ → List ℕ → Taken → Taken → Type 0
 Shows status text old new = (status ≡ 0 → IsWritten old new text) × (status ≡ 1 → IsBroken old new text)
 
--- The same of a script and a transcript in memory: what the transcript is, from what it was. No read fails.
+-- The same of a script and a transcript in memory: what the transcript is, from what it was. No read fails; and where a
+-- write did, an octet of the transcript at least is not there.
 abbrev pub PlaysOctets : Result Unit PlayFault → List ℕ → List ℕ → List ℕ → Type 0
 PlaysOctets (Ok _) text old new = (first_fault text ≡ None) × (new ≡ old ++ transcript text)
 PlaysOctets (Err (Script line kind)) text old new = (first_fault text ≡ Some (record { line = line; kind = kind })) × (new ≡ old ++ transcript text)
 PlaysOctets (Err Read) text old new = ⊥
-PlaysOctets (Err Write) text old new = (n : ℕ) × (new ≡ old ++ take n (transcript text))
+PlaysOctets (Err Write) text old new = (n : ℕ) × (new ≡ old ++ take n (transcript text)) × (n < length (transcript text))
 PlaysOctets (Err OutOfMemory) text old new = new ≡ old

@@ -4,7 +4,7 @@ ghost use Rattle.lapd_sim.specs.Plays.{PlaysOctets};
 
 use crate::faults::PlayFault;
 use crate::player::play;
-use lapd_transcript::{ReadFailed, Source, WriteTo};
+use lapd_transcript::{ReadFailed, Source, Target, WriteFailed};
 use std::alloc::Global;
 use std::io::Read;
 
@@ -30,12 +30,33 @@ impl Source for Script<'_> {
     }
 }
 
+/// A transcript in memory, which grows. A write for which it can't puts nothing.
+#[derive(Drop)]
+struct Transcript {
+    octets: Vec<u8>,
+    failures: u64,
+}
+
+impl Target for Transcript {
+    ghost use Rattle.std.specs.Prelude.{Some, true};
+
+    ghost taken = { λ transcript. record { contents = Some transcript.octets.items; failures = transcript.failures; leaves_out = true } };
+
+    fn write(&mut self, octets: &[u8]) -> Result<(), WriteFailed> {
+        if octets.is_empty() || self.octets.extend_from_slice(octets).is_ok() {
+            return Ok(());
+        }
+        self.failures = self.failures.saturating_add(1);
+        Err(WriteFailed)
+    }
+}
+
 /// Plays a script on a card, and puts its transcript at the end of `transcript`, which grows as it needs to.
 ///
 /// # Errors
 ///
 /// As [`play`] does, but that no read fails: the transcript of the lines before the fault has been put; where there was
-/// no memory for more of it, `Write`, and a beginning.
+/// no memory for more of it, `Write`, and a beginning that lacks an octet at least.
 pub fn play_octets(
     alloc: Global,
     script: &[u8],
@@ -44,7 +65,10 @@ pub fn play_octets(
     ensures { PlaysOctets result.1 script.now transcript.items result.0.items }
 {
     let mut source = Script { left: script };
-    let mut target = WriteTo::new(transcript);
+    let mut target = Transcript {
+        octets: transcript,
+        failures: 0,
+    };
     let played = play(alloc, &mut source, &mut target);
-    (target.into_inner(), played)
+    (target.octets, played)
 }

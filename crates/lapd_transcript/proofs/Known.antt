@@ -1,5 +1,5 @@
 -- Writes one after the other.
-use Rattle.std.proofs.Common.{◌≡◌, ℕ, ◌+◌, List, [], ◌∷◌, ◌++◌, length, take, drop, Some, None, Ok, Err, Result, Option, refl, sym, ap, ◌∙◌, subst, append_assoc, arith, Bor, suc, zero, get_or, ◌<◌, ◌-◌, take_all, length-drop, false}
+use Rattle.std.proofs.Common.{◌≡◌, ℕ, ◌+◌, List, [], ◌∷◌, ◌++◌, length, take, drop, Some, None, Ok, Err, Result, Option, refl, sym, ap, ◌∙◌, subst, append_assoc, arith, Bor, suc, zero, get_or, ◌<◌, ◌≤◌, ◌-◌, take_all, length-drop, length-append, false}
 use Rattle.std.specs.Prelude.{IsOk, OnOk, OnErr, is_ok}
 use Rattle.std.proofs.lemmas.Bool.{false≢true}
 use Rattle.std.specs.List.{flat_map}
@@ -19,19 +19,26 @@ appends_then (Some old) (Some middle) (Some new) x y h k = k ∙ ap (λ text. te
 pub writes_then : (r : Result Unit WriteFailed) (a b c : Taken) (x y : List ℕ) → IsWritten a b x → Writes r b c y → Writes r a c (x ++ y)
 writes_then (Ok u) a b c x y h k = record { whole = appends_then a.contents b.contents c.contents x y h.whole k.whole; steady = k.steady ∙ h.steady }
 writes_then (Err e) a b c x y h k = record {
-  begun = (length x + k.begun.0, subst (λ text. Appends a.contents c.contents text) (sym (take-append-add x y k.begun.0)) (appends_then a.contents b.contents c.contents x (take k.begun.0 y) h.whole k.begun.1));
+  begun = (
+    length x + k.begun.0,
+    subst (λ text. Appends a.contents c.contents text) (sym (take-append-add x y k.begun.0)) (appends_then a.contents b.contents c.contents x (take k.begun.0 y) h.whole k.begun.1),
+    λ out. let less = k.begun.2 out in simp length-append (omega (arith, less)),
+  );
   failed = k.failed ∙ ap one_failure_more h.steady;
 }
 
-take_begun : (n : ℕ) (x y : List ℕ) → (m : ℕ) × (take m (x ++ y) ≡ take n x)
-take_begun zero x y = (0, refl)
-take_begun (suc n) [] y = (0, refl)
-take_begun (suc n) (octet ∷ x) y = let m = take_begun n x y in (suc m.0, ap (λ text. octet ∷ text) m.1)
+take_begun : (n : ℕ) (x y : List ℕ) → (m : ℕ) × (take m (x ++ y) ≡ take n x) × (m ≤ n)
+take_begun zero x y = (0, refl, omega arith)
+take_begun (suc n) [] y = (0, refl, omega arith)
+take_begun (suc n) (octet ∷ x) y = let m = take_begun n x y in (suc m.0, ap (λ text. octet ∷ text) m.1, let low = m.2 in omega (arith, low))
 
 pub broken_more : (a b : Taken) (x y : List ℕ) → IsBroken a b x → IsBroken a b (x ++ y)
 broken_more a b x y h =
-    let m : (m : ℕ) × (take m (x ++ y) ≡ take h.begun.0 x) = take_begun h.begun.0 x y in
-    record { begun = (m.0, subst (λ text. Appends a.contents b.contents text) (sym m.1) h.begun.1); failed = h.failed }
+    let m : (m : ℕ) × (take m (x ++ y) ≡ take h.begun.0 x) × (m ≤ h.begun.0) = take_begun h.begun.0 x y in
+    record {
+      begun = (m.0, subst (λ text. Appends a.contents b.contents text) (sym m.1) h.begun.1, λ out. let less = h.begun.2 out in let low = m.2 in simp length-append (omega (arith, less, low)));
+      failed = h.failed;
+    }
 
 flat_map-take_more : {X : Type 0} (f : X → List ℕ) (xs : List X) (i : ℕ) (d : X) → i < length xs → flat_map f (take (i + 1) xs) ≡ flat_map f (take i xs) ++ f (get_or xs i d)
 flat_map-take_more f xs i d h =

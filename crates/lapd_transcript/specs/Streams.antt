@@ -1,5 +1,5 @@
 -- What a write to a target leaves.
-use Rattle.std.specs.Prelude.{◌≡◌, ℕ, ◌+◌, ◌-◌, ◌^◌, ◌++◌, min, List, take, flat_map, Option, Result, Ok, Err}
+use Rattle.std.specs.Prelude.{◌≡◌, ℕ, ◌+◌, ◌-◌, ◌^◌, ◌<◌, ◌++◌, Bool, true, min, List, take, length, flat_map, Option, Result, Ok, Err}
 use Rattle.std.specs.Borrow.{Bor}
 use Rattle.lapd_transcript.specs.declared.streams.WriteFailed.{WriteFailed}
 use Rattle.std.specs.Io.KnownBytes.{Appends}
@@ -8,19 +8,22 @@ use Rattle.std.specs.Io.KnownBytes.{Appends}
 abbrev pub one_failure_more : ℕ → ℕ
 one_failure_more count = min (count + 1) (2 ^ 64 - 1)
 
--- What a target has taken, where it tells, and how many of its writes have failed.
+-- What a target has taken, where it tells, and how many of its writes have failed; and whether a write that fails has
+-- left out an octet at least, as one to a vector that can't grow has. (Where all was handed on, and then could not be
+-- flushed, it has left out none.)
 pub record Taken : Type 0 where
   pub contents : Option (List ℕ)
   pub failures : ℕ
+  pub leaves_out : Bool
 
 -- the text has been appended, and no write has failed
 pub record IsWritten (old new : Taken) (text : List ℕ) : Type 0 where
   pub whole : Appends old.contents new.contents text
   pub steady : new.failures ≡ old.failures
 
--- one write has failed, and a beginning of the text has been appended
+-- one write has failed, and a beginning of the text has been appended: less than all, where that is told
 pub record IsBroken (old new : Taken) (text : List ℕ) : Type 0 where
-  pub begun : (n : ℕ) × Appends old.contents new.contents (take n text)
+  pub begun : (n : ℕ) × Appends old.contents new.contents (take n text) × (new.leaves_out ≡ true → n < length text)
   pub failed : new.failures ≡ one_failure_more old.failures
 
 abbrev pub Writes : {A E : Type 0} → Result A E → Taken → Taken → List ℕ → Type 0

@@ -1,6 +1,6 @@
 //! A writer of std as a target.
 
-ghost use Rattle.std.specs.Prelude.{◌≡◌, ◌≤◌, ℕ, length, take, IfOk, OnOk, OnErr};
+ghost use Rattle.std.specs.Prelude.{◌≡◌, ◌≤◌, ℕ, false, length, take, IfOk, OnOk, OnErr};
 ghost use Rattle.std.specs.Io.KnownBytes.{Appends, WriteAppends};
 
 use crate::streams::{Target, WriteFailed};
@@ -17,7 +17,7 @@ pub struct WriteTo<W> {
 impl<W: io::Write> WriteTo<W> {
     /// A target that hands on to `writer`.
     pub fn new(writer: W) -> WriteTo<W>
-        ensures { ⟦<WriteTo<W> as Target>⟧.taken result ≡ record { contents = W.contents writer; failures = 0 } }
+        ensures { ⟦<WriteTo<W> as Target>⟧.taken result ≡ record { contents = W.contents writer; failures = 0; leaves_out = false } }
     {
         WriteTo {
             writer,
@@ -66,7 +66,7 @@ impl<W: io::Write> WriteTo<W> {
 }
 
 impl<W: io::Write> Target for WriteTo<W> {
-    ghost taken = { λ target. record { contents = W.contents target.writer; failures = target.failures } };
+    ghost taken = { λ target. record { contents = W.contents target.writer; failures = target.failures; leaves_out = false } };
 
     fn write(&mut self, octets: &[u8]) -> Result<(), WriteFailed> {
         match self.write_whole(octets) {

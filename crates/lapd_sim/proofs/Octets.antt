@@ -1,5 +1,5 @@
 -- Scripts and transcripts in memory.
-use Rattle.std.proofs.Common.{◌≡◌, ℕ, ◌++◌, true, List, [], Option, None, Some, Result, Ok, Err, ◌∙◌, subst, arith}
+use Rattle.std.proofs.Common.{◌≡◌, ℕ, ◌++◌, true, List, [], Option, Some, Result, Ok, Err, ◌∙◌, subst, arith}
 use Rattle.std.proofs.lemmas.List.{append-nil}
 use Rattle.std.specs.Io.KnownBytes.{Appends}
 use Rattle.lapd_transcript.specs.Streams.{Taken}

@@ -8,40 +8,24 @@ ghost use Rattle.lapd_sim.specs.declared.faults.PlayFault.TheVariants as play;
 use lapd_script::FaultKind;
 use lapd_transcript::WriteFailed;
 use std::alloc::{AllocError, AllocFailed};
-use std::error::Error;
-use std::fmt;
+use thiserror::Error;
 
 /// Why a script was not played to its end.
-#[derive(Clone, Copy, PartialEq, Eq, Debug)]
+#[derive(Clone, Copy, PartialEq, Eq, Debug, Error)]
 pub enum PlayFault {
     /// A read of the source failed.
+    #[error("read failed")]
     Read,
     /// A write to the target failed.
+    #[error("write failed")]
     Write,
     /// A line of the script is faulty. Lines count from 1, skipped ones too.
+    #[error("line {line}: {kind}")]
     Script { line: u64, kind: FaultKind },
     /// Memory was refused.
+    #[error("out of memory")]
     OutOfMemory,
 }
-
-/// Says what its fault line tells.
-impl fmt::Display for PlayFault {
-    ghost use Rattle.std.specs.Prelude.{Some};
-    ghost use Rattle.lapd_sim.specs.FaultLines.{play_words};
-
-    ghost output = { λ fault. Some (play_words fault) };
-
-    fn fmt<W: fmt::Write>(&self, f: &mut fmt::Formatter<W>) -> fmt::Result {
-        match self {
-            PlayFault::Read => f.write_str("read failed"),
-            PlayFault::Write => f.write_str("write failed"),
-            PlayFault::Script { line, kind } => write!(f, "line {line}: {kind}"),
-            PlayFault::OutOfMemory => f.write_str("out of memory"),
-        }
-    }
-}
-
-impl Error for PlayFault {}
 
 impl From<AllocError> for PlayFault {
     ghost from_gives = { λ _ fault. fault ≡ play.OutOfMemory };

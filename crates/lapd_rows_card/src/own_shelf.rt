@@ -1,6 +1,5 @@
 //! A shelf of the caller's own.
 
-
 use crate::refusals::{refuse_at_a_line, refuse_when_full};
 use crate::starts::USUAL;
 use lapd_card::{Card, CardFault, Request};

@@ -8,7 +8,7 @@ use std::alloc::Global;
 /// How many contents are put or copied in a round.
 pub const CONTENTS: usize = 128;
 
-/// How many rounds have lengths of their own: more than a processor remembers of the turns that it took.
+/// How many rounds have lengths of their own, so that a run of lengths comes again only after 8192.
 const WINDOWS: usize = 64;
 
 /// The lengths of contents, one after the other.

@@ -85,10 +85,9 @@ pub fn tells_little()
 
 /// Layer 3 knows by the notes alone whether a link is up: an indication or a confirm of an establishment
 /// says that it is, one of a release that it is not, and no event changes it without such a note. Every note
-/// names the link's own service and TEI (`own`). Up is a
-/// link in states 7 and 8, in state 5 where it establishes itself anew (Q.921 clause 5.7), and in state 6
-/// until its release is confirmed; down is one in state 4, and in state 5 while layer 3 awaits the
-/// establishment that it asked for.
+/// names the link's own service and TEI (`own`). Up is a link in states 7 and 8, in state 5 where it
+/// establishes itself anew (Q.921 clause 5.7.1), and in state 6 until its release is confirmed; down is one in
+/// state 4, and in state 5 while layer 3 awaits the establishment that it asked for.
 pub fn layer_3_knows()
     ensures begins { is_up fresh ≡ false }
     ensures each { (t : Terms) (e : Event) (l : Link) → known (is_up l) (told t e l).notes ≡ is_up (after t e l) }

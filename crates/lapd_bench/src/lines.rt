@@ -61,16 +61,14 @@ fn config(lines: u16) -> Config {
 
 /// Does so many rounds of traffic on so many lines: 128 frames on each of them, or 1,024 flags.
 pub fn exchange(alloc: Global, traffic: Traffic, lines: u16, rounds: u32) -> Result<Done, Fault> {
-    let config = config(lines);
-    let shelf = SlabShelf::start(alloc, u32::from(config.slots), N201)?;
-    let mut card = Card::start(alloc, config, shelf)?;
-    establish(alloc, &mut card)?;
+    let mut card = started(alloc, lines)?;
     let texts = texts_of(alloc, traffic)?;
     let mut done = Done::new();
     for _ in 0..rounds {
         for text in &texts {
             if traffic == Traffic::Outward {
-                ask(&mut card, &mut done);
+                ask(&mut card, &INFORMATION);
+                pull_all(&mut card, &mut done);
             }
             bring(&mut card, text, traffic.is_answered(), &mut done);
         }
@@ -102,6 +100,15 @@ impl Traffic {
     fn is_answered(self) -> bool {
         self == Traffic::Inward || self == Traffic::Polls
     }
+}
+
+/// A card with so many lines, with a terminal on each and its link established.
+pub fn started(alloc: Global, lines: u16) -> Result<Card<SlabShelf>, Fault> {
+    let config = config(lines);
+    let shelf = SlabShelf::start(alloc, u32::from(config.slots), N201)?;
+    let mut card = Card::start(alloc, config, shelf)?;
+    establish(alloc, &mut card)?;
+    Ok(card)
 }
 
 /// Puts the terminal on each line, and has it establish its link.
@@ -173,7 +180,7 @@ fn faulty(alloc: Global) -> Result<Vec<u8>, AllocError> {
 }
 
 /// Hands these octets to each line, octet by octet, and pulls one of each line after each of them where that is asked.
-fn bring(card: &mut Card<SlabShelf>, text: &[u8], is_answered: bool, done: &mut Done) {
+pub fn bring(card: &mut Card<SlabShelf>, text: &[u8], is_answered: bool, done: &mut Done) {
     for octet in text {
         for line in 0..card.lines() {
             if line < card.lines() {
@@ -188,12 +195,18 @@ fn bring(card: &mut Card<SlabShelf>, text: &[u8], is_answered: bool, done: &mut 
     }
 }
 
-/// Asks each line to send contents, and pulls as many octets as the frame takes at most.
-fn ask(card: &mut Card<SlabShelf>, done: &mut Done) {
+/// Asks each line to send contents.
+pub fn ask(card: &mut Card<SlabShelf>, contents: &[u8]) {
     for line in 0..card.lines() {
         if line < card.lines() {
-            let _ = card.request(line, Request::Data(Service::Call, TEI, &INFORMATION));
+            let _ = card.request(line, Request::Data(Service::Call, TEI, contents));
         }
+    }
+}
+
+/// Pulls as many octets of each line as a frame takes at most.
+fn pull_all(card: &mut Card<SlabShelf>, done: &mut Done) {
+    for line in 0..card.lines() {
         for _ in 0..PULLED {
             if line < card.lines() {
                 pull(card, line, done);

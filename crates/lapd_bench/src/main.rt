@@ -4,6 +4,7 @@
 //! `WORK` is the name of one of the works (`Work::name`), or `all`, which does each of them in turn.
 #![tactic(auto)]
 
+mod busy;
 mod copies;
 mod done;
 mod fault;

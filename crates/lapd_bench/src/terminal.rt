@@ -40,6 +40,11 @@ impl Terminal {
         self.finish()
     }
 
+    /// How many octets have been sent.
+    pub fn sent(&self) -> usize {
+        self.line.len()
+    }
+
     /// Gives what has been sent, with the rest of the last flag.
     pub fn line(mut self) -> Result<Vec<u8>, AllocError> {
         let octet = self.framer.octet();

@@ -2,6 +2,7 @@
 
 ghost use Rattle.std.specs.Prelude.{◌≤◌};
 
+use crate::busy::busy;
 use crate::copies::Copying;
 use crate::done::Done;
 use crate::fault::Fault;
@@ -44,6 +45,8 @@ pub enum Work {
     SendLong,
     /// A card with so many lines.
     Card(Traffic, u16),
+    /// A card with 64 busy lines.
+    Busy,
     /// Contents that are put on a shelf, or lent.
     Keep(Keeping),
     /// Contents that are copied.
@@ -51,7 +54,7 @@ pub enum Work {
 }
 
 /// All of them.
-pub const WORKS: [Work; 66] = [
+pub const WORKS: [Work; 67] = [
     Work::Check,
     Work::HearShort,
     Work::HearLong,
@@ -72,6 +75,7 @@ pub const WORKS: [Work; 66] = [
     Work::Card(Traffic::Sabme, 64),
     Work::Card(Traffic::Faulty, 1),
     Work::Card(Traffic::Faulty, 64),
+    Work::Busy,
     Work::Keep(Keeping::Start(Shelves::Raw)),
     Work::Keep(Keeping::Fill(Shelves::Raw, Lengths::Equal(Size::Narrow))),
     Work::Keep(Keeping::Fill(Shelves::Raw, Lengths::Equal(Size::Short))),
@@ -133,6 +137,7 @@ impl Work {
             Work::SendShort => "send-short",
             Work::SendLong => "send-long",
             Work::Card(traffic, lines) => traffic.name(lines == 1),
+            Work::Busy => "busy-64",
             Work::Keep(keeping) => keeping.name(),
             Work::Copy(copying) => copying.name(),
         }
@@ -150,6 +155,7 @@ impl Work {
             Work::SendShort => send(alloc, SHORT, rounds),
             Work::SendLong => send(alloc, LONG, rounds),
             Work::Card(traffic, lines) => exchange(alloc, traffic, lines, rounds),
+            Work::Busy => busy(alloc, rounds),
             Work::Keep(keeping) => keeping.run(alloc, rounds),
             Work::Copy(copying) => copying.run(alloc, rounds),
         }

@@ -3,15 +3,15 @@ use Rattle.std.proofs.Common.{◌≡◌, ◌≢◌, ℕ, suc, zero, ◌+◌, ◌
 use Rattle.std.proofs.lemmas.Bool.{lt-ltb}
 use Rattle.std.proofs.lemmas.List.{length-replicate}
 use Rattle.lapd_bits.specs.Bits.{low_bits}
-use Rattle.lapd_bits.specs.Stream.{heard_until}
+use Rattle.lapd_bits.specs.Stream.{heard_until, heard_at}
 use Rattle.lapd_bits.specs.Deframer.{run_of, open_gap, HoldsGap, HoldsPast}
-use Rattle.lapd_bits.specs.Steps.{closed_event, with_bits}
+use Rattle.lapd_bits.specs.Steps.{closed_event, given_up_event, with_bits}
 use Rattle.lapd_bits.specs.Unstuffer.{StaysIdle}
 use Rattle.lapd_bits.specs.declared.gap.Gap.{Gap}
 use Rattle.lapd_bits.specs.declared.deframer.TheConstants.{IDLE}
 use Rattle.lapd_bits.proofs.AtOnce.{onto, onto-append, with_bits-onto, IsQuiet, quiet-more, option_map-none, ones_after-ones}
 use Rattle.lapd_bits.proofs.BitSteps.{open_run}
-use Rattle.lapd_bits.proofs.Hearing.{heard_at-one, heard_at-zero, heard_at-flag, open_gap-one, open_gap-zero, open_gap-flag}
+use Rattle.lapd_bits.proofs.Hearing.{heard_at-one, heard_at-zero, heard_at-abort, heard_at-flag, open_gap-one, open_gap-zero, open_gap-abort, open_gap-flag}
 use Rattle.lapd_bits.proofs.Places.{latest_ones}
 use Rattle.lapd_bits.proofs.StuffingCounted.{ones_after}
 
@@ -39,6 +39,44 @@ calm room n (false ∷ text) past e few p =
     let again = calm room 0 text (false ∷ past) refl (omega arith) p.1 in
     let more = quiet-more room false text past 0 (heard_at-zero room past other) (open_gap-zero past other) refl again in
     record { heard = more.1; run = more.0; gap = more.2 }
+
+-- ---- 1s that go on after seven
+
+ones_go_on : (room n : ℕ) (past : List Bool) → run_of past ≡ 7 → open_gap past ≡ None
+    → (run_of (onto (replicate n true) past) ≡ 7)
+    × (open_gap (onto (replicate n true) past) ≡ None)
+    × (heard_until room (onto (replicate n true) past) ≡ heard_until room past)
+ones_go_on room zero past run none = (run, none, refl)
+ones_go_on room (suc n) past run none =
+    let again : run_of (true ∷ past) ≡ 7 = omega (arith, run) in
+    let still : open_gap (true ∷ past) ≡ None = open_gap-abort past (omega (arith, run)) in
+    let nothing : heard_at room (true ∷ past) ≡ None = heard_at-abort room past (omega (arith, run)) ∙ ap given_up_event none in
+    let more = ones_go_on room n (true ∷ past) again still in
+    (more.0, more.1, more.2 ∙ ap (λ o. heard_until room past ++ option_to_list o) nothing ∙ append-nil (heard_until room past))
+
+ones_are : low_bits 8 255 ≡ replicate 8 true
+unfolding low_bits
+ones_are = refl
+
+-- an octet of them leaves the fields
+pub stays_given_up : (octets : List ℕ) (ones octet : ℕ) (past : List Bool) → HoldsPast octets ones None past → ones ≡ 7 → octet ≡ 255 → StaysIdle octets ones None octet past
+stays_given_up octets ones octet past h seven e =
+    let none = no_gap (open_gap past) h.open_is in
+    let run : run_of past ≡ 7 = sym h.run ∙ seven in
+    let bits : with_bits 8 octet past ≡ onto (replicate 8 true) past =
+    with_bits-onto octet past ∙ ap (λ t. onto t past) (ap (low_bits 8) e ∙ ones_are) in
+    let here = ones_go_on 0 8 past run none in
+    record {
+      holds = record {
+        run = seven ∙ sym (ap run_of bits ∙ here.0);
+        open_is = subst (HoldsGap octets None) (sym (ap open_gap bits ∙ here.1)) tt;
+      };
+      nothing = λ room. let there = ones_go_on room 8 past run none in ap (heard_until room) bits ∙ there.2;
+    }
+  where
+    no_gap : (o : Option (List Bool)) → HoldsGap octets None o → o ≡ None
+    no_gap None h = refl
+    no_gap (Some g) h = absurd h
 
 -- ---- a flag's other bits, and the first bits of the next
 

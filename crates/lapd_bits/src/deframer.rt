@@ -142,14 +142,14 @@ impl Deframer {
         }
     }
 
-    /// Whether the octet goes on with flags and leaves all as it is: the bits since the latest flag begin another, and
-    /// the octet has that flag's other bits and as many of the next.
+    /// Whether the octet leaves all as it is: it goes on with the 1s that gave a gap up; or it goes on with flags, the bits
+    /// since the latest flag begin another, and the octet has that flag's other bits and as many of the next.
     fn is_idle(&self, octet: u8) -> bool
         ensures stays { (past : List Bool) → IsTrue result → HoldsPast self.now.octets.items self.now.ones self.now.gap past
             → StaysIdle self.now.octets.items self.now.ones self.now.gap octet past }
     {
         let Some(gap) = &self.gap else {
-            return false;
+            return are_ones_after_seven(self.ones, octet);
         };
         let since = gap.since();
         if since >= 8 {
@@ -324,4 +324,11 @@ impl Deframer {
         self.gap = Some(Gap::new());
         ended
     }
+}
+
+/// Whether seven 1s or more have come, and eight more come.
+fn are_ones_after_seven(ones: u8, octet: u8) -> bool
+    ensures { result ≡ true → (ones ≡ 7) × (octet ≡ 255) }
+{
+    ones == 7 && octet == 0xFF
 }

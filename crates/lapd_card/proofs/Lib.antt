@@ -4,3 +4,5 @@ pub mod Taken
 pub mod Begins
 pub mod Amounts
 pub mod Headline
+pub mod AnswerLaws
+pub mod Keeping

@@ -3,7 +3,7 @@ use Rattle.std.proofs.Common.{Some, ◌≡◌, ℕ, ◌≤◌, ◌<◌, List, []
 use Rattle.std.proofs.lemmas.List.{get_or_default, get_or-set_same}
 use Rattle.std.proofs.lemmas.Option.{slice_get-get_or}
 use Rattle.std.specs.Option.{option_map_or}
-use Rattle.lapd_line.specs.declared.reports.Outcome.{Outcome}
+use Rattle.lapd_line.specs.declared.reports.BareReport.{BareReport}
 use Rattle.lapd_line.specs.declared.line.Line.{Line}
 use Rattle.lapd_line.specs.Stands as line
 use Rattle.lapd_line.specs.Stands.{config_of}
@@ -81,7 +81,7 @@ one_says f r items lines i x at s says c ms stand =
     says focus.rest (line_in c i ms) focus.stands ∙ ap (λ d. f d (line_in c i ms)) focus.config
 
 -- what an outcome tells of a line is told at its place
-pub told_there : (items lines : List Line) (i : ℕ) (y : Line) (outcome : Outcome) → items ≡ lines → i < length lines → told_at (set items i y) i outcome ≡ told_of outcome y
+pub told_there : (items lines : List Line) (i : ℕ) (y : Line) (outcome : BareReport) → items ≡ lines → i < length lines → told_at (set items i y) i outcome ≡ told_of outcome y
 told_there items lines i y outcome same within =
     let within_set : i < length (set items i y) = omega (arith, within, ap length same, length-set items i y) in
     ap (λ at. option_map_or (told_of outcome) at nothing)

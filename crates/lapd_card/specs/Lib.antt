@@ -1,5 +1,6 @@
 -- What a card's contracts say.
 pub mod Reply
+pub mod Kept
 pub mod Sink
 pub mod Lines
 pub mod Card

@@ -3,7 +3,7 @@ use Rattle.std.specs.Prelude.{◌≡◌, ℕ, ◌≤◌, List, [], ◌++◌, len
 use Rattle.std.specs.List.{All, AllByRecursion, flat_map, zip}
 use Rattle.std.specs.Option.{option_map_or}
 use Rattle.lapd_line.specs.declared.line.Line.{Line}
-use Rattle.lapd_line.specs.declared.reports.Outcome.{Outcome}
+use Rattle.lapd_line.specs.declared.reports.BareReport.{BareReport}
 use Rattle.lapd_line.specs.Reports.{told_in}
 use Rattle.lapd_line.specs.Stands as line
 use Rattle.lapd_line.specs.Stands.{config_of, pairs_of, latest_frame}
@@ -51,10 +51,10 @@ pub record Lead (number : ℕ) (e : Event) (old : List Line) (s : Store) (new : 
   pub stand : (c : Config) (ms : List machine.Line) → Stand c old s ms → Stand c new t (after_event c number e ms)
 
 -- What an outcome tells of the line at a place.
-abbrev pub told_of : Outcome → Line → Told
+abbrev pub told_of : BareReport → Line → Told
 told_of outcome l = told_in (latest_frame l) outcome
 
-abbrev pub told_at : List Line → ℕ → Outcome → Told
+abbrev pub told_at : List Line → ℕ → BareReport → Told
 told_at lines number outcome = option_map_or (told_of outcome) (slice_get lines number) nothing
 
 -- Lines as they begin.

@@ -1,17 +1,19 @@
 //! The card: one call an event.
 
-ghost use Rattle.std.specs.Prelude.{◌≡◌, ◌<◌, Some, None, IfOk, IfErr, OnErr};
+ghost use Rattle.std.specs.Prelude.{◌≡◌, ◌≤◌, ◌<◌, Some, None, IsSome, IfOk, IfErr, OnErr};
 ghost use Rattle.lapd_card_machine.specs.ByEvent.{RisesByOctet, RisesByExpiry, RisesByRequest, FallsByPull};
 ghost use Rattle.lapd_card_machine.specs.Card as machine;
 ghost use Rattle.lapd_card_machine.specs.Event.{at};
-ghost use Rattle.lapd_card_machine.specs.Machine.{answer};
+ghost use Rattle.lapd_card_machine.specs.Counts.{may_send};
+ghost use Rattle.lapd_card_machine.specs.Machine.{after, answer};
 ghost use Rattle.lapd_line_machine.specs.Answer as happening;
+ghost use Rattle.lapd_line_machine.specs.Laws.{starts};
 ghost use Rattle.lapd_line_machine.specs.Refusal.{refusal};
 ghost use Rattle.lapd_line_machine.specs.Request.{request_of};
 
 use crate::lines::Lines;
 use lapd_frame::{Refusal, Service, Timer};
-use lapd_line::{Config, Outcome, Pulled, Report, Request};
+use lapd_line::{BareReport, Config, Pulled, Report, Request};
 use lapd_store::Shelf;
 use std::marker::Model;
 
@@ -66,6 +68,9 @@ impl<S: Shelf> Card<S> {
         // What may be sent rises by two at most for the frame that it ends, and by k more where that is an REJ with a
         // valid N(R); else by nothing.
         ensures frames { (m : machine.Card) → Stands S.store self.old m → RisesByOctet line octet m }
+        // Where it names a cause, why the octet or its frame was dropped, what may be sent stays as it is.
+        ensures dropped { (m : machine.Card) → Stands S.store self.old m → IsSome result.cause
+            → may_send (after (at line (happening.octet octet)) m) ≡ may_send m }
         ensures* after { sem 𝓛 (Rests (the_row S.row S.Shelf) self.entry (λ v. Leads S.store (at line (happening.octet octet)) self.old v)) }
     {
         let outcome = self.step(line, octet);
@@ -78,7 +83,9 @@ impl<S: Shelf> Card<S> {
         ensures told { (m : machine.Card) → Stands S.store self.old m
             → happening.told (report_told result) ≡ answer (at line (happening.expiry timer)) m }
         ensures after { Leads S.store (at line (happening.expiry timer)) self.old self.new }
-        // By k + 1 where the timer was running, else by nothing.
+        // It starts one timer at most, so applying the orders of what falls due comes to an end.
+        ensures starts { starts (report_told result).orders ≤ 1 }
+        // What may be sent rises by k + 1 where the timer was running, else by nothing.
         ensures frames { (m : machine.Card) → Stands S.store self.old m → RisesByExpiry line timer m }
     {
         self.lines.expire(line, timer, &mut self.shelf)
@@ -100,7 +107,7 @@ impl<S: Shelf> Card<S> {
         ensures told { (m : machine.Card) → Stands S.store self.old m
             → answer_of_result result ≡ answer (at line (happening.request (request_of request.entry))) m }
         ensures after { Leads S.store (at line (happening.request (request_of request.entry))) self.old self.new }
-        // By one where it is accepted, else by nothing.
+        // What may be sent rises by one where it is accepted, else by nothing.
         ensures frames { (m : machine.Card) → Stands S.store self.old m → RisesByRequest line (request_of request.entry) m }
     {
         self.lines.request(line, request, &mut self.shelf, u32::from(self.config.slots))
@@ -130,7 +137,7 @@ impl<S: Shelf> Card<S> {
         }
     }
 
-    fn step(&mut self, line: usize, octet: u8) -> Outcome
+    fn step(&mut self, line: usize, octet: u8) -> BareReport
         requires { line < line_count self.old }
         ensures told { (m : machine.Card) → Stands S.store self.old m
             → happening.told (told_at self.new.lines line result) ≡ answer (at line (happening.octet octet)) m }
@@ -142,7 +149,7 @@ impl<S: Shelf> Card<S> {
 
     // The report borrows from the card, so that no event can come while contents are lent. Whatever the event
     // changed was changed in a step before this one: no loan is proved beside a later write.
-    fn lend(&self, line: usize, outcome: &Outcome) -> Report<'_>
+    fn lend(&self, line: usize, outcome: &BareReport) -> Report<'_>
         requires { line < line_count self.now }
         ensures { report_told result ≡ told_at self.now.lines line outcome.now }
     {

@@ -10,9 +10,10 @@ ghost use Rattle.lapd_card_machine.specs.Run.{run};
 ghost use Rattle.lapd_card.specs.Card.{line_count};
 ghost use Rattle.lapd_card.specs.Drive.{line_of, events_of, Taken, MissesAt};
 ghost use Rattle.lapd_card_machine.specs.ByEvent.{ArePriced};
-ghost use Rattle.lapd_card_machine.specs.Drops.{AreDropsFree, AreDropsWithoutEffect};
+ghost use Rattle.lapd_card_machine.specs.Drops.{AreDropsWithoutCost, AreDropsWithoutEffect};
 ghost use Rattle.lapd_card_machine.specs.Laws.{RefusedByTheTable, RunIsMoments};
-ghost use Rattle.lapd_card_machine.specs.Promises.{IsWithinLimit, IsAmortised, IsLinear, IsIsolated, IsNeverFull, IsNumbered, IsNumberedFromZero, IsTextual};
+ghost use Rattle.lapd_card_machine.specs.Promises.{IsWithinLimit, IsAmortised, IsAmortisedFromZero, HasSixOctetsAFrame, HasSevenOctetsAReject, IsLinear, IsIsolated, IsNeverFull, IsNumbered, IsNumberedFromZero, IsTextual};
+ghost use Rattle.lapd_card_laws.specs.Promises.{IsKept, IsCountedIn, BeginsEmpty, IsServedIn, UnitsWaitAll, IsDelivered};
 ghost use Rattle.lapd_card.specs.Sink.{one_failure_more};
 ghost use Rattle.lapd_card.specs.Stands.{Stands, Leads};
 
@@ -24,7 +25,8 @@ use lapd_line::Request;
 use lapd_store::Shelf;
 
 impl<S: Shelf> Card<S> {
-    /// Runs a list of events, and hands each reply to the sink, in order. Answers how many events there were.
+    /// Runs a list of events, and hands each reply to the sink, in order. Answers how many events there were. A sink that
+    /// keeps them is [`crate::Kept`]: each reply that it takes is appended once, and one that it misses not at all.
     ///
     /// What its contract promises, of every list of events and every card, clause by clause:
     ///
@@ -46,15 +48,30 @@ impl<S: Shelf> Card<S> {
     ///   leaves what may still be sent as it is, and all else of the card but the octets received; and the answer says
     ///   nothing else.
     ///
+    /// - `nothing_is_lost`: in every moment of the run each link keeps what it kept, without the oldest contents, as many
+    ///   as a valid N(R) acknowledges, and with the contents of a data request for it at the end, where the answer granted
+    ///   one, and none else; or it keeps nothing, and the event was a release of it that was granted, or the answer notes
+    ///   an establishment indication, a release indication or a release confirm of it, or its TEI left the line (Q.921
+    ///   clauses 5.5.3.2, 5.6.3.2 and 5.7).
+    /// - `units_wait`: in every moment unit data waits behind what waits, whole, where its request was granted, and no
+    ///   other event but a pull changes what waits.
+    /// - `heard_is_delivered`: in every moment an octet that ends a frame which spells the SAPI of a service and a TEI on
+    ///   the line is an event of that link and of no other, and one that ends no frame changes nothing but what was
+    ///   received; contents are handed on only of an I-frame or a UI that an octet ends, whose information they are, with
+    ///   a note of data, or of unit data, of the service and the TEI that it spells (clauses 5.2.3 and 5.6.2).
+    ///
     /// The rest holds after every front of the list, so after each event, and also where the sink failed on the way:
     ///
     /// - `within_limit`: the octets stored are at most [`crate::limit`] of the configuration.
     /// - `amortised`: the frames that pulls begin, with those that may still be sent, are at most those that could be
-    ///   sent before, two for each frame recognised, one for each accepted request, k + 1 for each expiry of a running
+    ///   sent before, two for each frame heard, one for each accepted request, k + 1 for each expiry of a running
     ///   timer and k for each REJ with a valid N(R), whatever the number of pulls; k is the greater window.
-    /// - `linear`: from a card that has just begun, the same without what could be sent before, which is nothing; and
-    ///   six times the frames recognised, and seven times those REJ, are at most the octets received, so the frames
-    ///   sent are linear in octets, accepted requests and expiries.
+    /// - `amortised_from_zero`: from a card that has just begun, the same without what could be sent before, which is
+    ///   nothing.
+    /// - `six_octets_a_frame`, `seven_octets_a_reject`: from a card that has just begun, each frame heard has taken six of
+    ///   the octets received, and each of those REJ seven.
+    /// - `linear`: so from a card that has just begun the frames sent are linear in octets, accepted requests and
+    ///   expiries.
     /// - `isolated`: from a card that has just begun, each line answers, but for a full pool, what it would answer on a
     ///   card of its own, to the events at it that did not find the pool full.
     /// - `never_full`: from a card that has just begun, no request finds the pool full where there is a slot for each
@@ -65,6 +82,14 @@ impl<S: Shelf> Card<S> {
     /// - `from_zero`: on a card that has just begun they begin with 0, too.
     /// - `textual`: the octets pulled of a line, after those given before, are a beginning of one text of flags and
     ///   whole frames (Q.921 clause 2), whose frames are those that pulls began, in order.
+    /// - `counted`: the contents of each link are those that were accepted for it since its numbers began, in order,
+    ///   without what went, and its V(A) counts those that were acknowledged (clause 3.5.2.2); and on a card that has just
+    ///   begun, `begins_empty`, there are none.
+    /// - `served`: what a pull begins, with fewer than eight bits left, is the message of TEI management that has waited
+    ///   longest, or the unit data that has waited longest, whole, once, with its service and TEI, or a frame of a link of
+    ///   a TEI on the line, with its SAPI and TEI, which, if it is an I-frame, carries contents number V(S) of those that
+    ///   were accepted for the link since its numbers began, and V(S) counts it (clauses 3.5.2.3, 5.2.2 and 5.6.1); and it
+    ///   begins none only where none of these waits.
     ///
     /// # Errors
     ///
@@ -97,15 +122,24 @@ impl<S: Shelf> Card<S> {
 
         // In every moment of the run of all events.
         ensures by_event { (m : machine.Card) → Stands S.store self.old m → ArePriced m (events_of events.now) }
-        ensures drops { (m : machine.Card) → Stands S.store self.old m → AreDropsFree m (events_of events.now) }
+        ensures drops { (m : machine.Card) → Stands S.store self.old m → AreDropsWithoutCost m (events_of events.now) }
         ensures without_effect { (m : machine.Card) → Stands S.store self.old m
             → AreDropsWithoutEffect m (events_of events.now) }
+        ensures nothing_is_lost { (m : machine.Card) → Stands S.store self.old m → IsKept m (events_of events.now) }
+        ensures units_wait { (m : machine.Card) → Stands S.store self.old m → UnitsWaitAll m (events_of events.now) }
+        ensures heard_is_delivered { (m : machine.Card) → Stands S.store self.old m → IsDelivered m (events_of events.now) }
 
         // After every front of the list, from every card or, where it says `fresh`, from one that has just begun.
         ensures within_limit { (m : machine.Card) (count : ℕ) → Stands S.store self.old m
             → IsWithinLimit m (take count (events_of events.now)) }
         ensures amortised { (m : machine.Card) (count : ℕ) → Stands S.store self.old m
             → IsAmortised m (take count (events_of events.now)) }
+        ensures amortised_from_zero { (count : ℕ) → Stands S.store self.old (machine.fresh self.old.config)
+            → IsAmortisedFromZero self.old.config (take count (events_of events.now)) }
+        ensures six_octets_a_frame { (count : ℕ) → Stands S.store self.old (machine.fresh self.old.config)
+            → HasSixOctetsAFrame self.old.config (take count (events_of events.now)) }
+        ensures seven_octets_a_reject { (count : ℕ) → Stands S.store self.old (machine.fresh self.old.config)
+            → HasSevenOctetsAReject self.old.config (take count (events_of events.now)) }
         ensures linear { (count : ℕ) → Stands S.store self.old (machine.fresh self.old.config)
             → IsLinear self.old.config (take count (events_of events.now)) }
         ensures isolated { (count : ℕ) → Stands S.store self.old (machine.fresh self.old.config)
@@ -118,6 +152,11 @@ impl<S: Shelf> Card<S> {
             → IsNumberedFromZero self.old.config (take count (events_of events.now)) }
         ensures textual { (m : machine.Card) (count : ℕ) → Stands S.store self.old m
             → IsTextual m (take count (events_of events.now)) }
+        ensures counted { (m : machine.Card) (count : ℕ) → Stands S.store self.old m
+            → IsCountedIn m (take count (events_of events.now)) }
+        ensures begins_empty { BeginsEmpty self.old.config }
+        ensures served { (m : machine.Card) (count : ℕ) → Stands S.store self.old m
+            → IsServedIn m (take count (events_of events.now)) }
     {
         for (at, event) in events.iter().enumerate() {
             if self.answer(*event, sink).is_err() {

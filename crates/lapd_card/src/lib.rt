@@ -4,16 +4,40 @@
 //! A card has up to 64 lines and one shelf of slots for the contents that wait on them. Each line ends the D-channel of
 //! a subscriber with up to 8 terminals. The lines share nothing but the shelf.
 //!
+//! A caller starts a card, and then hands it what happens. Each answer says what to tell layer 3 (`notes`, `delivered`)
+//! and which timers to start and to stop (`orders`); the caller keeps them, with `lapd_clock` or with timers of its own,
+//! and hands back each one that expires. `example` of `lapd_card_tests` is this in code that is run:
+//!
+//! ```text
+//! let mut card = Card::start(alloc, config, SlabShelf::start(alloc, slots, n201)?)?;
+//! let mut timers = Clock::start(alloc, card.lines(), terminals)?;
+//! card.request(line, Request::Assign(tei))?;            // or the terminal asks for a TEI itself
+//! loop {
+//!     let report = card.octet(line, octet_that_came);   // report.notes(), report.delivered: for layer 3
+//!     for order in report.orders() { timers.apply(line, *order, now); }
+//!     while let Some((line, timer)) = timers.due(now) {
+//!         for order in card.expire(line, timer).orders() { timers.apply(line, *order, now); }
+//!     }
+//!     octet_to_send = card.pull(line).octet;            // its orders are applied in the same way
+//! }
+//! ```
+//!
 //! - `card`: the card, one call an event.
-//! - `drive` with `sink` and `replies`: whole lists of events.
+//! - `drive` with `sink` and `replies`: whole lists of events; `kept`: a sink that keeps the replies.
 //! - `start` with `fault`: how a card begins, and why it does not.
 //! - `stored`: how many octets it stores, and how many it may.
 //! - `lines`: the lines as one part.
+//!
+//! What the card does is defined below: a row of a link's tables (by state, in `specs/`) and its notes in
+//! `lapd_link_machine`, those of TEI management in `lapd_tei`, the refusals of a line in `lapd_line_machine`
+//! (`specs/Refusal`) and of a link in `lapd_link_machine` (`specs/Requests`). The types of notes and refusals stand in
+//! `lapd_frame`, the words of a script in `lapd_script`.
 #![tactic(auto)]
 
 mod card;
 mod drive;
 mod fault;
+mod kept;
 mod lines;
 mod replies;
 mod sink;
@@ -22,6 +46,7 @@ mod stored;
 
 pub use card::Card;
 pub use fault::CardFault;
+pub use kept::{Kept, KeptReply};
 pub use lapd_card_machine::Event;
 pub use lapd_line::{Config, Field, Pulled, Report, Request};
 pub use replies::Reply;

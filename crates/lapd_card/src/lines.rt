@@ -13,7 +13,7 @@ ghost use Rattle.lapd_store.specs.Store.{Store, used_slots};
 ghost use Rattle.lapd_card.specs.Lines.{Stand, Serve, Lead, AreFresh, line_in, told_at};
 
 use lapd_frame::{Refusal, Service, Timer};
-use lapd_line::{Config, Line, Outcome, Pulled, Report, Request, StartFault};
+use lapd_line::{BareReport, Config, Line, Pulled, Report, Request, StartFault};
 use lapd_store::Shelf;
 use std::alloc::Global;
 use std::marker::Model;
@@ -51,7 +51,7 @@ impl Lines {
     }
 
     /// An octet came from a line.
-    pub(crate) fn step<S: Shelf>(&mut self, line: usize, octet: u8, shelf: &mut S) -> Outcome
+    pub(crate) fn step<S: Shelf>(&mut self, line: usize, octet: u8, shelf: &mut S) -> BareReport
         requires within { line < length self.old }
         requires serve { Serve self.old (S.store shelf.old) }
         ensures told { (c : Config) (ms : List machine.Line) → Stand c self.old (S.store shelf.old) ms
@@ -62,7 +62,7 @@ impl Lines {
     }
 
     /// The report of what the latest octet of a line led to, with the contents that it delivered lent from the line.
-    pub(crate) fn lend(&self, line: usize, outcome: &Outcome) -> Report<'_>
+    pub(crate) fn lend(&self, line: usize, outcome: &BareReport) -> Report<'_>
         requires { line < length self.now }
         ensures { report_told result ≡ told_at self.now line outcome.now }
     {

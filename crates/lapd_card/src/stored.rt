@@ -30,4 +30,11 @@ impl<S: Shelf> Card<S> {
     {
         (self.lines.held() + self.shelf.octets()) as u32
     }
+
+    /// How many octets the card stores at most, whatever happens: [`limit`] of its configuration.
+    pub fn limit(&self) -> u32
+        ensures { (m : machine.Card) → Stands S.store self.now m → result ≡ limit m.config }
+    {
+        limit(&self.config)
+    }
 }

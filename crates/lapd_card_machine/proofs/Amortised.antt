@@ -4,10 +4,10 @@ use Rattle.std.specs.Prelude.{sum_by}
 use Rattle.std.proofs.lemmas.List.Elements.{All-head, All-tail}
 use Rattle.lapd_line_machine.specs.Machine as lines
 use Rattle.lapd_line_machine.specs.Counts as line
-use Rattle.lapd_line_machine.proofs.EventsRise.{event_rises}
+use Rattle.lapd_line_machine.proofs.ByEvent.{event_rises}
 use Rattle.lapd_card_machine.specs.Event.{Event}
 use Rattle.lapd_card_machine.specs.Card.{Card, line_at}
-use Rattle.lapd_card_machine.specs.Counts.{waiting, frames_heard, window, sent, accepted, expired, rejected, is_sent, is_accepted, is_running_expiry, is_reject}
+use Rattle.lapd_card_machine.specs.Counts.{may_send, window, sent, heard, accepted, expired, rejected, is_sent, is_heard, is_accepted, is_running_expiry, is_reject}
 use Rattle.lapd_card_machine.specs.Laws.{FramesAmortised}
 use Rattle.lapd_card_machine.specs.Machine.{after, answer}
 use Rattle.lapd_card_machine.specs.Promises.{IsAmortised}
@@ -17,14 +17,14 @@ use Rattle.lapd_card_machine.proofs.Steps.{HasLines, has_lines, by_room, line_so
 -- one event
 pub event_within : (card : Card) (e : Event) → HasLines card → IsAtLine card e
     → let k = window card.config in
-    line.one (line.is_begun (answer e card)) + waiting (after e card) + 2 * frames_heard card
-    ≤ waiting card + 2 * frames_heard (after e card) + line.one (line.is_accepted e.what (answer e card))
+    line.one (line.is_begun (answer e card)) + may_send (after e card)
+    ≤ may_send card + 2 * line.one (line.hears card.config e.what (line_at e.line card)) + line.one (line.is_accepted e.what (answer e card))
     + (k + 1) * line.one (line.is_running_expiry e.what (line_at e.line card))
     + k * line.one (line.rejects card.config e.what (line_at e.line card))
 event_within card e h within =
     by_room (λ ls a.
-    line.one (line.is_begun a) + sum_by (line.waiting card.config) ls + 2 * frames_heard card
-    ≤ waiting card + 2 * sum_by (line.frames_heard card.config) ls + line.one (line.is_accepted e.what a)
+    line.one (line.is_begun a) + sum_by (line.may_send card.config) ls
+    ≤ may_send card + 2 * line.one (line.hears card.config e.what (line_at e.line card)) + line.one (line.is_accepted e.what a)
     + (window card.config + 1) * line.one (line.is_running_expiry e.what (line_at e.line card))
     + window card.config * line.one (line.rejects card.config e.what (line_at e.line card))) e card
     (λ full. omega arith)
@@ -34,46 +34,46 @@ event_within card e h within =
     omega (
       arith,
       event_rises card.config e.what l h.config (line_sound card e.line h within),
-      one_line (line.waiting card.config) card e.line x h within,
-      one_line (line.frames_heard card.config) card e.line x h within,
+      one_line (line.may_send card.config) card e.line x h within,
     ))
 
 -- The bound over a run, by its counts.
-record Within (k w w' f f' s a x j : ℕ) : Type 0 where
-  bound : s + w' + 2 * f ≤ w + 2 * f' + a + (k + 1) * x + k * j
+record Within (k w w' s f a x j : ℕ) : Type 0 where
+  bound : s + w' ≤ w + 2 * f + a + (k + 1) * x + k * j
 
-both : (k w w1 w2 f f1 f2 s1 a1 x1 j1 s2 a2 x2 j2 : ℕ)
-    → s1 + w1 + 2 * f ≤ w + 2 * f1 + a1 + (k + 1) * x1 + k * j1 → Within k w1 w2 f1 f2 s2 a2 x2 j2
-    → Within k w w2 f f2 (s1 + s2) (a1 + a2) (x1 + x2) (j1 + j2)
-both k w w1 w2 f f1 f2 s1 a1 x1 j1 s2 a2 x2 j2 first rest = record { bound = omega (arith, first, rest.bound) }
+both : (k w w1 w2 s1 f1 a1 x1 j1 s2 f2 a2 x2 j2 : ℕ)
+    → s1 + w1 ≤ w + 2 * f1 + a1 + (k + 1) * x1 + k * j1 → Within k w1 w2 s2 f2 a2 x2 j2
+    → Within k w w2 (s1 + s2) (f1 + f2) (a1 + a2) (x1 + x2) (j1 + j2)
+both k w w1 w2 s1 f1 a1 x1 j1 s2 f2 a2 x2 j2 first rest = record { bound = omega (arith, first, rest.bound) }
 
-counted : (k w w' f f' s a x j s' a' x' j' : ℕ) → s' ≡ s → a' ≡ a → x' ≡ x → j' ≡ j
-    → Within k w w' f f' s a x j → Within k w w' f f' s' a' x' j'
-counted k w w' f f' s a x j s' a' x' j' es ea ex ej h =
-    subst (λ y. Within k w w' f f' y a' x' j') (sym es)
-    (subst (λ y. Within k w w' f f' s y x' j') (sym ea)
-    (subst (λ y. Within k w w' f f' s a y j') (sym ex) (subst (λ y. Within k w w' f f' s a x y) (sym ej) h)))
+counted : (k w w' s f a x j s' f' a' x' j' : ℕ) → s' ≡ s → f' ≡ f → a' ≡ a → x' ≡ x → j' ≡ j
+    → Within k w w' s f a x j → Within k w w' s' f' a' x' j'
+counted k w w' s f a x j s' f' a' x' j' es ef ea ex ej h =
+    subst (λ y. Within k w w' y f' a' x' j') (sym es)
+    (subst (λ y. Within k w w' s y a' x' j') (sym ef)
+    (subst (λ y. Within k w w' s f y x' j') (sym ea)
+    (subst (λ y. Within k w w' s f a y j') (sym ex) (subst (λ y. Within k w w' s f a x y) (sym ej) h))))
 
 run_within : (card : Card) (events : List Event) → HasLines card → AreAtLines card events
     → let ms = moments card events in
-    let end = after_all card events in
-    Within (window card.config) (waiting card) (waiting end) (frames_heard card) (frames_heard end) (sent ms) (accepted ms) (expired ms) (rejected ms)
+    Within (window card.config) (may_send card) (may_send (after_all card events)) (sent ms) (heard ms) (accepted ms) (expired ms) (rejected ms)
 unfolding moments after_all
 run_within card [] h within = record { bound = omega arith }
 run_within card (e ∷ events) h within =
     let k = window card.config in
     let next = after e card in
+    let l = line_at e.line card in
     let m : Moment = record { card = card; event = e; answer = answer e card } in
     let ms = moments next events in
     let end = after_all next events in
     let here = All-head (IsAtLine card) e events within in
     let rest = run_within next events (after_lines e card h here) (All-tail (IsAtLine card) e events within) in
-    counted k (waiting card) (waiting end) (frames_heard card) (frames_heard end) _ _ _ _ _ _ _ _
-    (count_cons is_sent m ms) (count_cons is_accepted m ms) (count_cons is_running_expiry m ms) (count_cons is_reject m ms)
-    (both k (waiting card) (waiting next) (waiting end) (frames_heard card) (frames_heard next) (frames_heard end)
-    (line.one (line.is_begun (answer e card))) (line.one (line.is_accepted e.what (answer e card)))
-    (line.one (line.is_running_expiry e.what (line_at e.line card))) (line.one (line.rejects card.config e.what (line_at e.line card)))
-    (sent ms) (accepted ms) (expired ms) (rejected ms) (event_within card e h here) rest)
+    counted k (may_send card) (may_send end) _ _ _ _ _ _ _ _ _ _
+    (count_cons is_sent m ms) (count_cons is_heard m ms) (count_cons is_accepted m ms) (count_cons is_running_expiry m ms) (count_cons is_reject m ms)
+    (both k (may_send card) (may_send next) (may_send end)
+    (line.one (line.is_begun (answer e card))) (line.one (line.hears card.config e.what l)) (line.one (line.is_accepted e.what (answer e card)))
+    (line.one (line.is_running_expiry e.what l)) (line.one (line.rejects card.config e.what l))
+    (sent ms) (heard ms) (accepted ms) (expired ms) (rejected ms) (event_within card e h here) rest)
 
 pub amortised : (card : Card) (events : List Event) → HasLines card → AreAtLines card events → IsAmortised card events
 amortised card events h within = (run_within card events h within).bound

@@ -1,9 +1,10 @@
 pub mod Steps
+pub mod Heard
 pub mod Amortised
 pub mod EachMoment
 pub mod ByEvent
-pub mod UnservedLinks
 pub mod Drops
+pub mod Starts
 pub mod Stored
 pub mod Fold
 pub mod Refusals

@@ -9,23 +9,26 @@ use Rattle.std.proofs.Math.Nat.{mul-le-mul_left}
 use Rattle.lapd_line_machine.specs.declared.config.Config.{Config}
 use Rattle.lapd_line_machine.specs.Line.{Line, fresh_line}
 use Rattle.lapd_line_machine.specs.Machine as lines
+use Rattle.lapd_line_machine.specs.Sound.{IsInRange}
 use Rattle.lapd_line_machine.specs.Counts as line
 use Rattle.lapd_line_machine.proofs.EventsReject.{event_rejects, takes_no_reject}
-use Rattle.lapd_line_machine.proofs.AimsRise.{fresh_waiting}
+use Rattle.lapd_line_machine.proofs.AimsRise.{fresh_may_send}
 use Rattle.lapd_line_machine.proofs.RejectsHeard.{frames_within, long_frames_within}
 use Rattle.lapd_card_machine.specs.Event.{Event}
 use Rattle.lapd_card_machine.specs.Card.{Card, fresh, line_at, is_full}
-use Rattle.lapd_card_machine.specs.Counts.{octets_of_line, octets_received, waiting, frames_heard, long_frames_heard, window, sent, accepted, expired, rejected, is_reject}
+use Rattle.lapd_card_machine.specs.Counts.{octets_of_line, octets_received, may_send, frames_heard, long_frames_heard, window, sent, heard, accepted, expired, rejected, is_reject}
 use Rattle.lapd_card_machine.specs.Laws.{FramesLinear}
 use Rattle.lapd_card_machine.specs.Machine.{after, answer}
+use Rattle.lapd_card_machine.specs.Promises.{IsAmortisedFromZero, HasSixOctetsAFrame, HasSevenOctetsAReject, IsLinear}
 use Rattle.lapd_card_machine.specs.Run.{Moment, moments, after_all, IsAtLine, AreAtLines}
 use Rattle.lapd_card_machine.proofs.Amortised.{amortised}
+use Rattle.lapd_card_machine.proofs.Heard.{run_heard}
 use Rattle.lapd_card_machine.proofs.Steps.{HasLines, by_room, line_sound, after_lines, fresh_lines, one_line, count_cons}
 
 -- REJ frames are among the frames of four octets or more
-event_heard : (card : Card) (e : Event) → HasLines card → IsAtLine card e
+event_long : (card : Card) (e : Event) → HasLines card → IsAtLine card e
     → line.one (line.rejects card.config e.what (line_at e.line card)) + long_frames_heard card ≤ long_frames_heard (after e card)
-event_heard card e h within =
+event_long card e h within =
     let l = line_at e.line card in
     by_room (λ ls a. line.one (line.rejects card.config e.what l) + long_frames_heard card ≤ sum_by (line.long_frames_heard card.config) ls) e card
     (λ full.
@@ -38,15 +41,15 @@ event_heard card e h within =
       one_line (line.long_frames_heard card.config) card e.line (lines.after card.config e.what l) h within,
     ))
 
-run_heard : (card : Card) (events : List Event) → HasLines card → AreAtLines card events
+run_long : (card : Card) (events : List Event) → HasLines card → AreAtLines card events
     → rejected (moments card events) + long_frames_heard card ≤ long_frames_heard (after_all card events)
 unfolding moments after_all
-run_heard card [] h within = omega arith
-run_heard card (e ∷ events) h within =
+run_long card [] h within = omega arith
+run_long card (e ∷ events) h within =
     let m : Moment = record { card = card; event = e; answer = answer e card } in
     let here = All-head (IsAtLine card) e events within in
-    let first = event_heard card e h here in
-    let rest = run_heard (after e card) events (after_lines e card h here) (All-tail (IsAtLine card) e events within) in
+    let first = event_long card e h here in
+    let rest = run_long (after e card) events (after_lines e card h here) (All-tail (IsAtLine card) e events within) in
     omega (arith, first, rest, count_cons is_reject m (moments (after e card) events))
 
 -- frames take their octets
@@ -64,8 +67,8 @@ frames_few card = sum_within (line.frames_heard card.config) octets_of_line 6 ca
 long_frames_few : (card : Card) → 7 * long_frames_heard card ≤ octets_received card
 long_frames_few card = sum_within (line.long_frames_heard card.config) octets_of_line 7 card.lines (λ l. long_frames_within card.config l)
 
-fresh_waits : (c : Config) → waiting (fresh c) ≡ 0
-fresh_waits c = sum_by-replicate (line.waiting c) c.lines (fresh_line c) ∙ omega (arith, ap (λ x. c.lines * x) (fresh_waiting c))
+fresh_sends_nothing : (c : Config) → may_send (fresh c) ≡ 0
+fresh_sends_nothing c = sum_by-replicate (line.may_send c) c.lines (fresh_line c) ∙ omega (arith, ap (λ x. c.lines * x) (fresh_may_send c))
 
 bound : (s w f a x j k o : ℕ) → s + w ≤ 2 * f + a + (k + 1) * x + k * j → 6 * f ≤ o → 7 * j ≤ o
     → 21 * s ≤ (7 + 3 * k) * o + 21 * a + 21 * (k + 1) * x
@@ -73,15 +76,29 @@ bound s w f a x j k o amortised frames rejects =
     let scaled = mul-le-mul_left (3 * k) rejects in
     omega (arith, amortised, frames, scaled)
 
+-- what is counted of a run from a fresh card on
+abbrev Fresh : (Config → List Event → Type 0) → Type 0
+Fresh P = (c : Config) (events : List Event) → IsInRange c → AreAtLines (fresh c) events → P c events
+
+from_zero : Fresh IsAmortisedFromZero
+from_zero c events ranged within = omega (arith, amortised (fresh c) events (fresh_lines c ranged) within, fresh_sends_nothing c)
+
+six_octets : Fresh HasSixOctetsAFrame
+six_octets c events ranged within =
+    let end = after_all (fresh c) events in
+    omega (arith, run_heard (fresh c) events (fresh_lines c ranged) within, frames_few end)
+
+seven_octets : Fresh HasSevenOctetsAReject
+seven_octets c events ranged within =
+    let end = after_all (fresh c) events in
+    omega (arith, run_long (fresh c) events (fresh_lines c ranged) within, long_frames_few end)
+
+linear : Fresh IsLinear
+linear c events ranged within =
+    let ms = moments (fresh c) events in
+    let end = after_all (fresh c) events in
+    bound (sent ms) (may_send end) (heard ms) (accepted ms) (expired ms) (rejected ms) (window c) (octets_received end)
+    (from_zero c events ranged within) (six_octets c events ranged within) (seven_octets c events ranged within)
+
 pub frames_linear : FramesLinear
-frames_linear c events ranged within =
-    let card = fresh c in
-    let ms = moments card events in
-    let end = after_all card events in
-    let h = fresh_lines c ranged in
-    let k = window c in
-    let frames = frames_few end in
-    let rejects : 7 * rejected ms ≤ octets_received end = omega (arith, run_heard card events h within, long_frames_few end) in
-    let within_bound : sent ms + waiting end ≤ 2 * frames_heard end + accepted ms + (k + 1) * expired ms + k * rejected ms =
-    omega (arith, amortised card events h within, fresh_waits c) in
-    (within_bound, frames, rejects, bound (sent ms) (waiting end) (frames_heard end) (accepted ms) (expired ms) (rejected ms) k (octets_received end) within_bound frames rejects)
+frames_linear = record { amortised = from_zero; frames = six_octets; rejects = seven_octets; linear = linear }

@@ -10,7 +10,7 @@ use Rattle.lapd_line_machine.specs.Answer.{Answer, request, refused}
 use Rattle.lapd_line_machine.specs.Line.{Line, fresh_line}
 use Rattle.lapd_line_machine.specs.Machine as lines
 use Rattle.lapd_line_machine.specs.Machine.{unless_refused, unless_refused_told}
-use Rattle.lapd_line_machine.specs.Outcome.{Outcome, of_aim}
+use Rattle.lapd_line_machine.specs.Effect.{Effect, of_aim}
 use Rattle.lapd_line_machine.specs.Refusal.{Row, first_that_holds, bad_tei, no_link, bad_tei_or_group, no_link_nor_group, wrong_state, too_long, queue_full, unit_queue_full, pool_full, refusal}
 use Rattle.lapd_line_machine.specs.Request.{Request, Establish, Release, Data, Unit, Assign, Remove, Check, SetBusy, ClearBusy}
 use Rattle.lapd_line_machine.specs.Requested.{aim_of_request, carries_contents}
@@ -48,7 +48,7 @@ refusal_with_pool : (c : Config) (full : Bool) (r : Request) (l : Line) → refu
 refusal_with_pool c full (Establish service tei) l = no_pool full (refusal c false (Establish service tei) l)
 refusal_with_pool c full (Release service tei) l = no_pool full (refusal c false (Release service tei) l)
 refusal_with_pool c full (Data service tei contents) l =
-    last_row full (bad_tei tei ∷ no_link tei l ∷ wrong_state service tei (link.transfer contents) l ∷ too_long c contents ∷ queue_full c service tei l ∷ [])
+    last_row full (bad_tei tei ∷ no_link tei l ∷ wrong_state service tei (link.Data contents) l ∷ too_long c contents ∷ queue_full c service tei l ∷ [])
 refusal_with_pool c full (Unit service tei contents) l =
     last_row full (bad_tei_or_group tei ∷ no_link_nor_group tei l ∷ too_long c contents ∷ unit_queue_full c l ∷ [])
 refusal_with_pool c full (Assign tei) l = no_pool full (refusal c false (Assign tei) l)
@@ -58,11 +58,11 @@ refusal_with_pool c full (SetBusy service tei) l = no_pool full (refusal c false
 refusal_with_pool c full (ClearBusy service tei) l = no_pool full (refusal c false (ClearBusy service tei) l)
 
 -- The answer to a request, by what refuses it.
-abbrev answer_by : Option Refusal → Outcome → Answer
+abbrev answer_by : Option Refusal → Effect → Answer
 answer_by o outcome = unless_refused_told o outcome
 
 -- the card's answer is by its own and the pool's refusal
-combined : (carries full : Bool) (o : Option Refusal) (outcome : Outcome)
+combined : (carries full : Bool) (o : Option Refusal) (outcome : Effect)
     → cond ((carries && not (is_some o)) && full) (refused PoolFull) (answer_by o outcome)
     ≡ answer_by (with_pool carries full o) outcome
 combined true true None outcome = refl
@@ -80,7 +80,7 @@ answer_is card number r =
     combined (carries_contents r) (is_full card) (refusal card.config false r l) (lines.of_request card.config r l)
     ∙ ap (λ o. answer_by o (lines.of_request card.config r l)) (sym (refusal_with_pool card.config (is_full card) r l))
 
-refused_by : (o : Option Refusal) (outcome : Outcome) (why : Refusal) → (answer_by o outcome ≡ refused why) ↔ (o ≡ Some why)
+refused_by : (o : Option Refusal) (outcome : Effect) (why : Refusal) → (answer_by o outcome ≡ refused why) ↔ (o ≡ Some why)
 refused_by None outcome why = ((λ e. cc), (λ e. cc))
 refused_by (Some x) outcome why = ((λ e. cc), (λ e. cc))
 

@@ -15,7 +15,7 @@ use Rattle.lapd_line_machine.specs.Machine as lines
 use Rattle.lapd_line_machine.specs.Machine.{unless_refused, unless_refused_told}
 use Rattle.lapd_line_machine.specs.Octet.{aim_of_octet, with_received}
 use Rattle.lapd_line_machine.specs.Expiry.{aim_of_expiry}
-use Rattle.lapd_line_machine.specs.Outcome.{Aim, at_none, at_link, at_management, at_units, Outcome, of_aim, of_change, told_of_management}
+use Rattle.lapd_line_machine.specs.Effect.{Aim, at_none, at_link, at_management, at_units, Effect, of_aim, of_change, told_of_management}
 use Rattle.lapd_line_machine.specs.Pull.{Taken, taken, is_due, with_item, next_octet}
 use Rattle.lapd_line_machine.specs.Refusal.{refusal}
 use Rattle.lapd_line_machine.specs.Requested.{aim_of_request}
@@ -87,7 +87,7 @@ pull_adds c l true (Some t) h = record {
 }
 
 -- a refused request gives no octet, as an accepted one
-told_gives_none : (o : Option Refusal) (outcome : Outcome) → octet_in (unless_refused_told o outcome) ≡ []
+told_gives_none : (o : Option Refusal) (outcome : Effect) → octet_in (unless_refused_told o outcome) ≡ []
 told_gives_none None outcome = refl
 told_gives_none (Some why) outcome = refl
 

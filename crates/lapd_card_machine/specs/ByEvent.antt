@@ -1,36 +1,37 @@
 -- By how much each event lets rise what may be sent. The window k is the greater of both services.
-use Rattle.std.specs.Prelude.{ℕ, ◌+◌, ◌*◌, ◌≤◌, List, All}
+use Rattle.std.specs.Prelude.{◌≡◌, ℕ, ◌+◌, ◌*◌, ◌≤◌, List, All}
 use Rattle.lapd_frame.specs.declared.timers.Timer.{Timer}
 use Rattle.lapd_line_machine.specs.Answer as happening
 use Rattle.lapd_line_machine.specs.Answer.{octet, expiry, request, pull}
-use Rattle.lapd_line_machine.specs.Counts.{one, is_begun, is_accepted, rejects}
+use Rattle.lapd_line_machine.specs.Counts.{one, hears, is_begun, is_accepted, rejects}
 use Rattle.lapd_line_machine.specs.Expiry.{is_running}
 use Rattle.lapd_line_machine.specs.Request.{Request}
 use Rattle.lapd_card_machine.specs.Card.{Card, line_at}
-use Rattle.lapd_card_machine.specs.Counts.{waiting, frames_heard, window}
+use Rattle.lapd_card_machine.specs.Counts.{may_send, frames_heard, window}
 use Rattle.lapd_card_machine.specs.Event.{Event, at}
 use Rattle.lapd_card_machine.specs.Machine.{after, answer}
 use Rattle.lapd_card_machine.specs.Run.{Moment, moments}
 
--- An octet ends one frame at most that is recognised, and does where it brings an REJ with a valid N(R). By two where
+-- An octet ends one frame at most that is heard, and does where it brings an REJ with a valid N(R). By two where
 -- it does, and by k more where that is such an REJ; else by nothing.
 abbrev pub RisesByOctet : ℕ → ℕ → Card → Type 0
 RisesByOctet number value m =
     let e = at number (octet value) in
+    let heard = one (hears m.config e.what (line_at number m)) in
     let reject = one (rejects m.config e.what (line_at number m)) in
-    (frames_heard (after e m) ≤ frames_heard m + 1) × (reject + frames_heard m ≤ frames_heard (after e m))
-    × (waiting (after e m) + 2 * frames_heard m ≤ waiting m + 2 * frames_heard (after e m) + window m.config * reject)
+    (frames_heard (after e m) ≡ frames_heard m + heard) × (reject ≤ heard)
+    × (may_send (after e m) ≤ may_send m + 2 * heard + window m.config * reject)
 
 -- An expiry: by k + 1 where the timer was running, else by nothing.
 abbrev pub RisesByExpiry : ℕ → Timer → Card → Type 0
 RisesByExpiry number timer m =
-    waiting (after (at number (expiry timer)) m) ≤ waiting m + (window m.config + 1) * one (is_running timer (line_at number m))
+    may_send (after (at number (expiry timer)) m) ≤ may_send m + (window m.config + 1) * one (is_running timer (line_at number m))
 
 -- A request: by one where it is accepted, else by nothing.
 abbrev pub RisesByRequest : ℕ → Request → Card → Type 0
 RisesByRequest number r m =
     let e = at number (request r) in
-    waiting (after e m) ≤ waiting m + one (is_accepted e.what (answer e m))
+    may_send (after e m) ≤ may_send m + one (is_accepted e.what (answer e m))
 
 -- A pull that begins a frame lets it fall by one, or by two where the frame makes an acknowledgement needless. Any
 -- other pull leaves it as it is.
@@ -38,7 +39,7 @@ abbrev pub FallsByPull : ℕ → Card → Type 0
 FallsByPull number m =
     let e = at number pull in
     let begun = one (is_begun (answer e m)) in
-    (begun + waiting (after e m) ≤ waiting m) × (waiting m ≤ waiting (after e m) + 2 * begun)
+    (begun + may_send (after e m) ≤ may_send m) × (may_send m ≤ may_send (after e m) + 2 * begun)
 
 -- Any of them, as a moment of a run; and every moment of a run.
 abbrev pub RisesBy : ℕ → happening.Event → Card → Type 0

@@ -6,7 +6,7 @@ use Rattle.lapd_line_machine.specs.Counts as line
 use Rattle.lapd_card_machine.specs.Card.{Card, line_at}
 use Rattle.lapd_card_machine.specs.Run.{Moment}
 
--- Of all lines together: the octets received; the frames recognised in them, and those of four octets or more among
+-- Of all lines together: the octets received; the frames heard in them, and those of four octets or more among
 -- these; and what may be sent without anything else happening.
 abbrev pub octets_of_line : Line → ℕ
 octets_of_line l = length l.received
@@ -20,8 +20,8 @@ frames_heard card = sum_by (line.frames_heard card.config) card.lines
 abbrev pub long_frames_heard : Card → ℕ
 long_frames_heard card = sum_by (line.long_frames_heard card.config) card.lines
 
-abbrev pub waiting : Card → ℕ
-waiting card = sum_by (line.waiting card.config) card.lines
+abbrev pub may_send : Card → ℕ
+may_send card = sum_by (line.may_send card.config) card.lines
 
 -- The window: the greater of both services.
 abbrev pub window : Config → ℕ
@@ -33,6 +33,13 @@ is_sent m = line.is_begun m.answer
 
 abbrev pub sent : List Moment → ℕ
 sent ms = count_by is_sent ms
+
+-- the frames heard, by the octets that end them;
+abbrev pub is_heard : Moment → Bool
+is_heard m = line.hears m.card.config m.event.what (line_at m.event.line m.card)
+
+abbrev pub heard : List Moment → ℕ
+heard ms = count_by is_heard ms
 
 -- the requests that were accepted;
 abbrev pub is_accepted : Moment → Bool

@@ -1,29 +1,24 @@
 -- What is dropped costs nothing, and changes nothing.
-use Rattle.std.specs.Prelude.{◌≡◌, ℕ, List, Option, Some, None, IsSome, All}
+use Rattle.std.specs.Prelude.{◌≡◌, ℕ, List, Some, IsSome, All}
 use Rattle.lapd_bits.specs.declared.heard.Cause.{Cause}
-use Rattle.lapd_line_machine.specs.Answer.{Answer, octet, told, refused, pulled, dropped}
+use Rattle.lapd_line_machine.specs.Answer.{octet, told, dropped}
+use Rattle.lapd_line_machine.specs.Laws.{cause_in}
 use Rattle.lapd_line_machine.specs.Octet.{with_received}
 use Rattle.lapd_card_machine.specs.Event.{Event}
 use Rattle.lapd_card_machine.specs.Card.{Card, line_at}
-use Rattle.lapd_card_machine.specs.Counts.{waiting}
+use Rattle.lapd_card_machine.specs.Counts.{may_send}
 use Rattle.lapd_card_machine.specs.Machine.{after, with_line}
 use Rattle.lapd_card_machine.specs.Run.{Moment, moments}
 
--- Why an octet, or the frame that it ended, was dropped.
-abbrev pub cause_in : Answer → Option Cause
-cause_in (told t) = t.cause
-cause_in (refused why) = None
-cause_in (pulled value begun orders) = None
-
 -- Where the answer to an octet names a cause, whichever, what may be sent stays as it is: in one moment, and in every
 -- moment of a run.
-abbrev pub IsDropFree : Moment → Type 0
-IsDropFree moment =
+abbrev pub IsDropWithoutCost : Moment → Type 0
+IsDropWithoutCost moment =
     (value : ℕ) → moment.event.what ≡ octet value → IsSome (cause_in moment.answer) →
-    waiting (after moment.event moment.card) ≡ waiting moment.card
+    may_send (after moment.event moment.card) ≡ may_send moment.card
 
-abbrev pub AreDropsFree : Card → List Event → Type 0
-AreDropsFree m events = All IsDropFree (moments m events)
+abbrev pub AreDropsWithoutCost : Card → List Event → Type 0
+AreDropsWithoutCost m events = All IsDropWithoutCost (moments m events)
 
 -- And the cause is all that is told, and the card is as it was, but for the octet received on its line.
 abbrev pub with_octet : ℕ → ℕ → Card → Card

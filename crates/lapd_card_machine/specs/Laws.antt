@@ -1,5 +1,5 @@
 -- Laws of whole runs. Each holds for every list of events, and so for every front of a list.
-use Rattle.std.specs.Prelude.{◌≡◌, ◌↔◌, ℕ, ◌≤◌, ◌<◌, Some, IsSome, List, map}
+use Rattle.std.specs.Prelude.{◌≡◌, ◌↔◌, ℕ, ◌+◌, ◌≤◌, ◌<◌, Some, IsSome, List, map}
 use Rattle.lapd_frame.specs.declared.refusals.Refusal.{Refusal}
 use Rattle.lapd_frame.specs.declared.timers.Timer.{Timer}
 use Rattle.lapd_line_machine.specs.declared.config.Config.{Config}
@@ -9,13 +9,14 @@ use Rattle.lapd_line_machine.specs.Refusal.{refusal}
 use Rattle.lapd_line_machine.specs.Sound.{IsInRange}
 use Rattle.lapd_card_machine.specs.Event.{Event, at}
 use Rattle.lapd_card_machine.specs.Card.{Card, fresh, line_at, is_full}
+use Rattle.lapd_card_machine.specs.Counts.{frames_heard, heard}
 use Rattle.lapd_card_machine.specs.Machine.{after, answer}
 use Rattle.lapd_card_machine.specs.Run.{Moment, run, moments, after_all, AreAtLines}
 use Rattle.lapd_card_machine.specs.Sound.{IsSound}
 use Rattle.lapd_card_machine.specs.Stored.{stored, limit}
 use Rattle.lapd_card_machine.specs.ByEvent.{RisesByOctet, RisesByExpiry, RisesByRequest, FallsByPull, ArePriced}
-use Rattle.lapd_card_machine.specs.Drops.{AreDropsFree, AreDropsWithoutEffect}
-use Rattle.lapd_card_machine.specs.Promises.{IsWithinLimit, IsAmortised, IsLinear, IsNumbered, IsNumberedFromZero, IsTextual, IsIsolated, IsNeverFull}
+use Rattle.lapd_card_machine.specs.Drops.{AreDropsWithoutCost, AreDropsWithoutEffect}
+use Rattle.lapd_card_machine.specs.Promises.{IsWithinLimit, IsAmortised, IsAmortisedFromZero, HasSixOctetsAFrame, HasSevenOctetsAReject, IsLinear, IsNumbered, IsNumberedFromZero, IsTextual, IsIsolated, IsNeverFull}
 
 -- A run as one fold is its moments.
 abbrev pub reply_of : Moment → ℕ × Answer
@@ -45,10 +46,10 @@ pub record RefusedByTheTable : Type 0 where
   pub unchanged : (card : Card) (number : ℕ) (r : Request) →
       IsSome (refusal card.config (is_full card) r (line_at number card)) → after (at number (request r)) card ≡ card
 
--- The frames sent, and those that may still be sent, rise by at most two for each frame that is recognised, by one for
+-- The frames sent, and those that may still be sent, rise by at most two for each frame that is heard, by one for
 -- each request that is accepted, by k + 1 for each expiry of a running timer, and by k for each REJ with a valid N(R).
 -- Pulls and refusals let them rise by nothing, and so do drops by the deframer; a frame dropped later is one that was
--- recognised here, though it costs nothing (`DropsCostNothing`).
+-- heard here, though it costs nothing (`DropsCostNothing`).
 abbrev pub FramesAmortised : Type 0
 FramesAmortised = (card : Card) (events : List Event) → IsSound card → AreAtLines card events → IsAmortised card events
 
@@ -62,17 +63,26 @@ pub record FramesByEvent : Type 0 where
 
 -- What is dropped costs nothing, in no moment of a run.
 abbrev pub DropsCostNothing : Type 0
-DropsCostNothing = (card : Card) (events : List Event) → IsSound card → AreAtLines card events → AreDropsFree card events
+DropsCostNothing = (card : Card) (events : List Event) → IsSound card → AreAtLines card events → AreDropsWithoutCost card events
 
 -- And nothing else is told of it, and it changes nothing but the octets received, from any card on.
 abbrev pub DropsChangeNothing : Type 0
 DropsChangeNothing = (card : Card) (events : List Event) → AreDropsWithoutEffect card events
 
--- From a fresh card on, where nothing may be sent and no frame was heard before, they are within the same bound; and as
--- a frame has six octets of its own at least, with its check and a flag, and an REJ seven, they are linear in the
--- octets received, the accepted requests and the expiries.
-abbrev pub FramesLinear : Type 0
-FramesLinear = (c : Config) (events : List Event) → IsInRange c → AreAtLines (fresh c) events → IsLinear c events
+-- The frames heard in the moments of a run are those by which the frames heard in all octets received grow.
+abbrev pub FramesCounted : Type 0
+FramesCounted =
+    (card : Card) (events : List Event) → IsSound card → AreAtLines card events →
+    frames_heard (after_all card events) ≡ frames_heard card + heard (moments card events)
+
+-- From a fresh card on, where nothing may be sent before, they are within the same bound; and as a frame has six octets
+-- of its own at least, with its check and a flag, and an REJ seven, they are linear in the octets received, the accepted
+-- requests and the expiries.
+pub record FramesLinear : Type 0 where
+  pub amortised : (c : Config) (events : List Event) → IsInRange c → AreAtLines (fresh c) events → IsAmortisedFromZero c events
+  pub frames : (c : Config) (events : List Event) → IsInRange c → AreAtLines (fresh c) events → HasSixOctetsAFrame c events
+  pub rejects : (c : Config) (events : List Event) → IsInRange c → AreAtLines (fresh c) events → HasSevenOctetsAReject c events
+  pub linear : (c : Config) (events : List Event) → IsInRange c → AreAtLines (fresh c) events → IsLinear c events
 
 -- Each link's deliveries are numbered without gap since its establishment, each told in the moment of its frame; and on
 -- a card that began fresh from 0 on.

@@ -5,10 +5,10 @@ use Rattle.lapd_line_machine.specs.declared.config.Config.{Config}
 use Rattle.lapd_line_machine.specs.Counts.{is_pool_full}
 use Rattle.lapd_line_machine.specs.Line.{link_count}
 use Rattle.lapd_card_machine.specs.Card.{Card, fresh, line_at}
-use Rattle.lapd_card_machine.specs.Counts.{waiting, frames_heard, octets_received, window, sent, accepted, expired, rejected}
+use Rattle.lapd_card_machine.specs.Counts.{may_send, octets_received, window, sent, heard, accepted, expired, rejected}
 use Rattle.lapd_card_machine.specs.Event.{Event}
 use Rattle.lapd_card_machine.specs.Isolation.{events_at, answers_at, answer_in}
-use Rattle.lapd_card_machine.specs.Numbered.{LinkName, history, received_by, AreNumbered, frames_of, deliveries_of}
+use Rattle.lapd_card_machine.specs.Numbered.{LinkName, History, history, received_by, AreNumbered, frames_of, deliveries_of}
 use Rattle.lapd_card_machine.specs.Pulled.{octets_pulled, frames_begun, GoesOn}
 use Rattle.lapd_card_machine.specs.Run.{Moment, moments, after_all}
 use Rattle.lapd_card_machine.specs.Stored.{stored, limit}
@@ -17,26 +17,42 @@ use Rattle.lapd_card_machine.specs.Stored.{stored, limit}
 abbrev pub IsWithinLimit : Card → List Event → Type 0
 IsWithinLimit m events = stored (after_all m events) ≤ limit m.config
 
--- The frames sent, and those that may still be sent, rise by at most two for each frame that is recognised, by one for
--- each request that is accepted, by k + 1 for each expiry of a running timer, and by k for each REJ with a valid N(R).
+-- The frames sent, and those that may be sent at the end, are at most those that might be sent at the beginning, two
+-- for each frame heard, one for each accepted request, k + 1 for each expiry of a running timer, and k for each REJ with
+-- a valid N(R); all of them counted over the same moments.
 abbrev pub IsAmortised : Card → List Event → Type 0
 IsAmortised m events =
     let ms = moments m events in
     let end = after_all m events in
     let k = window m.config in
-    sent ms + waiting end + 2 * frames_heard m ≤ waiting m + 2 * frames_heard end + accepted ms + (k + 1) * expired ms + k * rejected ms
+    sent ms + may_send end ≤ may_send m + 2 * heard ms + accepted ms + (k + 1) * expired ms + k * rejected ms
 
--- On a card as it begins nothing may be sent, and no frame was recognised: so the same bound without them. And frames
--- recognised, REJ and frames sent are linear in the octets received.
+-- A card as it begins has nothing to send, so there it is the same bound without that.
+abbrev pub IsAmortisedFromZero : Config → List Event → Type 0
+IsAmortisedFromZero c events =
+    let ms = moments (fresh c) events in
+    let end = after_all (fresh c) events in
+    let k = window c in
+    sent ms + may_send end ≤ 2 * heard ms + accepted ms + (k + 1) * expired ms + k * rejected ms
+
+-- Each frame heard has taken six octets of the octets received: an address of two, a control field of one, a check of
+-- two and a flag.
+abbrev pub HasSixOctetsAFrame : Config → List Event → Type 0
+HasSixOctetsAFrame c events = 6 * heard (moments (fresh c) events) ≤ octets_received (after_all (fresh c) events)
+
+-- And each REJ with a valid N(R) seven, as its control field has two.
+abbrev pub HasSevenOctetsAReject : Config → List Event → Type 0
+HasSevenOctetsAReject c events = 7 * rejected (moments (fresh c) events) ≤ octets_received (after_all (fresh c) events)
+
+-- So the frames sent are linear in the octets received, the accepted requests and the expiries: two frames for six
+-- octets, k more for seven. In twenty-firsts of a frame, as 21 is the least multiple of 3 and 7, an octet is worth
+-- 21 * 2 / 6 = 7 of the former and 21 * k / 7 = 3 * k of the latter.
 abbrev pub IsLinear : Config → List Event → Type 0
 IsLinear c events =
     let ms = moments (fresh c) events in
-    let end = after_all (fresh c) events in
-    let octets = octets_received end in
+    let octets = octets_received (after_all (fresh c) events) in
     let k = window c in
-    (sent ms + waiting end ≤ 2 * frames_heard end + accepted ms + (k + 1) * expired ms + k * rejected ms)
-    × (6 * frames_heard end ≤ octets) × (7 * rejected ms ≤ octets)
-    × (21 * sent ms ≤ (7 + 3 * k) * octets + 21 * accepted ms + 21 * (k + 1) * expired ms)
+    21 * sent ms ≤ (7 + 3 * k) * octets + 21 * accepted ms + 21 * (k + 1) * expired ms
 
 -- On a card as it begins, what a line answers but for a full pool is what it would answer on a card of its own, to the
 -- events at it that did not find the pool full.
@@ -57,14 +73,18 @@ IsNeverFull c events = c.lines * (2 * c.terminals * c.queue + c.unit_queue) ≤ 
 abbrev pub HasLink : Card → LinkName → Type 0
 HasLink card name = (name.line < card.config.lines) × (name.number < link_count card.config)
 
--- What each link has delivered since its latest establishment is numbered: the next delivery is the contents of the
--- first eligible frame that has the next number, modulo 128, and each is reported in the moment of its frame. V(R)
+-- What a link has delivered since its latest establishment is numbered: the next delivery is the contents of the
+-- first eligible frame that has the next number, modulo 128, and each is reported in the moment of its frame. Its V(R)
 -- counts them.
-pub record IsNumberedAt (m : Card) (events : List Event) (name : LinkName) : Type 0 where
-  pub numbered : let h = history name m (moments m events) in Numbered h.first (frames_of h.shares) (deliveries_of h.shares)
-  pub at_once : let h = history name m (moments m events) in AreNumbered h.first h.shares
-  pub counted : let h = history name m (moments m events) in received_by name (after_all m events) ≡ h.first + length (deliveries_of h.shares)
+pub record IsNumberedAs (h : History) (received : ℕ) : Type 0 where
+  pub numbered : Numbered h.first (frames_of h.shares) (deliveries_of h.shares)
+  pub at_once : AreNumbered h.first h.shares
+  pub counted : received ≡ h.first + length (deliveries_of h.shares)
 
+abbrev pub IsNumberedAt : Card → List Event → LinkName → Type 0
+IsNumberedAt m events name = IsNumberedAs (history name m (moments m events)) (received_by name (after_all m events))
+
+-- So it is with each link.
 abbrev pub IsNumbered : Card → List Event → Type 0
 IsNumbered m events = (name : LinkName) → HasLink m name → IsNumberedAt m events name
 

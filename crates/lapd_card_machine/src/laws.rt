@@ -1,7 +1,7 @@
 //! What holds of whole runs of the machine. Each law is the contract of a call that does nothing; it holds for every
 //! list of events, and so for every front of a list.
 
-ghost use Rattle.lapd_card_machine.specs.Laws.{CardsStaySound, DeliveriesNumbered, DropsChangeNothing, DropsCostNothing, FramesAmortised, FramesByEvent, FramesLinear, LinesIsolated, PoolNeverFull, RefusedByTheTable, RunIsMoments, StoredWithinLimit, TextGoesOn};
+ghost use Rattle.lapd_card_machine.specs.Laws.{CardsStaySound, DeliveriesNumbered, DropsChangeNothing, DropsCostNothing, FramesAmortised, FramesByEvent, FramesCounted, FramesLinear, LinesIsolated, PoolNeverFull, RefusedByTheTable, RunIsMoments, StoredWithinLimit, TextGoesOn};
 
 /// A run as one fold is its moments, one after the other.
 pub fn run_is_moments()
@@ -19,18 +19,24 @@ pub fn stored_within_limit()
 {}
 
 /// From any sound card on, whatever the number of pulls: the frames sent, and those that may still be sent, are at most
-/// those that could be sent before, two for each frame recognised, one for each accepted request, k + 1 for each expiry
+/// those that could be sent before, two for each frame heard, one for each accepted request, k + 1 for each expiry
 /// of a running timer, and k for each REJ with a valid N(R), where k is the greater of both windows. So no terminal can
 /// make a card a source of frames.
 pub fn frames_amortised()
     ensures { FramesAmortised }
 {}
 
-/// The same for single events, and so in every moment of a run. What may be sent rises by at most two for an octet that
-/// ends a frame which is recognised (one octet ends one frame at most), and by k more where that is an REJ with a valid
+/// The frames heard in the moments of a run, as [`frames_amortised`] counts them, are those by which the frames heard in
+/// all octets received grow.
+pub fn frames_counted()
+    ensures { FramesCounted }
+{}
+
+/// The same bound for single events, and so in every moment of a run. What may be sent rises by at most two for an octet that
+/// ends a frame which is heard (one octet ends one frame at most), and by k more where that is an REJ with a valid
 /// N(R); by k + 1 for an expiry of a running timer; by one for an accepted request. A drop by the deframer (abort,
 /// ragged, short, frame check), a refusal and an expiry of a timer that does not run let it rise by nothing. A frame
-/// that is dropped later is one that was recognised: see [`drops_cost_nothing`]. A pull that begins a frame lets it
+/// that is dropped later is one that was heard: see [`drops_cost_nothing`]. A pull that begins a frame lets it
 /// fall by one or two, and any other pull leaves it as it is.
 pub fn frames_by_event()
     ensures { FramesByEvent }
@@ -80,7 +86,7 @@ pub fn lines_isolated()
     ensures { LinesIsolated }
 {}
 
-/// From a fresh card on, the frames sent, and those that may still be sent, are at most two for each frame recognised,
+/// From a fresh card on, the frames sent, and those that may still be sent, are at most two for each frame heard,
 /// one for each accepted request, k + 1 for each expiry of a running timer, and k for each REJ with a valid N(R); and
 /// they are linear in the octets received, the accepted requests and those expiries: each frame takes six octets of its
 /// line at least, and each REJ seven.

@@ -36,15 +36,15 @@ then_equal Less s e = cc
 then_equal Equal s e = (refl, e)
 then_equal Greater s e = cc
 
-same_service : (a b : Service) → rank_of_service a ≡ rank_of_service b → a ≡ b
-same_service Call Call e = refl
-same_service Call Packet e = absurd (omega arith)
-same_service Packet Call e = absurd (omega arith)
-same_service Packet Packet e = refl
+service_by_rank : (a b : Service) → rank_of_service a ≡ rank_of_service b → a ≡ b
+service_by_rank Call Call e = refl
+service_by_rank Call Packet e = absurd (omega arith)
+service_by_rank Packet Call e = absurd (omega arith)
+service_by_rank Packet Packet e = refl
 
 same_by_ranks : (a b : Timer) → kind_rank a ≡ kind_rank b → tei_rank a ≡ tei_rank b → service_rank a ≡ service_rank b → a ≡ b
-same_by_ranks (T200 s x) (T200 t y) k e f = let g = same_service s t f in cc
-same_by_ranks (T203 s x) (T203 t y) k e f = let g = same_service s t f in cc
+same_by_ranks (T200 s x) (T200 t y) k e f = let g = service_by_rank s t f in cc
+same_by_ranks (T203 s x) (T203 t y) k e f = let g = service_by_rank s t f in cc
 same_by_ranks T201 T201 k e f = refl
 same_by_ranks (T200 s x) (T203 t y) k e f = absurd (omega arith)
 same_by_ranks (T200 s x) T201 k e f = absurd (omega arith)

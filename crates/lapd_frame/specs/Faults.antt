@@ -37,12 +37,23 @@ pub record IsAddressed (side : Side) (octets : List ℕ) (address : Address) : T
   pub extension : has_bad_extension (slice_index octets 0) (slice_index octets 1) ≡ false
   pub begins : HasAddress side octets address
 
+-- No control field of table 5 stands there, or one does.
+abbrev pub IsUndefined : Address → List ℕ → Type 0
+IsUndefined address octets = (control : Control) → HasControl address octets control → ⊥
+
+abbrev pub IsDefined : Address → List ℕ → Type 0
+IsDefined address octets = (control : Control) × HasControl address octets control
+
+-- They are the octets of no frame.
+abbrev pub SpellsNone : Side → List ℕ → Type 0
+SpellsNone side octets = (frame : Parts) → Spells side frame octets → ⊥
+
 -- Why octets spell no frame: the first that holds of `Short`, `BadExtension`, `Undefined` and `WrongSize`.
 abbrev pub IsFault : Side → List ℕ → ReadFault → Type 0
 IsFault side octets Short = IsTrue (is_short octets)
 IsFault side octets BadExtension = (is_short octets ≡ false) × IsTrue (has_bad_extension (slice_index octets 0) (slice_index octets 1))
-IsFault side octets (Undefined address) = IsAddressed side octets address × ((control : Control) → HasControl address octets control → ⊥)
-IsFault side octets (WrongSize address) = IsAddressed side octets address × ((control : Control) × HasControl address octets control) × ((frame : Parts) → Spells side frame octets → ⊥)
+IsFault side octets (Undefined address) = IsAddressed side octets address × IsUndefined address octets
+IsFault side octets (WrongSize address) = IsAddressed side octets address × IsDefined address octets × SpellsNone side octets
 
 -- The fault in words.
 abbrev pub text_of : ReadFault → List ℕ

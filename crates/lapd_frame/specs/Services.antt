@@ -1,5 +1,5 @@
 -- The services of SAPI 0 and 16 (Q.921 clause 3.3.3, table 2), and the letters of the error codes.
-use Rattle.std.specs.Prelude.{ℕ, ◌==◌, if◌then◌else◌, Option, Some, None}
+use Rattle.std.specs.Prelude.{ℕ, ◌==◌, Bool, true, false, if◌then◌else◌, Option, Some, None}
 use Rattle.lapd_frame.specs.declared.services.Service.{Service}
 use Rattle.lapd_frame.specs.declared.services.Service.TheVariants.{Call, Packet}
 use Rattle.lapd_frame.specs.declared.notes.ErrorCode.{ErrorCode}
@@ -11,6 +11,12 @@ sapi_of Packet = 16
 
 abbrev pub service_of : ℕ → Option Service
 service_of sapi = if sapi == 0 then Some Call else if sapi == 16 then Some Packet else None
+
+abbrev pub same_service : Service → Service → Bool
+same_service Call Call = true
+same_service Call Packet = false
+same_service Packet Call = false
+same_service Packet Packet = true
 
 -- in ASCII
 abbrev pub letter_of : ErrorCode → ℕ

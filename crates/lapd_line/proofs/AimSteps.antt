@@ -17,18 +17,18 @@ use Rattle.lapd_store.specs.Store.{Store}
 use Rattle.lapd_line_machine.specs.Answer.{Told}
 use Rattle.lapd_line_machine.specs.Line.{Line, place_in}
 use Rattle.lapd_line_machine.specs.Octet.{addressed, at_place, to_service, management_sapi, group_tei, drop_for, message_of, aim_of_long, aim_of_reading}
-use Rattle.lapd_line_machine.specs.Outcome.{Aim, at_none, at_management, of_aim}
+use Rattle.lapd_line_machine.specs.Effect.{Aim, at_none, at_management, of_aim}
 use Rattle.lapd_line.specs.declared.aims.Addressee.{Addressee}
 use Rattle.lapd_line.specs.declared.aims.Addressee.TheVariants as to
-use Rattle.lapd_line.specs.declared.entities.Entities.{Entities}
-use Rattle.lapd_line.specs.declared.reports.Outcome.{Outcome}
+use Rattle.lapd_line.specs.declared.link_layer.LinkLayer.{LinkLayer}
+use Rattle.lapd_line.specs.declared.reports.BareReport.{BareReport}
 use Rattle.lapd_line.specs.Aims as aims
 use Rattle.lapd_line.specs.Aims.{addressee, of_service, aim_at, is_ui}
-use Rattle.lapd_line.specs.Entities.{Stands, Serves, always}
+use Rattle.lapd_line.specs.LinkLayer.{Stands, Serves, always}
 use Rattle.lapd_line.specs.Reports.{told_in}
 
 -- one aim is the other, for every past that stands
-pub serves_as : {aim' aim : Line → Aim} {octets : List ℕ} {e new : Entities} {s t : Store} {o : Outcome} → ((others : List Owned) (m : Line) → Stands e s others m → aim m ≡ aim' m)
+pub serves_as : {aim' aim : Line → Aim} {octets : List ℕ} {e new : LinkLayer} {s t : Store} {o : BareReport} → ((others : List Owned) (m : Line) → Stands e s others m → aim m ≡ aim' m)
     → Serves aim' octets e s new t o → Serves aim octets e s new t o
 serves_as {aim'} {aim} {octets} {e} {new} {s} {t} {o} same h = record {
   config = h.config;
@@ -38,7 +38,7 @@ serves_as {aim'} {aim} {octets} {e} {new} {s} {t} {o} same h = record {
 }
 
 -- nothing changes, and something is told
-pub serves_none : (e : Entities) (s : Store) (octets : List ℕ) (o : Outcome) (told : Told) → told_in octets o ≡ told → Serves (always (at_none told)) octets e s e s o
+pub serves_none : (e : LinkLayer) (s : Store) (octets : List ℕ) (o : BareReport) (told : Told) → told_in octets o ≡ told → Serves (always (at_none told)) octets e s e s o
 serves_none e s octets o told is = record {
   config = refl;
   limits = record { slots = refl; width = refl };
@@ -65,7 +65,7 @@ module _ (l : Line) (what : link.Received) (to_management : Aim) where
       go true false = refl
       go false group = to_service-aimed address.tei (service_of address.sapi)
 
-pub aimed : (e : Entities) (s : Store) (others : List Owned) (m : Line) (address : Address) (what : link.Received) (to_management : Aim) (whom : Addressee)
+pub aimed : (e : LinkLayer) (s : Store) (others : List Owned) (m : Line) (address : Address) (what : link.Received) (to_management : Aim) (whom : Addressee)
     → whom ≡ addressee e.teis address → Stands e s others m → addressed m address what to_management ≡ aim_at whom what to_management
 aimed e s others m address what to_management whom is st =
     addressed-aimed m what to_management address ∙ ap (λ t. aim_at (addressee t address) what to_management) st.management ∙ ap (λ w. aim_at w what to_management) (sym is)

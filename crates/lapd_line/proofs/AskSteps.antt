@@ -28,16 +28,16 @@ use Rattle.lapd_link.specs.declared.outcome.Answer.{Answer}
 use Rattle.lapd_link.specs.Outcome.{told_with}
 use Rattle.lapd_link_machine.specs.Steps.{begun}
 use Rattle.lapd_line_machine.specs.Line.{link_number, with_link}
-use Rattle.lapd_line_machine.specs.Outcome.{at_link, of_aim, told_of_link}
+use Rattle.lapd_line_machine.specs.Effect.{at_link, of_aim, told_of_link}
 use Rattle.lapd_line_machine.specs.Requested.{at_requested}
-use Rattle.lapd_line.specs.declared.entities.Entities.{Entities}
-use Rattle.lapd_line.specs.declared.reports.Outcome.{Outcome}
-use Rattle.lapd_line.specs.Entities as entities
-use Rattle.lapd_line.specs.Entities.{Stands, Standing, Serves}
+use Rattle.lapd_line.specs.declared.link_layer.LinkLayer.{LinkLayer}
+use Rattle.lapd_line.specs.declared.reports.BareReport.{BareReport}
+use Rattle.lapd_line.specs.LinkLayer as layer
+use Rattle.lapd_line.specs.LinkLayer.{Stands, Standing, Serves}
 use Rattle.lapd_line.specs.Links as all
 use Rattle.lapd_line.specs.Links.{HasTerms, Refuses, machine_at}
 use Rattle.lapd_line.specs.Reports.{told_in}
-use Rattle.lapd_line.proofs.EntitySteps.{beside_links, links_part, named, numbered, at_link_serves}
+use Rattle.lapd_line.proofs.LayerSteps.{beside_links, links_part, named, numbered, at_link_serves}
 use Rattle.lapd_line.specs.Asks.{link_refusal, management_refusal}
 
 -- a test that refuses, and its opposite
@@ -50,20 +50,20 @@ module _ (c : Config) (full : Bool) (service : Service) (tei : ℕ) (l : Line) w
   with_rest : (x y : Option Refusal) → x ≡ y → cond (nat_lt 126 tei) (Some BadTei) (cond (not (has_tei tei l)) (Some NoLink) x) ≡ cond (nat_lt 126 tei) (Some BadTei) (cond (not (has_tei tei l)) (Some NoLink) y)
   with_rest x y = ap (λ r. cond (nat_lt 126 tei) (Some BadTei) (cond (not (has_tei tei l)) (Some NoLink) r))
 
-  pub establish_rows : refusal c full (Establish service tei) l ≡ link_refusal c full service tei link.establish l
-  establish_rows = with_rest _ _ (turned (serves (link_of service tei l).state link.establish) (Some WrongState) None)
+  pub establish_rows : refusal c full (Establish service tei) l ≡ link_refusal c full service tei link.Establish l
+  establish_rows = with_rest _ _ (turned (serves (link_of service tei l).state link.Establish) (Some WrongState) None)
 
-  pub release_rows : refusal c full (Release service tei) l ≡ link_refusal c full service tei link.release l
-  release_rows = with_rest _ _ (turned (serves (link_of service tei l).state link.release) (Some WrongState) None)
+  pub release_rows : refusal c full (Release service tei) l ≡ link_refusal c full service tei link.Release l
+  release_rows = with_rest _ _ (turned (serves (link_of service tei l).state link.Release) (Some WrongState) None)
 
-  pub set_busy_rows : refusal c full (SetBusy service tei) l ≡ link_refusal c full service tei link.set_busy l
-  set_busy_rows = with_rest _ _ (turned (serves (link_of service tei l).state link.set_busy) (Some WrongState) None)
+  pub set_busy_rows : refusal c full (SetBusy service tei) l ≡ link_refusal c full service tei link.SetBusy l
+  set_busy_rows = with_rest _ _ (turned (serves (link_of service tei l).state link.SetBusy) (Some WrongState) None)
 
-  pub clear_busy_rows : refusal c full (ClearBusy service tei) l ≡ link_refusal c full service tei link.clear_busy l
-  clear_busy_rows = with_rest _ _ (turned (serves (link_of service tei l).state link.clear_busy) (Some WrongState) None)
+  pub clear_busy_rows : refusal c full (ClearBusy service tei) l ≡ link_refusal c full service tei link.ClearBusy l
+  clear_busy_rows = with_rest _ _ (turned (serves (link_of service tei l).state link.ClearBusy) (Some WrongState) None)
 
-  pub data_rows : (contents : List ℕ) → refusal c full (Data service tei contents) l ≡ link_refusal c full service tei (link.transfer contents) l
-  data_rows contents = with_rest _ _ (turned (serves (link_of service tei l).state (link.transfer contents)) (Some WrongState) _)
+  pub data_rows : (contents : List ℕ) → refusal c full (Data service tei contents) l ≡ link_refusal c full service tei (link.Data contents) l
+  data_rows contents = with_rest _ _ (turned (serves (link_of service tei l).state (link.Data contents)) (Some WrongState) _)
 
 -- and those of a request of management
 pub assign_rows : (c : Config) (full : Bool) (tei : ℕ) (l : Line) → refusal c full (Assign tei) l ≡ management_refusal tei (teis.assign tei) l
@@ -88,11 +88,11 @@ granted_same t m full request = go (serves m.state request) request
     room false false f e = refl
 
     go : (b : Bool) (r : link.Request) → cond b (refusal_for_room t m full r) (Some WrongState) ≡ None → cond b (refusal_for_room t m false r) (Some WrongState) ≡ None
-    go true link.establish e = e
-    go true link.release e = e
-    go true (link.transfer octets) e = room (nat_lt t.n201 (length octets)) (links.is_queue_full t m) full e
-    go true link.set_busy e = e
-    go true link.clear_busy e = e
+    go true link.Establish e = e
+    go true link.Release e = e
+    go true (link.Data octets) e = room (nat_lt t.n201 (length octets)) (links.is_queue_full t m) full e
+    go true link.SetBusy e = e
+    go true link.ClearBusy e = e
     go false r e = e
 
 -- a TEI without a place is not on the line
@@ -113,7 +113,7 @@ off_line places tei = go (nat_lt (prefix_len (λ x. not (has tei x)) places) (le
     go false e h = none_any (has tei) places (ltb-false _ _ e)
 
 -- where the link of a request is, the link refuses, or not
-module _ (e : Entities) (s : Store) (others : List Owned) (m : Line) (st : Stands e s others m) (service : Service) (tei : ℕ) (full : Bool) (request : link.Request) where
+module _ (e : LinkLayer) (s : Store) (others : List Owned) (m : Line) (st : Stands e s others m) (service : Service) (tei : ℕ) (full : Bool) (request : link.Request) where
   pub no_link : nat_lt 126 tei ≡ false → place_of tei e.teis.places ≡ None → link_refusal e.config full service tei request m ≡ Some NoLink
   no_link low none =
       ap (λ b. cond b (Some BadTei) (cond (not (has_tei tei m)) (Some NoLink) (links.refusal (terms e.config service tei) (link_of service tei m) full request))) low
@@ -137,7 +137,7 @@ same_step : (t : Terms) (l : machine.Link) (full : Bool) (request : link.Request
 same_step t l full request granted =
     ap (λ o. elim o [ None ↦ links.granted t request (begun l) | Some _ ↦ begun l ]) (granted ∙ sym (granted_same t l full request granted))
 
-pub asked_serves : (e : Entities) (s t : Store) (new : List Link) (service : Service) (tei place number : ℕ) (full : Bool) (request : link.Request) (answer : Answer) (outcome : Outcome)
+pub asked_serves : (e : LinkLayer) (s t : Store) (new : List Link) (service : Service) (tei place number : ℕ) (full : Bool) (request : link.Request) (answer : Answer) (outcome : BareReport)
     → Standing e s → place_of tei e.teis.places ≡ Some place → (place ≤ 8 → number ≡ link_number place service)
     → Refuses number full request e.links s None
     → all.Serves number (link.requested request full) [] e.links s new t answer
@@ -151,7 +151,7 @@ asked_serves e s t new service tei place number full request answer outcome stan
     record {
       config = refl;
       limits = whole.limits;
-      stands = λ others m st. subst (λ o. entities.Stands (record e { links = new }) t others o.line) (one others m st at same) (whole.stands others m st);
+      stands = λ others m st. subst (λ o. layer.Stands (record e { links = new }) t others o.line) (one others m st at same) (whole.stands others m st);
       told = λ others m st. whole.told others m st ∙ ap (λ o. o.told) (one others m st at same);
     }
   where
@@ -166,6 +166,6 @@ asked_serves e s t new service tei place number full request answer outcome stan
         ∙ ap (λ o. of_aim e.config (at_requested service tei request o) m) (sym (ap (λ x. place_of tei x.places) st.management ∙ here))
 
 -- management is asked of a TEI of a terminal
-pub managed : (e : Entities) (s : Store) (others : List Owned) (m : Line) (tei : ℕ) (what : teis.Event) (why : Option Refusal) → Stands e s others m → nat_lt 126 tei ≡ false
+pub managed : (e : LinkLayer) (s : Store) (others : List Owned) (m : Line) (tei : ℕ) (what : teis.Event) (why : Option Refusal) → Stands e s others m → nat_lt 126 tei ≡ false
     → teis.refusal what e.teis ≡ why → management_refusal tei what m ≡ why
 managed e s others m tei what why st low is = ap (λ b. cond b (Some BadTei) (teis.refusal what m.management)) low ∙ ap (teis.refusal what) st.management ∙ is

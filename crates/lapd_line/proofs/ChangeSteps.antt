@@ -23,22 +23,22 @@ use Rattle.lapd_tei.specs.Machine.{Management}
 use Rattle.lapd_tei.specs.Outcome.{told_of}
 use Rattle.lapd_tei.proofs.LawLemmas.{changes_are_told}
 use Rattle.lapd_line_machine.specs.Line.{Line, link_number, link_count, service_at, place_at, tei_at, terms, link_at}
-use Rattle.lapd_line_machine.specs.Outcome.{at_management, of_change, of_management, told_of_link, told_of_management, with_cleared, with_opened}
+use Rattle.lapd_line_machine.specs.Effect.{at_management, of_change, of_management, told_of_link, told_of_management, with_cleared, with_opened}
 use Rattle.lapd_line_machine.specs.Sound.{IsSound, IsSoundAt}
 use Rattle.lapd_line_machine.proofs.AimsSound.{management_event_sound}
 use Rattle.lapd_line_machine.proofs.Numbers.{place_at-number, service_at-number, number_within, other_place, at_place}
-use Rattle.lapd_line.specs.declared.entities.Entities.{Entities}
-use Rattle.lapd_line.specs.declared.reports.Outcome as reports
+use Rattle.lapd_line.specs.declared.link_layer.LinkLayer.{LinkLayer}
+use Rattle.lapd_line.specs.declared.reports.BareReport as reports
 use Rattle.lapd_line.specs.Reports.{told_in}
 use Rattle.lapd_line.specs.Units.{unit_pairs}
 use Rattle.lapd_line.specs.Links.{LinksStand, HasTerms, links_pairs, terms_in, machine_at}
-use Rattle.lapd_line.specs.Entities.{Stands, Serves, always}
+use Rattle.lapd_line.specs.LinkLayer.{Stands, Serves, always}
 use Rattle.lapd_line.specs.Changes.{IsAnswerTo, with_management}
 use Rattle.lapd_line.specs.Links as links
-use Rattle.lapd_line.proofs.EntitySteps.{links_part, named, few_places}
+use Rattle.lapd_line.proofs.LayerSteps.{links_part, named, few_places}
 
 -- The entities after an event of TEI management: the table is another one, and so may the links be.
-module _ (e : Entities) (before : Management) (what : teis.Event) (outcome : TeiOutcome) (is : IsAnswerTo what before e.teis outcome) where
+module _ (e : LinkLayer) (before : Management) (what : teis.Event) (outcome : TeiOutcome) (is : IsAnswerTo what before e.teis outcome) where
   -- the table has moved as it is told
   pub moved : (s : Store) (others : List Owned) (m : Line) → Stands (with_management before e) s others m → Moves before.places outcome.change e.teis.places
   moved s others m st =
@@ -78,7 +78,7 @@ module _ (e : Entities) (before : Management) (what : teis.Event) (outcome : Tei
   }
 
   -- The table stays as it was.
-  pub unmoved : (s : Store) (octets : List ℕ) (o : reports.Outcome) → outcome.change ≡ None → told_in octets o ≡ told_of_management (told_of outcome)
+  pub unmoved : (s : Store) (octets : List ℕ) (o : reports.BareReport) → outcome.change ≡ None → told_in octets o ≡ told_of_management (told_of outcome)
       → Serves (always (at_management what)) octets (with_management before e) s e s o
   unmoved s octets o none told = record {
     config = refl;
@@ -95,7 +95,7 @@ module _ (e : Entities) (before : Management) (what : teis.Event) (outcome : Tei
   }
 
   -- A TEI has come to the line.
-  pub joined : (s : Store) (octets : List ℕ) (o : reports.Outcome) (tei place : ℕ) (one two : List Link) → outcome.change ≡ Some (Gained tei place)
+  pub joined : (s : Store) (octets : List ℕ) (o : reports.BareReport) (tei place : ℕ) (one two : List Link) → outcome.change ≡ Some (Gained tei place)
       → told_in octets o ≡ told_of_management (told_of outcome)
       → terms_in one ≡ set (terms_in e.links) (link_number place Call) (terms e.config Call tei)
       → terms_in two ≡ set (terms_in one) (link_number place Packet) (terms e.config Packet tei)
@@ -161,7 +161,7 @@ module _ (e : Entities) (before : Management) (what : teis.Event) (outcome : Tei
               ∙ st.terms number tei' few (ap (λ b. get_or b.places (place_at number) None) st.management ∙ sym (get_or-set_other before.places place (place_at number) (Some tei) None other) ∙ places_are)
 
   -- A TEI has left the line.
-  pub left : (s u t : Store) (octets : List ℕ) (o : reports.Outcome) (tei place : ℕ) (one two : List Link) (call packet : Answer) → outcome.change ≡ Some (Left tei place)
+  pub left : (s u t : Store) (octets : List ℕ) (o : reports.BareReport) (tei place : ℕ) (one two : List Link) (call packet : Answer) → outcome.change ≡ Some (Left tei place)
       → links.Serves (link_number place Call) event.cleared [] e.links s one u call
       → links.Serves (link_number place Packet) event.cleared [] one u two t packet
       → told_in octets o ≡ with_cleared (told_of_link (told_with [] call)) (told_of_link (told_with [] packet)) (told_of_management (told_of outcome))
@@ -232,7 +232,7 @@ pub as_many : (new old : List Link) → terms_in new ≡ terms_in old → length
 as_many new old same = sym (length-map new terms_of) ∙ ap (λ l. length l) same ∙ length-map old terms_of
 
 -- the link of a free place is as it begins
-pub free_link : (e : Entities) (s : Store) (others : List Owned) (m : Line) (service : Service) (place : ℕ) → Stands e s others m → place < length e.teis.places → get_or e.teis.places place None ≡ None
+pub free_link : (e : LinkLayer) (s : Store) (others : List Owned) (m : Line) (service : Service) (place : ℕ) → Stands e s others m → place < length e.teis.places → get_or e.teis.places place None ≡ None
     → machine_at m.links (link_number place service) ≡ machine.fresh
 free_link e s others m service place st within free =
     let number = link_number place service in
@@ -242,11 +242,11 @@ free_link e s others m service place st within free =
     subst (IsSoundAt e.config number (link_at number m)) there (st.sound.links number (number_within place e.config.terminals service low))
 
 -- and there is such a link
-pub link_within : (e : Entities) (s : Store) (others : List Owned) (m : Line) (service : Service) (place : ℕ) → Stands e s others m → place < length e.teis.places → link_number place service < length e.links
+pub link_within : (e : LinkLayer) (s : Store) (others : List Owned) (m : Line) (service : Service) (place : ℕ) → Stands e s others m → place < length e.teis.places → link_number place service < length e.links
 link_within e s others m service place st within =
     let low : place < e.config.terminals = omega (arith, within, st.sound.places, ap (λ t. length t.places) st.management) in
     omega (arith, st.count, number_within place e.config.terminals service low)
 
 -- whose number is exact
-pub exact : (e : Entities) (s : Store) (others : List Owned) (m : Line) (place : ℕ) {result number : ℕ} → Stands e s others m → place < length e.teis.places → (place ≤ 8 → result ≡ number) → result ≡ number
+pub exact : (e : LinkLayer) (s : Store) (others : List Owned) (m : Line) (place : ℕ) {result number : ℕ} → Stands e s others m → place < length e.teis.places → (place ≤ 8 → result ≡ number) → result ≡ number
 exact e s others m place st within h = h (omega (arith, within, few_places e s others m st))

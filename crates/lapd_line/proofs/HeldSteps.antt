@@ -26,9 +26,9 @@ use Rattle.lapd_line_machine.specs.Line.{Line, link_count, service_at, place_at,
 use Rattle.lapd_line_machine.specs.Sound.{IsSoundAt}
 use Rattle.lapd_line_machine.specs.Stored.{held_by_link}
 use Rattle.lapd_line_machine.proofs.Ranges.{ranges_of}
-use Rattle.lapd_line.specs.declared.entities.Entities.{Entities}
-use Rattle.lapd_line.specs.Entities.{Stands, Standing}
-use Rattle.lapd_line.proofs.EntitySteps.{beside_links, links_part}
+use Rattle.lapd_line.specs.declared.link_layer.LinkLayer.{LinkLayer}
+use Rattle.lapd_line.specs.LinkLayer.{Stands, Standing}
+use Rattle.lapd_line.proofs.LayerSteps.{beside_links, links_part}
 use Rattle.lapd_line.specs.Links.{HasTerms, LinksStand, machine_at}
 
 -- a sum of so many, each of them small
@@ -64,7 +64,7 @@ held_at : (c : Config) (number : ℕ) (ts : Terms) (l : machine.Link) (o : Optio
 held_at c number ts l None same is = ap (held ts) is ∙ sym (ap (held (terms c (service_at number) 0)) is)
 held_at c number ts l (Some t) same is = ap (λ u. held u l) (same t refl)
 
-pub held_there : (e : Entities) (store : Store) (others : List Owned) (m : Line) (number : ℕ) (ts : Terms) → Stands e store others m → number < link_count e.config → HasTerms e.links number ts
+pub held_there : (e : LinkLayer) (store : Store) (others : List Owned) (m : Line) (number : ℕ) (ts : Terms) → Stands e store others m → number < link_count e.config → HasTerms e.links number ts
     → held ts (machine_at m.links number) ≡ held_by_link e.config m number
 held_there e store others m number ts st within has =
     held_at e.config number ts (link_at number m) (tei_at (place_at number) m) (λ t at. same_Some _ _ (sym has ∙ st.terms number t within at)) (st.sound.links number within)
@@ -75,7 +75,7 @@ terms_there (x ∷ links) zero within = (terms_of x, refl)
 terms_there (x ∷ links) (suc n) within = terms_there links n (omega (arith, within))
 
 -- so what is held for the link at a place is what the machine says
-pub held_place : (e : Entities) (store : Store) (others : List Owned) (m : Line) (number result : ℕ) → Stands e store others m → number < link_count e.config
+pub held_place : (e : LinkLayer) (store : Store) (others : List Owned) (m : Line) (number result : ℕ) → Stands e store others m → number < link_count e.config
     → ((c : Config) (ts : Terms) (store : Store) (others : List Owned) (ms : List machine.Link) → HasTerms e.links number ts → LinksStand c e.links store others ms → result ≡ held ts (machine_at ms number))
     → result ≡ held_by_link e.config m number
 held_place e store others m number result st within h =
@@ -91,7 +91,7 @@ pub four : (x y z r s m k : ℕ) → x ≡ r → y ≡ s → z ≡ m + k → x +
 four x y z r s m k a b d = omega (arith, a, b, d)
 
 -- there are at most 16 links
-pub few_links : (e : Entities) → (store : Store) × Standing e store → link_count e.config ≤ 16
+pub few_links : (e : LinkLayer) → (store : Store) × Standing e store → link_count e.config ≤ 16
 few_links e (store, (others, m, st)) = omega (arith, (ranges_of e.config st.range).terminals.most)
 
 -- a frame that is received is kept as far as there is room

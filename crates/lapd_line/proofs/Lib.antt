@@ -1,7 +1,8 @@
 pub mod LinkSteps
-pub mod EntitySteps
+pub mod LayerSteps
 pub mod AimSteps
 pub mod ChangeSteps
+pub mod Quiet
 pub mod LineSteps
 pub mod AskSteps
 pub mod RequestSteps
@@ -13,3 +14,4 @@ pub mod TakeStepsUnits
 pub mod TakeStepsLinks
 pub mod Stood
 pub mod PullSteps
+pub mod AnswerLaws

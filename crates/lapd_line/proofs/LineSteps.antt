@@ -1,6 +1,9 @@
 -- What a call on the parts of a line does to the line.
-use Rattle.std.proofs.Common.{◌≡◌, ℕ, List, [], ◌∷◌, ◌++◌, length, slice_get, Option, Some, None, refl, sym, ap, ◌∙◌, subst, option_to_list}
+use Rattle.std.proofs.Common.{◌≡◌, ℕ, true, false, List, [], ◌∷◌, ◌++◌, length, slice_get, Option, Some, None, refl, sym, ap, ◌∙◌, subst, option_to_list}
+use Rattle.std.proofs.lemmas.Bool.{false≢true}
 use Rattle.lapd_bits.specs.Deframer as deframer
+use Rattle.lapd_bits.specs.Heard.{without_octets}
+use Rattle.lapd_bits.specs.declared.heard.Ended.TheVariants as ended
 use Rattle.lapd_bits.specs.Framer as framer
 use Rattle.lapd_bits.specs.Stream as stream
 use Rattle.lapd_bits.specs.Stream.{heard_in}
@@ -16,16 +19,18 @@ use Rattle.lapd_line_machine.specs.Expiry.{aim_of_expiry}
 use Rattle.lapd_line_machine.specs.Line as machine
 use Rattle.lapd_line_machine.specs.Machine.{after, answer}
 use Rattle.lapd_line_machine.specs.Octet.{gained, aim_of_octet, with_received}
-use Rattle.lapd_line_machine.specs.Outcome.{Aim, at_none, at_link, at_management, at_units, of_aim, of_change}
+use Rattle.lapd_line_machine.specs.Effect.{Aim, at_none, at_link, at_management, at_units, of_aim, of_change}
+use Rattle.lapd_line_machine.specs.Pull.{taken}
 use Rattle.lapd_line_machine.specs.Sound.{IsSound}
 use Rattle.lapd_line.specs.declared.line.Line.{Line}
-use Rattle.lapd_line.specs.declared.entities.Entities.{Entities}
-use Rattle.lapd_line.specs.declared.reports.Outcome.{Outcome}
+use Rattle.lapd_line.specs.declared.link_layer.LinkLayer.{LinkLayer}
+use Rattle.lapd_line.specs.declared.reports.BareReport.{BareReport}
 use Rattle.lapd_line.specs.declared.reports.Report.{Report}
-use Rattle.lapd_line.specs.Entities as entities
-use Rattle.lapd_line.specs.Entities.{Serves, aim_of_event}
+use Rattle.lapd_line.specs.LinkLayer as layer
+use Rattle.lapd_line.specs.LinkLayer.{Serves, aim_of_event}
 use Rattle.lapd_line.specs.Reports.{report_told, told_in}
 use Rattle.lapd_line.specs.Stands.{Stands, Leads, config_of, latest_frame}
+use Rattle.lapd_line.proofs.Quiet.{none_taken}
 
 -- what is heard with one octet more is what that octet brought
 last_gained : {X : Type 0} (xs : List X) (o : Option X) → slice_get (xs ++ option_to_list o) (length xs) ≡ o
@@ -35,6 +40,13 @@ last_gained (y ∷ xs) o = last_gained xs o
 
 gained_is : (n201 octet : ℕ) (received : List ℕ) (o : Option stream.Event) → heard_in n201 (received ++ octet ∷ []) ≡ heard_in n201 received ++ option_to_list o → gained n201 received octet ≡ o
 gained_is n201 octet received o is = ap (λ l. slice_get l (length (heard_in n201 received))) is ∙ last_gained (heard_in n201 received) o
+
+-- an octet that ended nothing brought no event
+pub nothing_heard : (o : Option stream.Event) → ended.Nothing ≡ without_octets o → o ≡ None
+nothing_heard None e = refl
+nothing_heard (Some (stream.frame octets)) e = absurd (cc)
+nothing_heard (Some (stream.overlong head)) e = absurd (cc)
+nothing_heard (Some (stream.dropped cause)) e = absurd (cc)
 
 -- an event of the entities leaves the bits as they were
 record SameBits (l m : machine.Line) : Type 0 where
@@ -67,7 +79,7 @@ received_sound c value l s = record {
   text = s.text;
 }
 
-with_octet : (e : Entities) (s : Store) (others : List Owned) (m : machine.Line) (value : ℕ) → entities.Stands e s others m → entities.Stands e s others (with_received value m)
+with_octet : (e : LinkLayer) (s : Store) (others : List Owned) (m : machine.Line) (value : ℕ) → layer.Stands e s others m → layer.Stands e s others (with_received value m)
 with_octet e s others m value st = record {
   range = st.range;
   wide = st.wide;
@@ -83,20 +95,21 @@ with_octet e s others m value st = record {
 }
 
 -- what an octet brings is served
-pub stepped : (old new : Line) (s t : Store) (octet : ℕ) (o : Outcome)
+pub stepped : (old new : Line) (s t : Store) (octet : ℕ) (o : BareReport)
     → ((n201 : ℕ) (past : List ℕ) → deframer.Stands n201 old.deframer past → heard_in n201 (past ++ octet ∷ []) ≡ heard_in n201 past ++ option_to_list (deframer.latest_of new.deframer))
     → ((n201 : ℕ) (past : List ℕ) → deframer.Stands n201 old.deframer past → deframer.Stands n201 new.deframer (past ++ octet ∷ []))
     → new.framer ≡ old.framer
-    → Serves (aim_of_event (deframer.latest_of new.deframer)) (latest_frame new) old.entities s new.entities t o
+    → (new.quiet ≡ true → (old.quiet ≡ true) × (deframer.latest_of new.deframer ≡ None))
+    → Serves (aim_of_event (deframer.latest_of new.deframer)) (latest_frame new) old.layer s new.layer t o
     → Leads (event.octet octet) old s new t
 unfolding after
-stepped old new s t octet o heard goes_on framed served = record {
+stepped old new s t octet o heard goes_on framed still served = record {
   config = served.config;
   limits = served.limits;
   stands = λ others m st.
       let c = config_of old in
       let m' = with_received octet m in
-      let e = served.stands others m' (with_octet old.entities s others m octet st.entities) in
+      let e = served.stands others m' (with_octet old.layer s others m octet st.layer) in
       let aim : aim_of_octet c octet m ≡ aim_of_event (deframer.latest_of new.deframer) m' = ap (λ h. aim_of_event h m') (gained_is c.n201 octet m.received _ (heard c.n201 m.received st.received)) in
       let same = same_bits c (aim_of_event (deframer.latest_of new.deframer) m') m' in
       subst (λ a. Stands new t others (of_aim c a m').line) (sym aim)
@@ -107,44 +120,50 @@ stepped old new s t octet o heard goes_on framed served = record {
             (subst (λ i. framer.Stands old.framer i (of_aim c (aim_of_event (deframer.latest_of new.deframer) m') m').line.given) (sym same.items)
             (subst (framer.Stands old.framer m.items) (sym same.given) st.sent));
         room = ap (λ f. f.room) framed ∙ st.room ∙ ap (λ k. k.n201) (sym served.config);
-        entities = e;
+        layer = e;
+        quiet = λ is.
+            let (before, none) = still is in
+            ap (λ k. taken k (of_aim c (aim_of_event (deframer.latest_of new.deframer) m') m').line) served.config
+            ∙ ap (λ h. taken c (of_aim c (aim_of_event h m') m').line) none
+            ∙ none_taken c m (m.received ++ octet ∷ []) m.items m.given (st.quiet before);
       });
 }
 
-pub step_told : (old new : Line) (s t : Store) (octet : ℕ) (o : Outcome)
+pub step_told : (old new : Line) (s t : Store) (octet : ℕ) (o : BareReport)
     → ((n201 : ℕ) (past : List ℕ) → deframer.Stands n201 old.deframer past → heard_in n201 (past ++ octet ∷ []) ≡ heard_in n201 past ++ option_to_list (deframer.latest_of new.deframer))
-    → Serves (aim_of_event (deframer.latest_of new.deframer)) (latest_frame new) old.entities s new.entities t o
+    → Serves (aim_of_event (deframer.latest_of new.deframer)) (latest_frame new) old.layer s new.layer t o
     → (others : List Owned) (m : machine.Line) → Stands old s others m → told (told_in (latest_frame new) o) ≡ answer (config_of old) (event.octet octet) m
 unfolding answer
 step_told old new s t octet o heard served others m st =
     let c = config_of old in
     let m' = with_received octet m in
     let aim : aim_of_octet c octet m ≡ aim_of_event (deframer.latest_of new.deframer) m' = ap (λ h. aim_of_event h m') (gained_is c.n201 octet m.received _ (heard c.n201 m.received st.received)) in
-    ap told (served.told others m' (with_octet old.entities s others m octet st.entities) ∙ ap (λ a. (of_aim c a m').told) (sym aim))
+    ap told (served.told others m' (with_octet old.layer s others m octet st.layer) ∙ ap (λ a. (of_aim c a m').told) (sym aim))
 
 -- the bits stay, where the entities alone go on
-pub with_entities : (old : Line) (t : Store) (others : List Owned) (m : machine.Line) (e : Entities) (aim : Aim) (s : Store) → Stands old s others m → e.config ≡ config_of old
-    → entities.Stands e t others (of_aim (config_of old) aim m).line → Stands (record old { entities = e }) t others (of_aim (config_of old) aim m).line
-with_entities old t others m e aim s st same h =
+pub with_layer : (old : Line) (t : Store) (others : List Owned) (m : machine.Line) (e : LinkLayer) (aim : Aim) (s : Store) → Stands old s others m → e.config ≡ config_of old
+    → layer.Stands e t others (of_aim (config_of old) aim m).line → Stands (record old { layer = e; quiet = false }) t others (of_aim (config_of old) aim m).line
+with_layer old t others m e aim s st same h =
     let kept = same_bits (config_of old) aim m in
     let l = (of_aim (config_of old) aim m).line in
     record {
       received = subst (λ k. deframer.Stands k.n201 old.deframer l.received) (sym same) (subst (deframer.Stands (config_of old).n201 old.deframer) (sym kept.received) st.received);
       sent = subst (λ i. framer.Stands old.framer i l.given) (sym kept.items) (subst (framer.Stands old.framer m.items) (sym kept.given) st.sent);
       room = st.room ∙ ap (λ k. k.n201) (sym same);
-      entities = h;
+      layer = h;
+      quiet = λ is. absurd (false≢true is);
     }
 
-pub expired : (old : Line) (s : Store) (e : Entities) (t : Store) (timer : Timer) (o : Outcome) → Serves (aim_of_expiry timer) [] old.entities s e t o
-    → Leads (event.expiry timer) old s (record old { entities = e }) t
+pub expired : (old : Line) (s : Store) (e : LinkLayer) (t : Store) (timer : Timer) (o : BareReport) → Serves (aim_of_expiry timer) [] old.layer s e t o
+    → Leads (event.expiry timer) old s (record old { layer = e; quiet = false }) t
 unfolding after
 expired old s e t timer o served = record {
   config = served.config;
   limits = served.limits;
-  stands = λ others m st. with_entities old t others m e (aim_of_expiry timer m) s st served.config (served.stands others m st.entities);
+  stands = λ others m st. with_layer old t others m e (aim_of_expiry timer m) s st served.config (served.stands others m st.layer);
 }
 
-pub expiry_told : (old : Line) (s : Store) (e : Entities) (t : Store) (timer : Timer) (o : Outcome) (r : Report) → report_told r ≡ told_in [] o → Serves (aim_of_expiry timer) [] old.entities s e t o
+pub expiry_told : (old : Line) (s : Store) (e : LinkLayer) (t : Store) (timer : Timer) (o : BareReport) (r : Report) → report_told r ≡ told_in [] o → Serves (aim_of_expiry timer) [] old.layer s e t o
     → (others : List Owned) (m : machine.Line) → Stands old s others m → told (report_told r) ≡ answer (config_of old) (event.expiry timer) m
 unfolding answer
-expiry_told old s e t timer o r is served others m st = ap told (is ∙ served.told others m st.entities)
+expiry_told old s e t timer o r is served others m st = ap told (is ∙ served.told others m st.layer)

@@ -26,19 +26,20 @@ use Rattle.lapd_line_machine.proofs.LineSound.{after_sound, with_due_given}
 use Rattle.lapd_line_machine.proofs.PullSound.{TakesSoundly, taken_sound}
 use Rattle.lapd_line_machine.proofs.TextGoesOn.{left_is, one_item}
 use Rattle.lapd_line.specs.declared.line.Line.{Line}
-use Rattle.lapd_line.specs.declared.entities.Entities.{Entities}
+use Rattle.lapd_line.specs.declared.link_layer.LinkLayer.{LinkLayer}
 use Rattle.lapd_line.specs.Begins.{Begins, with_frame}
-use Rattle.lapd_line.specs.Entities as entities
+use Rattle.lapd_line.specs.LinkLayer as layer
 use Rattle.lapd_line.specs.Stands.{Stands, Leads, config_of}
 use Rattle.lapd_line.specs.Takes.{Took, Takes, orders_taken}
+use Rattle.lapd_line.proofs.Quiet.{none_taken}
 
 -- an item is due exactly where the framer's bits run low
 due_is : (m : machine.Line) (f : Framing) → framer.Stands f m.items m.given → is_due m ≡ runs_low f.left
 due_is m f st = ap runs_low (left_is m f.left st.text)
 
 -- the bits of a line concern its entities only as far as it is sound
-with_bits : (e : Entities) (s : Store) (others : List Owned) (m : machine.Line) (items : List Item) (given : List ℕ) → entities.Stands e s others m
-    → IsSound e.config (record m { items = items; given = given }) → entities.Stands e s others (record m { items = items; given = given })
+with_bits : (e : LinkLayer) (s : Store) (others : List Owned) (m : machine.Line) (items : List Item) (given : List ℕ) → layer.Stands e s others m
+    → IsSound e.config (record m { items = items; given = given }) → layer.Stands e s others (record m { items = items; given = given })
 with_bits e s others m items given st sound = record {
   range = st.range;
   wide = st.wide;
@@ -66,24 +67,40 @@ none_due line s busy = record {
     none others m st =
         ap (λ due. cond due (taken (config_of line) m) None) (due_is m line.framer st.sent ∙ le-ltb (length line.framer.left) 8 busy)
 
+-- nothing is there that could be taken
+pub none_waits : (line : Line) (s : Store) → line.quiet ≡ true → Begins line s line s None
+none_waits line s quiet = record {
+  config = refl;
+  limits = record { slots = refl; width = refl };
+  stands = λ others m st. subst (λ o. Stands line s others (with_frame o m)) (sym (none others m st)) st;
+  told = λ others m st. ap (option_map orders_of) (sym (none others m st));
+}
+  where
+    either : (b : Bool) → cond {A = Option Taken} b None None ≡ None
+    either true = refl
+    either false = refl
+
+    none : (others : List Owned) (m : machine.Line) → Stands line s others m → begun (config_of line) m ≡ None
+    none others m st = ap (λ o. cond (is_due m) o None) (st.quiet quiet) ∙ either (is_due m)
+
 -- one is due, and taken if there is one
-pub due_taken : (old : Line) (s : Store) (e : Entities) (t : Store) (g : Framing) (orders : Option (List Order)) → length old.framer.left < 8
-    → Takes taken old.entities s old.framer e t g orders → Begins old s (record old { entities = e; framer = g }) t orders
-due_taken old s e t g orders low h = record {
+pub due_taken : (old : Line) (s : Store) (e : LinkLayer) (t : Store) (g : Framing) (orders : Option (List Order)) (q : Bool) → length old.framer.left < 8 → (q ≡ true → orders ≡ None)
+    → Takes taken old.layer s old.framer e t g orders → Begins old s (record old { layer = e; framer = g; quiet = q }) t orders
+due_taken old s e t g orders q low none h = record {
   config = h.config;
   limits = h.limits;
   stands = λ others m st.
       subst (λ o. Stands new t others (with_frame o m)) (sym (is_taken others m st))
-      (stands others m st (taken c m) refl orders (h.took others m st.entities));
+      (stands others m st (taken c m) refl orders none (h.took others m st.layer));
   told = λ others m st.
-      same_orders others m (taken c m) orders (h.took others m st.entities) ∙ ap (option_map orders_of) (sym (is_taken others m st));
+      same_orders others m (taken c m) orders (h.took others m st.layer) ∙ ap (option_map orders_of) (sym (is_taken others m st));
 }
   where
     c : Config
     c = config_of old
 
     new : Line
-    new = record old { entities = e; framer = g }
+    new = record old { layer = e; framer = g; quiet = q }
 
     due : (others : List Owned) (m : machine.Line) → Stands old s others m → is_due m ≡ true
     due others m st = due_is m old.framer st.sent ∙ lt-ltb (length old.framer.left) 8 low
@@ -101,29 +118,31 @@ due_taken old s e t g orders low h = record {
         → with_due c m ≡ record k.line { items = m.items ++ frame k.frame ∷ [] }
     with_taken others m st k is = ap (λ b. cond b (with_item (taken c m) m) m) (due others m st) ∙ ap (λ o. with_item o m) is
 
-    stands : (others : List Owned) (m : machine.Line) → Stands old s others m → (o : Option Taken) → taken c m ≡ o → (os : Option (List Order))
+    stands : (others : List Owned) (m : machine.Line) → Stands old s others m → (o : Option Taken) → taken c m ≡ o → (os : Option (List Order)) → (q ≡ true → os ≡ None)
         → Took o os m e t others old.framer g → Stands new t others (with_frame o m)
-    stands others m st None is None (there, same) = record {
+    stands others m st None is None quiet (there, same) = record {
       received = subst (λ k. deframer.Stands k.n201 old.deframer m.received) (sym h.config) st.received;
       sent = subst (λ f. framer.Stands f m.items m.given) (sym same) st.sent;
       room = h.room ∙ st.room ∙ ap (λ k. k.n201) (sym h.config);
-      entities = there;
+      layer = there;
+      quiet = λ on. ap (λ k. taken k m) h.config ∙ is;
     }
-    stands others m st (Some k) is (Some os) has =
-        let whole : TakesSoundly c m k = subst (λ o. IfSome o (TakesSoundly c m)) is (taken_sound c st.entities.range m st.entities.sound) in
+    stands others m st (Some k) is (Some os) quiet has =
+        let whole : TakesSoundly c m k = subst (λ o. IfSome o (TakesSoundly c m)) is (taken_sound c st.layer.range m st.layer.sound) in
         let items = m.items ++ frame k.frame ∷ [] in
         let sound : IsSound c (record k.line { items = items }) =
-        subst (IsSound c) (with_taken others m st k is) (with_due_given c st.entities.range m st.entities.sound).sound in
+        subst (IsSound c) (with_taken others m st k is) (with_due_given c st.layer.range m st.layer.sound).sound in
         record {
           received = subst (deframer.Stands e.config.n201 old.deframer) (sym whole.received)
               (subst (λ k. deframer.Stands k.n201 old.deframer m.received) (sym h.config) st.received);
           sent = subst (framer.Stands g items) (sym whole.given) (has.loaded m.items m.given st.sent);
           room = h.room ∙ st.room ∙ ap (λ k. k.n201) (sym h.config);
-          entities = with_bits e t others k.line items k.line.given has.stands
+          layer = with_bits e t others k.line items k.line.given has.stands
               (subst (λ x. IsSound x (record k.line { items = items })) (sym h.config) sound);
+          quiet = λ on. let is_none : Some os ≡ None = quiet on in absurd (cc);
         }
-    stands others m st None is (Some os) h = absurd h
-    stands others m st (Some k) is None h = absurd h
+    stands others m st None is (Some os) quiet h = absurd h
+    stands others m st (Some k) is None quiet h = absurd h
 
 -- a frame that was just loaded leaves enough bits for an octet
 loaded : (c : Config) (m : machine.Line) (k : Taken) (f : Framing) → IsSound c m → TakesSoundly c m k
@@ -181,7 +200,7 @@ module _ {old : Line} {s : Store} {b : Line} {t : Store} (orders : Option (Short
       → record (begun_line m) { items = with_idle b.framer.left (begun_line m).items } ≡ with_due (config_of old) m
   due_gone_on others m st =
       let c = config_of old in
-      goes_on c m b.framer st.entities.sound (is_due m) refl (taken c m) (taken_sound c st.entities.range m st.entities.sound)
+      goes_on c m b.framer st.layer.sound (is_due m) refl (taken c m) (taken_sound c st.layer.range m st.layer.sound)
       (begins.stands others m st).sent
 
   -- the next octet of it is the framer's,
@@ -211,14 +230,15 @@ module _ {old : Line} {s : Store} {b : Line} {t : Store} (orders : Option (Short
         let there = begins.stands others m st in
         let is = gone_on others m st in
         let sound : IsSound c (record l { items = items; given = given }) =
-        subst (IsSound c) is (after_sound c st.entities.range event.pull m st.entities.sound) in
+        subst (IsSound c) is (after_sound c st.layer.range event.pull m st.layer.sound) in
         subst (λ x. Stands (record b { framer = g }) t others x) (sym is)
         (record {
           received = there.received;
           sent = gives.stands l.items l.given there.sent;
           room = gives.room ∙ there.room;
-          entities = with_bits b.entities t others l items given there.entities
+          layer = with_bits b.layer t others l items given there.layer
               (subst (λ x. IsSound x (record l { items = items; given = given })) (sym begins.config) sound);
+          quiet = λ on. none_taken (config_of b) l l.received items given (there.quiet on);
         });
   }
 

@@ -9,7 +9,7 @@ use Rattle.lapd_line_machine.specs.Answer as event
 use Rattle.lapd_line_machine.specs.Answer.{told}
 use Rattle.lapd_line_machine.specs.Line as machine
 use Rattle.lapd_line_machine.specs.Machine.{after, answer, unless_refused, unless_refused_told}
-use Rattle.lapd_line_machine.specs.Outcome.{Aim, of_aim}
+use Rattle.lapd_line_machine.specs.Effect.{Aim, of_aim}
 use Rattle.lapd_line_machine.specs.Refusal.{Row, first_that_holds, bad_tei, bad_tei_or_group, no_link, no_link_nor_group, wrong_state, too_long, queue_full, unit_queue_full, pool_full, refusal}
 use Rattle.lapd_line_machine.specs.declared.requests.Request as asking
 use Rattle.lapd_line_machine.specs.Request.{Request, request_of, Establish, Release, Data, Unit, Assign, Remove, Check, SetBusy, ClearBusy}
@@ -19,31 +19,31 @@ use Rattle.lapd_link.specs.declared.requests.LinkRequest as links
 use Rattle.lapd_link.specs.declared.requests.LinkRequest.{LinkRequest}
 use Rattle.lapd_link.specs.Events.{request_of as link_request_of}
 use Rattle.lapd_line.specs.Asks.{link_refusal}
-use Rattle.lapd_line.specs.declared.entities.Entities.{Entities}
+use Rattle.lapd_line.specs.declared.link_layer.LinkLayer.{LinkLayer}
 use Rattle.lapd_line.specs.declared.line.Line.{Line}
-use Rattle.lapd_line.specs.declared.reports.Outcome.{Outcome}
+use Rattle.lapd_line.specs.declared.reports.BareReport.{BareReport}
 use Rattle.lapd_line.specs.declared.reports.Report.{Report}
-use Rattle.lapd_line.specs.Entities as entities
-use Rattle.lapd_line.specs.Entities.{Serves}
+use Rattle.lapd_line.specs.LinkLayer as layer
+use Rattle.lapd_line.specs.LinkLayer.{Serves}
 use Rattle.lapd_line.specs.Reports.{report_told, told_in}
 use Rattle.lapd_line.specs.Stands.{Stands, Leads, config_of}
 use Rattle.lapd_line.proofs.AskSteps.{establish_rows, release_rows, data_rows, set_busy_rows, clear_busy_rows}
 use Rattle.lapd_line.proofs.LinkSteps.{if_err, on_ok}
-use Rattle.lapd_line.proofs.LineSteps.{with_entities}
+use Rattle.lapd_line.proofs.LineSteps.{with_layer}
 
 -- a request that is this one is refused, or granted, as this one
-module _ {X : Type 0} (e : Entities) (s : Store) (full : Bool) {r this : Request} (is : r ≡ this) {f : machine.Line → Option Refusal}
+module _ {X : Type 0} (e : LinkLayer) (s : Store) (full : Bool) {r this : Request} (is : r ≡ this) {f : machine.Line → Option Refusal}
     (same : (m : machine.Line) → refusal e.config full this m ≡ f m) (result : Result X Refusal) where
-  pub refused_as : IfErr result (λ why. (others : List Owned) (m : machine.Line) → entities.Stands e s others m → f m ≡ Some why)
-      → IfErr result (λ why. (others : List Owned) (m : machine.Line) → entities.Stands e s others m → refusal e.config full r m ≡ Some why)
+  pub refused_as : IfErr result (λ why. (others : List Owned) (m : machine.Line) → layer.Stands e s others m → f m ≡ Some why)
+      → IfErr result (λ why. (others : List Owned) (m : machine.Line) → layer.Stands e s others m → refusal e.config full r m ≡ Some why)
   refused_as h = if_err result (λ why k. λ others m st. ap (λ x. refusal e.config full x m) is ∙ same m ∙ k others m st) h
 
-  pub granted_as : OnOk result ((others : List Owned) (m : machine.Line) → entities.Stands e s others m → f m ≡ None)
-      → OnOk result ((others : List Owned) (m : machine.Line) → entities.Stands e s others m → refusal e.config full r m ≡ None)
+  pub granted_as : OnOk result ((others : List Owned) (m : machine.Line) → layer.Stands e s others m → f m ≡ None)
+      → OnOk result ((others : List Owned) (m : machine.Line) → layer.Stands e s others m → refusal e.config full r m ≡ None)
   granted_as h = on_ok result (λ k. λ others m st. ap (λ x. refusal e.config full x m) is ∙ same m ∙ k others m st) h
 
 -- and what is done for its aim is done for the request
-pub aimed_as : (r : Request) {aim : machine.Line → Aim} (e : Entities) (s : Store) (new : Entities) (t : Store) (result : Result Outcome Refusal) → aim_of_request r ≡ aim
+pub aimed_as : (r : Request) {aim : machine.Line → Aim} (e : LinkLayer) (s : Store) (new : LinkLayer) (t : Store) (result : Result BareReport Refusal) → aim_of_request r ≡ aim
     → IfOk result (Serves aim [] e s new t) → IfOk result (Serves (aim_of_request r) [] e s new t)
 aimed_as r e s new t result is h = subst (λ x. IfOk result (Serves x [] e s new t)) (sym is) h
 
@@ -85,7 +85,7 @@ pub with_room : (c : Config) (full : Bool) (r : Request) (l : machine.Line) → 
 with_room c full (Establish service tei) l e = e
 with_room c full (Release service tei) l e = e
 with_room c full (Data service tei contents) l e =
-    last_row (bad_tei tei ∷ no_link tei l ∷ wrong_state service tei (link.transfer contents) l ∷ too_long c contents ∷ queue_full c service tei l ∷ []) full e
+    last_row (bad_tei tei ∷ no_link tei l ∷ wrong_state service tei (link.Data contents) l ∷ too_long c contents ∷ queue_full c service tei l ∷ []) full e
 with_room c full (Unit service tei contents) l e = last_row (bad_tei_or_group tei ∷ no_link_nor_group tei l ∷ too_long c contents ∷ unit_queue_full c l ∷ []) full e
 with_room c full (Assign tei) l e = e
 with_room c full (Remove tei) l e = e
@@ -94,18 +94,18 @@ with_room c full (SetBusy service tei) l e = e
 with_room c full (ClearBusy service tei) l e = e
 
 -- the entities have served a request that is granted
-module _ (old : Line) (s : Store) (e : Entities) (t : Store) (full : Bool) (r : Request) (o : Outcome)
-    (granted : (others : List Owned) (m : machine.Line) → entities.Stands old.entities s others m → refusal (config_of old) full r m ≡ None)
-    (served : Serves (aim_of_request r) [] old.entities s e t o) where
-  pub requested : Leads (event.request r) old s (record old { entities = e }) t
+module _ (old : Line) (s : Store) (e : LinkLayer) (t : Store) (full : Bool) (r : Request) (o : BareReport)
+    (granted : (others : List Owned) (m : machine.Line) → layer.Stands old.layer s others m → refusal (config_of old) full r m ≡ None)
+    (served : Serves (aim_of_request r) [] old.layer s e t o) where
+  pub requested : Leads (event.request r) old s (record old { layer = e; quiet = false }) t
   unfolding after
   requested = record {
     config = served.config;
     limits = served.limits;
     stands = λ others m st.
         let c = config_of old in
-        subst (λ why. Stands (record old { entities = e }) t others (of_aim c (unless_refused why (aim_of_request r m)) m).line) (sym (with_room c full r m (granted others m st.entities)))
-        (with_entities old t others m e (aim_of_request r m) s st served.config (served.stands others m st.entities));
+        subst (λ why. Stands (record old { layer = e; quiet = false }) t others (of_aim c (unless_refused why (aim_of_request r m)) m).line) (sym (with_room c full r m (granted others m st.layer)))
+        (with_layer old t others m e (aim_of_request r m) s st served.config (served.stands others m st.layer));
   }
 
   pub request_told : (report : Report) → report_told report ≡ told_in [] o → (others : List Owned) (m : machine.Line) → Stands old s others m
@@ -113,5 +113,5 @@ module _ (old : Line) (s : Store) (e : Entities) (t : Store) (full : Bool) (r : 
   unfolding answer
   request_told report is others m st =
       let c = config_of old in
-      ap told (is ∙ served.told others m st.entities)
-      ∙ ap (λ why. unless_refused_told why (of_aim c (unless_refused why (aim_of_request r m)) m)) (sym (with_room c full r m (granted others m st.entities)))
+      ap told (is ∙ served.told others m st.layer)
+      ∙ ap (λ why. unless_refused_told why (of_aim c (unless_refused why (aim_of_request r m)) m)) (sym (with_room c full r m (granted others m st.layer)))

@@ -17,7 +17,7 @@ use Rattle.lapd_line_machine.specs.Sound.{IsInRange}
 use Rattle.lapd_line_machine.proofs.LineSound.{fresh_sound}
 use Rattle.lapd_line_machine.proofs.Numbers.{place_within}
 use Rattle.lapd_line_machine.proofs.Ranges.{ranges_of}
-use Rattle.lapd_line.specs.Entities.{Stands}
+use Rattle.lapd_line.specs.LinkLayer.{Stands}
 use Rattle.lapd_line.specs.Links.{LinkFits, links_pairs}
 use Rattle.lapd_line.specs.Starts.{IsBegun, AreBegun}
 use Rattle.lapd_line.specs.Units.{UnitRing, AreFor, empty_ring, unit_pairs}
@@ -51,10 +51,10 @@ absurd_none : {A : Type 0} {x : ℕ} → None ≡ Some x → A
 absurd_none h = cc
 
 -- the entities, of parts that were just started
-pub entities_fresh : (c : Config) (teis : Management) (links : List Link) (units : UnitRing) → IsInRange c → teis ≡ empty c.terminals → AreBegun c links → units ≡ empty_ring c.unit_queue
+pub layer_fresh : (c : Config) (teis : Management) (links : List Link) (units : UnitRing) → IsInRange c → teis ≡ empty c.terminals → AreBegun c links → units ≡ empty_ring c.unit_queue
     → (store : Store) (others : List Owned) → c.n201 ≤ store.width → Holds store others
     → Stands (record { config = c; teis = teis; links = links; units = units; turn = 0 }) store others (fresh_line c)
-entities_fresh c teis links units ranged is_teis b is_units store others wide held = record {
+layer_fresh c teis links units ranged is_teis b is_units store others wide held = record {
   range = ranged;
   wide = wide;
   sound = fresh_sound c ranged;

@@ -18,10 +18,10 @@ use Rattle.lapd_line_machine.specs.declared.config.Config.{Config}
 use Rattle.lapd_line_machine.specs.Line as machine_line
 use Rattle.lapd_line_machine.specs.Line.{UnitData}
 use Rattle.lapd_line_machine.specs.Stored.{slots_of, octets_of, sum_of_links, slots_by_link, octets_by_link, total_length, contents_of, unit_length}
-use Rattle.lapd_line.specs.declared.entities.Entities.{Entities}
+use Rattle.lapd_line.specs.declared.link_layer.LinkLayer.{LinkLayer}
 use Rattle.lapd_line.specs.declared.line.Line.{Line}
 use Rattle.lapd_line.specs.declared.units.QueuedUnit.{QueuedUnit}
-use Rattle.lapd_line.specs.Entities as entities
+use Rattle.lapd_line.specs.LinkLayer as layer
 use Rattle.lapd_line.specs.Links.{LinkFits, link_pairs, links_pairs}
 use Rattle.lapd_line.specs.Stands.{Stands, config_of, pairs_of}
 use Rattle.lapd_line.specs.Units as units
@@ -31,7 +31,7 @@ use Rattle.lapd_line.proofs.TakeStepsUnits.{as_many}
 
 -- what a line owns is held beside what others own
 pub held_of : (x : Line) (s : Store) (others : List Owned) (m : machine_line.Line) → Stands x s others m → Holds s (pairs_of x m ++ others)
-held_of x s others m st = st.entities.held
+held_of x s others m st = st.layer.held
 
 -- and where another shelf holds it, the line stands there too
 pub stands_on : (x : Line) (s : Store) (others : List Owned) (m : machine_line.Line) → Stands x s others m → (t : Store) (rest : List Owned) → (config_of x).n201 ≤ t.width → Holds t (pairs_of x m ++ rest)
@@ -40,19 +40,20 @@ stands_on x s others m st t rest wide held = record {
   received = st.received;
   sent = st.sent;
   room = st.room;
-  entities = record {
-    range = st.entities.range;
+  layer = record {
+    range = st.layer.range;
     wide = wide;
-    sound = st.entities.sound;
-    management = st.entities.management;
-    count = st.entities.count;
-    links = st.entities.links;
-    terms = st.entities.terms;
-    addressed = st.entities.addressed;
-    capacity = st.entities.capacity;
-    turn = st.entities.turn;
+    sound = st.layer.sound;
+    management = st.layer.management;
+    count = st.layer.count;
+    links = st.layer.links;
+    terms = st.layer.terms;
+    addressed = st.layer.addressed;
+    capacity = st.layer.capacity;
+    turn = st.layer.turn;
     held = held;
   };
+  quiet = st.quiet;
 }
 
 -- a sum over the places of a list is the sum over its elements
@@ -79,12 +80,12 @@ octets_fit : (c : Config) (p : Link × machine.Link) → LinkFits c p → owned_
 octets_fit c p fit = owned_octets-pairs_of (link.slots_of p.0) (queue_of p.1) fit.lengths
 
 -- and all links
-slots_of_links : (e : Entities) (s : Store) (others : List Owned) (m : machine_line.Line) → entities.Stands e s others m → length (links_pairs e.links m.links) ≡ sum_of_links e.config (slots_by_link m)
+slots_of_links : (e : LinkLayer) (s : Store) (others : List Owned) (m : machine_line.Line) → layer.Stands e s others m → length (links_pairs e.links m.links) ≡ sum_of_links e.config (slots_by_link m)
 slots_of_links e s others m st =
     slots-machines link_pairs (λ l. length (queue_of l)) e.links m.links (st.count ∙ sym st.sound.count) (λ k d within. slots_fit e.config _ (st.links k d within))
     ∙ sym (sum_places (λ l. length (queue_of l)) m.links machine.fresh (machine_line.link_count e.config) st.sound.count)
 
-octets_of_links : (e : Entities) (s : Store) (others : List Owned) (m : machine_line.Line) → entities.Stands e s others m → owned_octets (links_pairs e.links m.links) ≡ sum_of_links e.config (octets_by_link m)
+octets_of_links : (e : LinkLayer) (s : Store) (others : List Owned) (m : machine_line.Line) → layer.Stands e s others m → owned_octets (links_pairs e.links m.links) ≡ sum_of_links e.config (octets_by_link m)
 octets_of_links e s others m st =
     octets-machines link_pairs (λ l. total_length (queue_of l)) e.links m.links (st.count ∙ sym st.sound.count) (λ k d within. octets_fit e.config _ (st.links k d within))
     ∙ sym (sum_places (λ l. total_length (queue_of l)) m.links machine.fresh (machine_line.link_count e.config) st.sound.count)
@@ -99,12 +100,12 @@ octets_of_units us ds same = owned_octets-pairs_of (units.slots_of us) (messages
 -- a line owns as many slots as its machine keeps contents, and as many octets as are in them
 pub slots-pairs : (x : Line) (s : Store) (others : List Owned) (m : machine_line.Line) → Stands x s others m → length (pairs_of x m) ≡ slots_of (config_of x) m
 slots-pairs x s others m st =
-    let links = slots_of_links x.entities s others m st.entities in
-    let waiting = slots_of_units x.entities.units.waiting m.units st.entities.addressed in
-    omega (arith, links, waiting, length-append (links_pairs x.entities.links m.links) (unit_pairs x.entities.units.waiting m.units))
+    let links = slots_of_links x.layer s others m st.layer in
+    let waiting = slots_of_units x.layer.units.waiting m.units st.layer.addressed in
+    omega (arith, links, waiting, length-append (links_pairs x.layer.links m.links) (unit_pairs x.layer.units.waiting m.units))
 
 pub octets-pairs : (x : Line) (s : Store) (others : List Owned) (m : machine_line.Line) → Stands x s others m → owned_octets (pairs_of x m) ≡ octets_of (config_of x) m
 octets-pairs x s others m st =
-    let links = octets_of_links x.entities s others m st.entities in
-    let waiting = octets_of_units x.entities.units.waiting m.units st.entities.addressed in
-    omega (arith, links, waiting, owned_octets-append (links_pairs x.entities.links m.links) (unit_pairs x.entities.units.waiting m.units))
+    let links = octets_of_links x.layer s others m st.layer in
+    let waiting = octets_of_units x.layer.units.waiting m.units st.layer.addressed in
+    omega (arith, links, waiting, owned_octets-append (links_pairs x.layer.links m.links) (unit_pairs x.layer.units.waiting m.units))

@@ -17,8 +17,8 @@ use Rattle.lapd_tei.proofs.LawLemmas.{sound-after_offer}
 use Rattle.lapd_line_machine.specs.declared.config.Config.{Config}
 use Rattle.lapd_line_machine.specs.Line.{Line}
 use Rattle.lapd_line_machine.specs.Pull.{Taken, with_message, message_taken}
-use Rattle.lapd_line.specs.declared.entities.Entities.{Entities}
-use Rattle.lapd_line.specs.Entities.{Stands}
+use Rattle.lapd_line.specs.declared.link_layer.LinkLayer.{LinkLayer}
+use Rattle.lapd_line.specs.LinkLayer.{Stands}
 use Rattle.lapd_line.specs.Takes.{HasTaken, Took, Takes}
 
 pub append_none : {A : Type 0} (xs : List A) → xs ++ [] ≡ xs
@@ -26,7 +26,7 @@ append_none [] = refl
 append_none (x ∷ xs) = ap (λ l. x ∷ l) (append_none xs)
 
 -- what one source gives, or else another
-pub takes_or : {first second : Config → Line → Option Taken} {a b c : Entities} {s t u : Store} {f g h : Framing} {orders : Option (List Order)}
+pub takes_or : {first second : Config → Line → Option Taken} {a b c : LinkLayer} {s t u : Store} {f g h : Framing} {orders : Option (List Order)}
     → Takes first a s f b t g None → Takes second b t g c u h orders
     → Takes (λ config m. option_or (first config m) (second config m)) a s f c u h orders
 takes_or {first} {second} {a} {b} {c} {s} {t} {u} {f} {g} {h} {orders} none then = record {
@@ -45,7 +45,7 @@ takes_or {first} {second} {a} {b} {c} {s} {t} {u} {f} {g} {h} {orders} none then
     go others m None (st, same) = again others m st same
     go others m (Some k) h = absurd h
 
-pub takes_first : (second : Config → Line → Option Taken) {first : Config → Line → Option Taken} {a b : Entities} {s t : Store} {f g : Framing} {orders : List Order}
+pub takes_first : (second : Config → Line → Option Taken) {first : Config → Line → Option Taken} {a b : LinkLayer} {s t : Store} {f g : Framing} {orders : List Order}
     → Takes first a s f b t g (Some orders) → Takes (λ config m. option_or (first config m) (second config m)) a s f b t g (Some orders)
 takes_first second {first} {a} {b} {s} {t} {f} {g} {orders} some = record {
   config = some.config;
@@ -59,7 +59,7 @@ takes_first second {first} {a} {b} {s} {t} {f} {g} {orders} some = record {
     go others m (Some k) h = h
 
 -- the same of two sources that are the same for every past that stands
-pub takes_as : {first second : Config → Line → Option Taken} {a b : Entities} {s t : Store} {f g : Framing} {orders : Option (List Order)}
+pub takes_as : {first second : Config → Line → Option Taken} {a b : LinkLayer} {s t : Store} {f g : Framing} {orders : Option (List Order)}
     → ((others : List Owned) (m : Line) → Stands a s others m → first a.config m ≡ second a.config m)
     → Takes first a s f b t g orders → Takes second a s f b t g orders
 takes_as {first} {second} {a} {b} {s} {t} {f} {g} {orders} same h = record {
@@ -70,7 +70,7 @@ takes_as {first} {second} {a} {b} {s} {t} {f} {g} {orders} same h = record {
 }
 
 -- TEI management without its oldest message
-pub without_message : (e : Entities) (s : Store) (others : List Owned) (m : Line) → Stands e s others m
+pub without_message : (e : LinkLayer) (s : Store) (others : List Owned) (m : Line) → Stands e s others m
     → Stands (record e { teis = after_offer e.teis }) s others (record m { management = after_offer m.management })
 without_message e s others m st = record {
   range = st.range;
@@ -115,7 +115,7 @@ whole : (w : List Message) (octets : List ℕ) → Some octets ≡ option_map fr
 whole [] octets is = absurd (cc)
 whole (x ∷ w) octets is = subst (λ l. take 4 l ++ take 4 (drop 4 l) ≡ l) (same_Some (frame_of x) octets (sym is)) (whole_message x)
 
-pub message_loaded : (e : Entities) (s : Store) (f g : Framing) (octets : List ℕ) → Some octets ≡ offered e.teis → g.room ≡ f.room
+pub message_loaded : (e : LinkLayer) (s : Store) (f g : Framing) (octets : List ℕ) → Some octets ≡ offered e.teis → g.room ≡ f.room
     → ((items : List Item) (given : List ℕ) → framer.Stands f items given → framer.Stands g (items ++ frame (take 4 octets ++ take 4 (drop 4 octets)) ∷ []) given)
     → Takes (λ c m. message_taken m) e s f (record e { teis = after_offer e.teis }) s g (Some [])
 message_loaded e s f g octets some room loaded = record {

@@ -35,12 +35,12 @@ use Rattle.lapd_line_machine.specs.Pull.{Taken, with_given_frame, link_taken, fi
 use Rattle.lapd_line_machine.specs.Sound.{IsSound, IsSoundAt}
 use Rattle.lapd_line_machine.proofs.Offered.{fresh_gives_nothing}
 use Rattle.lapd_line_machine.proofs.PullSound.{TakesSoundly, link_sound}
-use Rattle.lapd_line.specs.declared.entities.Entities.{Entities}
-use Rattle.lapd_line.specs.Entities.{Stands, Standing}
+use Rattle.lapd_line.specs.declared.link_layer.LinkLayer.{LinkLayer}
+use Rattle.lapd_line.specs.LinkLayer.{Stands, Standing}
 use Rattle.lapd_line.specs.Links.{LinksStand, HasTerms, IsGiven, Offers, links_pairs, terms_in}
 use Rattle.lapd_line.specs.Units.{unit_pairs}
 use Rattle.lapd_line.specs.Takes.{HasTaken, Took, Takes}
-use Rattle.lapd_line.proofs.EntitySteps.{beside_links, links_part, links_back}
+use Rattle.lapd_line.proofs.LayerSteps.{beside_links, links_part, links_back}
 use Rattle.lapd_line.proofs.TakeSteps.{takes_or, takes_first, takes_as}
 
 -- an I-frame that may be sent is given
@@ -77,13 +77,13 @@ nothing_given t l none = go l.waiting refl (may_send_information t l) refl l.pen
 
 -- The parameters of a link as it is. Where no TEI is at its place it gives nothing, whatever they are; else they are
 -- those of its TEI.
-record Known (e : Entities) (m : Line) (number : ℕ) : Type 0 where
+record Known (e : LinkLayer) (m : Line) (number : ℕ) : Type 0 where
   pub t : Terms
   pub has : HasTerms e.links number t
   pub none : given t (link_at number m) ≡ None → given (terms_at e.config number m) (link_at number m) ≡ None
   pub some : (g : Given) → given t (link_at number m) ≡ Some g → HasTerms e.links number (terms_at e.config number m)
 
-known : (e : Entities) (s : Store) (others : List Owned) (m : Line) (number : ℕ) → number < link_count e.config → Stands e s others m → Known e m number
+known : (e : LinkLayer) (s : Store) (others : List Owned) (m : Line) (number : ℕ) → number < link_count e.config → Stands e s others m → Known e m number
 known e s others m number few st = go (tei_at (place_at number) m) refl (st.sound.links number few) (slice_get_cases e.links number).1
   where
     go : (o : Option ℕ) → tei_at (place_at number) m ≡ o → IsSoundAt e.config number (link_at number m) o
@@ -105,7 +105,7 @@ known e s others m number few st = go (tei_at (place_at number) m) refl (st.soun
     go None at fresh (inr (past, none)) = absurd (omega (arith, past, few, st.count))
 
 -- a link that has nothing to give is passed over
-pub no_link : (e : Entities) (s : Store) (f : Framing) (number : ℕ) (new : List Link) → number < link_count e.config → Offers number e.links new None
+pub no_link : (e : LinkLayer) (s : Store) (f : Framing) (number : ℕ) (new : List Link) → number < link_count e.config → Offers number e.links new None
     → Takes (λ c m. link_taken c m number) e s f (record e { links = new }) s f None
 no_link e s f number new few o = record {
   config = refl;
@@ -130,11 +130,11 @@ pub still_many : (old new : List Link) → terms_in new ≡ terms_in old → len
 still_many old new same = sym (length-map new terms_of) ∙ ap (λ l. length l) same ∙ length-map old terms_of
 
 -- what a link gives, for a line that the entities stand for
-record Gives (e : Entities) (s : Store) (m : Line) (number : ℕ) (o : Offer) : Type 0 where
+record Gives (e : LinkLayer) (s : Store) (m : Line) (number : ℕ) (o : Offer) : Type 0 where
   pub has : HasTerms e.links number (terms_at e.config number m)
   pub is : IsGiven s (terms_at e.config number m) (link_at number m) (Some o)
 
-gives : (e : Entities) (s : Store) (others : List Owned) (m : Line) (number : ℕ) (new : List Link) (o : Offer) → number < link_count e.config → Stands e s others m
+gives : (e : LinkLayer) (s : Store) (others : List Owned) (m : Line) (number : ℕ) (new : List Link) (o : Offer) → number < link_count e.config → Stands e s others m
     → Offers number e.links new (Some o) → Gives e s m number o
 gives e s others m number new o few st offers =
     let k = known e s others m number few st in
@@ -143,7 +143,7 @@ gives e s others m number new o few st offers =
     record { has = has; is = offers.given e.config (terms_at e.config number m) s (beside_links e m others) m.links has part }
 
 -- its address and contents make a frame
-pub record Loads (e : Entities) (s : Store) (o : Offer) (address : Address) (info : List ℕ) : Type 0 where
+pub record Loads (e : LinkLayer) (s : Store) (o : Offer) (address : Address) (info : List ℕ) : Type 0 where
   pub frame : IsFrame (record { address = address; control = o.frame.control; info = [] })
   pub size : length info ≤ e.config.n201
 
@@ -152,15 +152,15 @@ size_of s most None info is h = omega (arith, ap (λ l. length l) is)
 size_of s most (Some slot) info is (octets, there, size) =
     omega (arith, size, ap (λ l. length l) is, ap (λ o. length (unwrap_or o [])) there)
 
-pub given_used : (e : Entities) (s : Store) (number : ℕ) (new : List Link) (o : Offer) → number < link_count e.config → Standing e s → Offers number e.links new (Some o)
+pub given_used : (e : LinkLayer) (s : Store) (number : ℕ) (new : List Link) (o : Offer) → number < link_count e.config → Standing e s → Offers number e.links new (Some o)
     → IfSome o.contents (λ slot. IsUsed s slot)
 given_used e s number new o few (others, m, st) offers = (gives e s others m number new o few st offers).is.used
 
 -- its new parameters are its old ones
-still : (e : Entities) (number : ℕ) (new : List Link) (t : Terms) → terms_in new ≡ terms_in e.links → HasTerms e.links number t → HasTerms new number t
+still : (e : LinkLayer) (number : ℕ) (new : List Link) (t : Terms) → terms_in new ≡ terms_in e.links → HasTerms e.links number t → HasTerms new number t
 still e number new t same has = subst (λ l. slice_get l number ≡ Some t) (sym same) has
 
-pub loads : (e : Entities) (s : Store) (number : ℕ) (new : List Link) (o : Offer) (address : Address) (info : List ℕ) → number < link_count e.config → Standing e s
+pub loads : (e : LinkLayer) (s : Store) (number : ℕ) (new : List Link) (o : Offer) (address : Address) (info : List ℕ) → number < link_count e.config → Standing e s
     → Offers number e.links new (Some o)
     → ((t : Terms) → HasTerms new number t → address ≡ address_at t o.frame.command)
     → info ≡ unwrap_or (contents_in s o.contents) [] → Loads e s o address info
@@ -173,7 +173,7 @@ loads e s number new o address info few (others, m, st) offers named is =
     }
 
 -- the entities when a link has given something: the round goes on after it
-turned : (e : Entities) (s : Store) (others : List Owned) (m : Line) (number : ℕ) (new : List Link) (ms : List machine.Link) → Stands e s others m → terms_in new ≡ terms_in e.links
+turned : (e : LinkLayer) (s : Store) (others : List Owned) (m : Line) (number : ℕ) (new : List Link) (ms : List machine.Link) → Stands e s others m → terms_in new ≡ terms_in e.links
     → IsSound e.config (record m { links = ms; turn = number + 1 }) → LinksStand e.config new s (beside_links e m others) ms
     → Stands (record e { links = new; turn = number + 1 }) s others (record m { links = ms; turn = number + 1 })
 turned e s others m number new ms st same sound stand = record {
@@ -191,7 +191,7 @@ turned e s others m number new ms st same sound stand = record {
 }
 
 -- what a link gives is loaded
-pub link_loaded : (e : Entities) (s : Store) (f g : Framing) (number : ℕ) (new : List Link) (o : Offer) (address : Address) (info : List ℕ) → number < link_count e.config
+pub link_loaded : (e : LinkLayer) (s : Store) (f g : Framing) (number : ℕ) (new : List Link) (o : Offer) (address : Address) (info : List ℕ) → number < link_count e.config
     → Offers number e.links new (Some o)
     → ((t : Terms) → HasTerms new number t → address ≡ address_at t o.frame.command)
     → info ≡ unwrap_or (contents_in s o.contents) [] → g.room ≡ f.room
@@ -252,7 +252,7 @@ among from n c m = first_taken c m (range_with_len from n)
 among_append : (c : Config) (m : Line) (a n k : ℕ) → option_or (among a n c m) (among (a + n) k c m) ≡ among a (n + k) c m
 among_append c m a n k = sym (ap (first_taken c m) (range_append a n k) ∙ first_append c m (range_with_len a n) (range_with_len (a + n) k))
 
-pub none_among : (e : Entities) (s : Store) (f : Framing) (from : ℕ) → Takes (among from (from - from)) e s f e s f None
+pub none_among : (e : LinkLayer) (s : Store) (f : Framing) (from : ℕ) → Takes (among from (from - from)) e s f e s f None
 none_among e s f from =
     let none : 0 ≡ from - from = omega arith in
     subst (λ n. Takes (among from n) e s f e s f None) none (record {
@@ -263,7 +263,7 @@ none_among e s f from =
     })
 
 -- one link more that has nothing to give
-pub one_more : (from number : ℕ) {a b c : Entities} {s t u : Store} {f g h : Framing} → from ≤ number
+pub one_more : (from number : ℕ) {a b c : LinkLayer} {s t u : Store} {f g h : Framing} → from ≤ number
     → Takes (among from (number - from)) a s f b t g None → Takes (λ c m. link_taken c m number) b t g c u h None
     → Takes (among from (number + 1 - from)) a s f c u h None
 one_more from number {a} {b} {c} {s} {t} {u} {f} {g} {h} order before now =
@@ -276,7 +276,7 @@ one_more from number {a} {b} {c} {s} {t} {u} {f} {g} {h} order before now =
     (takes_or {first = among from (number - from)} {second = λ c m. link_taken c m number} before now)
 
 -- the first that has something to give
-pub found : (from number to : ℕ) {a b c : Entities} {s t u : Store} {f g h : Framing} {orders : List Order} → from ≤ number → number < to
+pub found : (from number to : ℕ) {a b c : LinkLayer} {s t u : Store} {f g h : Framing} {orders : List Order} → from ≤ number → number < to
     → Takes (among from (number - from)) a s f b t g None → Takes (λ c m. link_taken c m number) b t g c u h (Some orders)
     → Takes (among from (to - from)) a s f c u h (Some orders)
 found from number to {a} {b} {c} {s} {t} {u} {f} {g} {h} {orders} order within before now =
@@ -288,11 +288,11 @@ found from number to {a} {b} {c} {s} {t} {u} {f} {g} {h} {orders} order within b
     (takes_or {first = among from (number - from)} {second = λ config m. option_or (link_taken config m number) (among (number + 1) (to - (number + 1)) config m)} before
     (takes_first (among (number + 1) (to - (number + 1))) {first = λ c m. link_taken c m number} now))
 
-pub all_passed : (from number to : ℕ) {a b : Entities} {s t : Store} {f g : Framing} → number ≡ to → Takes (among from (number - from)) a s f b t g None → Takes (among from (to - from)) a s f b t g None
+pub all_passed : (from number to : ℕ) {a b : LinkLayer} {s t : Store} {f g : Framing} → number ≡ to → Takes (among from (number - from)) a s f b t g None → Takes (among from (to - from)) a s f b t g None
 all_passed from number to {a} {b} {s} {t} {f} {g} same h = subst (λ n. Takes (among from (n - from)) a s f b t g None) same h
 
 -- where nothing was taken, a past stands still, and the framer is as it was
-pub none_stands : {source : Config → Line → Option Taken} {a b : Entities} {s t : Store} {f g : Framing} → Takes source a s f b t g None → Standing a s → Standing b t × (g ≡ f)
+pub none_stands : {source : Config → Line → Option Taken} {a b : LinkLayer} {s t : Store} {f g : Framing} → Takes source a s f b t g None → Standing a s → Standing b t × (g ≡ f)
 none_stands {source} {a} {b} {s} {t} {f} {g} h (others, m, st) = go (source a.config m) (h.took others m st)
   where
     go : (o : Option Taken) → Took o None m b t others f g → Standing b t × (g ≡ f)
@@ -316,7 +316,7 @@ take_range a n zero h = refl
 take_range a zero (suc t) h = absurd (omega (arith, h))
 take_range a (suc n) (suc t) h = ap (λ l. a ∷ l) (take_range (a + 1) n t (omega (arith, h)))
 
-pub round_is : (e : Entities) (s : Store) (others : List Owned) (m : Line) → Stands e s others m
+pub round_is : (e : LinkLayer) (s : Store) (others : List Owned) (m : Line) → Stands e s others m
     → option_or (among e.turn (link_count e.config - e.turn) e.config m) (among 0 (e.turn - 0) e.config m) ≡ first_taken e.config m (round e.config m)
 round_is e s others m st =
     let n = link_count e.config in
@@ -329,14 +329,14 @@ round_is e s others m st =
     ∙ ap (λ l. first_taken e.config m (l ++ range_with_len 0 m.turn)) (ap (λ b. range_with_len b (n - m.turn)) first ∙ sym (drop_range 0 n m.turn few))
     ∙ ap (λ l. first_taken e.config m (drop m.turn (range_with_len 0 n) ++ l)) (sym (take_range 0 n m.turn few))
 
-pub round_found : (e : Entities) (count : ℕ) {b : Entities} {s t : Store} {f g : Framing} {orders : List Order} → count ≡ length e.links
+pub round_found : (e : LinkLayer) (count : ℕ) {b : LinkLayer} {s t : Store} {f g : Framing} {orders : List Order} → count ≡ length e.links
     → Takes (among e.turn (count - e.turn)) e s f b t g (Some orders) → Takes (λ c m. first_taken c m (round c m)) e s f b t g (Some orders)
 round_found e count {b} {s} {t} {f} {g} {orders} is h =
     takes_as {first = λ c m. option_or (among e.turn (count - e.turn) c m) (among 0 (e.turn - 0) c m)} {second = λ c m. first_taken c m (round c m)}
     (λ others m st. ap (λ n. option_or (among e.turn (n - e.turn) e.config m) (among 0 (e.turn - 0) e.config m)) (is ∙ st.count) ∙ round_is e s others m st)
     (takes_first (among 0 (e.turn - 0)) {first = among e.turn (count - e.turn)} h)
 
-pub round_ends : (e : Entities) (count : ℕ) {b c : Entities} {s t u : Store} {f g h : Framing} {orders : Option (List Order)} → count ≡ length e.links
+pub round_ends : (e : LinkLayer) (count : ℕ) {b c : LinkLayer} {s t u : Store} {f g h : Framing} {orders : Option (List Order)} → count ≡ length e.links
     → Takes (among e.turn (count - e.turn)) e s f b t g None → Takes (among 0 (e.turn - 0)) b t g c u h orders
     → Takes (λ c m. first_taken c m (round c m)) e s f c u h orders
 round_ends e count {b} {c} {s} {t} {u} {f} {g} {h} {orders} is before now =

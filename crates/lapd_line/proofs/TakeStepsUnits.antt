@@ -20,9 +20,9 @@ use Rattle.lapd_line_machine.specs.declared.config.Config.{Config}
 use Rattle.lapd_line_machine.specs.Line.{Line, UnitData}
 use Rattle.lapd_line_machine.specs.Pull.{with_unit, unit_taken}
 use Rattle.lapd_line_machine.specs.Sound.{IsUnitData}
-use Rattle.lapd_line.specs.declared.entities.Entities.{Entities}
+use Rattle.lapd_line.specs.declared.link_layer.LinkLayer.{LinkLayer}
 use Rattle.lapd_line.specs.declared.units.QueuedUnit.{QueuedUnit}
-use Rattle.lapd_line.specs.Entities.{Stands}
+use Rattle.lapd_line.specs.LinkLayer.{Stands}
 use Rattle.lapd_line.specs.Links.{links_pairs}
 use Rattle.lapd_line.specs.Units.{AreFor, slots_of, messages_of, unit_pairs, without_oldest}
 use Rattle.lapd_line.specs.Takes.{HasTaken, Took, Takes}
@@ -65,11 +65,11 @@ oldest_of c s (x ∷ us) (d ∷ ds) rest u is (service, tei, same) all held =
     })
 
 -- the units of a line stand beside its links and what others own
-abbrev pub beside_units : (e : Entities) (s : Store) (others : List Owned) (m : Line) → Stands e s others m
+abbrev pub beside_units : (e : LinkLayer) (s : Store) (others : List Owned) (m : Line) → Stands e s others m
     → Part s (unit_pairs e.units.waiting m.units) (λ new. (links_pairs e.links m.links ++ new) ++ others)
 beside_units e s others m st = second_part s (links_pairs e.links m.links) (unit_pairs e.units.waiting m.units) others st.held
 
-pub oldest : (e : Entities) (s : Store) (others : List Owned) (m : Line) (u : QueuedUnit) (st : Stands e s others m) → slice_get e.units.waiting 0 ≡ Some u
+pub oldest : (e : LinkLayer) (s : Store) (others : List Owned) (m : Line) (u : QueuedUnit) (st : Stands e s others m) → slice_get e.units.waiting 0 ≡ Some u
     → Oldest e.config s e.units.waiting m.units (beside_units e s others m st).rest u
 oldest e s others m u st is =
     oldest_of e.config s e.units.waiting m.units (beside_units e s others m st).rest u is st.addressed st.sound.units
@@ -84,7 +84,7 @@ pub is_frame : (service : Service) (sapi tei : ℕ) → sapi ≡ sapi_of service
 is_frame service sapi tei is fits = record { sapi = omega (arith, is, sapi_small service); tei = omega (arith, fits); kind = refl; size = refl }
 
 -- without the oldest
-pub without_unit : (e : Entities) (s t : Store) (others : List Owned) (m : Line) (u : QueuedUnit) → Stands e s others m → slice_get e.units.waiting 0 ≡ Some u
+pub without_unit : (e : LinkLayer) (s t : Store) (others : List Owned) (m : Line) (u : QueuedUnit) → Stands e s others m → slice_get e.units.waiting 0 ≡ Some u
     → t ≡ without s u.slot → Stands (record e { units = without_oldest e.units }) t others (record m { units = drop 1 m.units })
 without_unit e s t others m u st is free =
     let o = oldest e s others m u st is in
@@ -117,7 +117,7 @@ none_for [] [] none h = refl
 none_for [] (d ∷ ds) none h = absurd h
 none_for (u ∷ us) ds none h = absurd (none-some u none)
 
-pub no_unit : (e : Entities) (s : Store) (f : Framing) → None ≡ slice_get e.units.waiting 0 → Takes (λ c m. unit_taken m) e s f e s f None
+pub no_unit : (e : LinkLayer) (s : Store) (f : Framing) → None ≡ slice_get e.units.waiting 0 → Takes (λ c m. unit_taken m) e s f e s f None
 no_unit e s f none = record {
   config = refl;
   limits = record { slots = refl; width = refl };
@@ -127,7 +127,7 @@ no_unit e s f none = record {
       subst (λ o. Took o None m e s others f f) (sym same) (st, refl);
 }
 
-pub unit_loaded : (e : Entities) (s t : Store) (f g : Framing) (u : QueuedUnit) (sapi : ℕ) (octets : List ℕ) → slice_get e.units.waiting 0 ≡ Some u
+pub unit_loaded : (e : LinkLayer) (s t : Store) (f g : Framing) (u : QueuedUnit) (sapi : ℕ) (octets : List ℕ) → slice_get e.units.waiting 0 ≡ Some u
     → sapi ≡ sapi_of u.service → contents_of s u.slot ≡ Some octets → t ≡ without s u.slot → SameLimits s t → g.room ≡ f.room
     → ((items : List Item) (given : List ℕ) → framer.Stands f items given
     → framer.Stands g (items ++ frame (spelling Network (record { address = record { sapi = sapi; command = true; tei = u.tei }; control = Ui false; info = octets })) ∷ []) given)

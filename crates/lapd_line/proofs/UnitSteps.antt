@@ -14,15 +14,15 @@ use Rattle.lapd_tei.proofs.Tables.{place_of-is, is_on-at}
 use Rattle.lapd_line_machine.specs.declared.config.Config.{Config}
 use Rattle.lapd_line_machine.specs.Answer.{nothing}
 use Rattle.lapd_line_machine.specs.Line.{Line, UnitData}
-use Rattle.lapd_line_machine.specs.Outcome.{at_units, of_aim}
+use Rattle.lapd_line_machine.specs.Effect.{at_units, of_aim}
 use Rattle.lapd_line_machine.specs.Refusal.{refusal}
 use Rattle.lapd_line_machine.specs.Request as asked
 use Rattle.lapd_line_machine.specs.Stored.{contents_of}
 use Rattle.lapd_line_machine.proofs.AimsSound.{IsProper, aim_sound}
-use Rattle.lapd_line.specs.declared.entities.Entities.{Entities}
-use Rattle.lapd_line.specs.declared.reports.Outcome.{Outcome}
+use Rattle.lapd_line.specs.declared.link_layer.LinkLayer.{LinkLayer}
+use Rattle.lapd_line.specs.declared.reports.BareReport.{BareReport}
 use Rattle.lapd_line.specs.declared.units.QueuedUnit.{QueuedUnit}
-use Rattle.lapd_line.specs.Entities.{Stands, Standing, Serves, always}
+use Rattle.lapd_line.specs.LinkLayer.{Stands, Standing, Serves, always}
 use Rattle.lapd_line.specs.Reports.{told_in}
 use Rattle.lapd_line.specs.Units.{UnitRing, AreFor, slots_of, messages_of, unit_pairs, slot_of, with_newest}
 use Rattle.lapd_line.proofs.AskSteps.{off_line}
@@ -51,11 +51,11 @@ neither true b = refl
 neither false b = refl
 
 -- as many wait as the machine has
-waiting : (e : Entities) (s : Store) (others : List Owned) (m : Line) → Stands e s others m → length e.units.waiting ≡ length m.units
+waiting : (e : LinkLayer) (s : Store) (others : List Owned) (m : Line) → Stands e s others m → length e.units.waiting ≡ length m.units
 waiting e s others m st = sym (length-map e.units.waiting slot_of) ∙ as_many e.units.waiting m.units st.addressed ∙ length-map m.units contents_of
 
 -- No row before those for room holds: then these two are the answer.
-pub room_is_left : (e : Entities) (s : Store) (others : List Owned) (m : Line) (service : Service) (tei octets : ℕ) (contents : List ℕ) (full : Bool) (answer : Option Refusal)
+pub room_is_left : (e : LinkLayer) (s : Store) (others : List Owned) (m : Line) (service : Service) (tei octets : ℕ) (contents : List ℕ) (full : Bool) (answer : Option Refusal)
     → Stands e s others m → length contents ≡ octets → nat_lt 127 tei ≡ false → ((tei == 127) || is_on tei e.teis.places) ≡ true → nat_lt e.config.n201 octets ≡ false
     → answer ≡ cond (nat_le e.config.unit_queue (length e.units.waiting)) (Some QueueFull) (cond full (Some PoolFull) None)
     → answer ≡ refusal e.config full (asked.Unit service tei contents) m
@@ -68,7 +68,7 @@ room_is_left e s others m service tei octets contents full answer st size low fo
     (is ∙ ap (λ n. cond (nat_le e.config.unit_queue n) (Some QueueFull) (cond full (Some PoolFull) None)) (waiting e s others m st))))
 
 -- A place in the queue and on the shelf for so many octets.
-pub record HasPlace (e : Entities) (s : Store) (octets : ℕ) : Type 0 where
+pub record HasPlace (e : LinkLayer) (s : Store) (octets : ℕ) : Type 0 where
   pub size : octets ≤ s.width
   pub ring : length e.units.waiting < e.units.capacity
   pub slot : used_slots s < s.slots
@@ -85,7 +85,7 @@ granted c full service tei contents m e =
     ((record { tei = ltb-false 127 tei bad.0; size = ltb-false c.n201 (length contents) long.0 }, leb-false c.unit_queue (length m.units) queue.0), pool.0)
 
 -- the answer of the code is that of the machine, whatever the contents of this length
-pub refused_so : (e : Entities) (s : Store) (service : Service) (tei : ℕ) (contents : List ℕ) (slots used : ℕ) (answer : Option Refusal) → used ≡ used_slots s
+pub refused_so : (e : LinkLayer) (s : Store) (service : Service) (tei : ℕ) (contents : List ℕ) (slots used : ℕ) (answer : Option Refusal) → used ≡ used_slots s
     → ((store : Store) (others : List Owned) (m : Line) (service : Service) (info : List ℕ) → Stands e store others m → length info ≡ length contents
     → answer ≡ refusal e.config (nat_le slots used) (asked.Unit service tei info) m)
     → (others : List Owned) (m : Line) → Stands e s others m → refusal e.config (nat_le slots (used_slots s)) (asked.Unit service tei contents) m ≡ answer
@@ -93,7 +93,7 @@ refused_so e s service tei contents slots used answer count h = λ others m st.
     ap (λ n. refusal e.config (nat_le slots n) (asked.Unit service tei contents) m) (sym count) ∙ sym (h s others m service contents st refl)
 
 -- so there is a place for it
-pub placed : (e : Entities) (s : Store) (slots : ℕ) (service : Service) (tei : ℕ) (contents : List ℕ) → Standing e s → slots ≤ s.slots
+pub placed : (e : LinkLayer) (s : Store) (slots : ℕ) (service : Service) (tei : ℕ) (contents : List ℕ) → Standing e s → slots ≤ s.slots
     → ((others : List Owned) (m : Line) → Stands e s others m → refusal e.config (nat_le slots (used_slots s)) (asked.Unit service tei contents) m ≡ None)
     → HasPlace e s (length contents)
 placed e s slots service tei contents (others, m, st) within none =
@@ -120,7 +120,7 @@ newest_held s t us ds u d rest same free stored held =
     (subst (λ l. Holds t (pairs_of (slots_of us ++ u.slot ∷ []) l ++ rest)) (sym (map-append contents_of ds (d ∷ []))) kept.held)
 
 -- with one more that waits
-with_unit : (e : Entities) (s t : Store) (others : List Owned) (m : Line) (u : QueuedUnit) (d : UnitData) → Stands e s others m → u.service ≡ d.service → u.tei ≡ d.tei
+with_unit : (e : LinkLayer) (s t : Store) (others : List Owned) (m : Line) (u : QueuedUnit) (d : UnitData) → Stands e s others m → u.service ≡ d.service → u.tei ≡ d.tei
     → IsFree s u.slot → t ≡ with_contents s u.slot d.contents → IsProper e.config m (at_units d)
     → Stands (record e { units = with_newest u e.units }) t others (of_aim e.config (at_units d) m).line
 with_unit e s t others m u d st service tei free stored proper = record {
@@ -139,7 +139,7 @@ with_unit e s t others m u d st service tei free stored proper = record {
 }
 
 -- and the entities have served it
-pub unit_serves : (e : Entities) (s t : Store) (ring : UnitRing) (slots : ℕ) (service : Service) (tei slot : ℕ) (contents : List ℕ) (outcome : Outcome)
+pub unit_serves : (e : LinkLayer) (s t : Store) (ring : UnitRing) (slots : ℕ) (service : Service) (tei slot : ℕ) (contents : List ℕ) (outcome : BareReport)
     → ((others : List Owned) (m : Line) → Stands e s others m → refusal e.config (nat_le slots (used_slots s)) (asked.Unit service tei contents) m ≡ None)
     → IsFree s slot → t ≡ with_contents s slot contents → SameLimits s t → ring ≡ with_newest (record { service = service; tei = tei; slot = slot }) e.units → told_in [] outcome ≡ nothing
     → Serves (always (at_units (record { service = service; tei = tei; contents = contents }))) [] e s (record e { units = ring }) t outcome

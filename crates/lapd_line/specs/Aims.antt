@@ -10,7 +10,7 @@ use Rattle.lapd_link_machine.specs.Events as link
 use Rattle.lapd_tei.specs.Machine.{Management, place}
 use Rattle.lapd_tei.specs.Sound.{IsAt}
 use Rattle.lapd_line_machine.specs.Octet.{management_sapi, group_tei, drop_for}
-use Rattle.lapd_line_machine.specs.Outcome.{Aim, at_link}
+use Rattle.lapd_line_machine.specs.Effect.{Aim, at_link}
 use Rattle.lapd_line.specs.declared.aims.Addressee.{Addressee}
 use Rattle.lapd_line.specs.declared.aims.Addressee.TheVariants as to
 

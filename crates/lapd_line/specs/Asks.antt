@@ -8,6 +8,8 @@ use Rattle.lapd_link_machine.specs.Requests as links
 use Rattle.lapd_tei.specs.Events as teis
 use Rattle.lapd_line_machine.specs.declared.config.Config.{Config}
 use Rattle.lapd_line_machine.specs.Line.{Line, has_tei, link_of, terms}
+use Rattle.lapd_line.specs.declared.asks.TeiRequest.{TeiRequest}
+use Rattle.lapd_line.specs.declared.asks.TeiRequest.TheVariants as tei_request
 
 -- The TEI has to be one of a terminal, and on the line; then the link refuses, or not.
 abbrev pub link_refusal : Config → Bool → Service → ℕ → link.Request → Line → Option Refusal
@@ -19,3 +21,9 @@ link_refusal c full service tei request l =
 -- The TEI has to be one of a terminal; then TEI management refuses, or not.
 abbrev pub management_refusal : ℕ → teis.Event → Line → Option Refusal
 management_refusal tei event l = if nat_lt 126 tei then Some BadTei else teis.refusal event l.management
+
+-- What is asked of TEI management, as its event.
+abbrev pub event_of : TeiRequest → ℕ → teis.Event
+event_of tei_request.Assign tei = teis.assign tei
+event_of tei_request.Remove tei = teis.remove tei
+event_of tei_request.Check tei = teis.check tei

@@ -6,8 +6,8 @@ use Rattle.lapd_tei.specs.Laws.{IsInRange}
 use Rattle.lapd_tei.specs.Machine.{Management}
 use Rattle.lapd_tei.specs.Outcome.{told_of}
 use Rattle.lapd_tei.specs.declared.outcome.TeiOutcome.{TeiOutcome}
-use Rattle.lapd_line.specs.declared.entities.Entities.{Entities}
-use Rattle.lapd_line.specs.Entities.{Standing}
+use Rattle.lapd_line.specs.declared.link_layer.LinkLayer.{LinkLayer}
+use Rattle.lapd_line.specs.LinkLayer.{Standing}
 
 -- This was told of the event, which found TEI management so.
 pub record IsAnswerTo (e : Event) (before now : Management) (outcome : TeiOutcome) : Type 0 where
@@ -15,8 +15,8 @@ pub record IsAnswerTo (e : Event) (before now : Management) (outcome : TeiOutcom
   pub after : now ≡ after e before
   pub told : told_of outcome ≡ told e before
 
-abbrev pub with_management : Management → Entities → Entities
+abbrev pub with_management : Management → LinkLayer → LinkLayer
 with_management before e = record e { teis = before }
 
-abbrev pub Changing : Entities → Store → TeiOutcome → Type 0
+abbrev pub Changing : LinkLayer → Store → TeiOutcome → Type 0
 Changing e store outcome = (what : Event) × (before : Management) × IsAnswerTo what before e.teis outcome × Standing (with_management before e) store

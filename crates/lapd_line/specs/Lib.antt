@@ -3,7 +3,7 @@ pub mod Reports
 pub mod Units
 pub mod Links
 pub mod Starts
-pub mod Entities
+pub mod LinkLayer
 pub mod Aims
 pub mod Changes
 pub mod Stands

@@ -4,7 +4,7 @@ use Rattle.std.specs.Option.{option_copied}
 use Rattle.lapd_bits.specs.Stream as stream
 use Rattle.lapd_frame.specs.ShortLists.{listed}
 use Rattle.lapd_line_machine.specs.Answer.{Told, Answer, pulled}
-use Rattle.lapd_line.specs.declared.reports.Outcome.{Outcome}
+use Rattle.lapd_line.specs.declared.reports.BareReport.{BareReport}
 use Rattle.lapd_line.specs.declared.reports.Report.{Report}
 use Rattle.lapd_line.specs.declared.pulled.Pulled.{Pulled}
 
@@ -12,8 +12,12 @@ abbrev pub report_told : Report → Told
 report_told r =
     record { notes = listed r.notes; contents = option_copied r.delivered; cause = r.cause; orders = listed r.orders; lost = r.lost }
 
+-- What is left of it without the contents.
+abbrev pub without_contents : Told → Told
+without_contents t = record t { contents = None }
+
 -- What an outcome tells, with the contents that it names lent from these octets.
-abbrev pub told_in : List ℕ → Outcome → Told
+abbrev pub told_in : List ℕ → BareReport → Told
 told_in octets o =
     record { notes = listed o.notes; contents = option_map (λ start. drop start octets) o.contents; cause = o.cause; orders = listed o.orders; lost = o.lost }
 

@@ -1,5 +1,5 @@
 -- What a line holds of its past.
-use Rattle.std.specs.Prelude.{◌≡◌, List, ℕ, ◌++◌}
+use Rattle.std.specs.Prelude.{◌≡◌, List, ℕ, ◌++◌, true, None}
 use Rattle.lapd_bits.specs.Deframer as deframer
 use Rattle.lapd_bits.specs.Framer as framer
 use Rattle.lapd_store.specs.Ownership.{Owned}
@@ -8,14 +8,15 @@ use Rattle.lapd_line_machine.specs.declared.config.Config.{Config}
 use Rattle.lapd_line_machine.specs.Answer.{Event}
 use Rattle.lapd_line_machine.specs.Line as machine
 use Rattle.lapd_line_machine.specs.Machine.{after}
+use Rattle.lapd_line_machine.specs.Pull.{taken}
 use Rattle.lapd_line.specs.declared.line.Line.{Line}
-use Rattle.lapd_line.specs.Entities as entities
+use Rattle.lapd_line.specs.LinkLayer as layer
 use Rattle.lapd_line.specs.Links.{links_pairs}
 use Rattle.lapd_line.specs.Reports.{octets_of}
 use Rattle.lapd_line.specs.Units.{unit_pairs}
 
 abbrev pub config_of : Line → Config
-config_of line = line.entities.config
+config_of line = line.layer.config
 
 -- The octets of the frame that the latest octet ended; none where it ended no frame.
 abbrev pub latest_frame : Line → List ℕ
@@ -23,7 +24,7 @@ latest_frame line = octets_of (deframer.latest_of line.deframer)
 
 -- What a line owns on the shelf: the slots of its links and of the unit data that waits, with their contents.
 abbrev pub pairs_of : Line → machine.Line → List Owned
-pairs_of line m = links_pairs line.entities.links m.links ++ unit_pairs line.entities.units.waiting m.units
+pairs_of line m = links_pairs line.layer.links m.links ++ unit_pairs line.layer.units.waiting m.units
 
 -- A line stands for a past beside others on its shelf: its deframer for the octets received, its framer for the items
 -- sent and the octets given, its entities for the rest; and the shelf holds exactly what the line and the others own.
@@ -31,7 +32,9 @@ pub record Stands (line : Line) (store : Store) (others : List Owned) (m : machi
   pub received : deframer.Stands (config_of line).n201 line.deframer m.received
   pub sent : framer.Stands line.framer m.items m.given
   pub room : line.framer.room ≡ (config_of line).n201
-  pub entities : entities.Stands line.entities store others m
+  pub layer : layer.Stands line.layer store others m
+  -- where it is known to be quiet, there is nothing that a pull could take
+  pub quiet : line.quiet ≡ true → taken (config_of line) m ≡ None
 
 -- An event leads a line and its shelf from one value to another: for every past, and every list of what others own, for
 -- which they stood, they stand for that past with the event, and for the same others.

@@ -10,8 +10,8 @@ ghost use Rattle.lapd_link_machine.specs.Events as link;
 ghost use Rattle.lapd_line_machine.specs.Octet.{addressed, aim_of_long, aim_of_reading, drop_for, message_of, unless_at_link};
 ghost use Rattle.lapd_line.specs.Aims.{is_ui};
 
-use crate::entities::Entities;
-use crate::reports::Outcome;
+use crate::link_layer::LinkLayer;
+use crate::reports::BareReport;
 use lapd_bits::{Cause, Heard};
 use lapd_frame::{Address, Control, Frame, Long, ReadFault, Service, Side, read, read_long};
 use lapd_link::Received;
@@ -45,27 +45,27 @@ fn is_ui(control: Control) -> bool
     matches!(control, Control::Ui { .. })
 }
 
-impl Entities {
+impl LinkLayer {
     ghost use Rattle.lapd_link.specs.Events.{received_of, info_of};
     ghost use Rattle.lapd_line.specs.Aims.{addressee, IsAtPlace};
-    ghost use Rattle.lapd_line.specs.Entities.{Standing, Serves, always, aim_of_event};
+    ghost use Rattle.lapd_line.specs.LinkLayer.{Standing, Serves, always, aim_of_event};
     ghost use Rattle.lapd_line.specs.Reports.{octets_of};
 
     /// Serves what the octets of the line have brought.
-    pub(crate) fn serve<S: Shelf>(&mut self, heard: Heard<'_>, shelf: &mut S) -> Outcome
+    pub(crate) fn serve<S: Shelf>(&mut self, heard: Heard<'_>, shelf: &mut S) -> BareReport
         requires { Standing self.old (S.store shelf.old) }
         ensures { Serves (aim_of_event (heard_of heard.entry)) (octets_of (heard_of heard.entry)) self.old (S.store shelf.old) self.new (S.store shelf.new) result }
     {
         match heard {
-            Heard::Nothing => Outcome::nothing(),
-            Heard::Dropped(cause) => Outcome::dropped(cause),
+            Heard::Nothing => BareReport::nothing(),
+            Heard::Dropped(cause) => BareReport::dropped(cause),
             Heard::Frame(octets) => self.frame(octets, shelf),
             Heard::Overlong(head) => self.overlong(&head, shelf),
         }
     }
 
     /// A frame.
-    fn frame<S: Shelf>(&mut self, octets: &[u8], shelf: &mut S) -> Outcome
+    fn frame<S: Shelf>(&mut self, octets: &[u8], shelf: &mut S) -> BareReport
         requires { Standing self.old (S.store shelf.old) }
         ensures { Serves (λ m. aim_of_reading m (reading User octets.now)) octets.now self.old (S.store shelf.old) self.new (S.store shelf.new) result }
     {
@@ -76,7 +76,7 @@ impl Entities {
     }
 
     /// A frame of the grammar.
-    fn spelled<S: Shelf>(&mut self, frame: Frame<'_>, shelf: &mut S) -> Outcome
+    fn spelled<S: Shelf>(&mut self, frame: Frame<'_>, shelf: &mut S) -> BareReport
         requires { Standing self.old (S.store shelf.old) }
         ensures { (octets : List ℕ) → frame.entry.info.now ≡ drop (start_of frame.entry.control) octets
             → Serves (λ m. aim_of_reading m (Ok (parts_of frame.entry))) octets self.old (S.store shelf.old) self.new (S.store shelf.new) result }
@@ -97,18 +97,18 @@ impl Entities {
                     shelf,
                 )
             }
-            Addressee::Nobody(cause) => Outcome::dropped(cause),
+            Addressee::Nobody(cause) => BareReport::dropped(cause),
         }
     }
 
     /// Octets that spell no frame: `len` of them.
-    fn faulty<S: Shelf>(&mut self, fault: ReadFault, len: usize, shelf: &mut S) -> Outcome
+    fn faulty<S: Shelf>(&mut self, fault: ReadFault, len: usize, shelf: &mut S) -> BareReport
         requires { Standing self.old (S.store shelf.old) }
         ensures { (octets : List ℕ) → length octets ≤ len
             → Serves (λ m. aim_of_reading m (Err fault)) octets self.old (S.store shelf.old) self.new (S.store shelf.new) result }
     {
         match fault {
-            ReadFault::BadExtension => Outcome::dropped(Cause::Extension),
+            ReadFault::BadExtension => BareReport::dropped(Cause::Extension),
             ReadFault::Undefined(address) => self.malformed(
                 address,
                 Received::Undefined,
@@ -121,12 +121,12 @@ impl Entities {
                 len,
                 shelf,
             ),
-            ReadFault::Short => Outcome::dropped(Cause::Unserved),
+            ReadFault::Short => BareReport::dropped(Cause::Unserved),
         }
     }
 
     /// A frame that is longer than the line has room for, by its first four octets.
-    fn overlong<S: Shelf>(&mut self, head: &[u8; 4], shelf: &mut S) -> Outcome
+    fn overlong<S: Shelf>(&mut self, head: &[u8; 4], shelf: &mut S) -> BareReport
         requires { Standing self.old (S.store shelf.old) }
         ensures { Serves (λ m. aim_of_long m (long_reading User head.now)) [] self.old (S.store shelf.old) self.new (S.store shelf.new) result }
     {
@@ -144,42 +144,42 @@ impl Entities {
         received: Received<'_>,
         len: usize,
         shelf: &mut S,
-    ) -> Outcome
+    ) -> BareReport
         requires stands { Standing self.old (S.store shelf.old) }
         requires no_frame { info_of received ≡ [] }
         ensures { (octets : List ℕ) → length octets ≤ len
             → Serves (λ m. addressed m address (received_of received.entry) (drop_for Unserved)) octets self.old (S.store shelf.old) self.new (S.store shelf.new) result }
     {
         match self.addressee(address) {
-            Addressee::Management => Outcome::dropped(Cause::Unserved),
+            Addressee::Management => BareReport::dropped(Cause::Unserved),
             Addressee::Link {
                 service,
                 tei,
                 place,
             } => self.receive(service, tei, place, received, len, shelf),
-            Addressee::Nobody(cause) => Outcome::dropped(cause),
+            Addressee::Nobody(cause) => BareReport::dropped(cause),
         }
     }
 
     /// A UI or XID frame that is too long to keep: no link serves it (profile).
-    fn unserved<S: Shelf>(&mut self, address: Address, shelf: &mut S) -> Outcome
+    fn unserved<S: Shelf>(&mut self, address: Address, shelf: &mut S) -> BareReport
         requires { Standing self.old (S.store shelf.old) }
         ensures { Serves (λ m. unless_at_link (addressed m address link.overlong (drop_for Unserved))) [] self.old (S.store shelf.old) self.new (S.store shelf.new) result }
     {
         match self.addressee(address) {
-            Addressee::Management => Outcome::dropped(Cause::Unserved),
-            Addressee::Link { .. } => Outcome::dropped(Cause::Unserved),
-            Addressee::Nobody(cause) => Outcome::dropped(cause),
+            Addressee::Management => BareReport::dropped(Cause::Unserved),
+            Addressee::Link { .. } => BareReport::dropped(Cause::Unserved),
+            Addressee::Nobody(cause) => BareReport::dropped(cause),
         }
     }
 
     /// A frame of layer 2 management.
-    fn message<S: Shelf>(&mut self, control: Control, info: &[u8], shelf: &mut S) -> Outcome
+    fn message<S: Shelf>(&mut self, control: Control, info: &[u8], shelf: &mut S) -> BareReport
         requires { Standing self.old (S.store shelf.old) }
         ensures { (octets : List ℕ) → Serves (always (message_of control info.now)) octets self.old (S.store shelf.old) self.new (S.store shelf.new) result }
     {
         if !is_ui(control) {
-            return Outcome::dropped(Cause::Unserved);
+            return BareReport::dropped(Cause::Unserved);
         }
         let told = self.teis.message(info);
         self.change(told, shelf)

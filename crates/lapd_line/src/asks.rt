@@ -5,31 +5,62 @@ ghost use Rattle.lapd_frame.specs.declared.services.Service.{Service};
 ghost use Rattle.lapd_store.specs.Ownership.{Owned};
 ghost use Rattle.lapd_store.specs.Store.{Store, used_slots};
 ghost use Rattle.lapd_tei.specs.Events as teis;
+ghost use Rattle.lapd_tei.specs.Laws.{IsInRange};
+ghost use Rattle.lapd_tei.specs.Outcome.{told_of, IsShort};
 ghost use Rattle.lapd_tei.specs.Table.{is_on};
 ghost use Rattle.lapd_line_machine.specs.Line.{Line};
 ghost use Rattle.lapd_line_machine.specs.Line as machine;
-ghost use Rattle.lapd_line_machine.specs.Outcome.{at_management, at_units};
+ghost use Rattle.lapd_line_machine.specs.Effect.{at_management, at_units};
 ghost use Rattle.lapd_line_machine.specs.Refusal.{refusal};
 ghost use Rattle.lapd_line_machine.specs.Request as asked;
 ghost use Rattle.lapd_line_machine.specs.Request.{request_of};
 ghost use Rattle.lapd_line_machine.specs.Requested.{aim_of_request, at_requested};
-ghost use Rattle.lapd_line.specs.Asks.{link_refusal, management_refusal};
+ghost use Rattle.lapd_line.specs.Asks.{event_of, link_refusal, management_refusal};
 
 use crate::aims::GROUP;
-use crate::entities::{Entities, link_number};
-use crate::reports::Outcome;
+use crate::link_layer::{LinkLayer, link_number};
+use crate::reports::BareReport;
 use crate::units::QueuedUnit;
 use lapd_frame::{Refusal, Service};
 use lapd_line_machine::Request;
 use lapd_link::LinkRequest;
 use lapd_store::Shelf;
+use lapd_tei::{TeiOutcome, Teis};
 
 /// The greatest TEI of a terminal (Q.921 clause 3.3.4).
 const LAST_TEI: u8 = 126;
 
-impl Entities {
+/// What is asked of TEI management about a TEI.
+#[derive(Clone, Copy, PartialEq, Eq, Debug)]
+enum TeiRequest {
+    Assign,
+    Remove,
+    Check,
+}
+
+impl TeiRequest {
+    /// Asks it of TEI management.
+    fn put(self, tei: u8, table: &mut Teis) -> Result<TeiOutcome, Refusal>
+        requires { tei ≤ 126 }
+        ensures range { IsInRange (event_of self tei) }
+        ensures told { IfOk result (λ outcome. told_of outcome ≡ teis.told (event_of self tei) table.old) }
+        ensures accepted { OnOk result (teis.refusal (event_of self tei) table.old ≡ None) }
+        ensures refused { IfErr result (λ why. teis.refusal (event_of self tei) table.old ≡ Some why) }
+        ensures after { table.new ≡ teis.after (event_of self tei) table.old }
+        ensures short { IfOk result IsShort }
+        ensures unchanged { OnErr result (table.new ≡ table.old) }
+    {
+        match self {
+            TeiRequest::Assign => table.assign(tei),
+            TeiRequest::Remove => table.remove(tei),
+            TeiRequest::Check => table.check(tei),
+        }
+    }
+}
+
+impl LinkLayer {
     ghost use Rattle.lapd_link.specs.Events as link;
-    ghost use Rattle.lapd_line.specs.Entities.{Standing, Stands, Serves, always};
+    ghost use Rattle.lapd_line.specs.LinkLayer.{Standing, Stands, Serves, always};
 
     /// Serves a request, or refuses it and changes nothing.
     pub(crate) fn request<S: Shelf>(
@@ -37,7 +68,7 @@ impl Entities {
         request: Request<'_>,
         shelf: &mut S,
         slots: u32,
-    ) -> Result<Outcome, Refusal>
+    ) -> Result<BareReport, Refusal>
         requires stands { Standing self.old (S.store shelf.old) }
         requires slots { slots ≤ (S.store shelf.old).slots }
         ensures refused { IfErr result (λ why. (others : List Owned) (m : Line) → Stands self.old (S.store shelf.old) others m
@@ -52,9 +83,9 @@ impl Entities {
             Request::Unit(service, tei, contents) => {
                 return self.unit(service, tei, contents, shelf, slots);
             }
-            Request::Assign(tei) => return self.assign(tei, shelf),
-            Request::Remove(tei) => return self.remove(tei, shelf),
-            Request::Check(tei) => return self.check(tei, shelf),
+            Request::Assign(tei) => return self.manage(TeiRequest::Assign, tei, shelf),
+            Request::Remove(tei) => return self.manage(TeiRequest::Remove, tei, shelf),
+            Request::Check(tei) => return self.manage(TeiRequest::Check, tei, shelf),
             Request::Establish(service, tei) => (service, tei, LinkRequest::Establish),
             Request::Release(service, tei) => (service, tei, LinkRequest::Release),
             Request::Data(service, tei, contents) => (service, tei, LinkRequest::Data(contents)),
@@ -72,7 +103,7 @@ impl Entities {
         request: LinkRequest<'_>,
         shelf: &mut S,
         slots: u32,
-    ) -> Result<Outcome, Refusal>
+    ) -> Result<BareReport, Refusal>
         requires stands { Standing self.old (S.store shelf.old) }
         requires slots { slots ≤ (S.store shelf.old).slots }
         ensures refused { IfErr result (λ why. (others : List Owned) (m : Line) → Stands self.old (S.store shelf.old) others m
@@ -93,66 +124,31 @@ impl Entities {
             .links
             .request(link_number(place, service), request, shelf, slots)
         {
-            Ok(answer) => Ok(Outcome::of_link(answer, 0)),
+            Ok(answer) => Ok(BareReport::of_link(answer, 0)),
             Err(why) => Err(why),
         }
     }
 
-    /// Puts a TEI on the line.
-    fn assign<S: Shelf>(&mut self, tei: u8, shelf: &mut S) -> Result<Outcome, Refusal>
+    /// Asks TEI management for something about a TEI.
+    fn manage<S: Shelf>(
+        &mut self,
+        asked: TeiRequest,
+        tei: u8,
+        shelf: &mut S,
+    ) -> Result<BareReport, Refusal>
         requires { Standing self.old (S.store shelf.old) }
         ensures refused { IfErr result (λ why. (others : List Owned) (m : Line) → Stands self.old (S.store shelf.old) others m
-            → management_refusal tei (teis.assign tei) m ≡ Some why) }
+            → management_refusal tei (event_of asked tei) m ≡ Some why) }
         ensures unchanged { OnErr result (self.new ≡ self.old) }
         ensures kept { OnErr result (shelf.new ≡ shelf.old) }
         ensures granted { OnOk result ((others : List Owned) (m : Line) → Stands self.old (S.store shelf.old) others m
-            → management_refusal tei (teis.assign tei) m ≡ None) }
-        ensures served { IfOk result (Serves (always (at_management (teis.assign tei))) [] self.old (S.store shelf.old) self.new (S.store shelf.new)) }
+            → management_refusal tei (event_of asked tei) m ≡ None) }
+        ensures served { IfOk result (Serves (always (at_management (event_of asked tei))) [] self.old (S.store shelf.old) self.new (S.store shelf.new)) }
     {
         if tei > LAST_TEI {
             return Err(Refusal::BadTei);
         }
-        match self.teis.assign(tei) {
-            Ok(told) => Ok(self.change(told, shelf)),
-            Err(why) => Err(why),
-        }
-    }
-
-    /// Takes a TEI off the line.
-    fn remove<S: Shelf>(&mut self, tei: u8, shelf: &mut S) -> Result<Outcome, Refusal>
-        requires { Standing self.old (S.store shelf.old) }
-        ensures refused { IfErr result (λ why. (others : List Owned) (m : Line) → Stands self.old (S.store shelf.old) others m
-            → management_refusal tei (teis.remove tei) m ≡ Some why) }
-        ensures unchanged { OnErr result (self.new ≡ self.old) }
-        ensures kept { OnErr result (shelf.new ≡ shelf.old) }
-        ensures granted { OnOk result ((others : List Owned) (m : Line) → Stands self.old (S.store shelf.old) others m
-            → management_refusal tei (teis.remove tei) m ≡ None) }
-        ensures served { IfOk result (Serves (always (at_management (teis.remove tei))) [] self.old (S.store shelf.old) self.new (S.store shelf.new)) }
-    {
-        if tei > LAST_TEI {
-            return Err(Refusal::BadTei);
-        }
-        match self.teis.remove(tei) {
-            Ok(told) => Ok(self.change(told, shelf)),
-            Err(why) => Err(why),
-        }
-    }
-
-    /// Begins a check of a TEI.
-    fn check<S: Shelf>(&mut self, tei: u8, shelf: &mut S) -> Result<Outcome, Refusal>
-        requires { Standing self.old (S.store shelf.old) }
-        ensures refused { IfErr result (λ why. (others : List Owned) (m : Line) → Stands self.old (S.store shelf.old) others m
-            → management_refusal tei (teis.check tei) m ≡ Some why) }
-        ensures unchanged { OnErr result (self.new ≡ self.old) }
-        ensures kept { OnErr result (shelf.new ≡ shelf.old) }
-        ensures granted { OnOk result ((others : List Owned) (m : Line) → Stands self.old (S.store shelf.old) others m
-            → management_refusal tei (teis.check tei) m ≡ None) }
-        ensures served { IfOk result (Serves (always (at_management (teis.check tei))) [] self.old (S.store shelf.old) self.new (S.store shelf.new)) }
-    {
-        if tei > LAST_TEI {
-            return Err(Refusal::BadTei);
-        }
-        match self.teis.check(tei) {
+        match asked.put(tei, &mut self.teis) {
             Ok(told) => Ok(self.change(told, shelf)),
             Err(why) => Err(why),
         }
@@ -166,7 +162,7 @@ impl Entities {
         contents: &[u8],
         shelf: &mut S,
         slots: u32,
-    ) -> Result<Outcome, Refusal>
+    ) -> Result<BareReport, Refusal>
         requires stands { Standing self.old (S.store shelf.old) }
         requires slots { slots ≤ (S.store shelf.old).slots }
         ensures refused { IfErr result (λ why. (others : List Owned) (m : Line) → Stands self.old (S.store shelf.old) others m
@@ -185,7 +181,7 @@ impl Entities {
             return Err(Refusal::PoolFull);
         };
         self.units.push(QueuedUnit { service, tei, slot });
-        Ok(Outcome::nothing())
+        Ok(BareReport::nothing())
     }
 
     /// Why unit data of so many octets is refused.

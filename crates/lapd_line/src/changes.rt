@@ -7,25 +7,25 @@ ghost use Rattle.lapd_tei.specs.Events as teis;
 ghost use Rattle.lapd_tei.specs.Machine.{Management};
 ghost use Rattle.lapd_tei.specs.declared.outcome.Change.TheVariants.{Gained, Left};
 ghost use Rattle.lapd_tei.specs.Outcome.{told_of, IsShort};
-ghost use Rattle.lapd_line_machine.specs.Outcome.{at_management, told_of_link, told_of_management, with_cleared};
+ghost use Rattle.lapd_line_machine.specs.Effect.{at_management, told_of_link, told_of_management, with_cleared};
 ghost use Rattle.lapd_line.specs.Changes.{IsAnswerTo, Changing, with_management};
 
-use crate::entities::{Entities, link_number};
-use crate::reports::Outcome;
+use crate::link_layer::{LinkLayer, link_number};
+use crate::reports::BareReport;
 use lapd_bits::Cause;
 use lapd_frame::{Service, ShortList};
 use lapd_link::Answer;
 use lapd_store::Shelf;
 use lapd_tei::{Change, TeiOutcome};
 
-impl Outcome {
+impl BareReport {
     ghost use Rattle.lapd_line.specs.Reports.{told_in};
 
     /// What TEI management tells.
-    pub(crate) fn of_management(told: TeiOutcome) -> Outcome
+    pub(crate) fn of_management(told: TeiOutcome) -> BareReport
         ensures { (octets : List ℕ) → told_in octets result ≡ told_of_management (told_of told) }
     {
-        Outcome {
+        BareReport {
             notes: told.notes,
             orders: told.orders,
             contents: None,
@@ -35,13 +35,13 @@ impl Outcome {
     }
 
     /// With what the two links of a TEI tell that leaves the line.
-    pub(crate) fn with_cleared(self, call: Answer, packet: Answer) -> Outcome
+    pub(crate) fn with_cleared(self, call: Answer, packet: Answer) -> BareReport
         requires notes { length (listed self.notes) + length (listed call.notes) + length (listed packet.notes) ≤ 4 }
         requires orders { length (listed call.orders) + length (listed packet.orders) + length (listed self.orders) ≤ 4 }
         ensures { (octets : List ℕ) → told_in octets result
             ≡ with_cleared (told_of_link (link.told_with [] call)) (told_of_link (link.told_with [] packet)) (told_in octets self) }
     {
-        Outcome {
+        BareReport {
             notes: joined(self.notes, call.notes, packet.notes),
             orders: joined(call.orders, packet.orders, self.orders),
             ..self
@@ -61,25 +61,31 @@ fn joined<T: Copy>(first: ShortList<T>, second: ShortList<T>, third: ShortList<T
     all
 }
 
-impl Entities {
-    ghost use Rattle.lapd_line.specs.Entities.{Serves, always};
+impl LinkLayer {
+    ghost use Rattle.lapd_line.specs.LinkLayer.{Serves, always};
 
     /// TEI management has served an event: what it told leads to changes of the links.
-    pub(crate) fn change<S: Shelf>(&mut self, told: TeiOutcome, shelf: &mut S) -> Outcome
+    pub(crate) fn change<S: Shelf>(&mut self, told: TeiOutcome, shelf: &mut S) -> BareReport
         requires changing { Changing self.old (S.store shelf.old) told }
         requires short { IsShort told }
         ensures { (e : teis.Event) (before : Management) (octets : List ℕ) → IsAnswerTo e before self.old.teis told
             → Serves (always (at_management e)) octets (with_management before self.old) (S.store shelf.old) self.new (S.store shelf.new) result }
     {
         match told.change {
-            None => Outcome::of_management(told),
+            None => BareReport::of_management(told),
             Some(Change::Gained { tei, place }) => self.open(told, tei, place, shelf),
             Some(Change::Left { tei, place }) => self.clear(told, tei, place, shelf),
         }
     }
 
     /// A TEI has come to the line: its links begin.
-    fn open<S: Shelf>(&mut self, told: TeiOutcome, tei: u8, place: usize, shelf: &mut S) -> Outcome
+    fn open<S: Shelf>(
+        &mut self,
+        told: TeiOutcome,
+        tei: u8,
+        place: usize,
+        shelf: &mut S,
+    ) -> BareReport
         requires changing { Changing self.old (S.store shelf.old) told }
         requires gained { told.change ≡ Some (Gained tei place) }
         ensures { (e : teis.Event) (before : Management) (octets : List ℕ) → IsAnswerTo e before self.old.teis told
@@ -97,11 +103,17 @@ impl Entities {
             tei,
             &self.config,
         );
-        Outcome::of_management(told)
+        BareReport::of_management(told)
     }
 
     /// A TEI has left the line: its links are cleared, that of call control first.
-    fn clear<S: Shelf>(&mut self, told: TeiOutcome, tei: u8, place: usize, shelf: &mut S) -> Outcome
+    fn clear<S: Shelf>(
+        &mut self,
+        told: TeiOutcome,
+        tei: u8,
+        place: usize,
+        shelf: &mut S,
+    ) -> BareReport
         requires changing { Changing self.old (S.store shelf.old) told }
         requires short { IsShort told }
         requires left { told.change ≡ Some (Left tei place) }
@@ -110,6 +122,6 @@ impl Entities {
     {
         let call = self.links.clear(link_number(place, Service::Call), shelf);
         let packet = self.links.clear(link_number(place, Service::Packet), shelf);
-        Outcome::of_management(told).with_cleared(call, packet)
+        BareReport::of_management(told).with_cleared(call, packet)
     }
 }

@@ -3,20 +3,20 @@
 ghost use Rattle.std.specs.Prelude.{[]};
 ghost use Rattle.lapd_line_machine.specs.Expiry.{aim_of_expiry, at_timer};
 ghost use Rattle.lapd_line_machine.specs.Line as machine;
-ghost use Rattle.lapd_line_machine.specs.Outcome.{at_management};
+ghost use Rattle.lapd_line_machine.specs.Effect.{at_management};
 ghost use Rattle.lapd_tei.specs.Events as teis;
 
-use crate::entities::Entities;
-use crate::reports::Outcome;
+use crate::link_layer::LinkLayer;
+use crate::reports::BareReport;
 use lapd_frame::{Service, Timer};
 use lapd_link::LinkTimer;
 use lapd_store::Shelf;
 
-impl Entities {
-    ghost use Rattle.lapd_line.specs.Entities.{Standing, Serves, always};
+impl LinkLayer {
+    ghost use Rattle.lapd_line.specs.LinkLayer.{Standing, Serves, always};
 
     /// A timer expires. Where it does not run, nothing happens.
-    pub(crate) fn expire<S: Shelf>(&mut self, timer: Timer, shelf: &mut S) -> Outcome
+    pub(crate) fn expire<S: Shelf>(&mut self, timer: Timer, shelf: &mut S) -> BareReport
         requires { Standing self.old (S.store shelf.old) }
         ensures { Serves (aim_of_expiry timer) [] self.old (S.store shelf.old) self.new (S.store shelf.new) result }
     {
@@ -34,18 +34,18 @@ impl Entities {
         tei: u8,
         timer: LinkTimer,
         shelf: &mut S,
-    ) -> Outcome
+    ) -> BareReport
         requires { Standing self.old (S.store shelf.old) }
         ensures { Serves (λ m. at_timer service tei timer (machine.place_in m tei)) [] self.old (S.store shelf.old) self.new (S.store shelf.new) result }
     {
         match self.teis.place(tei) {
             Some(place) => self.expire_link(service, tei, place, timer, shelf),
-            None => Outcome::nothing(),
+            None => BareReport::nothing(),
         }
     }
 
     /// The timer of the check expires.
-    fn expire_check<S: Shelf>(&mut self, shelf: &mut S) -> Outcome
+    fn expire_check<S: Shelf>(&mut self, shelf: &mut S) -> BareReport
         requires { Standing self.old (S.store shelf.old) }
         ensures { Serves (always (at_management teis.expiry)) [] self.old (S.store shelf.old) self.new (S.store shelf.new) result }
     {

@@ -7,10 +7,10 @@ ghost use Rattle.lapd_line_machine.specs.Line as machine;
 ghost use Rattle.lapd_line_machine.specs.Stored.{sum_of_links, held_by_link};
 ghost use Rattle.lapd_tei.specs.Machine.{held};
 
-use crate::entities::Entities;
+use crate::link_layer::LinkLayer;
 
-impl Entities {
-    ghost use Rattle.lapd_line.specs.Entities.{Standing, Stands};
+impl LinkLayer {
+    ghost use Rattle.lapd_line.specs.LinkLayer.{Standing, Stands};
 
     /// How many octets they hold: of messages and control frames that wait, and of assignments that are remembered.
     pub(crate) fn held(&self) -> u32

@@ -6,7 +6,7 @@
 //!
 //! - `line`: the calls: an octet that comes, a timer that expires, a request, and an octet that goes out; and the state
 //!   of a link, and how many octets the line stores.
-//! - `entities`: what the calls change beside the bits: TEI management, links and units; `starts`, how they begin;
+//! - `link_layer`: what the calls change beside the bits: TEI management, links and units; `starts`, how they begin;
 //!   `aims`, what is heard; `expiries`, timers; `changes`, links that open and are cleared; `asks`, what is requested
 //!   of a link, of TEI management and as unit data; `takes`, what goes out; `held`, what they store.
 //! - `links`, `units`: the links of all places of the TEI table, and the unit data that waits.
@@ -16,11 +16,11 @@
 mod aims;
 mod asks;
 mod changes;
-mod entities;
 mod expiries;
 mod fault;
 mod held;
 mod line;
+mod link_layer;
 mod links;
 mod pulled;
 mod reports;
@@ -32,4 +32,4 @@ pub use fault::StartFault;
 pub use lapd_line_machine::{Config, Field, Request};
 pub use line::Line;
 pub use pulled::Pulled;
-pub use reports::{Outcome, Report};
+pub use reports::{BareReport, Report};

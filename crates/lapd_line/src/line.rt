@@ -1,22 +1,25 @@
 //! The line: one call an event.
 
-ghost use Rattle.std.specs.Prelude.{◌≡◌, ◌≤◌, List, Some, None, IfOk, IfErr, OnErr, nat_le};
+ghost use Rattle.std.specs.Prelude.{◌≡◌, ◌<◌, ◌≤◌, List, length, true, IsTrue, IsFalse, Some, None, IsSome, IfOk, IfErr, OnErr, nat_le};
+ghost use Rattle.lapd_bits.specs.declared.heard.Ended.TheVariants as ends;
 ghost use Rattle.lapd_store.specs.Ownership.{Owned, Holds};
 ghost use Rattle.lapd_store.specs.Store.{Store, used_slots};
 ghost use Rattle.lapd_line_machine.specs.Answer as event;
 ghost use Rattle.lapd_line_machine.specs.Answer.{told};
 ghost use Rattle.lapd_line_machine.specs.Line as machine;
-ghost use Rattle.lapd_line_machine.specs.Machine.{answer};
+ghost use Rattle.lapd_line_machine.specs.Counts.{may_send};
+ghost use Rattle.lapd_line_machine.specs.Laws.{starts};
+ghost use Rattle.lapd_line_machine.specs.Machine.{after, answer};
 ghost use Rattle.lapd_line_machine.specs.Refusal.{refusal};
 ghost use Rattle.lapd_line_machine.specs.Request.{request_of};
 ghost use Rattle.lapd_line_machine.specs.Sound.{IsInRange};
 ghost use Rattle.lapd_line_machine.specs.Stored.{held_in};
 
-use crate::entities::Entities;
 use crate::fault::StartFault;
+use crate::link_layer::LinkLayer;
 use crate::pulled::Pulled;
-use crate::reports::{Outcome, Report};
-use lapd_bits::{Deframer, Framer, Heard};
+use crate::reports::{BareReport, Report};
+use lapd_bits::{Deframer, Ended, Framer, Heard};
 use lapd_frame::{Order, Refusal, Service, ShortList, Timer};
 use lapd_line_machine::{Config, Request};
 use lapd_store::Shelf;
@@ -30,7 +33,10 @@ use std::alloc::Global;
 pub struct Line {
     deframer: Deframer,
     framer: Framer,
-    entities: Entities,
+    layer: LinkLayer,
+    /// A pull found nothing to send, and nothing has happened since but octets that ended nothing and pulls. So the next
+    /// pull need not ask all links again.
+    quiet: bool,
 }
 
 impl Line {
@@ -56,11 +62,12 @@ impl Line {
     {
         let deframer = Deframer::start(alloc, config.n201)?;
         let framer = Framer::start(alloc, config.n201)?;
-        let entities = Entities::start(alloc, config)?;
+        let layer = LinkLayer::start(alloc, config)?;
         Ok(Line {
             deframer,
             framer,
-            entities,
+            layer,
+            quiet: false,
         })
     }
 
@@ -70,6 +77,9 @@ impl Line {
         requires { (others : List Owned) × (m : machine.Line) × Stands self.old (S.store shelf.old) others m }
         ensures told { (others : List Owned) (m : machine.Line) → Stands self.old (S.store shelf.old) others m
             → told (report_told result) ≡ answer (config_of self.old) (event.octet octet) m }
+        // Where it names a cause, why the octet or its frame was dropped, what may be sent stays as it is.
+        ensures dropped { (others : List Owned) (m : machine.Line) → Stands self.old (S.store shelf.old) others m → IsSome result.cause
+            → may_send (config_of self.old) (after (config_of self.old) (event.octet octet) m) ≡ may_send (config_of self.old) m }
         ensures* after { sem 𝓛 (Rests the_row self.entry
             (λ v. Leads (event.octet octet) self.old (S.store shelf.old) v (S.store shelf.new))) }
     {
@@ -79,18 +89,19 @@ impl Line {
 
     /// Takes an octet as [`Line::octet`] does, and answers without references, for a caller that has more to change
     /// before it looks at the contents. [`Line::lend`] makes the report of it.
-    pub fn step<S: Shelf>(&mut self, octet: u8, shelf: &mut S) -> Outcome
+    pub fn step<S: Shelf>(&mut self, octet: u8, shelf: &mut S) -> BareReport
         requires { (others : List Owned) × (m : machine.Line) × Stands self.old (S.store shelf.old) others m }
         ensures told { (others : List Owned) (m : machine.Line) → Stands self.old (S.store shelf.old) others m
             → told (told_in (latest_frame self.new) result) ≡ answer (config_of self.old) (event.octet octet) m }
         ensures after { Leads (event.octet octet) self.old (S.store shelf.old) self.new (S.store shelf.new) }
     {
-        self.deframer.step(octet);
-        self.entities.serve(self.deframer.latest(), shelf)
+        let ended = self.deframer.step(octet);
+        self.quiet = stays_quiet(self.quiet, ended);
+        self.layer.serve(self.deframer.latest(), shelf)
     }
 
     /// The report of what the latest octet led to, with the contents that it delivered lent until the next octet.
-    pub fn lend(&self, outcome: &Outcome) -> Report<'_>
+    pub fn lend(&self, outcome: &BareReport) -> Report<'_>
         ensures { report_told result ≡ told_in (latest_frame self.now) outcome.now }
     {
         outcome.report(self.frame())
@@ -102,9 +113,12 @@ impl Line {
         requires { (others : List Owned) × (m : machine.Line) × Stands self.old (S.store shelf.old) others m }
         ensures told { (others : List Owned) (m : machine.Line) → Stands self.old (S.store shelf.old) others m
             → told (report_told result) ≡ answer (config_of self.old) (event.expiry timer) m }
+        // It starts one timer at most.
+        ensures starts { starts (report_told result).orders ≤ 1 }
         ensures after { Leads (event.expiry timer) self.old (S.store shelf.old) self.new (S.store shelf.new) }
     {
-        self.entities.expire(timer, shelf).report(&[])
+        self.quiet = false;
+        self.layer.expire(timer, shelf).report(&[])
     }
 
     /// Serves a request of layer 3 or management (Q.921 clause 4.1.1). One that is refused changes nothing. The whole
@@ -133,8 +147,11 @@ impl Line {
         ensures after { IfOk result (λ report.
             Leads (event.request (request_of request.entry)) self.old (S.store shelf.old) self.new (S.store shelf.new)) }
     {
-        match self.entities.request(request, shelf, slots) {
-            Ok(outcome) => Ok(outcome.report(&[])),
+        match self.layer.request(request, shelf, slots) {
+            Ok(outcome) => {
+                self.quiet = false;
+                Ok(outcome.report(&[]))
+            }
             Err(why) => Err(why),
         }
     }
@@ -148,6 +165,31 @@ impl Line {
             → pulled_of result ≡ answer (config_of self.old) event.pull m }
         ensures after { Leads event.pull self.old (S.store shelf.old) self.new (S.store shelf.new) }
     {
+        if self.begins_nothing() {
+            return Pulled::octet_alone(self.framer.octet());
+        }
+        self.pull_next(shelf)
+    }
+
+    /// Whether the next pull takes no frame: eight bits or more are left to send, or nothing waits.
+    fn begins_nothing(&self) -> bool
+        ensures nothing { (store : Store) → IsTrue result → Begins self.now store self.now store None }
+        ensures few { IsFalse result → length self.now.framer.left < 8 }
+    {
+        if self.framer.busy() {
+            return true;
+        }
+        self.quiet
+    }
+
+    /// Gives the next octet as [`Line::pull`] does, where fewer than eight bits are left to send.
+    fn pull_next<S: Shelf>(&mut self, shelf: &mut S) -> Pulled
+        requires stands { (others : List Owned) × (m : machine.Line) × Stands self.old (S.store shelf.old) others m }
+        requires few { length self.old.framer.left < 8 }
+        ensures told { (others : List Owned) (m : machine.Line) → Stands self.old (S.store shelf.old) others m
+            → pulled_of result ≡ answer (config_of self.old) event.pull m }
+        ensures after { Leads event.pull self.old (S.store shelf.old) self.new (S.store shelf.new) }
+    {
         let taken = self.begin(shelf);
         Pulled {
             octet: self.framer.octet(),
@@ -156,16 +198,16 @@ impl Line {
         }
     }
 
-    /// Takes the frame that is next, where fewer than eight bits are left to send and one waits. Answers the orders for
-    /// timers, where it took one.
+    /// Takes the frame that is next, where fewer than eight bits are left to send. Answers the orders for timers, where
+    /// there is one.
     fn begin<S: Shelf>(&mut self, shelf: &mut S) -> Option<ShortList<Order>>
-        requires { (others : List Owned) × (m : machine.Line) × Stands self.old (S.store shelf.old) others m }
+        requires stands { (others : List Owned) × (m : machine.Line) × Stands self.old (S.store shelf.old) others m }
+        requires few { length self.old.framer.left < 8 }
         ensures { Begins self.old (S.store shelf.old) self.new (S.store shelf.new) (orders_taken result) }
     {
-        if self.framer.busy() {
-            return None;
-        }
-        self.entities.take(&mut self.framer, shelf)
+        let taken = self.layer.take(&mut self.framer, shelf);
+        self.quiet = taken.is_none();
+        taken
     }
 
     /// The state of the link of a service with this TEI, by its number in Q.921 (annex B): 4 to 8. None where the TEI is
@@ -174,7 +216,7 @@ impl Line {
         ensures { (store : Store) (others : List Owned) (m : machine.Line) → Stands self.now store others m
             → result ≡ machine.state_of service tei m }
     {
-        self.entities.state(service, tei)
+        self.layer.state(service, tei)
     }
 
     /// How many octets the line stores beside those in slots of the shelf: of the frame that is received, of the frame
@@ -184,7 +226,7 @@ impl Line {
         ensures { (store : Store) (others : List Owned) (m : machine.Line) → Stands self.now store others m
             → result ≡ held_in (config_of self.now) m }
     {
-        self.deframer.held() + self.framer.held() + self.entities.held()
+        self.deframer.held() + self.framer.held() + self.layer.held()
     }
 
     /// The frame that the latest octet ended; no octets where it ended none.
@@ -195,5 +237,15 @@ impl Line {
             Heard::Frame(octets) => octets,
             Heard::Nothing | Heard::Dropped(_) | Heard::Overlong(_) => &[],
         }
+    }
+}
+
+/// Whether a line that has nothing to send still has nothing after an octet: it has, where the octet ended nothing.
+fn stays_quiet(quiet: bool, ended: Ended) -> bool
+    ensures { result ≡ true → (quiet ≡ true) × (ended ≡ ends.Nothing) }
+{
+    match ended {
+        Ended::Nothing => quiet,
+        Ended::Dropped(_) | Ended::Frame(_) | Ended::Overlong => false,
     }
 }

@@ -23,7 +23,7 @@ pub struct Report<'a> {
 /// The same without references: where in the frame that the latest octet ended the delivered contents begin, in place
 /// of the contents. [`Line::lend`](crate::Line::lend) makes the report of it.
 #[derive(Clone, Copy, PartialEq, Eq, Debug)]
-pub struct Outcome {
+pub struct BareReport {
     pub(crate) notes: ShortList<Note>,
     pub(crate) orders: ShortList<Order>,
     pub(crate) contents: Option<usize>,
@@ -32,7 +32,7 @@ pub struct Outcome {
 }
 
 impl Report<'_> {
-    ghost use Rattle.lapd_line.specs.Reports.{report_told};
+    ghost use Rattle.lapd_line.specs.Reports.{report_told, without_contents};
 
     /// What layer 3 and management are told, in order: at most four notes. The machine of a line never tells more
     /// (`answers_are_short` of `lapd_line_machine`), so none is left out.
@@ -40,6 +40,19 @@ impl Report<'_> {
         ensures { result.now ≡ (report_told self.now).notes }
     {
         self.notes.as_slice()
+    }
+
+    /// The same without the contents that it lends, to be kept.
+    pub fn without_contents(&self) -> Report<'static>
+        ensures { report_told result ≡ without_contents (report_told self.now) }
+    {
+        Report {
+            notes: self.notes,
+            orders: self.orders,
+            delivered: None,
+            cause: self.cause,
+            lost: self.lost,
+        }
     }
 
     /// What is to be done with timers, in order: at most four orders, which is all that there can be.
@@ -50,16 +63,16 @@ impl Report<'_> {
     }
 }
 
-impl Outcome {
+impl BareReport {
     ghost use Rattle.std.specs.Prelude.{ℕ, List};
     ghost use Rattle.lapd_line_machine.specs.Answer.{nothing, dropped};
     ghost use Rattle.lapd_line.specs.Reports.{report_told, told_in};
 
     /// Nothing happened.
-    pub(crate) fn nothing() -> Outcome
+    pub(crate) fn nothing() -> BareReport
         ensures { (octets : List ℕ) → told_in octets result ≡ nothing }
     {
-        Outcome {
+        BareReport {
             notes: ShortList::none(),
             orders: ShortList::none(),
             contents: None,
@@ -69,12 +82,12 @@ impl Outcome {
     }
 
     /// Something was dropped without effect.
-    pub(crate) fn dropped(cause: Cause) -> Outcome
+    pub(crate) fn dropped(cause: Cause) -> BareReport
         ensures { (octets : List ℕ) → told_in octets result ≡ dropped cause }
     {
-        Outcome {
+        BareReport {
             cause: Some(cause),
-            ..Outcome::nothing()
+            ..BareReport::nothing()
         }
     }
 

@@ -6,19 +6,19 @@ ghost use Rattle.lapd_store.specs.Store.{Store};
 ghost use Rattle.lapd_line_machine.specs.Line as machine;
 ghost use Rattle.lapd_line_machine.specs.Sound.{IsInRange};
 
-use crate::entities::Entities;
 use crate::fault::StartFault;
+use crate::link_layer::LinkLayer;
 use crate::links::Links;
 use crate::units::Units;
 use lapd_line_machine::Config;
 use lapd_tei::Teis;
 use std::alloc::Global;
 
-impl Entities {
-    ghost use Rattle.lapd_line.specs.Entities.{Stands};
+impl LinkLayer {
+    ghost use Rattle.lapd_line.specs.LinkLayer.{Stands};
 
     /// No TEI on the line, and room for all that a configuration in range allows.
-    pub(crate) fn start(alloc: Global, config: &Config) -> Result<Entities, StartFault>
+    pub(crate) fn start(alloc: Global, config: &Config) -> Result<LinkLayer, StartFault>
         requires { IsInRange config.now }
         ensures config { IfOk result (λ e. e.config ≡ config.now) }
         ensures fresh { IfOk result (λ e. (store : Store) (others : List Owned) → config.now.n201 ≤ store.width
@@ -27,7 +27,7 @@ impl Entities {
         let teis = Teis::start(alloc, usize::from(config.terminals))?;
         let links = Links::start(alloc, config)?;
         let units = Units::start(alloc, usize::from(config.unit_queue))?;
-        Ok(Entities {
+        Ok(LinkLayer {
             config: *config,
             teis,
             links,

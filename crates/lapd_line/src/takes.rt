@@ -13,7 +13,7 @@ ghost use Rattle.lapd_line_machine.specs.Line.{link_count};
 ghost use Rattle.lapd_line_machine.specs.Pull.{message_taken, unit_taken, link_taken, first_taken, taken};
 ghost use Rattle.lapd_line.specs.Takes.{Takes, orders_taken};
 
-use crate::entities::Entities;
+use crate::link_layer::LinkLayer;
 use lapd_bits::Framer;
 use lapd_frame::{Address, Control, Frame, Order, ShortList, Side, write};
 use lapd_store::{Shelf, Slot};
@@ -48,8 +48,8 @@ fn contents<S: Shelf>(shelf: &S, slot: Option<Slot>) -> &[u8]
     }
 }
 
-impl Entities {
-    ghost use Rattle.lapd_line.specs.Entities.{Standing};
+impl LinkLayer {
+    ghost use Rattle.lapd_line.specs.LinkLayer.{Standing};
 
     /// Takes the frame that is next, if there is one, and loads it: the oldest message of TEI management, else the
     /// oldest unit data, else what the first of the links has to give, going round from the one after that which was

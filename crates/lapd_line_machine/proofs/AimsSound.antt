@@ -15,7 +15,7 @@ use Rattle.lapd_tei.proofs.LawLemmas as tei_laws_lemmas
 use Rattle.lapd_line_machine.specs.declared.config.Config.{Config}
 use Rattle.lapd_line_machine.specs.Answer.{Told}
 use Rattle.lapd_line_machine.specs.Line.{Line, link_at, place_at}
-use Rattle.lapd_line_machine.specs.Outcome.{Aim, at_none, at_link, at_management, at_units, of_change, of_management, of_aim}
+use Rattle.lapd_line_machine.specs.Effect.{Aim, at_none, at_link, at_management, at_units, of_change, of_management, of_aim}
 use Rattle.lapd_line_machine.specs.Sound.{IsInRange, IsSoundAt, IsSound, IsUnitData}
 use Rattle.lapd_line_machine.proofs.LinksSound.{link_event_sound, with_both}
 

@@ -1,18 +1,20 @@
 -- What single events bring: frames by octets alone, and a pull.
-use Rattle.std.proofs.Common.{ℕ, ◌+◌, ◌≤◌, Bool, true, false, Option, Some, None, option_to_list, cond, arith}
+use Rattle.std.proofs.Common.{◌≡◌, ℕ, ◌+◌, ◌≤◌, Bool, true, false, Option, Some, None, option_to_list, refl, ap, sym, ◌∙◌, cond, arith}
+use Rattle.std.specs.Option.{option_map_or}
+use Rattle.std.proofs.lemmas.Bool.{false≢true}
 use Rattle.std.specs.Prelude.{count_by}
 use Rattle.lapd_line_machine.specs.declared.config.Config.{Config}
 use Rattle.lapd_line_machine.specs.Answer.{Event, octet, expiry, request, pull}
-use Rattle.lapd_line_machine.specs.Counts.{is_frame}
+use Rattle.lapd_line_machine.specs.Counts.{one, is_frame, hears}
 use Rattle.lapd_line_machine.specs.Expiry.{aim_of_expiry}
-use Rattle.lapd_line_machine.specs.Laws.{HearsOne, FallsByPull}
+use Rattle.lapd_line_machine.specs.Laws.{Rises, IsHeardCounted, HearsOne, FallsByPull}
 use Rattle.lapd_line_machine.specs.Line.{Line}
-use Rattle.lapd_line_machine.specs.Machine.{after, answer, unless_refused}
+use Rattle.lapd_line_machine.specs.Machine.{after, answer, takes_slot, unless_refused}
 use Rattle.lapd_line_machine.specs.Octet.{aim_of_octet, with_received}
 use Rattle.lapd_line_machine.specs.Refusal.{refusal}
 use Rattle.lapd_line_machine.specs.Requested.{aim_of_request}
 use Rattle.lapd_line_machine.specs.Sound.{IsInRange, IsSound}
-use Rattle.lapd_line_machine.proofs.EventsRise.{heard_same, pull_heard}
+use Rattle.lapd_line_machine.proofs.EventsRise.{heard_same, pull_heard, rises_by_totals}
 use Rattle.lapd_line_machine.proofs.LineRises.{brings}
 use Rattle.lapd_line_machine.proofs.PullRises.{pull_falls}
 
@@ -33,6 +35,37 @@ hears_one c (octet value) l ranged s =
 hears_one c (expiry timer) l ranged s = omega (arith, heard_same c (aim_of_expiry timer l) l)
 hears_one c (request r) l ranged s = omega (arith, heard_same c (unless_refused (refusal c false r l) (aim_of_request r l)) l)
 hears_one c pull l ranged s = omega (arith, pull_heard c ranged l s)
+
+-- which is that which an octet ends
+pub counted_one : {X : Type 0} (p : X → Bool) (o : Option X) → count_by p (option_to_list o) ≡ one (option_map_or p o false)
+counted_one p None = refl
+counted_one p (Some x) = go (p x)
+  where
+    go : (b : Bool) → 0 + cond {A = ℕ} b 1 0 ≡ one b
+    go true = refl
+    go false = refl
+
+pub heard_counted : (c : Config) (e : Event) (l : Line) → IsInRange c → IsSound c l → IsHeardCounted c e l
+unfolding after
+heard_counted c (octet value) l ranged s =
+    let b = brings c l value in
+    let same = counted_one is_frame b.event ∙ ap (λ o. one (option_map_or is_frame o false)) (sym b.gains) in
+    omega (arith, heard_same c (aim_of_octet c value l) (with_received value l), b.frames, same)
+heard_counted c (expiry timer) l ranged s = omega (arith, heard_same c (aim_of_expiry timer l) l)
+heard_counted c (request r) l ranged s = omega (arith, heard_same c (unless_refused (refusal c false r l) (aim_of_request r l)) l)
+heard_counted c pull l ranged s = omega (arith, pull_heard c ranged l s)
+
+-- so the bound by all frames heard is one by those of the event, and the other way round
+pub event_rises : (c : Config) (e : Event) (l : Line) → IsInRange c → IsSound c l → Rises c e l
+event_rises c e l ranged s = omega (arith, rises_by_totals c e l ranged s, heard_counted c e l ranged s)
+
+-- a request that takes a slot is no frame
+pub takes_no_frame : (c : Config) (e : Event) (l : Line) → takes_slot c e l ≡ true → hears c e l ≡ false
+unfolding takes_slot
+takes_no_frame c (octet value) l takes = absurd (false≢true takes)
+takes_no_frame c (expiry timer) l takes = absurd (false≢true takes)
+takes_no_frame c (request r) l takes = refl
+takes_no_frame c pull l takes = absurd (false≢true takes)
 
 pub falls_by_pull : (c : Config) (l : Line) → IsInRange c → IsSound c l → FallsByPull c l
 unfolding after answer

@@ -18,7 +18,7 @@ use Rattle.lapd_line_machine.specs.Laws.{IsRejectHeard}
 use Rattle.lapd_line_machine.specs.Line.{Line, place_in}
 use Rattle.lapd_line_machine.specs.Machine.{after, takes_slot, unless_refused}
 use Rattle.lapd_line_machine.specs.Octet.{aim_of_octet, with_received}
-use Rattle.lapd_line_machine.specs.Outcome.{Aim, of_aim}
+use Rattle.lapd_line_machine.specs.Effect.{Aim, of_aim}
 use Rattle.lapd_line_machine.specs.Pull.{Taken, taken, is_due, with_item}
 use Rattle.lapd_line_machine.specs.Refusal.{refusal}
 use Rattle.lapd_line_machine.specs.Request.{Request, Establish, Release, Data, Unit, Assign, Remove, Check, SetBusy, ClearBusy}
@@ -45,15 +45,15 @@ link_none l service tei what None = refl
 link_none l service tei what (Some place) = refl
 
 granted_none : (l : Line) (r : Request) → rejects_aimed l (aim_of_request r l) ≡ false
-granted_none l (Establish service tei) = link_none l service tei link.establish (place_in l tei)
-granted_none l (Release service tei) = link_none l service tei link.release (place_in l tei)
-granted_none l (Data service tei contents) = link_none l service tei (link.transfer contents) (place_in l tei)
+granted_none l (Establish service tei) = link_none l service tei link.Establish (place_in l tei)
+granted_none l (Release service tei) = link_none l service tei link.Release (place_in l tei)
+granted_none l (Data service tei contents) = link_none l service tei (link.Data contents) (place_in l tei)
 granted_none l (Unit service tei contents) = refl
 granted_none l (Assign tei) = refl
 granted_none l (Remove tei) = refl
 granted_none l (Check tei) = refl
-granted_none l (SetBusy service tei) = link_none l service tei link.set_busy (place_in l tei)
-granted_none l (ClearBusy service tei) = link_none l service tei link.clear_busy (place_in l tei)
+granted_none l (SetBusy service tei) = link_none l service tei link.SetBusy (place_in l tei)
+granted_none l (ClearBusy service tei) = link_none l service tei link.ClearBusy (place_in l tei)
 
 pub request_none : (l : Line) (r : Request) (o : Option Refusal) → rejects_aimed l (unless_refused o (aim_of_request r l)) ≡ false
 request_none l r None = granted_none l r

@@ -18,13 +18,12 @@ use Rattle.lapd_tei.specs.Words.{Course, begun}
 use Rattle.lapd_tei.specs.declared.check.Check as checks
 use Rattle.lapd_line_machine.specs.declared.config.Config.{Config}
 use Rattle.lapd_line_machine.specs.Answer.{Event, octet, expiry, request, pull}
-use Rattle.lapd_line_machine.specs.Counts.{one, waiting, frames_heard, is_frame, is_accepted, is_begun, rejects_aimed}
+use Rattle.lapd_line_machine.specs.Counts.{one, may_send, frames_heard, is_frame, is_running_expiry, rejects, is_accepted, is_begun, rejects_aimed}
 use Rattle.lapd_line_machine.specs.Expiry.{at_timer, aim_of_expiry, runs_at}
-use Rattle.lapd_line_machine.specs.Laws.{Rises}
 use Rattle.lapd_line_machine.specs.Line.{Line, window, place_in, link_in, terms}
 use Rattle.lapd_line_machine.specs.Machine.{after, answer, unless_refused, unless_refused_told}
 use Rattle.lapd_line_machine.specs.Octet.{aim_of_octet, with_received}
-use Rattle.lapd_line_machine.specs.Outcome.{Aim, at_none, at_link, at_management, at_units, told_of_management, of_change, of_management, of_aim}
+use Rattle.lapd_line_machine.specs.Effect.{Aim, at_none, at_link, at_management, at_units, told_of_management, of_change, of_management, of_aim}
 use Rattle.lapd_line_machine.specs.Pull.{Taken, taken, with_item, with_due, is_due}
 use Rattle.lapd_line_machine.specs.Refusal.{refusal}
 use Rattle.lapd_line_machine.specs.Request.{Request, Establish, Release, Data, Unit, Assign, Remove, Check, SetBusy, ClearBusy}
@@ -37,6 +36,14 @@ use Rattle.lapd_line_machine.proofs.LineSound.{received_sound}
 use Rattle.lapd_line_machine.proofs.ProperAims.{octet_proper, expiry_proper, request_proper}
 use Rattle.lapd_line_machine.proofs.PullRises.{pull_falls}
 use Rattle.lapd_line_machine.proofs.PullSound.{TakesSoundly, taken_sound}
+
+-- The bound by all frames heard before the event and after it.
+abbrev pub RisesByTotals : Config → Event → Line → Type 0
+RisesByTotals c e l =
+    let k = max c.k c.k16 in
+    one (is_begun (answer c e l)) + may_send c (after c e l) + 2 * frames_heard c l
+    ≤ may_send c l + 2 * frames_heard c (after c e l) + one (is_accepted e (answer c e l))
+    + (k + 1) * one (is_running_expiry e l) + k * one (rejects c e l)
 
 -- an aim costs the same before and after the octet that brings it
 price_received : (c : Config) (value : ℕ) (l : Line) (aim : Aim) → price_at c (with_received value l) aim ≡ price_at c l aim
@@ -55,7 +62,7 @@ proper_received c value l (at_units unit) p = p
 pub heard_same : (c : Config) (aim : Aim) (l : Line) → frames_heard c (of_aim c aim l).line ≡ frames_heard c l
 heard_same c aim l = ap (λ octets. count_by is_frame (stream.heard_in c.n201 octets)) (aim_received c aim l)
 
-octet_rises : (c : Config) → IsInRange c → (value : ℕ) (l : Line) → IsSound c l → Rises c (octet value) l
+octet_rises : (c : Config) → IsInRange c → (value : ℕ) (l : Line) → IsSound c l → RisesByTotals c (octet value) l
 unfolding after answer
 octet_rises c ranged value l s =
     let aim = aim_of_octet c value l in
@@ -80,17 +87,17 @@ unfolding teis.course teis.refusal
 idle_t201 m e = ap (λ o. expire_check o (begun m)) e
 
 t201_rises : (c : Config) → IsInRange c → (l : Line) → IsSound c l
-    → waiting c (of_management c teis.expiry l).line ≤ waiting c l + (max c.k c.k16 + 1) * one (is_some l.management.check)
+    → may_send c (of_management c teis.expiry l).line ≤ may_send c l + (max c.k c.k16 + 1) * one (is_some l.management.check)
 t201_rises c ranged l s = go l.management.check refl
   where
     go : (o : Option checks.Check) → l.management.check ≡ o
-        → waiting c (of_management c teis.expiry l).line ≤ waiting c l + (max c.k c.k16 + 1) * one (is_some o)
+        → may_send c (of_management c teis.expiry l).line ≤ may_send c l + (max c.k c.k16 + 1) * one (is_some o)
     go None e =
-        subst (λ (x : Course). waiting c (of_change c x.told.change (told_of_management x.told) (record l { management = x.now })).line ≤ waiting c l + (max c.k c.k16 + 1) * 0)
+        subst (λ (x : Course). may_send c (of_change c x.told.change (told_of_management x.told) (record l { management = x.now })).line ≤ may_send c l + (max c.k c.k16 + 1) * 0)
         (sym (idle_t201 l.management e)) (omega arith)
     go (Some check) e = omega (arith, management_rises c ranged l teis.expiry s tt)
 
-expiry_rises : (c : Config) → IsInRange c → (timer : Timer) (l : Line) → IsSound c l → Rises c (expiry timer) l
+expiry_rises : (c : Config) → IsInRange c → (timer : Timer) (l : Line) → IsSound c l → RisesByTotals c (expiry timer) l
 unfolding after answer
 expiry_rises c ranged (T200 service tei) l s =
     let aim = aim_of_expiry (T200 service tei) l in
@@ -113,25 +120,25 @@ request_at_link_costs c l service tei what (Some place) =
     go false = omega arith
 
 request_costs : (c : Config) (l : Line) (r : Request) → price_at c l (aim_of_request r l) ≤ 1
-request_costs c l (Establish service tei) = request_at_link_costs c l service tei link.establish (place_in l tei)
-request_costs c l (Release service tei) = request_at_link_costs c l service tei link.release (place_in l tei)
-request_costs c l (Data service tei contents) = request_at_link_costs c l service tei (link.transfer contents) (place_in l tei)
+request_costs c l (Establish service tei) = request_at_link_costs c l service tei link.Establish (place_in l tei)
+request_costs c l (Release service tei) = request_at_link_costs c l service tei link.Release (place_in l tei)
+request_costs c l (Data service tei contents) = request_at_link_costs c l service tei (link.Data contents) (place_in l tei)
 request_costs c l (Unit service tei contents) = omega arith
 request_costs c l (Assign tei) = omega arith
 request_costs c l (Remove tei) = omega arith
 request_costs c l (Check tei) = omega arith
-request_costs c l (SetBusy service tei) = request_at_link_costs c l service tei link.set_busy (place_in l tei)
-request_costs c l (ClearBusy service tei) = request_at_link_costs c l service tei link.clear_busy (place_in l tei)
+request_costs c l (SetBusy service tei) = request_at_link_costs c l service tei link.SetBusy (place_in l tei)
+request_costs c l (ClearBusy service tei) = request_at_link_costs c l service tei link.ClearBusy (place_in l tei)
 
-request_rises : (c : Config) → IsInRange c → (r : Request) (l : Line) → IsSound c l → Rises c (request r) l
+request_rises : (c : Config) → IsInRange c → (r : Request) (l : Line) → IsSound c l → RisesByTotals c (request r) l
 unfolding after answer
 request_rises c ranged r l s = go (refusal c false r l) (request_proper c l r)
   where
     go : (o : Option Refusal) → IsProper c l (unless_refused o (aim_of_request r l))
         → let out = of_aim c (unless_refused o (aim_of_request r l)) l in
         let a = unless_refused_told o out in
-        one (is_begun a) + waiting c out.line + 2 * frames_heard c l
-        ≤ waiting c l + 2 * frames_heard c out.line + one (is_accepted (request r) a) + (max c.k c.k16 + 1) * 0
+        one (is_begun a) + may_send c out.line + 2 * frames_heard c l
+        ≤ may_send c l + 2 * frames_heard c out.line + one (is_accepted (request r) a) + (max c.k c.k16 + 1) * 0
         + max c.k c.k16 * one (rejects_aimed l (unless_refused o (aim_of_request r l)))
     go None proper =
         let aim = aim_of_request r l in
@@ -149,12 +156,12 @@ due_heard c l true (Some t) h = ap (λ octets. count_by is_frame (stream.heard_i
 pub pull_heard : (c : Config) → IsInRange c → (l : Line) → IsSound c l → frames_heard c (with_due c l) ≡ frames_heard c l
 pull_heard c ranged l s = due_heard c l (is_due l) (taken c l) (taken_sound c ranged l s)
 
-pull_event_rises : (c : Config) → IsInRange c → (l : Line) → IsSound c l → Rises c pull l
+pull_event_rises : (c : Config) → IsInRange c → (l : Line) → IsSound c l → RisesByTotals c pull l
 unfolding after answer
 pull_event_rises c ranged l s = omega (arith, (pull_falls c ranged l s).0, pull_heard c ranged l s)
 
-pub event_rises : (c : Config) (e : Event) (l : Line) → IsInRange c → IsSound c l → Rises c e l
-event_rises c (octet value) l ranged s = octet_rises c ranged value l s
-event_rises c (expiry timer) l ranged s = expiry_rises c ranged timer l s
-event_rises c (request r) l ranged s = request_rises c ranged r l s
-event_rises c pull l ranged s = pull_event_rises c ranged l s
+pub rises_by_totals : (c : Config) (e : Event) (l : Line) → IsInRange c → IsSound c l → RisesByTotals c e l
+rises_by_totals c (octet value) l ranged s = octet_rises c ranged value l s
+rises_by_totals c (expiry timer) l ranged s = expiry_rises c ranged timer l s
+rises_by_totals c (request r) l ranged s = request_rises c ranged r l s
+rises_by_totals c pull l ranged s = pull_event_rises c ranged l s

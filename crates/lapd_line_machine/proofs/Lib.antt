@@ -22,4 +22,6 @@ pub mod RejectsHeard
 pub mod EventsReject
 pub mod RoomForAll
 pub mod Short
+pub mod Starts
+pub mod Drops
 pub mod InTurn

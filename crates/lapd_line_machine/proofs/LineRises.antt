@@ -13,7 +13,7 @@ use Rattle.lapd_line_machine.specs.declared.config.Config.{Config}
 use Rattle.lapd_line_machine.specs.Counts.{one, is_frame, frames_heard, is_long_frame, long_frames_heard, rejects_aimed}
 use Rattle.lapd_line_machine.specs.Line.{Line, window, link_in}
 use Rattle.lapd_line_machine.specs.Octet.{gained, aim_of_heard, aim_of_octet, with_received}
-use Rattle.lapd_line_machine.specs.Outcome.{Aim, at_none, at_link, at_management, at_units, told_of_management, of_change, of_aim}
+use Rattle.lapd_line_machine.specs.Effect.{Aim, at_none, at_link, at_management, at_units, told_of_management, of_change, of_aim}
 use Rattle.lapd_line_machine.specs.Answer.{Told, nothing}
 use Rattle.lapd_tei.specs.Events as teis
 use Rattle.lapd_tei.specs.declared.outcome.Change.{Change}

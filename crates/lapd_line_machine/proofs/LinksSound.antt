@@ -14,7 +14,7 @@ use Rattle.lapd_tei.specs.Table.{Places}
 use Rattle.lapd_tei.proofs.Tables.{at-within}
 use Rattle.lapd_line_machine.specs.declared.config.Config.{Config}
 use Rattle.lapd_line_machine.specs.Line.{Line, link_number, service_at, place_at, link_count, link_at, link_in, with_link, terms}
-use Rattle.lapd_line_machine.specs.Outcome.{of_link}
+use Rattle.lapd_line_machine.specs.Effect.{of_link}
 use Rattle.lapd_line_machine.specs.Sound.{IsInRange, IsSoundAt, IsSound}
 use Rattle.lapd_line_machine.proofs.Numbers.{place_at-number, service_at-number, number_within, at_place}
 use Rattle.lapd_line_machine.proofs.Ranges.{terms_in_range}

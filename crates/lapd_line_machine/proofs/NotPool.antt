@@ -7,7 +7,7 @@ use Rattle.lapd_line_machine.specs.Answer.{Event, octet, expiry, request, pull}
 use Rattle.lapd_line_machine.specs.Counts.{is_pool, is_pool_full}
 use Rattle.lapd_line_machine.specs.Line.{Line}
 use Rattle.lapd_line_machine.specs.Machine.{answer, unless_refused_told, of_request}
-use Rattle.lapd_line_machine.specs.Outcome.{Outcome}
+use Rattle.lapd_line_machine.specs.Effect.{Effect}
 use Rattle.lapd_line_machine.specs.Refusal.{Row, first_that_holds, bad_tei, no_link, bad_tei_or_group, no_link_nor_group, wrong_state, too_long, queue_full, unit_queue_full, pool_full, tei_taken, table_full, check_running, control_full, refusal}
 use Rattle.lapd_line_machine.specs.Request.{Request, Establish, Release, Data, Unit, Assign, Remove, Check, SetBusy, ClearBusy}
 
@@ -26,13 +26,13 @@ other_row row others reason rest = go row.holds
 
 refused_otherwise : (c : Config) (r : Request) (l : Line) → IsOther (refusal c false r l)
 refused_otherwise c (Establish service tei) l =
-    other_row (bad_tei tei) (no_link tei l ∷ wrong_state service tei link.establish l ∷ []) refl
-    (other_row (no_link tei l) (wrong_state service tei link.establish l ∷ []) refl (other_row (wrong_state service tei link.establish l) [] refl 0))
+    other_row (bad_tei tei) (no_link tei l ∷ wrong_state service tei link.Establish l ∷ []) refl
+    (other_row (no_link tei l) (wrong_state service tei link.Establish l ∷ []) refl (other_row (wrong_state service tei link.Establish l) [] refl 0))
 refused_otherwise c (Release service tei) l =
-    other_row (bad_tei tei) (no_link tei l ∷ wrong_state service tei link.release l ∷ []) refl
-    (other_row (no_link tei l) (wrong_state service tei link.release l ∷ []) refl (other_row (wrong_state service tei link.release l) [] refl 0))
+    other_row (bad_tei tei) (no_link tei l ∷ wrong_state service tei link.Release l ∷ []) refl
+    (other_row (no_link tei l) (wrong_state service tei link.Release l ∷ []) refl (other_row (wrong_state service tei link.Release l) [] refl 0))
 refused_otherwise c (Data service tei contents) l =
-    let state = wrong_state service tei (link.transfer contents) l in
+    let state = wrong_state service tei (link.Data contents) l in
     let last = queue_full c service tei l ∷ pool_full false ∷ [] in
     other_row (bad_tei tei) (no_link tei l ∷ state ∷ too_long c contents ∷ last) refl
     (other_row (no_link tei l) (state ∷ too_long c contents ∷ last) refl
@@ -54,13 +54,13 @@ refused_otherwise c (Check tei) l =
     (other_row (no_link tei l) (check_running l ∷ control_full l ∷ []) refl
     (other_row (check_running l) (control_full l ∷ []) refl (other_row (control_full l) [] refl 0)))
 refused_otherwise c (SetBusy service tei) l =
-    other_row (bad_tei tei) (no_link tei l ∷ wrong_state service tei link.set_busy l ∷ []) refl
-    (other_row (no_link tei l) (wrong_state service tei link.set_busy l ∷ []) refl (other_row (wrong_state service tei link.set_busy l) [] refl 0))
+    other_row (bad_tei tei) (no_link tei l ∷ wrong_state service tei link.SetBusy l ∷ []) refl
+    (other_row (no_link tei l) (wrong_state service tei link.SetBusy l ∷ []) refl (other_row (wrong_state service tei link.SetBusy l) [] refl 0))
 refused_otherwise c (ClearBusy service tei) l =
-    other_row (bad_tei tei) (no_link tei l ∷ wrong_state service tei link.clear_busy l ∷ []) refl
-    (other_row (no_link tei l) (wrong_state service tei link.clear_busy l ∷ []) refl (other_row (wrong_state service tei link.clear_busy l) [] refl 0))
+    other_row (bad_tei tei) (no_link tei l ∷ wrong_state service tei link.ClearBusy l ∷ []) refl
+    (other_row (no_link tei l) (wrong_state service tei link.ClearBusy l ∷ []) refl (other_row (wrong_state service tei link.ClearBusy l) [] refl 0))
 
-not_pool : (o : Option Refusal) (outcome : Outcome) → IsOther o → is_pool_full (unless_refused_told o outcome) ≡ false
+not_pool : (o : Option Refusal) (outcome : Effect) → IsOther o → is_pool_full (unless_refused_told o outcome) ≡ false
 not_pool None outcome h = refl
 not_pool (Some why) outcome h = h
 

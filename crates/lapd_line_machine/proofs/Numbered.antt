@@ -29,9 +29,10 @@ use Rattle.lapd_tei.specs.declared.outcome.Change.TheVariants.{Gained, Left}
 use Rattle.lapd_tei.proofs.LawLemmas as tei_laws
 use Rattle.lapd_line_machine.specs.declared.config.Config.{Config}
 use Rattle.lapd_line_machine.specs.Answer.{Answer, Told, told, nothing}
-use Rattle.lapd_line_machine.specs.Deliveries.{arrived_aimed, arrived, is_change_at, restarts_aimed, restarts, same_service, is_data_of, delivered_in, delivered_at, delivered}
+use Rattle.lapd_frame.specs.Services.{same_service}
+use Rattle.lapd_line_machine.specs.Deliveries.{arrived_aimed, arrived, is_change_at, restarts_aimed, restarts, is_data_of, delivered_in, delivered_at, delivered}
 use Rattle.lapd_line_machine.specs.Line.{Line, link_number, service_at, place_at, tei_at, link_at, link_in, terms, link_count}
-use Rattle.lapd_line_machine.specs.Outcome.{Aim, at_none, at_link, at_management, at_units, told_of_link, told_of_management, of_change, of_aim}
+use Rattle.lapd_line_machine.specs.Effect.{Aim, at_none, at_link, at_management, at_units, told_of_link, told_of_management, of_change, of_aim}
 use Rattle.lapd_line_machine.specs.Sound.{IsSound}
 use Rattle.lapd_line_machine.proofs.AimsSound.{IsProper}
 use Rattle.lapd_line_machine.proofs.Numbers.{place_at-number, service_at-number, at_place}

@@ -19,7 +19,7 @@ use Rattle.lapd_line_machine.specs.Line.{Line, link_number, link_at, link_in, te
 use Rattle.lapd_line_machine.specs.Machine.{after, answer, takes_slot, unless_refused, unless_refused_told}
 use Rattle.lapd_line_machine.specs.Octet.{gained, aim_of_octet, aim_of_heard}
 use Rattle.lapd_line_machine.specs.Expiry.{at_timer, aim_of_expiry}
-use Rattle.lapd_line_machine.specs.Outcome.{Aim, at_none, of_aim}
+use Rattle.lapd_line_machine.specs.Effect.{Aim, at_none, of_aim}
 use Rattle.lapd_line_machine.specs.Pull.{Taken, with_message, message_taken, with_unit, unit_taken, with_given_frame, link_taken, first_taken, round, taken, is_due, with_item, after_pull, answer_to_pull}
 use Rattle.lapd_line_machine.specs.Refusal.{refusal}
 use Rattle.lapd_line_machine.specs.Request.{Request, Establish, Release, Data, Unit, Assign, Remove, Check, SetBusy, ClearBusy}
@@ -51,15 +51,15 @@ requested_none service tei what None = refl
 requested_none service tei what (Some place) = tt
 
 request_none : (l : Line) (r : Request) → HasNoContents (aim_of_request r l)
-request_none l (Establish service tei) = requested_none service tei link.establish (place_in l tei)
-request_none l (Release service tei) = requested_none service tei link.release (place_in l tei)
-request_none l (Data service tei contents) = requested_none service tei (link.transfer contents) (place_in l tei)
+request_none l (Establish service tei) = requested_none service tei link.Establish (place_in l tei)
+request_none l (Release service tei) = requested_none service tei link.Release (place_in l tei)
+request_none l (Data service tei contents) = requested_none service tei (link.Data contents) (place_in l tei)
 request_none l (Unit service tei contents) = tt
 request_none l (Assign tei) = tt
 request_none l (Remove tei) = tt
 request_none l (Check tei) = tt
-request_none l (SetBusy service tei) = requested_none service tei link.set_busy (place_in l tei)
-request_none l (ClearBusy service tei) = requested_none service tei link.clear_busy (place_in l tei)
+request_none l (SetBusy service tei) = requested_none service tei link.SetBusy (place_in l tei)
+request_none l (ClearBusy service tei) = requested_none service tei link.ClearBusy (place_in l tei)
 
 -- A pull leaves V(R) of each link.
 set_keeps_r : (all : List Link) (n number : ℕ) (x : Link) → x.r ≡ (get_or all n fresh).r → (get_or (set all n x) number fresh).r ≡ (get_or all number fresh).r
@@ -143,7 +143,7 @@ module _ (c : Config) (number : ℕ) (l : Line) where
   abbrev Quiet : Aim → Type 0
   Quiet aim = (arrived_aimed c number l aim ≡ None) × (restarts_aimed c number l aim ≡ false)
 
-  at_transfer : (service : Service) (tei : ℕ) (contents : List ℕ) (o : Option ℕ) → Quiet (at_requested service tei (link.transfer contents) o)
+  at_transfer : (service : Service) (tei : ℕ) (contents : List ℕ) (o : Option ℕ) → Quiet (at_requested service tei (link.Data contents) o)
   at_transfer service tei contents None = (refl, refl)
   at_transfer service tei contents (Some place) = (
     neither (link_number place service == number) None None refl,

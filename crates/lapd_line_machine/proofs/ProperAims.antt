@@ -29,7 +29,7 @@ use Rattle.lapd_line_machine.specs.declared.config.Config.{Config}
 use Rattle.lapd_line_machine.specs.Answer.{nothing}
 use Rattle.lapd_line_machine.specs.Line.{Line, place_in}
 use Rattle.lapd_line_machine.specs.Request.{Request, Establish, Release, Data, Unit, Assign, Remove, Check, SetBusy, ClearBusy}
-use Rattle.lapd_line_machine.specs.Outcome.{Aim, at_none, at_link, at_management, at_units}
+use Rattle.lapd_line_machine.specs.Effect.{Aim, at_none, at_link, at_management, at_units}
 use Rattle.lapd_line_machine.specs.Octet.{gained, management_sapi, group_tei, drop_for, at_place, to_service, addressed, message_of, aim_of_reading, unless_at_link, aim_of_long, aim_of_heard, aim_of_octet}
 use Rattle.lapd_line_machine.specs.Expiry.{at_timer, aim_of_expiry}
 use Rattle.lapd_line_machine.specs.Requested.{at_requested, aim_of_request}
@@ -129,9 +129,9 @@ module _ (c : Config) (l : Line) where
   low n tei e = ltb-false n tei e
 
   granted_proper : (r : Request) → refusal c false r l ≡ None → IsProper c l (aim_of_request r l)
-  granted_proper (Establish service tei) e = requested_proper service tei link.establish (place_in l tei) refl
-  granted_proper (Release service tei) e = requested_proper service tei link.release (place_in l tei) refl
-  granted_proper (Data service tei contents) e = requested_proper service tei (link.transfer contents) (place_in l tei) refl
+  granted_proper (Establish service tei) e = requested_proper service tei link.Establish (place_in l tei) refl
+  granted_proper (Release service tei) e = requested_proper service tei link.Release (place_in l tei) refl
+  granted_proper (Data service tei contents) e = requested_proper service tei (link.Data contents) (place_in l tei) refl
   granted_proper (Unit service tei contents) e =
       let bad = skipped _ _ _ e in
       let unknown = skipped _ _ _ bad.1 in
@@ -141,8 +141,8 @@ module _ (c : Config) (l : Line) where
   granted_proper (Assign tei) e = low 126 tei (skipped _ _ _ e).0
   granted_proper (Remove tei) e = low 126 tei (skipped _ _ _ e).0
   granted_proper (Check tei) e = low 126 tei (skipped _ _ _ e).0
-  granted_proper (SetBusy service tei) e = requested_proper service tei link.set_busy (place_in l tei) refl
-  granted_proper (ClearBusy service tei) e = requested_proper service tei link.clear_busy (place_in l tei) refl
+  granted_proper (SetBusy service tei) e = requested_proper service tei link.SetBusy (place_in l tei) refl
+  granted_proper (ClearBusy service tei) e = requested_proper service tei link.ClearBusy (place_in l tei) refl
 
   pub request_proper : (r : Request) → IsProper c l (unless_refused (refusal c false r l) (aim_of_request r l))
   request_proper r = go (refusal c false r l) refl

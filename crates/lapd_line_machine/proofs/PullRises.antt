@@ -14,7 +14,7 @@ use Rattle.lapd_link_machine.proofs.RiseEvents.{event-rises, offer-falls}
 use Rattle.lapd_tei.specs.Messages.{frame_of}
 use Rattle.lapd_tei.specs.declared.messages.Message.{Message}
 use Rattle.lapd_line_machine.specs.declared.config.Config.{Config}
-use Rattle.lapd_line_machine.specs.Counts.{one, waiting}
+use Rattle.lapd_line_machine.specs.Counts.{one, may_send}
 use Rattle.lapd_line_machine.specs.Line.{Line, UnitData, link_count, service_at, place_at, tei_at, terms, link_at}
 use Rattle.lapd_line_machine.specs.Pull.{Taken, message_taken, unit_frame, unit_taken, with_given_frame, link_taken, first_taken, round, taken, is_due, begun, with_item, after_pull}
 use Rattle.lapd_line_machine.specs.Sound.{IsInRange, IsSoundAt, IsSound}
@@ -25,7 +25,7 @@ use Rattle.lapd_line_machine.proofs.Ranges.{terms_in_range}
 
 -- One frame fewer may be sent, or two: a link's frame makes an acknowledgement that it owes needless.
 abbrev pub TakesOne : Config → Line → Taken → Type 0
-TakesOne c l t = (1 + waiting c t.line ≤ waiting c l) × (waiting c l ≤ waiting c t.line + 2)
+TakesOne c l t = (1 + may_send c t.line ≤ may_send c l) × (may_send c l ≤ may_send c t.line + 2)
 
 message_falls : (c : Config) (l : Line) → IfSome (message_taken l) (TakesOne c l)
 message_falls c l = go l.management.waiting refl
@@ -103,12 +103,12 @@ taken_falls c ranged l s =
 
 -- and so it is with a pull that begins a frame; any other leaves what may be sent
 pub pull_falls : (c : Config) → IsInRange c → (l : Line) → IsSound c l
-    → (one (is_some (begun c l)) + waiting c (after_pull c l) ≤ waiting c l) × (waiting c l ≤ waiting c (after_pull c l) + 2 * one (is_some (begun c l)))
+    → (one (is_some (begun c l)) + may_send c (after_pull c l) ≤ may_send c l) × (may_send c l ≤ may_send c (after_pull c l) + 2 * one (is_some (begun c l)))
 pull_falls c ranged l s = go (is_due l) (taken c l) (taken_falls c ranged l s)
   where
     go : (due : Bool) (o : Option Taken) → IfSome o (TakesOne c l)
-        → (one (is_some (cond due o None)) + waiting c (cond due (with_item o l) l) ≤ waiting c l)
-        × (waiting c l ≤ waiting c (cond due (with_item o l) l) + 2 * one (is_some (cond due o None)))
+        → (one (is_some (cond due o None)) + may_send c (cond due (with_item o l) l) ≤ may_send c l)
+        × (may_send c l ≤ may_send c (cond due (with_item o l) l) + 2 * one (is_some (cond due o None)))
     go false o h = (omega arith, omega arith)
     go true None h = (omega arith, omega arith)
     go true (Some t) h = (omega (arith, h.0), omega (arith, h.1))

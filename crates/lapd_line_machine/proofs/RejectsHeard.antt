@@ -29,7 +29,7 @@ use Rattle.lapd_line_machine.specs.Answer.{nothing}
 use Rattle.lapd_line_machine.specs.Counts.{one, is_frame, frames_heard, is_long_frame, long_frames_heard, rejects_aimed}
 use Rattle.lapd_line_machine.specs.Line.{Line, place_in}
 use Rattle.lapd_line_machine.specs.Octet.{management_sapi, group_tei, drop_for, at_place, to_service, addressed, message_of, aim_of_reading, aim_of_heard, aim_of_octet, with_received}
-use Rattle.lapd_line_machine.specs.Outcome.{Aim, at_none}
+use Rattle.lapd_line_machine.specs.Effect.{Aim, at_none}
 use Rattle.lapd_line_machine.proofs.LineRises.{brings}
 use Rattle.lapd_line_machine.proofs.Rejects.{NoReject, three_no_reject}
 

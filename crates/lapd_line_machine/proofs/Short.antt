@@ -26,13 +26,14 @@ use Rattle.lapd_line_machine.specs.Laws.{notes_in, orders_in, AnswersAreShort}
 use Rattle.lapd_line_machine.specs.Line.{Line, link_in, link_at, terms, terms_at, place_in}
 use Rattle.lapd_line_machine.specs.Machine.{answer, unless_refused, unless_refused_told}
 use Rattle.lapd_line_machine.specs.Octet.{gained, aim_of_heard, with_received}
-use Rattle.lapd_line_machine.specs.Outcome.{at_none, told_of_management, of_link, of_change, of_management, of_aim}
+use Rattle.lapd_line_machine.specs.Effect.{at_none, told_of_management, of_link, of_change, of_management, of_aim}
 use Rattle.lapd_line_machine.specs.Pull.{Taken, with_message, message_taken, with_unit, unit_taken, with_given_frame, link_taken, first_taken, round, taken, is_due, orders_of, begun}
 use Rattle.lapd_line_machine.specs.Refusal.{refusal}
 use Rattle.lapd_line_machine.specs.Request.{Request, Establish, Release, Data, Unit, Assign, Remove, Check, SetBusy, ClearBusy}
 use Rattle.lapd_line_machine.specs.Requested.{at_requested, aim_of_request}
 use Rattle.lapd_tei.proofs.Brief.{IsBrief, told_brief}
 use Rattle.lapd_line_machine.proofs.ProperAims.{heard_aims}
+use Rattle.lapd_line_machine.proofs.Starts.{expiry_starts}
 
 record IsShort (t : Told) : Type 0 where
   notes : length t.notes ≤ 4
@@ -102,15 +103,15 @@ module _ (c : Config) where
   requested_short l service n what (Some place) = link_short service n place (link.requested what false) l
 
   request_short : (l : Line) (r : Request) → IsShort (of_aim c (aim_of_request r l) l).told
-  request_short l (Establish service n) = requested_short l service n link.establish (place_in l n)
-  request_short l (Release service n) = requested_short l service n link.release (place_in l n)
-  request_short l (Data service n contents) = requested_short l service n (link.transfer contents) (place_in l n)
+  request_short l (Establish service n) = requested_short l service n link.Establish (place_in l n)
+  request_short l (Release service n) = requested_short l service n link.Release (place_in l n)
+  request_short l (Data service n contents) = requested_short l service n (link.Data contents) (place_in l n)
   request_short l (Unit service n contents) = none_short
   request_short l (Assign n) = management_short (teis.assign n) l
   request_short l (Remove n) = management_short (teis.remove n) l
   request_short l (Check n) = management_short (teis.check n) l
-  request_short l (SetBusy service n) = requested_short l service n link.set_busy (place_in l n)
-  request_short l (ClearBusy service n) = requested_short l service n link.clear_busy (place_in l n)
+  request_short l (SetBusy service n) = requested_short l service n link.SetBusy (place_in l n)
+  request_short l (ClearBusy service n) = requested_short l service n link.ClearBusy (place_in l n)
 
   -- A pull orders what the frame's timer wants.
   HasFewOrders : Taken → Type 0
@@ -188,4 +189,4 @@ module _ (c : Config) where
   pull_orders l = pull_few l
 
 pub answers_are_short : AnswersAreShort
-answers_are_short = record { notes = notes_few; orders = orders_few; pulls = pull_orders }
+answers_are_short = record { notes = notes_few; orders = orders_few; pulls = pull_orders; expiries = expiry_starts }

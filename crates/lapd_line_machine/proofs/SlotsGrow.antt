@@ -37,7 +37,7 @@ use Rattle.lapd_line_machine.specs.Expiry.{at_timer, aim_of_expiry}
 use Rattle.lapd_line_machine.specs.Line.{Line, fresh_line, link_number, link_count, service_at, place_at, place_in, tei_at, link_at, link_in, terms}
 use Rattle.lapd_line_machine.specs.Machine.{after, takes_slot, unless_refused}
 use Rattle.lapd_line_machine.specs.Octet.{gained, aim_of_heard, aim_of_octet, with_received}
-use Rattle.lapd_line_machine.specs.Outcome.{Aim, at_none, at_link, at_management, at_units, told_of_management, of_link, of_change, of_aim}
+use Rattle.lapd_line_machine.specs.Effect.{Aim, at_none, at_link, at_management, at_units, told_of_management, of_link, of_change, of_aim}
 use Rattle.lapd_line_machine.specs.Pull.{Taken, with_message, message_taken, unit_frame, unit_taken, with_given_frame, link_taken, first_taken, round, taken, is_due, with_item, with_due}
 use Rattle.lapd_line_machine.specs.Refusal.{refusal}
 use Rattle.lapd_line_machine.specs.Request.{Request, Establish, Release, Data, Unit, Assign, Remove, Check, SetBusy, ClearBusy}
@@ -137,17 +137,17 @@ at_most_one true = omega arith
 at_most_one false = omega arith
 
 granted_takes : (c : Config) (l : Line) (r : Request) → grows_at c l (aim_of_request r l) ≤ one (carries_contents r && true)
-granted_takes c l (Establish service tei) = none_taken c l service tei link.establish (place_in l tei) 0 (λ place. omega arith)
-granted_takes c l (Release service tei) = none_taken c l service tei link.release (place_in l tei) 0 (λ place. omega arith)
+granted_takes c l (Establish service tei) = none_taken c l service tei link.Establish (place_in l tei) 0 (λ place. omega arith)
+granted_takes c l (Release service tei) = none_taken c l service tei link.Release (place_in l tei) 0 (λ place. omega arith)
 granted_takes c l (Data service tei contents) =
-    none_taken c l service tei (link.transfer contents) (place_in l tei) 1
-    (λ place. at_most_one (is_some (requests.refusal (terms c service tei) (link_in l service place) false (link.transfer contents))))
+    none_taken c l service tei (link.Data contents) (place_in l tei) 1
+    (λ place. at_most_one (is_some (requests.refusal (terms c service tei) (link_in l service place) false (link.Data contents))))
 granted_takes c l (Unit service tei contents) = omega arith
 granted_takes c l (Assign tei) = omega arith
 granted_takes c l (Remove tei) = omega arith
 granted_takes c l (Check tei) = omega arith
-granted_takes c l (SetBusy service tei) = none_taken c l service tei link.set_busy (place_in l tei) 0 (λ place. omega arith)
-granted_takes c l (ClearBusy service tei) = none_taken c l service tei link.clear_busy (place_in l tei) 0 (λ place. omega arith)
+granted_takes c l (SetBusy service tei) = none_taken c l service tei link.SetBusy (place_in l tei) 0 (λ place. omega arith)
+granted_takes c l (ClearBusy service tei) = none_taken c l service tei link.ClearBusy (place_in l tei) 0 (λ place. omega arith)
 
 request_grows : (c : Config) → IsInRange c → (r : Request) (l : Line) → IsSound c l
     → slots_of c (of_aim c (unless_refused (refusal c false r l) (aim_of_request r l)) l).line

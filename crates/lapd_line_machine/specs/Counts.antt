@@ -1,5 +1,6 @@
 -- What is counted of a line.
 use Rattle.std.specs.Prelude.{ℕ, ◌+◌, nat_le, Bool, true, false, length, count_by, if◌then◌else◌}
+use Rattle.std.specs.Option.{option_map_or}
 use Rattle.lapd_bits.specs.Stream as stream
 use Rattle.lapd_frame.specs.declared.refusals.Refusal.{Refusal}
 use Rattle.lapd_frame.specs.declared.refusals.Refusal.TheVariants as refusals
@@ -10,21 +11,22 @@ use Rattle.lapd_line_machine.specs.Answer.{Event, octet, expiry, request, pull, 
 use Rattle.lapd_line_machine.specs.Line.{Line, terms_at, link_at, link_in}
 use Rattle.lapd_line_machine.specs.Stored.{sum_of_links}
 use Rattle.lapd_line_machine.specs.Expiry.{is_running}
-use Rattle.lapd_line_machine.specs.Outcome.{Aim, at_none, at_link, at_management, at_units}
+use Rattle.lapd_line_machine.specs.Effect.{Aim, at_none, at_link, at_management, at_units}
 use Rattle.lapd_line_machine.specs.Machine.{aim_of}
+use Rattle.lapd_line_machine.specs.Octet.{gained}
 
 -- A test, counted.
 abbrev pub one : Bool → ℕ
 one b = if b then 1 else 0
 
 -- What may be sent without anything else happening: management messages, unit data, and what each link may send.
-abbrev pub waiting_at_link : Config → Line → ℕ → ℕ
-waiting_at_link c l number = links.waiting (terms_at c number l) (link_at number l)
+abbrev pub may_send_at_link : Config → Line → ℕ → ℕ
+may_send_at_link c l number = links.may_send (terms_at c number l) (link_at number l)
 
-abbrev pub waiting : Config → Line → ℕ
-waiting c l = tei.waiting l.management + length l.units + sum_of_links c (waiting_at_link c l)
+abbrev pub may_send : Config → Line → ℕ
+may_send c l = tei.may_send l.management + length l.units + sum_of_links c (may_send_at_link c l)
 
--- The frames that were recognised in all octets received.
+-- The frames that were heard in all octets received.
 abbrev pub is_frame : stream.Event → Bool
 is_frame (stream.frame octets) = true
 is_frame (stream.overlong head) = true
@@ -32,6 +34,13 @@ is_frame (stream.dropped cause) = false
 
 abbrev pub frames_heard : Config → Line → ℕ
 frames_heard c l = count_by is_frame (stream.heard_in c.n201 l.received)
+
+-- An octet that ends such a frame.
+abbrev pub hears : Config → Event → Line → Bool
+hears c (octet value) l = option_map_or is_frame (gained c.n201 l.received value) false
+hears c (expiry timer) l = false
+hears c (request r) l = false
+hears c pull l = false
 
 -- Those of four octets or more, as each with a control field of two octets is.
 abbrev pub is_long_frame : stream.Event → Bool

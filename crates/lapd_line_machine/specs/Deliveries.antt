@@ -2,7 +2,7 @@
 use Rattle.std.specs.Prelude.{ℕ, ◌==◌, Bool, true, false, List, Option, Some, None, if◌then◌else◌}
 use Rattle.std.specs.Option.{option_map_or}
 use Rattle.lapd_frame.specs.declared.services.Service.{Service}
-use Rattle.lapd_frame.specs.declared.services.Service.TheVariants.{Call, Packet}
+use Rattle.lapd_frame.specs.Services.{same_service}
 use Rattle.lapd_frame.specs.declared.notes.Note.{Note}
 use Rattle.lapd_frame.specs.declared.notes.Note.TheVariants as notes
 use Rattle.std.specs.List.{list_any}
@@ -13,7 +13,7 @@ use Rattle.lapd_tei.specs.declared.outcome.Change.TheVariants.{Gained, Left}
 use Rattle.lapd_line_machine.specs.declared.config.Config.{Config}
 use Rattle.lapd_line_machine.specs.Answer.{Event, Answer, told, refused, pulled}
 use Rattle.lapd_line_machine.specs.Line.{Line, link_number, service_at, place_at, tei_at, terms, link_in}
-use Rattle.lapd_line_machine.specs.Outcome.{Aim, at_none, at_link, at_management, at_units}
+use Rattle.lapd_line_machine.specs.Effect.{Aim, at_none, at_link, at_management, at_units}
 use Rattle.lapd_line_machine.specs.Machine.{aim_of}
 
 -- The eligible I-frame that an event brings to a link, if it brings one.
@@ -46,11 +46,6 @@ restarts c number event l = restarts_aimed c number l (aim_of c event l)
 
 -- What an answer says is delivered by the link of a service with this TEI: the contents that it has, where it notes
 -- that they are data of that link.
-abbrev pub same_service : Service → Service → Bool
-same_service Call Call = true
-same_service Packet Packet = true
-same_service _ _ = false
-
 abbrev pub is_data_of : Service → ℕ → Note → Bool
 is_data_of service tei (notes.Data of by) = if same_service of service then by == tei else false
 is_data_of service tei _ = false

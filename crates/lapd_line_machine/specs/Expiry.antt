@@ -10,7 +10,7 @@ use Rattle.lapd_link_machine.specs.declared.timers.LinkTimer.TheVariants as link
 use Rattle.lapd_tei.specs.Events as teis
 use Rattle.lapd_line_machine.specs.Answer.{nothing}
 use Rattle.lapd_line_machine.specs.Line.{Line, link_in, place_in}
-use Rattle.lapd_line_machine.specs.Outcome.{Aim, at_none, at_link, at_management}
+use Rattle.lapd_line_machine.specs.Effect.{Aim, at_none, at_link, at_management}
 
 -- What an expiry is to the line: that of a link's timer is one of the link, where its TEI is on the line, and that of
 -- T201 one of TEI management. An expiry of a timer that does not run has no effect on either (profile).

@@ -3,7 +3,7 @@ pub mod Config
 pub mod Request
 pub mod Answer
 pub mod Line
-pub mod Outcome
+pub mod Effect
 pub mod Octet
 pub mod Expiry
 pub mod Refusal

@@ -5,7 +5,7 @@ use Rattle.lapd_line_machine.specs.declared.config.Config.{Config}
 use Rattle.lapd_line_machine.specs.Answer.{Event, octet, expiry, request, pull, Answer, told, refused, nothing}
 use Rattle.lapd_line_machine.specs.Request.{Request}
 use Rattle.lapd_line_machine.specs.Line.{Line}
-use Rattle.lapd_line_machine.specs.Outcome.{Aim, at_none, Outcome, of_aim}
+use Rattle.lapd_line_machine.specs.Effect.{Aim, at_none, Effect, of_aim}
 use Rattle.lapd_line_machine.specs.Octet.{aim_of_octet, with_received}
 use Rattle.lapd_line_machine.specs.Expiry.{aim_of_expiry}
 use Rattle.lapd_line_machine.specs.Refusal.{refusal}
@@ -24,13 +24,13 @@ aim_of c (request r) l = unless_refused (refusal c false r l) (aim_of_request r 
 aim_of c pull l = at_none nothing
 
 -- What comes of an octet, an expiry or a request.
-abbrev pub of_octet : Config → ℕ → Line → Outcome
+abbrev pub of_octet : Config → ℕ → Line → Effect
 of_octet c value l = of_aim c (aim_of_octet c value l) (with_received value l)
 
-abbrev pub of_request : Config → Request → Line → Outcome
+abbrev pub of_request : Config → Request → Line → Effect
 of_request c r l = of_aim c (unless_refused (refusal c false r l) (aim_of_request r l)) l
 
-abbrev pub unless_refused_told : Option Refusal → Outcome → Answer
+abbrev pub unless_refused_told : Option Refusal → Effect → Answer
 unless_refused_told None outcome = told outcome.told
 unless_refused_told (Some why) outcome = refused why
 

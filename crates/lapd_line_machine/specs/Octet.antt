@@ -21,7 +21,7 @@ use Rattle.lapd_tei.specs.Events as teis
 use Rattle.lapd_line_machine.specs.declared.config.Config.{Config}
 use Rattle.lapd_line_machine.specs.Answer.{nothing, dropped}
 use Rattle.lapd_line_machine.specs.Line.{Line, place_in}
-use Rattle.lapd_line_machine.specs.Outcome.{Aim, at_none, at_link, at_management}
+use Rattle.lapd_line_machine.specs.Effect.{Aim, at_none, at_link, at_management}
 
 -- What an octet brings: what is heard in all octets with it, and was not heard before.
 abbrev pub gained : ℕ → List ℕ → ℕ → Option stream.Event

@@ -65,18 +65,18 @@ control_full l = record { why = ControlFull; holds = nat_le messages_limit (leng
 
 -- The rows that apply to a request, in order, while the card's pool is full or not.
 abbrev pub rows : Config → Bool → Request → Line → List Row
-rows c full (Establish service tei) l = bad_tei tei ∷ no_link tei l ∷ wrong_state service tei link.establish l ∷ []
-rows c full (Release service tei) l = bad_tei tei ∷ no_link tei l ∷ wrong_state service tei link.release l ∷ []
+rows c full (Establish service tei) l = bad_tei tei ∷ no_link tei l ∷ wrong_state service tei link.Establish l ∷ []
+rows c full (Release service tei) l = bad_tei tei ∷ no_link tei l ∷ wrong_state service tei link.Release l ∷ []
 rows c full (Data service tei contents) l =
-    bad_tei tei ∷ no_link tei l ∷ wrong_state service tei (link.transfer contents) l
+    bad_tei tei ∷ no_link tei l ∷ wrong_state service tei (link.Data contents) l
     ∷ too_long c contents ∷ queue_full c service tei l ∷ pool_full full ∷ []
 rows c full (Unit service tei contents) l =
     bad_tei_or_group tei ∷ no_link_nor_group tei l ∷ too_long c contents ∷ unit_queue_full c l ∷ pool_full full ∷ []
 rows c full (Assign tei) l = bad_tei tei ∷ tei_taken tei l ∷ table_full l ∷ []
 rows c full (Remove tei) l = bad_tei tei ∷ no_link tei l ∷ control_full l ∷ []
 rows c full (Check tei) l = bad_tei tei ∷ no_link tei l ∷ check_running l ∷ control_full l ∷ []
-rows c full (SetBusy service tei) l = bad_tei tei ∷ no_link tei l ∷ wrong_state service tei link.set_busy l ∷ []
-rows c full (ClearBusy service tei) l = bad_tei tei ∷ no_link tei l ∷ wrong_state service tei link.clear_busy l ∷ []
+rows c full (SetBusy service tei) l = bad_tei tei ∷ no_link tei l ∷ wrong_state service tei link.SetBusy l ∷ []
+rows c full (ClearBusy service tei) l = bad_tei tei ∷ no_link tei l ∷ wrong_state service tei link.ClearBusy l ∷ []
 
 abbrev pub refusal : Config → Bool → Request → Line → Option Refusal
 refusal c full request l = first_that_holds (rows c full request l)

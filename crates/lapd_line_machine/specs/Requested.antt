@@ -6,7 +6,7 @@ use Rattle.lapd_tei.specs.Events as teis
 use Rattle.lapd_line_machine.specs.Request.{Request, Establish, Release, Data, Unit, Assign, Remove, Check, SetBusy, ClearBusy}
 use Rattle.lapd_line_machine.specs.Answer.{nothing}
 use Rattle.lapd_line_machine.specs.Line.{Line, place_in}
-use Rattle.lapd_line_machine.specs.Outcome.{Aim, at_none, at_link, at_management, at_units}
+use Rattle.lapd_line_machine.specs.Effect.{Aim, at_none, at_link, at_management, at_units}
 
 -- A request of the link of a service with a TEI.
 abbrev pub at_requested : Service → ℕ → link.Request → Option ℕ → Aim
@@ -18,15 +18,15 @@ to_link service tei request l = at_requested service tei request (place_in l tei
 
 -- What a request is to the line.
 abbrev pub aim_of_request : Request → Line → Aim
-aim_of_request (Establish service tei) l = to_link service tei link.establish l
-aim_of_request (Release service tei) l = to_link service tei link.release l
-aim_of_request (Data service tei contents) l = to_link service tei (link.transfer contents) l
+aim_of_request (Establish service tei) l = to_link service tei link.Establish l
+aim_of_request (Release service tei) l = to_link service tei link.Release l
+aim_of_request (Data service tei contents) l = to_link service tei (link.Data contents) l
 aim_of_request (Unit service tei contents) l = at_units (record { service = service; tei = tei; contents = contents })
 aim_of_request (Assign tei) l = at_management (teis.assign tei)
 aim_of_request (Remove tei) l = at_management (teis.remove tei)
 aim_of_request (Check tei) l = at_management (teis.check tei)
-aim_of_request (SetBusy service tei) l = to_link service tei link.set_busy l
-aim_of_request (ClearBusy service tei) l = to_link service tei link.clear_busy l
+aim_of_request (SetBusy service tei) l = to_link service tei link.SetBusy l
+aim_of_request (ClearBusy service tei) l = to_link service tei link.ClearBusy l
 
 -- The requests that put contents on the card's shelf.
 abbrev pub carries_contents : Request → Bool

@@ -14,7 +14,7 @@ use Rattle.lapd_line_machine.specs.declared.config.Config.{Config}
 use Rattle.lapd_line_machine.specs.Answer.{nothing, dropped}
 use Rattle.lapd_line_machine.specs.Request.{Request, Data, Unit, Assign, Remove, Check}
 use Rattle.lapd_line_machine.specs.Line.{Line, fresh_line, state_of}
-use Rattle.lapd_line_machine.specs.Outcome.{Outcome, of_aim}
+use Rattle.lapd_line_machine.specs.Effect.{Effect, of_aim}
 use Rattle.lapd_line_machine.specs.Octet.{aim_of_heard}
 use Rattle.lapd_line_machine.specs.Refusal.{refusal}
 use Rattle.lapd_line_machine.specs.Machine.{of_request}
@@ -24,7 +24,7 @@ abbrev usual : Config
 usual = record { lines = 1; terminals = 8; k = 7; k16 = 7; queue = 8; unit_queue = 4; control = 4; slots = 64; n201 = 260; n200 = 3 }
 
 -- a frame of a terminal is heard
-abbrev hearing : List ℕ → Line → Outcome
+abbrev hearing : List ℕ → Line → Effect
 hearing octets l = of_aim usual (aim_of_heard l (stream.frame octets)) l
 
 abbrev heard : List ℕ → Line → Line

@@ -13,11 +13,11 @@ use Rattle.lapd_link_machine.specs.Steps.{Course, begun}
 use Rattle.lapd_link_machine.specs.MultipleFrame.{transfer_in_7_8}
 use Rattle.lapd_link_machine.specs.Requests.{serves, refusal, refusal_for_room, granted}
 use Rattle.lapd_link_machine.specs.Machine.{course}
-use Rattle.lapd_link_rows.specs.declared.entity.Entity.{Entity}
-use Rattle.lapd_link_rows.specs.declared.told.Told.{Told}
-use Rattle.lapd_link_rows.specs.Does.{Agrees}
-use Rattle.lapd_link_rows.specs.Done.{IsNothing, Took}
-use Rattle.lapd_link_rows.proofs.Resting.{begun-resting}
+use Rattle.lapd_link_steps.specs.declared.entity.Entity.{Entity}
+use Rattle.lapd_link_steps.specs.declared.told.Told.{Told}
+use Rattle.lapd_link_steps.specs.Does.{Agrees}
+use Rattle.lapd_link_steps.specs.Done.{IsNothing, Took}
+use Rattle.lapd_link_steps.proofs.Resting.{begun-resting}
 use Rattle.lapd_link.specs.declared.link.Link.{Link}
 use Rattle.lapd_link.specs.declared.requests.LinkRequest.{LinkRequest}
 use Rattle.lapd_link.specs.declared.requests.LinkRequest.TheVariants.{Data}

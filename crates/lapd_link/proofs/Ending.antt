@@ -9,11 +9,11 @@ use Rattle.lapd_link_machine.specs.Steps.{begun, Step}
 use Rattle.lapd_link_machine.specs.Machine.{course, after, told, told_of}
 use Rattle.lapd_link_machine.specs.Sound.{IsInRange, IsSound}
 use Rattle.lapd_link_machine.proofs.SoundEvents.{sound-after}
-use Rattle.lapd_link_rows.specs.declared.entity.Entity.{Entity}
-use Rattle.lapd_link_rows.specs.declared.told.Told.{Told}
-use Rattle.lapd_link_rows.specs.Does.{Agrees}
-use Rattle.lapd_link_rows.specs.Done.{Rests, Took}
-use Rattle.lapd_link_rows.proofs.Resting.{took-course}
+use Rattle.lapd_link_steps.specs.declared.entity.Entity.{Entity}
+use Rattle.lapd_link_steps.specs.declared.told.Told.{Told}
+use Rattle.lapd_link_steps.specs.Does.{Agrees}
+use Rattle.lapd_link_steps.specs.Done.{Rests, Took}
+use Rattle.lapd_link_steps.proofs.Resting.{took-course}
 use Rattle.lapd_link.specs.declared.link.Link.{Link}
 use Rattle.lapd_link.specs.declared.outcome.Answer.{Answer}
 use Rattle.lapd_link.specs.Outcome.{told_with}

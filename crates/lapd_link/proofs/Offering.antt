@@ -27,12 +27,12 @@ use Rattle.lapd_link_machine.specs.Words.{pending_is, response, start}
 use Rattle.lapd_link_machine.specs.Offers as offers
 use Rattle.lapd_link_machine.specs.Machine.{course, after, given, given_of}
 use Rattle.lapd_link_machine.proofs.SoundEvents.{sound-after}
-use Rattle.lapd_link_rows.specs.declared.entity.Entity.{Entity}
-use Rattle.lapd_link_rows.specs.declared.offers.Given as rows
-use Rattle.lapd_link_rows.specs.declared.told.Told.{Told}
-use Rattle.lapd_link_rows.specs.Does.{Agrees}
-use Rattle.lapd_link_rows.specs.Done as done
-use Rattle.lapd_link_rows.proofs.Resting.{fits-resting, begun-resting, rests-after}
+use Rattle.lapd_link_steps.specs.declared.entity.Entity.{Entity}
+use Rattle.lapd_link_steps.specs.declared.offers.Given as rows
+use Rattle.lapd_link_steps.specs.declared.told.Told.{Told}
+use Rattle.lapd_link_steps.specs.Does.{Agrees}
+use Rattle.lapd_link_steps.specs.Done as done
+use Rattle.lapd_link_steps.proofs.Resting.{fits-resting, begun-resting, rests-after}
 use Rattle.lapd_link.specs.declared.link.Link.{Link}
 use Rattle.lapd_link.specs.Outcome.{contents_in, HasMessage}
 use Rattle.lapd_link.specs.Stands.{Stands, terms_of}

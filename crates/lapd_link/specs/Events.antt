@@ -2,27 +2,40 @@
 use Rattle.std.specs.Prelude.{ℕ, List, []}
 use Rattle.lapd_frame.specs.Grammar.{parts_of}
 use Rattle.lapd_link_machine.specs.Events as machine
-use Rattle.lapd_link.specs.declared.received.Received.{Received}
+use Rattle.lapd_link.specs.declared.events.Happening.{Happening}
+use Rattle.lapd_link.specs.declared.events.Happening.TheVariants.{Received, Expired, Cleared}
+use Rattle.lapd_link.specs.declared.received.Received as received
 use Rattle.lapd_link.specs.declared.received.Received.TheVariants.{Frame, Undefined, WrongSize, Overlong}
 use Rattle.lapd_link.specs.declared.requests.LinkRequest.{LinkRequest}
 use Rattle.lapd_link.specs.declared.requests.LinkRequest.TheVariants.{Establish, Release, Data, SetBusy, ClearBusy}
 
-abbrev pub received_of : Received → machine.Received
+abbrev pub received_of : received.Received → machine.Received
 received_of (Frame frame) = machine.frame (parts_of frame)
 received_of Undefined = machine.undefined
 received_of WrongSize = machine.wrong_size
 received_of Overlong = machine.overlong
 
 -- the information that came with it
-abbrev pub info_of : Received → List ℕ
+abbrev pub info_of : received.Received → List ℕ
 info_of (Frame frame) = frame.info.now
 info_of Undefined = []
 info_of WrongSize = []
 info_of Overlong = []
 
+-- what happens but for requests and offers
+abbrev pub event_of : Happening → machine.Event
+event_of (Received received) = machine.received (received_of received)
+event_of (Expired timer) = machine.expired timer
+event_of Cleared = machine.cleared
+
+abbrev pub info_at : Happening → List ℕ
+info_at (Received received) = info_of received
+info_at (Expired timer) = []
+info_at Cleared = []
+
 abbrev pub request_of : LinkRequest → machine.Request
-request_of Establish = machine.establish
-request_of Release = machine.release
-request_of (Data octets) = machine.transfer octets.now
-request_of SetBusy = machine.set_busy
-request_of ClearBusy = machine.clear_busy
+request_of Establish = machine.Establish
+request_of Release = machine.Release
+request_of (Data octets) = machine.Data octets.now
+request_of SetBusy = machine.SetBusy
+request_of ClearBusy = machine.ClearBusy

@@ -4,11 +4,11 @@ use Rattle.lapd_store.specs.Store.{Store, used_slots}
 use Rattle.lapd_store.specs.Ownership.{Owned, Keeps}
 use Rattle.lapd_link_machine.specs.declared.terms.Terms.{Terms}
 use Rattle.lapd_link_machine.specs.Link as machine
-use Rattle.lapd_link_machine.specs.Events.{Request, establish, release, transfer, set_busy, clear_busy}
+use Rattle.lapd_link_machine.specs.Events.{Request, Establish, Release, Data, SetBusy, ClearBusy}
 use Rattle.lapd_link_machine.specs.Steps.{Course}
 use Rattle.lapd_link_machine.specs.Machine as answers
 use Rattle.lapd_link_machine.specs.Sound.{IsInRange, IsSound}
-use Rattle.lapd_link_rows.specs.Done.{Rests}
+use Rattle.lapd_link_steps.specs.Done.{Rests}
 use Rattle.lapd_link.specs.declared.link.Link.{Link}
 use Rattle.lapd_link.specs.declared.outcome.Answer.{Answer}
 use Rattle.lapd_link.specs.Outcome.{told_with}
@@ -49,15 +49,15 @@ pub record Stays (old new : Link) : Type 0 where
 
 -- What a request needs that is not refused: contents that fit, a place in the queue, and a free slot on the shelf.
 abbrev pub HasRoom : Request → Link → Bool → Type 0
-HasRoom establish link pool_is_full = Unit {0}
-HasRoom release link pool_is_full = Unit {0}
-HasRoom (transfer octets) link pool_is_full = (length octets ≤ (terms_of link).n201) × (length link.queue.slots < (terms_of link).queue) × (pool_is_full ≡ false)
-HasRoom set_busy link pool_is_full = Unit {0}
-HasRoom clear_busy link pool_is_full = Unit {0}
+HasRoom Establish link pool_is_full = Unit {0}
+HasRoom Release link pool_is_full = Unit {0}
+HasRoom (Data octets) link pool_is_full = (length octets ≤ (terms_of link).n201) × (length link.queue.slots < (terms_of link).queue) × (pool_is_full ≡ false)
+HasRoom SetBusy link pool_is_full = Unit {0}
+HasRoom ClearBusy link pool_is_full = Unit {0}
 
 abbrev pub HasPlace : Request → Link → Store → Type 0
-HasPlace establish link store = Unit {0}
-HasPlace release link store = Unit {0}
-HasPlace (transfer octets) link store = (length octets ≤ store.width) × (length link.queue.slots < link.queue.capacity) × (used_slots store < store.slots)
-HasPlace set_busy link store = Unit {0}
-HasPlace clear_busy link store = Unit {0}
+HasPlace Establish link store = Unit {0}
+HasPlace Release link store = Unit {0}
+HasPlace (Data octets) link store = (length octets ≤ store.width) × (length link.queue.slots < link.queue.capacity) × (used_slots store < store.slots)
+HasPlace SetBusy link store = Unit {0}
+HasPlace ClearBusy link store = Unit {0}

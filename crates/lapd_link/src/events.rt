@@ -1,16 +1,18 @@
 //! Frames, timers, and the end of the TEI.
 
-ghost use Rattle.std.specs.Prelude.{◌≡◌, ℕ, ◌+◌, ◌≤◌, List, []};
+ghost use Rattle.std.specs.Prelude.{◌≡◌, ℕ, ◌≤◌, true, List, []};
 ghost use Rattle.lapd_store.specs.Store.{SameLimits};
 ghost use Rattle.lapd_store.specs.Ownership.{Owned, Keeps};
+ghost use Rattle.lapd_frame.specs.ShortLists.{listed};
 ghost use Rattle.lapd_link_machine.specs.Link as machine;
 ghost use Rattle.lapd_link_machine.specs.Events as event;
 ghost use Rattle.lapd_link_machine.specs.Steps.{Course};
-ghost use Rattle.lapd_link_machine.specs.Machine.{after, told, received_step};
-ghost use Rattle.lapd_link_machine.specs.Rises.{sent, waiting, price};
-ghost use Rattle.lapd_link_rows.specs.Does.{Agrees};
-ghost use Rattle.lapd_link_rows.specs.Done.{Took};
-ghost use Rattle.lapd_link.specs.Events.{info_of, received_of};
+ghost use Rattle.lapd_link_machine.specs.Machine.{after, told, step, received_step};
+ghost use Rattle.lapd_link_machine.specs.Told.{starts};
+ghost use Rattle.lapd_link_machine.specs.Rises.{RisesByEvent};
+ghost use Rattle.lapd_link_steps.specs.Does.{Agrees, Does, HasRoom};
+ghost use Rattle.lapd_link_steps.specs.Done.{Took};
+ghost use Rattle.lapd_link.specs.Events.{info_of, received_of, info_at, event_of};
 
 use crate::link::Link;
 use crate::orders::orders;
@@ -18,8 +20,16 @@ use crate::outcome::{Answer, Outcome};
 use crate::received::Received;
 use lapd_frame::ErrorCode;
 use lapd_link_machine::{LinkTimer, Terms};
-use lapd_link_rows::{Entity, Told};
+use lapd_link_steps::{Entity, Told};
 use lapd_store::Shelf;
+
+// What happens to a link but for requests and offers.
+#[derive(Clone, Copy)]
+enum Happening<'a> {
+    Received(Received<'a>),
+    Expired(LinkTimer),
+    Cleared,
+}
 
 impl Link {
     ghost use Rattle.lapd_link.specs.Stands.{Stands, Stays, Reaches, terms_of};
@@ -33,7 +43,10 @@ impl Link {
         ensures told { (others : List Owned) (m : machine.Link) → Stands self.old (S.store shelf.old) others m →
             told_of result ≡ told (terms_of self.old) (event.received (received_of received.entry)) m }
         ensures frames { (others : List Owned) (m : machine.Link) → Stands self.old (S.store shelf.old) others m →
-            sent (terms_of self.old) (event.received (received_of received.entry)) m + waiting (terms_of self.old) (after (terms_of self.old) (event.received (received_of received.entry)) m) ≤ waiting (terms_of self.old) m + price (terms_of self.old) (event.received (received_of received.entry)) m }
+            RisesByEvent (terms_of self.old) (event.received (received_of received.entry)) m }
+        // What the state does not serve changes nothing.
+        ensures unserved { (others : List Owned) (m : machine.Link) → Stands self.old (S.store shelf.old) others m → result.unserved ≡ true →
+            after (terms_of self.old) (event.received (received_of received.entry)) m ≡ m }
         ensures terms { terms_of self.new ≡ terms_of self.old }
         ensures limits { SameLimits (S.store shelf.old) (S.store shelf.new) }
     {
@@ -48,13 +61,14 @@ impl Link {
         ensures told { (others : List Owned) (m : machine.Link) → Stands self.old (S.store shelf.old) others m →
             told_with (info_of received.entry) result ≡ told (terms_of self.old) (event.received (received_of received.entry)) m }
         ensures frames { (others : List Owned) (m : machine.Link) → Stands self.old (S.store shelf.old) others m →
-            sent (terms_of self.old) (event.received (received_of received.entry)) m + waiting (terms_of self.old) (after (terms_of self.old) (event.received (received_of received.entry)) m) ≤ waiting (terms_of self.old) m + price (terms_of self.old) (event.received (received_of received.entry)) m }
+            RisesByEvent (terms_of self.old) (event.received (received_of received.entry)) m }
+        // What the state does not serve changes nothing.
+        ensures unserved { (others : List Owned) (m : machine.Link) → Stands self.old (S.store shelf.old) others m → result.unserved ≡ true →
+            after (terms_of self.old) (event.received (received_of received.entry)) m ≡ m }
         ensures terms { terms_of self.new ≡ terms_of self.old }
         ensures limits { SameLimits (S.store shelf.old) (S.store shelf.new) }
     {
-        let before = self.entity.running();
-        let told = take(&mut self.entity, self.terms, received);
-        self.settle(before, told, shelf)
+        self.undergo(Happening::Received(received), shelf)
     }
 
     /// A timer expires. One that does not run changes nothing.
@@ -65,14 +79,13 @@ impl Link {
         ensures told { (others : List Owned) (m : machine.Link) → Stands self.old (S.store shelf.old) others m →
             told_with [] result ≡ told (terms_of self.old) (event.expired timer) m }
         ensures frames { (others : List Owned) (m : machine.Link) → Stands self.old (S.store shelf.old) others m →
-            sent (terms_of self.old) (event.expired timer) m + waiting (terms_of self.old) (after (terms_of self.old) (event.expired timer) m) ≤ waiting (terms_of self.old) m + price (terms_of self.old) (event.expired timer) m }
+            RisesByEvent (terms_of self.old) (event.expired timer) m }
+        // At most one timer is started.
+        ensures starts { starts (listed result.orders) ≤ 1 }
         ensures terms { terms_of self.new ≡ terms_of self.old }
         ensures limits { SameLimits (S.store shelf.old) (S.store shelf.new) }
     {
-        let before = self.entity.running();
-        let mut told = Told::nothing();
-        self.entity.expire(self.terms, &mut told, timer);
-        self.settle(before, told, shelf)
+        self.undergo(Happening::Expired(timer), shelf)
     }
 
     /// The link's TEI leaves the line: its contents are released, and it is as one that begins.
@@ -82,12 +95,30 @@ impl Link {
             Stands self.new (S.store shelf.new) others (after (terms_of self.old) event.cleared m) }
         ensures told { (others : List Owned) (m : machine.Link) → Stands self.old (S.store shelf.old) others m →
             told_with [] result ≡ told (terms_of self.old) event.cleared m }
+        // It may send no more than before.
+        ensures frames { (others : List Owned) (m : machine.Link) → Stands self.old (S.store shelf.old) others m →
+            RisesByEvent (terms_of self.old) event.cleared m }
+        ensures terms { terms_of self.new ≡ terms_of self.old }
+        ensures limits { SameLimits (S.store shelf.old) (S.store shelf.new) }
+    {
+        self.undergo(Happening::Cleared, shelf)
+    }
+
+    // What happens has its effect.
+    fn undergo<S: Shelf>(&mut self, what: Happening<'_>, shelf: &mut S) -> Answer
+        requires { (others : List Owned) × (m : machine.Link) × Stands self.old (S.store shelf.old) others m }
+        ensures stands { (others : List Owned) (m : machine.Link) → Stands self.old (S.store shelf.old) others m →
+            Stands self.new (S.store shelf.new) others (after (terms_of self.old) (event_of what.entry) m) }
+        ensures told { (others : List Owned) (m : machine.Link) → Stands self.old (S.store shelf.old) others m →
+            told_with (info_at what.entry) result ≡ told (terms_of self.old) (event_of what.entry) m }
+        ensures frames { (others : List Owned) (m : machine.Link) → Stands self.old (S.store shelf.old) others m →
+            RisesByEvent (terms_of self.old) (event_of what.entry) m }
+        ensures starts { starts (listed result.orders) ≤ 1 }
         ensures terms { terms_of self.new ≡ terms_of self.old }
         ensures limits { SameLimits (S.store shelf.old) (S.store shelf.new) }
     {
         let before = self.entity.running();
-        let mut told = Told::nothing();
-        self.entity.clear(self.terms, &mut told);
+        let told = take(&mut self.entity, self.terms, what);
         self.settle(before, told, shelf)
     }
 
@@ -102,6 +133,7 @@ impl Link {
         ensures reaches { (info : List ℕ) (messages : List (List ℕ)) (others : List Owned) (m : machine.Link) (c : Course) →
             Keeps (S.store shelf.old) self.old.queue.slots messages others → before ≡ m.running →
             Agrees (terms_of self.old) info messages c self.old.entity told → Reaches info m c self.new (S.store shelf.new) others result }
+        ensures starts { starts (listed result.orders) ≤ 1 }
         ensures stays { Stays self.old self.new }
         ensures limits { SameLimits (S.store shelf.old) (S.store shelf.new) }
     {
@@ -117,22 +149,33 @@ impl Link {
     }
 }
 
-// What comes goes to its rows.
-fn take(entity: &mut Entity, terms: Terms, received: Received<'_>) -> Told
-    ensures { Took terms (info_of received.entry) (received_step terms (received_of received.entry)) entity.old entity.new result }
+// What happens goes to its rows.
+fn take(entity: &mut Entity, terms: Terms, what: Happening<'_>) -> Told
+    ensures { Took terms (info_at what.entry) (step terms (event_of what.entry)) entity.old entity.new result }
 {
     let mut told = Told::nothing();
+    match what {
+        Happening::Received(received) => hear(entity, terms, &mut told, received),
+        Happening::Expired(timer) => entity.expire(terms, &mut told, timer),
+        Happening::Cleared => entity.clear(terms, &mut told),
+    }
+    told
+}
+
+fn hear(entity: &mut Entity, terms: Terms, told: &mut Told, received: Received<'_>)
+    requires { HasRoom 2 2 told.old }
+    ensures { Does terms (info_of received.entry) (received_step terms (received_of received.entry)) entity.old told.old entity.new told.new }
+{
     match received {
         Received::Frame(frame) => entity.frame(
             terms,
-            &mut told,
+            told,
             frame.address.command,
             frame.control,
             frame.info.len(),
         ),
-        Received::Undefined => entity.malformed(terms, &mut told, ErrorCode::L),
-        Received::WrongSize => entity.malformed(terms, &mut told, ErrorCode::N),
-        Received::Overlong => entity.malformed(terms, &mut told, ErrorCode::O),
+        Received::Undefined => entity.malformed(terms, told, ErrorCode::L),
+        Received::WrongSize => entity.malformed(terms, told, ErrorCode::N),
+        Received::Overlong => entity.malformed(terms, told, ErrorCode::O),
     }
-    told
 }

@@ -11,7 +11,7 @@ ghost use Rattle.lapd_link_machine.specs.Rises.{held};
 use crate::fault::StartFault;
 use lapd_frame::{Address, Service};
 use lapd_link_machine::Terms;
-use lapd_link_rows::Entity;
+use lapd_link_steps::Entity;
 use lapd_store::SlotQueue;
 use std::alloc::Global;
 

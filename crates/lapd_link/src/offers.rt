@@ -8,13 +8,13 @@ ghost use Rattle.lapd_link_machine.specs.Link as machine;
 ghost use Rattle.lapd_link_machine.specs.Link.{frame_of};
 ghost use Rattle.lapd_link_machine.specs.Events as event;
 ghost use Rattle.lapd_link_machine.specs.Machine.{after, given};
-ghost use Rattle.lapd_link_machine.specs.Rises.{sent, waiting, price};
+ghost use Rattle.lapd_link_machine.specs.Rises.{RisesByEvent, sent, may_send};
 
 use crate::link::Link;
 use crate::orders::orders;
 use lapd_frame::{Order, ShortList};
 use lapd_link_machine::ControlFrame;
-use lapd_link_rows::Told;
+use lapd_link_steps::Told;
 use lapd_store::Slot;
 
 /// A frame that a link gives to be sent.
@@ -49,10 +49,10 @@ impl Link {
         ensures used { (store : Store) (others : List Owned) (m : machine.Link) → Stands self.old store others m →
             IfSome result (λ offer. IfSome offer.contents (λ slot. IsUsed store slot)) }
         ensures frames { (store : Store) (others : List Owned) (m : machine.Link) → Stands self.old store others m →
-            sent (terms_of self.old) (event.offer) m + waiting (terms_of self.old) (after (terms_of self.old) (event.offer) m) ≤ waiting (terms_of self.old) m + price (terms_of self.old) (event.offer) m }
+            RisesByEvent (terms_of self.old) event.offer m }
         // A frame that goes was waiting, with at most one other that it makes needless.
         ensures falls { (store : Store) (others : List Owned) (m : machine.Link) → Stands self.old store others m →
-            waiting (terms_of self.old) m ≤ waiting (terms_of self.old) (after (terms_of self.old) event.offer m) + 2 * sent (terms_of self.old) event.offer m }
+            may_send (terms_of self.old) m ≤ may_send (terms_of self.old) (after (terms_of self.old) event.offer m) + 2 * sent (terms_of self.old) event.offer m }
         ensures terms { terms_of self.new ≡ terms_of self.old }
     {
         let before = self.entity.running();

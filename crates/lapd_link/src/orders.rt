@@ -6,7 +6,7 @@ ghost use Rattle.lapd_link_machine.specs.Told.{timer_at, order_for, orders_for};
 
 use lapd_frame::{Order, ShortList, Timer};
 use lapd_link_machine::{LinkTimer, Terms};
-use lapd_link_rows::is_the;
+use lapd_link_steps::is_the;
 
 // Start where the event started a timer and left it running, Stop where it ran before and does not after; T200 first.
 pub(crate) fn orders(

@@ -1,6 +1,6 @@
 //! What layer 3 asks for.
 
-ghost use Rattle.std.specs.Prelude.{◌≡◌, ℕ, ◌+◌, ◌<◌, ◌≤◌, nat_le, false, List, [], length, None, Some, ◌++◌, ◌∷◌, IfOk, IfErr, IfNone, OnOk, OnErr};
+ghost use Rattle.std.specs.Prelude.{◌≡◌, ℕ, ◌<◌, ◌≤◌, nat_le, false, List, [], length, None, Some, ◌++◌, ◌∷◌, IfOk, IfErr, IfNone, OnOk, OnErr};
 ghost use Rattle.lapd_store.specs.Store.{Store, used_slots, SameLimits};
 ghost use Rattle.lapd_store.specs.Ownership.{Owned, Keeps};
 ghost use Rattle.lapd_link_machine.specs.Link as machine;
@@ -8,13 +8,13 @@ ghost use Rattle.lapd_link_machine.specs.Events as event;
 ghost use Rattle.lapd_link_machine.specs.Steps.{begun};
 ghost use Rattle.lapd_link_machine.specs.Requests as asked;
 ghost use Rattle.lapd_link_machine.specs.Machine.{after, told};
-ghost use Rattle.lapd_link_machine.specs.Rises.{sent, waiting, price};
+ghost use Rattle.lapd_link_machine.specs.Rises.{RisesByEvent};
 
 use crate::link::Link;
 use crate::outcome::Answer;
 use lapd_frame::Refusal;
 use lapd_link_machine::State;
-use lapd_link_rows::Told;
+use lapd_link_steps::Told;
 use lapd_store::Shelf;
 
 /// What layer 3 asks of a link (Q.921 clauses 4.1.1 and 5.6.6).
@@ -64,7 +64,7 @@ impl Link {
         ensures told { IfOk result (λ answer. (others : List Owned) (m : machine.Link) → Stands self.old (S.store shelf.old) others m →
             told_with [] answer ≡ told (terms_of self.old) (event.requested (request_of request.entry) (nat_le slots (used_slots (S.store shelf.old)))) m) }
         ensures frames { (others : List Owned) (m : machine.Link) → Stands self.old (S.store shelf.old) others m →
-            sent (terms_of self.old) (event.requested (request_of request.entry) (nat_le slots (used_slots (S.store shelf.old)))) m + waiting (terms_of self.old) (after (terms_of self.old) (event.requested (request_of request.entry) (nat_le slots (used_slots (S.store shelf.old)))) m) ≤ waiting (terms_of self.old) m + price (terms_of self.old) (event.requested (request_of request.entry) (nat_le slots (used_slots (S.store shelf.old)))) m }
+            RisesByEvent (terms_of self.old) (event.requested (request_of request.entry) (nat_le slots (used_slots (S.store shelf.old)))) m }
         ensures terms { terms_of self.new ≡ terms_of self.old }
         ensures limits { SameLimits (S.store shelf.old) (S.store shelf.new) }
     {
@@ -130,13 +130,14 @@ impl Link {
 
     // The contents go to the end of the queue.
     fn keep<S: Shelf>(&mut self, octets: &[u8], shelf: &mut S)
-        requires { HasPlace (event.transfer octets.now) self.old (S.store shelf.old) }
+        requires { HasPlace (event.Data octets.now) self.old (S.store shelf.old) }
         ensures kept { (messages : List (List ℕ)) (others : List Owned) → Keeps (S.store shelf.old) self.old.queue.slots messages others →
             Keeps (S.store shelf.new) self.new.queue.slots (messages ++ octets.now ∷ []) others }
         ensures entity { self.new.entity ≡ self.old.entity }
         ensures stays { Stays self.old self.new }
         ensures limits { SameLimits (S.store shelf.old) (S.store shelf.new) }
     {
+        // The request was not refused, so the shelf has a free slot (`place`), and `put` answers it.
         if let Some(slot) = shelf.put(octets) {
             self.queue.push(slot);
         }

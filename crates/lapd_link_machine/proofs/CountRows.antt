@@ -19,24 +19,24 @@ use Rattle.lapd_link_machine.proofs.Leads.{Leads}
 use Rattle.lapd_link_machine.proofs.Counting.{On, counted, done, rows}
 
 module _ (t : Terms) (r : ℕ) where
-  pub frames_in_4 : (control : Control) → Leads (On (counted r None)) (frame_in_4 t control) (On (done r None))
-  frames_in_4 (Ua true) = search rows depth 12 fits 4000
-  frames_in_4 (Ua false) = search rows depth 12 fits 4000
-  frames_in_4 other = search rows depth 12 fits 4000
+  pub frames_in_4 : (octets : List ℕ) (control : Control) → Leads (On (counted r None)) (frame_in_4 t octets control) (On (done r None))
+  frames_in_4 octets (Ua true) = search rows depth 12 fits 4000
+  frames_in_4 octets (Ua false) = search rows depth 12 fits 4000
+  frames_in_4 octets other = search rows depth 12 fits 4000
 
-  pub frames_in_5 : (control : Control) → Leads (On (counted r None)) (frame_in_5 t control) (On (done r None))
-  frames_in_5 (Ua true) = search rows depth 12 fits 4000
-  frames_in_5 (Ua false) = search rows depth 12 fits 4000
-  frames_in_5 (Dm true) = search rows depth 12 fits 4000
-  frames_in_5 (Dm false) = search rows depth 12 fits 4000
-  frames_in_5 other = search rows depth 12 fits 4000
+  pub frames_in_5 : (octets : List ℕ) (control : Control) → Leads (On (counted r None)) (frame_in_5 t octets control) (On (done r None))
+  frames_in_5 octets (Ua true) = search rows depth 12 fits 4000
+  frames_in_5 octets (Ua false) = search rows depth 12 fits 4000
+  frames_in_5 octets (Dm true) = search rows depth 12 fits 4000
+  frames_in_5 octets (Dm false) = search rows depth 12 fits 4000
+  frames_in_5 octets other = search rows depth 12 fits 4000
 
-  pub frames_in_6 : (control : Control) → Leads (On (counted r None)) (frame_in_6 t control) (On (done r None))
-  frames_in_6 (Ua true) = search rows depth 12 fits 4000
-  frames_in_6 (Ua false) = search rows depth 12 fits 4000
-  frames_in_6 (Dm true) = search rows depth 12 fits 4000
-  frames_in_6 (Dm false) = search rows depth 12 fits 4000
-  frames_in_6 other = search rows depth 12 fits 4000
+  pub frames_in_6 : (octets : List ℕ) (control : Control) → Leads (On (counted r None)) (frame_in_6 t octets control) (On (done r None))
+  frames_in_6 octets (Ua true) = search rows depth 12 fits 4000
+  frames_in_6 octets (Ua false) = search rows depth 12 fits 4000
+  frames_in_6 octets (Dm true) = search rows depth 12 fits 4000
+  frames_in_6 octets (Dm false) = search rows depth 12 fits 4000
+  frames_in_6 octets other = search rows depth 12 fits 4000
 
   -- states 7 and 8, but for I-frames
   pub failed_counts : (e : ErrorCode) → Leads (On (counted r None)) (MultipleFrame.failed t e) (On (done r None))

@@ -26,7 +26,7 @@ module _ (Q : Count) where
   pub deliver_unit_counts : (t : Terms) (octets : List ℕ) → Leads (On Q) (Words.deliver_unit t octets) (On Q)
   deliver_unit_counts t octets = record { leads = λ c h. h }
 
-  pub refuse_counts : Leads (On Q) (Words.refuse_frame) (On Q)
+  pub refuse_counts : Leads (On Q) (Words.leave_unserved) (On Q)
   refuse_counts = record { leads = λ c h. h }
 
   pub peer_busy_counts : (b : Bool) → Leads (On Q) (Words.peer_busy_is b) (On Q)

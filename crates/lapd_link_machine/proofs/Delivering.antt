@@ -6,8 +6,7 @@ use Rattle.std.proofs.lemmas.Bool.{ltb-true, ltb-false, leb-true, leb-false, fal
 use Rattle.lapd_seq.specs.declared.numbers.Seq.{Seq}
 use Rattle.lapd_seq.specs.Numbers.{seq}
 use Rattle.lapd_frame.specs.declared.controls.Control.{Control}
-use Rattle.lapd_frame.specs.declared.controls.Control.TheVariants.{Information, ReceiveReady, ReceiveNotReady, Reject, Sabme, Disc, Ui, Ua, Dm, Frmr, Xid}
-use Rattle.lapd_frame.specs.declared.notes.Note.TheVariants as notes
+use Rattle.lapd_frame.specs.declared.controls.Control.TheVariants.{Information}
 use Rattle.lapd_frame.specs.declared.notes.ErrorCode.TheVariants as code
 use Rattle.lapd_frame.specs.declared.refusals.Refusal.{Refusal}
 use Rattle.lapd_link_machine.specs.declared.states.State.{State}
@@ -26,8 +25,8 @@ use Rattle.lapd_link_machine.specs.Established
 use Rattle.lapd_link_machine.specs.Requests
 use Rattle.lapd_link_machine.specs.Offers
 use Rattle.lapd_link_machine.specs.Machine
-use Rattle.lapd_link_machine.proofs.Leads.{Leads, nothing_leads, bit_leads}
-use Rattle.lapd_link_machine.proofs.Counting.{Count, On, counted, done, words, number_counts, done_kept, deliver_unit_counts, refuse_counts, note_counts}
+use Rattle.lapd_link_machine.proofs.Leads.{Leads, nothing_leads}
+use Rattle.lapd_link_machine.proofs.Counting.{Count, On, counted, done, words, number_counts, done_kept}
 use Rattle.lapd_link_machine.proofs.CountRows.{frames_in_4, frames_in_5, frames_in_6, failed_counts, frames_in_7, frames_in_8, timer_in_7, t200_in_8, t200_counts_5, t200_counts_6, malformed_counts, establish_counts, release_counts, set_busy_counts, clear_busy_counts}
 
 -- What an eligible frame delivers while V(R) is r, and V(R) after it.
@@ -150,25 +149,15 @@ module _ (t : Terms) (l : Link) where
   frames-8 e b octets other = quiet (frames_in_8 t l.r b octets other refl)
 
   by-state : (here : State) → l.state ≡ here → (b : Bool) (octets : List ℕ) (control : Control) → In (information_of control octets) (Machine.frame_in here t b octets control (begun l))
-  by-state TeiAssigned e b octets control = unserved (information_of control octets) (ap is_multiple_frame e) (frames_in_4 t l.r control)
-  by-state AwaitingEstablishment e b octets control = unserved (information_of control octets) (ap is_multiple_frame e) (frames_in_5 t l.r control)
-  by-state AwaitingRelease e b octets control = unserved (information_of control octets) (ap is_multiple_frame e) (frames_in_6 t l.r control)
+  by-state TeiAssigned e b octets control = unserved (information_of control octets) (ap is_multiple_frame e) (frames_in_4 t l.r octets control)
+  by-state AwaitingEstablishment e b octets control = unserved (information_of control octets) (ap is_multiple_frame e) (frames_in_5 t l.r octets control)
+  by-state AwaitingRelease e b octets control = unserved (information_of control octets) (ap is_multiple_frame e) (frames_in_6 t l.r octets control)
   by-state Established e b octets control = frames-7 e b octets control
   by-state TimerRecovery e b octets control = frames-8 e b octets control
 
   frames : (b : Bool) (octets : List ℕ) (control : Control) → In (information_of control octets) (Machine.frame_step t b octets control (begun l))
   unfolding In
-  frames b octets (Ui p) = quiet (bit_leads _ (done_kept (refuse_counts (counted l.r None))) (done_kept (deliver_unit_counts (counted l.r None) t octets)))
-  frames b octets (Xid pf) = quiet (done_kept (note_counts (counted l.r None) (notes.Xid t.service t.tei)))
-  frames b octets (Information ns nr p) = by-state l.state refl b octets (Information ns nr p)
-  frames b octets (ReceiveReady nr pf) = by-state l.state refl b octets (ReceiveReady nr pf)
-  frames b octets (ReceiveNotReady nr pf) = by-state l.state refl b octets (ReceiveNotReady nr pf)
-  frames b octets (Reject nr pf) = by-state l.state refl b octets (Reject nr pf)
-  frames b octets (Sabme p) = by-state l.state refl b octets (Sabme p)
-  frames b octets (Disc p) = by-state l.state refl b octets (Disc p)
-  frames b octets (Ua f) = by-state l.state refl b octets (Ua f)
-  frames b octets (Dm f) = by-state l.state refl b octets (Dm f)
-  frames b octets (Frmr f) = by-state l.state refl b octets (Frmr f)
+  frames b octets control = by-state l.state refl b octets control
 
   -- Timers, requests, offers, and the TEI that leaves the line.
   still : Leads (On (counted l.r None)) nothing (On (done l.r None))
@@ -189,11 +178,11 @@ module _ (t : Terms) (l : Link) where
   either false u v x y = y
 
   granted-counts : (request : Events.Request) → On (done l.r None) (Requests.granted t request (begun l))
-  granted-counts Events.establish = quiet (establish_counts t l.r)
-  granted-counts Events.release = quiet (release_counts t l.r l.state)
-  granted-counts (Events.transfer octets) = inl (begins t l)
-  granted-counts Events.set_busy = quiet (set_busy_counts t l.r)
-  granted-counts Events.clear_busy = quiet (clear_busy_counts t l.r)
+  granted-counts Events.Establish = quiet (establish_counts t l.r)
+  granted-counts Events.Release = quiet (release_counts t l.r l.state)
+  granted-counts (Events.Data octets) = inl (begins t l)
+  granted-counts Events.SetBusy = quiet (set_busy_counts t l.r)
+  granted-counts Events.ClearBusy = quiet (clear_busy_counts t l.r)
 
   request-counts : (request : Events.Request) (o : Option Refusal)
       → On (done l.r None) (elim o [ None ↦ Requests.granted t request (begun l) | Some _ ↦ begun l ])

@@ -82,7 +82,7 @@ module _ (l : Link) (S : Number) (a r : ℕ) where
   pub deliver_stays : (t : Terms) (octets : List ℕ) → Leads (Stays l S a r) (Words.deliver t octets) (Stays l S a r)
   deliver_stays t octets = record { leads = λ c h. record { stay = h.stay } }
 
-  pub refuse_stays : Leads (Stays l S a r) (Words.refuse_frame) (Stays l S a r)
+  pub refuse_stays : Leads (Stays l S a r) (Words.leave_unserved) (Stays l S a r)
   refuse_stays = record { leads = λ c h. record { stay = h.stay } }
 
   pub peer_busy_stays : (b : Bool) → Leads (Stays l S a r) (Words.peer_busy_is b) (Stays l S a r)
@@ -238,7 +238,7 @@ module _ (l : Link) (r : ℕ) where
   pub rej_7_up : {S : Number} (a n : ℕ) → a ≤ n → Leads (Stays l S a r) (Established.acknowledged_by_rej_in_7 n) (Up l n r)
   rej_7_up a n low = acknowledge_then n (again_then n (stays_up l n r (start_stays l any_number n r T203)))
 
-  pub in_8_up : {S : Number} (final : Bool) (timer : LinkTimer) (a n : ℕ) → a ≤ n → Leads (Stays l S a r) (TimerRecovery.acknowledged_in_8 final timer n) (Up l n r)
+  pub in_8_up : {S : Number} (final : Bool) (timer : LinkTimer) (a n : ℕ) → a ≤ n → Leads (Stays l S a r) (TimerRecovery.acknowledged_in_8 timer final n) (Up l n r)
   in_8_up final timer a n low =
       bit_leads final (acknowledge_then n (again_then n (keeping_then (start_stays l any_number n r timer) (stays_up l n r (enter_stays l any_number n r Established)))))
       (acknowledge_up n)

@@ -13,11 +13,11 @@ use Rattle.lapd_link_machine.specs.Words
 use Rattle.lapd_link_machine.specs.Offers
 use Rattle.lapd_link_machine.specs.Machine
 use Rattle.lapd_link_machine.specs.Sound.{IsInRange, IsSound, IsWaitingFrame, IsGiven}
-use Rattle.lapd_link_machine.proofs.Waits.{waits}
+use Rattle.lapd_link_machine.proofs.Waits.{frame_without_information, waits}
 
 -- a control frame goes alone
 alone : (t : Terms) (f : ControlFrame) → IsWaitingFrame t f → IsGiven t f None
-alone t f w = record { waits = w; size = tt; whole = w.is_frame }
+alone t f w = record { head = w.is_frame; octets = w.octets; size = tt; whole = w.is_frame }
 
 -- contents at a place are among the contents
 at-place : (n : ℕ) (contents : List (List ℕ)) (i : ℕ) → All (λ octets. length octets ≤ n) contents → IfSome (slice_get contents i) (λ octets. length octets ≤ n)
@@ -31,15 +31,16 @@ module _ (t : Terms) (r : IsInRange t) (l : Link) (h : IsSound t l) where
 
   information : IsGiven t (Offers.next_information l) (Offers.first_unsent l)
   information =
-      let w = waits t (Offers.next_information l) r.tei refl refl (omega arith) in
+      let f = frame_without_information t (Offers.next_information l) r.tei refl refl in
       record {
-        waits = w;
+        head = f;
+        octets = omega arith;
         size = at-place t.n201 l.contents l.s h.sizes;
-        whole = record { sapi = w.is_frame.sapi; tei = w.is_frame.tei; kind = refl; size = refl };
+        whole = record { sapi = f.sapi; tei = f.tei; kind = refl; size = refl };
       }
 
   acknowledgement : IsGiven t (Words.response (ReceiveReady (seq l.r) false)) None
-  acknowledgement = alone t (Words.response (ReceiveReady (seq l.r) false)) (waits t (Words.response (ReceiveReady (seq l.r) false)) r.tei refl refl (omega arith))
+  acknowledgement = alone t (Words.response (ReceiveReady (seq l.r) false)) (waits t (Words.response (ReceiveReady (seq l.r) false)) r.tei refl refl (omega arith) refl)
 
   either : (b : Bool) (u v : Course) → Gives u.sent → Gives v.sent → Gives (cond b u v).sent
   either true u v x y = x

@@ -49,7 +49,7 @@ module _ (before : Option LinkTimer) where
   pub deliver_unit_comes : (t : Terms) (octets : List ℕ) → Leads Coming (Words.deliver_unit t octets) Coming
   deliver_unit_comes t octets = record { leads = λ c h. h }
 
-  pub refuse_comes : Leads Coming (Words.refuse_frame) Coming
+  pub refuse_comes : Leads Coming (Words.leave_unserved) Coming
   refuse_comes = record { leads = λ c h. h }
 
   pub peer_busy_comes : (b : Bool) → Leads Coming (Words.peer_busy_is b) Coming
@@ -148,24 +148,24 @@ pub ruleset rows = (number_comes, keeping_then, nothing_leads, depending_leads, 
 
 module _ (before : Option LinkTimer) (t : Terms) where
   -- the rows
-  pub frames_in_4 : (control : Control) → Leads (Coming before) (frame_in_4 t control) (Coming before)
-  frames_in_4 (Ua true) = search rows depth 12 fits 4000
-  frames_in_4 (Ua false) = search rows depth 12 fits 4000
-  frames_in_4 other = search rows depth 12 fits 4000
+  pub frames_in_4 : (octets : List ℕ) (control : Control) → Leads (Coming before) (frame_in_4 t octets control) (Coming before)
+  frames_in_4 octets (Ua true) = search rows depth 12 fits 4000
+  frames_in_4 octets (Ua false) = search rows depth 12 fits 4000
+  frames_in_4 octets other = search rows depth 12 fits 4000
 
-  pub frames_in_5 : (control : Control) → Leads (Coming before) (frame_in_5 t control) (Coming before)
-  frames_in_5 (Ua true) = search rows depth 12 fits 4000
-  frames_in_5 (Ua false) = search rows depth 12 fits 4000
-  frames_in_5 (Dm true) = search rows depth 12 fits 4000
-  frames_in_5 (Dm false) = search rows depth 12 fits 4000
-  frames_in_5 other = search rows depth 12 fits 4000
+  pub frames_in_5 : (octets : List ℕ) (control : Control) → Leads (Coming before) (frame_in_5 t octets control) (Coming before)
+  frames_in_5 octets (Ua true) = search rows depth 12 fits 4000
+  frames_in_5 octets (Ua false) = search rows depth 12 fits 4000
+  frames_in_5 octets (Dm true) = search rows depth 12 fits 4000
+  frames_in_5 octets (Dm false) = search rows depth 12 fits 4000
+  frames_in_5 octets other = search rows depth 12 fits 4000
 
-  pub frames_in_6 : (control : Control) → Leads (Coming before) (frame_in_6 t control) (Coming before)
-  frames_in_6 (Ua true) = search rows depth 12 fits 4000
-  frames_in_6 (Ua false) = search rows depth 12 fits 4000
-  frames_in_6 (Dm true) = search rows depth 12 fits 4000
-  frames_in_6 (Dm false) = search rows depth 12 fits 4000
-  frames_in_6 other = search rows depth 12 fits 4000
+  pub frames_in_6 : (octets : List ℕ) (control : Control) → Leads (Coming before) (frame_in_6 t octets control) (Coming before)
+  frames_in_6 octets (Ua true) = search rows depth 12 fits 4000
+  frames_in_6 octets (Ua false) = search rows depth 12 fits 4000
+  frames_in_6 octets (Dm true) = search rows depth 12 fits 4000
+  frames_in_6 octets (Dm false) = search rows depth 12 fits 4000
+  frames_in_6 octets other = search rows depth 12 fits 4000
 
   pub frames_in_7 : (b : Bool) (octets : List ℕ) (control : Control) → Leads (Coming before) (Established.frame_in_7 t b octets control) (Coming before)
   frames_in_7 b octets (Information ns nr p) = search rows depth 12 fits 4000
@@ -232,32 +232,22 @@ module _ (before : Option LinkTimer) (t : Terms) where
   clear_busy_comes = search rows depth 12 fits 4000
 
   pub granted_comes : (request : Events.Request) → Leads (Coming before) (λ c. Requests.granted t request c) (Coming before)
-  granted_comes Events.establish = record { leads = λ c h. establish_comes.leads c h }
-  granted_comes Events.release = record { leads = λ c h. (release_comes c.link.state).leads c h }
-  granted_comes (Events.transfer octets) = search rows depth 12 fits 4000
-  granted_comes Events.set_busy = record { leads = λ c h. set_busy_comes.leads c h }
-  granted_comes Events.clear_busy = record { leads = λ c h. clear_busy_comes.leads c h }
+  granted_comes Events.Establish = record { leads = λ c h. establish_comes.leads c h }
+  granted_comes Events.Release = record { leads = λ c h. (release_comes c.link.state).leads c h }
+  granted_comes (Events.Data octets) = search rows depth 12 fits 4000
+  granted_comes Events.SetBusy = record { leads = λ c h. set_busy_comes.leads c h }
+  granted_comes Events.ClearBusy = record { leads = λ c h. clear_busy_comes.leads c h }
 
   -- the events
   pub by_state : (b : Bool) (octets : List ℕ) (control : Control) (here : State) → Leads (Coming before) (Machine.frame_in here t b octets control) (Coming before)
-  by_state b octets control TeiAssigned = frames_in_4 control
-  by_state b octets control AwaitingEstablishment = frames_in_5 control
-  by_state b octets control AwaitingRelease = frames_in_6 control
+  by_state b octets control TeiAssigned = frames_in_4 octets control
+  by_state b octets control AwaitingEstablishment = frames_in_5 octets control
+  by_state b octets control AwaitingRelease = frames_in_6 octets control
   by_state b octets control Established = frames_in_7 b octets control
   by_state b octets control TimerRecovery = frames_in_8 b octets control
 
   pub frames-comes : (b : Bool) (octets : List ℕ) (control : Control) (c : Course) → Coming before c → Coming before (Machine.frame_step t b octets control c)
-  frames-comes b octets (Ui p) c h = (bit_leads _ (refuse_comes before) (deliver_unit_comes before t octets)).leads c h
-  frames-comes b octets (Xid pf) c h = h
-  frames-comes b octets (Information ns nr p) c h = (by_state b octets (Information ns nr p) c.link.state).leads c h
-  frames-comes b octets (ReceiveReady nr pf) c h = (by_state b octets (ReceiveReady nr pf) c.link.state).leads c h
-  frames-comes b octets (ReceiveNotReady nr pf) c h = (by_state b octets (ReceiveNotReady nr pf) c.link.state).leads c h
-  frames-comes b octets (Reject nr pf) c h = (by_state b octets (Reject nr pf) c.link.state).leads c h
-  frames-comes b octets (Sabme p) c h = (by_state b octets (Sabme p) c.link.state).leads c h
-  frames-comes b octets (Disc p) c h = (by_state b octets (Disc p) c.link.state).leads c h
-  frames-comes b octets (Ua f) c h = (by_state b octets (Ua f) c.link.state).leads c h
-  frames-comes b octets (Dm f) c h = (by_state b octets (Dm f) c.link.state).leads c h
-  frames-comes b octets (Frmr f) c h = (by_state b octets (Frmr f) c.link.state).leads c h
+  frames-comes b octets control c h = (by_state b octets control c.link.state).leads c h
 
   pub requests-comes : (request : Events.Request) (c : Course) → Coming before c → (o : Option Refusal)
       → Coming before (elim o [ None ↦ Requests.granted t request c | Some _ ↦ c ])

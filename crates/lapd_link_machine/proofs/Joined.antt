@@ -9,7 +9,7 @@ use Rattle.lapd_link_machine.specs.declared.timers.LinkTimer.{LinkTimer}
 use Rattle.lapd_link_machine.specs.declared.timers.LinkTimer.TheVariants.{T200, T203}
 use Rattle.lapd_link_machine.specs.declared.terms.Terms.{Terms}
 use Rattle.lapd_link_machine.specs.Link.{Link, is_multiple_frame}
-use Rattle.lapd_link_machine.specs.Events.{frame, Request, establish, release, transfer, set_busy, clear_busy, Event, received, expired, requested, offer}
+use Rattle.lapd_link_machine.specs.Events.{frame, Request, Establish, Release, Data, SetBusy, ClearBusy, Event, received, expired, requested, offer}
 use Rattle.lapd_link_machine.specs.Steps.{Course, begun}
 use Rattle.lapd_link_machine.specs.Requests
 use Rattle.lapd_link_machine.specs.Machine
@@ -62,11 +62,11 @@ module _ (t : Terms) (l : Link) where
 
   granted-goes : IsTrue (is_multiple_frame l.state) → (request : Request) → IsUpIn (Requests.granted t request (begun l))
       → Goes l (Requests.granted t request (begun l)).link
-  granted-goes before establish up = absurd (true≢false (sym up))
-  granted-goes before release up = absurd (release-leads_out l.state before up)
-  granted-goes before (transfer octets) up = record { more = octets ∷ []; same = refl; still = refl; received = refl; reports = no-reports l.r l.waiting }
-  granted-goes before set_busy up = by-up _ ((set_busy_up t l {S = still l.s}).leads (begun l) (at-first t l)) up
-  granted-goes before clear_busy up = by-up _ ((clear_busy_up t l {S = still l.s}).leads (begun l) (at-first t l)) up
+  granted-goes before Establish up = absurd (true≢false (sym up))
+  granted-goes before Release up = absurd (release-leads_out l.state before up)
+  granted-goes before (Data octets) up = record { more = octets ∷ []; same = refl; still = refl; received = refl; reports = no-reports l.r l.waiting }
+  granted-goes before SetBusy up = by-up _ ((set_busy_up t l {S = still l.s}).leads (begun l) (at-first t l)) up
+  granted-goes before ClearBusy up = by-up _ ((clear_busy_up t l {S = still l.s}).leads (begun l) (at-first t l)) up
 
   request-goes : IsTrue (is_multiple_frame l.state) → (request : Request) (o : Option Refusal)
       → IsUpIn (elim o [ None ↦ Requests.granted t request (begun l) | Some _ ↦ begun l ])
@@ -88,17 +88,17 @@ module _ (t : Terms) (l : Link) where
   timer-goes before timer up = either (Machine.is_running timer l) _ _ (λ u. expired-goes l.state before timer u) (λ u. stays) up
 
 -- What holds of both ends.
-record Joined (n m : End) : Type 0 where
-  near_ranges : IsInRange n.terms
-  far_ranges : IsInRange m.terms
-  near_sound : IsSound n.terms n.link
-  far_sound : IsSound m.terms m.link
-  near_up : IsTrue (is_multiple_frame n.link.state)
-  far_up : IsTrue (is_multiple_frame m.link.state)
-  there : Direction n m
-  back : Direction m n
+pub record Joined (n m : End) : Type 0 where
+  pub near_ranges : IsInRange n.terms
+  pub far_ranges : IsInRange m.terms
+  pub near_sound : IsSound n.terms n.link
+  pub far_sound : IsSound m.terms m.link
+  pub near_up : IsTrue (is_multiple_frame n.link.state)
+  pub far_up : IsTrue (is_multiple_frame m.link.state)
+  pub there : Direction n m
+  pub back : Direction m n
 
-joined-turned : (n m : End) → Joined n m → Joined m n
+pub joined-turned : (n m : End) → Joined n m → Joined m n
 joined-turned n m h =
     record {
       near_ranges = h.far_ranges;
@@ -208,7 +208,7 @@ module _ (n m : End) (h : Joined n m) where
   acted loses up = loses-first
 
 -- either side
-done-at : (d : Doing) (e : Ends) → IsUp (doing d e) → Joined e.near e.far → Joined (doing d e).near (doing d e).far
+pub done-at : (d : Doing) (e : Ends) → IsUp (doing d e) → Joined e.near e.far → Joined (doing d e).near (doing d e).far
 done-at (at_near act) e up h = acted e.near e.far h act up
 done-at (at_far act) e up h =
     joined-turned (acting act (turned e)).near (acting act (turned e)).far (acted e.far e.near (joined-turned e.near e.far h) act (up.1, up.0))
@@ -233,7 +233,7 @@ begins-direction n m b c =
       accepted = omega arith;
     }
 
-joined-first : (n m : End) → Begins n → Begins m → Joined n m
+pub joined-first : (n m : End) → Begins n → Begins m → Joined n m
 joined-first n m b c =
     record {
       near_ranges = b.ranges;

@@ -98,7 +98,7 @@ module _ (up : Bool) where
 
   -- words of which layer 3 hears nothing
   module _ (here : State) where
-    pub refuse_knows : Leads (At here) (Words.refuse_frame) (At here)
+    pub refuse_knows : Leads (At here) (Words.leave_unserved) (At here)
     refuse_knows = record { leads = λ c h. h }
 
     pub peer_busy_knows : (b : Bool) → Leads (At here) (Words.peer_busy_is b) (At here)

@@ -26,31 +26,30 @@ use Rattle.lapd_link_machine.specs.Requests
 use Rattle.lapd_link_machine.specs.Offers
 use Rattle.lapd_link_machine.specs.Machine
 use Rattle.lapd_link_machine.proofs.Leads.{Leads, then_leads, keeping_then, nothing_leads, depending_leads, bit_leads}
-use Rattle.lapd_frame.specs.declared.notes.Note.TheVariants as notes
 use Rattle.lapd_link_machine.specs.Known.{known, is_up_in, is_up}
-use Rattle.lapd_link_machine.proofs.Knowing.{up_by, is-up-by, At, Ends, at_ends, refuse_knows, acknowledge_knows, transfer_knows, note_knows, deliver_unit_knows, confirms_in_4, established_up, zero_enters, words, ends, failed_7, failed_8, number_7, number_8}
+use Rattle.lapd_link_machine.proofs.Knowing.{up_by, is-up-by, At, Ends, at_ends, acknowledge_knows, transfer_knows, confirms_in_4, established_up, zero_enters, words, ends, failed_7, failed_8, number_7, number_8}
 
 ruleset rows = (number_7, number_8, failed_7, failed_8, ends)
 
 module _ (up : Bool) (t : Terms) where
-  frames_in_4 : (control : Control) → Leads (At up TeiAssigned) (frame_in_4 t control) (Ends up)
-  frames_in_4 (Ua true) = search rows depth 12 fits 4000
-  frames_in_4 (Ua false) = search rows depth 12 fits 4000
-  frames_in_4 other = search rows depth 12 fits 4000
+  frames_in_4 : (octets : List ℕ) (control : Control) → Leads (At up TeiAssigned) (frame_in_4 t octets control) (Ends up)
+  frames_in_4 octets (Ua true) = search rows depth 12 fits 4000
+  frames_in_4 octets (Ua false) = search rows depth 12 fits 4000
+  frames_in_4 octets other = search rows depth 12 fits 4000
 
-  frames_in_5 : (control : Control) → Leads (At up AwaitingEstablishment) (frame_in_5 t control) (Ends up)
-  frames_in_5 (Ua true) = then_leads (established_up up t) (zero_enters up)
-  frames_in_5 (Ua false) = search rows depth 12 fits 4000
-  frames_in_5 (Dm true) = search rows depth 12 fits 4000
-  frames_in_5 (Dm false) = search rows depth 12 fits 4000
-  frames_in_5 other = search rows depth 12 fits 4000
+  frames_in_5 : (octets : List ℕ) (control : Control) → Leads (At up AwaitingEstablishment) (frame_in_5 t octets control) (Ends up)
+  frames_in_5 octets (Ua true) = then_leads (established_up up t) (zero_enters up)
+  frames_in_5 octets (Ua false) = search rows depth 12 fits 4000
+  frames_in_5 octets (Dm true) = search rows depth 12 fits 4000
+  frames_in_5 octets (Dm false) = search rows depth 12 fits 4000
+  frames_in_5 octets other = search rows depth 12 fits 4000
 
-  frames_in_6 : (control : Control) → Leads (At up AwaitingRelease) (frame_in_6 t control) (Ends up)
-  frames_in_6 (Ua true) = search rows depth 12 fits 4000
-  frames_in_6 (Ua false) = search rows depth 12 fits 4000
-  frames_in_6 (Dm true) = search rows depth 12 fits 4000
-  frames_in_6 (Dm false) = search rows depth 12 fits 4000
-  frames_in_6 other = search rows depth 12 fits 4000
+  frames_in_6 : (octets : List ℕ) (control : Control) → Leads (At up AwaitingRelease) (frame_in_6 t octets control) (Ends up)
+  frames_in_6 octets (Ua true) = search rows depth 12 fits 4000
+  frames_in_6 octets (Ua false) = search rows depth 12 fits 4000
+  frames_in_6 octets (Dm true) = search rows depth 12 fits 4000
+  frames_in_6 octets (Dm false) = search rows depth 12 fits 4000
+  frames_in_6 octets other = search rows depth 12 fits 4000
 
   contents_7 : (ns : Seq) (p : Bool) (octets : List ℕ) → Leads (At up Established) (MultipleFrame.contents_in_7_8 t ns p octets) (At up Established)
   contents_7 ns p octets = search words depth 12 fits 4000
@@ -125,9 +124,9 @@ module _ (up : Bool) (t : Terms) where
   clear_busy_knows here = search rows depth 12 fits 4000
 
   frame_knows : (here : State) (b : Bool) (octets : List ℕ) (control : Control) → Leads (At up here) (Machine.frame_in here t b octets control) (Ends up)
-  frame_knows TeiAssigned b octets control = frames_in_4 control
-  frame_knows AwaitingEstablishment b octets control = frames_in_5 control
-  frame_knows AwaitingRelease b octets control = frames_in_6 control
+  frame_knows TeiAssigned b octets control = frames_in_4 octets control
+  frame_knows AwaitingEstablishment b octets control = frames_in_5 octets control
+  frame_knows AwaitingRelease b octets control = frames_in_6 octets control
   frame_knows Established b octets control = frames_in_7 b octets control
   frame_knows TimerRecovery b octets control = frames_in_8 b octets control
 
@@ -159,27 +158,17 @@ module _ (t : Terms) (l : Link) where
   unchanged = record { known_is = is-up-by l.state l }
 
   frames : (b : Bool) (octets : List ℕ) (control : Control) → Ends (is_up l) (Machine.frame_step t b octets control (begun l))
-  frames b octets (Ui p) = (at_ends (is_up l) (bit_leads _ (refuse_knows (is_up l) l.state) (deliver_unit_knows (is_up l) l.state t octets))).leads (begun l) here
-  frames b octets (Xid pf) = (at_ends (is_up l) (note_knows (is_up l) l.state (notes.Xid t.service t.tei) refl)).leads (begun l) here
-  frames b octets (Information ns nr p) = (frame_knows (is_up l) t l.state b octets (Information ns nr p)).leads (begun l) here
-  frames b octets (ReceiveReady nr pf) = (frame_knows (is_up l) t l.state b octets (ReceiveReady nr pf)).leads (begun l) here
-  frames b octets (ReceiveNotReady nr pf) = (frame_knows (is_up l) t l.state b octets (ReceiveNotReady nr pf)).leads (begun l) here
-  frames b octets (Reject nr pf) = (frame_knows (is_up l) t l.state b octets (Reject nr pf)).leads (begun l) here
-  frames b octets (Sabme p) = (frame_knows (is_up l) t l.state b octets (Sabme p)).leads (begun l) here
-  frames b octets (Disc p) = (frame_knows (is_up l) t l.state b octets (Disc p)).leads (begun l) here
-  frames b octets (Ua f) = (frame_knows (is_up l) t l.state b octets (Ua f)).leads (begun l) here
-  frames b octets (Dm f) = (frame_knows (is_up l) t l.state b octets (Dm f)).leads (begun l) here
-  frames b octets (Frmr f) = (frame_knows (is_up l) t l.state b octets (Frmr f)).leads (begun l) here
+  frames b octets control = (frame_knows (is_up l) t l.state b octets control).leads (begun l) here
 
   establishes : l.state ≡ TeiAssigned → Ends (is_up l) (establish_in_4 t (begun l))
   establishes at = (establish_knows (is_up l) t).leads (begun l) (record { state_is = at; known_is = subst (λ x. is_up l ≡ up_by x l.asked) at (is-up-by l.state l) })
 
   granted : (request : Events.Request) (full : Bool) → Requests.refusal t l full request ≡ None → Ends (is_up l) (Requests.granted t request (begun l))
-  granted Events.establish full e = establishes (granted-in-4 l.state e)
-  granted Events.release full e = (release_knows (is_up l) t l.state).leads (begun l) here
-  granted (Events.transfer octets) full e = (at_ends (is_up l) (transfer_knows (is_up l) l.state octets)).leads (begun l) here
-  granted Events.set_busy full e = (set_busy_knows (is_up l) t l.state).leads (begun l) here
-  granted Events.clear_busy full e = (clear_busy_knows (is_up l) t l.state).leads (begun l) here
+  granted Events.Establish full e = establishes (granted-in-4 l.state e)
+  granted Events.Release full e = (release_knows (is_up l) t l.state).leads (begun l) here
+  granted (Events.Data octets) full e = (at_ends (is_up l) (transfer_knows (is_up l) l.state octets)).leads (begun l) here
+  granted Events.SetBusy full e = (set_busy_knows (is_up l) t l.state).leads (begun l) here
+  granted Events.ClearBusy full e = (clear_busy_knows (is_up l) t l.state).leads (begun l) here
 
   requests : (request : Events.Request) (full : Bool) (o : Option Refusal) → Requests.refusal t l full request ≡ o
       → Ends (is_up l) (elim o as (λ o. Course) [ None ↦ Requests.granted t request (begun l) | Some _ ↦ begun l ])

@@ -4,6 +4,7 @@ pub mod Waits
 pub mod Numbers
 pub mod Settled
 pub mod Quiet
+pub mod Unserved
 pub mod SoundRows
 pub mod SoundEvents
 pub mod Owes

@@ -61,7 +61,7 @@ module _ (p : Frames) where
   deliver_unit_loses : (t : Terms) (octets : List ℕ) → Leads (Losing p) (Words.deliver_unit t octets) (Losing p)
   deliver_unit_loses t octets = record { leads = λ c h. h }
 
-  refuse_loses : Leads (Losing p) (Words.refuse_frame) (Losing p)
+  refuse_loses : Leads (Losing p) (Words.leave_unserved) (Losing p)
   refuse_loses = record { leads = λ c h. h }
 
   peer_busy_loses : (b : Bool) → Leads (Losing p) (Words.peer_busy_is b) (Losing p)
@@ -199,24 +199,24 @@ Start c = Losing (another (another no_frame)) c
 
 module _ (t : Terms) where
   -- the rows
-  frames_in_4 : (control : Control) → Leads (Losing (another (another no_frame))) (frame_in_4 t control) HasLost
-  frames_in_4 (Ua true) = search rows depth 12 fits 4000
-  frames_in_4 (Ua false) = search rows depth 12 fits 4000
-  frames_in_4 other = search rows depth 12 fits 4000
+  frames_in_4 : (octets : List ℕ) (control : Control) → Leads (Losing (another (another no_frame))) (frame_in_4 t octets control) HasLost
+  frames_in_4 octets (Ua true) = search rows depth 12 fits 4000
+  frames_in_4 octets (Ua false) = search rows depth 12 fits 4000
+  frames_in_4 octets other = search rows depth 12 fits 4000
 
-  frames_in_5 : (control : Control) → Leads (Losing (another (another no_frame))) (frame_in_5 t control) HasLost
-  frames_in_5 (Ua true) = search rows depth 12 fits 4000
-  frames_in_5 (Ua false) = search rows depth 12 fits 4000
-  frames_in_5 (Dm true) = search rows depth 12 fits 4000
-  frames_in_5 (Dm false) = search rows depth 12 fits 4000
-  frames_in_5 other = search rows depth 12 fits 4000
+  frames_in_5 : (octets : List ℕ) (control : Control) → Leads (Losing (another (another no_frame))) (frame_in_5 t octets control) HasLost
+  frames_in_5 octets (Ua true) = search rows depth 12 fits 4000
+  frames_in_5 octets (Ua false) = search rows depth 12 fits 4000
+  frames_in_5 octets (Dm true) = search rows depth 12 fits 4000
+  frames_in_5 octets (Dm false) = search rows depth 12 fits 4000
+  frames_in_5 octets other = search rows depth 12 fits 4000
 
-  frames_in_6 : (control : Control) → Leads (Losing (another (another no_frame))) (frame_in_6 t control) HasLost
-  frames_in_6 (Ua true) = search rows depth 12 fits 4000
-  frames_in_6 (Ua false) = search rows depth 12 fits 4000
-  frames_in_6 (Dm true) = search rows depth 12 fits 4000
-  frames_in_6 (Dm false) = search rows depth 12 fits 4000
-  frames_in_6 other = search rows depth 12 fits 4000
+  frames_in_6 : (octets : List ℕ) (control : Control) → Leads (Losing (another (another no_frame))) (frame_in_6 t octets control) HasLost
+  frames_in_6 octets (Ua true) = search rows depth 12 fits 4000
+  frames_in_6 octets (Ua false) = search rows depth 12 fits 4000
+  frames_in_6 octets (Dm true) = search rows depth 12 fits 4000
+  frames_in_6 octets (Dm false) = search rows depth 12 fits 4000
+  frames_in_6 octets other = search rows depth 12 fits 4000
 
   frames_in_7 : (b : Bool) (octets : List ℕ) (control : Control) → Leads (Losing (another (another no_frame))) (Established.frame_in_7 t b octets control) HasLost
   frames_in_7 b octets (Information ns nr p) = search rows depth 12 fits 4000
@@ -283,32 +283,22 @@ module _ (t : Terms) where
   clear_busy_loses = search rows depth 12 fits 4000
 
   granted_loses : (request : Events.Request) → Leads (Losing (another (another no_frame))) (λ c. Requests.granted t request c) HasLost
-  granted_loses Events.establish = record { leads = λ c h. establish_loses.leads c h }
-  granted_loses Events.release = record { leads = λ c h. (release_loses c.link.state).leads c h }
-  granted_loses (Events.transfer octets) = search rows depth 12 fits 4000
-  granted_loses Events.set_busy = record { leads = λ c h. set_busy_loses.leads c h }
-  granted_loses Events.clear_busy = record { leads = λ c h. clear_busy_loses.leads c h }
+  granted_loses Events.Establish = record { leads = λ c h. establish_loses.leads c h }
+  granted_loses Events.Release = record { leads = λ c h. (release_loses c.link.state).leads c h }
+  granted_loses (Events.Data octets) = search rows depth 12 fits 4000
+  granted_loses Events.SetBusy = record { leads = λ c h. set_busy_loses.leads c h }
+  granted_loses Events.ClearBusy = record { leads = λ c h. clear_busy_loses.leads c h }
 
   -- the events
   by_state : (b : Bool) (octets : List ℕ) (control : Control) (here : State) → Leads (Losing (another (another no_frame))) (Machine.frame_in here t b octets control) HasLost
-  by_state b octets control TeiAssigned = frames_in_4 control
-  by_state b octets control AwaitingEstablishment = frames_in_5 control
-  by_state b octets control AwaitingRelease = frames_in_6 control
+  by_state b octets control TeiAssigned = frames_in_4 octets control
+  by_state b octets control AwaitingEstablishment = frames_in_5 octets control
+  by_state b octets control AwaitingRelease = frames_in_6 octets control
   by_state b octets control Established = frames_in_7 b octets control
   by_state b octets control TimerRecovery = frames_in_8 b octets control
 
   frames-lose : (b : Bool) (octets : List ℕ) (control : Control) (c : Course) → Start c → HasLost (Machine.frame_step t b octets control c)
-  frames-lose b octets (Ui p) c h = (free_ends (bit_leads _ (refuse_loses _) (deliver_unit_loses _ t octets))).leads c h
-  frames-lose b octets (Xid pf) c h = enough _ c.lost h
-  frames-lose b octets (Information ns nr p) c h = (by_state b octets (Information ns nr p) c.link.state).leads c h
-  frames-lose b octets (ReceiveReady nr pf) c h = (by_state b octets (ReceiveReady nr pf) c.link.state).leads c h
-  frames-lose b octets (ReceiveNotReady nr pf) c h = (by_state b octets (ReceiveNotReady nr pf) c.link.state).leads c h
-  frames-lose b octets (Reject nr pf) c h = (by_state b octets (Reject nr pf) c.link.state).leads c h
-  frames-lose b octets (Sabme p) c h = (by_state b octets (Sabme p) c.link.state).leads c h
-  frames-lose b octets (Disc p) c h = (by_state b octets (Disc p) c.link.state).leads c h
-  frames-lose b octets (Ua f) c h = (by_state b octets (Ua f) c.link.state).leads c h
-  frames-lose b octets (Dm f) c h = (by_state b octets (Dm f) c.link.state).leads c h
-  frames-lose b octets (Frmr f) c h = (by_state b octets (Frmr f) c.link.state).leads c h
+  frames-lose b octets control c h = (by_state b octets control c.link.state).leads c h
 
   requests-lose : (request : Events.Request) (c : Course) → Start c → (o : Option Refusal)
       → HasLost (elim o [ None ↦ Requests.granted t request c | Some _ ↦ c ])

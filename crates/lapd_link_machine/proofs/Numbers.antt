@@ -46,7 +46,7 @@ module _ (t : Terms) (X : Claim) where
   pub deliver_unit_keeps : (octets : List ℕ) → Leads (Bound t X) (Words.deliver_unit t octets) (Bound t X)
   deliver_unit_keeps octets = record { leads = λ c h. record { bounded = h.bounded; claim = h.claim } }
 
-  pub refuse_keeps : Leads (Bound t X) (Words.refuse_frame) (Bound t X)
+  pub refuse_keeps : Leads (Bound t X) (Words.leave_unserved) (Bound t X)
   refuse_keeps = record { leads = λ c h. record { bounded = h.bounded; claim = h.claim } }
 
   pub peer_busy_keeps : (b : Bool) → Leads (Bound t X) (Words.peer_busy_is b) (Bound t X)

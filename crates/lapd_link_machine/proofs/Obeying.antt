@@ -13,13 +13,14 @@ use Rattle.lapd_link_machine.specs.AwaitingRelease.{t200_in_6}
 use Rattle.lapd_link_machine.specs.TimerRecovery
 use Rattle.lapd_link_machine.specs.Machine
 use Rattle.lapd_link_machine.proofs.Leads.{Leads, depending_leads}
+use Rattle.lapd_frame.specs.Services.{same_service}
 use Rattle.lapd_frame.specs.declared.services.Service.{Service}
 use Rattle.lapd_frame.specs.declared.services.Service.TheVariants.{Call, Packet}
 use Rattle.lapd_frame.specs.declared.timers.Order.{Order}
 use Rattle.lapd_frame.specs.declared.timers.Order.TheVariants as orders
 use Rattle.lapd_frame.specs.declared.timers.Timer.{Timer}
 use Rattle.lapd_link_machine.specs.Told.{runs, timer_at, orders_for}
-use Rattle.lapd_link_machine.specs.Timed.{is_service, is_same, obeyed, IsTimed, IsTimedIn, StaysInStep, ComesInStep}
+use Rattle.lapd_link_machine.specs.Timed.{is_same, obeyed, IsTimed, IsTimedIn, StaysInStep, ComesInStep}
 use Rattle.lapd_link_machine.proofs.InStep.{comes-step}
 
 -- What obeying an event's orders comes to: orders for one timer, before or after those for the other.
@@ -64,7 +65,7 @@ two-others one two timer first second false false true y b = rw second refl
 two-others one two timer first second false false false true b = rw second refl
 two-others one two timer first second false false false false b = refl
 
-service-itself : (service : Service) (tei : ℕ) → (is_service service service && (tei == tei)) ≡ true
+service-itself : (service : Service) (tei : ℕ) → (same_service service service && (tei == tei)) ≡ true
 service-itself Call tei = eq-eqb tei tei refl
 service-itself Packet tei = eq-eqb tei tei refl
 

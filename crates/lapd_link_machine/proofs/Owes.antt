@@ -7,7 +7,7 @@ use Rattle.lapd_link_machine.specs.declared.timers.LinkTimer.{LinkTimer}
 use Rattle.lapd_link_machine.specs.declared.frames.ControlFrame.{ControlFrame}
 use Rattle.lapd_link_machine.specs.declared.terms.Terms.{Terms}
 use Rattle.lapd_link_machine.specs.Link.{Link, unsent}
-use Rattle.lapd_link_machine.specs.Rises.{waiting, window_back}
+use Rattle.lapd_link_machine.specs.Rises.{may_send, window_back}
 use Rattle.lapd_link_machine.specs.Sound.{IsInRange}
 use Rattle.lapd_link_machine.specs.Steps.{Course, Step, ◌then◌}
 use Rattle.lapd_link_machine.specs.Words
@@ -27,7 +27,7 @@ worth k (window p) = k + worth k p
 
 -- What an event under way has sent, and what the link may still send.
 abbrev pub owed : Terms → Course → ℕ
-owed t c = cond {A = ℕ} (is_some c.sent) 1 0 + waiting t c.link
+owed t c = cond {A = ℕ} (is_some c.sent) 1 0 + may_send t c.link
 
 pub record Owes (t : Terms) (total : ℕ) (X : Claim) (p : Purse) (c : Course) : Type 0 where
   pub bound : Bound t X c
@@ -126,7 +126,7 @@ module _ (t : Terms) (total : ℕ) (X : Claim) (p : Purse) where
   pub deliver_unit_free : (octets : List ℕ) → Leads (Owes t total X p) (Words.deliver_unit t octets) (Owes t total X p)
   deliver_unit_free octets = free (deliver_unit_keeps t X octets) (λ c h. le_refl (owed t c))
 
-  pub refuse_free : Leads (Owes t total X p) (Words.refuse_frame) (Owes t total X p)
+  pub refuse_free : Leads (Owes t total X p) (Words.leave_unserved) (Owes t total X p)
   refuse_free = free (refuse_keeps t X) (λ c h. le_refl (owed t c))
 
   pub peer_busy_free : (b : Bool) → Leads (Owes t total X p) (Words.peer_busy_is b) (Owes t total X p)

@@ -17,7 +17,7 @@ use Rattle.lapd_link_machine.specs.declared.timers.LinkTimer.TheVariants.{T200, 
 use Rattle.lapd_link_machine.specs.declared.frames.ControlFrame.{ControlFrame}
 use Rattle.lapd_link_machine.specs.declared.terms.Terms.{Terms}
 use Rattle.lapd_link_machine.specs.Link.{Link}
-use Rattle.lapd_link_machine.specs.Steps.{Course, begun, Step, ◌then◌, by_bit}
+use Rattle.lapd_link_machine.specs.Steps.{Course, begun, Step, ◌then◌}
 use Rattle.lapd_link_machine.specs.Requests
 use Rattle.lapd_link_machine.specs.TeiAssigned.{frame_in_4}
 use Rattle.lapd_link_machine.specs.AwaitingEstablishment.{frame_in_5}
@@ -37,7 +37,7 @@ abbrev pub Own : Terms → Course → Type 0
 Own t c = All (IsOwn t) c.notes
 
 module _ (own : Terms) where
-  refuse_own : Leads (Own own) (Words.refuse_frame) (Own own)
+  refuse_own : Leads (Own own) (Words.leave_unserved) (Own own)
   refuse_own = record { leads = λ c h. h }
 
   peer_busy_own : (b : Bool) → Leads (Own own) (Words.peer_busy_is b) (Own own)
@@ -125,7 +125,7 @@ module _ (own : Terms) where
   release_confirm_own : Leads (Own own) (Words.release_confirm own) (Own own)
   release_confirm_own = record { leads = λ c h. All-push (IsOwn own) c.notes (notes.ReleaseConfirm own.service own.tei) h (refl, refl) }
 
-  xid_own : Leads (Own own) (Machine.xid own) (Own own)
+  xid_own : Leads (Own own) (Words.xid own) (Own own)
   xid_own = record { leads = λ c h. All-push (IsOwn own) c.notes (notes.Xid own.service own.tei) h (refl, refl) }
 
   deliver_unit_own : (octets : List ℕ) → Leads (Own own) (Words.deliver_unit own octets) (Own own)
@@ -143,27 +143,27 @@ module _ (own : Terms) where
   number_own : (nr : Seq) (f : ℕ → Step) → ((m : ℕ) → Leads (Own own) (f m) (Own own)) → Leads (Own own) (Words.by_number own nr f) (Own own)
   number_own nr f x = record { leads = λ c h. by-number nr f x c h (named c.link.a c.link.s nr) }
 
-ruleset words = (keeping_then, nothing_leads, depending_leads, bit_leads, error_own, establish_indication_own, establish_confirm_own, release_indication_own, release_confirm_own, deliver_own, deliver_unit_own, number_own, refuse_own, peer_busy_own, own_busy_own, rejecting_own, pending_own, asked_own, repeats_own, repeated_own, enter_own, flags_own, start_own, no_timer_own, discard_own, zero_own, begin_anew_own, count_own, acknowledge_own, send_again_own, send_own, enquire_own, answer_own, report_own, reject_own, transfer_own, refl)
+ruleset words = (keeping_then, xid_own, nothing_leads, depending_leads, bit_leads, error_own, establish_indication_own, establish_confirm_own, release_indication_own, release_confirm_own, deliver_own, deliver_unit_own, number_own, refuse_own, peer_busy_own, own_busy_own, rejecting_own, pending_own, asked_own, repeats_own, repeated_own, enter_own, flags_own, start_own, no_timer_own, discard_own, zero_own, begin_anew_own, count_own, acknowledge_own, send_again_own, send_own, enquire_own, answer_own, report_own, reject_own, transfer_own, refl)
 
 module _ (t : Terms) where
-  frames_in_4 : (control : Control) → Leads (Own t) (frame_in_4 t control) (Own t)
-  frames_in_4 (Ua true) = search words depth 12 fits 4000
-  frames_in_4 (Ua false) = search words depth 12 fits 4000
-  frames_in_4 other = search words depth 12 fits 4000
+  frames_in_4 : (octets : List ℕ) (control : Control) → Leads (Own t) (frame_in_4 t octets control) (Own t)
+  frames_in_4 octets (Ua true) = search words depth 12 fits 4000
+  frames_in_4 octets (Ua false) = search words depth 12 fits 4000
+  frames_in_4 octets other = search words depth 12 fits 4000
 
-  frames_in_5 : (control : Control) → Leads (Own t) (frame_in_5 t control) (Own t)
-  frames_in_5 (Ua true) = search words depth 12 fits 4000
-  frames_in_5 (Ua false) = search words depth 12 fits 4000
-  frames_in_5 (Dm true) = search words depth 12 fits 4000
-  frames_in_5 (Dm false) = search words depth 12 fits 4000
-  frames_in_5 other = search words depth 12 fits 4000
+  frames_in_5 : (octets : List ℕ) (control : Control) → Leads (Own t) (frame_in_5 t octets control) (Own t)
+  frames_in_5 octets (Ua true) = search words depth 12 fits 4000
+  frames_in_5 octets (Ua false) = search words depth 12 fits 4000
+  frames_in_5 octets (Dm true) = search words depth 12 fits 4000
+  frames_in_5 octets (Dm false) = search words depth 12 fits 4000
+  frames_in_5 octets other = search words depth 12 fits 4000
 
-  frames_in_6 : (control : Control) → Leads (Own t) (frame_in_6 t control) (Own t)
-  frames_in_6 (Ua true) = search words depth 12 fits 4000
-  frames_in_6 (Ua false) = search words depth 12 fits 4000
-  frames_in_6 (Dm true) = search words depth 12 fits 4000
-  frames_in_6 (Dm false) = search words depth 12 fits 4000
-  frames_in_6 other = search words depth 12 fits 4000
+  frames_in_6 : (octets : List ℕ) (control : Control) → Leads (Own t) (frame_in_6 t octets control) (Own t)
+  frames_in_6 octets (Ua true) = search words depth 12 fits 4000
+  frames_in_6 octets (Ua false) = search words depth 12 fits 4000
+  frames_in_6 octets (Dm true) = search words depth 12 fits 4000
+  frames_in_6 octets (Dm false) = search words depth 12 fits 4000
+  frames_in_6 octets other = search words depth 12 fits 4000
 
   frames_in_7 : (b : Bool) (octets : List ℕ) (control : Control) → Leads (Own t) (Established.frame_in_7 t b octets control) (Own t)
   frames_in_7 b octets (Information ns nr p) = search words depth 12 fits 4000
@@ -227,11 +227,11 @@ module _ (t : Terms) where
   clear_busy_own = search words depth 12 fits 4000
 
   granted_own : (request : Events.Request) → Leads (Own t) (λ c. Requests.granted t request c) (Own t)
-  granted_own Events.establish = search words depth 12 fits 4000
-  granted_own Events.release = record { leads = λ c h. (release_own c.link.state).leads c h }
-  granted_own (Events.transfer octets) = search words depth 12 fits 4000
-  granted_own Events.set_busy = record { leads = λ c h. set_busy_own.leads c h }
-  granted_own Events.clear_busy = record { leads = λ c h. clear_busy_own.leads c h }
+  granted_own Events.Establish = search words depth 12 fits 4000
+  granted_own Events.Release = record { leads = λ c h. (release_own c.link.state).leads c h }
+  granted_own (Events.Data octets) = search words depth 12 fits 4000
+  granted_own Events.SetBusy = record { leads = λ c h. set_busy_own.leads c h }
+  granted_own Events.ClearBusy = record { leads = λ c h. clear_busy_own.leads c h }
 
   cleared_own : (here : State) → Leads (Own t) (Machine.told_of_clearing here t) (Own t)
   cleared_own TeiAssigned = search words depth 12 fits 4000
@@ -246,27 +246,14 @@ module _ (t : Terms) where
 
   frames-by-state : (here : State) (b : Bool) (octets : List ℕ) (control : Control)
       → Leads (Own t) (Machine.frame_in here t b octets control) (Own t)
-  frames-by-state TeiAssigned b octets control = frames_in_4 control
-  frames-by-state AwaitingEstablishment b octets control = frames_in_5 control
-  frames-by-state AwaitingRelease b octets control = frames_in_6 control
+  frames-by-state TeiAssigned b octets control = frames_in_4 octets control
+  frames-by-state AwaitingEstablishment b octets control = frames_in_5 octets control
+  frames-by-state AwaitingRelease b octets control = frames_in_6 octets control
   frames-by-state Established b octets control = frames_in_7 b octets control
   frames-by-state TimerRecovery b octets control = frames_in_8 b octets control
 
-  units : (b : Bool) (octets : List ℕ) → Leads (Own t) (by_bit b Words.refuse_frame (Words.deliver_unit t octets)) (Own t)
-  units b octets = search words depth 12 fits 4000
-
   frame-own : (b : Bool) (octets : List ℕ) (control : Control) (l : Link) → Own t (Machine.frame_step t b octets control (begun l))
-  frame-own b octets (Ui p) l = (units _ octets).leads (begun l) (begins l)
-  frame-own b octets (Xid pf) l = (xid_own t).leads (begun l) (begins l)
-  frame-own b octets (Information ns nr p) l = (frames-by-state l.state b octets (Information ns nr p)).leads (begun l) (begins l)
-  frame-own b octets (ReceiveReady nr pf) l = (frames-by-state l.state b octets (ReceiveReady nr pf)).leads (begun l) (begins l)
-  frame-own b octets (ReceiveNotReady nr pf) l = (frames-by-state l.state b octets (ReceiveNotReady nr pf)).leads (begun l) (begins l)
-  frame-own b octets (Reject nr pf) l = (frames-by-state l.state b octets (Reject nr pf)).leads (begun l) (begins l)
-  frame-own b octets (Sabme p) l = (frames-by-state l.state b octets (Sabme p)).leads (begun l) (begins l)
-  frame-own b octets (Disc p) l = (frames-by-state l.state b octets (Disc p)).leads (begun l) (begins l)
-  frame-own b octets (Ua f) l = (frames-by-state l.state b octets (Ua f)).leads (begun l) (begins l)
-  frame-own b octets (Dm f) l = (frames-by-state l.state b octets (Dm f)).leads (begun l) (begins l)
-  frame-own b octets (Frmr f) l = (frames-by-state l.state b octets (Frmr f)).leads (begun l) (begins l)
+  frame-own b octets control l = (frames-by-state l.state b octets control).leads (begun l) (begins l)
 
   either : (b : Bool) (u v : Course) → Own t u → Own t v → Own t (cond b u v)
   either true u v x y = x
@@ -310,10 +297,10 @@ offer-keeps-r t l = go l.waiting
     go (f ∷ fs) = refl
 
 -- Contents that are to be sent begin no numbers anew.
-pub transfer-goes-on : (t : Terms) (octets : List ℕ) (full : Bool) (l : Link) → (Machine.course t (Events.requested (Events.transfer octets) full) l).zeroed ≡ false
-transfer-goes-on t octets full l = go (Requests.refusal t l full (Events.transfer octets))
+pub transfer-goes-on : (t : Terms) (octets : List ℕ) (full : Bool) (l : Link) → (Machine.course t (Events.requested (Events.Data octets) full) l).zeroed ≡ false
+transfer-goes-on t octets full l = go (Requests.refusal t l full (Events.Data octets))
   where
     go : (o : Option Refusal)
-        → (elim o as (λ o. Course) [ None ↦ Requests.granted t (Events.transfer octets) (begun l) | Some _ ↦ begun l ]).zeroed ≡ false
+        → (elim o as (λ o. Course) [ None ↦ Requests.granted t (Events.Data octets) (begun l) | Some _ ↦ begun l ]).zeroed ≡ false
     go None = refl
     go (Some w) = refl

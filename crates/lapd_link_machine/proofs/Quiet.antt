@@ -45,7 +45,7 @@ deliver_quiet t octets = record { leads = λ c h. h }
 deliver_unit_quiet : (t : Terms) (octets : List ℕ) → Leads Quiet (Words.deliver_unit t octets) Quiet
 deliver_unit_quiet t octets = record { leads = λ c h. h }
 
-refuse_quiet : Leads Quiet (Words.refuse_frame) Quiet
+refuse_quiet : Leads Quiet (Words.leave_unserved) Quiet
 refuse_quiet = record { leads = λ c h. h }
 
 peer_busy_quiet : (b : Bool) → Leads Quiet (Words.peer_busy_is b) Quiet
@@ -158,24 +158,24 @@ ruleset rows = (contents_quiet, busy_quiet, number_quiet, keeping_then, nothing_
 
 module _ (t : Terms) where
   -- the rows
-  frames_in_4 : (control : Control) → Leads Quiet (frame_in_4 t control) Quiet
-  frames_in_4 (Ua true) = search rows depth 12 fits 4000
-  frames_in_4 (Ua false) = search rows depth 12 fits 4000
-  frames_in_4 other = search rows depth 12 fits 4000
+  frames_in_4 : (octets : List ℕ) (control : Control) → Leads Quiet (frame_in_4 t octets control) Quiet
+  frames_in_4 octets (Ua true) = search rows depth 12 fits 4000
+  frames_in_4 octets (Ua false) = search rows depth 12 fits 4000
+  frames_in_4 octets other = search rows depth 12 fits 4000
 
-  frames_in_5 : (control : Control) → Leads Quiet (frame_in_5 t control) Quiet
-  frames_in_5 (Ua true) = search rows depth 12 fits 4000
-  frames_in_5 (Ua false) = search rows depth 12 fits 4000
-  frames_in_5 (Dm true) = search rows depth 12 fits 4000
-  frames_in_5 (Dm false) = search rows depth 12 fits 4000
-  frames_in_5 other = search rows depth 12 fits 4000
+  frames_in_5 : (octets : List ℕ) (control : Control) → Leads Quiet (frame_in_5 t octets control) Quiet
+  frames_in_5 octets (Ua true) = search rows depth 12 fits 4000
+  frames_in_5 octets (Ua false) = search rows depth 12 fits 4000
+  frames_in_5 octets (Dm true) = search rows depth 12 fits 4000
+  frames_in_5 octets (Dm false) = search rows depth 12 fits 4000
+  frames_in_5 octets other = search rows depth 12 fits 4000
 
-  frames_in_6 : (control : Control) → Leads Quiet (frame_in_6 t control) Quiet
-  frames_in_6 (Ua true) = search rows depth 12 fits 4000
-  frames_in_6 (Ua false) = search rows depth 12 fits 4000
-  frames_in_6 (Dm true) = search rows depth 12 fits 4000
-  frames_in_6 (Dm false) = search rows depth 12 fits 4000
-  frames_in_6 other = search rows depth 12 fits 4000
+  frames_in_6 : (octets : List ℕ) (control : Control) → Leads Quiet (frame_in_6 t octets control) Quiet
+  frames_in_6 octets (Ua true) = search rows depth 12 fits 4000
+  frames_in_6 octets (Ua false) = search rows depth 12 fits 4000
+  frames_in_6 octets (Dm true) = search rows depth 12 fits 4000
+  frames_in_6 octets (Dm false) = search rows depth 12 fits 4000
+  frames_in_6 octets other = search rows depth 12 fits 4000
 
   frames_in_7 : (b : Bool) (octets : List ℕ) (control : Control) → Leads Quiet (Established.frame_in_7 t b octets control) Quiet
   frames_in_7 b octets (Information ns nr p) = search rows depth 12 fits 4000
@@ -242,32 +242,22 @@ module _ (t : Terms) where
   clear_busy_quiet = search rows depth 12 fits 4000
 
   granted_quiet : (request : Events.Request) → Leads Quiet (λ c. Requests.granted t request c) Quiet
-  granted_quiet Events.establish = record { leads = λ c h. establish_quiet.leads c h }
-  granted_quiet Events.release = record { leads = λ c h. (release_quiet c.link.state).leads c h }
-  granted_quiet (Events.transfer octets) = search rows depth 12 fits 4000
-  granted_quiet Events.set_busy = record { leads = λ c h. set_busy_quiet.leads c h }
-  granted_quiet Events.clear_busy = record { leads = λ c h. clear_busy_quiet.leads c h }
+  granted_quiet Events.Establish = record { leads = λ c h. establish_quiet.leads c h }
+  granted_quiet Events.Release = record { leads = λ c h. (release_quiet c.link.state).leads c h }
+  granted_quiet (Events.Data octets) = search rows depth 12 fits 4000
+  granted_quiet Events.SetBusy = record { leads = λ c h. set_busy_quiet.leads c h }
+  granted_quiet Events.ClearBusy = record { leads = λ c h. clear_busy_quiet.leads c h }
 
   -- the events
   by_state : (b : Bool) (octets : List ℕ) (control : Control) (here : State) → Leads Quiet (Machine.frame_in here t b octets control) Quiet
-  by_state b octets control TeiAssigned = frames_in_4 control
-  by_state b octets control AwaitingEstablishment = frames_in_5 control
-  by_state b octets control AwaitingRelease = frames_in_6 control
+  by_state b octets control TeiAssigned = frames_in_4 octets control
+  by_state b octets control AwaitingEstablishment = frames_in_5 octets control
+  by_state b octets control AwaitingRelease = frames_in_6 octets control
   by_state b octets control Established = frames_in_7 b octets control
   by_state b octets control TimerRecovery = frames_in_8 b octets control
 
   frames-quiet : (b : Bool) (octets : List ℕ) (control : Control) (c : Course) → Quiet c → Quiet (Machine.frame_step t b octets control c)
-  frames-quiet b octets (Ui p) c h = (bit_leads _ refuse_quiet (deliver_unit_quiet t octets)).leads c h
-  frames-quiet b octets (Xid pf) c h = h
-  frames-quiet b octets (Information ns nr p) c h = (by_state b octets (Information ns nr p) c.link.state).leads c h
-  frames-quiet b octets (ReceiveReady nr pf) c h = (by_state b octets (ReceiveReady nr pf) c.link.state).leads c h
-  frames-quiet b octets (ReceiveNotReady nr pf) c h = (by_state b octets (ReceiveNotReady nr pf) c.link.state).leads c h
-  frames-quiet b octets (Reject nr pf) c h = (by_state b octets (Reject nr pf) c.link.state).leads c h
-  frames-quiet b octets (Sabme p) c h = (by_state b octets (Sabme p) c.link.state).leads c h
-  frames-quiet b octets (Disc p) c h = (by_state b octets (Disc p) c.link.state).leads c h
-  frames-quiet b octets (Ua f) c h = (by_state b octets (Ua f) c.link.state).leads c h
-  frames-quiet b octets (Dm f) c h = (by_state b octets (Dm f) c.link.state).leads c h
-  frames-quiet b octets (Frmr f) c h = (by_state b octets (Frmr f) c.link.state).leads c h
+  frames-quiet b octets control c h = (by_state b octets control c.link.state).leads c h
 
   requests-quiet : (request : Events.Request) (c : Course) → Quiet c → (o : Option Refusal)
       → Quiet (elim o [ None ↦ Requests.granted t request c | Some _ ↦ c ])

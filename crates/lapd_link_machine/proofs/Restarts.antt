@@ -46,7 +46,7 @@ deliver_on t octets = record { leads = λ c h. h }
 deliver_unit_on : (t : Terms) (octets : List ℕ) → Leads On (Words.deliver_unit t octets) On
 deliver_unit_on t octets = record { leads = λ c h. h }
 
-refuse_on : Leads On (Words.refuse_frame) On
+refuse_on : Leads On (Words.leave_unserved) On
 refuse_on = record { leads = λ c h. h }
 
 peer_busy_on : (b : Bool) → Leads On (Words.peer_busy_is b) On
@@ -144,25 +144,25 @@ IsOther (Ua true) = ⊥
 IsOther other = Unit {0}
 
 module _ (t : Terms) where
-  frames_in_4 : (control : Control) → IsOther control → Leads On (frame_in_4 t control) On
-  frames_in_4 (Sabme p) h = absurd h
-  frames_in_4 (Ua true) h = absurd h
-  frames_in_4 (Ua false) h = search rows depth 12 fits 4000
-  frames_in_4 other h = search rows depth 12 fits 4000
+  frames_in_4 : (octets : List ℕ) (control : Control) → IsOther control → Leads On (frame_in_4 t octets control) On
+  frames_in_4 octets (Sabme p) h = absurd h
+  frames_in_4 octets (Ua true) h = absurd h
+  frames_in_4 octets (Ua false) h = search rows depth 12 fits 4000
+  frames_in_4 octets other h = search rows depth 12 fits 4000
 
-  frames_in_5 : (control : Control) → IsOther control → Leads On (frame_in_5 t control) On
-  frames_in_5 (Ua true) h = absurd h
-  frames_in_5 (Ua false) h = search rows depth 12 fits 4000
-  frames_in_5 (Dm true) h = search rows depth 12 fits 4000
-  frames_in_5 (Dm false) h = search rows depth 12 fits 4000
-  frames_in_5 other h = search rows depth 12 fits 4000
+  frames_in_5 : (octets : List ℕ) (control : Control) → IsOther control → Leads On (frame_in_5 t octets control) On
+  frames_in_5 octets (Ua true) h = absurd h
+  frames_in_5 octets (Ua false) h = search rows depth 12 fits 4000
+  frames_in_5 octets (Dm true) h = search rows depth 12 fits 4000
+  frames_in_5 octets (Dm false) h = search rows depth 12 fits 4000
+  frames_in_5 octets other h = search rows depth 12 fits 4000
 
-  frames_in_6 : (control : Control) → IsOther control → Leads On (frame_in_6 t control) On
-  frames_in_6 (Ua true) h = absurd h
-  frames_in_6 (Ua false) h = search rows depth 12 fits 4000
-  frames_in_6 (Dm true) h = search rows depth 12 fits 4000
-  frames_in_6 (Dm false) h = search rows depth 12 fits 4000
-  frames_in_6 other h = search rows depth 12 fits 4000
+  frames_in_6 : (octets : List ℕ) (control : Control) → IsOther control → Leads On (frame_in_6 t octets control) On
+  frames_in_6 octets (Ua true) h = absurd h
+  frames_in_6 octets (Ua false) h = search rows depth 12 fits 4000
+  frames_in_6 octets (Dm true) h = search rows depth 12 fits 4000
+  frames_in_6 octets (Dm false) h = search rows depth 12 fits 4000
+  frames_in_6 octets other h = search rows depth 12 fits 4000
 
   frames_in_7 : (b : Bool) (octets : List ℕ) (control : Control) → IsOther control → Leads On (Established.frame_in_7 t b octets control) On
   frames_in_7 b octets (Information ns nr p) h = search rows depth 12 fits 4000
@@ -231,16 +231,16 @@ module _ (t : Terms) where
   clear_busy_on = search rows depth 12 fits 4000
 
   granted_on : (request : Events.Request) → Leads On (λ c. Requests.granted t request c) On
-  granted_on Events.establish = record { leads = λ c h. establish_on.leads c h }
-  granted_on Events.release = record { leads = λ c h. (release_on c.link.state).leads c h }
-  granted_on (Events.transfer octets) = search rows depth 12 fits 4000
-  granted_on Events.set_busy = record { leads = λ c h. set_busy_on.leads c h }
-  granted_on Events.clear_busy = record { leads = λ c h. clear_busy_on.leads c h }
+  granted_on Events.Establish = record { leads = λ c h. establish_on.leads c h }
+  granted_on Events.Release = record { leads = λ c h. (release_on c.link.state).leads c h }
+  granted_on (Events.Data octets) = search rows depth 12 fits 4000
+  granted_on Events.SetBusy = record { leads = λ c h. set_busy_on.leads c h }
+  granted_on Events.ClearBusy = record { leads = λ c h. clear_busy_on.leads c h }
 
   by_state : (b : Bool) (octets : List ℕ) (control : Control) → IsOther control → (here : State) → Leads On (Machine.frame_in here t b octets control) On
-  by_state b octets control h TeiAssigned = frames_in_4 control h
-  by_state b octets control h AwaitingEstablishment = frames_in_5 control h
-  by_state b octets control h AwaitingRelease = frames_in_6 control h
+  by_state b octets control h TeiAssigned = frames_in_4 octets control h
+  by_state b octets control h AwaitingEstablishment = frames_in_5 octets control h
+  by_state b octets control h AwaitingRelease = frames_in_6 octets control h
   by_state b octets control h Established = frames_in_7 b octets control h
   by_state b octets control h TimerRecovery = frames_in_8 b octets control h
 
@@ -276,13 +276,10 @@ module _ (t : Terms) (l : Link) where
   by-ua Established b true octets e = absurd (true≢false (sym e))
   by-ua TimerRecovery b true octets e = absurd (true≢false (sym e))
 
-  units : (b : Bool) (octets : List ℕ) → Leads On (Machine.unit_data t octets) On
-  units b octets = bit_leads _ refuse_on (deliver_unit_on t octets)
-
   frames : (b : Bool) (octets : List ℕ) (control : Control) → (Machine.frame_step t b octets control (begun l)).zeroed ≡ true
       → IsEstablished control (Machine.frame_step t b octets control (begun l)).link
-  frames b octets (Ui p) e = clash ((units b octets).leads (begun l) begins) e
-  frames b octets (Xid pf) e = absurd (true≢false (sym e))
+  frames b octets (Ui p) e = clash ((by_state t b octets (Ui p) tt l.state).leads (begun l) begins) e
+  frames b octets (Xid pf) e = clash ((by_state t b octets (Xid pf) tt l.state).leads (begun l) begins) e
   frames b octets (Information ns nr p) e = clash ((by_state t b octets (Information ns nr p) tt l.state).leads (begun l) begins) e
   frames b octets (ReceiveReady nr pf) e = clash ((by_state t b octets (ReceiveReady nr pf) tt l.state).leads (begun l) begins) e
   frames b octets (ReceiveNotReady nr pf) e = clash ((by_state t b octets (ReceiveNotReady nr pf) tt l.state).leads (begun l) begins) e

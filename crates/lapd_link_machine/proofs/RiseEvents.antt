@@ -18,7 +18,7 @@ use Rattle.lapd_link_machine.specs.declared.frames.ControlFrame.{ControlFrame}
 use Rattle.lapd_link_machine.specs.declared.terms.Terms.{Terms}
 use Rattle.lapd_link_machine.specs.Link.{Link, is_multiple_frame}
 use Rattle.lapd_link_machine.specs.Events
-use Rattle.lapd_link_machine.specs.Rises.{waiting, sent, reject_number, is_valid_reject, price, sent_in_all, price_of_all}
+use Rattle.lapd_link_machine.specs.Rises.{may_send, sent, reject_number, is_valid_reject, price, sent_in_all, price_of_all}
 use Rattle.lapd_link_machine.specs.Sound.{IsInRange, IsSound}
 use Rattle.lapd_link_machine.specs.Steps.{Course, begun, Step}
 use Rattle.lapd_link_machine.specs.Words
@@ -34,44 +34,44 @@ use Rattle.lapd_link_machine.proofs.RiseRows.{in_8, unnamed, frames_in_4, establ
 
 module _ (t : Terms) (r : IsInRange t) (l : Link) (h : IsSound t l) where
   -- a step from the beginning of an event, with its purse
-  spend : (X : Claim) (total : ℕ) (p : Purse) {f : Step} → X l.a l.s (length l.contents) l.state l.asked → waiting t l + worth t.k p ≤ total
+  spend : (X : Claim) (total : ℕ) (p : Purse) {f : Step} → X l.a l.s (length l.contents) l.state l.asked → may_send t l + worth t.k p ≤ total
       → Leads (Owes t total X p) f (Within t total) → owed t (f (begun l)) ≤ total
   spend X total p claim room x =
       x.leads (begun l) (record { bound = record { bounded = (bound-sound t l h).bounded; claim = claim }; within = omega (arith, room) })
 
   two : (X : Claim) {f : Step} → X l.a l.s (length l.contents) l.state l.asked
-      → Leads (Owes t (waiting t l + 2) X (coin (coin empty))) f (Within t (waiting t l + 2)) → owed t (f (begun l)) ≤ waiting t l + 2
+      → Leads (Owes t (may_send t l + 2) X (coin (coin empty))) f (Within t (may_send t l + 2)) → owed t (f (begun l)) ≤ may_send t l + 2
   unfolding worth
-  two X claim x = spend X (waiting t l + 2) (coin (coin empty)) claim (omega arith) x
+  two X claim x = spend X (may_send t l + 2) (coin (coin empty)) claim (omega arith) x
 
-  one : {f : Step} → Leads (Owes t (waiting t l + 1) anything (coin empty)) f (Within t (waiting t l + 1)) → owed t (f (begun l)) ≤ waiting t l + 1
+  one : {f : Step} → Leads (Owes t (may_send t l + 1) anything (coin empty)) f (Within t (may_send t l + 1)) → owed t (f (begun l)) ≤ may_send t l + 1
   unfolding worth
-  one x = spend anything (waiting t l + 1) (coin empty) tt (omega arith) x
+  one x = spend anything (may_send t l + 1) (coin empty) tt (omega arith) x
 
-  none : {f : Step} → Leads (Owes t (waiting t l) anything empty) f (Within t (waiting t l)) → owed t (f (begun l)) ≤ waiting t l
+  none : {f : Step} → Leads (Owes t (may_send t l) anything empty) f (Within t (may_send t l)) → owed t (f (begun l)) ≤ may_send t l
   unfolding worth
-  none x = spend anything (waiting t l) empty tt (omega arith) x
+  none x = spend anything (may_send t l) empty tt (omega arith) x
 
   -- Frames in state 7, but for REJ, and in state 8.
   in-7 : (e : l.state ≡ Established) (b : Bool) (octets : List ℕ) (nr : Seq) (pf : Bool)
       → (o : Option ℕ) → named l.a l.s nr ≡ o
-      → owed t (Machine.frame_in Established t b octets (Reject nr pf) (begun l)) ≤ waiting t l + (2 + cond {A = ℕ} (is_multiple_frame l.state && is_some (named l.a l.s nr)) t.k 0)
+      → owed t (Machine.frame_in Established t b octets (Reject nr pf) (begun l)) ≤ may_send t l + (2 + cond {A = ℕ} (is_multiple_frame l.state && is_some (named l.a l.s nr)) t.k 0)
   unfolding worth
   in-7 e b octets nr pf None n =
-      let cost = two (unnamed nr) n (bad_rej_in_7 t r (waiting t l + 2) b octets nr pf) in omega (arith, cost)
+      let cost = two (unnamed nr) n (bad_rej_in_7 t r (may_send t l + 2) b octets nr pf) in omega (arith, cost)
   in-7 e b octets nr pf (Some m) n =
       let multiple_here : is_multiple_frame l.state ≡ true = ap is_multiple_frame e in
       let valid : (is_multiple_frame l.state && is_some (named l.a l.s nr)) ≡ true = and_from (is_multiple_frame l.state) (is_some (named l.a l.s nr)) multiple_here (ap is_some n) in
       let paid : cond {A = ℕ} (is_multiple_frame l.state && is_some (named l.a l.s nr)) t.k 0 ≡ t.k = ap (λ v. cond {A = ℕ} v t.k 0) valid in
-      let cost = spend multiple (waiting t l + (2 + t.k)) (coin (coin (window empty))) multiple_here (omega arith) (rej_in_7 t r (waiting t l + (2 + t.k)) b octets nr pf) in
+      let cost = spend multiple (may_send t l + (2 + t.k)) (coin (coin (window empty))) multiple_here (omega arith) (rej_in_7 t r (may_send t l + (2 + t.k)) b octets nr pf) in
       omega (arith, cost, paid)
 
   -- a frame costs two, and a window more if it is an REJ that is valid
-  more : (control : Control) (n : ℕ) → n ≤ waiting t l + 2 → n ≤ waiting t l + (2 + cond {A = ℕ} (is_valid_reject (reject_number control) l) t.k 0)
+  more : (control : Control) (n : ℕ) → n ≤ may_send t l + 2 → n ≤ may_send t l + (2 + cond {A = ℕ} (is_valid_reject (reject_number control) l) t.k 0)
   more control n x = omega arith
 
   Costs : Step → Control → Type 0
-  Costs f control = owed t (f (begun l)) ≤ waiting t l + (2 + cond {A = ℕ} (is_valid_reject (reject_number control) l) t.k 0)
+  Costs f control = owed t (f (begun l)) ≤ may_send t l + (2 + cond {A = ℕ} (is_valid_reject (reject_number control) l) t.k 0)
 
   frames-7 : l.state ≡ Established → (b : Bool) (octets : List ℕ) (control : Control) → Costs (Machine.frame_in Established t b octets control) control
   unfolding Costs
@@ -85,8 +85,8 @@ module _ (t : Terms) (r : IsInRange t) (l : Link) (h : IsSound t l) where
   frames-7 e b octets (Dm true) = more (Dm true) _ (two anything tt (free_ends (note_free t _ anything _ (notes.Error t.service t.tei code.B))))
   frames-7 e b octets (Dm false) = more (Dm false) _ (two anything tt (failed_costs t r _ code.E))
   frames-7 e b octets (Frmr f) = more (Frmr f) _ (two anything tt (failed_costs t r _ code.K))
-  frames-7 e b octets (Ui p) = more (Ui p) _ (two anything tt (free_ends (refuse_free t _ anything _)))
-  frames-7 e b octets (Xid pf) = more (Xid pf) _ (two anything tt (free_ends (refuse_free t _ anything _)))
+  frames-7 e b octets (Ui p) = more (Ui p) _ (two anything tt (bit_leads _ (free_ends (refuse_free t _ anything _)) (free_ends (deliver_unit_free t _ anything _ octets))))
+  frames-7 e b octets (Xid pf) = more (Xid pf) _ (two anything tt (free_ends (note_free t _ anything _ (notes.Xid t.service t.tei))))
 
   frames-8 : l.state ≡ TimerRecovery → (b : Bool) (octets : List ℕ) (control : Control) → Costs (Machine.frame_in TimerRecovery t b octets control) control
   unfolding Costs
@@ -100,39 +100,29 @@ module _ (t : Terms) (r : IsInRange t) (l : Link) (h : IsSound t l) where
   frames-8 e b octets (Dm true) = more (Dm true) _ (two anything tt (failed_costs t r _ code.B))
   frames-8 e b octets (Dm false) = more (Dm false) _ (two anything tt (failed_costs t r _ code.E))
   frames-8 e b octets (Frmr f) = more (Frmr f) _ (two anything tt (failed_costs t r _ code.K))
-  frames-8 e b octets (Ui p) = more (Ui p) _ (two anything tt (free_ends (refuse_free t _ anything _)))
-  frames-8 e b octets (Xid pf) = more (Xid pf) _ (two anything tt (free_ends (refuse_free t _ anything _)))
+  frames-8 e b octets (Ui p) = more (Ui p) _ (two anything tt (bit_leads _ (free_ends (refuse_free t _ anything _)) (free_ends (deliver_unit_free t _ anything _ octets))))
+  frames-8 e b octets (Xid pf) = more (Xid pf) _ (two anything tt (free_ends (note_free t _ anything _ (notes.Xid t.service t.tei))))
 
   frames-by-state : (here : State) → l.state ≡ here → (b : Bool) (octets : List ℕ) (control : Control) → Costs (Machine.frame_in here t b octets control) control
   unfolding Costs
-  frames-by-state TeiAssigned e b octets control = more control _ (two anything tt (frames_in_4 t r _ control))
-  frames-by-state AwaitingEstablishment e b octets control = more control _ (two anything tt (frames_in_5 t r _ control))
-  frames-by-state AwaitingRelease e b octets control = more control _ (two anything tt (frames_in_6 t r _ control))
+  frames-by-state TeiAssigned e b octets control = more control _ (two anything tt (frames_in_4 t r _ octets control))
+  frames-by-state AwaitingEstablishment e b octets control = more control _ (two anything tt (frames_in_5 t r _ octets control))
+  frames-by-state AwaitingRelease e b octets control = more control _ (two anything tt (frames_in_6 t r _ octets control))
   frames-by-state Established e b octets control = frames-7 e b octets control
   frames-by-state TimerRecovery e b octets control = frames-8 e b octets control
 
   frame-costs : (b : Bool) (octets : List ℕ) (control : Control) → Costs (Machine.frame_step t b octets control) control
   unfolding Costs
-  frame-costs b octets (Ui p) = more (Ui p) _ (two anything tt (bit_leads _ (free_ends (refuse_free t _ anything _)) (free_ends (deliver_unit_free t _ anything _ octets))))
-  frame-costs b octets (Xid pf) = more (Xid pf) _ (two anything tt (free_ends (note_free t _ anything _ (notes.Xid t.service t.tei))))
-  frame-costs b octets (Information ns nr p) = frames-by-state l.state refl b octets (Information ns nr p)
-  frame-costs b octets (ReceiveReady nr pf) = frames-by-state l.state refl b octets (ReceiveReady nr pf)
-  frame-costs b octets (ReceiveNotReady nr pf) = frames-by-state l.state refl b octets (ReceiveNotReady nr pf)
-  frame-costs b octets (Reject nr pf) = frames-by-state l.state refl b octets (Reject nr pf)
-  frame-costs b octets (Sabme p) = frames-by-state l.state refl b octets (Sabme p)
-  frame-costs b octets (Disc p) = frames-by-state l.state refl b octets (Disc p)
-  frame-costs b octets (Ua f) = frames-by-state l.state refl b octets (Ua f)
-  frame-costs b octets (Dm f) = frames-by-state l.state refl b octets (Dm f)
-  frame-costs b octets (Frmr f) = frames-by-state l.state refl b octets (Frmr f)
+  frame-costs b octets control = frames-by-state l.state refl b octets control
 
-  malformed-costs : (e : ErrorCode) (here : State) → owed t (Machine.malformed_in here t e (begun l)) ≤ waiting t l + 2
+  malformed-costs : (e : ErrorCode) (here : State) → owed t (Machine.malformed_in here t e (begun l)) ≤ may_send t l + 2
   malformed-costs e TeiAssigned = two anything tt (free_ends (refuse_free t _ anything _))
   malformed-costs e AwaitingEstablishment = two anything tt (free_ends (refuse_free t _ anything _))
   malformed-costs e AwaitingRelease = two anything tt (free_ends (refuse_free t _ anything _))
   malformed-costs e Established = two anything tt (failed_costs t r _ e)
   malformed-costs e TimerRecovery = two anything tt (failed_costs t r _ e)
 
-  received-costs : (x : Events.Received) → owed t (Machine.received_step t x (begun l)) ≤ waiting t l + price t (Events.received x) l
+  received-costs : (x : Events.Received) → owed t (Machine.received_step t x (begun l)) ≤ may_send t l + price t (Events.received x) l
   unfolding Costs
   received-costs (Events.frame f) = frame-costs f.address.command f.info f.control
   received-costs Events.undefined = malformed-costs code.L l.state
@@ -140,45 +130,45 @@ module _ (t : Terms) (r : IsInRange t) (l : Link) (h : IsSound t l) where
   received-costs Events.overlong = malformed-costs code.O l.state
 
   -- Timers.
-  expired-costs : (timer : LinkTimer) (here : State) → owed t (Machine.expired_in here timer t (begun l)) ≤ waiting t l + (t.k + 1)
+  expired-costs : (timer : LinkTimer) (here : State) → owed t (Machine.expired_in here timer t (begun l)) ≤ may_send t l + (t.k + 1)
   unfolding worth
   expired-costs timer TeiAssigned = omega arith
   expired-costs T200 AwaitingEstablishment = let cost = one (t200_costs_5 t r _) in omega (arith, cost)
   expired-costs T203 AwaitingEstablishment = omega arith
   expired-costs T200 AwaitingRelease = let cost = one (t200_costs_6 t r _) in omega (arith, cost)
   expired-costs T203 AwaitingRelease = omega arith
-  expired-costs timer Established = spend anything (waiting t l + (t.k + 1)) (coin (window empty)) tt (omega arith) (timer_costs_7 t r _)
+  expired-costs timer Established = spend anything (may_send t l + (t.k + 1)) (coin (window empty)) tt (omega arith) (timer_costs_7 t r _)
   expired-costs T200 TimerRecovery = let cost = one (t200_costs_8 t r _) in omega (arith, cost)
   expired-costs T203 TimerRecovery = omega arith
 
-  if-running : (b : Bool) (u v : Course) (n : ℕ) → owed t u ≤ waiting t l + n → owed t v ≤ waiting t l → owed t (cond b u v) ≤ waiting t l + cond {A = ℕ} b n 0
+  if-running : (b : Bool) (u v : Course) (n : ℕ) → owed t u ≤ may_send t l + n → owed t v ≤ may_send t l → owed t (cond b u v) ≤ may_send t l + cond {A = ℕ} b n 0
   if-running true u v n x y = x
   if-running false u v n x y = omega arith
 
   -- Requests.
-  release-costs : (here : State) → owed t (Requests.release_in here t (begun l)) ≤ waiting t l + 1
+  release-costs : (here : State) → owed t (Requests.release_in here t (begun l)) ≤ may_send t l + 1
   release-costs TeiAssigned = one (free_ends (note_free t _ anything _ (notes.ReleaseConfirm t.service t.tei)))
   release-costs AwaitingEstablishment = omega arith
   release-costs AwaitingRelease = omega arith
   release-costs Established = one (release_costs t r _)
   release-costs TimerRecovery = one (release_costs t r _)
 
-  granted-costs : (request : Events.Request) → owed t (Requests.granted t request (begun l)) ≤ waiting t l + 1
-  granted-costs Events.establish = one (establish_costs t r _)
-  granted-costs Events.release = release-costs l.state
-  granted-costs (Events.transfer octets) =
+  granted-costs : (request : Events.Request) → owed t (Requests.granted t request (begun l)) ≤ may_send t l + 1
+  granted-costs Events.Establish = one (establish_costs t r _)
+  granted-costs Events.Release = release-costs l.state
+  granted-costs (Events.Data octets) =
       let size : length (l.contents ++ octets ∷ []) ≡ length l.contents + 1 = length-append l.contents (octets ∷ []) in
       omega (arith, size)
-  granted-costs Events.set_busy = one (set_busy_costs t r _)
-  granted-costs Events.clear_busy = one (clear_busy_costs t r _)
+  granted-costs Events.SetBusy = one (set_busy_costs t r _)
+  granted-costs Events.ClearBusy = one (clear_busy_costs t r _)
 
   request-costs : (request : Events.Request) (full : Bool) (o : Option Refusal) → Requests.refusal t l full request ≡ o
-      → owed t (elim o [ None ↦ Requests.granted t request (begun l) | Some _ ↦ begun l ]) ≤ waiting t l + cond {A = ℕ} (is_some o) 0 1
+      → owed t (elim o [ None ↦ Requests.granted t request (begun l) | Some _ ↦ begun l ]) ≤ may_send t l + cond {A = ℕ} (is_some o) 0 1
   request-costs request full None e = granted-costs request
   request-costs request full (Some w) e = omega arith
 
   -- The TEI leaves the line.
-  cleared-costs : (here : State) → owed t (Words.begin_anew (Machine.told_of_clearing here t (begun l))) ≤ waiting t l
+  cleared-costs : (here : State) → owed t (Words.begin_anew (Machine.told_of_clearing here t (begun l))) ≤ may_send t l
   cleared-costs TeiAssigned = omega arith
   cleared-costs AwaitingEstablishment = omega arith
   cleared-costs AwaitingRelease = omega arith
@@ -187,7 +177,7 @@ module _ (t : Terms) (r : IsInRange t) (l : Link) (h : IsSound t l) where
 
   -- Offers: the frame that goes was owed, and at most one more owed with it.
   Pays : Course → Type 0
-  Pays c = (owed t c ≤ waiting t l) × (waiting t l ≤ waiting t c.link + 2 * cond {A = ℕ} (is_some c.sent) 1 0)
+  Pays c = (owed t c ≤ may_send t l) × (may_send t l ≤ may_send t c.link + 2 * cond {A = ℕ} (is_some c.sent) 1 0)
 
   either-pays : (b : Bool) (u v : Course) → Pays u → Pays v → Pays (cond b u v)
   either-pays true u v x y = x
@@ -229,7 +219,7 @@ module _ (t : Terms) (r : IsInRange t) (l : Link) (h : IsSound t l) where
       (omega (arith, size), omega (arith, size))
 
   -- Any event.
-  pub event-rises : (e : Events.Event) → owed t (Machine.course t e l) ≤ waiting t l + price t e l
+  pub event-rises : (e : Events.Event) → owed t (Machine.course t e l) ≤ may_send t l + price t e l
   unfolding Pays
   event-rises (Events.received x) = received-costs x
   event-rises (Events.expired timer) =
@@ -238,16 +228,16 @@ module _ (t : Terms) (r : IsInRange t) (l : Link) (h : IsSound t l) where
   event-rises Events.offer = let pays = offers-pay l.waiting refl in omega (arith, pays.0)
   event-rises Events.cleared = let cost = cleared-costs l.state in omega (arith, cost)
 
-  pub offer-falls : waiting t l ≤ waiting t (Machine.after t Events.offer l) + 2 * sent t Events.offer l
+  pub offer-falls : may_send t l ≤ may_send t (Machine.after t Events.offer l) + 2 * sent t Events.offer l
   unfolding Pays
   offer-falls = (offers-pay l.waiting refl).1
 
 -- Lists of events.
 pub all-rises : (t : Terms) → IsInRange t → (es : List Events.Event) (l : Link) → IsSound t l
-    → sent_in_all t es l + waiting t (Machine.after_all t es l) ≤ waiting t l + price_of_all t es l
+    → sent_in_all t es l + may_send t (Machine.after_all t es l) ≤ may_send t l + price_of_all t es l
 unfolding sent_in_all price_of_all Machine.after_all
 all-rises t r [] l h = omega arith
 all-rises t r (e ∷ es) l h =
-    let first : owed t (Machine.course t e l) ≤ waiting t l + price t e l = event-rises t r l h e in
+    let first : owed t (Machine.course t e l) ≤ may_send t l + price t e l = event-rises t r l h e in
     let rest = all-rises t r es (Machine.after t e l) (sound-after t r e l h) in
     omega (arith, first, rest)

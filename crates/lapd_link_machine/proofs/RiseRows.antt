@@ -127,11 +127,11 @@ ruleset rows = (words, loosen, free_ends, paid_ends, enter_4, enter_5, enter_6, 
 
 module _ (t : Terms) (r : IsInRange t) (total : ℕ) where
   -- state 4
-  pub frames_in_4 : {X : Claim} {p : Purse} (control : Control) → Leads (Owes t total X (coin p)) (frame_in_4 t control) (Within t total)
-  frames_in_4 (Sabme p) = search rows depth 12 fits 4000
-  frames_in_4 (Ua true) = search rows depth 12 fits 4000
-  frames_in_4 (Ua false) = search rows depth 12 fits 4000
-  frames_in_4 other = search rows depth 12 fits 4000
+  pub frames_in_4 : {X : Claim} {p : Purse} (octets : List ℕ) (control : Control) → Leads (Owes t total X (coin p)) (frame_in_4 t octets control) (Within t total)
+  frames_in_4 octets (Sabme p) = search rows depth 12 fits 4000
+  frames_in_4 octets (Ua true) = search rows depth 12 fits 4000
+  frames_in_4 octets (Ua false) = search rows depth 12 fits 4000
+  frames_in_4 octets other = search rows depth 12 fits 4000
 
   pub establish_costs : {X : Claim} {p : Purse} → Leads (Owes t total X (coin p)) (establish_in_4 t) (Within t total)
   establish_costs = search rows depth 12 fits 4000
@@ -145,23 +145,23 @@ module _ (t : Terms) (r : IsInRange t) (total : ℕ) where
   through_anything x y = then_leads x y
 
   -- state 5
-  pub frames_in_5 : {X : Claim} {p : Purse} (control : Control) → Leads (Owes t total X (coin p)) (frame_in_5 t control) (Within t total)
-  frames_in_5 (Ua true) = search (rows, through_anything, anything_ends) depth 12 fits 4000
-  frames_in_5 (Ua false) = search rows depth 12 fits 4000
-  frames_in_5 (Dm true) = search rows depth 12 fits 4000
-  frames_in_5 (Dm false) = search rows depth 12 fits 4000
-  frames_in_5 other = search rows depth 12 fits 4000
+  pub frames_in_5 : {X : Claim} {p : Purse} (octets : List ℕ) (control : Control) → Leads (Owes t total X (coin p)) (frame_in_5 t octets control) (Within t total)
+  frames_in_5 octets (Ua true) = search (rows, through_anything, anything_ends) depth 12 fits 4000
+  frames_in_5 octets (Ua false) = search rows depth 12 fits 4000
+  frames_in_5 octets (Dm true) = search rows depth 12 fits 4000
+  frames_in_5 octets (Dm false) = search rows depth 12 fits 4000
+  frames_in_5 octets other = search rows depth 12 fits 4000
 
   pub t200_costs_5 : {X : Claim} {p : Purse} → Leads (Owes t total X (coin p)) (t200_in_5 t) (Within t total)
   t200_costs_5 = search rows depth 12 fits 4000
 
   -- state 6
-  pub frames_in_6 : {X : Claim} {p : Purse} (control : Control) → Leads (Owes t total X (coin p)) (frame_in_6 t control) (Within t total)
-  frames_in_6 (Ua true) = search rows depth 12 fits 4000
-  frames_in_6 (Ua false) = search rows depth 12 fits 4000
-  frames_in_6 (Dm true) = search rows depth 12 fits 4000
-  frames_in_6 (Dm false) = search rows depth 12 fits 4000
-  frames_in_6 other = search rows depth 12 fits 4000
+  pub frames_in_6 : {X : Claim} {p : Purse} (octets : List ℕ) (control : Control) → Leads (Owes t total X (coin p)) (frame_in_6 t octets control) (Within t total)
+  frames_in_6 octets (Ua true) = search rows depth 12 fits 4000
+  frames_in_6 octets (Ua false) = search rows depth 12 fits 4000
+  frames_in_6 octets (Dm true) = search rows depth 12 fits 4000
+  frames_in_6 octets (Dm false) = search rows depth 12 fits 4000
+  frames_in_6 octets other = search rows depth 12 fits 4000
 
   pub t200_costs_6 : {X : Claim} {p : Purse} → Leads (Owes t total X (coin p)) (t200_in_6 t) (Within t total)
   t200_costs_6 = search rows depth 12 fits 4000

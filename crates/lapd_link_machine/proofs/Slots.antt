@@ -111,17 +111,7 @@ module _ (t : Terms) (q : ℕ) where
 
   frames : (b : Bool) (octets : List ℕ) (control : Control) (c : Course)
       → Machine.frame_step (record t { queue = q }) b octets control c ≡ Machine.frame_step t b octets control c
-  frames b octets (Ui p) c = refl
-  frames b octets (Xid pf) c = refl
-  frames b octets (Information ns nr p) c = by-state c.link.state b octets (Information ns nr p) c
-  frames b octets (ReceiveReady nr pf) c = by-state c.link.state b octets (ReceiveReady nr pf) c
-  frames b octets (ReceiveNotReady nr pf) c = by-state c.link.state b octets (ReceiveNotReady nr pf) c
-  frames b octets (Reject nr pf) c = by-state c.link.state b octets (Reject nr pf) c
-  frames b octets (Sabme p) c = by-state c.link.state b octets (Sabme p) c
-  frames b octets (Disc p) c = by-state c.link.state b octets (Disc p) c
-  frames b octets (Ua f) c = by-state c.link.state b octets (Ua f) c
-  frames b octets (Dm f) c = by-state c.link.state b octets (Dm f) c
-  frames b octets (Frmr f) c = by-state c.link.state b octets (Frmr f) c
+  frames b octets control c = by-state c.link.state b octets control c
 
   malformed : (here : State) (e : ErrorCode) (c : Course) → Machine.malformed_in here (record t { queue = q }) e c ≡ Machine.malformed_in here t e c
   malformed TeiAssigned e c = refl
@@ -181,7 +171,7 @@ fitted t l h =
       ring = h.ring;
       quiet = h.quiet;
       sizes = h.sizes;
-      frames = All-weaker (IsWaitingFrame t) (IsWaitingFrame (record t { queue = length (queue_of l) })) (λ f w. record { is_frame = w.is_frame; octets = w.octets }) l.waiting h.frames;
+      frames = All-weaker (IsWaitingFrame t) (IsWaitingFrame (record t { queue = length (queue_of l) })) (λ f w. record { is_frame = w.is_frame; octets = w.octets; without_contents = w.without_contents }) l.waiting h.frames;
     }
 
 -- an event that is the same for a queue of any size does not let it grow
@@ -210,15 +200,15 @@ queue-after t r (Events.received x) l h =
     let less = unchanged t r (Events.received x) l h (ap (λ c. c.link) (received-same t (length (queue_of l)) x (begun l))) in omega (arith, less)
 queue-after t r (Events.expired timer) l h =
     let less = unchanged t r (Events.expired timer) l h (ap (λ c. c.link) (expired-same t (length (queue_of l)) timer (begun l))) in omega (arith, less)
-queue-after t r (Events.requested Events.establish full) l h =
-    let less = unchanged t r (Events.requested Events.establish full) l h refl in omega (arith, less)
-queue-after t r (Events.requested Events.release full) l h =
-    let less = unchanged t r (Events.requested Events.release full) l h (ap (λ c. c.link) (releasing-same t (length (queue_of l)) (Requests.refusal t l full Events.release) (begun l))) in omega (arith, less)
-queue-after t r (Events.requested (Events.transfer octets) full) l h = by-refusal t octets l (Requests.refusal t l full (Events.transfer octets)) h
-queue-after t r (Events.requested Events.set_busy full) l h =
-    let less = unchanged t r (Events.requested Events.set_busy full) l h refl in omega (arith, less)
-queue-after t r (Events.requested Events.clear_busy full) l h =
-    let less = unchanged t r (Events.requested Events.clear_busy full) l h refl in omega (arith, less)
+queue-after t r (Events.requested Events.Establish full) l h =
+    let less = unchanged t r (Events.requested Events.Establish full) l h refl in omega (arith, less)
+queue-after t r (Events.requested Events.Release full) l h =
+    let less = unchanged t r (Events.requested Events.Release full) l h (ap (λ c. c.link) (releasing-same t (length (queue_of l)) (Requests.refusal t l full Events.Release) (begun l))) in omega (arith, less)
+queue-after t r (Events.requested (Events.Data octets) full) l h = by-refusal t octets l (Requests.refusal t l full (Events.Data octets)) h
+queue-after t r (Events.requested Events.SetBusy full) l h =
+    let less = unchanged t r (Events.requested Events.SetBusy full) l h refl in omega (arith, less)
+queue-after t r (Events.requested Events.ClearBusy full) l h =
+    let less = unchanged t r (Events.requested Events.ClearBusy full) l h refl in omega (arith, less)
 queue-after t r Events.offer l h = let less = unchanged t r Events.offer l h refl in omega (arith, less)
 queue-after t r Events.cleared l h =
     let less = unchanged t r Events.cleared l h (ap (λ c. c.link) (clearing-same t (length (queue_of l)) l.state (begun l))) in omega (arith, less)

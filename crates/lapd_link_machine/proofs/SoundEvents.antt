@@ -4,7 +4,6 @@ use Rattle.std.specs.Prelude.{All, nat_lt, nat_le}
 use Rattle.std.proofs.lemmas.Bool.{ltb-true, ltb-false, leb-false, and_parts}
 use Rattle.std.proofs.lemmas.List.Elements.{All-push, All-nil, All-tail}
 use Rattle.lapd_frame.specs.declared.controls.Control.{Control}
-use Rattle.lapd_frame.specs.declared.controls.Control.TheVariants.{Information, ReceiveReady, ReceiveNotReady, Reject, Sabme, Disc, Ui, Ua, Dm, Frmr, Xid}
 use Rattle.lapd_frame.specs.declared.notes.ErrorCode.{ErrorCode}
 use Rattle.lapd_frame.specs.declared.notes.ErrorCode.TheVariants as code
 use Rattle.lapd_frame.specs.declared.refusals.Refusal.{Refusal}
@@ -24,8 +23,8 @@ use Rattle.lapd_link_machine.specs.MultipleFrame.{transfer_in_7_8}
 use Rattle.lapd_link_machine.specs.Requests
 use Rattle.lapd_link_machine.specs.Offers
 use Rattle.lapd_link_machine.specs.Machine
-use Rattle.lapd_link_machine.proofs.Leads.{Leads, keeping_then, nothing_leads, depending_leads, bit_leads, tested_leads, Passed, from_more}
-use Rattle.lapd_link_machine.proofs.Numbers.{Claim, Bound, note_keeps, deliver_unit_keeps, refuse_keeps, pending_keeps, start_keeps}
+use Rattle.lapd_link_machine.proofs.Leads.{Leads, keeping_then, nothing_leads, depending_leads, tested_leads, Passed, from_more}
+use Rattle.lapd_link_machine.proofs.Numbers.{Claim, Bound, note_keeps, refuse_keeps, pending_keeps, start_keeps}
 use Rattle.lapd_link_machine.proofs.Settled.{multiple, down, awaiting, settled, settled-multiple, multiple_ends, down_ends, awaiting_ends}
 use Rattle.lapd_link_machine.proofs.Quiet.{Quiet, quiet-step}
 use Rattle.lapd_link_machine.proofs.SoundRows.{frames_in_4, establish_leads, frames_in_5, t200_leads_5, frames_in_6, t200_leads_6, failed_leads, frames_in_7, timer_leads_7, frames_in_8, t200_leads_8, release_leads, set_busy_leads, clear_busy_leads}
@@ -109,15 +108,12 @@ module _ (t : Terms) (r : t.tei ≤ 126) where
   by_state f x = record { leads = λ c h. by-state f x c h c.link.state refl }
 
   -- Frames.
-  unit_leads : (octets : List ℕ) → Leads (Bound t settled) (Machine.unit_data t octets) (Bound t settled)
-  unit_leads octets = search (bit_leads, refuse_keeps, deliver_unit_keeps)
-
   frames_by_state : (b : Bool) (octets : List ℕ) (control : Control) (here : State)
       → Leads (Bound t (start here)) (Machine.frame_in here t b octets control) (Bound t settled)
   unfolding start
-  frames_by_state b octets control TeiAssigned = frames_in_4 t r control
-  frames_by_state b octets control AwaitingEstablishment = frames_in_5 t r control
-  frames_by_state b octets control AwaitingRelease = frames_in_6 t r control
+  frames_by_state b octets control TeiAssigned = frames_in_4 t r octets control
+  frames_by_state b octets control AwaitingEstablishment = frames_in_5 t r octets control
+  frames_by_state b octets control AwaitingRelease = frames_in_6 t r octets control
   frames_by_state b octets control Established = frames_in_7 t r b octets control
   frames_by_state b octets control TimerRecovery = frames_in_8 t r b octets control
 
@@ -126,17 +122,7 @@ module _ (t : Terms) (r : t.tei ≤ 126) where
   of_state b octets control = by_state (λ here. Machine.frame_in here t b octets control) (frames_by_state b octets control)
 
   frames_lead : (b : Bool) (octets : List ℕ) (control : Control) → Leads (Bound t settled) (Machine.frame_step t b octets control) (Bound t settled)
-  frames_lead b octets (Ui p) = unit_leads octets
-  frames_lead b octets (Xid pf) = note_keeps t settled _
-  frames_lead b octets (Information ns nr p) = of_state b octets (Information ns nr p)
-  frames_lead b octets (ReceiveReady nr pf) = of_state b octets (ReceiveReady nr pf)
-  frames_lead b octets (ReceiveNotReady nr pf) = of_state b octets (ReceiveNotReady nr pf)
-  frames_lead b octets (Reject nr pf) = of_state b octets (Reject nr pf)
-  frames_lead b octets (Sabme p) = of_state b octets (Sabme p)
-  frames_lead b octets (Disc p) = of_state b octets (Disc p)
-  frames_lead b octets (Ua f) = of_state b octets (Ua f)
-  frames_lead b octets (Dm f) = of_state b octets (Dm f)
-  frames_lead b octets (Frmr f) = of_state b octets (Frmr f)
+  frames_lead b octets control = of_state b octets control
 
   malformed_by_state : (e : ErrorCode) (here : State) → Leads (Bound t (start here)) (Machine.malformed_in here t e) (Bound t settled)
   unfolding start
@@ -260,19 +246,19 @@ module _ (t : Terms) (r : t.tei ≤ 126) where
   granting : (request : Events.Request) (full : Bool) (c : Course) → Bound t settled c → Requests.refusal t c.link full request ≡ None
       → Bound t settled (Requests.granted t request c)
   unfolding start
-  granting Events.establish full c h e =
+  granting Events.Establish full c h e =
       let here = is-down c.link.state (not-refused _ _ WrongState e).0 in
       (establish_leads t r).leads c (record {
         bounded = h.bounded;
         claim = starts TeiAssigned c.link.a c.link.s (length c.link.contents) c.link.state c.link.asked here (subst (λ y. settled c.link.a c.link.s (length c.link.contents) y c.link.asked) here h.claim);
       })
-  granting Events.release full c h e = (by_state t r (λ here. Requests.release_in here t) releasing).leads c h
-  granting (Events.transfer octets) full c h e =
+  granting Events.Release full c h e = (by_state t r (λ here. Requests.release_in here t) releasing).leads c h
+  granting (Events.Data octets) full c h e =
       let parts = not-refused (is_multiple_frame c.link.state) _ WrongState e in
       let room = with-room t full octets c.link parts.1 in
       transferring octets c h parts.0 room.0 room.1
-  granting Events.set_busy full c h e = (set_busy_leads t r).leads c (in-multiple settled c h (not-refused _ _ WrongState e).0)
-  granting Events.clear_busy full c h e = (clear_busy_leads t r).leads c (in-multiple settled c h (not-refused _ _ WrongState e).0)
+  granting Events.SetBusy full c h e = (set_busy_leads t r).leads c (in-multiple settled c h (not-refused _ _ WrongState e).0)
+  granting Events.ClearBusy full c h e = (clear_busy_leads t r).leads c (in-multiple settled c h (not-refused _ _ WrongState e).0)
 
   requested-by : (request : Events.Request) (full : Bool) (c : Course) → Bound t settled c → (o : Option Refusal)
       → Requests.refusal t c.link full request ≡ o

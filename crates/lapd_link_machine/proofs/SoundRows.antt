@@ -116,33 +116,33 @@ module _ (t : Terms) (r : t.tei ≤ 126) where
   through_anything x y = then_leads x y
 
   -- state 4
-  pub frames_in_4 : (control : Control) → Leads (Bound t (down TeiAssigned)) (frame_in_4 t control) (Bound t settled)
-  frames_in_4 (Sabme p) = search ends depth 12 fits 4000
-  frames_in_4 (Ua true) = search ends depth 12 fits 4000
-  frames_in_4 (Ua false) = search ends depth 12 fits 4000
-  frames_in_4 other = search ends depth 12 fits 4000
+  pub frames_in_4 : (octets : List ℕ) (control : Control) → Leads (Bound t (down TeiAssigned)) (frame_in_4 t octets control) (Bound t settled)
+  frames_in_4 octets (Sabme p) = search ends depth 12 fits 4000
+  frames_in_4 octets (Ua true) = search ends depth 12 fits 4000
+  frames_in_4 octets (Ua false) = search ends depth 12 fits 4000
+  frames_in_4 octets other = search ends depth 12 fits 4000
 
   pub establish_leads : Leads (Bound t (down TeiAssigned)) (establish_in_4 t) (Bound t settled)
   establish_leads = search ends depth 12 fits 4000
 
   -- state 5
-  pub frames_in_5 : (control : Control) → Leads (Bound t awaiting) (frame_in_5 t control) (Bound t settled)
-  frames_in_5 (Ua true) = search (ends, through_anything, anything_ends) depth 12 fits 4000
-  frames_in_5 (Ua false) = search ends depth 12 fits 4000
-  frames_in_5 (Dm true) = search ends depth 12 fits 4000
-  frames_in_5 (Dm false) = search ends depth 12 fits 4000
-  frames_in_5 other = search ends depth 12 fits 4000
+  pub frames_in_5 : (octets : List ℕ) (control : Control) → Leads (Bound t awaiting) (frame_in_5 t octets control) (Bound t settled)
+  frames_in_5 octets (Ua true) = search (ends, through_anything, anything_ends) depth 12 fits 4000
+  frames_in_5 octets (Ua false) = search ends depth 12 fits 4000
+  frames_in_5 octets (Dm true) = search ends depth 12 fits 4000
+  frames_in_5 octets (Dm false) = search ends depth 12 fits 4000
+  frames_in_5 octets other = search ends depth 12 fits 4000
 
   pub t200_leads_5 : Leads (Bound t awaiting) (t200_in_5 t) (Bound t settled)
   t200_leads_5 = search ends depth 12 fits 4000
 
   -- state 6
-  pub frames_in_6 : (control : Control) → Leads (Bound t (down AwaitingRelease)) (frame_in_6 t control) (Bound t settled)
-  frames_in_6 (Ua true) = search ends depth 12 fits 4000
-  frames_in_6 (Ua false) = search ends depth 12 fits 4000
-  frames_in_6 (Dm true) = search ends depth 12 fits 4000
-  frames_in_6 (Dm false) = search ends depth 12 fits 4000
-  frames_in_6 other = search ends depth 12 fits 4000
+  pub frames_in_6 : (octets : List ℕ) (control : Control) → Leads (Bound t (down AwaitingRelease)) (frame_in_6 t octets control) (Bound t settled)
+  frames_in_6 octets (Ua true) = search ends depth 12 fits 4000
+  frames_in_6 octets (Ua false) = search ends depth 12 fits 4000
+  frames_in_6 octets (Dm true) = search ends depth 12 fits 4000
+  frames_in_6 octets (Dm false) = search ends depth 12 fits 4000
+  frames_in_6 octets other = search ends depth 12 fits 4000
 
   pub t200_leads_6 : Leads (Bound t (down AwaitingRelease)) (t200_in_6 t) (Bound t settled)
   t200_leads_6 = search ends depth 12 fits 4000

@@ -1,5 +1,5 @@
 -- Each row of the tables tells at most two notes.
-use Rattle.std.proofs.Common.{◌≡◌, ℕ, ◌≤◌, Bool, true, false, cond, not, ◌&&◌, List, [], ◌∷◌, length, Option, Some, None, is_some, ◌⊎◌, inl, inr, refl, sym, ap, ◌∙◌, arith, length-append}
+use Rattle.std.proofs.Common.{◌≡◌, ℕ, ◌+◌, ◌≤◌, zero-add, Bool, true, false, cond, not, ◌&&◌, List, [], ◌∷◌, ◌++◌, length, Option, Some, None, is_some, ◌⊎◌, inl, inr, refl, sym, ap, ◌∙◌, arith, length-append}
 use Rattle.lapd_frame.specs.declared.controls.Control.{Control}
 use Rattle.lapd_frame.specs.declared.controls.Control.TheVariants.{Information, ReceiveReady, ReceiveNotReady, Reject, Sabme, Disc, Ui, Ua, Dm, Frmr, Xid}
 use Rattle.lapd_frame.specs.declared.notes.Note.{Note}
@@ -26,60 +26,69 @@ use Rattle.lapd_link_machine.specs.declared.frames.ControlFrame.{ControlFrame}
 use Rattle.lapd_frame.specs.declared.refusals.Refusal.{Refusal}
 use Rattle.lapd_link_machine.specs.Offers
 use Rattle.std.specs.List.{list_any}
+use Rattle.lapd_frame.specs.declared.timers.Timer.{Timer}
 use Rattle.lapd_frame.specs.declared.timers.Order.{Order}
 use Rattle.lapd_frame.specs.declared.timers.Order.TheVariants.{Start, Stop}
 use Rattle.lapd_link_machine.specs.Notes.{is_data, is_unit}
-use Rattle.lapd_link_machine.specs.Told.{runs, timer_at, order_for, orders_for}
+use Rattle.lapd_link_machine.specs.Told.{runs, timer_at, order_for, orders_for, starts}
 use Rattle.lapd_link_machine.proofs.Leads.{Leads}
 use Rattle.lapd_link_machine.proofs.Telling.{Notes, no_more, another, how_many, Telling, HasTold, Told, rows, words}
 
+-- any frame but a UI
+abbrev IsNoUnit : Control → Type 0
+IsNoUnit (Ui p) = ⊥
+IsNoUnit other = Unit {0}
+
 module _ (t : Terms) where
-  pub frames_in_4 : (control : Control) → Leads (Telling 2 (another (another no_more))) (frame_in_4 t control) (HasTold 2)
-  frames_in_4 (Ua true) = search rows depth 12 fits 4000
-  frames_in_4 (Ua false) = search rows depth 12 fits 4000
-  frames_in_4 other = search rows depth 12 fits 4000
+  pub frames_in_4 : (octets : List ℕ) (control : Control) → IsNoUnit control → Leads (Telling 2 (another (another no_more))) (frame_in_4 t octets control) (HasTold 2)
+  frames_in_4 octets (Ua true) h = search rows depth 12 fits 4000
+  frames_in_4 octets (Ua false) h = search rows depth 12 fits 4000
+  frames_in_4 octets (Ui p) h = absurd h
+  frames_in_4 octets other h = search rows depth 12 fits 4000
 
-  pub frames_in_5 : (control : Control) → Leads (Telling 2 (another (another no_more))) (frame_in_5 t control) (HasTold 2)
-  frames_in_5 (Ua true) = search rows depth 12 fits 4000
-  frames_in_5 (Ua false) = search rows depth 12 fits 4000
-  frames_in_5 (Dm true) = search rows depth 12 fits 4000
-  frames_in_5 (Dm false) = search rows depth 12 fits 4000
-  frames_in_5 other = search rows depth 12 fits 4000
+  pub frames_in_5 : (octets : List ℕ) (control : Control) → IsNoUnit control → Leads (Telling 2 (another (another no_more))) (frame_in_5 t octets control) (HasTold 2)
+  frames_in_5 octets (Ua true) h = search rows depth 12 fits 4000
+  frames_in_5 octets (Ua false) h = search rows depth 12 fits 4000
+  frames_in_5 octets (Dm true) h = search rows depth 12 fits 4000
+  frames_in_5 octets (Dm false) h = search rows depth 12 fits 4000
+  frames_in_5 octets (Ui p) h = absurd h
+  frames_in_5 octets other h = search rows depth 12 fits 4000
 
-  pub frames_in_6 : (control : Control) → Leads (Telling 2 (another (another no_more))) (frame_in_6 t control) (HasTold 2)
-  frames_in_6 (Ua true) = search rows depth 12 fits 4000
-  frames_in_6 (Ua false) = search rows depth 12 fits 4000
-  frames_in_6 (Dm true) = search rows depth 12 fits 4000
-  frames_in_6 (Dm false) = search rows depth 12 fits 4000
-  frames_in_6 other = search rows depth 12 fits 4000
+  pub frames_in_6 : (octets : List ℕ) (control : Control) → IsNoUnit control → Leads (Telling 2 (another (another no_more))) (frame_in_6 t octets control) (HasTold 2)
+  frames_in_6 octets (Ua true) h = search rows depth 12 fits 4000
+  frames_in_6 octets (Ua false) h = search rows depth 12 fits 4000
+  frames_in_6 octets (Dm true) h = search rows depth 12 fits 4000
+  frames_in_6 octets (Dm false) h = search rows depth 12 fits 4000
+  frames_in_6 octets (Ui p) h = absurd h
+  frames_in_6 octets other h = search rows depth 12 fits 4000
 
-  pub frames_in_7 : (b : Bool) (octets : List ℕ) (control : Control) → Leads (Telling 2 (another (another no_more))) (Established.frame_in_7 t b octets control) (HasTold 2)
-  frames_in_7 b octets (Information ns nr p) = search rows depth 12 fits 4000
-  frames_in_7 b octets (ReceiveReady nr pf) = search rows depth 12 fits 4000
-  frames_in_7 b octets (ReceiveNotReady nr pf) = search rows depth 12 fits 4000
-  frames_in_7 b octets (Reject nr pf) = search rows depth 12 fits 4000
-  frames_in_7 b octets (Sabme p) = search rows depth 12 fits 4000
-  frames_in_7 b octets (Disc p) = search rows depth 12 fits 4000
-  frames_in_7 b octets (Ua f) = search rows depth 12 fits 4000
-  frames_in_7 b octets (Dm true) = search rows depth 12 fits 4000
-  frames_in_7 b octets (Dm false) = search rows depth 12 fits 4000
-  frames_in_7 b octets (Frmr f) = search rows depth 12 fits 4000
-  frames_in_7 b octets (Ui p) = search rows depth 12 fits 4000
-  frames_in_7 b octets (Xid pf) = search rows depth 12 fits 4000
+  pub frames_in_7 : (b : Bool) (octets : List ℕ) (control : Control) → IsNoUnit control → Leads (Telling 2 (another (another no_more))) (Established.frame_in_7 t b octets control) (HasTold 2)
+  frames_in_7 b octets (Information ns nr p) h = search rows depth 12 fits 4000
+  frames_in_7 b octets (ReceiveReady nr pf) h = search rows depth 12 fits 4000
+  frames_in_7 b octets (ReceiveNotReady nr pf) h = search rows depth 12 fits 4000
+  frames_in_7 b octets (Reject nr pf) h = search rows depth 12 fits 4000
+  frames_in_7 b octets (Sabme p) h = search rows depth 12 fits 4000
+  frames_in_7 b octets (Disc p) h = search rows depth 12 fits 4000
+  frames_in_7 b octets (Ua f) h = search rows depth 12 fits 4000
+  frames_in_7 b octets (Dm true) h = search rows depth 12 fits 4000
+  frames_in_7 b octets (Dm false) h = search rows depth 12 fits 4000
+  frames_in_7 b octets (Frmr f) h = search rows depth 12 fits 4000
+  frames_in_7 b octets (Ui p) h = absurd h
+  frames_in_7 b octets (Xid pf) h = search rows depth 12 fits 4000
 
-  pub frames_in_8 : (b : Bool) (octets : List ℕ) (control : Control) → Leads (Telling 2 (another (another no_more))) (TimerRecovery.frame_in_8 t b octets control) (HasTold 2)
-  frames_in_8 b octets (Information ns nr p) = search rows depth 12 fits 4000
-  frames_in_8 b octets (ReceiveReady nr pf) = search rows depth 12 fits 4000
-  frames_in_8 b octets (ReceiveNotReady nr pf) = search rows depth 12 fits 4000
-  frames_in_8 b octets (Reject nr pf) = search rows depth 12 fits 4000
-  frames_in_8 b octets (Sabme p) = search rows depth 12 fits 4000
-  frames_in_8 b octets (Disc p) = search rows depth 12 fits 4000
-  frames_in_8 b octets (Ua f) = search rows depth 12 fits 4000
-  frames_in_8 b octets (Dm true) = search rows depth 12 fits 4000
-  frames_in_8 b octets (Dm false) = search rows depth 12 fits 4000
-  frames_in_8 b octets (Frmr f) = search rows depth 12 fits 4000
-  frames_in_8 b octets (Ui p) = search rows depth 12 fits 4000
-  frames_in_8 b octets (Xid pf) = search rows depth 12 fits 4000
+  pub frames_in_8 : (b : Bool) (octets : List ℕ) (control : Control) → IsNoUnit control → Leads (Telling 2 (another (another no_more))) (TimerRecovery.frame_in_8 t b octets control) (HasTold 2)
+  frames_in_8 b octets (Information ns nr p) h = search rows depth 12 fits 4000
+  frames_in_8 b octets (ReceiveReady nr pf) h = search rows depth 12 fits 4000
+  frames_in_8 b octets (ReceiveNotReady nr pf) h = search rows depth 12 fits 4000
+  frames_in_8 b octets (Reject nr pf) h = search rows depth 12 fits 4000
+  frames_in_8 b octets (Sabme p) h = search rows depth 12 fits 4000
+  frames_in_8 b octets (Disc p) h = search rows depth 12 fits 4000
+  frames_in_8 b octets (Ua f) h = search rows depth 12 fits 4000
+  frames_in_8 b octets (Dm true) h = search rows depth 12 fits 4000
+  frames_in_8 b octets (Dm false) h = search rows depth 12 fits 4000
+  frames_in_8 b octets (Frmr f) h = search rows depth 12 fits 4000
+  frames_in_8 b octets (Ui p) h = absurd h
+  frames_in_8 b octets (Xid pf) h = search rows depth 12 fits 4000
 
   pub failed_tells : (e : ErrorCode) → Leads (Telling 2 (another (another no_more))) (MultipleFrame.failed t e) (HasTold 2)
   failed_tells e = search rows depth 12 fits 4000
@@ -115,11 +124,11 @@ module _ (t : Terms) where
   clear_busy_tells = search rows depth 12 fits 4000
 
   pub granted_tells : (request : Events.Request) → Leads (Telling 2 (another (another no_more))) (λ c. Requests.granted t request c) (HasTold 2)
-  granted_tells Events.establish = search rows depth 12 fits 4000
-  granted_tells Events.release = record { leads = λ c h. (release_tells c.link.state).leads c h }
-  granted_tells (Events.transfer octets) = search rows depth 12 fits 4000
-  granted_tells Events.set_busy = record { leads = λ c h. set_busy_tells.leads c h }
-  granted_tells Events.clear_busy = record { leads = λ c h. clear_busy_tells.leads c h }
+  granted_tells Events.Establish = search rows depth 12 fits 4000
+  granted_tells Events.Release = record { leads = λ c h. (release_tells c.link.state).leads c h }
+  granted_tells (Events.Data octets) = search rows depth 12 fits 4000
+  granted_tells Events.SetBusy = record { leads = λ c h. set_busy_tells.leads c h }
+  granted_tells Events.ClearBusy = record { leads = λ c h. clear_busy_tells.leads c h }
 
   pub cleared_tells : (here : State) → Leads (Telling 1 (another no_more)) (Machine.told_of_clearing here t) (Telling 1 no_more)
   cleared_tells TeiAssigned = search words
@@ -136,13 +145,13 @@ module _ (t : Terms) where
   unfolding how_many
   two l x = x.leads (begun l) (begins (another (another no_more)) 2 (omega arith) l)
 
-  frames-by-state : (here : State) (b : Bool) (octets : List ℕ) (control : Control)
+  frames-by-state : (here : State) (b : Bool) (octets : List ℕ) (control : Control) → IsNoUnit control
       → Leads (Telling 2 (another (another no_more))) (Machine.frame_in here t b octets control) (HasTold 2)
-  frames-by-state TeiAssigned b octets control = frames_in_4 control
-  frames-by-state AwaitingEstablishment b octets control = frames_in_5 control
-  frames-by-state AwaitingRelease b octets control = frames_in_6 control
-  frames-by-state Established b octets control = frames_in_7 b octets control
-  frames-by-state TimerRecovery b octets control = frames_in_8 b octets control
+  frames-by-state TeiAssigned b octets control h = frames_in_4 octets control h
+  frames-by-state AwaitingEstablishment b octets control h = frames_in_5 octets control h
+  frames-by-state AwaitingRelease b octets control h = frames_in_6 octets control h
+  frames-by-state Established b octets control h = frames_in_7 b octets control h
+  frames-by-state TimerRecovery b octets control h = frames_in_8 b octets control h
 
   -- what is told: notes of data where contents are delivered, and unit data only where none are
   TellsOf : Course → Type 0
@@ -152,24 +161,31 @@ module _ (t : Terms) where
       → (length ns ≤ 2) × (list_any is_data ns ≡ is_some d) × ((d ≡ None) ⊎ (u ≡ None)) × (list_any is_unit ns ≡ is_some u)
   from-told h = (h.count, h.data_told, inr h.no_unit, h.no_note ∙ sym (ap is_some h.no_unit))
 
-  units : (b : Bool) (octets : List ℕ) (l : Link) → TellsOf (by_bit b Words.refuse_frame (Words.deliver_unit t octets) (begun l))
+  units : (b : Bool) (octets : List ℕ) (l : Link) → TellsOf (by_bit b Words.leave_unserved (Words.deliver_unit t octets) (begun l))
   unfolding TellsOf
   units true octets l = (omega arith, refl, inl refl, refl)
   units false octets l = (omega arith, refl, inl refl, refl)
 
+  unit-tells : (here : State) (b : Bool) (octets : List ℕ) (p : Bool) (l : Link) → TellsOf (Machine.frame_in here t b octets (Ui p) (begun l))
+  unit-tells TeiAssigned b octets p l = units _ octets l
+  unit-tells AwaitingEstablishment b octets p l = units _ octets l
+  unit-tells AwaitingRelease b octets p l = units _ octets l
+  unit-tells Established b octets p l = units _ octets l
+  unit-tells TimerRecovery b octets p l = units _ octets l
+
   frame-tells : (b : Bool) (octets : List ℕ) (control : Control) (l : Link) → TellsOf (Machine.frame_step t b octets control (begun l))
   unfolding TellsOf
-  frame-tells b octets (Ui p) l = units _ octets l
-  frame-tells b octets (Xid pf) l = (omega arith, refl, inl refl, refl)
-  frame-tells b octets (Information ns nr p) l = from-told (two l (frames-by-state l.state b octets (Information ns nr p)))
-  frame-tells b octets (ReceiveReady nr pf) l = from-told (two l (frames-by-state l.state b octets (ReceiveReady nr pf)))
-  frame-tells b octets (ReceiveNotReady nr pf) l = from-told (two l (frames-by-state l.state b octets (ReceiveNotReady nr pf)))
-  frame-tells b octets (Reject nr pf) l = from-told (two l (frames-by-state l.state b octets (Reject nr pf)))
-  frame-tells b octets (Sabme p) l = from-told (two l (frames-by-state l.state b octets (Sabme p)))
-  frame-tells b octets (Disc p) l = from-told (two l (frames-by-state l.state b octets (Disc p)))
-  frame-tells b octets (Ua f) l = from-told (two l (frames-by-state l.state b octets (Ua f)))
-  frame-tells b octets (Dm f) l = from-told (two l (frames-by-state l.state b octets (Dm f)))
-  frame-tells b octets (Frmr f) l = from-told (two l (frames-by-state l.state b octets (Frmr f)))
+  frame-tells b octets (Ui p) l = unit-tells l.state b octets p l
+  frame-tells b octets (Xid pf) l = from-told (two l (frames-by-state l.state b octets (Xid pf) tt))
+  frame-tells b octets (Information ns nr p) l = from-told (two l (frames-by-state l.state b octets (Information ns nr p) tt))
+  frame-tells b octets (ReceiveReady nr pf) l = from-told (two l (frames-by-state l.state b octets (ReceiveReady nr pf) tt))
+  frame-tells b octets (ReceiveNotReady nr pf) l = from-told (two l (frames-by-state l.state b octets (ReceiveNotReady nr pf) tt))
+  frame-tells b octets (Reject nr pf) l = from-told (two l (frames-by-state l.state b octets (Reject nr pf) tt))
+  frame-tells b octets (Sabme p) l = from-told (two l (frames-by-state l.state b octets (Sabme p) tt))
+  frame-tells b octets (Disc p) l = from-told (two l (frames-by-state l.state b octets (Disc p) tt))
+  frame-tells b octets (Ua f) l = from-told (two l (frames-by-state l.state b octets (Ua f) tt))
+  frame-tells b octets (Dm f) l = from-told (two l (frames-by-state l.state b octets (Dm f) tt))
+  frame-tells b octets (Frmr f) l = from-told (two l (frames-by-state l.state b octets (Frmr f) tt))
 
   nothing-told : (l : Link) → HasTold 2 (begun l)
   nothing-told l = record { count = omega arith; data_told = refl; no_unit = refl; no_note = refl }
@@ -224,6 +240,39 @@ two-orders t before started after =
     let two = one-order (runs T203 started && runs T203 after) (runs T203 before && not (runs T203 after)) (Start (timer_at t T203)) (Stop (timer_at t T203)) in
     let whole = length-append (order_for t T200 before started after) (order_for t T203 before started after) in
     omega (arith, one, two, whole)
+
+-- At most one of them starts a timer.
+starts-append : (xs ys : List Order) → starts (xs ++ ys) ≡ starts xs + starts ys
+unfolding starts
+starts-append [] ys = sym (zero-add (starts ys))
+starts-append (x ∷ xs) ys =
+    let more : starts (xs ++ ys) ≡ starts xs + starts ys = starts-append xs ys in
+    omega (arith, more)
+
+starts-order : (a b : Bool) (x : Timer) → starts (cond a (Start x ∷ []) (cond b (Stop x ∷ []) [])) ≡ cond {A = ℕ} a 1 0
+unfolding starts
+starts-order true b x = refl
+starts-order false true x = refl
+starts-order false false x = refl
+
+at-most_one : (b : Bool) → cond {A = ℕ} b 1 0 ≤ 1
+at-most_one true = omega arith
+at-most_one false = omega arith
+
+one-started : (started after : Option LinkTimer)
+    → cond {A = ℕ} (runs T200 started && runs T200 after) 1 0 + cond {A = ℕ} (runs T203 started && runs T203 after) 1 0 ≤ 1
+one-started None after = omega arith
+one-started (Some T200) after = let one = at-most_one (runs T200 (Some T200) && runs T200 after) in omega (arith, one)
+one-started (Some T203) after = let one = at-most_one (runs T203 (Some T203) && runs T203 after) in omega (arith, one)
+
+pub one-start : (t : Terms) (before started after : Option LinkTimer) → starts (orders_for t before started after) ≤ 1
+one-start t before started after =
+    let one : starts (order_for t T200 before started after) ≡ cond {A = ℕ} (runs T200 started && runs T200 after) 1 0 =
+    starts-order (runs T200 started && runs T200 after) (runs T200 before && not (runs T200 after)) (timer_at t T200) in
+    let two : starts (order_for t T203 before started after) ≡ cond {A = ℕ} (runs T203 started && runs T203 after) 1 0 =
+    starts-order (runs T203 started && runs T203 after) (runs T203 before && not (runs T203 after)) (timer_at t T203) in
+    let whole = starts-append (order_for t T200 before started after) (order_for t T203 before started after) in
+    omega (arith, one, two, whole, one-started started after)
 
 stopped : (t : Terms) (before : Option LinkTimer) → length (orders_for t before None None) ≤ 1
 stopped t None = omega arith

@@ -46,7 +46,7 @@ abbrev pub HasTold : ℕ → Course → Type 0
 HasTold total c = Told total c.notes c.delivered c.unit
 
 module _ (total : ℕ) (p : Notes) where
-  pub refuse_tells : Leads (Telling total p) (Words.refuse_frame) (Telling total p)
+  pub refuse_tells : Leads (Telling total p) (Words.leave_unserved) (Telling total p)
   refuse_tells = record { leads = λ c h. h }
 
   pub peer_busy_tells : (b : Bool) → Leads (Telling total p) (Words.peer_busy_is b) (Telling total p)

@@ -26,30 +26,30 @@ use Rattle.lapd_link_machine.specs.Requests
 use Rattle.lapd_link_machine.specs.Offers
 use Rattle.lapd_link_machine.specs.Machine
 use Rattle.lapd_link_machine.specs.Timed.{IsTimed, IsTimedIn}
-use Rattle.lapd_link_machine.proofs.Leads.{Leads, bit_leads}
-use Rattle.lapd_link_machine.proofs.Timing.{TimedBy, At, Ends, at_ends, deliver_unit_timed, refuse_timed, transfer_timed, failed_timed, acknowledge_start_7, send_again_7, to_named, acknowledged_7, acknowledged_by_information_7, acknowledge_8, ends, information_timed, supervisory_7, supervisory_8}
+use Rattle.lapd_link_machine.proofs.Leads.{Leads}
+use Rattle.lapd_link_machine.proofs.Timing.{TimedBy, At, Ends, at_ends, transfer_timed, failed_timed, acknowledge_start_7, send_again_7, to_named, acknowledged_7, acknowledged_by_information_7, acknowledge_8, ends, information_timed, supervisory_7, supervisory_8}
 
 module _ (t : Terms) where
   -- the rows
-  frames_in_4 : (control : Control) → Leads (At TeiAssigned) (frame_in_4 t control) Ends
-  frames_in_4 (Sabme p) = search ends depth 12 fits 4000
-  frames_in_4 (Ua true) = search ends depth 12 fits 4000
-  frames_in_4 (Ua false) = search ends depth 12 fits 4000
-  frames_in_4 other = search ends depth 12 fits 4000
+  frames_in_4 : (octets : List ℕ) (control : Control) → Leads (At TeiAssigned) (frame_in_4 t octets control) Ends
+  frames_in_4 octets (Sabme p) = search ends depth 12 fits 4000
+  frames_in_4 octets (Ua true) = search ends depth 12 fits 4000
+  frames_in_4 octets (Ua false) = search ends depth 12 fits 4000
+  frames_in_4 octets other = search ends depth 12 fits 4000
 
-  frames_in_5 : (control : Control) → Leads (At AwaitingEstablishment) (frame_in_5 t control) Ends
-  frames_in_5 (Ua true) = search ends depth 12 fits 4000
-  frames_in_5 (Ua false) = search ends depth 12 fits 4000
-  frames_in_5 (Dm true) = search ends depth 12 fits 4000
-  frames_in_5 (Dm false) = search ends depth 12 fits 4000
-  frames_in_5 other = search ends depth 12 fits 4000
+  frames_in_5 : (octets : List ℕ) (control : Control) → Leads (At AwaitingEstablishment) (frame_in_5 t octets control) Ends
+  frames_in_5 octets (Ua true) = search ends depth 12 fits 4000
+  frames_in_5 octets (Ua false) = search ends depth 12 fits 4000
+  frames_in_5 octets (Dm true) = search ends depth 12 fits 4000
+  frames_in_5 octets (Dm false) = search ends depth 12 fits 4000
+  frames_in_5 octets other = search ends depth 12 fits 4000
 
-  frames_in_6 : (control : Control) → Leads (At AwaitingRelease) (frame_in_6 t control) Ends
-  frames_in_6 (Ua true) = search ends depth 12 fits 4000
-  frames_in_6 (Ua false) = search ends depth 12 fits 4000
-  frames_in_6 (Dm true) = search ends depth 12 fits 4000
-  frames_in_6 (Dm false) = search ends depth 12 fits 4000
-  frames_in_6 other = search ends depth 12 fits 4000
+  frames_in_6 : (octets : List ℕ) (control : Control) → Leads (At AwaitingRelease) (frame_in_6 t octets control) Ends
+  frames_in_6 octets (Ua true) = search ends depth 12 fits 4000
+  frames_in_6 octets (Ua false) = search ends depth 12 fits 4000
+  frames_in_6 octets (Dm true) = search ends depth 12 fits 4000
+  frames_in_6 octets (Dm false) = search ends depth 12 fits 4000
+  frames_in_6 octets other = search ends depth 12 fits 4000
 
   sabme_timed : (here : State) (p : Bool) → Leads (At here) (MultipleFrame.sabme_in_7_8 t p) Ends
   sabme_timed here p = search ends depth 12 fits 4000
@@ -119,9 +119,9 @@ module _ (t : Terms) where
   clear_busy_timed here = search ends depth 12 fits 4000
 
   frame_timed : (here : State) (b : Bool) (octets : List ℕ) (control : Control) → Leads (At here) (Machine.frame_in here t b octets control) Ends
-  frame_timed TeiAssigned b octets control = frames_in_4 control
-  frame_timed AwaitingEstablishment b octets control = frames_in_5 control
-  frame_timed AwaitingRelease b octets control = frames_in_6 control
+  frame_timed TeiAssigned b octets control = frames_in_4 octets control
+  frame_timed AwaitingEstablishment b octets control = frames_in_5 octets control
+  frame_timed AwaitingRelease b octets control = frames_in_6 octets control
   frame_timed Established b octets control = frames_in_7 b octets control
   frame_timed TimerRecovery b octets control = frames_in_8 b octets control
 
@@ -148,24 +148,14 @@ module _ (t : Terms) (l : Link) (timed : IsTimed l) where
   unchanged = record { timer = of-law l.state l timed.timer }
 
   frames : (b : Bool) (octets : List ℕ) (control : Control) → Ends (Machine.frame_step t b octets control (begun l))
-  frames b octets (Ui p) = (at_ends (bit_leads _ (refuse_timed l.state) (deliver_unit_timed l.state t octets))).leads (begun l) here
-  frames b octets (Xid pf) = unchanged
-  frames b octets (Information ns nr p) = (frame_timed t l.state b octets (Information ns nr p)).leads (begun l) here
-  frames b octets (ReceiveReady nr pf) = (frame_timed t l.state b octets (ReceiveReady nr pf)).leads (begun l) here
-  frames b octets (ReceiveNotReady nr pf) = (frame_timed t l.state b octets (ReceiveNotReady nr pf)).leads (begun l) here
-  frames b octets (Reject nr pf) = (frame_timed t l.state b octets (Reject nr pf)).leads (begun l) here
-  frames b octets (Sabme p) = (frame_timed t l.state b octets (Sabme p)).leads (begun l) here
-  frames b octets (Disc p) = (frame_timed t l.state b octets (Disc p)).leads (begun l) here
-  frames b octets (Ua f) = (frame_timed t l.state b octets (Ua f)).leads (begun l) here
-  frames b octets (Dm f) = (frame_timed t l.state b octets (Dm f)).leads (begun l) here
-  frames b octets (Frmr f) = (frame_timed t l.state b octets (Frmr f)).leads (begun l) here
+  frames b octets control = (frame_timed t l.state b octets control).leads (begun l) here
 
   granted : (request : Events.Request) → Ends (Requests.granted t request (begun l))
-  granted Events.establish = (establish_timed t).leads (begun l) here
-  granted Events.release = (release_timed t l.state).leads (begun l) here
-  granted (Events.transfer octets) = (at_ends (transfer_timed l.state octets)).leads (begun l) here
-  granted Events.set_busy = (set_busy_timed t l.state).leads (begun l) here
-  granted Events.clear_busy = (clear_busy_timed t l.state).leads (begun l) here
+  granted Events.Establish = (establish_timed t).leads (begun l) here
+  granted Events.Release = (release_timed t l.state).leads (begun l) here
+  granted (Events.Data octets) = (at_ends (transfer_timed l.state octets)).leads (begun l) here
+  granted Events.SetBusy = (set_busy_timed t l.state).leads (begun l) here
+  granted Events.ClearBusy = (clear_busy_timed t l.state).leads (begun l) here
 
   requests : (request : Events.Request) (o : Option Refusal) → Ends (elim o as (λ o. Course) [ None ↦ Requests.granted t request (begun l) | Some _ ↦ begun l ])
   requests request None = granted request

@@ -68,7 +68,7 @@ module _ (here : State) where
   pub deliver_unit_timed : (t : Terms) (octets : List ℕ) → Leads (At here) (Words.deliver_unit t octets) (At here)
   deliver_unit_timed t octets = record { leads = λ c h. h }
 
-  pub refuse_timed : Leads (At here) (Words.refuse_frame) (At here)
+  pub refuse_timed : Leads (At here) (Words.leave_unserved) (At here)
   refuse_timed = record { leads = λ c h. h }
 
   pub peer_busy_timed : (b : Bool) → Leads (At here) (Words.peer_busy_is b) (At here)
@@ -224,7 +224,7 @@ acknowledged_by_information_7 m = depending_leads _ (acknowledge_7 m) (acknowled
 pub acknowledge_8 : (m : ℕ) → Leads (Named TimerRecovery m) (Words.acknowledge m) (At TimerRecovery)
 acknowledge_8 m = record { leads = λ c h. record { state_is = h.holds.state_is; timer = h.holds.timer } }
 
-pub acknowledged_8 : (final : Bool) (timer : LinkTimer) (m : ℕ) → Leads (Named TimerRecovery m) (TimerRecovery.acknowledged_in_8 final timer m) Ends
+pub acknowledged_8 : (final : Bool) (timer : LinkTimer) (m : ℕ) → Leads (Named TimerRecovery m) (TimerRecovery.acknowledged_in_8 timer final m) Ends
 acknowledged_8 final timer m = bit_leads final (recovered_timed timer m) (to_named (acknowledge_8 m))
 
 -- by the N(R): an invalid one, or the one number that it names
@@ -250,14 +250,14 @@ information_timed here t ns nr p octets f x =
 
 -- a supervisory frame
 pub supervisory_7 : (t : Terms) (is_command busy pf : Bool) (nr : Seq) (f : ℕ → Step) → ((m : ℕ) → Leads (Named Established m) (f m) (At Established))
-    → Leads (At Established) (Words.peer_busy_is busy then MultipleFrame.answered t is_command pf then Established.unsolicited t is_command pf then Words.by_number t nr f) Ends
+    → Leads (At Established) (Words.peer_busy_is busy then MultipleFrame.answered t is_command pf then Established.unsolicited t (MultipleFrame.is_final is_command pf) then Words.by_number t nr f) Ends
 supervisory_7 t is_command busy pf nr f x =
     keeping_then (peer_busy_timed Established busy)
     (keeping_then (bit_leads _ (answer_timed Established t) nothing_leads)
     (keeping_then (bit_leads _ (note_timed Established _) nothing_leads) (number_timed t nr f (λ m. to_named (x m)))))
 
 pub supervisory_8 : (t : Terms) (is_command busy pf : Bool) (nr : Seq) (timer : LinkTimer)
-    → Leads (At TimerRecovery) (Words.peer_busy_is busy then MultipleFrame.answered t is_command pf then Words.by_number t nr (TimerRecovery.acknowledged_in_8 (MultipleFrame.is_final is_command pf) timer)) Ends
+    → Leads (At TimerRecovery) (Words.peer_busy_is busy then MultipleFrame.answered t is_command pf then Words.by_number t nr (TimerRecovery.acknowledged_in_8 timer (MultipleFrame.is_final is_command pf))) Ends
 supervisory_8 t is_command busy pf nr timer =
     keeping_then (peer_busy_timed TimerRecovery busy)
     (keeping_then (bit_leads _ (answer_timed TimerRecovery t) nothing_leads)

@@ -17,11 +17,11 @@ pub data Received : Type 0 where
 -- What layer 3 asks for: DL-ESTABLISH, DL-RELEASE and DL-DATA request (clauses 4.1.1.1 to 4.1.1.3), and that own
 -- receiver busy begins or ends (clause 5.6.6).
 pub data Request : Type 0 where
-  establish : Request
-  release : Request
-  transfer : List ℕ → Request
-  set_busy : Request
-  clear_busy : Request
+  Establish : Request
+  Release : Request
+  Data : List ℕ → Request
+  SetBusy : Request
+  ClearBusy : Request
 
 pub data Event : Type 0 where
   -- something came from the terminal

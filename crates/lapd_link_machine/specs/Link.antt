@@ -20,8 +20,8 @@ state_number TimerRecovery = 8
 -- A link. Its numbers never wrap: V(A), V(S) and V(R) are their remainders by 128.
 pub record Link : Type 0 where
   pub state : State
-  -- all contents that layer 3 gave and that were accepted since the numbers were last zero, oldest first,
-  -- without those that were discarded
+  -- the contents that have numbers 0, 1, .. since V(S) was last set to zero, oldest first, sent or to be sent: those
+  -- that were unsent and stayed when it was, and those that were accepted since; without those that were discarded
   pub contents : List (List ℕ)
   -- how many of them are acknowledged, and how many are sent
   pub a : ℕ

@@ -1,8 +1,6 @@
 -- The machine of a data link: what each event makes of it, and what it answers.
-use Rattle.std.specs.Prelude.{ℕ, Bool, nat_lt, List, [], ◌∷◌, length, Option, None, Some, Result, Ok, Err}
+use Rattle.std.specs.Prelude.{ℕ, Bool, List, [], ◌∷◌, Option, None, Some, Result, Ok, Err}
 use Rattle.lapd_frame.specs.declared.controls.Control.{Control}
-use Rattle.lapd_frame.specs.declared.controls.Control.TheVariants.{Information, ReceiveReady, ReceiveNotReady, Reject, Sabme, Disc, Ui, Ua, Dm, Frmr, Xid}
-use Rattle.lapd_frame.specs.declared.notes.Note.TheVariants as notes
 use Rattle.lapd_frame.specs.declared.notes.ErrorCode.{ErrorCode}
 use Rattle.lapd_frame.specs.declared.notes.ErrorCode.TheVariants as code
 use Rattle.lapd_frame.specs.declared.refusals.Refusal.{Refusal}
@@ -14,8 +12,8 @@ use Rattle.lapd_link_machine.specs.declared.terms.Terms.{Terms}
 use Rattle.lapd_link_machine.specs.Link.{Link}
 use Rattle.lapd_link_machine.specs.Events.{Received, frame, undefined, wrong_size, overlong, Request, Event, received, expired, requested, offer, cleared}
 use Rattle.lapd_link_machine.specs.Told.{Told, Given, runs, orders_for}
-use Rattle.lapd_link_machine.specs.Steps.{Sent, Course, begun, Step, ◌then◌, nothing, depending_on, by_bit}
-use Rattle.lapd_link_machine.specs.Words.{note, deliver_unit, refuse_frame, release_indication, release_confirm, begin_anew}
+use Rattle.lapd_link_machine.specs.Steps.{Sent, Course, begun, Step, ◌then◌, nothing, depending_on}
+use Rattle.lapd_link_machine.specs.Words.{release_indication, release_confirm, begin_anew}
 use Rattle.lapd_link_machine.specs.TeiAssigned.{frame_in_4, malformed_in_4}
 use Rattle.lapd_link_machine.specs.AwaitingEstablishment.{frame_in_5, malformed_in_5, t200_in_5}
 use Rattle.lapd_link_machine.specs.AwaitingRelease.{frame_in_6, malformed_in_6, t200_in_6}
@@ -27,34 +25,16 @@ use Rattle.lapd_link_machine.specs.Offers.{offer_step}
 
 -- What comes from the terminal.
 
--- In every state a UI of at most N201 octets is told (clause 5.2.3); a longer one is not served (profile).
-abbrev pub unit_data : Terms → List ℕ → Step
-unit_data t octets = by_bit (nat_lt t.n201 (length octets)) refuse_frame (deliver_unit t octets)
-
--- In every state an XID is told, and not answered (profile).
-abbrev pub xid : Terms → Step
-xid t = note (notes.Xid t.service t.tei)
-
--- The other frames, by state.
+-- A frame, by state.
 abbrev pub frame_in : State → Terms → Bool → List ℕ → Control → Step
-frame_in TeiAssigned t is_command octets control = frame_in_4 t control
-frame_in AwaitingEstablishment t is_command octets control = frame_in_5 t control
-frame_in AwaitingRelease t is_command octets control = frame_in_6 t control
+frame_in TeiAssigned t is_command octets control = frame_in_4 t octets control
+frame_in AwaitingEstablishment t is_command octets control = frame_in_5 t octets control
+frame_in AwaitingRelease t is_command octets control = frame_in_6 t octets control
 frame_in Established t is_command octets control = frame_in_7 t is_command octets control
 frame_in TimerRecovery t is_command octets control = frame_in_8 t is_command octets control
 
 abbrev pub frame_step : Terms → Bool → List ℕ → Control → Step
-frame_step t is_command octets (Ui p) c = unit_data t octets c
-frame_step t is_command octets (Xid pf) c = xid t c
-frame_step t is_command octets (Information ns nr p) c = frame_in c.link.state t is_command octets (Information ns nr p) c
-frame_step t is_command octets (ReceiveReady nr pf) c = frame_in c.link.state t is_command octets (ReceiveReady nr pf) c
-frame_step t is_command octets (ReceiveNotReady nr pf) c = frame_in c.link.state t is_command octets (ReceiveNotReady nr pf) c
-frame_step t is_command octets (Reject nr pf) c = frame_in c.link.state t is_command octets (Reject nr pf) c
-frame_step t is_command octets (Sabme p) c = frame_in c.link.state t is_command octets (Sabme p) c
-frame_step t is_command octets (Disc p) c = frame_in c.link.state t is_command octets (Disc p) c
-frame_step t is_command octets (Ua f) c = frame_in c.link.state t is_command octets (Ua f) c
-frame_step t is_command octets (Dm f) c = frame_in c.link.state t is_command octets (Dm f) c
-frame_step t is_command octets (Frmr f) c = frame_in c.link.state t is_command octets (Frmr f) c
+frame_step t is_command octets control c = frame_in c.link.state t is_command octets control c
 
 -- Frames that the grammar doesn't have, or that were too long to keep (clause 5.8.5).
 abbrev pub malformed_in : State → Terms → ErrorCode → Step

@@ -3,7 +3,8 @@
 use Rattle.std.specs.Prelude.{ℕ, Bool, true, false, not, ◌&&◌, ◌==◌, nat_lt, List, [], ◌∷◌, ◌++◌, length}
 use Rattle.lapd_seq.specs.declared.numbers.Seq.{Seq}
 use Rattle.lapd_seq.specs.Numbers.{seq}
-use Rattle.lapd_frame.specs.declared.controls.Control.TheVariants.{Disc, Ua}
+use Rattle.lapd_frame.specs.declared.controls.Control.{Control}
+use Rattle.lapd_frame.specs.declared.controls.Control.TheVariants.{Information, ReceiveReady, ReceiveNotReady, Reject, Sabme, Disc, Ui, Ua, Dm, Frmr, Xid}
 use Rattle.lapd_frame.specs.declared.notes.ErrorCode.{ErrorCode}
 use Rattle.lapd_frame.specs.declared.notes.ErrorCode.TheVariants as code
 use Rattle.lapd_link_machine.specs.declared.states.State.TheVariants.{TeiAssigned, AwaitingRelease, Established}
@@ -11,7 +12,7 @@ use Rattle.lapd_link_machine.specs.declared.timers.LinkTimer.TheVariants.{T200, 
 use Rattle.lapd_link_machine.specs.declared.terms.Terms.{Terms}
 use Rattle.lapd_link_machine.specs.Link.{Link, has_outstanding, is_own_busy, is_rejecting}
 use Rattle.lapd_link_machine.specs.Steps.{Step, ◌then◌, nothing, depending_on, by_bit, changed}
-use Rattle.lapd_link_machine.specs.Words.{error, deliver, establish_indication, release_indication, clear_flags, pending_is, rejecting_is, own_busy_is, repeats_are, zero_numbers, discard, count_received, start, no_timer, enter, send, command, response, answer, report_ready, reject, re_establish, by_number}
+use Rattle.lapd_link_machine.specs.Words.{error, deliver, establish_indication, release_indication, unit_data, xid, peer_busy_is, clear_flags, pending_is, rejecting_is, own_busy_is, repeats_are, zero_numbers, discard, count_received, start, no_timer, enter, send, command, response, answer, report_ready, reject, re_establish, by_number}
 
 -- Requests of layer 3.
 
@@ -87,10 +88,57 @@ abbrev pub information_in_7_8 : Terms → Seq → Seq → Bool → List ℕ → 
 information_in_7_8 t ns nr p octets effect =
     by_bit (nat_lt t.n201 (length octets)) (failed t code.O) (contents_in_7_8 t ns p octets then by_number t nr effect)
 
--- Supervisory frames: a command with P=1 is answered (clauses 5.6.3 to 5.6.5).
+-- Supervisory frames.
+
+-- A command with P=1 is answered (clauses 5.6.3 to 5.6.5).
 abbrev pub answered : Terms → Bool → Bool → Step
 answered t is_command pf = by_bit (is_command && pf) (answer t) nothing
 
--- A response with F=1.
+-- A response with F=1 is final.
 abbrev pub is_final : Bool → Bool → Bool
 is_final is_command pf = not is_command && pf
+
+-- What only one of the two states does.
+pub record Particulars : Type 0 where
+  -- what a valid N(R) does that an I-frame brings,
+  pub by_information : ℕ → Step
+  -- and one that RR, RNR or REJ brings; the bit says whether the frame is final
+  pub by_rr : Bool → ℕ → Step
+  pub by_rnr : Bool → ℕ → Step
+  pub by_rej : Bool → ℕ → Step
+  -- what is told of a supervisory frame, before its N(R); the bit says whether it is final
+  pub told_of : Bool → Step
+  -- DM with F=1
+  pub by_dm : Step
+
+-- RR, RNR and REJ: the terminal is busy from now on, or it is not.
+abbrev pub supervisory : Terms → Particulars → Bool → Bool → Bool → Seq → (Bool → ℕ → Step) → Step
+supervisory t own busy is_command pf nr effect =
+    peer_busy_is busy then answered t is_command pf then own.told_of (is_final is_command pf)
+    then by_number t nr (effect (is_final is_command pf))
+
+-- The frames of both states.
+abbrev pub frame_in_7_8 : Particulars → Terms → Bool → List ℕ → Control → Step
+-- clauses 5.6.2, 5.6.3 and 5.6.7
+frame_in_7_8 own t is_command octets (Information ns nr p) = information_in_7_8 t ns nr p octets own.by_information
+-- clauses 5.6.3.2 and 5.6.7
+frame_in_7_8 own t is_command octets (ReceiveReady nr pf) = supervisory t own false is_command pf nr own.by_rr
+-- clauses 5.6.5 and 5.6.7
+frame_in_7_8 own t is_command octets (ReceiveNotReady nr pf) = supervisory t own true is_command pf nr own.by_rnr
+-- clauses 5.6.4 and 5.6.7
+frame_in_7_8 own t is_command octets (Reject nr pf) = supervisory t own false is_command pf nr own.by_rej
+-- clauses 5.5.1.2 and 5.7
+frame_in_7_8 own t is_command octets (Sabme p) = sabme_in_7_8 t p
+-- clause 5.5.3.2
+frame_in_7_8 own t is_command octets (Disc p) = disc_in_7_8 t p
+-- clause 5.8.7
+frame_in_7_8 own t is_command octets (Ua f) = ua_in_7_8 t f
+frame_in_7_8 own t is_command octets (Dm true) = own.by_dm
+-- clause 5.7.1
+frame_in_7_8 own t is_command octets (Dm false) = failed t code.E
+-- clause 5.8.6
+frame_in_7_8 own t is_command octets (Frmr f) = failed t code.K
+-- clause 5.2.3
+frame_in_7_8 own t is_command octets (Ui p) = unit_data t octets
+-- XID (profile)
+frame_in_7_8 own t is_command octets (Xid pf) = xid t

@@ -6,7 +6,7 @@ use Rattle.lapd_link_machine.specs.declared.states.State.{State}
 use Rattle.lapd_link_machine.specs.declared.states.State.TheVariants.{TeiAssigned, AwaitingEstablishment, AwaitingRelease, Established, TimerRecovery}
 use Rattle.lapd_link_machine.specs.declared.terms.Terms.{Terms}
 use Rattle.lapd_link_machine.specs.Link.{Link, queue_of, is_multiple_frame}
-use Rattle.lapd_link_machine.specs.Events.{Request, establish, release, transfer, set_busy, clear_busy}
+use Rattle.lapd_link_machine.specs.Events.{Request, Establish, Release, Data, SetBusy, ClearBusy}
 use Rattle.lapd_link_machine.specs.Steps.{Step, nothing}
 use Rattle.lapd_link_machine.specs.TeiAssigned.{establish_in_4, release_in_4}
 use Rattle.lapd_link_machine.specs.MultipleFrame.{release_in_7_8, transfer_in_7_8, set_busy_in_7_8, clear_busy_in_7_8}
@@ -20,11 +20,11 @@ is_down Established = false
 is_down TimerRecovery = false
 
 abbrev pub serves : State → Request → Bool
-serves state establish = is_down state
-serves state release = is_down state || is_multiple_frame state
-serves state (transfer octets) = is_multiple_frame state
-serves state set_busy = is_multiple_frame state
-serves state clear_busy = is_multiple_frame state
+serves state Establish = is_down state
+serves state Release = is_down state || is_multiple_frame state
+serves state (Data octets) = is_multiple_frame state
+serves state SetBusy = is_multiple_frame state
+serves state ClearBusy = is_multiple_frame state
 
 -- Whether the queue has as many contents as it may.
 abbrev pub is_queue_full : Terms → Link → Bool
@@ -39,11 +39,11 @@ refusal_of_contents t l pool_is_full octets =
     else None
 
 abbrev pub refusal_for_room : Terms → Link → Bool → Request → Option Refusal
-refusal_for_room t l pool_is_full establish = None
-refusal_for_room t l pool_is_full release = None
-refusal_for_room t l pool_is_full (transfer octets) = refusal_of_contents t l pool_is_full octets
-refusal_for_room t l pool_is_full set_busy = None
-refusal_for_room t l pool_is_full clear_busy = None
+refusal_for_room t l pool_is_full Establish = None
+refusal_for_room t l pool_is_full Release = None
+refusal_for_room t l pool_is_full (Data octets) = refusal_of_contents t l pool_is_full octets
+refusal_for_room t l pool_is_full SetBusy = None
+refusal_for_room t l pool_is_full ClearBusy = None
 
 -- Why a request is refused: the first refusal that holds, or none (profile).
 abbrev pub refusal : Terms → Link → Bool → Request → Option Refusal
@@ -59,11 +59,11 @@ release_in Established t = release_in_7_8 t
 release_in TimerRecovery t = release_in_7_8 t
 
 abbrev pub granted : Terms → Request → Step
-granted t establish c = establish_in_4 t c
-granted t release c = release_in c.link.state t c
-granted t (transfer octets) c = transfer_in_7_8 octets c
-granted t set_busy c = set_busy_in_7_8 t c
-granted t clear_busy c = clear_busy_in_7_8 t c
+granted t Establish c = establish_in_4 t c
+granted t Release c = release_in c.link.state t c
+granted t (Data octets) c = transfer_in_7_8 octets c
+granted t SetBusy c = set_busy_in_7_8 t c
+granted t ClearBusy c = clear_busy_in_7_8 t c
 
 -- A refused request changes nothing (profile).
 abbrev pub request_step : Terms → Request → Bool → Step

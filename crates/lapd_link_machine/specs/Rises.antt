@@ -1,5 +1,5 @@
 -- How many frames a link may still send, and by how much each event lets that rise.
-use Rattle.std.specs.Prelude.{ℕ, ◌+◌, ◌&&◌, Bool, false, List, [], ◌∷◌, length, sum_by, Option, None, Some, is_some, if◌then◌else◌}
+use Rattle.std.specs.Prelude.{ℕ, ◌+◌, ◌≤◌, ◌&&◌, Bool, false, List, [], ◌∷◌, length, sum_by, Option, None, Some, is_some, if◌then◌else◌}
 use Rattle.lapd_seq.specs.declared.numbers.Seq.{Seq}
 use Rattle.lapd_seq.specs.Circle.{named}
 use Rattle.lapd_frame.specs.declared.addresses.Side.TheVariants.{Network}
@@ -10,7 +10,7 @@ use Rattle.lapd_link_machine.specs.declared.states.State.{State}
 use Rattle.lapd_link_machine.specs.declared.states.State.TheVariants.{TeiAssigned, AwaitingEstablishment, AwaitingRelease, Established, TimerRecovery}
 use Rattle.lapd_link_machine.specs.declared.terms.Terms.{Terms}
 use Rattle.lapd_link_machine.specs.Link.{Link, unsent, is_multiple_frame, frame_of}
-use Rattle.lapd_link_machine.specs.Events.{frame, undefined, wrong_size, overlong, establish, release, transfer, set_busy, clear_busy, Event, received, expired, requested, offer, cleared}
+use Rattle.lapd_link_machine.specs.Events.{frame, undefined, wrong_size, overlong, Establish, Release, Data, SetBusy, ClearBusy, Event, received, expired, requested, offer, cleared}
 use Rattle.lapd_link_machine.specs.Requests.{refusal}
 use Rattle.lapd_link_machine.specs.Machine.{is_running, course, after}
 
@@ -27,8 +27,8 @@ window_back AwaitingRelease k = 0
 window_back Established k = 0
 window_back TimerRecovery k = k
 
-abbrev pub waiting : Terms → Link → ℕ
-waiting t l = length l.waiting + unsent l + (if l.pending then 1 else 0) + window_back l.state t.k
+abbrev pub may_send : Terms → Link → ℕ
+may_send t l = length l.waiting + unsent l + (if l.pending then 1 else 0) + window_back l.state t.k
 
 -- How many frames an event sends.
 abbrev pub sent : Terms → Event → Link → ℕ
@@ -71,15 +71,19 @@ price t (requested request pool_is_full) l = if is_some (refusal t l pool_is_ful
 price t offer l = 0
 price t cleared l = 0
 
+-- What an event sends, and what may be sent after it, is at most what might be sent before it, and its price.
+abbrev pub RisesByEvent : Terms → Event → Link → Type 0
+RisesByEvent t e l = sent t e l + may_send t (after t e l) ≤ may_send t l + price t e l
+
 -- By how many slots of the shelf an event lets the link's contents grow: contents that are not refused take one.
 abbrev pub grows : Terms → Event → Link → ℕ
 grows t (received r) l = 0
 grows t (expired timer) l = 0
-grows t (requested establish pool_is_full) l = 0
-grows t (requested release pool_is_full) l = 0
-grows t (requested (transfer octets) pool_is_full) l = if is_some (refusal t l pool_is_full (transfer octets)) then 0 else 1
-grows t (requested set_busy pool_is_full) l = 0
-grows t (requested clear_busy pool_is_full) l = 0
+grows t (requested Establish pool_is_full) l = 0
+grows t (requested Release pool_is_full) l = 0
+grows t (requested (Data octets) pool_is_full) l = if is_some (refusal t l pool_is_full (Data octets)) then 0 else 1
+grows t (requested SetBusy pool_is_full) l = 0
+grows t (requested ClearBusy pool_is_full) l = 0
 grows t offer l = 0
 grows t cleared l = 0
 

@@ -1,6 +1,8 @@
 -- What holds of every link between two events.
-use Rattle.std.specs.Prelude.{◌≡◌, ℕ, ◌+◌, ◌≤◌, false, IsTrue, List, [], length, All, Option, IfSome, unwrap_or}
+use Rattle.std.specs.Prelude.{◌≡◌, ℕ, ◌+◌, ◌≤◌, Bool, true, false, IsTrue, List, [], length, All, Option, IfSome, unwrap_or}
 use Rattle.lapd_frame.specs.declared.addresses.Side.TheVariants.{Network}
+use Rattle.lapd_frame.specs.declared.controls.Control.{Control}
+use Rattle.lapd_frame.specs.declared.controls.Control.TheVariants.{Information, ReceiveReady, ReceiveNotReady, Reject, Sabme, Disc, Ui, Ua, Dm, Frmr, Xid}
 use Rattle.lapd_frame.specs.Grammar.{IsFrame, spelling}
 use Rattle.lapd_link_machine.specs.declared.states.State.{State}
 use Rattle.lapd_link_machine.specs.declared.states.State.TheVariants.{TeiAssigned, AwaitingEstablishment, AwaitingRelease, Established, TimerRecovery}
@@ -29,10 +31,25 @@ IsSettledIn AwaitingRelease l = length l.contents ≡ l.a
 IsSettledIn Established l = Unit {0}
 IsSettledIn TimerRecovery l = Unit {0}
 
--- A frame that waits is one of the exchange, and has at most four octets.
+-- Whether a frame is an I-frame.
+abbrev pub is_information : Control → Bool
+is_information (Information ns nr p) = true
+is_information (ReceiveReady nr pf) = false
+is_information (ReceiveNotReady nr pf) = false
+is_information (Reject nr pf) = false
+is_information (Sabme p) = false
+is_information (Disc p) = false
+is_information (Ui p) = false
+is_information (Ua f) = false
+is_information (Dm f) = false
+is_information (Frmr f) = false
+is_information (Xid pf) = false
+
+-- A frame that waits is one of the exchange, has at most four octets, and is no I-frame.
 pub record IsWaitingFrame (t : Terms) (f : ControlFrame) : Type 0 where
   pub is_frame : IsFrame (frame_of t f)
   pub octets : length (spelling Network (frame_of t f)) ≤ 4
+  pub without_contents : is_information f.control ≡ false
 
 pub record IsSound (t : Terms) (l : Link) : Type 0 where
   -- V(A) is not beyond V(S), nor V(S) beyond what was accepted; at most k are outstanding (clause 5.6.1)
@@ -53,6 +70,7 @@ pub record IsSound (t : Terms) (l : Link) : Type 0 where
 
 -- What an offer gives is a frame of the exchange, of at most four octets and contents that fit.
 pub record IsGiven (t : Terms) (f : ControlFrame) (contents : Option (List ℕ)) : Type 0 where
-  pub waits : IsWaitingFrame t f
+  pub head : IsFrame (frame_of t f)
+  pub octets : length (spelling Network (frame_of t f)) ≤ 4
   pub size : IfSome contents (λ octets. length octets ≤ t.n201)
   pub whole : IsFrame (record (frame_of t f) { info = unwrap_or contents [] })

@@ -1,7 +1,6 @@
 -- Which timer of a link runs, and what becomes of the timers of a caller that obeys the orders.
 use Rattle.std.specs.Prelude.{◌≡◌, ◌⊎◌, ◌≤◌, ◌==◌, ◌&&◌, Bool, true, false, List, fold, None, Some, if◌then◌else◌}
-use Rattle.lapd_frame.specs.declared.services.Service.{Service}
-use Rattle.lapd_frame.specs.declared.services.Service.TheVariants.{Call, Packet}
+use Rattle.lapd_frame.specs.Services.{same_service}
 use Rattle.lapd_frame.specs.declared.timers.Order.{Order}
 use Rattle.lapd_frame.specs.declared.timers.Order.TheVariants.{Start, Stop}
 use Rattle.lapd_frame.specs.declared.timers.Timer.{Timer}
@@ -29,15 +28,9 @@ pub record IsTimed (l : Link) : Type 0 where
   pub timer : IsTimedIn l.state l
 
 -- Whether two timers of a line are the same one.
-abbrev pub is_service : Service → Service → Bool
-is_service Call Call = true
-is_service Call Packet = false
-is_service Packet Call = false
-is_service Packet Packet = true
-
 abbrev pub is_same : Timer → Timer → Bool
-is_same (line_timer.T200 service tei) (line_timer.T200 other by) = is_service service other && tei == by
-is_same (line_timer.T203 service tei) (line_timer.T203 other by) = is_service service other && tei == by
+is_same (line_timer.T200 service tei) (line_timer.T200 other by) = same_service service other && tei == by
+is_same (line_timer.T203 service tei) (line_timer.T203 other by) = same_service service other && tei == by
 is_same line_timer.T201 line_timer.T201 = true
 is_same one other = false
 

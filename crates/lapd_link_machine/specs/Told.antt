@@ -1,5 +1,5 @@
 -- What a link answers.
-use Rattle.std.specs.Prelude.{ℕ, Bool, false, true, List, [], ◌∷◌, ◌++◌, Option, Some, None, ◌&&◌, not, if◌then◌else◌}
+use Rattle.std.specs.Prelude.{ℕ, ◌+◌, Bool, false, true, List, [], ◌∷◌, ◌++◌, Option, Some, None, ◌&&◌, not, if◌then◌else◌}
 use Rattle.lapd_frame.specs.declared.notes.Note.{Note}
 use Rattle.lapd_frame.specs.declared.timers.Order.{Order}
 use Rattle.lapd_frame.specs.declared.timers.Order.TheVariants.{Start, Stop}
@@ -55,3 +55,12 @@ order_for t timer before started after =
 -- T200's comes before T203's.
 abbrev pub orders_for : Terms → Option LinkTimer → Option LinkTimer → Option LinkTimer → List Order
 orders_for t before started after = order_for t T200 before started after ++ order_for t T203 before started after
+
+-- How many timers orders start.
+abbrev pub is_start : Order → Bool
+is_start (Start timer) = true
+is_start (Stop timer) = false
+
+unfoldable pub starts : List Order → ℕ
+starts [] = 0
+starts (order ∷ more) = (if is_start order then 1 else 0) + starts more

@@ -16,7 +16,7 @@ use Rattle.lapd_link_machine.specs.declared.timers.LinkTimer.TheVariants.{T200}
 use Rattle.lapd_link_machine.specs.declared.frames.ControlFrame.{ControlFrame}
 use Rattle.lapd_link_machine.specs.declared.terms.Terms.{Terms}
 use Rattle.lapd_link_machine.specs.Link.{Link, fresh}
-use Rattle.lapd_link_machine.specs.Steps.{Step, ◌then◌, changed}
+use Rattle.lapd_link_machine.specs.Steps.{Step, ◌then◌, by_bit, changed}
 
 -- What layer 3 and layer management are told (clause 4.1.1, and appendix II for the errors).
 abbrev pub note : Note → Step
@@ -44,8 +44,16 @@ abbrev pub deliver_unit : Terms → List ℕ → Step
 deliver_unit t contents c = record c { notes = c.notes ++ notes.Unit t.service t.tei ∷ []; unit = Some contents }
 
 -- The state does not serve the frame.
-abbrev pub refuse_frame : Step
-refuse_frame c = record c { unserved = true }
+abbrev pub leave_unserved : Step
+leave_unserved c = record c { unserved = true }
+
+-- UI in any state: at most N201 octets are told (clause 5.2.3); more of them are not served (profile).
+abbrev pub unit_data : Terms → List ℕ → Step
+unit_data t octets = by_bit (nat_lt t.n201 (length octets)) leave_unserved (deliver_unit t octets)
+
+-- XID in any state: it is told, and not answered (profile).
+abbrev pub xid : Terms → Step
+xid t = note (notes.Xid t.service t.tei)
 
 -- Flags, RC and the state.
 abbrev pub with_peer_busy : Bool → Link → Link

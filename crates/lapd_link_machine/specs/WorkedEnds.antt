@@ -3,7 +3,7 @@ use Rattle.std.specs.Prelude.{◌≡◌, ℕ, false, List, [], ◌∷◌, ◌++�
 use Rattle.lapd_seq.specs.Numbers.{seq}
 use Rattle.lapd_seq.specs.Circle.{distance_of, named}
 use Rattle.lapd_frame.specs.Reading.{supervisory_of, unnumbered_of, control_of, header_of, reading}
-use Rattle.lapd_link_machine.specs.Events.{transfer}
+use Rattle.lapd_link_machine.specs.Events.{Data}
 use Rattle.lapd_link_machine.specs.Machine.{after_all}
 use Rattle.lapd_link_machine.specs.TwoEnds.{Ends, asks, sends, receives, loses, Doing, at_near, at_far, doing_all}
 use Rattle.lapd_link_machine.specs.Worked.{usual, up}
@@ -15,7 +15,7 @@ both = record {
 }
 
 abbrev asked : ℕ → Doing
-asked n = at_near (asks (transfer (n ∷ [])) false)
+asked n = at_near (asks (Data (n ∷ [])) false)
 
 -- seven contents are accepted and sent; two frames are received, the third is lost, and four are received
 abbrev lossy : List Doing

@@ -12,57 +12,57 @@ use Rattle.lapd_frame.specs.Reading.{supervisory_of, unnumbered_of, control_of, 
 use Rattle.lapd_link_machine.specs.declared.states.State.TheVariants.{TeiAssigned, AwaitingEstablishment, Established}
 use Rattle.lapd_link_machine.specs.declared.timers.LinkTimer.TheVariants.{T200, T203}
 use Rattle.lapd_link_machine.specs.Link.{fresh}
-use Rattle.lapd_link_machine.specs.Events.{establish, release, expired, offer, cleared}
+use Rattle.lapd_link_machine.specs.Events.{Establish, Release, expired, offer, cleared}
 use Rattle.lapd_link_machine.specs.Requests.{refusal}
 use Rattle.lapd_link_machine.specs.Machine.{after, after_all, told}
 use Rattle.lapd_link_machine.specs.Rises.{price_of_all}
 use Rattle.lapd_link_machine.specs.Worked.{usual, with_n200, packet, comes, ask, out, notes, lost, told_after, sabme, up}
 
 -- Establish, and T200 four times with N200 3: SABME four times, then error G and a release indication.
-refused_thrice : out usual (ask establish ∷ offer ∷ expired T200 ∷ offer ∷ expired T200 ∷ offer ∷ expired T200 ∷ offer ∷ expired T200 ∷ offer ∷ []) fresh
+refused_thrice : out usual (ask Establish ∷ offer ∷ expired T200 ∷ offer ∷ expired T200 ∷ offer ∷ expired T200 ∷ offer ∷ expired T200 ∷ offer ∷ []) fresh
     ≡ (0x02 ∷ 0x81 ∷ 0x7F ∷ []) ∷ (0x02 ∷ 0x81 ∷ 0x7F ∷ []) ∷ (0x02 ∷ 0x81 ∷ 0x7F ∷ []) ∷ (0x02 ∷ 0x81 ∷ 0x7F ∷ []) ∷ []
 unfolding seq distance_of named reading header_of control_of unnumbered_of supervisory_of after_all out notes lost price_of_all
 refused_thrice = refl
 
-refused_thrice_notes : notes usual (ask establish ∷ expired T200 ∷ expired T200 ∷ expired T200 ∷ expired T200 ∷ []) fresh
+refused_thrice_notes : notes usual (ask Establish ∷ expired T200 ∷ expired T200 ∷ expired T200 ∷ expired T200 ∷ []) fresh
     ≡ tell.Error Call 64 code.G ∷ tell.ReleaseIndication Call 64 ∷ []
 unfolding seq distance_of named reading header_of control_of unnumbered_of supervisory_of after_all out notes lost price_of_all
 refused_thrice_notes = refl
 
-refused_thrice_state : after_all usual (ask establish ∷ offer ∷ expired T200 ∷ offer ∷ expired T200 ∷ offer ∷ expired T200 ∷ offer ∷ expired T200 ∷ offer ∷ []) fresh
+refused_thrice_state : after_all usual (ask Establish ∷ offer ∷ expired T200 ∷ offer ∷ expired T200 ∷ offer ∷ expired T200 ∷ offer ∷ expired T200 ∷ offer ∷ []) fresh
     ≡ record fresh { asked = true; repeats = 3 }
 unfolding seq distance_of named reading header_of control_of unnumbered_of supervisory_of after_all out notes lost price_of_all
 refused_thrice_state = refl
 
 -- With N200 0 there is one SABME.
-never_repeated : out (with_n200 0) (ask establish ∷ expired T200 ∷ offer ∷ offer ∷ []) fresh
+never_repeated : out (with_n200 0) (ask Establish ∷ expired T200 ∷ offer ∷ offer ∷ []) fresh
     ≡ (0x02 ∷ 0x81 ∷ 0x7F ∷ []) ∷ []
 unfolding seq distance_of named reading header_of control_of unnumbered_of supervisory_of after_all out notes lost price_of_all
 never_repeated = refl
 
-never_repeated_told : told_after (with_n200 0) (ask establish ∷ []) (expired T200) fresh
+never_repeated_told : told_after (with_n200 0) (ask Establish ∷ []) (expired T200) fresh
     ≡ record { notes = tell.Error Call 64 code.G ∷ tell.ReleaseIndication Call 64 ∷ []; delivered = None; unit = None; orders = Stop (timer.T200 Call 64) ∷ []; lost = 0; unserved = false }
 unfolding seq distance_of named reading header_of control_of unnumbered_of supervisory_of after_all out notes lost price_of_all
 never_repeated_told = refl
 
 -- Establish, and UA with F=1: an establish confirm, T203 in place of T200, state 7.
-confirmed : told_after usual (ask establish ∷ offer ∷ []) (comes (0x02 ∷ 0x81 ∷ 0x73 ∷ [])) fresh
+confirmed : told_after usual (ask Establish ∷ offer ∷ []) (comes (0x02 ∷ 0x81 ∷ 0x73 ∷ [])) fresh
     ≡ record { notes = tell.EstablishConfirm Call 64 ∷ []; delivered = None; unit = None; orders = Stop (timer.T200 Call 64) ∷ Start (timer.T203 Call 64) ∷ []; lost = 0; unserved = false }
 unfolding seq distance_of named reading header_of control_of unnumbered_of supervisory_of after_all out notes lost price_of_all
 confirmed = refl
 
-confirmed_state : (after_all usual (ask establish ∷ offer ∷ comes (0x02 ∷ 0x81 ∷ 0x73 ∷ []) ∷ []) fresh).state
+confirmed_state : (after_all usual (ask Establish ∷ offer ∷ comes (0x02 ∷ 0x81 ∷ 0x73 ∷ []) ∷ []) fresh).state
     ≡ Established
 unfolding seq distance_of named reading header_of control_of unnumbered_of supervisory_of after_all out notes lost price_of_all
 confirmed_state = refl
 
 -- UA with F=0 is error D, and state 5 stays.
-not_confirmed : told_after usual (ask establish ∷ offer ∷ []) (comes (0x02 ∷ 0x81 ∷ 0x63 ∷ [])) fresh
+not_confirmed : told_after usual (ask Establish ∷ offer ∷ []) (comes (0x02 ∷ 0x81 ∷ 0x63 ∷ [])) fresh
     ≡ record { notes = tell.Error Call 64 code.D ∷ []; delivered = None; unit = None; orders = []; lost = 0; unserved = false }
 unfolding seq distance_of named reading header_of control_of unnumbered_of supervisory_of after_all out notes lost price_of_all
 not_confirmed = refl
 
-not_confirmed_state : (after_all usual (ask establish ∷ offer ∷ comes (0x02 ∷ 0x81 ∷ 0x63 ∷ []) ∷ []) fresh).state
+not_confirmed_state : (after_all usual (ask Establish ∷ offer ∷ comes (0x02 ∷ 0x81 ∷ 0x63 ∷ []) ∷ []) fresh).state
     ≡ AwaitingEstablishment
 unfolding seq distance_of named reading header_of control_of unnumbered_of supervisory_of after_all out notes lost price_of_all
 not_confirmed_state = refl
@@ -84,17 +84,17 @@ unfolding seq distance_of named reading header_of control_of unnumbered_of super
 begun_again_state = refl
 
 -- State 7, Release, and UA with F=1: DISC, a release confirm, state 4.
-released : out usual (ask release ∷ offer ∷ comes (0x02 ∷ 0x81 ∷ 0x73 ∷ []) ∷ offer ∷ []) up
+released : out usual (ask Release ∷ offer ∷ comes (0x02 ∷ 0x81 ∷ 0x73 ∷ []) ∷ offer ∷ []) up
     ≡ (0x02 ∷ 0x81 ∷ 0x53 ∷ []) ∷ []
 unfolding seq distance_of named reading header_of control_of unnumbered_of supervisory_of after_all out notes lost price_of_all
 released = refl
 
-released_told : told_after usual (ask release ∷ offer ∷ []) (comes (0x02 ∷ 0x81 ∷ 0x73 ∷ [])) up
+released_told : told_after usual (ask Release ∷ offer ∷ []) (comes (0x02 ∷ 0x81 ∷ 0x73 ∷ [])) up
     ≡ record { notes = tell.ReleaseConfirm Call 64 ∷ []; delivered = None; unit = None; orders = Stop (timer.T200 Call 64) ∷ []; lost = 0; unserved = false }
 unfolding seq distance_of named reading header_of control_of unnumbered_of supervisory_of after_all out notes lost price_of_all
 released_told = refl
 
-released_state : (after_all usual (ask release ∷ offer ∷ comes (0x02 ∷ 0x81 ∷ 0x73 ∷ []) ∷ []) up).state
+released_state : (after_all usual (ask Release ∷ offer ∷ comes (0x02 ∷ 0x81 ∷ 0x73 ∷ []) ∷ []) up).state
     ≡ TeiAssigned
 unfolding seq distance_of named reading header_of control_of unnumbered_of supervisory_of after_all out notes lost price_of_all
 released_state = refl
@@ -164,7 +164,7 @@ cleared_in_7_state : after usual cleared up
 unfolding seq distance_of named reading header_of control_of unnumbered_of supervisory_of after_all out notes lost price_of_all
 cleared_in_7_state = refl
 
-cleared_in_6 : told_after usual (ask release ∷ []) cleared up
+cleared_in_6 : told_after usual (ask Release ∷ []) cleared up
     ≡ record { notes = tell.ReleaseConfirm Call 64 ∷ []; delivered = None; unit = None; orders = Stop (timer.T200 Call 64) ∷ []; lost = 0; unserved = false }
 unfolding seq distance_of named reading header_of control_of unnumbered_of supervisory_of after_all out notes lost price_of_all
 cleared_in_6 = refl
@@ -175,13 +175,13 @@ unserved_in_4 : told usual (comes (0x00 ∷ 0x81 ∷ 0x01 ∷ 0x01 ∷ [])) fres
 unfolding seq distance_of named reading header_of control_of unnumbered_of supervisory_of after_all out notes lost price_of_all
 unserved_in_4 = refl
 
-establish_refused : refusal usual up false establish
+establish_refused : refusal usual up false Establish
     ≡ Some WrongState
 unfolding seq distance_of named reading header_of control_of unnumbered_of supervisory_of after_all out notes lost price_of_all
 establish_refused = refl
 
 -- Release in state 4 is confirmed at once.
-released_while_down : told usual (ask release) fresh
+released_while_down : told usual (ask Release) fresh
     ≡ record { notes = tell.ReleaseConfirm Call 64 ∷ []; delivered = None; unit = None; orders = []; lost = 0; unserved = false }
 unfolding seq distance_of named reading header_of control_of unnumbered_of supervisory_of after_all out notes lost price_of_all
 released_while_down = refl

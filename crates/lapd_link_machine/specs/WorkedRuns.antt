@@ -6,9 +6,9 @@ use Rattle.lapd_frame.specs.declared.notes.Note.TheVariants as tell
 use Rattle.lapd_frame.specs.declared.services.Service.TheVariants.{Call}
 use Rattle.lapd_frame.specs.Reading.{supervisory_of, unnumbered_of, control_of, header_of, reading}
 use Rattle.lapd_link_machine.specs.Link.{fresh}
-use Rattle.lapd_link_machine.specs.Events.{Event, transfer, offer}
+use Rattle.lapd_link_machine.specs.Events.{Event, Data, offer}
 use Rattle.lapd_link_machine.specs.Machine.{after_all}
-use Rattle.lapd_link_machine.specs.Rises.{waiting, price_of_all}
+use Rattle.lapd_link_machine.specs.Rises.{may_send, price_of_all}
 use Rattle.lapd_link_machine.specs.Worked.{usual, packet, comes, ask, pulls, out, notes, lost, up}
 
 -- 129 I-frames numbered 0 to 127 and 0 again, each acknowledged before the next.
@@ -37,7 +37,7 @@ all_numbers_counted = refl
 
 -- Seven contents sent, and then fifty times REJ with N(R) 0, seven frames pulled after each: 357 I-frames.
 abbrev seven_contents : List Event
-seven_contents = replicate 7 (ask (transfer (0x41 ∷ []))) ++ pulls 7
+seven_contents = replicate 7 (ask (Data (0x41 ∷ []))) ++ pulls 7
 
 abbrev rejections : ℕ → List Event
 rejections zero = []
@@ -48,7 +48,7 @@ rejected_fifty_times : length (out usual (seven_contents ++ rejections 50) up)
 unfolding seq distance_of named reading header_of control_of unnumbered_of supervisory_of after_all out notes lost price_of_all
 rejected_fifty_times = refl
 
-rejected_fifty_times_price : waiting usual up + price_of_all usual (seven_contents ++ rejections 50) up
+rejected_fifty_times_price : may_send usual up + price_of_all usual (seven_contents ++ rejections 50) up
     ≡ 457
 unfolding seq distance_of named reading header_of control_of unnumbered_of supervisory_of after_all out notes lost price_of_all
 rejected_fifty_times_price = refl
@@ -65,12 +65,12 @@ unfolding seq distance_of named reading header_of control_of unnumbered_of super
 fifty_polls_out = refl
 
 -- A packet link with k 3 sends three I-frames of seven.
-packet_window : length (out packet (comes (0x40 ∷ 0x81 ∷ 0x7F ∷ []) ∷ offer ∷ replicate 7 (ask (transfer (0x41 ∷ []))) ++ pulls 9) fresh)
+packet_window : length (out packet (comes (0x40 ∷ 0x81 ∷ 0x7F ∷ []) ∷ offer ∷ replicate 7 (ask (Data (0x41 ∷ []))) ++ pulls 9) fresh)
     ≡ 4
 unfolding seq distance_of named reading header_of control_of unnumbered_of supervisory_of after_all out notes lost price_of_all
 packet_window = refl
 
-call_window : length (out usual (replicate 8 (ask (transfer (0x41 ∷ []))) ++ pulls 9) up)
+call_window : length (out usual (replicate 8 (ask (Data (0x41 ∷ []))) ++ pulls 9) up)
     ≡ 7
 unfolding seq distance_of named reading header_of control_of unnumbered_of supervisory_of after_all out notes lost price_of_all
 call_window = refl

@@ -12,7 +12,7 @@ use Rattle.lapd_frame.specs.Reading.{supervisory_of, unnumbered_of, control_of, 
 use Rattle.lapd_link_machine.specs.declared.states.State.TheVariants.{AwaitingEstablishment}
 use Rattle.lapd_link_machine.specs.declared.timers.LinkTimer.TheVariants.{T200, T203}
 use Rattle.lapd_link_machine.specs.Link.{Link, fresh, queue_of}
-use Rattle.lapd_link_machine.specs.Events.{received, overlong, release, transfer, set_busy, clear_busy, expired, offer}
+use Rattle.lapd_link_machine.specs.Events.{received, overlong, Release, Data, SetBusy, ClearBusy, expired, offer}
 use Rattle.lapd_link_machine.specs.Requests.{refusal}
 use Rattle.lapd_link_machine.specs.Machine.{after, after_all, told}
 use Rattle.lapd_link_machine.specs.Rises.{held, price_of_all}
@@ -52,14 +52,14 @@ number_of_nothing_state = refl
 
 -- With k 1 and room for two contents, the third is refused; UA waits, and nothing changes.
 abbrev small : Link
-small = after_all (with_k_and_queue 1 2) (sabme ∷ ask (transfer (1 ∷ [])) ∷ ask (transfer (2 ∷ [])) ∷ []) fresh
+small = after_all (with_k_and_queue 1 2) (sabme ∷ ask (Data (1 ∷ [])) ∷ ask (Data (2 ∷ [])) ∷ []) fresh
 
-queue_full : refusal (with_k_and_queue 1 2) small false (transfer (3 ∷ []))
+queue_full : refusal (with_k_and_queue 1 2) small false (Data (3 ∷ []))
     ≡ Some QueueFull
 unfolding seq distance_of named reading header_of control_of unnumbered_of supervisory_of after_all out notes lost price_of_all
 queue_full = refl
 
-queue_full_unchanged : after (with_k_and_queue 1 2) (ask (transfer (3 ∷ []))) small
+queue_full_unchanged : after (with_k_and_queue 1 2) (ask (Data (3 ∷ []))) small
     ≡ small
 unfolding seq distance_of named reading header_of control_of unnumbered_of supervisory_of after_all out notes lost price_of_all
 queue_full_unchanged = refl
@@ -70,23 +70,23 @@ unfolding seq distance_of named reading header_of control_of unnumbered_of super
 queue_full_held = refl
 
 -- A full shelf is told after a full queue, and contents over N201 before both.
-pool_full : refusal usual up true (transfer (2 ∷ []))
+pool_full : refusal usual up true (Data (2 ∷ []))
     ≡ Some PoolFull
 unfolding seq distance_of named reading header_of control_of unnumbered_of supervisory_of after_all out notes lost price_of_all
 pool_full = refl
 
-too_long : refusal (with_k_and_queue 1 2) small true (transfer (replicate 261 0x55))
+too_long : refusal (with_k_and_queue 1 2) small true (Data (replicate 261 0x55))
     ≡ Some TooLong
 unfolding seq distance_of named reading header_of control_of unnumbered_of supervisory_of after_all out notes lost price_of_all
 too_long = refl
 
-queue_full_first : refusal (with_k_and_queue 1 2) small true (transfer (3 ∷ []))
+queue_full_first : refusal (with_k_and_queue 1 2) small true (Data (3 ∷ []))
     ≡ Some QueueFull
 unfolding seq distance_of named reading header_of control_of unnumbered_of supervisory_of after_all out notes lost price_of_all
 queue_full_first = refl
 
 -- Contents, and own busy, are for states 7 and 8.
-data_in_4 : refusal usual fresh false (transfer (replicate 261 0x55))
+data_in_4 : refusal usual fresh false (Data (replicate 261 0x55))
     ≡ Some WrongState
 unfolding seq distance_of named reading header_of control_of unnumbered_of supervisory_of after_all out notes lost price_of_all
 data_in_4 = refl
@@ -115,17 +115,17 @@ unfolding seq distance_of named reading header_of control_of unnumbered_of super
 overlong_told = refl
 
 -- Own busy: RNR is sent, and contents are dropped; P is answered.
-own_busy : out usual (ask set_busy ∷ comes (0x00 ∷ 0x81 ∷ 0x00 ∷ 0x01 ∷ 0x41 ∷ []) ∷ offer ∷ offer ∷ offer ∷ []) up
+own_busy : out usual (ask SetBusy ∷ comes (0x00 ∷ 0x81 ∷ 0x00 ∷ 0x01 ∷ 0x41 ∷ []) ∷ offer ∷ offer ∷ offer ∷ []) up
     ≡ (0x00 ∷ 0x81 ∷ 0x05 ∷ 0x00 ∷ []) ∷ (0x00 ∷ 0x81 ∷ 0x05 ∷ 0x01 ∷ []) ∷ []
 unfolding seq distance_of named reading header_of control_of unnumbered_of supervisory_of after_all out notes lost price_of_all
 own_busy = refl
 
-own_busy_notes : notes usual (ask set_busy ∷ comes (0x00 ∷ 0x81 ∷ 0x00 ∷ 0x01 ∷ 0x41 ∷ []) ∷ []) up
+own_busy_notes : notes usual (ask SetBusy ∷ comes (0x00 ∷ 0x81 ∷ 0x00 ∷ 0x01 ∷ 0x41 ∷ []) ∷ []) up
     ≡ []
 unfolding seq distance_of named reading header_of control_of unnumbered_of supervisory_of after_all out notes lost price_of_all
 own_busy_notes = refl
 
-own_busy_ends : out usual (ask set_busy ∷ offer ∷ ask set_busy ∷ ask clear_busy ∷ ask clear_busy ∷ offer ∷ offer ∷ []) up
+own_busy_ends : out usual (ask SetBusy ∷ offer ∷ ask SetBusy ∷ ask ClearBusy ∷ ask ClearBusy ∷ offer ∷ offer ∷ []) up
     ≡ (0x00 ∷ 0x81 ∷ 0x05 ∷ 0x00 ∷ []) ∷ (0x00 ∷ 0x81 ∷ 0x01 ∷ 0x00 ∷ []) ∷ []
 unfolding seq distance_of named reading header_of control_of unnumbered_of supervisory_of after_all out notes lost price_of_all
 own_busy_ends = refl
@@ -158,7 +158,7 @@ unfolding seq distance_of named reading header_of control_of unnumbered_of super
 no_such_timer = refl
 
 -- An acknowledgement that was owed at a Release is not sent.
-released_before_acknowledging : out usual (comes (0x00 ∷ 0x81 ∷ 0x00 ∷ 0x00 ∷ 0x41 ∷ []) ∷ ask release ∷ offer ∷ offer ∷ []) up
+released_before_acknowledging : out usual (comes (0x00 ∷ 0x81 ∷ 0x00 ∷ 0x00 ∷ 0x41 ∷ []) ∷ ask Release ∷ offer ∷ offer ∷ []) up
     ≡ (0x02 ∷ 0x81 ∷ 0x53 ∷ []) ∷ []
 unfolding seq distance_of named reading header_of control_of unnumbered_of supervisory_of after_all out notes lost price_of_all
 released_before_acknowledging = refl

@@ -5,15 +5,15 @@ ghost use Rattle.std.specs.List.{list_any};
 ghost use Rattle.std.specs.Prelude.{Option};
 ghost use Rattle.lapd_link_machine.specs.declared.terms.Terms.{Terms};
 ghost use Rattle.lapd_link_machine.specs.Link.{Link, fresh, queue_of};
-ghost use Rattle.lapd_link_machine.specs.Events.{Event, offer, expired, cleared};
+ghost use Rattle.lapd_link_machine.specs.Events.{Received, Event, received, offer, expired, cleared};
 ghost use Rattle.lapd_link_machine.specs.Machine.{after, after_all, told, given};
 ghost use Rattle.lapd_link_machine.specs.Notes.{is_data, is_unit};
 ghost use Rattle.lapd_link_machine.specs.Known.{is_up, known, IsOwn};
-ghost use Rattle.lapd_link_machine.specs.Told.{orders_for};
+ghost use Rattle.lapd_link_machine.specs.Told.{orders_for, starts};
 ghost use Rattle.lapd_link_machine.specs.declared.timers.LinkTimer.{LinkTimer};
 ghost use Rattle.lapd_link_machine.specs.Deliveries.{Arrived, eligible, restarts, Establishes};
 ghost use Rattle.lapd_link_machine.specs.Numbered.{History, nothing_yet, with_event, with_all, IsNumbered};
-ghost use Rattle.lapd_link_machine.specs.Rises.{waiting, grows, sent, price, sent_in_all, price_of_all};
+ghost use Rattle.lapd_link_machine.specs.Rises.{RisesByEvent, may_send, grows, sent, sent_in_all, price_of_all};
 ghost use Rattle.lapd_link_machine.specs.Sound.{IsInRange, IsSound, IsGiven};
 ghost use Rattle.lapd_link_machine.specs.Timed.{IsTimed, StaysInStep, ComesInStep, obeyed, is_same};
 ghost use Rattle.lapd_link_machine.specs.declared.timers.LinkTimer.TheVariants.{T200, T203};
@@ -41,14 +41,13 @@ pub fn stays_sound()
 /// state 7 or 8; k + 1 for the expiry of the running timer; 1 for an accepted request; else 0. So
 /// no terminal can make a link a source of frames.
 pub fn rises()
-    ensures event { (t : Terms) (e : Event) (l : Link) → IsInRange t → IsSound t l →
-        sent t e l + waiting t (after t e l) ≤ waiting t l + price t e l }
+    ensures event { (t : Terms) (e : Event) (l : Link) → IsInRange t → IsSound t l → RisesByEvent t e l }
     // A frame that goes was waiting, with at most one other that it makes needless.
     ensures offer { (t : Terms) (l : Link) → IsInRange t → IsSound t l →
-        waiting t l ≤ waiting t (after t offer l) + 2 * sent t offer l }
+        may_send t l ≤ may_send t (after t offer l) + 2 * sent t offer l }
     // For a list of events it is the sum of their prices.
     ensures list { (t : Terms) (es : List Event) (l : Link) → IsInRange t → IsSound t l →
-        sent_in_all t es l + waiting t (after_all t es l) ≤ waiting t l + price_of_all t es l }
+        sent_in_all t es l + may_send t (after_all t es l) ≤ may_send t l + price_of_all t es l }
 {}
 
 /// What a link delivers since an establishment are, in order, the contents of the first eligible
@@ -69,7 +68,8 @@ pub fn numbered()
     ensures always { (t : Terms) (es : List Event) → IsNumbered (with_all t es fresh nothing_yet) (after_all t es fresh) }
 {}
 
-/// An event tells at most two notes, gives at most two orders and loses at most two control frames, and
+/// An event tells at most two notes, gives at most two orders, of which at most one starts a timer, and loses at most
+/// two control frames, and
 /// the clearing of a link gives at most one note and one order. There is a note of data exactly where
 /// contents are delivered, one of unit data exactly where that is told, and no event delivers both
 /// contents and unit data.
@@ -80,7 +80,13 @@ pub fn tells_little()
     ensures unit { (t : Terms) (e : Event) (l : Link) → ((told t e l).delivered ≡ None) ⊎ ((told t e l).unit ≡ None) }
     ensures orders { (t : Terms) (before started after : Option LinkTimer) → length (orders_for t before started after) ≤ 2 }
     ensures lost { (t : Terms) (e : Event) (l : Link) → (told t e l).lost ≤ 2 }
+    ensures starts { (t : Terms) (before started after : Option LinkTimer) → starts (orders_for t before started after) ≤ 1 }
     ensures clearing { (t : Terms) (l : Link) → (length (told t cleared l).notes ≤ 1) × (length (told t cleared l).orders ≤ 1) }
+{}
+
+/// What comes from the terminal and is not served changes nothing.
+pub fn unserved_stays()
+    ensures { (t : Terms) (what : Received) (l : Link) → (told t (received what) l).unserved ≡ true → after t (received what) l ≡ l }
 {}
 
 /// Layer 3 knows by the notes alone whether a link is up: an indication or a confirm of an establishment

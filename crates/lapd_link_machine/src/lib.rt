@@ -28,6 +28,7 @@ mod timers;
 pub use frames::ControlFrame;
 pub use laws::{
     keeps_its_timers, layer_3_knows, numbered, rises, stays_sound, tells_little, two_ends,
+    unserved_stays,
 };
 pub use states::State;
 pub use terms::Terms;

@@ -4,6 +4,28 @@ ghost use Rattle.std.specs.Prelude.{◌≡◌};
 ghost use Rattle.lapd_link_machine.specs.Link.{state_number};
 
 /// The state of a link whose TEI is assigned (Q.921 annex B).
+///
+/// ```text
+///               Establish               UA, F=1
+///       +---------------------> +---+ ----------------------+
+///       |                       | 5 |                       |
+///       |  +------------------- +---+ <------------------+  |
+///       |  |  DM, F=1;                 an error (7 and 8) |  |
+///       |  v  no answer                                   |  v
+///     +---+                     SABME                     +---+
+///     | 4 | --------------------------------------------> | 7 | <--+ SABME (7 and 8)
+///     +---+ <-------------------------------------------- +---+ ---+
+///       ^                   DISC (7 and 8)                |  ^
+///       |                                      T200, T203 |  | the answer to the enquiry
+///       |  UA or DM, F=1;                                 v  |
+///       |  no answer            +---+       Release       +---+
+///       +---------------------- | 6 | <------------------ | 8 |
+///                               +---+      (7 and 8)      +---+
+/// ```
+///
+/// What is marked (7 and 8) goes from both. No answer comes where T200 expires after N200 repeats. An error is a DM with
+/// F=0, in state 8 also one with F=1 and an enquiry without answer, an FRMR, an N(R) that is not valid, and a malformed
+/// frame. Where its TEI leaves the line, a link comes to 4 from every state.
 #[derive(Clone, Copy, PartialEq, Eq, Debug)]
 pub enum State {
     /// State 4: the link is down.

@@ -4,7 +4,7 @@ use Rattle.std.specs.Prelude.{IsErr, IsErrAnd}
 use Rattle.std.proofs.lemmas.Bool.{false≢true}
 use Rattle.lapd_script.specs.declared.kind.FaultKind.{FaultKind}
 use Rattle.lapd_script.specs.declared.kind.FaultKind.TheVariants.{BadNumberOfWords}
-use Rattle.lapd_script.specs.declared.command.CardNumbers.{CardNumbers}
+use Rattle.lapd_line_machine.specs.declared.config.Config.{Config}
 use Rattle.lapd_script.specs.declared.word.Word.{Word}
 use Rattle.lapd_script.specs.declared.word.Word.TheVariants.{Card, Rx, In, Pull, Wait, Stored, Ask}
 use Rattle.lapd_script.specs.Words.{texts}
@@ -18,7 +18,7 @@ nowhere = record { ref_ptr = (0, 0); now = [] }
 abbrev pub at : List (Bor (List ℕ)) → ℕ → List ℕ
 at words i = (get_or words i nowhere).now
 
-abbrev grouped : Result (ℕ × ℕ × ℕ) FaultKind → Result (ℕ × ℕ × ℕ) FaultKind → Result (ℕ × ℕ × ℕ) FaultKind → Result CardNumbers FaultKind
+abbrev grouped : Result (ℕ × ℕ × ℕ) FaultKind → Result (ℕ × ℕ × ℕ) FaultKind → Result (ℕ × ℕ × ℕ) FaultKind → Result Config FaultKind
 grouped ra rb rc = do
   a ← ra
   b ← rb
@@ -49,7 +49,7 @@ nine_grouped words ra rb rc n ea eb ec =
     ∙ sym (nine_given words n)
 
 -- and ten
-abbrev tenth : Result CardNumbers FaultKind → Result ℕ FaultKind → Result CardNumbers FaultKind
+abbrev tenth : Result Config FaultKind → Result ℕ FaultKind → Result Config FaultKind
 tenth rn rk = do
   numbers ← rn
   k16 ← rk
@@ -69,7 +69,7 @@ ten_given (a ∷ b ∷ c ∷ d ∷ e ∷ f ∷ g ∷ []) n = absurd (omega (arit
 ten_given (a ∷ b ∷ c ∷ d ∷ e ∷ f ∷ g ∷ h ∷ []) n = absurd (omega (arith, n))
 ten_given (a ∷ b ∷ c ∷ d ∷ e ∷ f ∷ g ∷ h ∷ i ∷ []) n = absurd (omega (arith, n))
 
-pub ten_grouped : (words : List (Bor (List ℕ))) (rn : Result CardNumbers FaultKind) (rk : Result ℕ FaultKind) → length words ≡ 10
+pub ten_grouped : (words : List (Bor (List ℕ))) (rn : Result Config FaultKind) (rk : Result ℕ FaultKind) → length words ≡ 10
     → rn ≡ nine_numbers (texts (take 9 words)) → rk ≡ number 0 65535 (at words 9) → tenth rn rk ≡ card_numbers (texts words)
 ten_grouped words rn rk n en ek =
     ap (λ r. tenth r rk) en ∙ ap (λ r. tenth (nine_numbers (texts (take 9 words))) r) ek ∙ ten_given words n

@@ -2,15 +2,15 @@
 use Rattle.std.specs.Prelude.{ℕ, ◌≤◌, List, take, Result, Ok, Err}
 use Rattle.lapd_script.specs.declared.kind.FaultKind.{FaultKind}
 use Rattle.lapd_script.specs.declared.command.Asked.{Asked}
-use Rattle.lapd_script.specs.declared.command.CardNumbers.{CardNumbers}
+use Rattle.lapd_line_machine.specs.declared.config.Config.{Config}
 use Rattle.lapd_script.specs.declared.command.Command.{Command}
 use Rattle.lapd_script.specs.declared.command.Command.TheVariants.{Skip, Card, Rx, In, Pull, Wait, Stored, Ask}
 
 pub data Meaning : Type 0 where
   -- nothing: the line is skipped
   skip : Meaning
-  -- a card is started with these numbers
-  card : CardNumbers → Meaning
+  -- a card is started with this configuration
+  card : Config → Meaning
   -- these octets come from the line of the card
   rx : ℕ → List ℕ → Meaning
   -- the line's terminal sends the frame of these octets

@@ -2,7 +2,7 @@
 use Rattle.std.specs.Prelude.{ℕ, ◌==◌, if◌then◌else◌, List, [], ◌∷◌, take, drop, Option, Some, None, Result, Ok, Err}
 use Rattle.lapd_script.specs.declared.kind.FaultKind.{FaultKind}
 use Rattle.lapd_script.specs.declared.kind.FaultKind.TheVariants.{UnknownWord, BadNumberOfWords}
-use Rattle.lapd_script.specs.declared.command.CardNumbers.{CardNumbers}
+use Rattle.lapd_line_machine.specs.declared.config.Config.{Config}
 use Rattle.lapd_script.specs.declared.word.Word.{Word}
 use Rattle.lapd_script.specs.declared.word.Word.TheVariants.{Card, Rx, In, Pull, Wait, Stored, Ask}
 use Rattle.lapd_script.specs.Words.{words_of, no_words, one_word, two_words, three_words}
@@ -32,7 +32,7 @@ three_numbers first second third = do
   c ← number 0 65535 third
   Ok (a, b, c)
 
-abbrev pub nine_numbers : List (List ℕ) → Result CardNumbers FaultKind
+abbrev pub nine_numbers : List (List ℕ) → Result Config FaultKind
 nine_numbers (lines ∷ terminals ∷ k ∷ queue ∷ unit_queue ∷ control ∷ slots ∷ n201 ∷ n200 ∷ []) = do
   a ← three_numbers lines terminals k
   b ← three_numbers queue unit_queue control
@@ -41,10 +41,10 @@ nine_numbers (lines ∷ terminals ∷ k ∷ queue ∷ unit_queue ∷ control ∷
 nine_numbers _ = Err BadNumberOfWords
 
 -- nine numbers, or ten: the tenth is the window of packet links
-abbrev pub with_k16 : ℕ → CardNumbers → CardNumbers
+abbrev pub with_k16 : ℕ → Config → Config
 with_k16 k16 numbers = record numbers { k16 = k16 }
 
-abbrev pub ten_numbers : List (List ℕ) → List (List ℕ) → Result CardNumbers FaultKind
+abbrev pub ten_numbers : List (List ℕ) → List (List ℕ) → Result Config FaultKind
 ten_numbers nine [] = nine_numbers nine
 ten_numbers nine (k16 ∷ []) = do
   numbers ← nine_numbers nine
@@ -52,7 +52,7 @@ ten_numbers nine (k16 ∷ []) = do
   Ok (with_k16 k16 numbers)
 ten_numbers nine (k16 ∷ more ∷ words) = Err BadNumberOfWords
 
-abbrev pub card_numbers : List (List ℕ) → Result CardNumbers FaultKind
+abbrev pub card_numbers : List (List ℕ) → Result Config FaultKind
 card_numbers words = ten_numbers (take 9 words) (drop 9 words)
 
 -- what each first word takes after it

@@ -1,32 +1,7 @@
 //! What a line of a script says.
 
 use lapd_frame::Service;
-
-/// The numbers of a card line, in its order; `k16` stands last there, and is `k` where it is left out. Their ranges are
-/// those of a card's configuration, and are not tested here.
-#[derive(Clone, Copy, PartialEq, Eq, Debug)]
-pub struct CardNumbers {
-    /// The lines of the card.
-    pub lines: u16,
-    /// TEIs on each line.
-    pub terminals: u16,
-    /// The window of call control links.
-    pub k: u16,
-    /// Contents that wait on each link, sent or unsent.
-    pub queue: u16,
-    /// Unit data that wait on each line.
-    pub unit_queue: u16,
-    /// Control frames that wait on each link.
-    pub control: u16,
-    /// Contents that wait on the whole card.
-    pub slots: u16,
-    /// Octets of an information field at most.
-    pub n201: u16,
-    /// How often a command is repeated.
-    pub n200: u16,
-    /// The window of packet links.
-    pub k16: u16,
-}
+use lapd_line_machine::Config;
 
 /// What layer 3 asks for, in a line that names a card's line and a TEI.
 #[derive(Clone, Copy, PartialEq, Eq, Debug)]
@@ -56,8 +31,9 @@ pub enum Asked {
 pub enum Command {
     /// Nothing: the line is empty, or begins with `#`.
     Skip,
-    /// `card`: starts the card.
-    Card(CardNumbers),
+    /// `card`: starts a card with these sizes and limits, which are any numbers of 16 bits. In the line `k16` stands last,
+    /// and it is `k` where it is left out.
+    Card(Config),
     /// `rx LINE HEX`: octets come from the line.
     Rx {
         /// The card's line.

@@ -21,7 +21,7 @@ mod word;
 mod words;
 
 pub use arguments::job;
-pub use command::{Asked, CardNumbers, Command};
+pub use command::{Asked, Command};
 pub use hex_word::octets;
 pub use jobs::{Job, Limits};
 pub use kind::FaultKind;

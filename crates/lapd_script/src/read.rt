@@ -6,12 +6,13 @@ ghost use Rattle.lapd_script.specs.Meaning.{meant_by, IsCounted};
 ghost use Rattle.lapd_script.specs.Read.{read, read_words, read_as, card_numbers, nine_numbers, three_numbers};
 ghost use Rattle.lapd_script.specs.declared.word.Word.TheVariants.{Ask};
 
-use crate::command::{Asked, CardNumbers, Command};
+use crate::command::{Asked, Command};
 use crate::hex_word::octets;
 use crate::kind::FaultKind;
 use crate::number::{number, octet, short};
 use crate::word::Word;
 use crate::words::{none, one, three, two, words_of};
+use lapd_line_machine::Config;
 
 /// What a line of a script says, without its line feed.
 ///
@@ -122,7 +123,7 @@ fn ask(what: Asked, words: &[&[u8]], room: &mut [u8]) -> Result<Command, FaultKi
 }
 
 /// The nine or ten numbers of a card line.
-fn card_numbers(words: &[&[u8]]) -> Result<CardNumbers, FaultKind>
+fn card_numbers(words: &[&[u8]]) -> Result<Config, FaultKind>
     ensures read { result ≡ card_numbers (texts words.now) }
 {
     if words.len() != 10 {
@@ -134,7 +135,7 @@ fn card_numbers(words: &[&[u8]]) -> Result<CardNumbers, FaultKind>
 }
 
 /// Nine numbers, where the window of packet links is that of call control.
-fn nine_numbers(words: &[&[u8]]) -> Result<CardNumbers, FaultKind>
+fn nine_numbers(words: &[&[u8]]) -> Result<Config, FaultKind>
     ensures read { result ≡ nine_numbers (texts words.now) }
 {
     let [
@@ -154,7 +155,7 @@ fn nine_numbers(words: &[&[u8]]) -> Result<CardNumbers, FaultKind>
     let first = three_numbers(lines, terminals, k)?;
     let second = three_numbers(queue, unit_queue, control)?;
     let third = three_numbers(slots, n201, n200)?;
-    Ok(CardNumbers {
+    Ok(Config {
         lines: first.0,
         terminals: first.1,
         k: first.2,

@@ -5,14 +5,14 @@ use Rattle.std.proofs.lemmas.Bool.Decides.{eqb_tells}
 use Rattle.std.proofs.lemmas.List.{append-nil, drop-append-le, drop_all, drop_more, get_or-take, length-append, length-drop, length-take, take-append-drop, take-take}
 use Rattle.lapd_sim.specs.declared.faults.PlayFault.{PlayFault}
 use Rattle.lapd_sim.specs.declared.faults.PlayFault.TheVariants.{Read}
-use Rattle.lapd_sim.specs.declared.lines.Lines.{Lines}
-use Rattle.lapd_sim.specs.Lines.{held, too_long_after, AreLeft, Takes, Advances}
+use Rattle.lapd_sim.specs.declared.lines.ScriptLines.{ScriptLines}
+use Rattle.lapd_sim.specs.ScriptLines.{held, too_long_after, AreLeft, Takes, Advances}
 use Rattle.lapd_sim_machine.specs.Pieces.{pieces_of, line_in}
 use Rattle.lapd_sim.proofs.Pieces.{IsOpen, HasPiece, piece_ended, line_ended, piece_last, line_last, piece_long}
 use Rattle.lapd_sim.proofs.Reading.{open_part}
 
 -- what is sought begins where the next line does
-sought : (lines : Lines) → lines.next ≡ lines.start → held lines ≡ drop lines.start (take lines.filled lines.buffer.items)
+sought : (lines : ScriptLines) → lines.next ≡ lines.start → held lines ≡ drop lines.start (take lines.filled lines.buffer.items)
 sought lines begins = ap (λ (n : ℕ). drop n (take lines.filled lines.buffer.items)) begins
 
 length-between : (octets : List ℕ) (low high : ℕ) → high ≤ length octets → length (drop low (take high octets)) ≡ high - low
@@ -37,7 +37,7 @@ any_ended [] = refl
 any_ended (octet ∷ front) = elim (eqb_tells octet 10) [ inl h ↦ rw h.0 refl | inr h ↦ rw h.0 (any_ended front) ]
 
 -- A line that ends with a line feed.
-record IsFound (lines : Lines) (source : Option (List ℕ)) (text : List ℕ) (end : ℕ) : Type 0 where
+record IsFound (lines : ScriptLines) (source : Option (List ℕ)) (text : List ℕ) (end : ℕ) : Type 0 where
   rest : List ℕ
   tells : source ≡ Some rest
   ended : lines.is_at_end ≡ true → rest ≡ []
@@ -47,7 +47,7 @@ record IsFound (lines : Lines) (source : Option (List ℕ)) (text : List ℕ) (e
   size : length (drop lines.start (take end lines.buffer.items) ++ 10 ∷ []) ≡ end + 1 - lines.start
   short : length (drop lines.start (take end lines.buffer.items)) ≡ end - lines.start
 
-found : (lines : Lines) (source : Option (List ℕ)) (text : List ℕ) (end : ℕ) → lines.next ≡ lines.start → lines.start ≤ end → end < lines.filled
+found : (lines : ScriptLines) (source : Option (List ℕ)) (text : List ℕ) (end : ℕ) → lines.next ≡ lines.start → lines.start ≤ end → end < lines.filled
     → AllWithin (λ octet. octet ≢ 10) lines.buffer.items lines.start end → HoldsAt (λ octet. octet ≡ 10) lines.buffer.items end → AreLeft lines source text → IsFound lines source text end
 found lines source text end begins after before h here left =
     let front : List ℕ = drop lines.start (take end lines.buffer.items) in
@@ -68,7 +68,7 @@ found lines source text end begins after before h here left =
       short = short;
     }
 
-take_found : (old mid new : Lines) (result : Result Bool PlayFault) (source : Option (List ℕ)) (text : List ℕ) (end : ℕ) → mid.octets ≡ old.octets → mid.number ≡ old.number
+take_found : (old mid new : ScriptLines) (result : Result Bool PlayFault) (source : Option (List ℕ)) (text : List ℕ) (end : ℕ) → mid.octets ≡ old.octets → mid.number ≡ old.number
     → mid.start ≤ end → end ≤ mid.start + 4096 → IsFound mid source text end → Takes result mid new end (end + 1) → Advances result old new source text
 take_found old mid new (Ok true) source text end octets number after short is taken = record {
   piece = drop mid.start (take end mid.buffer.items) ++ 10 ∷ [];
@@ -99,14 +99,14 @@ take_found old mid new (Err fault) source text end octets number after short is 
       },
     )
 
-pub advances_found : (old mid new : Lines) (result : Result Bool PlayFault) (source : Option (List ℕ)) (text : List ℕ) (end : ℕ) → mid.next ≡ mid.start → mid.octets ≡ old.octets → mid.number ≡ old.number
+pub advances_found : (old mid new : ScriptLines) (result : Result Bool PlayFault) (source : Option (List ℕ)) (text : List ℕ) (end : ℕ) → mid.next ≡ mid.start → mid.octets ≡ old.octets → mid.number ≡ old.number
     → mid.start ≤ end → end < mid.filled → end ≤ mid.start + 4096 → AllWithin (λ octet. octet ≢ 10) mid.buffer.items mid.start end → HoldsAt (λ octet. octet ≡ 10) mid.buffer.items end
     → AreLeft mid source text → Takes result mid new end (end + 1) → Advances result old new source text
 advances_found old mid new result source text end begins octets number after before short h here left taken =
     take_found old mid new result source text end octets number after short (found mid source text end begins after before h here left) taken
 
 -- The last line, which has none.
-record IsLast (lines : Lines) (source : Option (List ℕ)) (text : List ℕ) : Type 0 where
+record IsLast (lines : ScriptLines) (source : Option (List ℕ)) (text : List ℕ) : Type 0 where
   at_end : lines.is_at_end ≡ true
   tells : source ≡ Some []
   is : text ≡ drop lines.start (take lines.filled lines.buffer.items)
@@ -115,7 +115,7 @@ record IsLast (lines : Lines) (source : Option (List ℕ)) (text : List ℕ) : T
   size : length (drop lines.start (take lines.filled lines.buffer.items)) ≡ lines.filled - lines.start
   past : drop lines.filled (take lines.filled lines.buffer.items) ≡ []
 
-last : (lines : Lines) (source : Option (List ℕ)) (text : List ℕ) → lines.next ≡ lines.start → lines.is_at_end ≡ true
+last : (lines : ScriptLines) (source : Option (List ℕ)) (text : List ℕ) → lines.next ≡ lines.start → lines.is_at_end ≡ true
     → AllWithin (λ octet. octet ≢ 10) lines.buffer.items lines.start lines.filled → AreLeft lines source text → IsLast lines source text
 last lines source text begins at_end h left =
     let open_is : IsOpen (drop lines.start (take lines.filled lines.buffer.items)) = open_part lines.buffer.items lines.start lines.filled (omega (arith, lines.buffer.ok.0)) h in
@@ -132,7 +132,7 @@ last lines source text begins at_end h left =
       past = drop_all lines.filled (take lines.filled lines.buffer.items) (simp length-take (omega arith));
     }
 
-take_last : (old mid new : Lines) (result : Result Bool PlayFault) (source : Option (List ℕ)) (text : List ℕ) → mid.octets ≡ old.octets → mid.number ≡ old.number
+take_last : (old mid new : ScriptLines) (result : Result Bool PlayFault) (source : Option (List ℕ)) (text : List ℕ) → mid.octets ≡ old.octets → mid.number ≡ old.number
     → mid.filled ≤ mid.start + 4096 → IsLast mid source text → Takes result mid new mid.filled mid.filled → Advances result old new source text
 take_last old mid new (Ok true) source text octets number short is taken = record {
   piece = drop mid.start (take mid.filled mid.buffer.items);
@@ -164,14 +164,14 @@ take_last old mid new (Err fault) source text octets number short is taken =
       },
     )
 
-pub advances_last : (old mid new : Lines) (result : Result Bool PlayFault) (source : Option (List ℕ)) (text : List ℕ) → mid.next ≡ mid.start → mid.octets ≡ old.octets → mid.number ≡ old.number
+pub advances_last : (old mid new : ScriptLines) (result : Result Bool PlayFault) (source : Option (List ℕ)) (text : List ℕ) → mid.next ≡ mid.start → mid.octets ≡ old.octets → mid.number ≡ old.number
     → mid.is_at_end ≡ true → mid.filled ≤ mid.start + 4096 → AllWithin (λ octet. octet ≢ 10) mid.buffer.items mid.start mid.filled
     → AreLeft mid source text → Takes result mid new mid.filled mid.filled → Advances result old new source text
 advances_last old mid new result source text begins octets number at_end short h left taken =
     take_last old mid new result source text octets number short (last mid source text begins at_end h left) taken
 
 -- A line without a line feed in the whole buffer is too long,
-told_overlong : (old mid new : Lines) (fault : PlayFault) (source : Option (List ℕ)) (text : List ℕ) → mid.number ≡ old.number → HasPiece text 4097 → fault ≡ too_long_after mid
+told_overlong : (old mid new : ScriptLines) (fault : PlayFault) (source : Option (List ℕ)) (text : List ℕ) → mid.number ≡ old.number → HasPiece text 4097 → fault ≡ too_long_after mid
     → Advances (Err fault) old new source text
 told_overlong old mid new fault source text number first is =
     subst (λ (told : PlayFault). Advances (Err told) old new source text) (sym is) (
@@ -185,7 +185,7 @@ told_overlong old mid new fault source text number first is =
       },
     )
 
-pub advances_overlong : (old mid new : Lines) (fault : PlayFault) (source : Option (List ℕ)) (text : List ℕ) → mid.next ≡ mid.start → mid.number ≡ old.number
+pub advances_overlong : (old mid new : ScriptLines) (fault : PlayFault) (source : Option (List ℕ)) (text : List ℕ) → mid.next ≡ mid.start → mid.number ≡ old.number
     → mid.filled - mid.start ≡ 4097 → AllWithin (λ octet. octet ≢ 10) mid.buffer.items mid.start mid.filled → AreLeft mid source text → fault ≡ too_long_after mid
     → Advances (Err fault) old new source text
 advances_overlong old mid new fault source text begins number full h left is =
@@ -198,7 +198,7 @@ advances_overlong old mid new fault source text begins number full h left is =
     is
 
 -- and one that could not be read to its end is cut.
-pub advances_cut : (old mid new : Lines) (fault : PlayFault) (source : Option (List ℕ)) (text : List ℕ) → mid.next ≡ mid.start
+pub advances_cut : (old mid new : ScriptLines) (fault : PlayFault) (source : Option (List ℕ)) (text : List ℕ) → mid.next ≡ mid.start
     → AllWithin (λ octet. octet ≢ 10) mid.buffer.items mid.start mid.filled → held new ≡ held mid → AreLeft new source text → fault ≡ Read → old.is_at_end ≡ false
     → Advances (Err fault) old new source text
 advances_cut old mid new fault source text begins h same left is goes_on =

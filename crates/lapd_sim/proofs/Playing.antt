@@ -21,16 +21,16 @@ use Rattle.lapd_sim.specs.declared.faults.LineFault.TheVariants as line
 use Rattle.lapd_sim.specs.declared.faults.LineFault.TheVariants.{Faulty}
 use Rattle.lapd_sim.specs.declared.faults.PlayFault.{PlayFault}
 use Rattle.lapd_sim.specs.declared.faults.PlayFault.TheVariants.{Read, Write, Script, OutOfMemory}
-use Rattle.lapd_sim.specs.declared.lines.Lines.{Lines}
+use Rattle.lapd_sim.specs.declared.lines.ScriptLines.{ScriptLines}
 use Rattle.lapd_sim.specs.Faults.{fault_at, line_writes_failed}
-use Rattle.lapd_sim.specs.Lines.{AreLeft, IsNext, IsTooLong, Advances, held}
+use Rattle.lapd_sim.specs.ScriptLines.{AreLeft, IsNext, IsTooLong, Advances, held}
 use Rattle.lapd_sim.specs.Obeyed.{Said, Does, StartsBy, said, said_by, said_of, said_with, said_without, scene}
 use Rattle.lapd_sim.specs.Plays.{Plays, AreAnswered}
 use Rattle.lapd_sim.specs.Stands.{Has}
 use Rattle.lapd_sim.proofs.Wholes.{AreWhole, no_whole, whole_more, first_whole, some_octet, split_first, read_whole}
 
 -- These pieces of the text have been played without a fault, and what is left of it is still to be read.
-pub record IsPlayed (lines : Lines) (bench : Option Bench) (remaining : Option (List ℕ)) (text : List ℕ) (old new : Taken) : Type 0 where
+pub record IsPlayed (lines : ScriptLines) (bench : Option Bench) (remaining : Option (List ℕ)) (text : List ℕ) (old new : Taken) : Type 0 where
   pub done : List (List ℕ)
   pub left : List ℕ
   pub is : pieces_of text ≡ done ++ pieces_of left
@@ -151,7 +151,7 @@ fault_is text left done piece more kind is next sound fault =
     ∙ stays more (faulty kind (played done)) (record { line = (played done).lines + 1; kind = kind }) refl
 
 -- nothing has been played yet
-pub begins : (lines : Lines) (bench : Option Bench) (remaining : Option (List ℕ)) (text : List ℕ) (a : Taken) → bench ≡ None → lines.number ≡ 0 → lines.octets ≡ 0
+pub begins : (lines : ScriptLines) (bench : Option Bench) (remaining : Option (List ℕ)) (text : List ℕ) (a : Taken) → bench ≡ None → lines.number ≡ 0 → lines.octets ≡ 0
     → AreLeft lines remaining text → IsPlayed lines bench remaining text a a
 begins lines bench remaining text a none number octets unread = record {
   done = [];
@@ -170,14 +170,14 @@ begins lines bench remaining text a none number octets unread = record {
 }
 
 -- no line is left
-pub ends : (lines : Lines) (bench : Option Bench) (remaining : Option (List ℕ)) (text : List ℕ) (a b : Taken) (p : IsPlayed lines bench remaining text a b) → p.left ≡ []
+pub ends : (lines : ScriptLines) (bench : Option Bench) (remaining : Option (List ℕ)) (text : List ℕ) (a b : Taken) (p : IsPlayed lines bench remaining text a b) → p.left ≡ []
     → (first_fault text ≡ None) × IsWritten a b (transcript text)
 ends lines bench remaining text a b p none =
     let all : played (pieces_of text) ≡ played p.done = ap played (p.is ∙ ap (λ l. p.done ++ pieces_of l) none ∙ append-nil p.done) in
     (ap (λ q. Played.fault q) all ∙ p.sound, subst (λ t. IsWritten a b t) (sym (ap (λ q. Played.written q) all)) p.written)
 
 -- the next line is too long
-pub stops_long : (lines : Lines) (bench : Option Bench) (remaining : Option (List ℕ)) (text : List ℕ) (a b : Taken) (p : IsPlayed lines bench remaining text a b) (number : ℕ) → IsTooLong lines number p.left
+pub stops_long : (lines : ScriptLines) (bench : Option Bench) (remaining : Option (List ℕ)) (text : List ℕ) (a b : Taken) (p : IsPlayed lines bench remaining text a b) (number : ℕ) → IsTooLong lines number p.left
     → (first_fault text ≡ Some (record { line = number; kind = TooLong })) × IsWritten a b (transcript text)
 stops_long lines bench remaining text a b p number long =
     let fault = long_is long.piece (played p.done) (λ short. subst (λ n. 2 ^ 63 < n + length long.piece) p.octets (long.long short)) in
@@ -187,13 +187,13 @@ stops_long lines bench remaining text a b p number long =
     )
 
 -- the next line leads to what it says
-pub next_is : (lines new : Lines) (bench : Option Bench) (remaining left : Option (List ℕ)) (text : List ℕ) (a b : Taken) (p : IsPlayed lines bench remaining text a b) (n : IsNext lines new left p.left)
+pub next_is : (lines new : ScriptLines) (bench : Option Bench) (remaining left : Option (List ℕ)) (text : List ℕ) (a b : Taken) (p : IsPlayed lines bench remaining text a b) (n : IsNext lines new left p.left)
     → new.octets ≤ 2 ^ 63 → after_piece n.piece (played p.done) ≡ after_said n.piece (said (line_in n.piece) (played p.done).bench) (played p.done)
 next_is lines new bench remaining left text a b p n bound =
     short_is n.piece (played p.done) n.short (subst (λ octets. octets ≤ 2 ^ 63) (n.octets ∙ ap (λ octets. octets + length n.piece) p.octets) bound)
 
 -- the next line is faulty
-pub stops_faulty : (lines new : Lines) (bench : Option Bench) (remaining left : Option (List ℕ)) (text : List ℕ) (a b : Taken) (p : IsPlayed lines bench remaining text a b) (n : IsNext lines new left p.left)
+pub stops_faulty : (lines new : ScriptLines) (bench : Option Bench) (remaining left : Option (List ℕ)) (text : List ℕ) (a b : Taken) (p : IsPlayed lines bench remaining text a b) (n : IsNext lines new left p.left)
     → new.octets ≤ 2 ^ 63 → (kind : FaultKind) → said (line_in n.piece) (played p.done).bench ≡ Err kind
     → (first_fault text ≡ Some (record { line = new.number; kind = kind })) × IsWritten a b (transcript text)
 stops_faulty lines new bench remaining left text a b p n bound kind fault =
@@ -204,7 +204,7 @@ stops_faulty lines new bench remaining left text a b p n bound kind fault =
     )
 
 -- a write of the next line fails
-pub stops_broken : (lines new : Lines) (bench : Option Bench) (remaining left : Option (List ℕ)) (text : List ℕ) (a b c : Taken) (p : IsPlayed lines bench remaining text a b) (n : IsNext lines new left p.left)
+pub stops_broken : (lines new : ScriptLines) (bench : Option Bench) (remaining left : Option (List ℕ)) (text : List ℕ) (a b c : Taken) (p : IsPlayed lines bench remaining text a b) (n : IsNext lines new left p.left)
     → new.octets ≤ 2 ^ 63 → (s : Said) → said (line_in n.piece) (played p.done).bench ≡ Ok s → IsBroken b c s.text → IsBroken a c (transcript text)
 stops_broken lines new bench remaining left text a b c p n bound s fine broken =
     let next = next_is lines new bench remaining left text a b p n bound ∙ ap (λ x. after_said n.piece x (played p.done)) fine in
@@ -214,7 +214,7 @@ stops_broken lines new bench remaining left text a b c p n bound s fine broken =
     (broken_more a c ((played p.done).written ++ s.text) rest.0 (writes_then (Err (record {})) a b c (played p.done).written s.text p.written broken))
 
 -- the next line has been played
-pub goes_on : (lines new : Lines) (bench later : Option Bench) (remaining left : Option (List ℕ)) (text : List ℕ) (a b c : Taken) (p : IsPlayed lines bench remaining text a b) (n : IsNext lines new left p.left)
+pub goes_on : (lines new : ScriptLines) (bench later : Option Bench) (remaining left : Option (List ℕ)) (text : List ℕ) (a b c : Taken) (p : IsPlayed lines bench remaining text a b) (n : IsNext lines new left p.left)
     → new.octets ≤ 2 ^ 63 → (s : Said) → said (line_in n.piece) (played p.done).bench ≡ Ok s → IsWritten b c s.text → Has later s.bench → IsPlayed new later left text a c
 goes_on lines new bench later remaining left text a b c p n bound s fine written has =
     let is : played (p.done ++ n.piece ∷ []) ≡ after_said n.piece (Ok s) (played p.done) =
@@ -287,7 +287,7 @@ silent : (pieces : List (List ℕ)) → (played pieces).bench ≡ None → (play
 silent pieces = silent_after pieces not_begun (λ e. refl)
 
 -- the next line stops the script
-pub stops : (fault : LineFault) (lines new : Lines) (bench : Option Bench) (remaining left : Option (List ℕ)) (text : List ℕ) (a b c : Taken) (has : Option machine.Bench → Type 0)
+pub stops : (fault : LineFault) (lines new : ScriptLines) (bench : Option Bench) (remaining left : Option (List ℕ)) (text : List ℕ) (a b c : Taken) (has : Option machine.Bench → Type 0)
     (p : IsPlayed lines bench remaining text a b) (n : IsNext lines new left p.left) → new.octets ≤ 2 ^ 63
     → Does (Err fault) b c (played p.done).bench has (said (line_in n.piece) (played p.done).bench)
     → Plays (Err (fault_at fault new.number)) text left a c
@@ -319,16 +319,16 @@ stops line.OutOfMemory lines new bench remaining left text a b c has p n bound h
     )
 
 -- what the next line is, or that there is none
-pub over : (more : Bool) (old new : Lines) (remaining : Option (List ℕ)) (text : List ℕ) → more ≡ false → Advances (Ok more) old new remaining text → (text ≡ []) × (remaining ≡ Some [])
+pub over : (more : Bool) (old new : ScriptLines) (remaining : Option (List ℕ)) (text : List ℕ) → more ≡ false → Advances (Ok more) old new remaining text → (text ≡ []) × (remaining ≡ Some [])
 over true old new remaining text e h = absurd (true≢false e)
 over false old new remaining text e h = h
 
-pub next : (more : Bool) (old new : Lines) (remaining : Option (List ℕ)) (text : List ℕ) → more ≡ true → Advances (Ok more) old new remaining text → IsNext old new remaining text
+pub next : (more : Bool) (old new : ScriptLines) (remaining : Option (List ℕ)) (text : List ℕ) → more ≡ true → Advances (Ok more) old new remaining text → IsNext old new remaining text
 next true old new remaining text e h = h
 next false old new remaining text e h = absurd (true≢false (sym e))
 
 -- reading stops the script
-pub stops_reading : (fault : PlayFault) (lines new : Lines) (bench : Option Bench) (remaining left : Option (List ℕ)) (text : List ℕ) (a b : Taken) (p : IsPlayed lines bench remaining text a b)
+pub stops_reading : (fault : PlayFault) (lines new : ScriptLines) (bench : Option Bench) (remaining left : Option (List ℕ)) (text : List ℕ) (a b : Taken) (p : IsPlayed lines bench remaining text a b)
     → Advances (Err fault) lines new left p.left → Plays (Err fault) text left a b
 stops_reading Read lines new bench remaining left text a b p h =
     let pieces = read_whole p.front h.begun p.done (p.while_open h.goes_on) h.open_is in

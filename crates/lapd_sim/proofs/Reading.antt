@@ -15,8 +15,8 @@ use Rattle.std.proofs.lemmas.List.Edits.{length-paste, take-paste}
 use Rattle.std.proofs.lemmas.Slice.{between_is}
 use Rattle.std.proofs.Math.Seq.{take-append-add}
 use borrow.Rule.Slice.PartMut.{put_mid}
-use Rattle.lapd_sim.specs.declared.lines.Lines.{Lines}
-use Rattle.lapd_sim.specs.Lines.{held, AreLeft}
+use Rattle.lapd_sim.specs.declared.lines.ScriptLines.{ScriptLines}
+use Rattle.lapd_sim.specs.ScriptLines.{held, AreLeft}
 use Rattle.lapd_sim.proofs.Pieces.{IsOpen}
 
 -- Where the first line feed stands, by place in the whole buffer.
@@ -92,7 +92,7 @@ filled_more moved octets whole read start filled count total after within is lon
     ∙ ap (λ (list : List ℕ). take (filled - start) whole ++ list) (take-append-le count read (drop (length whole - (filled - start)) (drop (filled - start) whole)) short)
     ∙ ap (λ (list : List ℕ). list ++ take count read) (ap (take (filled - start)) is ∙ front_is octets start filled after within)
 
-pub filled_held : {Z : Type 0} (moved : Vec ℕ Z) (lines : Lines) (whole read : List ℕ) (count total : ℕ) → lines.next ≡ lines.start
+pub filled_held : {Z : Type 0} (moved : Vec ℕ Z) (lines : ScriptLines) (whole read : List ℕ) (count total : ℕ) → lines.next ≡ lines.start
     → whole ≡ moved.items → moved.items ≡ copy_within lines.buffer.items lines.start lines.filled 0 → length whole ≡ moved.len → length read ≡ length (take (length whole - (lines.filled - lines.start)) (drop (lines.filled - lines.start) whole))
     → count ≤ length read → total ≡ lines.filled - lines.start + count
     → take total (with_items moved (put_mid (lines.filled - lines.start) (length whole - (lines.filled - lines.start)) whole read)).items ≡ held lines ++ take count read
@@ -100,14 +100,14 @@ filled_held moved lines whole read count total begins same is long fits short co
     filled_more moved lines.buffer.items whole read lines.start lines.filled count total (omega arith) (omega (arith, lines.buffer.ok.0)) (same ∙ is) long fits short counts
     ∙ ap (λ (n : ℕ). drop n (take lines.filled lines.buffer.items) ++ take count read) (sym begins)
 
-pub length-held : (lines : Lines) → length (held lines) ≡ lines.filled - lines.next
+pub length-held : (lines : ScriptLines) → length (held lines) ≡ lines.filled - lines.next
 length-held lines = simp (length-drop, length-take) (omega (arith, lines.buffer.ok.0))
 
-pub held_first : (lines : Lines) (octets got : List ℕ) → lines.next ≡ lines.start → octets ≡ held lines ++ got → take (lines.filled - lines.start) octets ≡ held lines
+pub held_first : (lines : ScriptLines) (octets got : List ℕ) → lines.next ≡ lines.start → octets ≡ held lines ++ got → take (lines.filled - lines.start) octets ≡ held lines
 held_first lines octets got begins is = ap (take (lines.filled - lines.start)) is ∙ take_at (held lines) got (lines.filled - lines.start) (length-held lines ∙ omega arith)
 
 -- The text that is left stays the same.
-pub left_kept : (old new : Lines) (before now : Option (List ℕ)) (got text : List ℕ) → AreLeft old before text → held new ≡ held old ++ got → Consumes before now got
+pub left_kept : (old new : ScriptLines) (before now : Option (List ℕ)) (got text : List ℕ) → AreLeft old before text → held new ≡ held old ++ got → Consumes before now got
     → (new.is_at_end ≡ true → IsAtEnd now) → AreLeft new now text
 left_kept old new before None got text left moved takes ends = absurd (subst (λ (known : Option (List ℕ)). Consumes known None got) left.tells takes)
 left_kept old new before (Some rest) got text left moved takes ends = record {
@@ -137,7 +137,7 @@ within_front octets high within h = λ k d from before.
     subst (λ (octet : ℕ). octet ≢ 10) (get_or-take high octets k d before) (h k d (omega (arith, before, size)))
 
 -- what had been read has no line feed, and stands at the front
-pub open_front : (old new : Lines) (begun : ℕ) → old.next ≡ old.start → new.start ≡ 0 → new.next ≡ 0 → begun ≤ new.filled → AllWithin (λ octet. octet ≢ 10) old.buffer.items old.start old.filled
+pub open_front : (old new : ScriptLines) (begun : ℕ) → old.next ≡ old.start → new.start ≡ 0 → new.next ≡ 0 → begun ≤ new.filled → AllWithin (λ octet. octet ≢ 10) old.buffer.items old.start old.filled
     → take begun (held new) ≡ held old → AllWithin (λ octet. octet ≢ 10) new.buffer.items new.start begun
 open_front old new begun begins front first within h kept =
     let here : IsOpen (held old) = subst (λ (n : ℕ). IsOpen (drop n (take old.filled old.buffer.items))) (sym begins) (open_part old.buffer.items old.start old.filled (omega (arith, old.buffer.ok.0)) h) in

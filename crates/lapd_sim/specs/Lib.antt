@@ -1,5 +1,5 @@
 pub mod Faults
-pub mod Lines
+pub mod ScriptLines
 pub mod Past
 pub mod Stands
 pub mod Obeyed

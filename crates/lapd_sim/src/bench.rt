@@ -4,15 +4,16 @@ ghost use Rattle.std.specs.Prelude.{◌≡◌, ◌<◌, ◌≤◌, length, vec_l
 ghost use Rattle.lapd_script.specs.Meaning as meaning;
 ghost use Rattle.lapd_script.specs.declared.kind.FaultKind.TheVariants.{BadLine};
 ghost use Rattle.lapd_sim_machine.specs.Bench as machine;
-ghost use Rattle.lapd_sim_machine.specs.Steps.{config_of, with_card};
+ghost use Rattle.lapd_sim_machine.specs.Steps.{with_card};
 
 use crate::exchange::Exchange;
 use crate::faults::LineFault;
-use crate::parts::{config_of, listeners, request_for, terminals};
+use crate::parts::{listeners, request_for, terminals};
 use crate::terminal::{LONGEST_FRAME, SHORTEST_FRAME, Terminal};
 use crate::traffic::{pull, receive, send, tell};
 use lapd_bits::Deframer;
-use lapd_script::{Asked, CardNumbers, FaultKind};
+use lapd_card::Config;
+use lapd_script::{Asked, FaultKind};
 use lapd_transcript::{Target, WriteFailed};
 use std::alloc::Global;
 
@@ -30,10 +31,10 @@ impl Bench {
     ghost use Rattle.lapd_sim.specs.Obeyed.{scene, Obeys, Begins};
     ghost use Rattle.lapd_sim.specs.Stands.{Stands};
 
-    pub(crate) fn start(alloc: Global, numbers: CardNumbers) -> Result<Bench, LineFault>
-        ensures { Begins result (config_of numbers) Stands }
+    pub(crate) fn start(alloc: Global, config: Config) -> Result<Bench, LineFault>
+        ensures { Begins result config Stands }
     {
-        let exchange = Exchange::start(alloc, config_of(numbers))?;
+        let exchange = Exchange::start(alloc, config)?;
         let terminals = terminals(alloc, exchange.lines())?;
         let listeners = listeners(alloc, exchange.lines())?;
         Ok(Bench {

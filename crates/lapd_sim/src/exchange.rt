@@ -7,6 +7,7 @@ ghost use Rattle.lapd_card_machine.specs.Event.{at};
 ghost use Rattle.lapd_card_machine.specs.Machine.{answer};
 ghost use Rattle.lapd_clock.specs.Timers as clocks;
 ghost use Rattle.lapd_line_machine.specs.Answer as happening;
+ghost use Rattle.lapd_line_machine.specs.Laws.{orders_in};
 ghost use Rattle.lapd_line_machine.specs.Request.{request_of};
 ghost use Rattle.lapd_line_machine.specs.Sound.{IsInRange};
 ghost use Rattle.lapd_sim.specs.Past.{HasPast};
@@ -214,7 +215,7 @@ fn carry_out<T: Target>(
     requires number { line < 2 ^ 16 }
     requires now { now < 2 ^ 63 }
     ensures lines { clock.new.lines ≡ clock.old.lines }
-    ensures ordered { clock.new ≡ fold (machine.ordered line now) clock.old (machine.orders_in (answer_of_result (Ok report.now))) }
+    ensures ordered { clock.new ≡ fold (machine.ordered line now) clock.old (orders_in (answer_of_result (Ok report.now))) }
     ensures written { Writes result (T.taken target.old) (T.taken target.new) (answer_text line (answer_of_result (Ok report.now))) }
 {
     order(clock, line, report.orders(), now);

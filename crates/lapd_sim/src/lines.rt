@@ -22,7 +22,7 @@ const LONGEST_SCRIPT: u64 = 1 << 63;
 /// The lines of a script, one after the other. A line ends with a line feed, which isn't part of it; the last line
 /// may lack it.
 #[derive(Drop)]
-pub(crate) struct Lines {
+pub(crate) struct ScriptLines {
     /// The current line with its line feed, and what has been read of the lines after it.
     buffer: Vec<u8>,
     /// Where the current line begins, where it ends, and where the next one begins.
@@ -46,16 +46,16 @@ pub(crate) struct Lines {
     ghost bounded: { octets ≤ 2 ^ 63 },
 }
 
-impl Lines {
-    ghost use Rattle.lapd_sim.specs.Lines.{left_to_read, current, held, too_long_after, AreLeft, Advances, Takes};
+impl ScriptLines {
+    ghost use Rattle.lapd_sim.specs.ScriptLines.{left_to_read, current, held, too_long_after, AreLeft, Advances, Takes};
 
     /// No line yet.
-    pub(crate) fn start(alloc: Global) -> Result<Lines, AllocError>
+    pub(crate) fn start(alloc: Global) -> Result<ScriptLines, AllocError>
         ensures left { IfOk result (λ lines. (text : List ℕ) → AreLeft lines (Some text) text) }
         ensures number { IfOk result (λ lines. lines.number ≡ 0) }
         ensures octets { IfOk result (λ lines. lines.octets ≡ 0) }
     {
-        Ok(Lines {
+        Ok(ScriptLines {
             buffer: vec![in alloc; 0; ROOM]?,
             start: 0,
             end: 0,

@@ -2,13 +2,13 @@
 
 ghost use Rattle.std.specs.Prelude.{◌≡◌, [], vec_len, replicate, IfOk};
 ghost use Rattle.lapd_line_machine.specs.Request as asking;
-ghost use Rattle.lapd_sim_machine.specs.Steps.{config_of, request_for};
+ghost use Rattle.lapd_sim_machine.specs.Steps.{request_for};
 ghost use Rattle.lapd_sim.specs.Stands.{Each, Hears, Sends};
 
 use crate::terminal::{LONGEST_INFORMATION, Terminal};
 use lapd_bits::Deframer;
-use lapd_card::{Config, Request};
-use lapd_script::{Asked, CardNumbers};
+use lapd_card::Request;
+use lapd_script::Asked;
 use std::alloc::{AllocError, Global};
 
 /// A terminal for each line.
@@ -40,24 +40,6 @@ pub(crate) fn listeners(alloc: Global, lines: usize) -> Result<Vec<Deframer>, Al
         }
     }
     Ok(listeners)
-}
-
-/// The configuration that the numbers of a card line are.
-pub(crate) fn config_of(numbers: CardNumbers) -> Config
-    ensures { result ≡ config_of numbers }
-{
-    Config {
-        lines: numbers.lines,
-        terminals: numbers.terminals,
-        k: numbers.k,
-        k16: numbers.k16,
-        queue: numbers.queue,
-        unit_queue: numbers.unit_queue,
-        control: numbers.control,
-        slots: numbers.slots,
-        n201: numbers.n201,
-        n200: numbers.n200,
-    }
 }
 
 /// What a word of a script asks of the card.

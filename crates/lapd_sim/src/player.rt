@@ -11,7 +11,7 @@ ghost use Rattle.lapd_sim.specs.Stands.{Has, Stands};
 
 use crate::bench::Bench;
 use crate::faults::{LineFault, PlayFault};
-use crate::lines::Lines;
+use crate::lines::ScriptLines;
 use lapd_script::{Command, FaultKind, read_line};
 use lapd_transcript::{Source, Target};
 use std::alloc::{AllocError, Global};
@@ -36,7 +36,7 @@ pub fn play<S: Source, T: Target>(
     ensures played { (text : List ℕ) → S.remaining source.old ≡ Some text
         → Plays result text (S.remaining source.new) (T.taken target.old) (T.taken target.new) }
 {
-    let mut lines = Lines::start(alloc)?;
+    let mut lines = ScriptLines::start(alloc)?;
     let mut player = Player::start(alloc)?;
     loop {
         match lines.advance(source) {
@@ -97,7 +97,7 @@ fn without_card(alloc: Global, command: Command) -> Result<Option<Bench>, LineFa
 {
     match command {
         Command::Skip => Ok(None),
-        Command::Card(numbers) => Ok(Some(Bench::start(alloc, numbers)?)),
+        Command::Card(config) => Ok(Some(Bench::start(alloc, config)?)),
         Command::Rx { .. } => Err(LineFault::Faulty(FaultKind::NoCard)),
         Command::In { .. } => Err(LineFault::Faulty(FaultKind::NoCard)),
         Command::Pull { .. } => Err(LineFault::Faulty(FaultKind::NoCard)),

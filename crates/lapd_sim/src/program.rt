@@ -77,7 +77,7 @@ pub fn serve<S: Source, T: Target, F: Target>(
         Some(Job::Frame { hex, network }) => {
             match show_frame(alloc, hex.as_bytes(), side_of(network), target) {
                 Ok(()) => DONE,
-                Err(fault) => refuse_frame(fault, faults),
+                Err(fault) => refuse_digits(fault, faults),
             }
         }
         Some(Job::Limits(limits)) => match write_bound(target, limits.bound()) {
@@ -105,7 +105,7 @@ pub fn refuse<F: Target>(fault: PlayFault, faults: &mut F) -> u8
     FAILED
 }
 
-fn refuse_frame<F: Target>(fault: FrameFault, faults: &mut F) -> u8
+fn refuse_digits<F: Target>(fault: FrameFault, faults: &mut F) -> u8
     ensures status { result ≡ 1 }
     ensures told { IsTold (frame_line fault) (F.taken faults.old) (F.taken faults.new) }
 {

@@ -17,12 +17,11 @@ use Rattle.lapd_card_machine.specs.Machine.{after}
 use Rattle.lapd_card_machine.specs.Run.{after_all, IsAtLine, AreAtLines}
 use Rattle.lapd_script.specs.declared.kind.FaultKind.{FaultKind}
 use Rattle.lapd_script.specs.declared.kind.FaultKind.TheVariants.{TooLong, BadCard, BadLine, BadFrame, TimeOver}
-use Rattle.lapd_script.specs.declared.command.CardNumbers.{CardNumbers}
 use Rattle.lapd_script.specs.Meaning as line
 use Rattle.lapd_script.specs.Read.{read}
 use Rattle.lapd_sim_machine.specs.Pieces.{pieces_of, line_in}
 use Rattle.lapd_sim_machine.specs.Bench.{Bench, begun, terminal_at, octets_sent, after_sending, with_terminal}
-use Rattle.lapd_sim_machine.specs.Steps.{Scene, with_event, with_events, octets_at, Pulls, one_pull, pulls, expired, expiries, after_rx, after_in, after_pull, after_wait, with_card, without_card, is_frame, last_moment, request_for, config_of}
+use Rattle.lapd_sim_machine.specs.Steps.{Scene, with_event, with_events, octets_at, Pulls, one_pull, pulls, expired, expiries, after_rx, after_in, after_pull, after_wait, with_card, without_card, is_frame, last_moment, request_for}
 use Rattle.lapd_sim_machine.specs.Script.{Fault, Played, not_begun, played, faulty, is_too_long, after_scene, after_bench, after_reading, unless_faulty, one_more}
 use Rattle.lapd_sim_machine.specs.Events.{expiry_events, events_until, meant_events, read_events, unless_fault, line_events, events_from, card_meant, first_card, ScriptsAreRuns}
 use Rattle.lapd_sim_machine.proofs.Expiries.{drained}
@@ -132,7 +131,7 @@ event_led e s within =
 
 meaning_leads : (m : line.Meaning) (s : Scene) → Leads s.bench (meant_events m s) (with_card m s)
 meaning_leads line.skip s = nothing_led s.bench
-meaning_leads (line.card numbers) s = tt
+meaning_leads (line.card config) s = tt
 meaning_leads (line.rx number octets) s =
     if_good (nat_lt number s.bench.card.config.lines) s.bench (octets_at number octets) (Ok (after_rx number octets s)) BadLine
     (λ good. octets_led number octets s (ltb-true _ _ good))
@@ -217,18 +216,18 @@ pub data Begins (r : Result line.Meaning FaultKind) (q : Played) : Type 0 where
   stops : q.bench ≡ None → (fault : Fault) → q.fault ≡ Some fault → Begins r q
   begins : (c : Config) → card_meant r ≡ Some c → q.bench ≡ Some (begun c) → IsInRange c → Begins r q
 
-card_begins : (piece : List ℕ) (numbers : CardNumbers) (p : Played) → p.bench ≡ None → Begins (Ok (line.card numbers)) (after_bench piece (without_card (line.card numbers)) p)
-card_begins piece numbers p e = go (configs.first_fault (config_of numbers)) refl
+card_begins : (piece : List ℕ) (config : Config) (p : Played) → p.bench ≡ None → Begins (Ok (line.card config)) (after_bench piece (without_card (line.card config)) p)
+card_begins piece config p e = go (configs.first_fault config) refl
   where
-    go : (o : Option Field) → configs.first_fault (config_of numbers) ≡ o → Begins (Ok (line.card numbers))
-        (after_bench piece (elim o as (λ o. Result (Option Bench) FaultKind) [ None ↦ Ok (Some (begun (config_of numbers))) | Some field ↦ Err BadCard ]) p)
-    go None ranged = begins (config_of numbers) refl refl ranged
+    go : (o : Option Field) → configs.first_fault config ≡ o → Begins (Ok (line.card config))
+        (after_bench piece (elim o as (λ o. Result (Option Bench) FaultKind) [ None ↦ Ok (Some (begun config)) | Some field ↦ Err BadCard ]) p)
+    go None ranged = begins config refl refl ranged
     go (Some field) fault = stops e _ refl
 
 reading_begins : (piece : List ℕ) (r : Result line.Meaning FaultKind) (p : Played) → Begins r (after_reading piece r (on None None p))
 reading_begins piece (Err kind) p = stops refl _ refl
 reading_begins piece (Ok line.skip) p = waits refl refl
-reading_begins piece (Ok (line.card numbers)) p = card_begins piece numbers (on None None p) refl
+reading_begins piece (Ok (line.card config)) p = card_begins piece config (on None None p) refl
 reading_begins piece (Ok (line.rx number octets)) p = stops refl _ refl
 reading_begins piece (Ok (line.into number octets)) p = stops refl _ refl
 reading_begins piece (Ok (line.pull number count)) p = stops refl _ refl

@@ -1,122 +1,19 @@
 -- To wait ends: with each expiry, the time that is left until the end falls, and it is tried often enough.
-use Rattle.std.proofs.Common.{◌≡◌, ℕ, zero, suc, ◌+◌, ◌-◌, ◌<◌, ◌≤◌, Bool, true, false, cond, not, ◌&&◌, nat_le, List, [], ◌∷◌, ◌++◌, length, fold, Option, Some, None, refl, sym, ap, ◌∙◌, arith, append_assoc, append-nil}
+use Rattle.std.proofs.Common.{◌≡◌, ℕ, zero, suc, ◌+◌, ◌-◌, ◌<◌, ◌≤◌, Bool, true, false, cond, nat_le, List, [], ◌∷◌, ◌++◌, length, fold, Option, Some, None, refl, sym, ap, ◌∙◌, arith, append_assoc, append-nil}
 use Rattle.std.proofs.lemmas.Bool.Decides.{nat_tests}
 use Rattle.lapd_card_machine.specs.Card as card
 use Rattle.lapd_card_machine.specs.Event.{at}
 use Rattle.lapd_card_machine.specs.Machine.{answer}
+use Rattle.lapd_card_machine.proofs.Starts.{expiry_starts}
 use Rattle.lapd_clock.proofs.TimeUntil.{time_until-due, time_until-stop, time_until-start}
 use Rattle.lapd_clock.specs.Timer.{Timer, T200, T203, T201, Order, Start, Stop, duration}
 use Rattle.lapd_clock.specs.Timers.{Expiry, Timers, with_order, first_due, due_at, after_due, next_moment, time_until}
-use Rattle.lapd_frame.specs.declared.services.Service.{Service}
-use Rattle.lapd_frame.specs.declared.services.Service.TheVariants.{Call, Packet}
 use Rattle.lapd_line_machine.specs.Answer as happening
-use Rattle.lapd_line_machine.specs.Expiry.{at_timer, aim_of_expiry}
-use Rattle.lapd_line_machine.specs.Line.{Line, link_in, place_in, terms}
-use Rattle.lapd_line_machine.specs.Machine as lines
-use Rattle.lapd_line_machine.specs.Outcome.{told_of_management, of_link, of_change, of_aim}
-use Rattle.lapd_line_machine.specs.declared.config.Config.{Config}
-use Rattle.lapd_link_machine.specs.Events as link
-use Rattle.lapd_link_machine.specs.Link.{Link}
-use Rattle.lapd_link_machine.specs.Machine as links
-use Rattle.lapd_link_machine.specs.Told.{runs, timer_at, order_for, orders_for}
-use Rattle.lapd_link_machine.specs.declared.terms.Terms.{Terms}
-use Rattle.lapd_link_machine.specs.declared.timers.LinkTimer.{LinkTimer}
-use Rattle.lapd_link_machine.specs.declared.timers.LinkTimer.TheVariants as link_timer
-use Rattle.lapd_sim_machine.specs.Bench.{Bench, orders_in, ordered, happened}
+use Rattle.lapd_line_machine.specs.Laws.{orders_in, starts}
+use Rattle.lapd_sim_machine.specs.Bench.{Bench, ordered, happened}
 use Rattle.lapd_sim_machine.specs.Steps.{Scene, answer_text, at_expiry, expired, expiries, until, moment_of}
-use Rattle.lapd_tei.proofs.Brief.{IsBrief, told_brief}
-use Rattle.lapd_tei.specs.Events as teis
-use Rattle.lapd_tei.specs.Machine as tei
-use Rattle.lapd_tei.specs.declared.outcome.Change.{Change}
-use Rattle.lapd_tei.specs.declared.outcome.Change.TheVariants.{Gained, Left}
 
--- ---- an expiry starts at most one timer
-
--- how many timers are started
-abbrev starts : List Order → ℕ
-starts [] = 0
-starts (Start timer ∷ orders) = suc (starts orders)
-starts (Stop timer ∷ orders) = starts orders
-
-starts-append : (xs ys : List Order) → starts (xs ++ ys) ≡ starts xs + starts ys
-starts-append [] ys = omega arith
-starts-append (Start timer ∷ xs) ys = omega (arith, starts-append xs ys)
-starts-append (Stop timer ∷ xs) ys = starts-append xs ys
-
-starts-few : (xs : List Order) → starts xs ≤ length xs
-starts-few [] = omega arith
-starts-few (Start timer ∷ xs) = omega (arith, starts-few xs)
-starts-few (Stop timer ∷ xs) = omega (arith, starts-few xs)
-
-no_start : (b : Bool) (timer : Timer) → starts (cond b (Stop timer ∷ []) []) ≡ 0
-no_start true timer = refl
-no_start false timer = refl
-
-one_start : (a b : Bool) (timer : Timer) → starts (cond a (Start timer ∷ []) (cond b (Stop timer ∷ []) [])) ≤ 1
-one_start true b timer = omega arith
-one_start false true timer = omega arith
-one_start false false timer = omega arith
-
--- a link orders at most one start, as its event starts at most one timer
-link_starts : (t : Terms) (before started after : Option LinkTimer) → starts (orders_for t before started after) ≤ 1
-link_starts t before None after =
-    let one = no_start (runs link_timer.T200 before && not (runs link_timer.T200 after)) (timer_at t link_timer.T200) in
-    let two = no_start (runs link_timer.T203 before && not (runs link_timer.T203 after)) (timer_at t link_timer.T203) in
-    let whole = starts-append (order_for t link_timer.T200 before None after) (order_for t link_timer.T203 before None after) in
-    omega (arith, one, two, whole)
-link_starts t before (Some link_timer.T200) after =
-    let one = one_start (runs link_timer.T200 after) (runs link_timer.T200 before && not (runs link_timer.T200 after)) (timer_at t link_timer.T200) in
-    let two = no_start (runs link_timer.T203 before && not (runs link_timer.T203 after)) (timer_at t link_timer.T203) in
-    let whole = starts-append (order_for t link_timer.T200 before (Some link_timer.T200) after) (order_for t link_timer.T203 before (Some link_timer.T200) after) in
-    omega (arith, one, two, whole)
-link_starts t before (Some link_timer.T203) after =
-    let one = no_start (runs link_timer.T200 before && not (runs link_timer.T200 after)) (timer_at t link_timer.T200) in
-    let two = one_start (runs link_timer.T203 after) (runs link_timer.T203 before && not (runs link_timer.T203 after)) (timer_at t link_timer.T203) in
-    let whole = starts-append (order_for t link_timer.T200 before (Some link_timer.T203) after) (order_for t link_timer.T203 before (Some link_timer.T203) after) in
-    omega (arith, one, two, whole)
-
--- and one that is cleared orders none
-cleared_starts : (t : Terms) (l : Link) → starts (links.told t link.cleared l).orders ≡ 0
-cleared_starts t l = go l.running
-  where
-    go : (before : Option LinkTimer) → starts (orders_for t before None None) ≡ 0
-    go None = refl
-    go (Some link_timer.T200) = refl
-    go (Some link_timer.T203) = refl
-
-three : (xs ys zs : List Order) → starts xs ≡ 0 → starts ys ≡ 0 → length zs ≤ 1 → starts (xs ++ ys ++ zs) ≤ 1
-three xs ys zs x y z =
-    omega (arith, starts-append xs (ys ++ zs), starts-append ys zs, starts-append (xs ++ ys) zs, starts-append xs ys, starts-few zs, x, y, z)
-
-module _ (c : Config) where
-  change_starts : (o : Option Change) (t : tei.Told) (l : Line) → IsBrief t → starts (of_change c o (told_of_management t) l).told.orders ≤ 1
-  change_starts None t l h = omega (arith, starts-few t.orders, h.orders)
-  change_starts (Some (Gained n place)) t l h = omega (arith, starts-few t.orders, h.orders)
-  change_starts (Some (Left n place)) t l h =
-      let call = of_link c Call n place link.cleared l in
-      three call.told.orders (of_link c Packet n place link.cleared call.line).told.orders t.orders
-      (cleared_starts (terms c Call n) (link_in l Call place)) (cleared_starts (terms c Packet n) (link_in call.line Packet place)) h.orders
-
-  timer_starts : (l : Line) (service : Service) (n : ℕ) (timer : LinkTimer) (o : Option ℕ) → starts (of_aim c (at_timer service n timer o) l).told.orders ≤ 1
-  timer_starts l service n timer None = omega arith
-  timer_starts l service n timer (Some place) =
-      let t = terms c service n in
-      let x = link_in l service place in
-      let course = links.course t (link.expired timer) x in
-      link_starts t x.running course.started course.link.running
-
-  aim_starts : (timer : Timer) (l : Line) → starts (of_aim c (aim_of_expiry timer l) l).told.orders ≤ 1
-  aim_starts (T200 service n) l = timer_starts l service n link_timer.T200 (place_in l n)
-  aim_starts (T203 service n) l = timer_starts l service n link_timer.T203 (place_in l n)
-  aim_starts T201 l =
-      change_starts (teis.told teis.expiry l.management).change (teis.told teis.expiry l.management)
-      (record l { management = teis.after teis.expiry l.management }) (told_brief teis.expiry l.management)
-
-expiry_starts : (line : ℕ) (timer : Timer) (m : card.Card) → starts (orders_in (answer (at line (happening.expiry timer)) m)) ≤ 1
-unfolding lines.takes_slot lines.answer
-expiry_starts line timer m = aim_starts m.config timer (card.line_at line m)
-
--- ---- so the time that is left falls
+-- ---- with each expiry, as it starts at most one timer, the time that is left falls
 
 pub runs_long : (timer : Timer) → 1 ≤ duration timer
 runs_long (T200 service n) = omega arith

@@ -12,11 +12,12 @@ use Rattle.lapd_clock.proofs.Calls.{all_later}
 use Rattle.lapd_clock.proofs.Ordered.{All-put_in_order, All-filter, IsInOrder-put_in_order, IsInOrder-filter}
 use Rattle.lapd_clock.proofs.TimerOrder.{before_order}
 use Rattle.lapd_line_machine.specs.Answer.{octet, pull, expiry}
+use Rattle.lapd_line_machine.specs.Laws.{orders_in}
 use Rattle.lapd_card_machine.specs.Card.{Card}
 use Rattle.lapd_card_machine.specs.Event.{Event, at}
 use Rattle.lapd_card_machine.specs.Machine.{answer}
 use Rattle.lapd_card_machine.specs.Run.{IsAtLine, AreAtLines}
-use Rattle.lapd_sim_machine.specs.Bench.{Bench, orders_in, ordered, happened}
+use Rattle.lapd_sim_machine.specs.Bench.{Bench, ordered, happened}
 use Rattle.lapd_sim_machine.specs.Steps.{Scene, with_event, with_events, octets_at, Pulls, one_pull, pulls, at_expiry, expired, expiries}
 use Rattle.lapd_sim_machine.specs.Events.{expiry_events}
 use Rattle.lapd_sim_machine.proofs.Expiries.{runs_long}

@@ -84,7 +84,7 @@ scene_of b = record { bench = b; text = [] }
 
 meaning_says : (m : line.Meaning) (b : Bench) → Says (said m b (meant_moments m b)) (with_card m (scene_of b))
 meaning_says line.skip b = refl
-meaning_says (line.card numbers) b = tt
+meaning_says (line.card config) b = tt
 meaning_says (line.rx number octets) b =
     if_good (nat_lt number b.card.config.lines) _ (Ok (after_rx number octets (scene_of b))) BadLine
     (events_say (octets_at number octets) (scene_of b))

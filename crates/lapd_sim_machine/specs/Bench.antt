@@ -6,7 +6,7 @@ use Rattle.lapd_bits.specs.Sent.{Item, idle, frame, line_text}
 use Rattle.lapd_frame.specs.declared.timers.Order.{Order}
 use Rattle.lapd_clock.specs.Timers as clocks
 use Rattle.lapd_line_machine.specs.declared.config.Config.{Config}
-use Rattle.lapd_line_machine.specs.Answer.{Answer, told, refused, pulled}
+use Rattle.lapd_line_machine.specs.Laws.{orders_in}
 use Rattle.lapd_card_machine.specs.Event.{Event}
 use Rattle.lapd_card_machine.specs.Card.{Card, fresh}
 use Rattle.lapd_card_machine.specs.Machine.{after, answer}
@@ -41,11 +41,6 @@ abbrev pub taken_at : ℕ → Bench → List ℕ
 taken_at line b = get_or b.taken line []
 
 -- An event at the card: the orders that it gives are applied at the moment.
-abbrev pub orders_in : Answer → List Order
-orders_in (told t) = t.orders
-orders_in (refused why) = []
-orders_in (pulled octet begun orders) = orders
-
 abbrev pub ordered : ℕ → ℕ → clocks.Timers → Order → clocks.Timers
 ordered line now clock order = clocks.with_order clock line order now
 

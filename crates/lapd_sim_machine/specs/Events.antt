@@ -12,7 +12,7 @@ use Rattle.lapd_script.specs.Meaning as line
 use Rattle.lapd_script.specs.Read.{read}
 use Rattle.lapd_sim_machine.specs.Pieces.{pieces_of, line_in}
 use Rattle.lapd_sim_machine.specs.Bench.{Bench, terminal_at, octets_sent}
-use Rattle.lapd_sim_machine.specs.Steps.{Scene, octets_at, expired, request_for, config_of}
+use Rattle.lapd_sim_machine.specs.Steps.{Scene, octets_at, expired, request_for}
 use Rattle.lapd_sim_machine.specs.Script.{Fault, Played, not_begun, one_more, played}
 
 -- `wait`: the expiries that fall due up to its end, one after the other.
@@ -26,7 +26,7 @@ events_until end s = expiry_events (clocks.time_until end s.bench.clock) end s
 -- What a line brings where there is a card.
 abbrev pub meant_events : line.Meaning → Scene → List Event
 meant_events line.skip s = []
-meant_events (line.card numbers) s = []
+meant_events (line.card config) s = []
 meant_events (line.rx number octets) s = octets_at number octets
 meant_events (line.into number octets) s = octets_at number (octets_sent octets (terminal_at number s.bench))
 meant_events (line.pull number count) s = replicate count (at number pull)
@@ -60,7 +60,7 @@ script_events text = events_from not_begun (pieces_of text)
 abbrev pub card_meant : Result line.Meaning FaultKind → Option Config
 card_meant (Err kind) = None
 card_meant (Ok line.skip) = None
-card_meant (Ok (line.card numbers)) = Some (config_of numbers)
+card_meant (Ok (line.card config)) = Some config
 card_meant (Ok (line.rx number octets)) = None
 card_meant (Ok (line.into number octets)) = None
 card_meant (Ok (line.pull number count)) = None

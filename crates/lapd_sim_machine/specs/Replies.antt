@@ -28,7 +28,7 @@ octet_given m = octet_in m.answer
 -- card.
 abbrev pub said : line.Meaning → Bench → List Moment → List ℕ
 said line.skip b ms = []
-said (line.card numbers) b ms = []
+said (line.card config) b ms = []
 said (line.rx number octets) b ms = replies_text ms
 said (line.into number octets) b ms = replies_text ms
 said (line.pull number count) b ms = pulled_text number (taken_at number b) (map octet_given ms)

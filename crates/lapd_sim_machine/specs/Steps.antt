@@ -11,7 +11,6 @@ use Rattle.lapd_card_machine.specs.Machine.{answer}
 use Rattle.lapd_card_machine.specs.Stored.{stored, limit}
 use Rattle.lapd_script.specs.declared.kind.FaultKind.{FaultKind}
 use Rattle.lapd_script.specs.declared.kind.FaultKind.TheVariants.{NoCard, SecondCard, BadCard, BadLine, BadFrame, TimeOver}
-use Rattle.lapd_script.specs.declared.command.CardNumbers.{CardNumbers}
 use Rattle.lapd_script.specs.declared.command.Asked.{Asked}
 use Rattle.lapd_script.specs.declared.command.Asked.TheVariants as asked
 use Rattle.lapd_script.specs.Meaning as line
@@ -119,21 +118,6 @@ after_request line tei what octets s = with_event s (at line (request (request_f
 abbrev pub after_stored : Scene → Scene
 after_stored s = record s { text = s.text ++ stored_text (stored s.bench.card) (limit s.bench.card.config) }
 
--- `card`: the configuration that the numbers of a card line are.
-abbrev pub config_of : CardNumbers → Config
-config_of n = record {
-  lines = n.lines;
-  terminals = n.terminals;
-  k = n.k;
-  k16 = n.k16;
-  queue = n.queue;
-  unit_queue = n.unit_queue;
-  control = n.control;
-  slots = n.slots;
-  n201 = n.n201;
-  n200 = n.n200;
-}
-
 -- What can be wrong with a line once there is a card: it is not there, the frame's length, the time.
 abbrev pub at_line : ℕ → Scene → Scene → Result Scene FaultKind
 at_line line s after = if nat_lt line s.bench.card.config.lines then Ok after else Err BadLine
@@ -153,7 +137,7 @@ in_time milliseconds s = if nat_le (s.bench.now + milliseconds) last_moment then
 -- What a line does where there is a card,
 abbrev pub with_card : line.Meaning → Scene → Result Scene FaultKind
 with_card line.skip s = Ok s
-with_card (line.card numbers) s = Err SecondCard
+with_card (line.card config) s = Err SecondCard
 with_card (line.rx number octets) s = at_line number s (after_rx number octets s)
 with_card (line.into number octets) s = if nat_lt number s.bench.card.config.lines then in_at_line number octets s else Err BadLine
 with_card (line.pull number count) s = at_line number s (after_pull number count s)
@@ -167,7 +151,7 @@ begun_with c = elim (first_fault c) [ None ↦ Ok (Some (begun c)) | Some field 
 
 abbrev pub without_card : line.Meaning → Result (Option Bench) FaultKind
 without_card line.skip = Ok None
-without_card (line.card numbers) = begun_with (config_of numbers)
+without_card (line.card config) = begun_with config
 without_card (line.rx number octets) = Err NoCard
 without_card (line.into number octets) = Err NoCard
 without_card (line.pull number count) = Err NoCard

@@ -19,3 +19,21 @@ impl Model for Slot {
 
     ghost inverse = { λ n. record { number = n } };
 }
+
+impl Slot {
+    ghost use Rattle.std.specs.Prelude.{◌≡◌};
+
+    /// The slot of this number, as a shelf of the caller's own numbers its places. A shelf answers only such as it has.
+    pub const fn new(number: usize) -> Slot
+        ensures { result ≡ number }
+    {
+        Slot { number }
+    }
+
+    /// Its number on the shelf that answered it.
+    pub const fn number(self) -> usize
+        ensures { result ≡ self }
+    {
+        self.number
+    }
+}

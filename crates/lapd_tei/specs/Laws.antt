@@ -5,7 +5,7 @@ use Rattle.lapd_frame.specs.declared.timers.Order.TheVariants.{Start, Stop}
 use Rattle.lapd_frame.specs.declared.timers.Timer.TheVariants.{T201}
 use Rattle.lapd_tei.specs.Table.{Places, is_on, free_place, free_tei}
 use Rattle.lapd_tei.specs.Messages.{IdentityAssigned, IdentityRequest, heard_in}
-use Rattle.lapd_tei.specs.Machine.{Management, empty, waiting, messages_limit, nothing, Change, Gained, Left}
+use Rattle.lapd_tei.specs.Machine.{Management, empty, may_send, messages_limit, nothing, Change, Gained, Left}
 use Rattle.lapd_tei.specs.Rows.{remembered_in}
 use Rattle.lapd_tei.specs.Events.{Event, message, expiry, assign, remove, check, after, told, offered, after_offer}
 use Rattle.lapd_tei.specs.Sound.{IsAt, IsSound}
@@ -85,7 +85,7 @@ LowestIsAssigned = (octets : List ℕ) (m : Management) → AssignsLowest m.plac
 pub record MayBeAssigned (octets : List ℕ) (m : Management) (ri place tei : ℕ) : Type 0 where
   pub asks : heard_in octets ≡ Some (IdentityRequest ri)
   pub is_new : remembered_in ri m.remembered ≡ None
-  pub room : waiting m < messages_limit
+  pub room : may_send m < messages_limit
   pub place_is : free_place m.places ≡ Some place
   pub tei_is : free_tei m.places ≡ Some tei
 
@@ -103,7 +103,7 @@ OneIsFree = (places : Places) → length places < 63 → IsSome (free_tei places
 
 -- An event lets at most one message more wait, and loses at most one; a pull lets one fewer wait, or finds none.
 abbrev pub OneMoreWaits : Type 0
-OneMoreWaits = (e : Event) (m : Management) → waiting (after e m) ≤ waiting m + 1
+OneMoreWaits = (e : Event) (m : Management) → may_send (after e m) ≤ may_send m + 1
 
 abbrev pub OneIsLost : Type 0
 OneIsLost = (e : Event) (m : Management) → (told e m).lost ≤ 1
@@ -113,7 +113,7 @@ taken None = 0
 taken (Some octets) = 1
 
 abbrev pub OneFewerWaits : Type 0
-OneFewerWaits = (m : Management) → waiting (after_offer m) + taken (offered m) ≡ waiting m
+OneFewerWaits = (m : Management) → may_send (after_offer m) + taken (offered m) ≡ may_send m
 
 -- A message that is not served changes nothing, and nothing else is told of it.
 abbrev pub UnservedChangesNothing : Type 0

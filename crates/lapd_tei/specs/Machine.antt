@@ -36,8 +36,8 @@ place tei m = place_of tei m.places
 
 -- The messages that wait, and the octets that are held: those of the frames that wait, without their check, and three
 -- for Ri and TEI of each remembered assignment.
-abbrev pub waiting : Management → ℕ
-waiting m = length m.waiting
+abbrev pub may_send : Management → ℕ
+may_send m = length m.waiting
 
 abbrev pub held : Management → ℕ
 held m = 8 * length m.waiting + 3 * length m.remembered

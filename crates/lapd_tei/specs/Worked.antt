@@ -5,7 +5,7 @@ use Rattle.lapd_frame.specs.declared.refusals.Refusal.TheVariants.{NoLink, TeiTa
 use Rattle.lapd_frame.specs.declared.timers.Order.TheVariants.{Start, Stop}
 use Rattle.lapd_frame.specs.declared.timers.Timer.TheVariants.{T201}
 use Rattle.lapd_tei.specs.Messages.{IdentityRemove}
-use Rattle.lapd_tei.specs.Machine.{Management, empty, waiting, held, Told, nothing, Gained, Left}
+use Rattle.lapd_tei.specs.Machine.{Management, empty, may_send, held, Told, nothing, Gained, Left}
 use Rattle.lapd_tei.specs.Events.{Event, message, expiry, assign, remove, check, refusal, course, after, told, offered, after_offer}
 
 -- a line with room for eight TEIs, after events from its start; each message is pulled at once
@@ -205,7 +205,7 @@ full = unpulled (map (asks 0x22) (1 ∷ 2 ∷ 3 ∷ 4 ∷ [])) (pulled (assign 0
 abbrev lost_one : Told
 lost_one = record nothing { lost = 1 }
 
-denials-wait : waiting full ≡ 4
+denials-wait : may_send full ≡ 4
 unfolding course refusal
 denials-wait = refl
 

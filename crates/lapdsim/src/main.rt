@@ -1,9 +1,15 @@
 //! `lapdsim run` plays the script on its standard input, and writes the transcript to its standard output.
 //! `lapdsim frame` shows one frame, and `lapdsim limits` how many octets a card stores at most; `docs/FORMAT.md` has
-//! the words and what they answer.
+//! the words and what they answer. `lapdsim --help` and `lapdsim --version` say what the program is.
 #![tactic(auto)]
 
-use lapd_sim::{PlayFault, ReadFrom, WriteTo, refuse, serve};
+ghost use Rattle.std.specs.Prelude.{◌≡◌};
+ghost use Rattle.lapd_sim.specs.Plays.{Shows};
+
+mod help;
+
+use crate::help::help;
+use lapd_sim::{PlayFault, ReadFrom, Target, WriteTo, refuse, serve};
 use std::alloc::AllocError;
 use std::env;
 use std::io::ErrorKind;
@@ -27,14 +33,28 @@ fn main(rt: HostRuntime) -> ExitCode {
         Err(_) => Err(AllocError),
     };
     let status = match words {
-        Ok(words) => serve(
-            rt.alloc(),
-            words.as_slice(),
-            &mut source,
-            &mut target,
-            &mut faults,
-        ),
+        Ok(words) => match help(words.as_slice()) {
+            Some(text) => tell(text, &mut target, &mut faults),
+            None => serve(
+                rt.alloc(),
+                words.as_slice(),
+                &mut source,
+                &mut target,
+                &mut faults,
+            ),
+        },
         Err(_) => refuse(PlayFault::OutOfMemory, &mut faults),
     };
     ExitCode::from(status)
+}
+
+/// Writes `text`, and answers the exit status: 0, or 1 where the write failed, as for a transcript.
+fn tell<T: Target, F: Target>(text: &[u8], target: &mut T, faults: &mut F) -> u8
+    ensures told { Shows result text.now (T.taken target.old) (T.taken target.new) }
+    ensures untold { result ≡ 0 → F.taken faults.new ≡ F.taken faults.old }
+{
+    match target.write(text) {
+        Ok(()) => 0,
+        Err(_) => refuse(PlayFault::Write, faults),
+    }
 }

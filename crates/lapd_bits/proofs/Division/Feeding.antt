@@ -1,11 +1,13 @@
 -- Many bits fed to a register at once.
-use Rattle.std.proofs.Common.{◌≡◌, ◌+◌, Bool, false, not, List, [], ◌∷◌, ◌++◌, length, replicate, refl, sym, ap, ◌∙◌, append_assoc, append-nil, length-append, arith}
+use Rattle.std.proofs.Common.{◌≡◌, ℕ, ◌+◌, Bool, false, not, List, [], ◌∷◌, ◌++◌, length, replicate, refl, sym, ap, ◌∙◌, append_assoc, append-nil, length-append, arith}
 use Rattle.std.specs.Bool.{beq}
 use Rattle.std.specs.List.{fold}
+use Rattle.std.proofs.Math.ListN.{length-replicate}
 use Rattle.std.proofs.lemmas.List.{replicate-append-replicate}
+use Rattle.std.proofs.lemmas.List.Sums.{fold-append}
 use Rattle.lapd_bits.specs.Check.{plus, brought_down, remainder}
-use Rattle.lapd_bits.proofs.Division.Sums.{differ_self, plus-swap, plus-append, plus_zeros_of, plus_twice, plus-comm, length-plus}
-use Rattle.lapd_bits.proofs.Division.Linear.{brought_down-plus, remainder-plus}
+use Rattle.lapd_bits.proofs.Division.Sums.{differ_self, plus-swap, plus-append, plus-zeros, plus_zeros_of, plus_twice, plus-comm, length-plus}
+use Rattle.lapd_bits.proofs.Division.Linear.{brought_down-plus, remainder-plus, length-remainder, divided_zeros}
 use Rattle.lapd_bits.proofs.Division.Register.{with_bit, length-with_bit, remainder-text_below}
 
 -- ---- a sum of registers, fed with a sum of texts
@@ -71,19 +73,54 @@ fed-met p h t size same =
     ∙ ap (λ l. plus l (fold with_bit zeros met)) (fed-itself p h)
     ∙ ap (λ l. plus (h ++ replicate (length p) false) l) (fed-zeros met)
 
+-- A text whose first bits meet the whole register is fed to it: no part of the register stays.
+pub fed-longer :
+    (s t more : List Bool) → length s ≡ 16 → length t ≡ 16
+    → fold with_bit s (t ++ more) ≡ remainder ((plus s t ++ more) ++ replicate 16 false)
+fed-longer s t more size same =
+    let zeros : List Bool = replicate 16 false in
+    let others : List Bool = replicate (length more) false in
+    let met : List Bool = plus s t in
+    let met_size : length met ≡ 16 = length-plus s t (size ∙ sym same) ∙ size in
+    let text : t ++ more ≡ plus (s ++ others) (met ++ more) =
+    ap (λ l. l ++ more) (sym (plus_twice t s (same ∙ sym size)) ∙ plus-comm (plus t s) s ∙ ap (λ l. plus s l) (plus-comm t s))
+    ∙ ap (λ l. plus s met ++ l) (sym (plus-zeros more) ∙ plus-comm more others)
+    ∙ sym (plus-append s met others more (size ∙ sym met_size)) in
+    let sizes : length (s ++ others) ≡ length (met ++ more) =
+    omega (arith, length-append s others, length-append met more, length-replicate (length more) false, size, met_size) in
+    let nothing : fold with_bit s (s ++ others) ≡ zeros =
+    fold-append with_bit s s others
+    ∙ ap (λ l. fold with_bit l others) (ap (λ l. fold with_bit l s) (sym (append-nil s)) ∙ fed-itself s [] ∙ ap (λ n. replicate n false) size)
+    ∙ fed-zeros others
+    ∙ ap remainder (replicate-append-replicate (length more) 16 false) ∙ divided_zeros (length more + 16) in
+    ap (λ l. fold with_bit s l) text
+    ∙ ap (λ l. fold with_bit l (plus (s ++ others) (met ++ more))) (sym (plus_zeros_of s 16 size))
+    ∙ fed-plus (s ++ others) (met ++ more) s zeros sizes size refl
+    ∙ ap (λ l. plus l (fold with_bit zeros (met ++ more))) nothing
+    ∙ ap (λ l. plus zeros l) (fed-zeros (met ++ more))
+    ∙ plus-comm zeros (remainder ((met ++ more) ++ zeros))
+    ∙ plus_zeros_of (remainder ((met ++ more) ++ zeros)) 16 (length-remainder ((met ++ more) ++ zeros))
+
 -- zeros before a text change nothing of its division, and a text goes in part by part
-pub remainder-two :
-    (a b : List Bool) → length a ≡ 8 → length b ≡ 8
-    → remainder ((a ++ b) ++ replicate 16 false) ≡ plus (remainder (a ++ replicate 24 false)) (remainder (b ++ replicate 16 false))
-remainder-two a b a_size b_size =
+pub remainder-first :
+    (a b : List Bool) → remainder ((a ++ b) ++ replicate 16 false)
+    ≡ plus (remainder (a ++ replicate (length b + 16) false)) (remainder (b ++ replicate 16 false))
+remainder-first a b =
     let low : List Bool = b ++ replicate 16 false in
-    let low_size : length low ≡ 24 = omega (arith, length-append b (replicate 16 false)) in
-    let high_size : length (a ++ replicate 24 false) ≡ 32 = omega (arith, length-append a (replicate 24 false)) in
-    let parts : (a ++ b) ++ replicate 16 false ≡ plus (a ++ replicate 24 false) (replicate 8 false ++ low) =
+    let n = length b + 16 in
+    let low_size : length low ≡ n = length-append b (replicate 16 false) in
+    let zeros : List Bool = replicate (length a) false in
+    let parts : (a ++ b) ++ replicate 16 false ≡ plus (a ++ replicate n false) (zeros ++ low) =
     append_assoc a b (replicate 16 false)
-    ∙ ap (λ l. l ++ low) (sym (plus_zeros_of a 8 a_size))
-    ∙ ap (λ l. plus a (replicate 8 false) ++ l) (sym (plus_zeros_of low 24 low_size) ∙ plus-comm low (replicate 24 false))
-    ∙ sym (plus-append a (replicate 8 false) (replicate 24 false) low a_size) in
-    let same : length (a ++ replicate 24 false) ≡ length (replicate 8 false ++ low) =
-    omega (arith, high_size, low_size) in
-    ap remainder parts ∙ remainder-plus (a ++ replicate 24 false) (replicate 8 false ++ low) same
+    ∙ ap (λ l. l ++ low) (sym (plus-zeros a))
+    ∙ ap (λ l. plus a zeros ++ l) (sym (plus_zeros_of low n low_size) ∙ plus-comm low (replicate n false))
+    ∙ sym (plus-append a zeros (replicate n false) low (sym (length-replicate (length a) false))) in
+    let same : length (a ++ replicate n false) ≡ length (zeros ++ low) =
+    omega (arith, length-append a (replicate n false), length-append zeros low, length-replicate (length a) false, length-replicate n false, low_size) in
+    ap remainder parts ∙ remainder-plus (a ++ replicate n false) (zeros ++ low) same
+    ∙ ap (λ l. plus (remainder (a ++ replicate n false)) l) (remainder-zeros_before (length a) low)
+  where
+    remainder-zeros_before : (n : ℕ) (t : List Bool) → remainder (replicate n false ++ t) ≡ remainder t
+    remainder-zeros_before n t =
+        fold-append brought_down (replicate 16 false) (replicate n false) t
+        ∙ ap (λ l. fold brought_down l t) (divided_zeros n)

@@ -1,48 +1,45 @@
 -- The tables of the frame check hold what the long division leaves of each octet, and how a register goes by them.
-use Rattle.std.proofs.Common.{◌≡◌, ℕ, ◌+◌, ◌*◌, ◌/◌, ◌%◌, ◌^◌, ◌<◌, Bool, false, List, [], ◌∷◌, ◌++◌, length, take, get_or, map, replicate, refl, sym, ap, subst, ◌∙◌, append-nil, append_assoc, length-append, arith}
+use Rattle.std.proofs.Common.{◌≡◌, ℕ, suc, zero, ◌≤◌, ◌+◌, ◌*◌, ◌/◌, ◌%◌, ◌^◌, ◌<◌, Bool, false, List, [], ◌∷◌, ◌++◌, length, take, drop, get_or, map, replicate, refl, sym, ap, subst, ◌∙◌, append-nil, append_assoc, length-append, arith}
 use Rattle.std.specs.Prelude.{bit_xor}
 use Rattle.std.specs.List.{fold, range_with_len}
-use Rattle.std.proofs.lemmas.List.{take_more}
+use Rattle.std.proofs.lemmas.List.{length-take-le, length-drop}
+use Rattle.std.proofs.Math.Seq.{take-add}
 use Rattle.std.proofs.lemmas.List.FromFn.{get_or-map-range_with_len}
 use Rattle.lapd_bits.specs.Bits.{low_bits, bits, number_of}
-use Rattle.lapd_bits.specs.Check.{plus, remainder}
+use Rattle.lapd_bits.specs.Check.{plus, remainder, dividend}
 use Rattle.lapd_bits.specs.Register.{HoldsDivision}
-use Rattle.lapd_bits.specs.declared.check.TheConstants.{BY_OCTET, BY_OCTET_BEFORE}
-use Rattle.lapd_bits.proofs.BitLemmas.{length-low_bits, low_bits-two_octets, low_bits-number_of_n, bits-push}
+use Rattle.lapd_bits.specs.declared.check.TheConstants.{LEFT}
+use Rattle.lapd_bits.proofs.BitLemmas.{length-bits, length-low_bits, low_bits-two_octets, low_bits-number_of_n, bits-append}
 use Rattle.lapd_bits.proofs.Division.Linear.{length-remainder}
-use Rattle.lapd_bits.proofs.Division.Sums.{plus-append, plus-comm, plus_zeros_of}
+use Rattle.lapd_bits.proofs.Division.Sums.{plus-append}
 use Rattle.lapd_bits.proofs.Division.Register.{with_bit, remainder-dividend-append}
-use Rattle.lapd_bits.proofs.Division.Feeding.{fed-met, remainder-two}
+use Rattle.lapd_bits.proofs.Division.Feeding.{fed-met, fed-longer, remainder-first}
 use Rattle.lapd_bits.proofs.Division.Word.{low_bits-xor}
 
 -- what the division leaves of an octet with `n` zeros after it, as a register holds it
 abbrev left_with : ℕ → ℕ → ℕ
 left_with n octet = number_of (remainder (low_bits 8 octet ++ replicate n false))
 
-by_octet_is : BY_OCTET ≡ map (left_with 16) (range_with_len 0 256)
+-- the entries for no octet of zeros after each octet, then for one, and so on
+left_is : LEFT ≡ map (λ place. left_with (8 * (place / 256) + 16) (place % 256)) (range_with_len 0 2048)
 unfolding low_bits
-by_octet_is = refl
-
-by_octet_before_is : BY_OCTET_BEFORE ≡ map (left_with 24) (range_with_len 0 256)
-unfolding low_bits
-by_octet_before_is = refl
+left_is = refl
 
 -- the bits of what is left are the remainder
 low_bits-left_with : (n octet : ℕ) → low_bits 16 (left_with n octet) ≡ remainder (low_bits 8 octet ++ replicate n false)
 low_bits-left_with n octet =
     low_bits-number_of_n 16 (remainder (low_bits 8 octet ++ replicate n false)) (length-remainder (low_bits 8 octet ++ replicate n false))
 
-pub by_octet-at : (octet : ℕ) → octet < 256 → low_bits 16 (get_or BY_OCTET octet 0) ≡ remainder (low_bits 8 octet ++ replicate 16 false)
-by_octet-at octet small =
-    ap (λ t. low_bits 16 (get_or t octet 0)) by_octet_is
-    ∙ ap (low_bits 16) (get_or-map-range_with_len (left_with 16) 0 256 octet octet 0 small (omega arith))
-    ∙ low_bits-left_with 16 octet
-
-pub by_octet_before-at : (octet : ℕ) → octet < 256 → low_bits 16 (get_or BY_OCTET_BEFORE octet 0) ≡ remainder (low_bits 8 octet ++ replicate 24 false)
-by_octet_before-at octet small =
-    ap (λ t. low_bits 16 (get_or t octet 0)) by_octet_before_is
-    ∙ ap (low_bits 16) (get_or-map-range_with_len (left_with 24) 0 256 octet octet 0 small (omega arith))
-    ∙ low_bits-left_with 24 octet
+pub left-at : (octet zeros : ℕ) → octet < 256 → zeros < 8 → low_bits 16 (get_or LEFT (zeros * 256 + octet) 0) ≡ remainder (low_bits 8 octet ++ replicate (8 * zeros + 16) false)
+left-at octet zeros small few =
+    let at = zeros * 256 + octet in
+    let row : at / 256 ≡ zeros = omega arith in
+    let column : at % 256 ≡ octet = omega arith in
+    ap (λ t. low_bits 16 (get_or t at 0)) left_is
+    ∙ ap (low_bits 16) (get_or-map-range_with_len (λ place. left_with (8 * (place / 256) + 16) (place % 256)) 0 2048 at at 0 (omega arith) (omega arith))
+    ∙ ap (λ n. low_bits 16 (left_with (8 * n + 16) (at % 256))) row
+    ∙ ap (λ o. low_bits 16 (left_with (8 * zeros + 16) o)) column
+    ∙ low_bits-left_with (8 * zeros + 16) octet
 
 -- an octet moved down in a register, with zeros above
 low_bits-moved : (register : ℕ) → register < 2 ^ 16 → low_bits 16 (register / 256) ≡ low_bits 8 (register / 256) ++ replicate 8 false
@@ -75,61 +72,121 @@ HoldsDivision-by_octet register octet left d small entry holds =
     ∙ ap (λ l. fold with_bit l text) (sym (low_bits-two_octets register) ∙ holds)
     ∙ sym (remainder-dividend-append d text)
 
--- two octets more by the tables
-pub HoldsDivision-by_pair :
-    (register first second left_first left_second : ℕ) (d : List Bool)
-    → low_bits 16 left_first ≡ remainder (low_bits 8 (bit_xor (register % 256) first) ++ replicate 24 false)
-    → low_bits 16 left_second ≡ remainder (low_bits 8 (bit_xor (register / 256) second) ++ replicate 16 false)
-    → HoldsDivision register d
-    → HoldsDivision (bit_xor left_first left_second) (d ++ (low_bits 8 first ++ low_bits 8 second))
-HoldsDivision-by_pair register first second left_first left_second d first_is second_is holds =
+-- ---- many octets more
+
+-- what is left of octets, the first apart
+pub remainder-octet :
+    (octet : ℕ) (octets : List ℕ) → remainder (bits (octet ∷ octets) ++ replicate 16 false)
+    ≡ plus (remainder (low_bits 8 octet ++ replicate (8 * length octets + 16) false)) (remainder (bits octets ++ replicate 16 false))
+remainder-octet octet octets =
+    remainder-first (low_bits 8 octet) (bits octets)
+    ∙ ap (λ n. plus (remainder (low_bits 8 octet ++ replicate (n + 16) false)) (remainder (bits octets ++ replicate 16 false))) (length-bits octets)
+
+-- ---- octets of a text
+
+-- some octets of a text, the first apart
+pub take-drop-next : (n at : ℕ) (octets : List ℕ) → at < length octets → take (suc n) (drop at octets) ≡ get_or octets at 0 ∷ take n (drop (at + 1) octets)
+take-drop-next n at [] h = absurd (omega arith)
+take-drop-next n zero (o ∷ octets) h = refl
+take-drop-next n (suc at) (o ∷ octets) h =
+    let next : suc (at + 1) ≡ suc at + 1 = omega arith in
+    take-drop-next n at octets (omega arith) ∙ ap (λ k. get_or octets at 0 ∷ take n (drop k (o ∷ octets))) next
+
+length-part : (n at : ℕ) (octets : List ℕ) → at + n ≤ length octets → length (take n (drop at octets)) ≡ n
+length-part n at octets h = length-take-le n (drop at octets) (omega (arith, length-drop at octets))
+
+-- what is left of some, that of the first by the table
+pub left-next :
+    (n at next : ℕ) (octets : List ℕ) (x left : ℕ) → next ≡ at + 1 → at + 1 + n ≤ length octets
+    → low_bits 16 x ≡ remainder (low_bits 8 (get_or octets at 0) ++ replicate (8 * n + 16) false)
+    → low_bits 16 left ≡ remainder (bits (take n (drop next octets)) ++ replicate 16 false)
+    → low_bits 16 (bit_xor x left) ≡ remainder (bits (take (suc n) (drop at octets)) ++ replicate 16 false)
+left-next n at next octets x left is_next within x_is left_is =
+    let others = take n (drop next octets) in
+    let octet = get_or octets at 0 in
+    low_bits-xor 16 x left
+    ∙ ap (λ l. plus l (low_bits 16 left)) (x_is ∙ ap (λ m. remainder (low_bits 8 octet ++ replicate (8 * m + 16) false)) (sym (length-part n next octets (omega arith))))
+    ∙ ap (λ l. plus (remainder (low_bits 8 octet ++ replicate (8 * length others + 16) false)) l) left_is
+    ∙ sym (remainder-octet octet others)
+    ∙ ap (λ k. remainder (bits (octet ∷ take n (drop k octets)) ++ replicate 16 false)) is_next
+    ∙ ap (λ os. remainder (bits os ++ replicate 16 false)) (sym (take-drop-next n at octets (omega arith)))
+
+-- and of the last
+pub left-last :
+    (at : ℕ) (octets : List ℕ) (x : ℕ) → at < length octets
+    → low_bits 16 x ≡ remainder (low_bits 8 (get_or octets at 0) ++ replicate 16 false)
+    → low_bits 16 x ≡ remainder (bits (take 1 (drop at octets)) ++ replicate 16 false)
+left-last at octets x within is =
+    is
+    ∙ ap (λ l. remainder (l ++ replicate 16 false)) (sym (append-nil (low_bits 8 (get_or octets at 0))))
+    ∙ ap (λ os. remainder (bits os ++ replicate 16 false)) (sym (take-drop-next 0 at octets within))
+
+-- octets of which the first two meet the register
+pub HoldsDivision-octets :
+    (register first second left : ℕ) (octets : List ℕ) (d : List Bool)
+    → low_bits 16 left ≡ remainder (bits (bit_xor (register % 256) first ∷ bit_xor (register / 256) second ∷ octets) ++ replicate 16 false)
+    → HoldsDivision register d → HoldsDivision left (d ++ bits (first ∷ second ∷ octets))
+HoldsDivision-octets register first second left octets d is holds =
     let low = low_bits 8 (register % 256) in
     let high = low_bits 8 (register / 256) in
-    let text_first = low_bits 8 first in
-    let text_second = low_bits 8 second in
-    let text : List Bool = text_first ++ text_second in
+    let text : List Bool = low_bits 8 first ++ low_bits 8 second in
     let met_first = low_bits 8 (bit_xor (register % 256) first) in
     let met_second = low_bits 8 (bit_xor (register / 256) second) in
     let size : length (low ++ high) ≡ 16 =
     omega (arith, length-append low high, length-low_bits 8 (register % 256), length-low_bits 8 (register / 256)) in
-    let text_size : length text ≡ length (low ++ high) =
-    omega (arith, size, length-append text_first text_second, length-low_bits 8 first, length-low_bits 8 second) in
-    let lows : length low ≡ length text_first = length-low_bits 8 (register % 256) ∙ sym (length-low_bits 8 first) in
+    let text_size : length text ≡ 16 =
+    omega (arith, length-append (low_bits 8 first) (low_bits 8 second), length-low_bits 8 first, length-low_bits 8 second) in
+    let lows : length low ≡ length (low_bits 8 first) = length-low_bits 8 (register % 256) ∙ sym (length-low_bits 8 first) in
     let met : plus (low ++ high) text ≡ met_first ++ met_second =
-    plus-append low text_first high text_second lows
-    ∙ ap (λ l. l ++ plus high text_second) (sym (low_bits-xor 8 (register % 256) first))
+    plus-append low (low_bits 8 first) high (low_bits 8 second) lows
+    ∙ ap (λ l. l ++ plus high (low_bits 8 second)) (sym (low_bits-xor 8 (register % 256) first))
     ∙ ap (λ l. met_first ++ l) (sym (low_bits-xor 8 (register / 256) second)) in
-    let left : List Bool = remainder ((met_first ++ met_second) ++ replicate 16 false) in
-    let only : plus (replicate (length (low ++ high)) false) left ≡ left =
-    plus-comm (replicate (length (low ++ high)) false) left
-    ∙ plus_zeros_of left (length (low ++ high)) (length-remainder ((met_first ++ met_second) ++ replicate 16 false) ∙ sym size) in
-    low_bits-xor 16 left_first left_second
-    ∙ ap (λ l. plus l (low_bits 16 left_second)) first_is
-    ∙ ap (λ l. plus (remainder (met_first ++ replicate 24 false)) l) second_is
-    ∙ sym (remainder-two met_first met_second (length-low_bits 8 (bit_xor (register % 256) first)) (length-low_bits 8 (bit_xor (register / 256) second)))
-    ∙ sym only
-    ∙ ap (λ l. plus (replicate (length (low ++ high)) false) (remainder (l ++ replicate 16 false))) (sym met)
-    ∙ sym (fed-met (low ++ high) [] text (ap length (append-nil (low ++ high)) ∙ size) text_size)
-    ∙ ap (λ l. fold with_bit l text) (append-nil (low ++ high) ∙ sym (low_bits-two_octets register) ∙ holds)
-    ∙ sym (remainder-dividend-append d text)
+    is
+    ∙ ap (λ l. remainder (l ++ replicate 16 false)) (sym (append_assoc met_first met_second (bits octets)) ∙ ap (λ l. l ++ bits octets) (sym met))
+    ∙ sym (fed-longer (low ++ high) text (bits octets) size text_size)
+    ∙ ap (λ l. fold with_bit l (text ++ bits octets)) (sym (low_bits-two_octets register) ∙ holds)
+    ∙ ap (λ l. fold with_bit (remainder (dividend d)) l) (append_assoc (low_bits 8 first) (low_bits 8 second) (bits octets))
+    ∙ sym (remainder-dividend-append d (bits (first ∷ second ∷ octets)))
 
--- ---- octets of a text
+-- eight octets more of a text
+pub HoldsDivision-eight :
+    (register first second others at : ℕ) (octets : List ℕ) (d : List Bool) → at + 8 ≤ length octets
+    → low_bits 16 first ≡ remainder (low_bits 8 (bit_xor (register % 256) (get_or octets at 0)) ++ replicate 72 false)
+    → low_bits 16 second ≡ remainder (low_bits 8 (bit_xor (register / 256) (get_or octets (at + 1) 0)) ++ replicate 64 false)
+    → low_bits 16 others ≡ remainder (bits (take 6 (drop (at + 2) octets)) ++ replicate 16 false)
+    → HoldsDivision register d
+    → HoldsDivision (bit_xor first (bit_xor second others)) (d ++ bits (take 8 (drop at octets)))
+HoldsDivision-eight register first second others at octets d within first_is second_is others_is holds =
+    let a = get_or octets at 0 in
+    let b = get_or octets (at + 1) 0 in
+    let six = take 6 (drop (at + 2) octets) in
+    let met_a = bit_xor (register % 256) a in
+    let met_b = bit_xor (register / 256) b in
+    let place : at + 2 ≡ at + 1 + 1 = omega arith in
+    let size : length six ≡ 6 = length-part 6 (at + 2) octets (omega arith) in
+    let two : low_bits 16 (bit_xor second others) ≡ remainder (bits (met_b ∷ six) ++ replicate 16 false) =
+    low_bits-xor 16 second others
+    ∙ ap (λ l. plus l (low_bits 16 others)) (second_is ∙ ap (λ n. remainder (low_bits 8 met_b ++ replicate (8 * n + 16) false)) (sym size))
+    ∙ ap (λ l. plus (remainder (low_bits 8 met_b ++ replicate (8 * length six + 16) false)) l) others_is
+    ∙ sym (remainder-octet met_b six) in
+    let all : low_bits 16 (bit_xor first (bit_xor second others)) ≡ remainder (bits (met_a ∷ met_b ∷ six) ++ replicate 16 false) =
+    low_bits-xor 16 first (bit_xor second others)
+    ∙ ap (λ l. plus l (low_bits 16 (bit_xor second others))) (first_is ∙ ap (λ n. remainder (low_bits 8 met_a ++ replicate (8 * suc n + 16) false)) (sym size))
+    ∙ ap (λ l. plus (remainder (low_bits 8 met_a ++ replicate (8 * length (met_b ∷ six) + 16) false)) l) two
+    ∙ sym (remainder-octet met_a (met_b ∷ six)) in
+    subst (λ os. HoldsDivision (bit_xor first (bit_xor second others)) (d ++ bits os))
+    (ap (λ k. a ∷ b ∷ take 6 (drop k octets)) place
+    ∙ sym (take-drop-next 7 at octets (omega arith) ∙ ap (λ os. a ∷ os) (take-drop-next 6 (at + 1) octets (omega arith))))
+    (HoldsDivision-octets register a b (bit_xor first (bit_xor second others)) six d all holds)
 
--- two octets more of a text, the pair at this place
-pub HoldsDivision-pair :
-    (register pair : ℕ) (octets : List ℕ) → 2 * pair + 1 < length octets
-    → HoldsDivision register (bits (take (2 * pair) octets) ++ (low_bits 8 (get_or octets (2 * pair) 0) ++ low_bits 8 (get_or octets (2 * pair + 1) 0)))
-    → HoldsDivision register (bits (take (2 * (pair + 1)) octets))
-HoldsDivision-pair register pair octets within holds =
-    let front = take (2 * pair) octets in
-    let a = get_or octets (2 * pair) 0 in
-    let b = get_or octets (2 * pair + 1) 0 in
-    let more : take (2 * pair + 1 + 1) octets ≡ (front ++ a ∷ []) ++ b ∷ [] =
-    take_more octets (2 * pair + 1) 0 within ∙ ap (λ l. l ++ b ∷ []) (take_more octets (2 * pair) 0 (omega arith)) in
-    let all : bits (take (2 * (pair + 1)) octets) ≡ bits front ++ (low_bits 8 a ++ low_bits 8 b) =
-    ap (λ n. bits (take n octets)) (omega arith)
-    ∙ ap bits more
-    ∙ bits-push (front ++ a ∷ []) b
-    ∙ ap (λ l. l ++ low_bits 8 b) (bits-push front a)
-    ∙ append_assoc (bits front) (low_bits 8 a) (low_bits 8 b) in
-    subst (HoldsDivision register) (sym all) holds
+-- and the first so many and eight of a text
+pub HoldsDivision-more_eight :
+    (register eight : ℕ) (octets : List ℕ)
+    → HoldsDivision register (bits (take (8 * eight) octets) ++ bits (take 8 (drop (8 * eight) octets)))
+    → HoldsDivision register (bits (take (8 * (eight + 1)) octets))
+HoldsDivision-more_eight register eight octets holds =
+    subst (HoldsDivision register)
+    (sym (bits-append (take (8 * eight) octets) (take 8 (drop (8 * eight) octets)))
+    ∙ ap bits (sym (take-add (8 * eight) 8 octets))
+    ∙ ap (λ n. bits (take n octets)) (omega arith))
+    holds

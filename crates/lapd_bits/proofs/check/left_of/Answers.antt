@@ -1,10 +1,11 @@
 -- The table's entry.
-use Rattle.std.proofs.Common.{◌∙◌, ap}
-use Rattle.std.proofs.Common.{get_or, arith}
+use Rattle.std.proofs.Common.{◌+◌, ◌*◌, ◌∙◌, ap, get_or, arith}
 use Rattle.lapd_bits.specs.Bits.{low_bits}
-use Rattle.lapd_bits.specs.declared.check.TheConstants.{BY_OCTET}
-use Rattle.lapd_bits.proofs.Division.Tables.{by_octet-at}
+use Rattle.lapd_bits.specs.declared.check.TheConstants.{LEFT}
+use Rattle.lapd_bits.proofs.Division.Tables.{left-at}
 use Rattle.lapd_bits.proofs.check.left_of.Goals as goal
 
 pub returns : goal.returns
-returns c = ap (λ n. low_bits 16 (get_or BY_OCTET n 0)) c.from.ensures ∙ by_octet-at c.args.octet (omega arith)
+returns c =
+    ap (λ n. low_bits 16 (get_or LEFT (c.args.zeros * 256 + n) 0)) c.from.ensures
+    ∙ left-at c.args.octet c.args.zeros (omega arith) c.requires

@@ -1,26 +1,21 @@
-use Rattle.std.proofs.Common.{[], refl, sym, subst}
-use Rattle.lapd_link_machine.specs.Machine.{received_step}
-use Rattle.lapd_link_rows.specs.Done.{Took}
-use Rattle.lapd_link.specs.declared.received.Received.{Received}
-use Rattle.lapd_link.specs.Events.{info_of, received_of}
+use Rattle.std.proofs.Common.{[], sym, subst}
+use Rattle.lapd_link_machine.specs.Machine.{step}
+use Rattle.lapd_link_steps.specs.Done.{Took}
+use Rattle.lapd_link.specs.declared.events.Happening.{Happening}
+use Rattle.lapd_link.specs.Events.{info_at, event_of}
 use Rattle.lapd_link.proofs.events.take.Goals as goal
 
-pub returns-in-Frame : goal.returns-in-Frame
-returns-in-Frame c =
-    subst (λ (r : Received). Took c.args.terms (info_of r) (received_step c.args.terms (received_of r)) c.args.entity.now c.frame.new.self c.frame.new.told) (sym c.in-Frame.is)
-    (record { none = c.nothing-told.result; nothing = c.nothing-told.ensures; does = c.frame.ensures.does c.in-Frame.frame.info.now refl })
+pub returns-in-Received : goal.returns-in-Received
+returns-in-Received c =
+    subst (λ (w : Happening). Took c.args.terms (info_at w) (step c.args.terms (event_of w)) c.args.entity.now c.hear.new.entity c.hear.new.told) (sym c.in-Received.is)
+    (record { none = c.nothing-told.result; nothing = c.nothing-told.ensures; does = c.hear.ensures })
 
-pub returns-in-Undefined : goal.returns-in-Undefined
-returns-in-Undefined c =
-    subst (λ (r : Received). Took c.args.terms (info_of r) (received_step c.args.terms (received_of r)) c.args.entity.now c.malformed.new.self c.malformed.new.told) (sym c.in-Undefined.is)
-    (record { none = c.nothing-told.result; nothing = c.nothing-told.ensures; does = c.malformed.ensures.does [] })
+pub returns-in-Expired : goal.returns-in-Expired
+returns-in-Expired c =
+    subst (λ (w : Happening). Took c.args.terms (info_at w) (step c.args.terms (event_of w)) c.args.entity.now c.expire.new.self c.expire.new.told) (sym c.in-Expired.is)
+    (record { none = c.nothing-told.result; nothing = c.nothing-told.ensures; does = c.expire.ensures.does [] })
 
-pub returns-in-WrongSize : goal.returns-in-WrongSize
-returns-in-WrongSize c =
-    subst (λ (r : Received). Took c.args.terms (info_of r) (received_step c.args.terms (received_of r)) c.args.entity.now c.malformed-in-WrongSize.new.self c.malformed-in-WrongSize.new.told) (sym c.in-WrongSize.is)
-    (record { none = c.nothing-told.result; nothing = c.nothing-told.ensures; does = c.malformed-in-WrongSize.ensures.does [] })
-
-pub returns-in-Overlong : goal.returns-in-Overlong
-returns-in-Overlong c =
-    subst (λ (r : Received). Took c.args.terms (info_of r) (received_step c.args.terms (received_of r)) c.args.entity.now c.malformed-in-Overlong.new.self c.malformed-in-Overlong.new.told) (sym c.in-Overlong.is)
-    (record { none = c.nothing-told.result; nothing = c.nothing-told.ensures; does = c.malformed-in-Overlong.ensures.does [] })
+pub returns-in-Cleared : goal.returns-in-Cleared
+returns-in-Cleared c =
+    subst (λ (w : Happening). Took c.args.terms (info_at w) (step c.args.terms (event_of w)) c.args.entity.now c.clear.new.self c.clear.new.told) (sym c.in-Cleared.is)
+    (record { none = c.nothing-told.result; nothing = c.nothing-told.ensures; does = c.clear.ensures.does [] })

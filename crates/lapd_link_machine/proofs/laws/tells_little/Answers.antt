@@ -1,4 +1,4 @@
-use Rattle.lapd_link_machine.proofs.TellRows.{event-tells, cleared-tells, two-orders, cleared-orders}
+use Rattle.lapd_link_machine.proofs.TellRows.{event-tells, cleared-tells, two-orders, one-start, cleared-orders}
 use Rattle.lapd_link_machine.proofs.Losing.{event-loses}
 use Rattle.lapd_link_machine.proofs.laws.tells_little.Goals as goal
 
@@ -22,3 +22,6 @@ returns-clause-lost c = λ t e l. event-loses t e l
 
 pub returns-clause-clearing : goal.returns-clause-clearing
 returns-clause-clearing c = λ t l. (cleared-tells t l, cleared-orders t l)
+
+pub returns-clause-starts : goal.returns-clause-starts
+returns-clause-starts c = λ t before started after. one-start t before started after

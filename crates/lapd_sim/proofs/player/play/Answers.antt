@@ -1,7 +1,7 @@
 use Rattle.std.proofs.Common.{◌∙◌, None, Ok, Err, refl, sym, ap, subst}
 use Rattle.lapd_sim_machine.specs.Script.{played}
 use Rattle.lapd_sim.specs.Faults.{fault_at, line_writes_failed}
-use Rattle.lapd_sim.specs.Lines.{AreLeft}
+use Rattle.lapd_sim.specs.ScriptLines.{AreLeft}
 use Rattle.lapd_sim.specs.Obeyed.{Does, said}
 use Rattle.lapd_sim.specs.Plays.{Plays}
 use Rattle.lapd_sim.specs.Stands.{Has}

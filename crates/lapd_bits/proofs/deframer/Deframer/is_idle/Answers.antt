@@ -1,11 +1,27 @@
--- The open gap is the beginning of a flag, and the octet goes on with it.
-use Rattle.std.proofs.Common.{◌≡◌, ◌-◌, ◌<◌, get_or, sym, ap, subst, ◌∙◌, arith}
+-- The open gap is the beginning of a flag, and the octet goes on with it; or 1s have given a gap up, and go on.
+use Rattle.std.proofs.Common.{◌≡◌, ◌-◌, ◌<◌, Option, Some, None, get_or, refl, sym, ap, subst, ◌∙◌, arith}
 use Rattle.std.proofs.lemmas.Bool.{eqb-true}
 use Rattle.lapd_bits.specs.Deframer.{HoldsPast}
 use Rattle.lapd_bits.specs.Unstuffer.{StaysIdle}
 use Rattle.lapd_bits.specs.declared.deframer.TheConstants.{IDLE}
-use Rattle.lapd_bits.proofs.Idle.{stays_idle}
+use Rattle.lapd_bits.specs.declared.gap.Gap.{Gap}
+use Rattle.lapd_bits.proofs.Idle.{stays_idle, stays_given_up}
 use Rattle.lapd_bits.proofs.deframer.Deframer.is_idle.Goals as goal
+
+no_some : (o : Option Gap) → ((g : Gap) → o ≡ Some g → ⊥) → o ≡ None
+no_some None f = refl
+no_some (Some g) f = absurd (f g refl)
+
+pub returns-in_default : goal.returns-in_default
+returns-in_default c =
+    record {
+      stays = λ past on h.
+          let s = c.args.self.now in
+          let none = no_some s.gap c.in_default.not-Some in
+          let ones = c.are_ones_after_seven.ensures on in
+          subst (λ g. StaysIdle s.octets.items s.ones g c.args.octet past) (sym none)
+          (stays_given_up s.octets.items s.ones c.args.octet past (subst (λ g. HoldsPast s.octets.items s.ones g past) none h) ones.0 ones.1);
+    }
 
 pub returns : goal.returns
 returns c =

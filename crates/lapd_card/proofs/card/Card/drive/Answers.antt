@@ -3,7 +3,7 @@ use Rattle.std.proofs.lemmas.Option.{slice_get-get_or}
 use Rattle.lapd_card_machine.specs.declared.events.Event.TheVariants.{Octet}
 use Rattle.lapd_card.proofs.Taken.{ran-more, taken-more, missed-at, at_ok, at_err}
 use Rattle.lapd_card_machine.specs.ByEvent.{ArePriced}
-use Rattle.lapd_card_machine.specs.Drops.{AreDropsFree, AreDropsWithoutEffect}
+use Rattle.lapd_card_machine.specs.Drops.{AreDropsWithoutCost, AreDropsWithoutEffect}
 use Rattle.lapd_card_machine.proofs.Amortised.{frames_amortised}
 use Rattle.lapd_card_machine.proofs.Fold.{run_is_moments}
 use Rattle.lapd_card_machine.proofs.Isolated.{lines_isolated}
@@ -15,7 +15,11 @@ use Rattle.lapd_card_machine.proofs.TextGoesOn.{text_goes_on}
 use Rattle.lapd_card_machine.proofs.Refusals.{refused_by_the_table}
 use Rattle.lapd_card_machine.proofs.ByEvent.{frames_by_event}
 use Rattle.lapd_card_machine.proofs.Drops.{drops_cost_nothing, drops_change_nothing}
-use Rattle.lapd_card_machine.specs.Promises.{IsWithinLimit, IsAmortised, IsLinear, IsIsolated, IsNeverFull, IsNumbered, IsNumberedFromZero, IsTextual}
+use Rattle.lapd_card_machine.specs.Promises.{IsWithinLimit, IsAmortised, IsAmortisedFromZero, HasSixOctetsAFrame, HasSevenOctetsAReject, IsLinear, IsIsolated, IsNeverFull, IsNumbered, IsNumberedFromZero, IsTextual}
+use Rattle.lapd_card_laws.specs.Promises.{IsKept, IsCountedIn, IsServedIn, UnitsWaitAll, IsDelivered}
+use Rattle.lapd_card_laws.proofs.Keeping.{kept, run-counted, begins-empty}
+use Rattle.lapd_card_laws.proofs.Serving.{served-in, units-all}
+use Rattle.lapd_card_laws.proofs.Hearing.{heard-all}
 use Rattle.lapd_card.proofs.Headline.{whole_list, each_front, fresh_front}
 use Rattle.lapd_card.proofs.card.Card.drive.Goals as goal
 
@@ -54,7 +58,7 @@ pub returns-then-is_err-clause-without_effect : goal.returns-then-is_err-clause-
 returns-then-is_err-clause-without_effect g c = λ m. whole_list g.S.Shelf.store c.args.self.now c.args.events.now c.requires AreDropsWithoutEffect (λ m es s within. drops_change_nothing m es) m
 
 pub returns-then-is_err-clause-drops : goal.returns-then-is_err-clause-drops
-returns-then-is_err-clause-drops g c = λ m. whole_list g.S.Shelf.store c.args.self.now c.args.events.now c.requires AreDropsFree drops_cost_nothing m
+returns-then-is_err-clause-drops g c = λ m. whole_list g.S.Shelf.store c.args.self.now c.args.events.now c.requires AreDropsWithoutCost drops_cost_nothing m
 
 pub returns-then-is_err-clause-within_limit : goal.returns-then-is_err-clause-within_limit
 returns-then-is_err-clause-within_limit g c = λ m count. each_front g.S.Shelf.store c.args.self.now c.args.events.now c.requires IsWithinLimit stored_within_limit.always m count
@@ -62,8 +66,17 @@ returns-then-is_err-clause-within_limit g c = λ m count. each_front g.S.Shelf.s
 pub returns-then-is_err-clause-amortised : goal.returns-then-is_err-clause-amortised
 returns-then-is_err-clause-amortised g c = λ m count. each_front g.S.Shelf.store c.args.self.now c.args.events.now c.requires IsAmortised frames_amortised m count
 
+pub returns-then-is_err-clause-amortised_from_zero : goal.returns-then-is_err-clause-amortised_from_zero
+returns-then-is_err-clause-amortised_from_zero g c = λ count. fresh_front g.S.Shelf.store c.args.self.now c.args.events.now c.requires IsAmortisedFromZero frames_linear.amortised count
+
+pub returns-then-is_err-clause-six_octets_a_frame : goal.returns-then-is_err-clause-six_octets_a_frame
+returns-then-is_err-clause-six_octets_a_frame g c = λ count. fresh_front g.S.Shelf.store c.args.self.now c.args.events.now c.requires HasSixOctetsAFrame frames_linear.frames count
+
+pub returns-then-is_err-clause-seven_octets_a_reject : goal.returns-then-is_err-clause-seven_octets_a_reject
+returns-then-is_err-clause-seven_octets_a_reject g c = λ count. fresh_front g.S.Shelf.store c.args.self.now c.args.events.now c.requires HasSevenOctetsAReject frames_linear.rejects count
+
 pub returns-then-is_err-clause-linear : goal.returns-then-is_err-clause-linear
-returns-then-is_err-clause-linear g c = λ count. fresh_front g.S.Shelf.store c.args.self.now c.args.events.now c.requires IsLinear frames_linear count
+returns-then-is_err-clause-linear g c = λ count. fresh_front g.S.Shelf.store c.args.self.now c.args.events.now c.requires IsLinear frames_linear.linear count
 
 pub returns-then-is_err-clause-isolated : goal.returns-then-is_err-clause-isolated
 returns-then-is_err-clause-isolated g c = λ count. fresh_front g.S.Shelf.store c.args.self.now c.args.events.now c.requires IsIsolated lines_isolated count
@@ -81,7 +94,7 @@ pub returns-clause-without_effect : goal.returns-clause-without_effect
 returns-clause-without_effect g c = λ m. whole_list g.S.Shelf.store c.args.self.now c.args.events.now c.requires AreDropsWithoutEffect (λ m es s within. drops_change_nothing m es) m
 
 pub returns-clause-drops : goal.returns-clause-drops
-returns-clause-drops g c = λ m. whole_list g.S.Shelf.store c.args.self.now c.args.events.now c.requires AreDropsFree drops_cost_nothing m
+returns-clause-drops g c = λ m. whole_list g.S.Shelf.store c.args.self.now c.args.events.now c.requires AreDropsWithoutCost drops_cost_nothing m
 
 pub returns-clause-within_limit : goal.returns-clause-within_limit
 returns-clause-within_limit g c = λ m count. each_front g.S.Shelf.store c.args.self.now c.args.events.now c.requires IsWithinLimit stored_within_limit.always m count
@@ -89,8 +102,17 @@ returns-clause-within_limit g c = λ m count. each_front g.S.Shelf.store c.args.
 pub returns-clause-amortised : goal.returns-clause-amortised
 returns-clause-amortised g c = λ m count. each_front g.S.Shelf.store c.args.self.now c.args.events.now c.requires IsAmortised frames_amortised m count
 
+pub returns-clause-amortised_from_zero : goal.returns-clause-amortised_from_zero
+returns-clause-amortised_from_zero g c = λ count. fresh_front g.S.Shelf.store c.args.self.now c.args.events.now c.requires IsAmortisedFromZero frames_linear.amortised count
+
+pub returns-clause-six_octets_a_frame : goal.returns-clause-six_octets_a_frame
+returns-clause-six_octets_a_frame g c = λ count. fresh_front g.S.Shelf.store c.args.self.now c.args.events.now c.requires HasSixOctetsAFrame frames_linear.frames count
+
+pub returns-clause-seven_octets_a_reject : goal.returns-clause-seven_octets_a_reject
+returns-clause-seven_octets_a_reject g c = λ count. fresh_front g.S.Shelf.store c.args.self.now c.args.events.now c.requires HasSevenOctetsAReject frames_linear.rejects count
+
 pub returns-clause-linear : goal.returns-clause-linear
-returns-clause-linear g c = λ count. fresh_front g.S.Shelf.store c.args.self.now c.args.events.now c.requires IsLinear frames_linear count
+returns-clause-linear g c = λ count. fresh_front g.S.Shelf.store c.args.self.now c.args.events.now c.requires IsLinear frames_linear.linear count
 
 pub returns-clause-isolated : goal.returns-clause-isolated
 returns-clause-isolated g c = λ count. fresh_front g.S.Shelf.store c.args.self.now c.args.events.now c.requires IsIsolated lines_isolated count
@@ -118,3 +140,39 @@ returns-clause-never_full g c = λ count. fresh_front g.S.Shelf.store c.args.sel
 
 pub returns-clause-from_zero : goal.returns-clause-from_zero
 returns-clause-from_zero g c = λ count. fresh_front g.S.Shelf.store c.args.self.now c.args.events.now c.requires IsNumberedFromZero deliveries_numbered.from_zero count
+
+pub returns-clause-nothing_is_lost : goal.returns-clause-nothing_is_lost
+returns-clause-nothing_is_lost g c = λ m. whole_list g.S.Shelf.store c.args.self.now c.args.events.now c.requires IsKept kept m
+
+pub returns-clause-units_wait : goal.returns-clause-units_wait
+returns-clause-units_wait g c = λ m. whole_list g.S.Shelf.store c.args.self.now c.args.events.now c.requires UnitsWaitAll units-all m
+
+pub returns-clause-heard_is_delivered : goal.returns-clause-heard_is_delivered
+returns-clause-heard_is_delivered g c = λ m. whole_list g.S.Shelf.store c.args.self.now c.args.events.now c.requires IsDelivered heard-all m
+
+pub returns-clause-counted : goal.returns-clause-counted
+returns-clause-counted g c = λ m count. each_front g.S.Shelf.store c.args.self.now c.args.events.now c.requires IsCountedIn run-counted m count
+
+pub returns-clause-served : goal.returns-clause-served
+returns-clause-served g c = λ m count. each_front g.S.Shelf.store c.args.self.now c.args.events.now c.requires IsServedIn served-in m count
+
+pub returns-clause-begins_empty : goal.returns-clause-begins_empty
+returns-clause-begins_empty g c = begins-empty c.args.self.now.config
+
+pub returns-then-is_err-clause-nothing_is_lost : goal.returns-then-is_err-clause-nothing_is_lost
+returns-then-is_err-clause-nothing_is_lost g c = λ m. whole_list g.S.Shelf.store c.args.self.now c.args.events.now c.requires IsKept kept m
+
+pub returns-then-is_err-clause-units_wait : goal.returns-then-is_err-clause-units_wait
+returns-then-is_err-clause-units_wait g c = λ m. whole_list g.S.Shelf.store c.args.self.now c.args.events.now c.requires UnitsWaitAll units-all m
+
+pub returns-then-is_err-clause-heard_is_delivered : goal.returns-then-is_err-clause-heard_is_delivered
+returns-then-is_err-clause-heard_is_delivered g c = λ m. whole_list g.S.Shelf.store c.args.self.now c.args.events.now c.requires IsDelivered heard-all m
+
+pub returns-then-is_err-clause-counted : goal.returns-then-is_err-clause-counted
+returns-then-is_err-clause-counted g c = λ m count. each_front g.S.Shelf.store c.args.self.now c.args.events.now c.requires IsCountedIn run-counted m count
+
+pub returns-then-is_err-clause-served : goal.returns-then-is_err-clause-served
+returns-then-is_err-clause-served g c = λ m count. each_front g.S.Shelf.store c.args.self.now c.args.events.now c.requires IsServedIn served-in m count
+
+pub returns-then-is_err-clause-begins_empty : goal.returns-then-is_err-clause-begins_empty
+returns-then-is_err-clause-begins_empty g c = begins-empty c.args.self.now.config

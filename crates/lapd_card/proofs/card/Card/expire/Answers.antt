@@ -5,6 +5,8 @@ use Rattle.lapd_card_machine.specs.Event.{at}
 use Rattle.lapd_card_machine.proofs.ByEvent.{frames_by_event}
 use Rattle.lapd_card.specs.Card.{line_count}
 use Rattle.lapd_card.specs.Stands.{Stands, Leads}
+use Rattle.lapd_line.specs.Reports.{report_told}
+use Rattle.lapd_card.proofs.AnswerLaws.{starts_one}
 use Rattle.lapd_card.proofs.Headline.{at_line}
 use Rattle.lapd_card.proofs.OneEvent.{event_leads, event_told, past_after, has_room, expiry_takes}
 use Rattle.lapd_card.proofs.card.Card.expire.Goals as goal
@@ -20,3 +22,8 @@ returns-clause-after g c = subst (λ card. Leads g.S.Shelf.store (at c.args.line
 
 pub returns-clause-frames : goal.returns-clause-frames
 returns-clause-frames g c = at_line g.S.Shelf.store c.args.self.now c.args.line c.requires (RisesByExpiry c.args.line c.args.timer) (λ m s w. frames_by_event.expiries m c.args.line c.args.timer s w)
+
+pub returns-clause-starts : goal.returns-clause-starts
+returns-clause-starts g c =
+    starts_one g.S.Shelf.store (record { config = c.self.inside.config; lines = c.self.inside.lines; shelf = c.self.inside.shelf }) c.args.line c.args.timer (report_told c.expire.result)
+    (event_told g.S.Shelf.store (happening.expiry c.args.timer) c.args.line (record { config = c.self.inside.config; lines = c.self.inside.lines; shelf = c.self.inside.shelf }) _ (λ m s. has_room (at c.args.line (happening.expiry c.args.timer)) m (expiry_takes m.config c.args.timer _)) c.expire.ensures.told) c.self.invariant

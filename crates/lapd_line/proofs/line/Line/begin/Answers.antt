@@ -1,14 +1,17 @@
-use Rattle.std.proofs.Common.{◌≡◌, ◌≤◌, ◌<◌, true, false, length, refl, arith}
+use Rattle.std.proofs.Common.{◌≡◌, Bool, true, false, not, Option, Some, None, is_some, refl}
+use Rattle.lapd_frame.specs.declared.short_lists.ShortList.{ShortList}
+use Rattle.lapd_frame.specs.declared.timers.Order.{Order}
 use Rattle.lapd_line.specs.Takes.{orders_taken}
-use Rattle.lapd_line.proofs.PullSteps.{none_due, due_taken}
+use Rattle.lapd_line.proofs.PullSteps.{due_taken}
 use Rattle.lapd_line.proofs.line.Line.begin.Goals as goal
 
-pub returns-then-busy : goal.returns-then-busy
-returns-then-busy g c = none_due c.args.self.now (g.S.Shelf.store c.args.shelf.now) (c.if-busy.ensures.0 refl)
+-- where none was taken, there are no orders
+no_orders : (o : Option (ShortList Order)) (q : Bool) → is_some o ≡ not q → q ≡ true → orders_taken o ≡ None
+no_orders None q e on = refl
+no_orders (Some l) true e on = absurd (cc)
+no_orders (Some l) false e on = absurd (cc)
 
 pub returns : goal.returns
 returns g c =
-    let not_busy : 8 ≤ length c.args.self.now.framer.left → ⊥ =
-    λ busy. let is : false ≡ true = c.if-busy.ensures.1 busy in absurd (cc) in
-    let low : length c.args.self.now.framer.left < 8 = omega arith in
-    due_taken c.args.self.now (g.S.Shelf.store c.args.shelf.now) c.take.new.self (g.S.Shelf.store c.take.new.shelf) c.take.new.framer (orders_taken c.take.result) low c.take.ensures
+    due_taken c.args.self.now (g.S.Shelf.store c.args.shelf.now) c.take-taken.new.self (g.S.Shelf.store c.take-taken.new.shelf) c.take-taken.new.framer (orders_taken c.take-taken.result) c.is_none-self.result c.requires.few
+    (λ on. no_orders c.take-taken.result c.is_none-self.result c.is_none-self.ensures on) c.take-taken.ensures

@@ -1,14 +1,17 @@
+use Rattle.std.proofs.Common.{[], None, refl, sym, ◌∙◌}
+use Rattle.lapd_frame.specs.declared.short_lists.ShortList.TheVariants as short
 use Rattle.lapd_line.proofs.PullSteps.{Gives, pulls, pull_told}
 use Rattle.lapd_line.proofs.line.Line.pull.Goals as goal
 
-pub returns-clause-told : goal.returns-clause-told
-returns-clause-told g c =
-    let gives : Gives c.begin-taken.new.self.framer c.octet.new.self c.octet.result =
+pub returns-then-begins_nothing-clause-told : goal.returns-then-begins_nothing-clause-told
+returns-then-begins_nothing-clause-told g c = λ others m st.
+    let gives : Gives c.args.self.now.framer c.octet.new.self c.octet.result =
     record { value = c.octet.ensures.octet; bits = c.octet.ensures.bits; room = c.octet.ensures.room; stands = c.octet.ensures.stands } in
-    pull_told c.begin-taken.result c.begin-taken.ensures gives c.is_some.result c.is_some.ensures c.none.result c.unwrap_or.result c.none.ensures c.unwrap_or.ensures
+    c.octet_alone.ensures
+    ∙ pull_told None (c.if-begins_nothing.ensures.nothing (g.S.Shelf.store c.args.shelf.now) refl) gives _ refl short.None short.None refl refl others m st
 
-pub returns-clause-after : goal.returns-clause-after
-returns-clause-after g c =
-    let gives : Gives c.begin-taken.new.self.framer c.octet.new.self c.octet.result =
+pub returns-then-begins_nothing-clause-after : goal.returns-then-begins_nothing-clause-after
+returns-then-begins_nothing-clause-after g c =
+    let gives : Gives c.args.self.now.framer c.octet.new.self c.octet.result =
     record { value = c.octet.ensures.octet; bits = c.octet.ensures.bits; room = c.octet.ensures.room; stands = c.octet.ensures.stands } in
-    pulls c.begin-taken.result c.begin-taken.ensures gives
+    pulls None (c.if-begins_nothing.ensures.nothing (g.S.Shelf.store c.args.shelf.now) refl) gives

@@ -7,10 +7,10 @@ use Rattle.lapd_line.proofs.line.Line.request.Goals as goal
 pub request-requires-clause-stands : goal.request-requires-clause-stands
 request-requires-clause-stands g c =
     let (others, m, st) = c.requires.stands in
-    (others, m, st.entities)
+    (others, m, st.layer)
 
 pub returns-in-Ok-clause-accepted : goal.returns-in-Ok-clause-accepted
-returns-in-Ok-clause-accepted g c = λ others m st. c.in-Ok.ensures.granted others m st.entities
+returns-in-Ok-clause-accepted g c = λ others m st. c.in-Ok.ensures.granted others m st.layer
 
 pub returns-in-Ok-clause-told : goal.returns-in-Ok-clause-told
 returns-in-Ok-clause-told g c = λ others m st.
@@ -23,7 +23,7 @@ returns-in-Ok-clause-after g c =
     c.in-Ok.ensures.granted c.in-Ok.ensures.served
 
 pub returns-in-Err-clause-refused : goal.returns-in-Err-clause-refused
-returns-in-Err-clause-refused g c = λ others m st. c.in-Err.ensures.refused others m st.entities
+returns-in-Err-clause-refused g c = λ others m st. c.in-Err.ensures.refused others m st.layer
 
 pub returns-in-Err-clause-unchanged : goal.returns-in-Err-clause-unchanged
-returns-in-Err-clause-unchanged g c = ap (λ e. record c.args.self.now { entities = e }) c.in-Err.ensures.unchanged
+returns-in-Err-clause-unchanged g c = ap (λ e. record c.args.self.now { layer = e }) c.in-Err.ensures.unchanged

@@ -1,11 +1,13 @@
 use Rattle.std.proofs.Common.{[], sym, ap, subst, ◌∙◌}
+use Rattle.std.proofs.lemmas.Bool.{false≢true}
 use Rattle.lapd_bits.specs.Deframer as deframer
 use Rattle.lapd_line.proofs.line.Line.start.Goals as goal
 
 pub returns-clause-fresh : goal.returns-clause-fresh
 returns-clause-fresh c = λ store others wide held. record {
-  received = subst (λ k. deframer.Stands k.n201 c.in_ok-deframer.deframer []) (sym c.in_ok-entities.ensures.config) c.in_ok-deframer.ensures.fresh;
+  received = subst (λ k. deframer.Stands k.n201 c.in_ok-deframer.deframer []) (sym c.in_ok-layer.ensures.config) c.in_ok-deframer.ensures.fresh;
   sent = c.in_ok-framer.ensures.stands;
-  room = ap (λ f. f.room) c.in_ok-framer.ensures.begins ∙ ap (λ k. k.n201) (sym c.in_ok-entities.ensures.config);
-  entities = c.in_ok-entities.ensures.fresh store others wide held;
+  room = ap (λ f. f.room) c.in_ok-framer.ensures.begins ∙ ap (λ k. k.n201) (sym c.in_ok-layer.ensures.config);
+  layer = c.in_ok-layer.ensures.fresh store others wide held;
+  quiet = λ is. absurd (false≢true is);
 }

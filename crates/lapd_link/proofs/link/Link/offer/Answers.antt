@@ -5,7 +5,7 @@ use Rattle.lapd_link_machine.specs.Events.{offer}
 use Rattle.lapd_link_machine.specs.Told.{orders_for}
 use Rattle.lapd_link_machine.specs.Steps.{Sent}
 use Rattle.lapd_link_machine.specs.Machine.{course, given_of}
-use Rattle.lapd_link_rows.specs.Done as rows
+use Rattle.lapd_link_steps.specs.Done as rows
 use Rattle.lapd_link.specs.Stands.{terms_of}
 use Rattle.lapd_link.proofs.Ending.{running-at}
 use Rattle.lapd_link.proofs.Offering.{offered, offered-sent, slot-used, slot-message, frame-offered, stands-offered, given-offered, slot-contents}

@@ -1,0 +1,187 @@
+-- Contents that an answer delivers have at most N201 octets.
+use Rattle.std.proofs.Common.{◌≡◌, ℕ, ◌≤◌, Bool, true, false, cond, List, [], length, Option, Some, None, nat_lt, refl, sym, ap, ◌∙◌, subst, arith}
+use Rattle.std.proofs.lemmas.Bool.{leb-true, ltb-false, and_parts, false≢true}
+use Rattle.std.specs.Option.{option_or, option_map_or}
+use Rattle.lapd_bits.specs.Stream as stream
+use Rattle.lapd_frame.specs.declared.controls.Control.{Control}
+use Rattle.lapd_frame.specs.declared.controls.Control.TheVariants.{Information, ReceiveReady, ReceiveNotReady, Reject, Sabme, Disc, Ui, Ua, Dm, Frmr, Xid}
+use Rattle.lapd_frame.specs.declared.notes.ErrorCode.TheVariants as code
+use Rattle.lapd_frame.specs.declared.refusals.Refusal.{Refusal}
+use Rattle.lapd_frame.specs.declared.services.Service.{Service}
+use Rattle.lapd_frame.specs.declared.timers.Timer.{Timer}
+use Rattle.lapd_frame.specs.declared.timers.Timer.TheVariants.{T200, T203, T201}
+use Rattle.lapd_link_machine.specs.declared.states.State.{State}
+use Rattle.lapd_link_machine.specs.declared.states.State.TheVariants.{TeiAssigned, AwaitingEstablishment, AwaitingRelease, Established, TimerRecovery}
+use Rattle.lapd_link_machine.specs.declared.terms.Terms.{Terms}
+use Rattle.lapd_link_machine.specs.declared.timers.LinkTimer.{LinkTimer}
+use Rattle.lapd_link_machine.specs.declared.timers.LinkTimer.TheVariants as link_timer
+use Rattle.lapd_link_machine.specs.Deliveries.{Arrived, is_eligible, eligible_of, eligible, information_in}
+use Rattle.lapd_link_machine.specs.Events as link
+use Rattle.lapd_link_machine.specs.Link.{Link}
+use Rattle.lapd_link_machine.specs.Machine as links
+use Rattle.lapd_link_machine.specs.Requests
+use Rattle.lapd_link_machine.specs.Steps.{Course, Step, begun, by_bit}
+use Rattle.lapd_link_machine.specs.Words.{leave_unserved, deliver_unit}
+use Rattle.lapd_link_machine.proofs.Leads.{Leads}
+use Rattle.lapd_link_machine.proofs.Numbering.{delivered-at_once}
+use Rattle.lapd_link_machine.proofs.Telling.{no_more, another, how_many, Telling, HasTold}
+use Rattle.lapd_link_machine.proofs.TellRows.{frames_in_4, frames_in_5, frames_in_6, frames_in_7, frames_in_8, expired_tells, malformed_tells, granted_tells, cleared_tells}
+use Rattle.lapd_tei.specs.Events as teis
+use Rattle.lapd_tei.specs.declared.outcome.Change.{Change}
+use Rattle.lapd_tei.specs.declared.outcome.Change.TheVariants.{Gained, Left}
+use Rattle.lapd_tei.specs.Machine as tei
+use Rattle.lapd_line_machine.specs.declared.config.Config.{Config}
+use Rattle.lapd_line_machine.specs.Answer.{Event, octet, expiry, request, pull, Answer, Told, told, refused, pulled, nothing}
+use Rattle.lapd_line_machine.specs.Effect.{at_none, told_of_management, of_link, of_change, of_management, of_aim}
+use Rattle.lapd_line_machine.specs.Expiry.{at_timer, aim_of_expiry}
+use Rattle.lapd_line_machine.specs.Line.{Line, link_in, terms, place_in}
+use Rattle.lapd_line_machine.specs.Machine.{answer, unless_refused, unless_refused_told}
+use Rattle.lapd_line_machine.specs.Octet.{gained, aim_of_heard, with_received}
+use Rattle.lapd_line_machine.specs.Refusal.{refusal}
+use Rattle.lapd_line_machine.specs.Request.{Request, Establish, Release, Data, Unit, Assign, Remove, Check, SetBusy, ClearBusy}
+use Rattle.lapd_line_machine.specs.Requested.{at_requested, aim_of_request}
+use Rattle.lapd_line_machine.proofs.ProperAims.{heard_aims}
+use Rattle.lapd_frame.specs.declared.refusals.Refusal.TheVariants.{PoolFull}
+use Rattle.lapd_card_machine.specs.Card.{line_at}
+use Rattle.lapd_card_machine.specs.Machine.{wants_room}
+use Rattle.lapd_plain.specs.Reports.{contents_of}
+use Rattle.lapd_c.specs.Laws.{contents_in, ContentsFit}
+
+abbrev IsSmall : ℕ → Option (List ℕ) → Type 0
+IsSmall most o = length (contents_of o) ≤ most
+
+none_small : (most : ℕ) (o : Option (List ℕ)) → o ≡ None → IsSmall most o
+none_small most o e = subst (IsSmall most) (sym e) (omega arith)
+
+-- what an event of a link tells
+module _ (t : Terms) where
+  eligible-small : (l : Link) (o : Option Arrived) (i : Arrived) → eligible_of t l o ≡ Some i → length i.contents ≤ t.n201
+  eligible-small l None i e = absurd (cc)
+  eligible-small l (Some j) i e = go (is_eligible t l j) refl e
+    where
+      go : (b : Bool) → is_eligible t l j ≡ b → cond b (Some j) None ≡ Some i → length i.contents ≤ t.n201
+      go true is same =
+          let same_contents : length j.contents ≡ length i.contents = let j_is_i : j ≡ i = cc in ap (λ (x : Arrived). length x.contents) j_is_i in
+          let small : length j.contents ≤ t.n201 = leb-true _ _ (and_parts _ _ (and_parts _ _ is).0).0 in
+          omega arith
+      go false is same = absurd (cc)
+
+  delivered-small : (e : link.Event) (l : Link) → IsSmall t.n201 (links.told t e l).delivered
+  delivered-small e l = go (links.told t e l).delivered refl
+    where
+      go : (o : Option (List ℕ)) → (links.told t e l).delivered ≡ o → IsSmall t.n201 o
+      go None is = omega arith
+      go (Some contents) is =
+          let arrived = delivered-at_once t e l contents is in
+          subst (λ (c : List ℕ). length c ≤ t.n201) arrived.2 (eligible-small l (information_in e) arrived.0 arrived.1)
+
+  two : {f : Step} (l : Link) → Leads (Telling 2 (another (another no_more))) f (HasTold 2) → (f (begun l)).unit ≡ None
+  unfolding how_many
+  two l x = (x.leads (begun l) (record { count = omega arith; data_told = refl; no_unit = refl; no_note = refl })).no_unit
+
+  -- a UI frame that is longer is not served
+  units : (b : Bool) (octets : List ℕ) (l : Link) → nat_lt t.n201 (length octets) ≡ b → IsSmall t.n201 (by_bit b leave_unserved (deliver_unit t octets) (begun l)).unit
+  units true octets l is = omega arith
+  units false octets l is = ltb-false t.n201 (length octets) is
+
+  frame-small : (control : Control) (here : State) (b : Bool) (octets : List ℕ) (l : Link) → IsSmall t.n201 (links.frame_in here t b octets control (begun l)).unit
+  frame-small (Ui p) TeiAssigned b octets l = units _ octets l refl
+  frame-small (Ui p) AwaitingEstablishment b octets l = units _ octets l refl
+  frame-small (Ui p) AwaitingRelease b octets l = units _ octets l refl
+  frame-small (Ui p) Established b octets l = units _ octets l refl
+  frame-small (Ui p) TimerRecovery b octets l = units _ octets l refl
+  frame-small other TeiAssigned b octets l = none_small t.n201 _ (two l (frames_in_4 t octets other tt))
+  frame-small other AwaitingEstablishment b octets l = none_small t.n201 _ (two l (frames_in_5 t octets other tt))
+  frame-small other AwaitingRelease b octets l = none_small t.n201 _ (two l (frames_in_6 t octets other tt))
+  frame-small other Established b octets l = none_small t.n201 _ (two l (frames_in_7 t b octets other tt))
+  frame-small other TimerRecovery b octets l = none_small t.n201 _ (two l (frames_in_8 t b octets other tt))
+
+  received-small : (what : link.Received) (l : Link) → IsSmall t.n201 (links.told t (link.received what) l).unit
+  received-small (link.frame f) l = frame-small f.control l.state f.address.command f.info l
+  received-small link.undefined l = none_small t.n201 _ (two l (malformed_tells t l.state code.L))
+  received-small link.wrong_size l = none_small t.n201 _ (two l (malformed_tells t l.state code.N))
+  received-small link.overlong l = none_small t.n201 _ (two l (malformed_tells t l.state code.O))
+
+  expired-small : (timer : LinkTimer) (l : Link) → IsSmall t.n201 (links.told t (link.expired timer) l).unit
+  expired-small timer l = go (links.is_running timer l)
+    where
+      go : (b : Bool) → IsSmall t.n201 (cond b (links.expired_in l.state timer t (begun l)) (begun l)).unit
+      go true = none_small t.n201 _ (two l (expired_tells t l.state timer))
+      go false = omega arith
+
+  requested-small : (r : link.Request) (full : Bool) (l : Link) → IsSmall t.n201 (links.told t (link.requested r full) l).unit
+  requested-small r full l = go (Requests.refusal t l full r)
+    where
+      go : (o : Option Refusal) → IsSmall t.n201 (elim o as (λ o. Course) [ None ↦ Requests.granted t r (begun l) | Some _ ↦ begun l ]).unit
+      go None = none_small t.n201 _ (two l (granted_tells t r))
+      go (Some why) = omega arith
+
+either_small : (most : ℕ) (d u : Option (List ℕ)) → IsSmall most d → IsSmall most u → IsSmall most (option_or d u)
+either_small most None u x y = y
+either_small most (Some contents) u x y = x
+
+-- and an event of a line
+module _ (c : Config) where
+  link-small : (service : Service) (tei place : ℕ) (e : link.Event) (l : Line)
+      → IsSmall c.n201 (links.told (terms c service tei) e (link_in l service place)).unit → IsSmall c.n201 (of_link c service tei place e l).told.contents
+  link-small service tei place e l h =
+      let t = terms c service tei in let x = link_in l service place in
+      either_small c.n201 (links.told t e x).delivered (links.told t e x).unit (delivered-small t e x) h
+
+  change-small : (o : Option Change) (t : tei.Told) (l : Line) → IsSmall c.n201 (of_change c o (told_of_management t) l).told.contents
+  change-small None t l = omega arith
+  change-small (Some (Gained n place)) t l = omega arith
+  change-small (Some (Left n place)) t l = omega arith
+
+  management-small : (e : teis.Event) (l : Line) → IsSmall c.n201 (of_management c e l).told.contents
+  management-small e l = change-small (teis.told e l.management).change (teis.told e l.management) (record l { management = teis.after e l.management })
+
+  octet-small : (l m : Line) (o : Option stream.Event) → IsSmall c.n201 (of_aim c (option_map_or (aim_of_heard l) o (at_none nothing)) m).told.contents
+  octet-small l m None = omega arith
+  octet-small l m (Some e) =
+      heard_aims l (λ aim. IsSmall c.n201 (of_aim c aim m).told.contents) (λ cause. omega arith)
+      (λ service n place what at. link-small service n place (link.received what) m (received-small (terms c service n) what (link_in m service place)))
+      (λ info. management-small (teis.message info) m) e
+
+  timer-small : (l : Line) (service : Service) (n : ℕ) (timer : LinkTimer) (o : Option ℕ) → IsSmall c.n201 (of_aim c (at_timer service n timer o) l).told.contents
+  timer-small l service n timer None = omega arith
+  timer-small l service n timer (Some place) = link-small service n place (link.expired timer) l (expired-small (terms c service n) timer (link_in l service place))
+
+  expiry-small : (l : Line) (timer : Timer) → IsSmall c.n201 (of_aim c (aim_of_expiry timer l) l).told.contents
+  expiry-small l (T200 service n) = timer-small l service n link_timer.T200 (place_in l n)
+  expiry-small l (T203 service n) = timer-small l service n link_timer.T203 (place_in l n)
+  expiry-small l T201 = management-small teis.expiry l
+
+  asked-small : (l : Line) (service : Service) (n : ℕ) (what : link.Request) (o : Option ℕ) → IsSmall c.n201 (of_aim c (at_requested service n what o) l).told.contents
+  asked-small l service n what None = omega arith
+  asked-small l service n what (Some place) = link-small service n place (link.requested what false) l (requested-small (terms c service n) what false (link_in l service place))
+
+  request-small : (l : Line) (r : Request) → IsSmall c.n201 (of_aim c (aim_of_request r l) l).told.contents
+  request-small l (Establish service n) = asked-small l service n link.Establish (place_in l n)
+  request-small l (Release service n) = asked-small l service n link.Release (place_in l n)
+  request-small l (Data service n contents) = asked-small l service n (link.Data contents) (place_in l n)
+  request-small l (Unit service n contents) = omega arith
+  request-small l (Assign n) = management-small (teis.assign n) l
+  request-small l (Remove n) = management-small (teis.remove n) l
+  request-small l (Check n) = management-small (teis.check n) l
+  request-small l (SetBusy service n) = asked-small l service n link.SetBusy (place_in l n)
+  request-small l (ClearBusy service n) = asked-small l service n link.ClearBusy (place_in l n)
+
+  unrefused-small : (r : Request) (l : Line) (o : Option Refusal) → IsSmall c.n201 (contents_in (unless_refused_told o (of_aim c (unless_refused o (aim_of_request r l)) l)))
+  unrefused-small r l None = request-small l r
+  unrefused-small r l (Some why) = omega arith
+
+  line-small : (e : Event) (l : Line) → IsSmall c.n201 (contents_in (answer c e l))
+  unfolding answer
+  line-small (octet value) l = octet-small l (with_received value l) (gained c.n201 l.received value)
+  line-small (expiry timer) l = expiry-small l timer
+  line-small (request r) l = unrefused-small r l (refusal c false r l)
+  line-small pull l = omega arith
+
+-- and of a card
+pub contents_fit : ContentsFit
+contents_fit card e = go (wants_room e card)
+  where
+    go : (b : Bool) → IsSmall card.config.n201 (contents_in (cond b (refused PoolFull) (answer card.config e.what (line_at e.line card))))
+    go true = omega arith
+    go false = line-small card.config e.what (line_at e.line card)

@@ -1,0 +1,76 @@
+-- One step more of an exchange.
+use Rattle.std.proofs.Common.{◌≡◌, ◌⊎◌, inl, inr, ℕ, suc, ◌+◌, ◌*◌, ◌%◌, ◌/◌, ◌==◌, Bool, true, false, not, cond, List, [], ◌∷◌, ◌++◌, length, get_or, refl, sym, ap, ◌∙◌, subst, arith}
+use Rattle.std.proofs.lemmas.List.Sums.{fold-append}
+use Rattle.lapd_line_machine.specs.Answer.{Answer, octet, pull, told, nothing}
+use Rattle.lapd_card_machine.specs.Card.{Card}
+use Rattle.lapd_card_machine.specs.Event.{Event, at}
+use Rattle.lapd_card_machine.specs.Machine.{after, answer}
+use Rattle.lapd_card_machine.specs.Run.{Run, run, one_more}
+use Rattle.lapd_store.specs.Store.{Store}
+use Rattle.lapd_card.specs.Card.{Held}
+use Rattle.lapd_card.specs.Stands.{Leads}
+use Rattle.lapd_plain.specs.declared.reports.PlainReport.{PlainReport}
+use Rattle.lapd_c.specs.Cards.{CardStands, ShowsAnswer, shelf_of}
+use Rattle.lapd_c.specs.Exchange.{is_quiet, step_event, steps_made, card_after, answer_after, with_step, given_after, AllQuiet, Exchanged, IsThrough, IsTold}
+
+run-more : (m : Card) (es : List Event) (e : Event) → run m (es ++ e ∷ []) ≡ one_more (run m es) e
+run-more m es e = fold-append one_more (record { card = m; replies = [] }) es (e ∷ [])
+
+module _ (line : ℕ) (taken : List ℕ) (from : ℕ) (m : Card) where
+  -- where it is after n steps, none of which had anything to tell
+  pub record Through (n : ℕ) (card : Held Store) (given given' : List ℕ) : Type 0 where
+    pub stands : CardStands card (card_after line taken from n m)
+    pub octets : given' ≡ given_after line taken from n m given
+    pub quiet : AllQuiet line taken from n m
+
+  card-more : (n : ℕ) → after (step_event line taken (from + n)) (card_after line taken from n m) ≡ card_after line taken from (suc n) m
+  unfolding steps_made
+  card-more n = sym (ap (λ (r : Run). r.card) (run-more m (steps_made line taken from n) (step_event line taken (from + n))))
+
+  -- what a step makes of the card and of the octets given
+  pub card-made : (n step : ℕ) (card card' : Held Store) (given given' : List ℕ) → step ≡ from + n → Through n card given given' → Leads shelf_of (step_event line taken step) card card'
+      → CardStands card' (card_after line taken from (suc n) m)
+  card-made n step card card' given given' e h leads =
+      subst (CardStands card') (card-more n)
+      ((subst (λ (s : ℕ). Leads shelf_of (step_event line taken s) card card') e leads).stands (card_after line taken from n m) h.stands)
+
+  pub octets-made : (n step : ℕ) (card : Held Store) (given given' given'' : List ℕ) → step ≡ from + n → Through n card given given'
+      → given'' ≡ with_step step (answer (step_event line taken step) (card_after line taken from n m)) given'
+      → given'' ≡ given_after line taken from (suc n) m given
+  unfolding given_after
+  octets-made n step card given given' given'' e h made =
+      subst (λ (s : ℕ). given'' ≡ with_step s (answer (step_event line taken s) (card_after line taken from n m)) given') e made
+      ∙ ap (with_step (from + n) (answer_after line taken from n m)) h.octets
+
+  pub quiet-made : (n step : ℕ) → step ≡ from + n → AllQuiet line taken from n m → false ≡ not (is_quiet (answer (step_event line taken step) (card_after line taken from n m)))
+      → AllQuiet line taken from (suc n) m
+  unfolding AllQuiet
+  quiet-made n step e h tells = (h, subst (λ (s : ℕ). is_quiet (answer (step_event line taken s) (card_after line taken from n m)) ≡ true) e (go _ tells))
+    where
+      go : (b : Bool) → false ≡ not b → b ≡ true
+      go true is = refl
+      go false is = is
+
+  pub quiet-none : AllQuiet line taken from 0 m
+  unfolding AllQuiet
+  quiet-none = tt
+
+  pub given-none : (given : List ℕ) → given ≡ given_after line taken from 0 m given
+  unfolding given_after
+  given-none given = refl
+
+  pub card-none : card_after line taken from 0 m ≡ m
+  unfolding steps_made
+  card-none = refl
+
+  pub tells-made : (n step : ℕ) → step ≡ from + n → true ≡ not (is_quiet (answer (step_event line taken step) (card_after line taken from n m)))
+      → is_quiet (answer_after line taken from n m) ≡ false
+  tells-made n step e tells = subst (λ (s : ℕ). is_quiet (answer (step_event line taken s) (card_after line taken from n m)) ≡ false) e (go _ tells)
+    where
+      go : (b : Bool) → true ≡ not b → b ≡ false
+      go true is = is
+      go false is = refl
+
+  pub shown-made : (n step : ℕ) (r : PlainReport) → step ≡ from + n → ShowsAnswer r (answer (step_event line taken step) (card_after line taken from n m))
+      → ShowsAnswer r (answer_after line taken from n m)
+  shown-made n step r e h = subst (λ (s : ℕ). ShowsAnswer r (answer (step_event line taken s) (card_after line taken from n m))) e h

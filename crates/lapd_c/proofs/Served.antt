@@ -1,0 +1,40 @@
+-- What a report shows is what the machine answers.
+use Rattle.std.proofs.Common.{◌≡◌, ℕ, ◌≤◌, ◌<◌, List, length, Option, Result, Ok, Err, IfOk, sym, subst, arith}
+use Rattle.std.specs.Option.{option_copied}
+use Rattle.lapd_frame.specs.declared.notes.Note.{Note}
+use Rattle.lapd_frame.specs.declared.timers.Order.{Order}
+use Rattle.lapd_line.specs.declared.reports.Report.{Report}
+use Rattle.lapd_line.specs.Reports.{report_told}
+use Rattle.lapd_line_machine.specs.Answer.{Told, told}
+use Rattle.lapd_line_machine.proofs.Ranges.{ranges_of}
+use Rattle.lapd_card_machine.specs.Card.{Card}
+use Rattle.lapd_card_machine.specs.Event.{Event}
+use Rattle.lapd_card_machine.specs.Machine.{answer}
+use Rattle.lapd_card_machine.specs.Sound.{IsSound}
+use Rattle.lapd_plain.specs.declared.reports.PlainReport.{PlainReport}
+use Rattle.lapd_plain.specs.Reports.{Shows, told_by, contents_of}
+use Rattle.lapd_c.specs.Cards.{ShowsAnswer}
+use Rattle.lapd_c.specs.Laws.{contents_in}
+use Rattle.lapd_c.proofs.Contents.{contents_fit}
+
+-- a result that is known
+pub if_ok : {X E : Type 0} (P : X → Type 0) (o : Result X E) (x : X) → o ≡ Ok x → P x → IfOk o P
+if_ok P o x e p = subst (λ r. IfOk r P) (sym e) p
+
+-- contents of an answer have room in a report
+pub small : (m : Card) (e : Event) (t : Told) → IsSound m → told t ≡ answer e m → length (contents_of t.contents) ≤ 260
+small m e t sound is =
+    let fits : length (contents_of (contents_in (told t))) ≤ m.config.n201 = subst (λ a. length (contents_of (contents_in a)) ≤ m.config.n201) (sym is) (contents_fit m e) in
+    let most : m.config.n201 ≤ 260 = (ranges_of m.config sound.config).n201.most in
+    omega arith
+
+-- the parts of a report of the card, one by one
+pub shown : (m : Card) (e : Event) (r : Report) (notes : List Note) (orders : List Order) (p : PlainReport) → IsSound m → told (report_told r) ≡ answer e m
+    → notes ≡ (report_told r).notes → orders ≡ (report_told r).orders
+    → (length (contents_of (option_copied r.delivered)) ≤ 260 → Shows p (told_by notes orders r.cause r.lost (option_copied r.delivered)))
+    → ShowsAnswer p (answer e m)
+shown m e r notes orders p sound is same_notes same_orders h =
+    let t = report_told r in
+    let all = h (small m e t sound is) in
+    let with_notes = subst (λ (n : List Note). Shows p (told_by n orders r.cause r.lost (option_copied r.delivered))) same_notes all in
+    subst (ShowsAnswer p) is (subst (λ (o : List Order). Shows p (told_by t.notes o r.cause r.lost (option_copied r.delivered))) same_orders with_notes)

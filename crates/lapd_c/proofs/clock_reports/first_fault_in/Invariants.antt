@@ -1,0 +1,7 @@
+-- Nothing was wrong so far.
+use Rattle.std.proofs.Common.{◌≡◌, drop}
+use Rattle.lapd_c.specs.Orders.{first_fault_in}
+use Rattle.lapd_c.proofs.clock_reports.first_fault_in.Given as goal
+
+abbrev pub invariant-loop-i : goal.invariant-loop-i
+invariant-loop-i l = first_fault_in (drop l.i l.orders) ≡ first_fault_in l.orders

@@ -1,0 +1,15 @@
+use Rattle.std.proofs.Common.{refl, sym, ap, ◌∙◌}
+use Rattle.lapd_line_machine.specs.Answer as happening
+use Rattle.lapd_line_machine.specs.Request.{request_of}
+use Rattle.lapd_plain.specs.Requests.{read_of}
+use Rattle.lapd_card.specs.Reply.{answer_of_result}
+use Rattle.lapd_card_machine.specs.Event.{at}
+use Rattle.lapd_c.proofs.Served.{if_ok, shown}
+use Rattle.lapd_c.proofs.events.ask.Goals as goal
+
+pub returns-in-Ok-request-clause-served : goal.returns-in-Ok-request-clause-served
+returns-in-Ok-request-clause-served c = λ m s w. if_ok _ _ (request_of c.in-Ok.asked) (sym c.request_in.ensures ∙ ap read_of c.in-Ok.is) (λ granted. (
+  refl,
+  c.request.ensures.after.stands m s,
+  shown m (at c.args.line (happening.request (request_of c.in-Ok.asked))) c.in-Ok-request.told _ _ c.show.new.self s.sound (ap answer_of_result (sym c.in-Ok-request.is) ∙ c.request.ensures.told m s) c.notes.ensures c.orders.ensures c.show.ensures,
+))

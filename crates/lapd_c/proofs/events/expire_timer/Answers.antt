@@ -1,0 +1,12 @@
+use Rattle.std.proofs.Common.{refl, sym, ◌∙◌}
+use Rattle.lapd_line_machine.specs.Answer as happening
+use Rattle.lapd_card_machine.specs.Event.{at}
+use Rattle.lapd_c.proofs.Served.{if_ok, shown}
+use Rattle.lapd_c.proofs.events.expire_timer.Goals as goal
+
+pub returns-in-Ok-clause-served : goal.returns-in-Ok-clause-served
+returns-in-Ok-clause-served c = λ m s w. if_ok _ _ c.in-Ok.timer (sym c.timer.ensures ∙ c.in-Ok.is) (
+  refl,
+  c.expire-told.ensures.after.stands m s,
+  shown m (at c.args.line (happening.expiry c.in-Ok.timer)) c.expire-told.result _ _ c.show.new.self s.sound (c.expire-told.ensures.told m s) c.notes.ensures c.orders.ensures c.show.ensures,
+)

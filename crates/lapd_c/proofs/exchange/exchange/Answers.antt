@@ -1,0 +1,79 @@
+use Rattle.std.proofs.Common.{◌≡◌, ℕ, suc, ◌+◌, ◌*◌, ◌<◌, ◌≤◌, length, refl, sym, subst, ◌∙◌, arith, inl, inr}
+use Rattle.std.proofs.lemmas.Bool.{and_parts, eqb-true, leb-true}
+use Rattle.lapd_line_machine.specs.declared.config.Config.{Config}
+use Rattle.lapd_c.specs.Cards.{CardStands}
+use Rattle.lapd_c.specs.Exchange.{card_after}
+use Rattle.lapd_c.proofs.Exchanging.{card-made, octets-made, quiet-made, quiet-none, given-none, card-none, tells-made, shown-made}
+use Rattle.lapd_c.proofs.exchange.exchange.Goals as goal
+
+pub loop-step-init : goal.loop-step-init
+loop-step-init c =
+    let from = c.args.steps.now in let taken = c.args.taken.now in
+    let within : from ≤ 2 * length taken = leb-true from (2 * length taken) (and_parts _ _ c.requires.lengths).1 in
+    record {
+      line = c.requires.line;
+      bound = omega arith;
+      lengths = sym (eqb-true (length taken) (length c.args.given.now) (and_parts _ _ c.requires.lengths).0);
+      made = (
+        0,
+        omega arith,
+        λ m s. record {
+          stands = subst (CardStands c.args.card.now) (sym (card-none c.args.line taken from m)) s;
+          octets = given-none c.args.line taken from m c.args.given.now;
+          quiet = quiet-none c.args.line taken from m;
+        },
+      );
+    }
+
+pub loop-step-preserved : goal.loop-step-preserved
+loop-step-preserved c =
+    let i = c.loop-step.invariant in let from = c.args.steps.now in let taken = c.args.taken.now in let line = c.args.line in
+    let n = i.made.0 in let at = i.made.1 in let e = c.make_step.ensures in let step = c.loop-step.step in
+    record {
+      line = subst (λ (config : Config). line < config.lines) (sym e.leads.config) i.line;
+      lengths = e.length ∙ i.lengths;
+      bound = omega arith;
+      made = (
+        suc n,
+        omega (arith, at),
+        λ m s.
+            let t = i.made.2 m s in let there = card_after line taken from n m in
+            record {
+              stands = card-made line taken from m n step _ _ _ _ at t e.leads;
+              octets = octets-made line taken from m n step _ _ _ _ at t (e.given there t.stands);
+              quiet = quiet-made line taken from m n step at t.quiet (sym c.if-make_step.false ∙ e.tells there t.stands);
+            },
+      );
+    }
+
+pub returns-then-make_step : goal.returns-then-make_step
+returns-then-make_step c =
+    let i = c.loop-step.invariant in let from = c.args.steps.now in let taken = c.args.taken.now in let line = c.args.line in
+    let n = i.made.0 in let at = i.made.1 in let e = c.make_step.ensures in let step = c.loop-step.step in
+    λ m s.
+    let t = i.made.2 m s in let there = card_after line taken from n m in
+    record {
+      n = suc n;
+      stands = card-made line taken from m n step _ _ _ _ at t e.leads;
+      octets = octets-made line taken from m n step _ _ _ _ at t (e.given there t.stands);
+      ended = inr (record {
+        before = n;
+        last = omega arith;
+        made = omega (arith, at);
+        quiet = t.quiet;
+        tells = tells-made line taken from m n step at (sym c.if-make_step.true ∙ e.tells there t.stands);
+        report = shown-made line taken from m n step _ at (e.shown there t.stands c.if-make_step.true);
+      });
+    }
+
+pub returns : goal.returns
+returns c =
+    let i = c.loop-step.invariant in let n = i.made.0 in let at = i.made.1 in
+    λ m s.
+    let t = i.made.2 m s in
+    record {
+      n = n;
+      stands = t.stands;
+      octets = t.octets;
+      ended = inl (record { end = omega arith; made = omega (arith, at); quiet = t.quiet; report = c.show.ensures (omega arith) });
+    }

@@ -1,0 +1,15 @@
+-- So many steps were made, and none had anything to tell.
+use Rattle.std.proofs.Common.{◌≡◌, ℕ, ◌+◌, ◌<◌, ◌≤◌, length}
+use Rattle.lapd_card.specs.Card.{line_count}
+use Rattle.lapd_card_machine.specs.Card.{Card}
+use Rattle.lapd_c.specs.Cards.{CardStands}
+use Rattle.lapd_c.proofs.Exchanging.{Through}
+use Rattle.lapd_c.proofs.exchange.exchange.Given as goal
+
+abbrev pub invariant-loop-step : goal.invariant-loop-step
+invariant-loop-step l = record {
+  line : l.line < line_count l.card;
+  lengths : length l.given ≡ length l.taken;
+  bound : l.step ≤ l.end;
+  made : (n : ℕ) × (l.step ≡ l.initial.steps + n) × ((m : Card) → CardStands l.initial.card m → Through l.line l.taken l.initial.steps m n l.card l.initial.given l.given);
+}

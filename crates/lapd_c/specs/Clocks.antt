@@ -1,0 +1,42 @@
+-- A clock as C holds it.
+use Rattle.std.specs.Prelude.{◌≡◌, ◌≤◌, ◌^◌, ℕ, nat_lt, is_some, IfSome, Result, Ok, Err, if◌then◌else◌}
+use Rattle.lapd_frame.specs.declared.timers.Order.{Order}
+use Rattle.lapd_frame.specs.declared.timers.Timer.{Timer}
+use Rattle.lapd_clock.specs.Timers.{Timers, finds_place, with_order}
+use Rattle.lapd_plain.specs.Statuses.{ok, wrong_line, wrong_time, no_place}
+use Rattle.lapd_plain.specs.declared.timers.PlainDue.{PlainDue}
+use Rattle.lapd_plain.specs.Timers.{plain_timer}
+use Rattle.lapd_c.specs.declared.clock.ClockHandle.{ClockHandle}
+use Rattle.lapd_c.specs.ClockSlots.{HeldClock}
+
+-- The clock that is there, or none.
+abbrev pub clock_of : ClockHandle → HeldClock
+clock_of h = h.slot.clock
+
+-- It says of itself whether one is there; and that has the lines of a card.
+pub record IsHandle (h : ClockHandle) : Type 0 where
+  pub said : h.started ≡ is_some (clock_of h)
+  pub lines : IfSome (clock_of h) (λ c. c.lines ≤ 64)
+
+-- A timer that fell due, with its line.
+abbrev pub plain_due : ℕ × Timer → PlainDue
+plain_due due = record { line = due.0; timer = plain_timer due.1 }
+
+-- An order, or what is wrong with it, for a timer of a line at a moment: what is answered, and the clock after it.
+abbrev pub latest : ℕ
+latest = 2 ^ 63
+
+abbrev pub order_status : Timers → ℕ → Result Order ℕ → ℕ → ℕ
+order_status c line (Err wrong) now = wrong
+order_status c line (Ok order) now =
+    if nat_lt latest now then wrong_time else if finds_place c line order then ok else no_place
+
+abbrev pub apply_status : Timers → ℕ → Result Order ℕ → ℕ → ℕ
+apply_status c line order now = if nat_lt line c.lines then order_status c line order now else wrong_line
+
+abbrev pub after_order : Timers → ℕ → Result Order ℕ → ℕ → Timers
+after_order c line (Err wrong) now = c
+after_order c line (Ok order) now = if nat_lt latest now then c else with_order c line order now
+
+abbrev pub after_apply : Timers → ℕ → Result Order ℕ → ℕ → Timers
+after_apply c line order now = if nat_lt line c.lines then after_order c line order now else c

@@ -1,0 +1,17 @@
+-- What a card's machine answers fits a report.
+use Rattle.std.specs.Prelude.{ℕ, ◌≤◌, List, length, Option, None}
+use Rattle.lapd_line_machine.specs.Answer.{Answer, told, refused, pulled}
+use Rattle.lapd_card_machine.specs.Card.{Card}
+use Rattle.lapd_card_machine.specs.Event.{Event}
+use Rattle.lapd_card_machine.specs.Machine.{answer}
+use Rattle.lapd_plain.specs.Reports.{contents_of}
+
+-- The contents that an answer delivers.
+abbrev pub contents_in : Answer → Option (List ℕ)
+contents_in (told t) = t.contents
+contents_in (refused why) = None
+contents_in (pulled value begun orders) = None
+
+-- They have at most N201 octets: from any card on, whatever happens.
+abbrev pub ContentsFit : Type 0
+ContentsFit = (card : Card) (e : Event) → length (contents_of (contents_in (answer e card))) ≤ card.config.n201

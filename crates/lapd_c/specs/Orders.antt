@@ -1,0 +1,55 @@
+-- The orders of a report, carried out on a clock.
+use Rattle.std.specs.Prelude.{ℕ, nat_lt, ◌==◌, Bool, true, not, ◌&&◌, List, [], ◌∷◌, Result, Ok, Err, if◌then◌else◌}
+use Rattle.lapd_frame.specs.declared.timers.Order.{Order}
+use Rattle.lapd_clock.specs.Timers.{Timers, finds_place, with_order}
+use Rattle.lapd_plain.specs.declared.reports.PlainReport.{PlainReport}
+use Rattle.lapd_plain.specs.declared.timers.PlainOrder.{PlainOrder}
+use Rattle.lapd_plain.specs.Reports.{orders_of}
+use Rattle.lapd_plain.specs.Statuses.{ok, wrong_line, wrong_time, wrong_order, no_place}
+use Rattle.lapd_plain.specs.Timers.{order_in}
+use Rattle.lapd_c.specs.Clocks.{latest}
+
+-- What is wrong with the first order that is none.
+abbrev pub fault_in : Result Order ℕ → ℕ
+fault_in (Err wrong) = wrong
+fault_in (Ok order) = ok
+
+abbrev pub first_fault_in : List PlainOrder → ℕ
+first_fault_in [] = ok
+first_fault_in (p ∷ ps) = if fault_in (order_in p) == ok then first_fault_in ps else fault_in (order_in p)
+
+-- Whether an order finds its place, and the clock after it.
+abbrev pub is_placed : Timers → ℕ → Result Order ℕ → Bool
+is_placed c line (Err wrong) = true
+is_placed c line (Ok order) = finds_place c line order
+
+abbrev pub after_order : Timers → ℕ → Result Order ℕ → ℕ → Timers
+after_order c line (Err wrong) now = c
+after_order c line (Ok order) now = with_order c line order now
+
+-- The same of one order after the other.
+abbrev pub all_placed : Timers → ℕ → List PlainOrder → ℕ → Bool
+all_placed c line [] now = true
+all_placed c line (p ∷ ps) now = is_placed c line (order_in p) && all_placed (after_order c line (order_in p) now) line ps now
+
+abbrev pub after_orders : Timers → ℕ → List PlainOrder → ℕ → Timers
+after_orders c line [] now = c
+after_orders c line (p ∷ ps) now = after_orders (after_order c line (order_in p) now) line ps now
+
+-- What is answered to a report for a line at a moment. Where anything is wrong, no order is carried out.
+abbrev pub wrong_in : Timers → ℕ → PlainReport → ℕ → ℕ
+wrong_in c line r now =
+    if not (nat_lt line c.lines) then wrong_line
+    else if nat_lt 4 r.order_count then wrong_order
+    else if not (first_fault_in (orders_of r) == ok) then first_fault_in (orders_of r)
+    else if nat_lt latest now then wrong_time
+    else ok
+
+abbrev pub report_status : Timers → ℕ → PlainReport → ℕ → ℕ
+report_status c line r now =
+    if not (wrong_in c line r now == ok) then wrong_in c line r now
+    else if all_placed c line (orders_of r) now then ok else no_place
+
+abbrev pub after_report : Timers → ℕ → PlainReport → ℕ → Timers
+after_report c line r now =
+    if wrong_in c line r now == ok then after_orders c line (orders_of r) now else c

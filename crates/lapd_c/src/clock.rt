@@ -1,0 +1,216 @@
+//! A clock in C.
+
+ghost use Rattle.std.specs.Prelude.{◌≡◌, ◌≤◌, ◌⊎◌, Some, None, IfSome, IfNone, option_map};
+ghost use Rattle.lapd_clock.specs.Timers.{Timers, due_at, after_due, next_moment, idle};
+ghost use Rattle.lapd_line_machine.specs.Config.{first_fault};
+ghost use Rattle.lapd_plain.specs.Config.{config_in};
+ghost use Rattle.lapd_plain.specs.Statuses as status;
+ghost use Rattle.lapd_plain.specs.Statuses.{field_status};
+ghost use Rattle.lapd_plain.specs.Timers.{order_in};
+ghost use Rattle.lapd_c.specs.Clocks.{clock_of, IsHandle, plain_due, apply_status, after_apply};
+
+use crate::clock_slot::ClockSlot;
+use lapd_clock::Clock;
+use lapd_frame::Order;
+use lapd_plain::{
+    NO_CLOCK, NO_MEMORY, NO_PLACE, NO_TIMER, OK, PlainConfig, PlainDue, PlainOrder, PlainTimer,
+    SECOND_START, WRONG_LINE, WRONG_TIME, field_status,
+};
+use std::alloc::Global;
+use std::mem::replace;
+
+/// The latest moment that a timer may be ordered at, in milliseconds.
+pub(crate) const LATEST: u64 = 1 << 63;
+
+/// A clock, or none, as C holds it.
+#[repr(C)]
+pub struct ClockHandle {
+    started: bool,
+    slot: ClockSlot,
+}
+
+impl ClockHandle {
+    /// Takes the clock out.
+    pub(crate) fn take(&mut self, alloc: Global) -> Option<Box<Clock>>
+        requires { IsHandle self.old }
+        ensures clock { clock_of self.old ≡ option_map (λ clock. clock.value) result }
+        ensures none { IfNone result (self.new ≡ self.old) }
+        ensures lines { IfSome result (λ clock. clock.value.lines ≤ 64) }
+        ensures empty { clock_of self.new ≡ None }
+        ensures handle { IsHandle self.new }
+    {
+        if !self.started {
+            return None;
+        }
+        self.started = false;
+        let slot = replace(&mut self.slot, ClockSlot::none());
+        Some(slot.into_box(alloc))
+    }
+
+    /// Puts a clock in, where none is.
+    pub(crate) fn put(&mut self, clock: Box<Clock>)
+        requires empty { clock_of self.old ≡ None }
+        requires lines { clock.value.lines ≤ 64 }
+        ensures clock { clock_of self.new ≡ Some clock.value }
+        ensures handle { IsHandle self.new }
+    {
+        self.started = true;
+        let empty = replace(&mut self.slot, ClockSlot::of(clock));
+        empty.gone();
+    }
+}
+
+/// Starts a clock on which no timer runs, for a card of this configuration.
+#[unsafe(no_mangle)]
+pub extern "C" fn lapd_clock_start(
+    alloc: Global,
+    handle: &mut ClockHandle,
+    config: &PlainConfig,
+) -> u32
+    requires { IsHandle handle.old }
+    ensures handle { IsHandle handle.new }
+    ensures second { IfSome (clock_of handle.old) (λ _. (result ≡ status.second_start) × (handle.new ≡ handle.old)) }
+    ensures fault { clock_of handle.old ≡ None → IfSome (first_fault (config_in config.now)) (λ field. (result ≡ field_status field) × (handle.new ≡ handle.old)) }
+    ensures otherwise { clock_of handle.old ≡ None → first_fault (config_in config.now) ≡ None → (result ≡ status.ok) ⊎ (result ≡ status.no_memory) }
+    ensures idle { result ≡ status.ok → clock_of handle.new ≡ Some (idle config.now.lines config.now.terminals) }
+    ensures no_memory { result ≡ status.no_memory → handle.new ≡ handle.old }
+{
+    if handle.started {
+        return SECOND_START;
+    }
+    let config = config.config();
+    if let Some(field) = config.fault() {
+        return field_status(field);
+    }
+    let Ok(clock) = Clock::start(
+        alloc,
+        usize::from(config.lines),
+        usize::from(config.terminals),
+    ) else {
+        return NO_MEMORY;
+    };
+    let Ok(clock) = Box::new(alloc, clock) else {
+        return NO_MEMORY;
+    };
+    handle.put(clock);
+    OK
+}
+
+/// Ends a clock, and gives back its memory.
+#[unsafe(no_mangle)]
+pub extern "C" fn lapd_clock_free(alloc: Global, handle: &mut ClockHandle) -> u32
+    requires { IsHandle handle.old }
+    ensures handle { IsHandle handle.new }
+    ensures no_clock { clock_of handle.old ≡ None → (result ≡ status.no_clock) × (handle.new ≡ handle.old) }
+    ensures freed { IfSome (clock_of handle.old) (λ _. (result ≡ status.ok) × (clock_of handle.new ≡ None)) }
+{
+    match handle.take(alloc) {
+        Some(clock) => {
+            drop(clock);
+            OK
+        }
+        None => NO_CLOCK,
+    }
+}
+
+/// Carries out one order for a timer of a line, at a moment.
+#[unsafe(no_mangle)]
+pub extern "C" fn lapd_clock_apply(
+    alloc: Global,
+    handle: &mut ClockHandle,
+    line: u32,
+    order: &PlainOrder,
+    now: u64,
+) -> u32
+    requires { IsHandle handle.old }
+    ensures handle { IsHandle handle.new }
+    ensures no_clock { clock_of handle.old ≡ None → (result ≡ status.no_clock) × (handle.new ≡ handle.old) }
+    ensures applied { IfSome (clock_of handle.old) (λ c. result ≡ apply_status c line (order_in order.now) now) }
+    ensures after { clock_of handle.new ≡ option_map (λ c. after_apply c line (order_in order.now) now) (clock_of handle.old) }
+{
+    let Some(mut clock) = handle.take(alloc) else {
+        return NO_CLOCK;
+    };
+    let status = apply(&mut clock, line, order.order(), now);
+    handle.put(clock);
+    status
+}
+
+fn apply(clock: &mut Clock, line: u32, order: Result<Order, u32>, now: u64) -> u32
+    ensures status { result ≡ apply_status clock.old line order now }
+    ensures after { clock.new ≡ after_apply clock.old line order now }
+    ensures lines { clock.new.lines ≡ clock.old.lines }
+{
+    let line = line as usize;
+    if line >= clock.lines() {
+        return WRONG_LINE;
+    }
+    let order = match order {
+        Ok(order) => order,
+        Err(wrong) => return wrong,
+    };
+    if now > LATEST {
+        return WRONG_TIME;
+    }
+    if clock.apply(line, order, now) {
+        OK
+    } else {
+        NO_PLACE
+    }
+}
+
+/// Takes out the timer that falls due first, where its moment is not after `now`.
+#[unsafe(no_mangle)]
+pub extern "C" fn lapd_clock_due(
+    alloc: Global,
+    handle: &mut ClockHandle,
+    now: u64,
+    due: &mut PlainDue,
+) -> u32
+    requires { IsHandle handle.old }
+    ensures handle { IsHandle handle.new }
+    ensures no_clock { clock_of handle.old ≡ None → (result ≡ status.no_clock) × (handle.new ≡ handle.old) × (due.new ≡ due.old) }
+    ensures after { clock_of handle.new ≡ option_map (λ c. after_due c now) (clock_of handle.old) }
+    ensures none { IfSome (clock_of handle.old) (λ c. due_at c now ≡ None → (result ≡ status.no_timer) × (due.new ≡ due.old)) }
+    ensures due { IfSome (clock_of handle.old) (λ c. IfSome (due_at c now) (λ first. (result ≡ status.ok) × (due.new ≡ plain_due first))) }
+{
+    let Some(mut clock) = handle.take(alloc) else {
+        return NO_CLOCK;
+    };
+    let first = clock.due(now);
+    handle.put(clock);
+    match first {
+        Some((line, timer)) => {
+            *due = PlainDue {
+                line: line as u32,
+                timer: PlainTimer::of(timer),
+            };
+            OK
+        }
+        None => NO_TIMER,
+    }
+}
+
+/// The moment of the timer that falls due first, due or not.
+#[unsafe(no_mangle)]
+pub extern "C" fn lapd_clock_next(alloc: Global, handle: &mut ClockHandle, moment: &mut u64) -> u32
+    requires { IsHandle handle.old }
+    ensures handle { IsHandle handle.new }
+    ensures no_clock { clock_of handle.old ≡ None → (result ≡ status.no_clock) × (handle.new ≡ handle.old) × (moment.new ≡ moment.old) }
+    ensures unchanged { clock_of handle.new ≡ clock_of handle.old }
+    ensures none { IfSome (clock_of handle.old) (λ c. next_moment c ≡ None → (result ≡ status.no_timer) × (moment.new ≡ moment.old)) }
+    ensures next { IfSome (clock_of handle.old) (λ c. IfSome (next_moment c) (λ first. (result ≡ status.ok) × (moment.new ≡ first))) }
+{
+    let Some(clock) = handle.take(alloc) else {
+        return NO_CLOCK;
+    };
+    let first = clock.next();
+    handle.put(clock);
+    match first {
+        Some(first) => {
+            *moment = first;
+            OK
+        }
+        None => NO_TIMER,
+    }
+}

@@ -1,0 +1,125 @@
+//! The orders of a report, carried out on a clock.
+
+ghost use Rattle.std.specs.Prelude.{◌≡◌, ◌≤◌, ◌<◌, ◌^◌, Some, None, IfSome, option_map};
+ghost use Rattle.lapd_plain.specs.Statuses as status;
+ghost use Rattle.lapd_plain.specs.Timers.{order_in};
+ghost use Rattle.lapd_c.specs.Clocks.{clock_of, IsHandle};
+ghost use Rattle.lapd_c.specs.Orders.{fault_in, first_fault_in, is_placed, after_order, all_placed, after_orders, wrong_in, report_status, after_report};
+
+use crate::clock::{ClockHandle, LATEST};
+use lapd_clock::Clock;
+use lapd_plain::{
+    NO_CLOCK, NO_PLACE, OK, PlainOrder, PlainReport, WRONG_LINE, WRONG_ORDER, WRONG_TIME,
+};
+use std::alloc::Global;
+
+/// Carries out all orders of a report, in order, at a moment.
+#[unsafe(no_mangle)]
+pub extern "C" fn lapd_clock_apply_report(
+    alloc: Global,
+    handle: &mut ClockHandle,
+    line: u32,
+    report: &PlainReport,
+    now: u64,
+) -> u32
+    requires { IsHandle handle.old }
+    ensures handle { IsHandle handle.new }
+    ensures no_clock { clock_of handle.old ≡ None → (result ≡ status.no_clock) × (handle.new ≡ handle.old) }
+    ensures applied { IfSome (clock_of handle.old) (λ c. result ≡ report_status c line report.now now) }
+    ensures after { clock_of handle.new ≡ option_map (λ c. after_report c line report.now now) (clock_of handle.old) }
+{
+    let Some(mut clock) = handle.take(alloc) else {
+        return NO_CLOCK;
+    };
+    let status = apply_report(&mut clock, line, report, now);
+    handle.put(clock);
+    status
+}
+
+fn apply_report(clock: &mut Clock, line: u32, report: &PlainReport, now: u64) -> u32
+    ensures status { result ≡ report_status clock.old line report.now now }
+    ensures after { clock.new ≡ after_report clock.old line report.now now }
+    ensures lines { clock.new.lines ≡ clock.old.lines }
+{
+    let wrong = wrong_in(clock, line, report, now);
+    if wrong != OK {
+        return wrong;
+    }
+    let orders = report.orders_told();
+    if carry_out(clock, line as usize, orders, now) {
+        OK
+    } else {
+        NO_PLACE
+    }
+}
+
+fn wrong_in(clock: &Clock, line: u32, report: &PlainReport, now: u64) -> u32
+    ensures status { result ≡ wrong_in clock.now line report.now now }
+    ensures line { result ≡ status.ok → line < clock.now.lines }
+    ensures now { result ≡ status.ok → now ≤ 2 ^ 63 }
+    ensures count { result ≡ status.ok → report.now.order_count ≤ 4 }
+{
+    if line as usize >= clock.lines() {
+        return WRONG_LINE;
+    }
+    if report.order_count > 4 {
+        return WRONG_ORDER;
+    }
+    let wrong = first_fault_in(report.orders_told());
+    if wrong != OK {
+        return wrong;
+    }
+    if now > LATEST {
+        return WRONG_TIME;
+    }
+    OK
+}
+
+fn first_fault_in(orders: &[PlainOrder]) -> u32
+    ensures { result ≡ first_fault_in orders.now }
+{
+    for i in 0..orders.len() {
+        let wrong = fault_in(&orders[i]);
+        if wrong != OK {
+            return wrong;
+        }
+    }
+    OK
+}
+
+fn fault_in(order: &PlainOrder) -> u32
+    ensures { result ≡ fault_in (order_in order.now) }
+{
+    match order.order() {
+        Ok(_) => OK,
+        Err(wrong) => wrong,
+    }
+}
+
+fn carry_out(clock: &mut Clock, line: usize, orders: &[PlainOrder], now: u64) -> bool
+    requires line { line < clock.old.lines }
+    requires now { now ≤ 2 ^ 63 }
+    ensures placed { result ≡ all_placed clock.old line orders.now now }
+    ensures after { clock.new ≡ after_orders clock.old line orders.now now }
+    ensures lines { clock.new.lines ≡ clock.old.lines }
+{
+    let mut all = true;
+    for i in 0..orders.len() {
+        let placed = carry_out_one(clock, line, &orders[i], now);
+        all = all && placed;
+    }
+    all
+}
+
+fn carry_out_one(clock: &mut Clock, line: usize, order: &PlainOrder, now: u64) -> bool
+    requires line { line < clock.old.lines }
+    requires now { now ≤ 2 ^ 63 }
+    ensures placed { result ≡ is_placed clock.old line (order_in order.now) }
+    ensures after { clock.new ≡ after_order clock.old line (order_in order.now) now }
+    ensures lines { clock.new.lines ≡ clock.old.lines }
+{
+    match order.order() {
+        Ok(order) => clock.apply(line, order, now),
+        Err(_) => true,
+    }
+}

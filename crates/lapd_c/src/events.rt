@@ -1,0 +1,251 @@
+//! What happens at a card: an octet that comes, one that goes, a timer that expires, and a request.
+
+ghost use Rattle.std.specs.Prelude.{◌≡◌, ◌≤◌, ◌<◌, Some, None, IfSome, IfOk, IfErr};
+ghost use Rattle.lapd_card_machine.specs.Card as machine;
+ghost use Rattle.lapd_card_machine.specs.Event.{at};
+ghost use Rattle.lapd_card_machine.specs.Machine.{after, answer};
+ghost use Rattle.lapd_line_machine.specs.Answer as happening;
+ghost use Rattle.lapd_line_machine.specs.Refusal.{refusal};
+ghost use Rattle.lapd_plain.specs.Statuses as status;
+ghost use Rattle.lapd_plain.specs.Statuses.{refusal_status};
+ghost use Rattle.lapd_plain.specs.Requests.{request_in};
+ghost use Rattle.lapd_plain.specs.Timers.{timer_in};
+ghost use Rattle.lapd_c.specs.Cards.{card_of, IsHandle, Stands, CardStands, ShowsAnswer, octet_of};
+
+use crate::card::CardHandle;
+use lapd_card::Card;
+use lapd_plain::{NO_CARD, OK, PlainReport, PlainTimer, WRONG_LINE, refusal_status, request_in};
+use lapd_store::RawShelf;
+use std::alloc::Global;
+
+/// Takes an octet that came from a line, low bit first.
+#[unsafe(no_mangle)]
+pub extern "C" fn lapd_octet(
+    alloc: Global,
+    handle: &mut CardHandle,
+    line: u32,
+    octet: u8,
+    report: &mut PlainReport,
+) -> u32
+    requires { IsHandle handle.old }
+    ensures handle { IsHandle handle.new }
+    ensures no_card { card_of handle.old ≡ None → (result ≡ status.no_card) × (handle.new ≡ handle.old) × (report.new ≡ report.old) }
+    ensures wrong_line { (m : machine.Card) → Stands handle.old m → m.config.lines ≤ line
+        → (result ≡ status.wrong_line) × Stands handle.new m × (report.new ≡ report.old) }
+    ensures served { (m : machine.Card) → Stands handle.old m → line < m.config.lines
+        → (result ≡ status.ok) × Stands handle.new (after (at line (happening.octet octet)) m)
+        × ShowsAnswer report.new (answer (at line (happening.octet octet)) m) }
+{
+    let Some(mut card) = handle.take(alloc) else {
+        return NO_CARD;
+    };
+    let status = take_octet(&mut card, line, octet, report);
+    handle.put(card);
+    status
+}
+
+fn take_octet(card: &mut Card<RawShelf>, line: u32, octet: u8, report: &mut PlainReport) -> u32
+    ensures wrong_line { (m : machine.Card) → CardStands card.old m → m.config.lines ≤ line
+        → (result ≡ status.wrong_line) × CardStands card.new m × (report.new ≡ report.old) }
+    ensures served { (m : machine.Card) → CardStands card.old m → line < m.config.lines
+        → (result ≡ status.ok) × CardStands card.new (after (at line (happening.octet octet)) m)
+        × ShowsAnswer report.new (answer (at line (happening.octet octet)) m) }
+{
+    let line = line as usize;
+    if line >= card.lines() {
+        return WRONG_LINE;
+    }
+    let told = card.octet(line, octet);
+    report.show(
+        told.notes(),
+        told.orders(),
+        told.cause,
+        told.lost,
+        told.delivered,
+    );
+    OK
+}
+
+/// Gives the next octet of a line to send, low bit first.
+#[unsafe(no_mangle)]
+pub extern "C" fn lapd_pull(
+    alloc: Global,
+    handle: &mut CardHandle,
+    line: u32,
+    octet: &mut u8,
+    report: &mut PlainReport,
+) -> u32
+    requires { IsHandle handle.old }
+    ensures handle { IsHandle handle.new }
+    ensures no_card { card_of handle.old ≡ None → (result ≡ status.no_card) × (handle.new ≡ handle.old) × (octet.new ≡ octet.old) × (report.new ≡ report.old) }
+    ensures wrong_line { (m : machine.Card) → Stands handle.old m → m.config.lines ≤ line
+        → (result ≡ status.wrong_line) × Stands handle.new m × (octet.new ≡ octet.old) × (report.new ≡ report.old) }
+    ensures served { (m : machine.Card) → Stands handle.old m → line < m.config.lines
+        → (result ≡ status.ok) × Stands handle.new (after (at line happening.pull) m)
+        × (octet.new ≡ octet_of (answer (at line happening.pull) m)) × ShowsAnswer report.new (answer (at line happening.pull) m) }
+{
+    let Some(mut card) = handle.take(alloc) else {
+        return NO_CARD;
+    };
+    let status = give_octet(&mut card, line, octet, report);
+    handle.put(card);
+    status
+}
+
+fn give_octet(card: &mut Card<RawShelf>, line: u32, octet: &mut u8, report: &mut PlainReport) -> u32
+    ensures wrong_line { (m : machine.Card) → CardStands card.old m → m.config.lines ≤ line
+        → (result ≡ status.wrong_line) × CardStands card.new m × (octet.new ≡ octet.old) × (report.new ≡ report.old) }
+    ensures served { (m : machine.Card) → CardStands card.old m → line < m.config.lines
+        → (result ≡ status.ok) × CardStands card.new (after (at line happening.pull) m)
+        × (octet.new ≡ octet_of (answer (at line happening.pull) m)) × ShowsAnswer report.new (answer (at line happening.pull) m) }
+{
+    let line = line as usize;
+    if line >= card.lines() {
+        return WRONG_LINE;
+    }
+    let pulled = card.pull(line);
+    *octet = pulled.octet;
+    report.show_pull(pulled.begun, pulled.orders());
+    OK
+}
+
+/// A timer of a line expired. One that does not run has no effect, and nothing is told.
+#[unsafe(no_mangle)]
+pub extern "C" fn lapd_expire(
+    alloc: Global,
+    handle: &mut CardHandle,
+    line: u32,
+    timer: &PlainTimer,
+    report: &mut PlainReport,
+) -> u32
+    requires { IsHandle handle.old }
+    ensures handle { IsHandle handle.new }
+    ensures no_card { card_of handle.old ≡ None → (result ≡ status.no_card) × (handle.new ≡ handle.old) × (report.new ≡ report.old) }
+    ensures wrong_line { (m : machine.Card) → Stands handle.old m → m.config.lines ≤ line
+        → (result ≡ status.wrong_line) × Stands handle.new m × (report.new ≡ report.old) }
+    ensures wrong_timer { (m : machine.Card) → Stands handle.old m → line < m.config.lines → IfErr (timer_in timer.now) (λ wrong.
+        (result ≡ wrong) × Stands handle.new m × (report.new ≡ report.old)) }
+    ensures served { (m : machine.Card) → Stands handle.old m → line < m.config.lines → IfOk (timer_in timer.now) (λ expired.
+        (result ≡ status.ok) × Stands handle.new (after (at line (happening.expiry expired)) m)
+        × ShowsAnswer report.new (answer (at line (happening.expiry expired)) m)) }
+{
+    let Some(mut card) = handle.take(alloc) else {
+        return NO_CARD;
+    };
+    let status = expire_timer(&mut card, line, timer, report);
+    handle.put(card);
+    status
+}
+
+fn expire_timer(
+    card: &mut Card<RawShelf>,
+    line: u32,
+    timer: &PlainTimer,
+    report: &mut PlainReport,
+) -> u32
+    ensures wrong_line { (m : machine.Card) → CardStands card.old m → m.config.lines ≤ line
+        → (result ≡ status.wrong_line) × CardStands card.new m × (report.new ≡ report.old) }
+    ensures wrong_timer { (m : machine.Card) → CardStands card.old m → line < m.config.lines → IfErr (timer_in timer.now) (λ wrong.
+        (result ≡ wrong) × CardStands card.new m × (report.new ≡ report.old)) }
+    ensures served { (m : machine.Card) → CardStands card.old m → line < m.config.lines → IfOk (timer_in timer.now) (λ expired.
+        (result ≡ status.ok) × CardStands card.new (after (at line (happening.expiry expired)) m)
+        × ShowsAnswer report.new (answer (at line (happening.expiry expired)) m)) }
+{
+    let line = line as usize;
+    if line >= card.lines() {
+        return WRONG_LINE;
+    }
+    match timer.timer() {
+        Ok(timer) => {
+            let told = card.expire(line, timer);
+            report.show(
+                told.notes(),
+                told.orders(),
+                told.cause,
+                told.lost,
+                told.delivered,
+            );
+            OK
+        }
+        Err(wrong) => wrong,
+    }
+}
+
+/// Asks for something at a line.
+#[unsafe(no_mangle)]
+pub extern "C" fn lapd_request(
+    alloc: Global,
+    handle: &mut CardHandle,
+    line: u32,
+    request: u8,
+    service: u8,
+    tei: u8,
+    contents: &[u8],
+    report: &mut PlainReport,
+) -> u32
+    requires { IsHandle handle.old }
+    ensures handle { IsHandle handle.new }
+    ensures no_card { card_of handle.old ≡ None → (result ≡ status.no_card) × (handle.new ≡ handle.old) × (report.new ≡ report.old) }
+    ensures wrong_line { (m : machine.Card) → Stands handle.old m → m.config.lines ≤ line
+        → (result ≡ status.wrong_line) × Stands handle.new m × (report.new ≡ report.old) }
+    ensures wrong_request { (m : machine.Card) → Stands handle.old m → line < m.config.lines
+        → IfErr (request_in request service tei contents.now) (λ wrong. (result ≡ wrong) × Stands handle.new m × (report.new ≡ report.old)) }
+    ensures refused { (m : machine.Card) → Stands handle.old m → line < m.config.lines → IfOk (request_in request service tei contents.now) (λ asked.
+        IfSome (refusal m.config (machine.is_full m) asked (machine.line_at line m)) (λ why.
+        (result ≡ refusal_status why) × Stands handle.new m × (report.new ≡ report.old))) }
+    ensures served { (m : machine.Card) → Stands handle.old m → line < m.config.lines → IfOk (request_in request service tei contents.now) (λ asked.
+        refusal m.config (machine.is_full m) asked (machine.line_at line m) ≡ None
+        → (result ≡ status.ok) × Stands handle.new (after (at line (happening.request asked)) m)
+        × ShowsAnswer report.new (answer (at line (happening.request asked)) m)) }
+{
+    let Some(mut card) = handle.take(alloc) else {
+        return NO_CARD;
+    };
+    let status = ask(&mut card, line, request, service, tei, contents, report);
+    handle.put(card);
+    status
+}
+
+fn ask(
+    card: &mut Card<RawShelf>,
+    line: u32,
+    request: u8,
+    service: u8,
+    tei: u8,
+    contents: &[u8],
+    report: &mut PlainReport,
+) -> u32
+    ensures wrong_line { (m : machine.Card) → CardStands card.old m → m.config.lines ≤ line
+        → (result ≡ status.wrong_line) × CardStands card.new m × (report.new ≡ report.old) }
+    ensures wrong_request { (m : machine.Card) → CardStands card.old m → line < m.config.lines
+        → IfErr (request_in request service tei contents.now) (λ wrong. (result ≡ wrong) × CardStands card.new m × (report.new ≡ report.old)) }
+    ensures refused { (m : machine.Card) → CardStands card.old m → line < m.config.lines → IfOk (request_in request service tei contents.now) (λ asked.
+        IfSome (refusal m.config (machine.is_full m) asked (machine.line_at line m)) (λ why.
+        (result ≡ refusal_status why) × CardStands card.new m × (report.new ≡ report.old))) }
+    ensures served { (m : machine.Card) → CardStands card.old m → line < m.config.lines → IfOk (request_in request service tei contents.now) (λ asked.
+        refusal m.config (machine.is_full m) asked (machine.line_at line m) ≡ None
+        → (result ≡ status.ok) × CardStands card.new (after (at line (happening.request asked)) m)
+        × ShowsAnswer report.new (answer (at line (happening.request asked)) m)) }
+{
+    let line = line as usize;
+    if line >= card.lines() {
+        return WRONG_LINE;
+    }
+    let asked = match request_in(request, service, tei, contents) {
+        Ok(asked) => asked,
+        Err(wrong) => return wrong,
+    };
+    match card.request(line, asked) {
+        Ok(told) => {
+            report.show(
+                told.notes(),
+                told.orders(),
+                told.cause,
+                told.lost,
+                told.delivered,
+            );
+            OK
+        }
+        Err(why) => refusal_status(why),
+    }
+}

@@ -1,0 +1,178 @@
+//! Octets taken and given in turn.
+
+ghost use Rattle.std.specs.Prelude.{◌≡◌, ◌≤◌, ◌<◌, ◌*◌, true, false, not, length, None};
+ghost use Rattle.lapd_card_machine.specs.Card as machine;
+ghost use Rattle.lapd_card_machine.specs.Event.{at};
+ghost use Rattle.lapd_card_machine.specs.Machine.{answer};
+ghost use Rattle.lapd_line_machine.specs.Answer as happening;
+ghost use Rattle.lapd_card.specs.Card.{line_count};
+ghost use Rattle.lapd_card.specs.Stands.{Leads};
+ghost use Rattle.lapd_line.specs.Reports.{report_told};
+ghost use Rattle.lapd_plain.specs.Statuses as status;
+ghost use Rattle.lapd_c.specs.Cards.{card_of, IsHandle, Stands, CardStands, ShowsAnswer, octet_of, shelf_of};
+ghost use Rattle.lapd_c.specs.Exchange.{is_quiet, is_exchange, step_event, with_step, Exchanged, ExchangedIn};
+
+use crate::card::CardHandle;
+use lapd_card::{Card, Report};
+use lapd_plain::{NO_CARD, OK, PlainReport, WRONG_LENGTH, WRONG_LINE};
+use lapd_store::RawShelf;
+use std::alloc::Global;
+
+/// Takes and gives octets in turn: step 2i takes octet i of those taken, step 2i + 1 gives octet i of those given. Goes
+/// on from a step, up to and with the first that has something to tell.
+#[unsafe(no_mangle)]
+pub extern "C" fn lapd_exchange(
+    alloc: Global,
+    handle: &mut CardHandle,
+    line: u32,
+    taken: &[u8],
+    given: &mut [u8],
+    steps: &mut usize,
+    report: &mut PlainReport,
+) -> u32
+    requires { IsHandle handle.old }
+    ensures handle { IsHandle handle.new }
+    ensures no_card { card_of handle.old ≡ None → (result ≡ status.no_card) × (handle.new ≡ handle.old) × (given.new ≡ given.old) × (steps.new ≡ steps.old) × (report.new ≡ report.old) }
+    ensures wrong_line { (m : machine.Card) → Stands handle.old m → m.config.lines ≤ line
+        → (result ≡ status.wrong_line) × Stands handle.new m × (given.new ≡ given.old) × (steps.new ≡ steps.old) × (report.new ≡ report.old) }
+    ensures wrong_length { (m : machine.Card) → Stands handle.old m → line < m.config.lines → is_exchange taken.now given.old steps.old ≡ false
+        → (result ≡ status.wrong_length) × Stands handle.new m × (given.new ≡ given.old) × (steps.new ≡ steps.old) × (report.new ≡ report.old) }
+    ensures served { (m : machine.Card) → Stands handle.old m → line < m.config.lines → is_exchange taken.now given.old steps.old ≡ true
+        → (result ≡ status.ok) × ExchangedIn line taken.now steps.old m (card_of handle.new) given.old given.new steps.new report.new }
+{
+    let Some(mut card) = handle.take(alloc) else {
+        return NO_CARD;
+    };
+    let status = exchange_at(&mut card, line, taken, given, steps, report);
+    handle.put(card);
+    status
+}
+
+fn exchange_at(
+    card: &mut Card<RawShelf>,
+    line: u32,
+    taken: &[u8],
+    given: &mut [u8],
+    steps: &mut usize,
+    report: &mut PlainReport,
+) -> u32
+    ensures wrong_line { (m : machine.Card) → CardStands card.old m → m.config.lines ≤ line
+        → (result ≡ status.wrong_line) × CardStands card.new m × (given.new ≡ given.old) × (steps.new ≡ steps.old) × (report.new ≡ report.old) }
+    ensures wrong_length { (m : machine.Card) → CardStands card.old m → line < m.config.lines → is_exchange taken.now given.old steps.old ≡ false
+        → (result ≡ status.wrong_length) × CardStands card.new m × (given.new ≡ given.old) × (steps.new ≡ steps.old) × (report.new ≡ report.old) }
+    ensures served { (m : machine.Card) → CardStands card.old m → line < m.config.lines → is_exchange taken.now given.old steps.old ≡ true
+        → (result ≡ status.ok) × Exchanged line taken.now steps.old m card.new given.old given.new steps.new report.new }
+{
+    let line = line as usize;
+    if line >= card.lines() {
+        return WRONG_LINE;
+    }
+    if taken.len() != given.len() || *steps > 2 * taken.len() {
+        return WRONG_LENGTH;
+    }
+    exchange(card, line, taken, given, steps, report);
+    OK
+}
+
+fn exchange(
+    card: &mut Card<RawShelf>,
+    line: usize,
+    taken: &[u8],
+    given: &mut [u8],
+    steps: &mut usize,
+    report: &mut PlainReport,
+)
+    requires line { line < line_count card.old }
+    requires lengths { is_exchange taken.now given.old steps.old ≡ true }
+    ensures { (m : machine.Card) → CardStands card.old m
+        → Exchanged line taken.now steps.old m card.new given.old given.new steps.new report.new }
+{
+    let end = 2 * taken.len();
+    for step in *steps..end {
+        if make_step(card, line, taken, given, step, report) {
+            *steps = step + 1;
+            return;
+        }
+    }
+    *steps = end;
+    report.show(&[], &[], None, 0, None);
+}
+
+// Makes one step, and says whether there is anything to tell; else no report is written.
+fn make_step(
+    card: &mut Card<RawShelf>,
+    line: usize,
+    taken: &[u8],
+    given: &mut [u8],
+    step: usize,
+    report: &mut PlainReport,
+) -> bool
+    requires line { line < line_count card.old }
+    requires within { step < 2 * length taken.now }
+    requires lengths { length given.old ≡ length taken.now }
+    ensures leads { Leads shelf_of (step_event line taken.now step) card.old card.new }
+    ensures given { (m : machine.Card) → CardStands card.old m → given.new ≡ with_step step (answer (step_event line taken.now step) m) given.old }
+    ensures length { length given.new ≡ length given.old }
+    ensures tells { (m : machine.Card) → CardStands card.old m → result ≡ not (is_quiet (answer (step_event line taken.now step) m)) }
+    ensures shown { (m : machine.Card) → CardStands card.old m → result ≡ true → ShowsAnswer report.new (answer (step_event line taken.now step) m) }
+{
+    if step % 2 == 0 {
+        return tells_taken(card, line, taken[step / 2], report);
+    }
+    tells_given(card, line, &mut given[step / 2], report)
+}
+
+// Takes an octet, and says whether there is anything to tell; else nothing is written.
+fn tells_taken(card: &mut Card<RawShelf>, line: usize, octet: u8, report: &mut PlainReport) -> bool
+    requires { line < line_count card.old }
+    ensures leads { Leads shelf_of (at line (happening.octet octet)) card.old card.new }
+    ensures tells { (m : machine.Card) → CardStands card.old m → result ≡ not (is_quiet (answer (at line (happening.octet octet)) m)) }
+    ensures shown { (m : machine.Card) → CardStands card.old m → result ≡ true → ShowsAnswer report.new (answer (at line (happening.octet octet)) m) }
+    ensures unchanged { result ≡ false → report.new ≡ report.old }
+{
+    let told = card.octet(line, octet);
+    if is_quiet(&told) {
+        return false;
+    }
+    report.show(
+        told.notes(),
+        told.orders(),
+        told.cause,
+        told.lost,
+        told.delivered,
+    );
+    true
+}
+
+// Gives an octet, and says whether there is anything to tell; else no report is written.
+fn tells_given(
+    card: &mut Card<RawShelf>,
+    line: usize,
+    octet: &mut u8,
+    report: &mut PlainReport,
+) -> bool
+    requires { line < line_count card.old }
+    ensures leads { Leads shelf_of (at line happening.pull) card.old card.new }
+    ensures octet { (m : machine.Card) → CardStands card.old m → octet.new ≡ octet_of (answer (at line happening.pull) m) }
+    ensures tells { (m : machine.Card) → CardStands card.old m → result ≡ not (is_quiet (answer (at line happening.pull) m)) }
+    ensures shown { (m : machine.Card) → CardStands card.old m → result ≡ true → ShowsAnswer report.new (answer (at line happening.pull) m) }
+    ensures unchanged { result ≡ false → report.new ≡ report.old }
+{
+    let pulled = card.pull(line);
+    *octet = pulled.octet;
+    if !pulled.begun && pulled.orders().is_empty() {
+        return false;
+    }
+    report.show_pull(pulled.begun, pulled.orders());
+    true
+}
+
+fn is_quiet(told: &Report<'_>) -> bool
+    ensures { result ≡ is_quiet (happening.told (report_told told.now)) }
+{
+    told.notes().is_empty()
+        && told.orders().is_empty()
+        && told.cause.is_none()
+        && told.lost == 0
+        && told.delivered.is_none()
+}

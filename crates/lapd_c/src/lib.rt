@@ -1,0 +1,23 @@
+//! The card for C: what `include/lapd.h` declares. Each function there is an export here, with its contract.
+//!
+//! A card or a clock lies in memory of the library, at an address that stands in a struct of the caller's. A call takes it
+//! from there, serves, and puts it back; a ghost field says which card it is, so that the contracts speak of the card's
+//! machine (`lapd_card_machine`) and of the clock's timers (`lapd_clock`).
+//!
+//! - `card`: a card in C, how it begins and ends; `card_slot`, where it lies; `events`, what happens at it; `exchange`, octets taken and given in turn;
+//!   `questions`, what it answers about itself.
+//! - `clock`: a clock in C, and its exports; `clock_reports`, the orders of a report; `clock_slot`, where it lies.
+//! - `laws`: what holds of the machine's answers, so that a report has room for each.
+//! - `loose`: a box as the address of its block.
+#![tactic(auto)]
+
+mod card;
+mod card_slot;
+mod clock;
+mod clock_reports;
+mod clock_slot;
+mod events;
+mod exchange;
+mod laws;
+mod loose;
+mod questions;

@@ -1,0 +1,123 @@
+//! What a card answers about itself.
+
+ghost use Rattle.std.specs.Prelude.{◌≡◌, ◌≤◌, ◌<◌, Some, None, IfOk, IfErr};
+ghost use Rattle.std.specs.Option.{unwrap_or};
+ghost use Rattle.lapd_card_machine.specs.Card as machine;
+ghost use Rattle.lapd_card_machine.specs.Stored.{stored, limit};
+ghost use Rattle.lapd_plain.specs.Statuses as status;
+ghost use Rattle.lapd_plain.specs.Timers.{link_in};
+ghost use Rattle.lapd_c.specs.Cards.{card_of, IsHandle, Stands, CardStands};
+
+use crate::card::CardHandle;
+use lapd_card::Card;
+use lapd_plain::{NO_CARD, OK, WRONG_LINE, link_in};
+use lapd_store::RawShelf;
+use std::alloc::Global;
+
+/// The most lines of a card.
+const MOST_LINES: usize = 64;
+
+/// The state of the link of a service with a TEI, by its number in Q.921; 0 where the TEI is not on the line.
+#[unsafe(no_mangle)]
+pub extern "C" fn lapd_state(
+    alloc: Global,
+    handle: &mut CardHandle,
+    line: u32,
+    service: u8,
+    tei: u8,
+    state: &mut u8,
+) -> u32
+    requires { IsHandle handle.old }
+    ensures handle { IsHandle handle.new }
+    ensures no_card { card_of handle.old ≡ None → (result ≡ status.no_card) × (handle.new ≡ handle.old) × (state.new ≡ state.old) }
+    ensures unchanged { card_of handle.new ≡ card_of handle.old }
+    ensures wrong_line { (m : machine.Card) → Stands handle.old m → m.config.lines ≤ line → (result ≡ status.wrong_line) × (state.new ≡ state.old) }
+    ensures wrong_link { (m : machine.Card) → Stands handle.old m → line < m.config.lines
+        → IfErr (link_in service tei) (λ wrong. (result ≡ wrong) × (state.new ≡ state.old)) }
+    ensures told { (m : machine.Card) → Stands handle.old m → line < m.config.lines
+        → IfOk (link_in service tei) (λ link. (result ≡ status.ok) × (state.new ≡ unwrap_or (machine.state line link.0 link.1 m) 0)) }
+{
+    let Some(card) = handle.take(alloc) else {
+        return NO_CARD;
+    };
+    let status = tell_state(&card, line, service, tei, state);
+    handle.put(card);
+    status
+}
+
+fn tell_state(card: &Card<RawShelf>, line: u32, service: u8, tei: u8, state: &mut u8) -> u32
+    ensures wrong_line { (m : machine.Card) → CardStands card.now m → m.config.lines ≤ line → (result ≡ status.wrong_line) × (state.new ≡ state.old) }
+    ensures wrong_link { (m : machine.Card) → CardStands card.now m → line < m.config.lines
+        → IfErr (link_in service tei) (λ wrong. (result ≡ wrong) × (state.new ≡ state.old)) }
+    ensures told { (m : machine.Card) → CardStands card.now m → line < m.config.lines
+        → IfOk (link_in service tei) (λ link. (result ≡ status.ok) × (state.new ≡ unwrap_or (machine.state line link.0 link.1 m) 0)) }
+{
+    let line = line as usize;
+    if line >= card.lines() {
+        return WRONG_LINE;
+    }
+    match link_in(service, tei) {
+        Ok((service, tei)) => {
+            *state = card.state(line, service, tei).unwrap_or(0);
+            OK
+        }
+        Err(wrong) => wrong,
+    }
+}
+
+/// How many octets the card stores now.
+#[unsafe(no_mangle)]
+pub extern "C" fn lapd_stored(alloc: Global, handle: &mut CardHandle, octets: &mut u32) -> u32
+    requires { IsHandle handle.old }
+    ensures handle { IsHandle handle.new }
+    ensures no_card { card_of handle.old ≡ None → (result ≡ status.no_card) × (handle.new ≡ handle.old) × (octets.new ≡ octets.old) }
+    ensures unchanged { card_of handle.new ≡ card_of handle.old }
+    ensures told { (m : machine.Card) → Stands handle.old m → (result ≡ status.ok) × (octets.new ≡ stored m) }
+{
+    let Some(card) = handle.take(alloc) else {
+        return NO_CARD;
+    };
+    *octets = card.stored();
+    handle.put(card);
+    OK
+}
+
+/// How many octets the card stores at most.
+#[unsafe(no_mangle)]
+pub extern "C" fn lapd_limit(alloc: Global, handle: &mut CardHandle, octets: &mut u32) -> u32
+    requires { IsHandle handle.old }
+    ensures handle { IsHandle handle.new }
+    ensures no_card { card_of handle.old ≡ None → (result ≡ status.no_card) × (handle.new ≡ handle.old) × (octets.new ≡ octets.old) }
+    ensures unchanged { card_of handle.new ≡ card_of handle.old }
+    ensures told { (m : machine.Card) → Stands handle.old m → (result ≡ status.ok) × (octets.new ≡ limit m.config) }
+{
+    let Some(card) = handle.take(alloc) else {
+        return NO_CARD;
+    };
+    *octets = card.limit();
+    handle.put(card);
+    OK
+}
+
+/// How many lines the card has.
+#[unsafe(no_mangle)]
+pub extern "C" fn lapd_lines(alloc: Global, handle: &mut CardHandle, lines: &mut u32) -> u32
+    requires { IsHandle handle.old }
+    ensures handle { IsHandle handle.new }
+    ensures no_card { card_of handle.old ≡ None → (result ≡ status.no_card) × (handle.new ≡ handle.old) × (lines.new ≡ lines.old) }
+    ensures unchanged { card_of handle.new ≡ card_of handle.old }
+    ensures told { (m : machine.Card) → Stands handle.old m → (result ≡ status.ok) × (lines.new ≡ m.config.lines) }
+{
+    let Some(card) = handle.take(alloc) else {
+        return NO_CARD;
+    };
+    *lines = line_count(&card);
+    handle.put(card);
+    OK
+}
+
+fn line_count(card: &Card<RawShelf>) -> u32
+    ensures { (m : machine.Card) → CardStands card.now m → result ≡ m.config.lines }
+{
+    card.lines().min(MOST_LINES) as u32
+}

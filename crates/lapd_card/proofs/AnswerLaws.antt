@@ -1,0 +1,26 @@
+-- What the laws of a card's machine say of an answer that is the machine's.
+use Rattle.std.proofs.Common.{◌≡◌, ℕ, ◌≤◌, ◌<◌, IsSome, sym, subst}
+use Rattle.lapd_frame.specs.declared.timers.Timer.{Timer}
+use Rattle.lapd_line_machine.specs.Answer.{Told, told, octet, expiry}
+use Rattle.lapd_line_machine.specs.Laws.{orders_in, starts, cause_in}
+use Rattle.lapd_card_machine.specs.Card as machine
+use Rattle.lapd_card_machine.specs.Counts.{may_send}
+use Rattle.lapd_card_machine.specs.Event.{at}
+use Rattle.lapd_card_machine.specs.Machine.{after, answer}
+use Rattle.lapd_card_machine.proofs.Drops.{drop_costs_nothing}
+use Rattle.lapd_card_machine.proofs.Starts.{expiry_starts}
+use Rattle.lapd_store.specs.Store.{Store}
+use Rattle.lapd_card.specs.Card.{Held, line_count}
+use Rattle.lapd_card.specs.Stands.{Stands, HasPast}
+
+-- an expiry starts one timer at most
+pub starts_one : {S : Type 0} (store : S → Store) (card : Held S) (line : ℕ) (timer : Timer) (t : Told)
+    → ((m : machine.Card) → Stands store card m → told t ≡ answer (at line (expiry timer)) m) → HasPast store card → starts t.orders ≤ 1
+starts_one store card line timer t is (m, s) = subst (λ a. starts (orders_in a) ≤ 1) (sym (is m s)) (expiry_starts line timer m)
+
+-- what is dropped leaves what may be sent
+pub drop_leaves : {S : Type 0} (store : S → Store) (card : Held S) (line value : ℕ) → line < line_count card → (t : Told)
+    → ((m : machine.Card) → Stands store card m → told t ≡ answer (at line (octet value)) m)
+    → (m : machine.Card) → Stands store card m → IsSome t.cause → may_send (after (at line (octet value)) m) ≡ may_send m
+drop_leaves store card line value within t is m s some =
+    drop_costs_nothing m line value s.sound (subst (λ c. line < c.lines) (sym s.config) within) (subst (λ a. IsSome (cause_in a)) (is m s) some)

@@ -1,0 +1,118 @@
+//! A sink that keeps replies.
+
+ghost use Rattle.std.specs.Prelude.{◌≡◌, ◌∷◌, ◌++◌, [], IfSome, IfOk};
+ghost use Rattle.lapd_card.specs.Kept.{kept_of};
+ghost use Rattle.lapd_card.specs.Reply.{answer_of};
+ghost use Rattle.lapd_line.specs.Reports.{report_told};
+ghost use Rattle.lapd_line_machine.specs.Answer.{told};
+
+use crate::replies::Reply;
+use crate::sink::{Sink, SinkFailed};
+use arrayvec::ArrayVec;
+use lapd_line::Report;
+use std::alloc::{AllocError, Global};
+
+/// The longest contents that a frame delivers: N201 is at most 260.
+const LONGEST: usize = 260;
+
+/// A reply that was kept.
+#[derive(Debug, Drop)]
+pub struct KeptReply {
+    /// The line of its event.
+    pub line: usize,
+    /// The reply, but for the contents that it lent.
+    pub reply: Reply<'static>,
+    /// A copy of those contents.
+    pub contents: Option<ArrayVec<u8, LONGEST>>,
+}
+
+/// A sink that keeps replies, whole and in order, while it has room. All memory is taken by [`Kept::start`], about 400
+/// octets a reply.
+#[derive(Debug, Drop)]
+pub struct Kept {
+    /// The replies that were kept.
+    pub replies: Vec<KeptReply>,
+    /// How many replies found no room.
+    pub failures: u64,
+}
+
+impl Kept {
+    ghost use Rattle.lapd_card.specs.Kept.{replies_in};
+
+    /// A sink that has kept no reply, and has room for so many.
+    ///
+    /// # Errors
+    ///
+    /// `AllocError` where memory is refused.
+    pub fn start(alloc: Global, room: usize) -> Result<Kept, AllocError>
+        ensures { IfOk result (λ sink. replies_in sink ≡ []) }
+    {
+        let replies = Vec::with_capacity(alloc, room)?;
+        Ok(Kept {
+            replies,
+            failures: 0,
+        })
+    }
+}
+
+impl Sink for Kept {
+    ghost use Rattle.lapd_card.specs.Kept.{replies_in};
+
+    ghost takes = { λ old line answer new. replies_in new ≡ replies_in old ++ (line, answer) ∷ [] };
+
+    ghost misses = { λ old line answer new. replies_in new ≡ replies_in old };
+
+    ghost failures = { λ s. s.failures };
+
+    fn take(&mut self, line: usize, reply: &Reply<'_>) -> Result<(), SinkFailed> {
+        if self.replies.len() < self.replies.capacity() {
+            if let Some(kept) = copy_of(line, reply) {
+                self.replies.push_reserved(kept);
+                return Ok(());
+            }
+        }
+        self.failures = self.failures.saturating_add(1);
+        Err(SinkFailed)
+    }
+}
+
+/// The reply as it is kept; none where it lends contents that are too long, which those of a card never are.
+fn copy_of(line: usize, reply: &Reply<'_>) -> Option<KeptReply>
+    ensures { IfSome result (λ kept. kept_of kept ≡ (line, answer_of reply.now)) }
+{
+    match reply {
+        Reply::Report(report) => kept_report(line, report),
+        Reply::Refused(refusal) => Some(KeptReply {
+            line,
+            reply: Reply::Refused(*refusal),
+            contents: None,
+        }),
+        Reply::Pulled(pulled) => Some(KeptReply {
+            line,
+            reply: Reply::Pulled(*pulled),
+            contents: None,
+        }),
+    }
+}
+
+fn kept_report(line: usize, report: &Report<'_>) -> Option<KeptReply>
+    ensures { IfSome result (λ kept. kept_of kept ≡ (line, told (report_told report.now))) }
+{
+    let contents = match report.delivered {
+        Some(octets) => Some(copied(octets)?),
+        None => None,
+    };
+    Some(KeptReply {
+        line,
+        reply: Reply::Report(report.without_contents()),
+        contents,
+    })
+}
+
+fn copied(octets: &[u8]) -> Option<ArrayVec<u8, LONGEST>>
+    ensures { IfSome result (λ copy. copy.items ≡ octets.now) }
+{
+    let mut copy = ArrayVec::new();
+    copy.try_extend_from_slice(octets).ok()?;
+    Some(copy)
+}

@@ -1,0 +1,4 @@
+-- Lemmas.
+pub mod Keeping
+pub mod Serving
+pub mod Hearing

@@ -1,0 +1,46 @@
+-- What holds in a moment of a run, of what layer 3 gave and of what was heard.
+use Rattle.std.specs.Prelude.{◌≡◌, ◌≢◌, ℕ, true, List, [], Some, None, if◌then◌else◌}
+use Rattle.lapd_frame.specs.declared.services.Service.{Service}
+use Rattle.lapd_frame.specs.Grammar.{Parts}
+use Rattle.lapd_link_machine.specs.Events as link
+use Rattle.lapd_link_laws.specs.History as links
+use Rattle.lapd_line_machine.specs.Answer.{octet}
+use Rattle.lapd_line_machine.specs.Octet.{gained}
+use Rattle.lapd_line_laws.specs.Share.{asked_by}
+use Rattle.lapd_line_laws.specs.Loss.{IsTold}
+use Rattle.lapd_line_laws.specs.Pulls.{UnitsWait}
+use Rattle.lapd_line_laws.specs.Heard.{Ends, IsFor, IsOneEvent, IsNoEvent, contents_in, IsHeard}
+use Rattle.lapd_card_machine.specs.Card.{line_at}
+use Rattle.lapd_card_machine.specs.Machine.{after}
+use Rattle.lapd_card_machine.specs.Numbered.{LinkName, is_at}
+use Rattle.lapd_card_machine.specs.Promises.{HasLink}
+use Rattle.lapd_card_machine.specs.Run.{Moment}
+use Rattle.lapd_card_laws.specs.Contents.{link_named, line_before, line_after, share_in}
+
+-- The link keeps what it kept, without what is acknowledged, and with what is accepted, or nothing; accepted is exactly the
+-- contents of a data request for this link that was granted; and where all that was kept goes, layer 3 learns it.
+pub record IsFaithfulTo (name : LinkName) (m : Moment) : Type 0 where
+  pub kept : links.IsKept (share_in name m) (link_named name m.card) (link_named name (after m.event m.card))
+  pub asked : (share_in name m).accepted ≡ (if is_at name m then asked_by name.number m.event.what (line_at name.line m.card) m.answer else [])
+  pub told : (share_in name m).empties ≡ true → (m.event.line ≡ name.line)
+      × IsTold name.number m.event.what (line_at name.line m.card) (line_at name.line (after m.event m.card)) m.answer
+
+abbrev pub IsFaithful : Moment → Type 0
+IsFaithful m = (name : LinkName) → HasLink m.card name → IsFaithfulTo name m
+
+-- Unit data waits, at the line of its request, where the request was granted, behind what waits; no other event but a
+-- pull changes what waits.
+abbrev pub UnitsWaitIn : Moment → Type 0
+UnitsWaitIn m = UnitsWait m.event.what (line_before m) (line_after m) m.answer
+
+-- A frame for a link that an octet ends is an event of this link alone, one that ends no frame is no event of any; contents
+-- are handed on of a frame that was heard; and no other line feels an event.
+pub record IsHeardIn (m : Moment) : Type 0 where
+  pub event : (value : ℕ) (service : Service) (tei place : ℕ) (parts : Parts) (octets : List ℕ) → m.event.what ≡ octet value
+      → Ends m.card.config (line_before m) value octets → IsFor (line_before m) service tei place parts octets
+      → IsOneEvent m.card.config (line_before m) (line_after m) m.answer value service tei place (link.received (link.frame parts))
+  pub none : (value : ℕ) → m.event.what ≡ octet value → gained m.card.config.n201 (line_before m).received value ≡ None
+      → IsNoEvent (line_before m) (line_after m) m.answer value
+  pub heard : (contents : List ℕ) → contents_in m.answer ≡ Some contents
+      → IsHeard m.card.config (line_before m) m.event.what m.answer contents
+  pub others : (other : ℕ) → other ≢ m.event.line → line_at other (after m.event m.card) ≡ line_at other m.card

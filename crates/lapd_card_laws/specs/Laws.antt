@@ -1,0 +1,20 @@
+-- Laws of whole runs: what a card does with what it is given and what it hears.
+use Rattle.std.specs.Prelude.{List}
+use Rattle.lapd_line_machine.specs.declared.config.Config.{Config}
+use Rattle.lapd_card_machine.specs.Card.{Card}
+use Rattle.lapd_card_machine.specs.Event.{Event}
+use Rattle.lapd_card_machine.specs.Run.{AreAtLines}
+use Rattle.lapd_card_machine.specs.Sound.{IsSound}
+use Rattle.lapd_card_laws.specs.Promises.{IsKept, IsCountedIn, BeginsEmpty, IsServedIn, UnitsWaitAll, IsDelivered}
+
+pub record NothingIsLost : Type 0 where
+  pub kept : (card : Card) (events : List Event) → IsSound card → AreAtLines card events → IsKept card events
+  pub counted : (card : Card) (events : List Event) → IsSound card → AreAtLines card events → IsCountedIn card events
+  pub begins : (c : Config) → BeginsEmpty c
+
+pub record PullsServe : Type 0 where
+  pub served : (card : Card) (events : List Event) → IsSound card → AreAtLines card events → IsServedIn card events
+  pub units : (card : Card) (events : List Event) → IsSound card → AreAtLines card events → UnitsWaitAll card events
+
+abbrev pub HeardIsDelivered : Type 0
+HeardIsDelivered = (card : Card) (events : List Event) → IsSound card → AreAtLines card events → IsDelivered card events

@@ -1,0 +1,6 @@
+-- What a card does with what it is given and what it hears, and worked values of it.
+pub mod Contents
+pub mod Faithful
+pub mod Promises
+pub mod Laws
+pub mod Worked

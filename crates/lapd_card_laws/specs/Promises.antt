@@ -1,0 +1,41 @@
+-- What is promised of a list of events, from a card on.
+use Rattle.std.specs.Prelude.{◌≡◌, ◌<◌, ℕ, [], List, All}
+use Rattle.lapd_link_laws.specs.History.{IsCounted, nothing_yet}
+use Rattle.lapd_line_laws.specs.Pulls.{IsServed}
+use Rattle.lapd_line_machine.specs.declared.config.Config.{Config}
+use Rattle.lapd_card_machine.specs.Card.{Card, fresh, line_at}
+use Rattle.lapd_card_machine.specs.Event.{Event}
+use Rattle.lapd_card_machine.specs.Numbered.{LinkName}
+use Rattle.lapd_card_machine.specs.Promises.{HasLink}
+use Rattle.lapd_card_machine.specs.Run.{Moment, moments, after_all}
+use Rattle.lapd_card_laws.specs.Contents.{link_named, begun, history, accepted_at}
+use Rattle.lapd_card_laws.specs.Faithful.{IsFaithful, UnitsWaitIn, IsHeardIn}
+
+-- In every moment nothing that was accepted is lost silently.
+abbrev pub IsKept : Card → List Event → Type 0
+IsKept m events = All IsFaithful (moments m events)
+
+-- So each link holds what was accepted since its numbers began, in order, without what went, and V(A) counts those that
+-- were acknowledged.
+abbrev pub IsCountedIn : Card → List Event → Type 0
+IsCountedIn m events =
+    (name : LinkName) → HasLink m name → IsCounted (history name m (moments m events)) (link_named name (after_all m events))
+
+-- On a card as it begins the histories begin with nothing.
+abbrev pub BeginsEmpty : Config → Type 0
+BeginsEmpty c = (name : LinkName) → HasLink (fresh c) name → begun name (fresh c) ≡ nothing_yet
+
+-- What a pull of a line begins after these events: a message, the oldest unit data, or a frame of a link, whose
+-- information, if it is an I-frame, is contents number V(S) of those that the link has accepted since its numbers began;
+-- or nothing waits.
+abbrev pub IsServedIn : Card → List Event → Type 0
+IsServedIn m events =
+    (number : ℕ) → number < m.config.lines → IsServed m.config (accepted_at m events number) (line_at number (after_all m events))
+
+-- In every moment unit data waits that was granted,
+abbrev pub UnitsWaitAll : Card → List Event → Type 0
+UnitsWaitAll m events = All UnitsWaitIn (moments m events)
+
+-- and only what was heard is delivered, and from whom.
+abbrev pub IsDelivered : Card → List Event → Type 0
+IsDelivered m events = All IsHeardIn (moments m events)

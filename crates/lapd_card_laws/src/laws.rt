@@ -1,0 +1,32 @@
+//! What a card does, over whole runs. Each law is the contract of a call that does nothing.
+
+ghost use Rattle.lapd_card_laws.specs.Laws.{NothingIsLost, PullsServe, HeardIsDelivered};
+
+/// Nothing that was accepted is lost silently. In every moment of a run each link keeps what it kept before, without the
+/// oldest contents, as many as a valid N(R) acknowledges, and with the contents of a data request for this link at the
+/// end, where the moment's answer granted one, and none else. Or it keeps nothing, and the event was a release of this
+/// link that was granted, or the answer notes an establishment indication, a release indication or a release confirm of
+/// its service and TEI, or its TEI left the line. So a link holds what was accepted since its numbers began, in order,
+/// without what went, and V(A) counts those that were acknowledged.
+pub fn nothing_is_lost()
+    ensures { NothingIsLost }
+{}
+
+/// What is sent is what was accepted, and for whom. After every list of events a pull of a line, with fewer than eight
+/// bits left, begins the message of TEI management that has waited longest; or the unit data that has waited longest,
+/// whole, once, with its service and TEI; or a frame of a link of a TEI on the line, with the SAPI of its service and its
+/// TEI, whose information, if it is an I-frame, is contents number V(S) of those that the link has accepted since its
+/// numbers began, with N(S) = V(S) modulo 128, and V(S) counts it. It begins none only where no message waits, no unit
+/// data, and no link has anything to send. Unit data waits where its request was granted, in order, and no other event
+/// but a pull changes what waits.
+pub fn pulls_serve()
+    ensures { PullsServe }
+{}
+
+/// Only what was heard is delivered, and from whom. In every moment of a run an octet that ends a frame which spells the
+/// SAPI of a service and a TEI on the line is an event of that link and of no other; one that ends no frame changes
+/// nothing but what was received; contents are handed on only by an octet that ends an I-frame or a UI, whose information
+/// they are, and the answer notes data, or unit data, of the service and the TEI that it spells. No other line feels it.
+pub fn heard_is_delivered()
+    ensures { HeardIsDelivered }
+{}

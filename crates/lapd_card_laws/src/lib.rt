@@ -1,0 +1,15 @@
+//! Laws of whole runs of a card that say what it does: what becomes of what layer 3 gave, what pulls begin, and what
+//! comes of what was heard.
+//!
+//! The machine itself, and the laws that say what a card never does, stand in `lapd_card_machine`; the laws of a line in
+//! `lapd_line_laws`, and those of a link in `lapd_link_laws`. `specs/` has the contents of the links from moment to moment
+//! (`Contents`), what holds in a moment (`Faithful`), what is promised of a list of events (`Promises`), the laws, which
+//! say of which cards and lists (`Laws`), and worked values (`Worked`). Each law is the contract of a call that does
+//! nothing, and the call of a card that runs a list of events cites the promises.
+//!
+//! - `laws`: the laws.
+#![tactic(auto)]
+
+mod laws;
+
+pub use laws::{heard_is_delivered, nothing_is_lost, pulls_serve};

@@ -1,0 +1,127 @@
+-- What a call on the links does to the entities of a line.
+use Rattle.std.proofs.Common.{◌≡◌, ℕ, ◌<◌, ◌≤◌, List, ◌++◌, length, drop, slice_get, Option, Some, refl, sym, ap, subst, ◌∙◌, arith, append_assoc}
+use Rattle.std.proofs.lemmas.List.{length-map}
+use Rattle.std.specs.Option.{option_map}
+use Rattle.lapd_store.specs.Ownership.{Owned, Holds}
+use Rattle.lapd_store.specs.Store.{Store, SameLimits}
+use Rattle.lapd_frame.specs.declared.services.Service.{Service}
+use Rattle.lapd_link.specs.declared.link.Link.{Link}
+use Rattle.lapd_link.specs.declared.outcome.Answer.{Answer}
+use Rattle.lapd_link.specs.Outcome.{told_with}
+use Rattle.lapd_link.specs.Stands.{terms_of}
+use Rattle.lapd_link_machine.specs.Events as event
+use Rattle.lapd_link_machine.specs.Link as machine
+use Rattle.lapd_link_machine.specs.Link.{state_number}
+use Rattle.lapd_tei.specs.Sound.{IsAt}
+use Rattle.lapd_tei.specs.Table.{place_of}
+use Rattle.lapd_tei.proofs.Tables.{at-within, place_of-is}
+use Rattle.lapd_line_machine.specs.Line.{Line, link_number, link_count, service_at, place_at, tei_at, terms, state_in, state_of}
+use Rattle.lapd_line_machine.specs.Effect.{at_link, told_of_link}
+use Rattle.lapd_line_machine.specs.Sound.{IsSound}
+use Rattle.lapd_line_machine.proofs.Numbers.{place_at-number, service_at-number, number_within}
+use Rattle.lapd_line_machine.proofs.AimsSound.{aim_sound}
+use Rattle.lapd_line_machine.proofs.Ranges.{ranges_of}
+use Rattle.lapd_line.specs.declared.link_layer.LinkLayer.{LinkLayer}
+use Rattle.lapd_line.specs.declared.reports.BareReport.{BareReport}
+use Rattle.lapd_line.specs.Reports.{told_in}
+use Rattle.lapd_line.specs.Units.{unit_pairs}
+use Rattle.lapd_line.specs.Links as links
+use Rattle.lapd_line.specs.Links.{LinksStand, HasTerms, links_pairs, terms_in, machine_at}
+use Rattle.lapd_line.specs.LinkLayer.{Stands, Standing, Serves, always}
+
+-- the links of a line stand beside its units and what others own
+abbrev pub beside_links : LinkLayer → Line → List Owned → List Owned
+beside_links e m others = unit_pairs e.units.waiting m.units ++ others
+
+pub links_part : (e : LinkLayer) (s : Store) (others : List Owned) (m : Line) → Stands e s others m → LinksStand e.config e.links s (beside_links e m others) m.links
+links_part e s others m st = record {
+  wide = st.wide;
+  same = st.count ∙ sym st.sound.count;
+  fits = st.links;
+  held = subst (Holds s) (append_assoc (links_pairs e.links m.links) (unit_pairs e.units.waiting m.units) others) st.held;
+}
+
+-- the way back: where the links and their machines have changed, and nothing else
+pub links_back : (e : LinkLayer) (s t : Store) (others : List Owned) (m : Line) (new : List Link) (ms : List machine.Link)
+    → Stands e s others m → terms_in new ≡ terms_in e.links → SameLimits s t
+    → IsSound e.config (record m { links = ms })
+    → LinksStand e.config new t (beside_links e m others) ms
+    → Stands (record e { links = new }) t others (record m { links = ms })
+links_back e s t others m new ms st same limits sound stand = record {
+  range = st.range;
+  wide = stand.wide;
+  sound = sound;
+  management = st.management;
+  count = sym (length-map new terms_of) ∙ ap (λ l. length l) same ∙ length-map e.links terms_of ∙ st.count;
+  links = stand.fits;
+  terms = λ number tei within at. subst (λ l. slice_get l number ≡ Some (terms e.config (service_at number) tei)) (sym same) (st.terms number tei within at);
+  addressed = st.addressed;
+  capacity = st.capacity;
+  turn = st.turn;
+  held = subst (Holds t) (sym (append_assoc (links_pairs new ms) (unit_pairs e.units.waiting m.units) others)) stand.held;
+}
+
+-- the link of a service with the TEI at a place: where it is, and its parameters
+pub record Named (e : LinkLayer) (service : Service) (tei place : ℕ) : Type 0 where
+  pub within : link_number place service < length e.links
+  pub few : link_number place service < link_count e.config
+  pub has_terms : HasTerms e.links (link_number place service) (terms e.config service tei)
+
+pub named : (e : LinkLayer) (s : Store) (others : List Owned) (m : Line) (service : Service) (tei place : ℕ) → Stands e s others m → IsAt e.teis.places place tei → Named e service tei place
+named e s others m service tei place st at =
+    let number = link_number place service in
+    let at' : IsAt m.management.places place tei = subst (λ t. IsAt t.places place tei) (sym st.management) at in
+    let within : place < e.config.terminals = omega (arith, st.sound.places, at-within m.management.places place tei at') in
+    let few = number_within place e.config.terminals service within in
+    let there : tei_at (place_at number) m ≡ Some tei = ap (λ p. tei_at p m) (place_at-number place service) ∙ at' in
+    record {
+      within = omega (arith, st.count, few);
+      few = few;
+      has_terms = subst (λ x. HasTerms e.links number (terms e.config x tei)) (service_at-number place service) (st.terms number tei few there);
+    }
+
+-- an event of a link
+pub at_link_serves : (e : LinkLayer) (s t : Store) (new : List Link) (service : Service) (tei place : ℕ) (what : event.Event) (info octets : List ℕ) (answer : Answer) (outcome : BareReport)
+    → IsAt e.teis.places place tei
+    → links.Serves (link_number place service) what info e.links s new t answer
+    → told_in octets outcome ≡ told_of_link (told_with info answer)
+    → Serves (always (at_link service tei place what)) octets e s (record e { links = new }) t outcome
+at_link_serves e s t new service tei place what info octets answer outcome at served is_told = record {
+  config = refl;
+  limits = served.limits;
+  stands = λ others m st.
+      let n = named e s others m service tei place st at in
+      let at' : IsAt m.management.places place tei = subst (λ x. IsAt x.places place tei) (sym st.management) at in
+      let sound = aim_sound e.config st.range m (at_link service tei place what) st.sound at' in
+      links_back e s t others m new _ st served.terms served.limits sound
+      (served.goes_on e.config (terms e.config service tei) (beside_links e m others) m.links n.has_terms (links_part e s others m st));
+  told = λ others m st.
+      let n = named e s others m service tei place st at in
+      is_told ∙ ap told_of_link (served.told e.config (terms e.config service tei) (beside_links e m others) m.links n.has_terms (links_part e s others m st));
+}
+
+-- the same told, of the same information
+pub told_from : (outcome : BareReport) (answer : Answer) (info octets : List ℕ) (start : ℕ) → info ≡ drop start octets
+    → told_in octets outcome ≡ told_of_link (told_with (drop start octets) answer) → told_in octets outcome ≡ told_of_link (told_with info answer)
+told_from outcome answer info octets start is h = h ∙ ap (λ i. told_of_link (told_with i answer)) (sym is)
+
+-- at most eight places
+pub few_places : (e : LinkLayer) (s : Store) (others : List Owned) (m : Line) → Stands e s others m → length e.teis.places ≤ 8
+few_places e s others m st = omega (arith, ap (λ t. length t.places) st.management, st.sound.places, (ranges_of e.config st.range).terminals.most)
+
+-- so the number of a link is exact
+pub numbered : (e : LinkLayer) (s : Store) (tei place : ℕ) {result number : ℕ} → Standing e s → IsAt e.teis.places place tei → (place ≤ 8 → result ≡ number) → result ≡ number
+numbered e s tei place (others, m, st) at h = h (omega (arith, at-within e.teis.places place tei at, few_places e s others m st))
+
+-- the state of a link of a TEI on the line
+pub state_is : (e : LinkLayer) (s : Store) (others : List Owned) (m : Line) (service : Service) (tei place number : ℕ) (result : Option ℕ) → Stands e s others m → place_of tei e.teis.places ≡ Some place
+    → (place ≤ 8 → number ≡ link_number place service)
+    → (number < length e.links → LinksStand e.config e.links s (beside_links e m others) m.links → result ≡ Some (state_number (machine_at m.links number).state))
+    → result ≡ state_of service tei m
+state_is e s others m service tei place number result st is named_so h =
+    let at = (place_of-is e.teis.places tei place is).1 in
+    let n = named e s others m service tei place st at in
+    let same : number ≡ link_number place service = numbered e s tei place (others, m, st) at named_so in
+    h (subst (λ x. x < length e.links) (sym same) n.within) (links_part e s others m st)
+    ∙ ap (λ x. Some (state_number (machine_at m.links x).state)) same
+    ∙ sym (ap (λ t. option_map (state_in m service) (place_of tei t.places)) st.management ∙ ap (option_map (state_in m service)) is)

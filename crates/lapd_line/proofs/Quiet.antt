@@ -1,0 +1,43 @@
+-- What a line has to send does not hang on the bits that it has received or given.
+use Rattle.std.proofs.Common.{◌≡◌, ℕ, List, [], ◌∷◌, Option, Some, None, option_map, slice_get, refl}
+use Rattle.std.specs.Option.{option_or}
+use Rattle.lapd_bits.specs.Sent.{Item}
+use Rattle.lapd_link_machine.specs.Machine as links
+use Rattle.lapd_tei.specs.Events as teis
+use Rattle.lapd_line_machine.specs.declared.config.Config.{Config}
+use Rattle.lapd_line_machine.specs.Line.{Line, terms_at, link_at}
+use Rattle.lapd_line_machine.specs.Pull.{Taken, message_taken, unit_taken, with_message, with_unit, link_taken, first_taken, taken, round, with_given_frame}
+
+none_or : (a b : Option Taken) → option_or a b ≡ None → (a ≡ None) × (b ≡ None)
+none_or None b e = (refl, e)
+none_or (Some k) b e = absurd (cc)
+
+or_none : (a b : Option Taken) → a ≡ None → b ≡ None → option_or a b ≡ None
+or_none None b e h = h
+or_none (Some k) b e h = absurd (cc)
+
+none_map : {A : Type 0} (f g : A → Taken) (o : Option A) → option_map f o ≡ None → option_map g o ≡ None
+none_map f g None e = refl
+none_map f g (Some x) e = absurd (cc)
+
+module _ (c : Config) (l : Line) (received : List ℕ) (items : List Item) (given : List ℕ) where
+  abbrev other : Line
+  other = record l { received = received; items = items; given = given }
+
+  none_first : (numbers : List ℕ) → first_taken c l numbers ≡ None → first_taken c other numbers ≡ None
+  none_first [] e = refl
+  none_first (number ∷ numbers) e =
+      let (one, others) = none_or (link_taken c l number) (first_taken c l numbers) e in
+      let t = terms_at c number l in
+      or_none (link_taken c other number) (first_taken c other numbers)
+      (none_map (with_given_frame l number t) (with_given_frame other number t) (links.given t (link_at number l)) one)
+      (none_first numbers others)
+
+  -- where there is nothing, there is nothing with other bits
+  pub none_taken : taken c l ≡ None → taken c other ≡ None
+  none_taken e =
+      let (message, others) = none_or (message_taken l) (option_or (unit_taken l) (first_taken c l (round c l))) e in
+      let (unit, first) = none_or (unit_taken l) (first_taken c l (round c l)) others in
+      or_none (message_taken other) (option_or (unit_taken other) (first_taken c other (round c l)))
+      (none_map (with_message l) (with_message other) (teis.offered l.management) message)
+      (or_none (unit_taken other) (first_taken c other (round c l)) (none_map (with_unit l) (with_unit other) (slice_get l.units 0) unit) (none_first (round c l) first))

@@ -1,6 +1,0 @@
-use Rattle.std.proofs.Common.{sym}
-use Rattle.lapd_tei.proofs.Tables.{place_of-is}
-use Rattle.lapd_line.proofs.entities.Entities.addressee.Goals as goal
-
-pub returns-in-Some-place-clause-at : goal.returns-in-Some-place-clause-at
-returns-in-Some-place-clause-at c = (place_of-is c.args.self.now.teis.places c.args.address.tei c.in-Some-place.place (sym c.in-Some-place.ensures.place)).1

@@ -1,8 +1,0 @@
-use Rattle.std.proofs.Common.{◌+◌, sym, ap, ◌∙◌}
-use Rattle.lapd_tei.specs.Machine.{held}
-use Rattle.lapd_line.proofs.entities.Entities.held.Goals as goal
-
-pub returns-clause-held : goal.returns-clause-held
-returns-clause-held c = λ store others m st.
-    ap (λ n. n + c.held_by_links.result) (c.held.ensures ∙ sym (ap held st.management))
-    ∙ ap (λ n. held m.management + n) (c.held_by_links.ensures.held store others m st)

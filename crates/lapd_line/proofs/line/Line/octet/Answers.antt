@@ -1,0 +1,16 @@
+use Rattle.std.proofs.Common.{refl, ap, ◌∙◌}
+use Rattle.lapd_line_machine.specs.Answer.{told}
+use Rattle.lapd_line.specs.Reports.{report_told}
+use Rattle.lapd_line.specs.Stands.{config_of}
+use Rattle.lapd_line.proofs.AnswerLaws.{drop_leaves}
+use Rattle.lapd_line.proofs.line.Line.octet.Goals as goal
+
+pub returns : goal.returns
+returns g c = (
+  (refl, (λ line. tt), c.step-outcome.ensures.after),
+  record {
+    told = λ others m st. ap told c.lend.ensures ∙ c.step-outcome.ensures.told others m st;
+    dropped = λ others m st. drop_leaves (config_of c.args.self.now) c.args.octet m (report_told c.lend.result) (ap told c.lend.ensures ∙ c.step-outcome.ensures.told others m st);
+    after = tt;
+  },
+)

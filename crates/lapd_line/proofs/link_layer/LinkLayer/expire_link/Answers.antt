@@ -1,0 +1,25 @@
+use Rattle.std.proofs.Common.{[], refl, ◌<◌, length, subst, sym}
+use Rattle.lapd_link_machine.specs.Events as event
+use Rattle.lapd_line.specs.Links as links
+use Rattle.lapd_line.proofs.LayerSteps.{beside_links, links_part, named, numbered, at_link_serves, told_from}
+use Rattle.lapd_line.proofs.link_layer.LinkLayer.expire_link.Goals as goal
+
+pub expire-requires-clause-stands : goal.expire-requires-clause-stands
+expire-requires-clause-stands g c =
+    let (others, m, stands) = c.requires.stands in
+    (c.args.self.now.config, beside_links c.args.self.now m others, m.links, links_part c.args.self.now (g.S.Shelf.store c.args.shelf.now) others m stands)
+
+pub expire-requires-clause-within : goal.expire-requires-clause-within
+expire-requires-clause-within g c =
+    let number = numbered c.args.self.now (g.S.Shelf.store c.args.shelf.now) c.args.tei c.args.place c.requires.stands c.requires.at c.link_number-number.ensures in
+    let (others, m, stands) = c.requires.stands in
+    let n = named c.args.self.now (g.S.Shelf.store c.args.shelf.now) others m c.args.service c.args.tei c.args.place stands c.requires.at in
+    subst (λ x. x < length c.args.self.now.links) (sym number) n.within
+
+pub returns : goal.returns
+returns g c =
+    let number = numbered c.args.self.now (g.S.Shelf.store c.args.shelf.now) c.args.tei c.args.place c.requires.stands c.requires.at c.link_number-number.ensures in
+    let what = event.expired c.args.timer in
+    let served = subst (λ n. links.Serves n what [] c.args.self.now.links (g.S.Shelf.store c.args.shelf.now) c.expire.new.self (g.S.Shelf.store c.expire.new.shelf) c.expire.result) number c.expire.ensures in
+    at_link_serves c.args.self.now (g.S.Shelf.store c.args.shelf.now) (g.S.Shelf.store c.expire.new.shelf) c.expire.new.self c.args.service c.args.tei c.args.place what [] [] c.expire.result c.of_link.result c.requires.at served
+    (told_from c.of_link.result c.expire.result [] [] 0 refl (c.of_link.ensures []))

@@ -1,0 +1,21 @@
+use Rattle.std.proofs.Common.{◌∙◌}
+use Rattle.lapd_bits.specs.declared.heard.Cause.TheVariants.{Unserved}
+use Rattle.lapd_link.specs.Events.{received_of}
+use Rattle.lapd_line_machine.specs.Octet.{drop_for}
+use Rattle.lapd_line.proofs.AimSteps.{aimed, serves_as, serves_none, nothing_after}
+use Rattle.lapd_line.proofs.link_layer.LinkLayer.malformed.Goals as goal
+
+pub returns-in-Management : goal.returns-in-Management
+returns-in-Management g c = λ octets short.
+    serves_as (λ others m st. aimed c.args.self.now (g.S.Shelf.store c.args.shelf.now) others m c.args.address (received_of c.args.received) (drop_for Unserved) _ c.in-Management.ensures.is st)
+    (serves_none c.args.self.now (g.S.Shelf.store c.args.shelf.now) octets c.dropped.result _ (c.dropped.ensures octets))
+
+pub returns-in-Link : goal.returns-in-Link
+returns-in-Link g c = λ octets short.
+    serves_as (λ others m st. aimed c.args.self.now (g.S.Shelf.store c.args.shelf.now) others m c.args.address (received_of c.args.received) (drop_for Unserved) _ c.in-Link.ensures.is st)
+    (c.receive.ensures octets (c.requires.no_frame ∙ nothing_after octets c.args.len short))
+
+pub returns-in-Nobody : goal.returns-in-Nobody
+returns-in-Nobody g c = λ octets short.
+    serves_as (λ others m st. aimed c.args.self.now (g.S.Shelf.store c.args.shelf.now) others m c.args.address (received_of c.args.received) (drop_for Unserved) _ c.in-Nobody.ensures.is st)
+    (serves_none c.args.self.now (g.S.Shelf.store c.args.shelf.now) octets c.dropped-in-Nobody.result _ (c.dropped-in-Nobody.ensures octets))

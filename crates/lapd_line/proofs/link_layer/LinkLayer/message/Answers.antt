@@ -1,0 +1,11 @@
+use Rattle.std.proofs.Common.{◌≡◌, true}
+use Rattle.lapd_tei.specs.Events as teis
+use Rattle.lapd_line.specs.Aims.{is_ui}
+use Rattle.lapd_line.proofs.AimSteps.{serves_as, message_of_ui}
+use Rattle.lapd_line.proofs.link_layer.LinkLayer.message.Goals as goal
+
+pub returns : goal.returns
+returns g c = λ octets.
+    let ui : is_ui c.args.control ≡ true = cc in
+    serves_as (λ others m st. message_of_ui c.args.control c.args.info.now ui)
+    (c.change.ensures (teis.message c.args.info.now) c.args.self.now.teis octets (record { range = tt; after = c.message-told.ensures.after; told = c.message-told.ensures.told }))

@@ -1,0 +1,12 @@
+use Rattle.std.proofs.Common.{[], sym, ap, ◌∙◌, Ok, arith}
+use Rattle.lapd_line_machine.specs.Octet.{aim_of_long}
+use Rattle.lapd_line.proofs.AimSteps.{serves_as, long_fault}
+use Rattle.lapd_line.proofs.link_layer.LinkLayer.overlong.Goals as goal
+
+pub returns-in-Ok-Information : goal.returns-in-Ok-Information
+returns-in-Ok-Information g c =
+    serves_as (λ others m st. ap (aim_of_long m) (sym c.in-Ok-Information.ensures.kept ∙ ap Ok c.in-Ok-Information.field-0-is)) (c.malformed.ensures [] (omega arith))
+
+pub returns-in-Err : goal.returns-in-Err
+returns-in-Err g c =
+    serves_as (λ others m st. ap (aim_of_long m) (sym c.in-Err.ensures.kept) ∙ long_fault m c.in-Err.fault) (c.faulty.ensures [] (omega arith))

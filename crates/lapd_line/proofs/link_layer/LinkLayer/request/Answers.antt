@@ -1,0 +1,71 @@
+use Rattle.std.proofs.Common.{nat_le, refl, ap}
+use Rattle.lapd_store.specs.Store.{used_slots}
+use Rattle.lapd_line_machine.specs.Request.{request_of}
+use Rattle.lapd_line.proofs.AskSteps.{assign_rows, remove_rows, check_rows}
+use Rattle.lapd_line.proofs.RequestSteps.{refused_as, granted_as, aimed_as, Asks, asks_as, establish_asks, release_asks, data_asks, set_busy_asks, clear_busy_asks}
+use Rattle.lapd_line.proofs.link_layer.LinkLayer.request.Goals as goal
+use Rattle.lapd_line.proofs.link_layer.LinkLayer.request.Goals.{in-Establish, in-Release, in-Data, in-SetBusy, in-ClearBusy}
+
+-- what an arm asks of a link
+asks : (g : _) (c : goal.After-ask g) → Asks c.args.request c.match-request.service
+asks g c = elim c.match-request.branch [
+  | in-Establish w ↦ asks_as w.in-Establish.is w.service-is (establish_asks w.in-Establish.service w.in-Establish.tei)
+  | in-Release w ↦ asks_as w.in-Release.is w.service-is (release_asks w.in-Release.service w.in-Release.tei)
+  | in-Data w ↦ asks_as w.in-Data.is w.service-is (data_asks w.in-Data.service w.in-Data.tei w.in-Data.contents)
+  | in-SetBusy w ↦ asks_as w.in-SetBusy.is w.service-is (set_busy_asks w.in-SetBusy.service w.in-SetBusy.tei)
+  | in-ClearBusy w ↦ asks_as w.in-ClearBusy.is w.service-is (clear_busy_asks w.in-ClearBusy.service w.in-ClearBusy.tei)
+]
+
+pub returns-clause-refused : goal.returns-clause-refused
+returns-clause-refused g c =
+    refused_as c.args.self.now (g.S.Shelf.store c.args.shelf.now) (nat_le c.args.slots (used_slots (g.S.Shelf.store c.args.shelf.now))) (refl {a = request_of c.args.request}) ((asks g c).rows c.args.self.now.config (nat_le c.args.slots (used_slots (g.S.Shelf.store c.args.shelf.now))))
+    c.ask.result c.ask.ensures.refused
+
+pub returns-clause-granted : goal.returns-clause-granted
+returns-clause-granted g c =
+    granted_as c.args.self.now (g.S.Shelf.store c.args.shelf.now) (nat_le c.args.slots (used_slots (g.S.Shelf.store c.args.shelf.now))) (refl {a = request_of c.args.request}) ((asks g c).rows c.args.self.now.config (nat_le c.args.slots (used_slots (g.S.Shelf.store c.args.shelf.now))))
+    c.ask.result c.ask.ensures.granted
+
+pub returns-clause-served : goal.returns-clause-served
+returns-clause-served g c =
+    aimed_as (request_of c.args.request) c.args.self.now (g.S.Shelf.store c.args.shelf.now) c.ask.new.self (g.S.Shelf.store c.ask.new.shelf) c.ask.result (asks g c).aim c.ask.ensures.served
+
+pub returns-in-Unit-clause-refused : goal.returns-in-Unit-clause-refused
+returns-in-Unit-clause-refused g c =
+    refused_as c.args.self.now (g.S.Shelf.store c.args.shelf.now) (nat_le c.args.slots (used_slots (g.S.Shelf.store c.args.shelf.now))) (ap request_of c.in-Unit.is) (λ m. refl)
+    c.unit.result c.unit.ensures.refused
+
+pub returns-in-Unit-clause-granted : goal.returns-in-Unit-clause-granted
+returns-in-Unit-clause-granted g c =
+    granted_as c.args.self.now (g.S.Shelf.store c.args.shelf.now) (nat_le c.args.slots (used_slots (g.S.Shelf.store c.args.shelf.now))) (ap request_of c.in-Unit.is) (λ m. refl)
+    c.unit.result c.unit.ensures.granted
+
+pub returns-in-Assign-clause-refused : goal.returns-in-Assign-clause-refused
+returns-in-Assign-clause-refused g c =
+    refused_as c.args.self.now (g.S.Shelf.store c.args.shelf.now) (nat_le c.args.slots (used_slots (g.S.Shelf.store c.args.shelf.now))) (ap request_of c.in-Assign.is) (assign_rows c.args.self.now.config (nat_le c.args.slots (used_slots (g.S.Shelf.store c.args.shelf.now))) c.in-Assign.tei)
+    c.manage.result c.manage.ensures.refused
+
+pub returns-in-Assign-clause-granted : goal.returns-in-Assign-clause-granted
+returns-in-Assign-clause-granted g c =
+    granted_as c.args.self.now (g.S.Shelf.store c.args.shelf.now) (nat_le c.args.slots (used_slots (g.S.Shelf.store c.args.shelf.now))) (ap request_of c.in-Assign.is) (assign_rows c.args.self.now.config (nat_le c.args.slots (used_slots (g.S.Shelf.store c.args.shelf.now))) c.in-Assign.tei)
+    c.manage.result c.manage.ensures.granted
+
+pub returns-in-Remove-clause-refused : goal.returns-in-Remove-clause-refused
+returns-in-Remove-clause-refused g c =
+    refused_as c.args.self.now (g.S.Shelf.store c.args.shelf.now) (nat_le c.args.slots (used_slots (g.S.Shelf.store c.args.shelf.now))) (ap request_of c.in-Remove.is) (remove_rows c.args.self.now.config (nat_le c.args.slots (used_slots (g.S.Shelf.store c.args.shelf.now))) c.in-Remove.tei)
+    c.manage-in-Remove.result c.manage-in-Remove.ensures.refused
+
+pub returns-in-Remove-clause-granted : goal.returns-in-Remove-clause-granted
+returns-in-Remove-clause-granted g c =
+    granted_as c.args.self.now (g.S.Shelf.store c.args.shelf.now) (nat_le c.args.slots (used_slots (g.S.Shelf.store c.args.shelf.now))) (ap request_of c.in-Remove.is) (remove_rows c.args.self.now.config (nat_le c.args.slots (used_slots (g.S.Shelf.store c.args.shelf.now))) c.in-Remove.tei)
+    c.manage-in-Remove.result c.manage-in-Remove.ensures.granted
+
+pub returns-in-Check-clause-refused : goal.returns-in-Check-clause-refused
+returns-in-Check-clause-refused g c =
+    refused_as c.args.self.now (g.S.Shelf.store c.args.shelf.now) (nat_le c.args.slots (used_slots (g.S.Shelf.store c.args.shelf.now))) (ap request_of c.in-Check.is) (check_rows c.args.self.now.config (nat_le c.args.slots (used_slots (g.S.Shelf.store c.args.shelf.now))) c.in-Check.tei)
+    c.manage-in-Check.result c.manage-in-Check.ensures.refused
+
+pub returns-in-Check-clause-granted : goal.returns-in-Check-clause-granted
+returns-in-Check-clause-granted g c =
+    granted_as c.args.self.now (g.S.Shelf.store c.args.shelf.now) (nat_le c.args.slots (used_slots (g.S.Shelf.store c.args.shelf.now))) (ap request_of c.in-Check.is) (check_rows c.args.self.now.config (nat_le c.args.slots (used_slots (g.S.Shelf.store c.args.shelf.now))) c.in-Check.tei)
+    c.manage-in-Check.result c.manage-in-Check.ensures.granted

@@ -1,0 +1,21 @@
+use Rattle.std.proofs.Common.{drop, sym, ap, ◌∙◌}
+use Rattle.lapd_frame.specs.Grammar.{parts_of}
+use Rattle.lapd_link_machine.specs.Events as link
+use Rattle.lapd_line_machine.specs.Octet.{message_of}
+use Rattle.lapd_line.proofs.AimSteps.{aimed, serves_as, serves_none}
+use Rattle.lapd_line.proofs.link_layer.LinkLayer.spelled.Goals as goal
+
+pub returns-in-Management : goal.returns-in-Management
+returns-in-Management g c = λ octets is.
+    serves_as (λ others m st. aimed c.args.self.now (g.S.Shelf.store c.args.shelf.now) others m c.args.frame.address (link.frame (parts_of c.args.frame)) (message_of c.args.frame.control c.args.frame.info.now) _ c.in-Management.ensures.is st)
+    (c.message.ensures octets)
+
+pub returns-in-Link : goal.returns-in-Link
+returns-in-Link g c = λ octets is.
+    serves_as (λ others m st. aimed c.args.self.now (g.S.Shelf.store c.args.shelf.now) others m c.args.frame.address (link.frame (parts_of c.args.frame)) (message_of c.args.frame.control c.args.frame.info.now) _ c.in-Link.ensures.is st)
+    (c.receive.ensures octets (is ∙ ap (λ n. drop n octets) (sym c.start.ensures.value)))
+
+pub returns-in-Nobody : goal.returns-in-Nobody
+returns-in-Nobody g c = λ octets is.
+    serves_as (λ others m st. aimed c.args.self.now (g.S.Shelf.store c.args.shelf.now) others m c.args.frame.address (link.frame (parts_of c.args.frame)) (message_of c.args.frame.control c.args.frame.info.now) _ c.in-Nobody.ensures.is st)
+    (serves_none c.args.self.now (g.S.Shelf.store c.args.shelf.now) octets c.dropped.result _ (c.dropped.ensures octets))

@@ -1,0 +1,10 @@
+use Rattle.std.proofs.Common.{ap, ◌∙◌}
+use Rattle.lapd_tei.specs.Machine.{empty}
+use Rattle.lapd_line.specs.Units.{empty_ring}
+use Rattle.lapd_line.proofs.StartSteps.{layer_fresh}
+use Rattle.lapd_line.proofs.link_layer.LinkLayer.start.Goals as goal
+
+pub returns-clause-fresh : goal.returns-clause-fresh
+returns-clause-fresh c =
+    layer_fresh c.args.config.now c.in_ok-teis.teis c.in_ok-links.links c.in_ok-units.units c.requires (c.in_ok-teis.ensures ∙ ap empty c.from.ensures) c.in_ok-links.ensures
+    (c.in_ok-units.ensures ∙ ap empty_ring c.from-2.ensures)

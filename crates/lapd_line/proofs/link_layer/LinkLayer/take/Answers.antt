@@ -1,0 +1,93 @@
+use Rattle.std.proofs.Common.{◌≤◌, length, ap, sym, subst, ◌∙◌, arith}
+use Rattle.std.specs.Option.{option_or}
+use Rattle.lapd_line_machine.specs.Line.{link_count}
+use Rattle.lapd_line_machine.specs.Pull.{message_taken, unit_taken, first_taken, round}
+use Rattle.lapd_line.proofs.TakeSteps.{takes_or, takes_first}
+use Rattle.lapd_line.proofs.TakeStepsLinks.{none_stands, round_found, round_ends}
+use Rattle.lapd_line.proofs.link_layer.LinkLayer.take.Goals as goal
+
+pub returns-in-Some : goal.returns-in-Some
+returns-in-Some g c =
+    takes_first (λ x m. option_or (unit_taken m) (first_taken x m (round x m))) {first = λ x m. message_taken m} (c.in-Some.ensures (g.S.Shelf.store c.args.shelf.now))
+
+pub take_unit-requires-clause-stands : goal.take_unit-requires-clause-stands
+take_unit-requires-clause-stands g c = (none_stands (c.in_default.ensures (g.S.Shelf.store c.args.shelf.now)) c.requires.stands).0
+
+pub take_unit-requires-clause-not_busy : goal.take_unit-requires-clause-not_busy
+take_unit-requires-clause-not_busy g c =
+    omega (arith, c.requires.not_busy, ap (λ x. length x.left) (none_stands (c.in_default.ensures (g.S.Shelf.store c.args.shelf.now)) c.requires.stands).1)
+
+pub take_unit-requires-clause-room : goal.take_unit-requires-clause-room
+take_unit-requires-clause-room g c =
+    let message = c.in_default.ensures (g.S.Shelf.store c.args.shelf.now) in
+    message.room ∙ c.requires.room ∙ ap (λ x. x.n201) (sym message.config)
+
+pub returns-in-Some-take_unit : goal.returns-in-Some-take_unit
+returns-in-Some-take_unit g c =
+    takes_or {first = λ x m. message_taken m} {second = λ x m. option_or (unit_taken m) (first_taken x m (round x m))} (c.in_default.ensures (g.S.Shelf.store c.args.shelf.now))
+    (takes_first (λ x m. first_taken x m (round x m)) {first = λ x m. unit_taken m} c.in-Some-take_unit.ensures)
+
+pub take_first-requires-clause-stands : goal.take_first-requires-clause-stands
+take_first-requires-clause-stands g c =
+    let message = none_stands (c.in_default.ensures (g.S.Shelf.store c.args.shelf.now)) c.requires.stands in
+    (none_stands c.in_default-take_unit.ensures message.0).0
+
+pub take_first-requires-clause-not_busy : goal.take_first-requires-clause-not_busy
+take_first-requires-clause-not_busy g c =
+    let message = none_stands (c.in_default.ensures (g.S.Shelf.store c.args.shelf.now)) c.requires.stands in
+    omega (arith, c.requires.not_busy, ap (λ x. length x.left) message.1, ap (λ x. length x.left) (none_stands c.in_default-take_unit.ensures message.0).1)
+
+pub take_first-requires-clause-room : goal.take_first-requires-clause-room
+take_first-requires-clause-room g c =
+    let message = c.in_default.ensures (g.S.Shelf.store c.args.shelf.now) in
+    let unit = c.in_default-take_unit.ensures in
+    unit.room ∙ message.room ∙ c.requires.room ∙ ap (λ x. x.n201) (sym message.config) ∙ ap (λ x. x.n201) (sym unit.config)
+
+pub take_first-requires-clause-order : goal.take_first-requires-clause-order
+take_first-requires-clause-order g c =
+    let message = none_stands (c.in_default.ensures (g.S.Shelf.store c.args.shelf.now)) c.requires.stands in
+    let (others, m, st) = (none_stands c.in_default-take_unit.ensures message.0).0 in
+    omega (arith, st.turn, st.sound.turn, st.count, c.len-count.ensures)
+
+pub take_first-requires-clause-within : goal.take_first-requires-clause-within
+take_first-requires-clause-within g c =
+    let message = none_stands (c.in_default.ensures (g.S.Shelf.store c.args.shelf.now)) c.requires.stands in
+    let (others, m, st) = (none_stands c.in_default-take_unit.ensures message.0).0 in
+    omega (arith, st.count, c.len-count.ensures)
+
+pub returns-in-Some-take_first : goal.returns-in-Some-take_first
+returns-in-Some-take_first g c =
+    takes_or {first = λ x m. message_taken m} {second = λ x m. option_or (unit_taken m) (first_taken x m (round x m))} (c.in_default.ensures (g.S.Shelf.store c.args.shelf.now))
+    (takes_or {first = λ x m. unit_taken m} {second = λ x m. first_taken x m (round x m)} c.in_default-take_unit.ensures
+    (round_found c.take_unit.new.self c.len-count.result c.len-count.ensures c.in-Some-take_first.ensures))
+
+pub take_first-requires-2-clause-stands : goal.take_first-requires-2-clause-stands
+take_first-requires-2-clause-stands g c =
+    let message = none_stands (c.in_default.ensures (g.S.Shelf.store c.args.shelf.now)) c.requires.stands in
+    (none_stands c.in_default-take_first.ensures (none_stands c.in_default-take_unit.ensures message.0).0).0
+
+pub take_first-requires-2-clause-not_busy : goal.take_first-requires-2-clause-not_busy
+take_first-requires-2-clause-not_busy g c =
+    let message = none_stands (c.in_default.ensures (g.S.Shelf.store c.args.shelf.now)) c.requires.stands in
+    let unit = none_stands c.in_default-take_unit.ensures message.0 in
+    omega (arith, c.requires.not_busy, ap (λ x. length x.left) message.1, ap (λ x. length x.left) unit.1, ap (λ x. length x.left) (none_stands c.in_default-take_first.ensures unit.0).1)
+
+pub take_first-requires-2-clause-room : goal.take_first-requires-2-clause-room
+take_first-requires-2-clause-room g c =
+    let message = c.in_default.ensures (g.S.Shelf.store c.args.shelf.now) in
+    let unit = c.in_default-take_unit.ensures in
+    let first = c.in_default-take_first.ensures in
+    first.room ∙ unit.room ∙ message.room ∙ c.requires.room
+    ∙ ap (λ x. x.n201) (sym message.config) ∙ ap (λ x. x.n201) (sym unit.config) ∙ ap (λ x. x.n201) (sym first.config)
+
+pub take_first-requires-2-clause-within : goal.take_first-requires-2-clause-within
+take_first-requires-2-clause-within g c =
+    let message = none_stands (c.in_default.ensures (g.S.Shelf.store c.args.shelf.now)) c.requires.stands in
+    let (others, m, st) = (none_stands c.in_default-take_unit.ensures message.0).0 in
+    subst (λ x. c.take_unit.new.self.turn ≤ link_count x) (sym c.in_default-take_first.ensures.config) (omega (arith, st.turn, st.sound.turn))
+
+pub returns : goal.returns
+returns g c =
+    takes_or {first = λ x m. message_taken m} {second = λ x m. option_or (unit_taken m) (first_taken x m (round x m))} (c.in_default.ensures (g.S.Shelf.store c.args.shelf.now))
+    (takes_or {first = λ x m. unit_taken m} {second = λ x m. first_taken x m (round x m)} c.in_default-take_unit.ensures
+    (round_ends c.take_unit.new.self c.len-count.result c.len-count.ensures c.in_default-take_first.ensures c.take_first-2.ensures))

@@ -1,0 +1,11 @@
+use Rattle.std.proofs.Common.{◌≤◌, ◌-◌, None}
+use Rattle.lapd_line.specs.Takes.{Takes}
+use Rattle.lapd_line.proofs.TakeStepsLinks.{among}
+use Rattle.lapd_line.proofs.link_layer.LinkLayer.take_first.Given as goal
+
+-- the links so far had nothing to give
+abbrev pub invariant-loop-number : goal.invariant-loop-number
+invariant-loop-number g l = record {
+  order : l.fn.from ≤ l.number;
+  so_far : Takes (among l.fn.from (l.number - l.fn.from)) l.fn.self (g.S.Shelf.store l.fn.shelf) l.fn.framer l.self (g.S.Shelf.store l.fn.shelf) l.framer None;
+}

@@ -1,0 +1,39 @@
+use Rattle.std.proofs.Common.{◌≡◌, [], Some, length, ap, sym, subst, ◌∙◌, arith}
+use Rattle.std.proofs.lemmas.Option.{same_Some}
+use Rattle.lapd_line_machine.specs.Pull.{unit_taken}
+use Rattle.lapd_line.specs.Takes.{Takes, orders_taken}
+use Rattle.lapd_line.proofs.TakeStepsUnits.{oldest, is_frame, no_unit, unit_loaded}
+use Rattle.lapd_line.proofs.link_layer.LinkLayer.take_unit.Goals as goal
+
+pub returns-in_err-unit : goal.returns-in_err-unit
+returns-in_err-unit g c =
+    let s = g.S.Shelf.store c.args.shelf.now in
+    subst (λ r. Takes (λ c' m. unit_taken m) c.args.self.now s c.args.framer.now c.args.self.now s c.args.framer.now (orders_taken r)) (sym c.from_residual.ensures)
+    (no_unit c.args.self.now s c.args.framer.now c.in_err-unit.ensures)
+
+pub get-requires : goal.get-requires
+get-requires g c =
+    let (others, m, st) = c.requires.stands in
+    (oldest c.args.self.now (g.S.Shelf.store c.args.shelf.now) others m c.in_ok-unit.unit st (sym c.in_ok-unit.ensures)).used
+
+pub load-requires-clause-frame : goal.load-requires-clause-frame
+load-requires-clause-frame g c =
+    let (others, m, st) = c.requires.stands in
+    let o = oldest c.args.self.now (g.S.Shelf.store c.args.shelf.now) others m c.in_ok-unit.unit st (sym c.in_ok-unit.ensures) in
+    is_frame c.in_ok-unit.unit.service c.sapi.result c.in_ok-unit.unit.tei c.sapi.ensures (omega (arith, o.tei, o.fits.tei))
+
+pub load-requires-clause-info : goal.load-requires-clause-info
+load-requires-clause-info g c =
+    let (others, m, st) = c.requires.stands in
+    let o = oldest c.args.self.now (g.S.Shelf.store c.args.shelf.now) others m c.in_ok-unit.unit st (sym c.in_ok-unit.ensures) in
+    let same : c.get.result.now ≡ o.unit.contents = same_Some c.get.result.now o.unit.contents (sym c.get.ensures.octets ∙ o.contents) in
+    omega (arith, c.requires.room, o.fits.size, ap (λ l. length l) same)
+
+pub returns : goal.returns
+returns g c =
+    let s = g.S.Shelf.store c.args.shelf.now in
+    let t = g.S.Shelf.store c.release.new.self in
+    subst (λ o. Takes (λ c' m. unit_taken m) c.args.self.now s c.args.framer.now (record c.args.self.now { units = c.pop.new.self }) t c.load.new.framer (Some o)) (sym c.none.ensures)
+    (subst (λ r. Takes (λ c' m. unit_taken m) c.args.self.now s c.args.framer.now (record c.args.self.now { units = r }) t c.load.new.framer (Some [])) (sym c.pop.ensures)
+    (unit_loaded c.args.self.now s t c.args.framer.now c.load.new.framer c.in_ok-unit.unit c.sapi.result c.get.result.now (sym c.in_ok-unit.ensures) c.sapi.ensures c.get.ensures.octets
+    c.release.ensures.released c.release.ensures.limits c.load.ensures.room c.load.ensures.stands))

@@ -1,0 +1,110 @@
+//! The data link layer entities of a line: TEI management, the links, and the unit data that waits.
+
+ghost use Rattle.std.specs.Prelude.{◌≡◌, ℕ, ◌≤◌, List, [], drop};
+ghost use Rattle.lapd_store.specs.Ownership.{Owned};
+ghost use Rattle.lapd_store.specs.Store.{Store};
+ghost use Rattle.lapd_link_machine.specs.Events as event;
+ghost use Rattle.lapd_line_machine.specs.Line as machine;
+ghost use Rattle.lapd_line_machine.specs.Effect.{at_link, told_of_link};
+ghost use Rattle.lapd_link.specs.Outcome.{told_with};
+
+use crate::links::Links;
+use crate::reports::BareReport;
+use crate::units::Units;
+use lapd_bits::Cause;
+use lapd_frame::Service;
+use lapd_line_machine::Config;
+use lapd_link::{Answer, LinkTimer, Received};
+use lapd_store::Shelf;
+use lapd_tei::Teis;
+
+/// What a line has beside its bits.
+#[derive(Debug, Drop)]
+pub(crate) struct LinkLayer {
+    pub(crate) config: Config,
+    pub(crate) teis: Teis,
+    pub(crate) links: Links,
+    pub(crate) units: Units,
+    /// The link at which the next round of pulls begins.
+    pub(crate) turn: usize,
+}
+
+/// A link by its number: two links a place, that of call control first. No table has more than eight places.
+pub(crate) fn link_number(place: usize, service: Service) -> usize
+    ensures { place ≤ 8 → result ≡ machine.link_number place service }
+{
+    let call = place.saturating_mul(2);
+    match service {
+        Service::Call => call,
+        Service::Packet => call.saturating_add(1),
+    }
+}
+
+impl BareReport {
+    ghost use Rattle.lapd_line.specs.Reports.{told_in};
+
+    /// What a link tells of something that came from its terminal, whose information begins at `start`.
+    pub(crate) fn of_link(answer: Answer, start: usize) -> BareReport
+        ensures { (octets : List ℕ) → told_in octets result ≡ told_of_link (told_with (drop start octets) answer) }
+    {
+        BareReport {
+            notes: answer.notes,
+            orders: answer.orders,
+            contents: (answer.delivered || answer.unit).then_some(start),
+            cause: answer.unserved.then_some(Cause::Unserved),
+            lost: answer.lost,
+        }
+    }
+}
+
+impl LinkLayer {
+    ghost use Rattle.lapd_link.specs.Events.{received_of, info_of};
+    ghost use Rattle.lapd_tei.specs.Sound.{IsAt};
+    ghost use Rattle.lapd_line.specs.LinkLayer.{Standing, Stands, Serves, always};
+
+    /// Something came from the terminal for a link of the TEI at a place. Its information begins at `start` of the
+    /// octets that came.
+    pub(crate) fn receive<S: Shelf>(
+        &mut self,
+        service: Service,
+        tei: u8,
+        place: usize,
+        received: Received<'_>,
+        start: usize,
+        shelf: &mut S,
+    ) -> BareReport
+        requires at { IsAt self.old.teis.places place tei }
+        requires stands { Standing self.old (S.store shelf.old) }
+        ensures { (octets : List ℕ) → info_of received.entry ≡ drop start octets
+            → Serves (always (at_link service tei place (event.received (received_of received.entry)))) octets self.old (S.store shelf.old) self.new (S.store shelf.new) result }
+    {
+        let number = link_number(place, service);
+        BareReport::of_link(self.links.receive(number, received, shelf), start)
+    }
+
+    /// A timer of a link of the TEI at a place expires.
+    pub(crate) fn expire_link<S: Shelf>(
+        &mut self,
+        service: Service,
+        tei: u8,
+        place: usize,
+        timer: LinkTimer,
+        shelf: &mut S,
+    ) -> BareReport
+        requires at { IsAt self.old.teis.places place tei }
+        requires stands { Standing self.old (S.store shelf.old) }
+        ensures { Serves (always (at_link service tei place (event.expired timer))) [] self.old (S.store shelf.old) self.new (S.store shelf.new) result }
+    {
+        let number = link_number(place, service);
+        BareReport::of_link(self.links.expire(number, timer, shelf), 0)
+    }
+
+    /// The state of the link of a service with this TEI; none where the TEI is not on the line.
+    pub(crate) fn state(&self, service: Service, tei: u8) -> Option<u8>
+        ensures { (store : Store) (others : List Owned) (m : machine.Line) → Stands self.now store others m
+            → result ≡ machine.state_of service tei m }
+    {
+        let place = self.teis.place(tei)?;
+        self.links.state(link_number(place, service))
+    }
+}

@@ -1,0 +1,7 @@
+-- What a line does with what it is given and what it hears, and worked values of it.
+pub mod Share
+pub mod Loss
+pub mod Pulls
+pub mod Heard
+pub mod Laws
+pub mod Worked

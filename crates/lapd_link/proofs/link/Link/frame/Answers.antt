@@ -1,0 +1,7 @@
+use Rattle.std.proofs.Common.{sym, ap, ◌∙◌}
+use Rattle.lapd_link_machine.specs.Told.{Told}
+use Rattle.lapd_link.proofs.link.Link.frame.Goals as goal
+
+pub returns-clause-unserved : goal.returns-clause-unserved
+returns-clause-unserved g c = λ others m s is.
+    c.receive.ensures.unserved others m s (sym (ap (λ (t : Told). t.unserved) c.lend.ensures) ∙ is)

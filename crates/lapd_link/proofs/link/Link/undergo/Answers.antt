@@ -1,0 +1,21 @@
+use Rattle.lapd_link_machine.proofs.RiseEvents.{event-rises}
+use Rattle.std.proofs.Common.{◌∙◌}
+use Rattle.lapd_link_machine.specs.Link.{queue_of}
+use Rattle.lapd_link_machine.specs.Machine.{course}
+use Rattle.lapd_link.specs.Stands.{terms_of}
+use Rattle.lapd_link.specs.Events.{info_at, event_of}
+use Rattle.lapd_link.proofs.Ending.{running-at, reached, stands-after, told-after}
+use Rattle.lapd_link.proofs.link.Link.undergo.Goals as goal
+
+pub returns-clause-stands : goal.returns-clause-stands
+returns-clause-stands g c = λ others m s.
+    stands-after (event_of c.args.what) s (record { terms = c.settle.ensures.stays.terms; capacity = c.settle.ensures.stays.capacity }) c.settle.ensures.limits
+    (c.settle.ensures.reaches (info_at c.args.what) (queue_of m) others m (course (terms_of c.args.self.now) (event_of c.args.what) m) s.kept (c.running-before.ensures ∙ running-at s.fits.rests) (reached (c.take-told.ensures) s))
+
+pub returns-clause-told : goal.returns-clause-told
+returns-clause-told g c = λ others m s.
+    told-after {link = c.args.self.now} (event_of c.args.what) (record { terms = c.settle.ensures.stays.terms; capacity = c.settle.ensures.stays.capacity })
+    (c.settle.ensures.reaches (info_at c.args.what) (queue_of m) others m (course (terms_of c.args.self.now) (event_of c.args.what) m) s.kept (c.running-before.ensures ∙ running-at s.fits.rests) (reached (c.take-told.ensures) s))
+
+pub returns-clause-frames : goal.returns-clause-frames
+returns-clause-frames g c = λ others m s. event-rises (terms_of c.args.self.now) s.fits.range m s.fits.sound (event_of c.args.what)

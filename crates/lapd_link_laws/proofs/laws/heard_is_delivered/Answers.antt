@@ -1,0 +1,9 @@
+use Rattle.lapd_link_laws.proofs.Delivered.{delivered-was-heard}
+use Rattle.lapd_link_laws.proofs.Keeping.{event-unit}
+use Rattle.lapd_link_laws.proofs.laws.heard_is_delivered.Goals as goal
+
+pub returns-clause-contents : goal.returns-clause-contents
+returns-clause-contents c = λ t e l contents d. delivered-was-heard t l e contents d
+
+pub returns-clause-unit : goal.returns-clause-unit
+returns-clause-unit c = λ t e l r s. event-unit t l s e

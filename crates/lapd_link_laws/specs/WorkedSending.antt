@@ -1,0 +1,48 @@
+-- Worked values: a terminal that is busy, one that rejects, and deliveries.
+use Rattle.std.specs.Prelude.{◌≡◌, true, false, [], ◌∷◌, refl}
+use Rattle.lapd_seq.specs.Numbers.{seq}
+use Rattle.lapd_seq.specs.Circle.{distance_of, named}
+use Rattle.lapd_frame.specs.Reading.{supervisory_of, unnumbered_of, control_of, header_of, reading}
+use Rattle.lapd_link_machine.specs.declared.states.State.TheVariants.{AwaitingEstablishment}
+use Rattle.lapd_link_machine.specs.Link.{Link}
+use Rattle.lapd_link_machine.specs.Events.{Data, offer}
+use Rattle.lapd_link_machine.specs.Machine.{after, after_all}
+use Rattle.lapd_link_machine.specs.Worked.{usual, comes, ask, up}
+use Rattle.lapd_link_laws.specs.Sending.{i_frames_offered}
+
+-- Contents are accepted, and RNR comes: no I-frame goes.
+busy : i_frames_offered usual 5 (after_all usual (ask (Data (1 ∷ [])) ∷ comes (0x02 ∷ 0x81 ∷ 0x05 ∷ 0x00 ∷ []) ∷ []) up)
+    ≡ 0
+unfolding seq distance_of named reading header_of control_of unnumbered_of supervisory_of after_all i_frames_offered
+busy = refl
+
+-- Three I-frames went, and REJ with N(R) 1 comes: V(S) is 1, and two go again.
+abbrev rejected : Link
+rejected = after_all usual (ask (Data (1 ∷ [])) ∷ ask (Data (2 ∷ [])) ∷ ask (Data (3 ∷ [])) ∷ offer ∷ offer ∷ offer ∷ comes (0x02 ∷ 0x81 ∷ 0x09 ∷ 0x02 ∷ []) ∷ []) up
+
+rejected_from : rejected.s
+    ≡ 1
+unfolding seq distance_of named reading header_of control_of unnumbered_of supervisory_of after_all
+rejected_from = refl
+
+rejected_again : i_frames_offered usual 5 rejected
+    ≡ 2
+unfolding seq distance_of named reading header_of control_of unnumbered_of supervisory_of after_all i_frames_offered
+rejected_again = refl
+
+-- Contents are delivered, and their acknowledgement is owed;
+delivered : (after usual (comes (0x00 ∷ 0x81 ∷ 0x00 ∷ 0x00 ∷ 0x41 ∷ [])) up).pending
+    ≡ true
+unfolding seq distance_of named reading header_of control_of unnumbered_of supervisory_of after_all
+delivered = refl
+
+-- but not where the I-frame's own N(R) is invalid.
+delivered_last : (after usual (comes (0x00 ∷ 0x81 ∷ 0x00 ∷ 0x02 ∷ 0x41 ∷ [])) up).pending
+    ≡ false
+unfolding seq distance_of named reading header_of control_of unnumbered_of supervisory_of after_all
+delivered_last = refl
+
+delivered_last_state : (after usual (comes (0x00 ∷ 0x81 ∷ 0x00 ∷ 0x02 ∷ 0x41 ∷ [])) up).state
+    ≡ AwaitingEstablishment
+unfolding seq distance_of named reading header_of control_of unnumbered_of supervisory_of after_all
+delivered_last_state = refl

@@ -1,0 +1,49 @@
+//! What a link sends, and when. Each law is the contract of a call that does nothing.
+
+ghost use Rattle.std.specs.Prelude.{◌≡◌, ◌⊎◌, ℕ, ◌+◌, true, IsTrue, List, Some, IfSome};
+ghost use Rattle.lapd_seq.specs.declared.numbers.Seq.{Seq};
+ghost use Rattle.lapd_seq.specs.Circle.{named};
+ghost use Rattle.lapd_frame.specs.Grammar.{Parts};
+ghost use Rattle.lapd_link_machine.specs.declared.terms.Terms.{Terms};
+ghost use Rattle.lapd_link_machine.specs.Link.{Link};
+ghost use Rattle.lapd_link_machine.specs.Events.{Event, frame, received};
+ghost use Rattle.lapd_link_machine.specs.Machine.{after, told, given};
+ghost use Rattle.lapd_link_machine.specs.Deliveries.{restarts};
+ghost use Rattle.lapd_link_machine.specs.Sound.{IsInRange, IsSound};
+ghost use Rattle.lapd_link_laws.specs.Offered.{IsOffered, is_i_frame};
+ghost use Rattle.lapd_link_laws.specs.Sending.{MayGo, asked_from, GoesBackTo, offered, i_frames_offered};
+ghost use Rattle.lapd_link_laws.specs.Beginning.{IsSeen};
+ghost use Rattle.lapd_link_laws.specs.Owing.{Owes, IsBegunAgain};
+
+/// A busy terminal is left alone. An offer gives an I-frame in state 7 alone, and only while the terminal is not taken
+/// for busy, fewer than k I-frames are outstanding, and contents are unsent (Q.921 clauses 5.6.1, 5.6.5 and 5.6.7).
+pub fn busy_is_left_alone()
+    ensures left_alone { (t : Terms) (l : Link) → IsSound t l → IfSome (given t l) (λ g. IsTrue (is_i_frame g) → MayGo t l) }
+{}
+
+/// What a terminal rejects is sent again. After REJ in state 7, and after a response with F=1 in state 8, whose valid
+/// N(R) names number n, the link is in state 7, and contents number n are the next that it sends. And with offers alone
+/// the I-frames that they give carry the contents from V(S) on one after the other, each with its number modulo 128 as
+/// N(S): n, n + 1, n + 2, .. (Q.921 clauses 5.6.4 and 5.6.7).
+pub fn rejected_is_sent_again()
+    ensures goes_back { (t : Terms) (l : Link) (f : Parts) (nr : Seq) (n : ℕ) → asked_from l.state f.address.command f.control ≡ Some nr
+        → named l.a l.s nr ≡ Some n → GoesBackTo n l (after t (received (frame f)) l) }
+    ensures in_order { (t : Terms) (l : Link) (m : ℕ) → IsInRange t → IsSound t l
+        → IfSome (given t (offered t m l)) (λ g. IsOffered l.contents (l.s + i_frames_offered t m l) g.frame g.contents) }
+{}
+
+/// Deliveries are acknowledged. After an event that delivers contents an acknowledgement is owed, or one frame more
+/// waits, the last, whose N(R) is V(R), or it found no place to wait and was counted as lost. The only exception: the
+/// I-frame's own N(R) was invalid; then error J is told, and the link is established again (Q.921 clauses 5.6.2 and
+/// 5.8.2).
+pub fn deliveries_are_acknowledged()
+    ensures owes { (t : Terms) (e : Event) (l : Link) (contents : List ℕ) → (told t e l).delivered ≡ Some contents
+        → Owes l.waiting (after t e l) (told t e l).lost ⊎ IsBegunAgain t (after t e l) (told t e l).notes }
+{}
+
+/// The numbers of a link begin anew only where it is told: the event is the end of the TEI, or its notes hold an
+/// indication or a confirm of an establishment, or error F; or it ends an establishment that layer 3 had not asked for,
+/// but this side began itself (Q.921 clauses 5.5.1.2 and 5.7).
+pub fn beginnings_are_told()
+    ensures seen { (t : Terms) (e : Event) (l : Link) → restarts t e l ≡ true → IsSeen e l (told t e l).notes }
+{}

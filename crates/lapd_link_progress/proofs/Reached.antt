@@ -1,0 +1,107 @@
+-- What holds of two links that came from an establishment, and stayed up: all that recovery asks but silence.
+use Rattle.std.proofs.Common.{◌≡◌, ℕ, ◌+◌, ◌≤◌, List, [], ◌∷◌, length, sym, subst, ◌∙◌, true≢false}
+use Rattle.std.specs.Prelude.{All}
+use Rattle.lapd_frame.specs.Grammar.{Parts}
+use Rattle.lapd_link_machine.specs.Link.{Link}
+use Rattle.lapd_link_machine.specs.Events.{frame, received, expired, requested, offer}
+use Rattle.lapd_link_machine.specs.Timed.{IsTimed}
+use Rattle.lapd_link_machine.specs.TwoEnds.{End, Ends, Act, asks, expires, sends, receives, loses, Doing, at_near, at_far, with_first_of, acting, turned, doing, doing_all, Begins, StayUp, Agree}
+use Rattle.lapd_link_machine.proofs.TimedRows.{timed-after}
+use Rattle.lapd_link_machine.proofs.Joined.{Joined, joined-first, done-at, ends-agree}
+use Rattle.lapd_link_progress.specs.Heeds.{HeedsIn, Heeds}
+use Rattle.lapd_link_progress.specs.Rounds.{rounds}
+use Rattle.lapd_link_progress.specs.CutOff.{IsCutOff, IsSilent, HasMissing, with_t200_expired}
+use Rattle.lapd_link_progress.proofs.HeedingEvents.{heeds-after}
+use Rattle.lapd_link_progress.proofs.Arriving.{Arrived}
+use Rattle.lapd_link_progress.proofs.Recovery.{all-recovered}
+use Rattle.lapd_link_progress.proofs.Together.{same-after}
+
+-- of one link
+record Sane (l : Link) : Type 0 where
+  timed : IsTimed l
+  heeds : Heeds l
+
+abbrev BothSane : Ends → Type 0
+BothSane e = Sane e.near.link × Sane e.far.link
+
+sane-first : (way : List Parts) (n : End) → Sane n.link → Sane (with_first_of way n).link
+sane-first [] n h = h
+sane-first (f ∷ fs) n h = record { timed = timed-after n.terms (received (frame f)) n.link h.timed; heeds = heeds-after n.terms (received (frame f)) n.link h.heeds }
+
+sane-acting : (act : Act) (e : Ends) → BothSane e → BothSane (acting act e)
+sane-acting (asks request full) e h =
+    (record { timed = timed-after e.near.terms (requested request full) e.near.link h.0.timed; heeds = heeds-after e.near.terms (requested request full) e.near.link h.0.heeds }, h.1)
+sane-acting (expires timer) e h =
+    (record { timed = timed-after e.near.terms (expired timer) e.near.link h.0.timed; heeds = heeds-after e.near.terms (expired timer) e.near.link h.0.heeds }, h.1)
+sane-acting sends e h =
+    (record { timed = timed-after e.near.terms offer e.near.link h.0.timed; heeds = heeds-after e.near.terms offer e.near.link h.0.heeds }, h.1)
+sane-acting receives e h = (sane-first e.far.way e.near h.0, h.1)
+sane-acting loses e h = h
+
+sane-doing : (d : Doing) (e : Ends) → BothSane e → BothSane (doing d e)
+sane-doing (at_near act) e h = sane-acting act e h
+sane-doing (at_far act) e h = let x = sane-acting act (turned e) (h.1, h.0) in (x.1, x.0)
+
+record Whole (e : Ends) : Type 0 where
+  joined : Joined e.near e.far
+  sane : BothSane e
+  same : e.near.terms.n201 ≡ e.far.terms.n201
+
+all-whole : (ds : List Doing) (e : Ends) → StayUp ds e → Whole e → Whole (doing_all ds e)
+unfolding doing_all StayUp
+all-whole [] e up h = h
+all-whole (d ∷ ds) e up h =
+    all-whole ds (doing d e) up.1 (record { joined = done-at d e up.0 h.joined; sane = sane-doing d e h.sane; same = same-after d e h.same })
+
+begins-sane : (n : End) → Begins n → IsTimed n.link → Sane n.link
+begins-sane n b timed =
+    record {
+      timed = timed;
+      heeds = record { heeds = subst (λ s. HeedsIn s n.link.peer_busy n.link.running) (sym b.state) (λ busy. absurd (true≢false (sym busy ∙ b.peer_busy))) };
+    }
+
+cut-off : (e : Ends) → Whole e → Agree e.far e.near → IsSilent e.near e.far → IsCutOff e.near e.far
+cut-off e h agree silent =
+    record {
+      ranges = h.joined.near_ranges;
+      sound = h.joined.near_sound;
+      timed = h.sane.0.timed;
+      heeds = h.sane.0.heeds;
+      up = h.joined.near_up;
+      repeats = silent.repeats;
+      own_busy = silent.own_busy;
+      waiting = silent.waiting;
+      way = silent.way;
+      low = agree.acknowledged;
+      high = silent.high;
+      delivered = agree.delivered;
+      sizes = subst (λ i. All (λ octets. length octets ≤ i) e.near.link.contents) h.same h.joined.near_sound.sizes;
+    }
+
+cut-off-far : (e : Ends) → Whole e → Agree e.near e.far → IsSilent e.far e.near → IsCutOff e.far e.near
+cut-off-far e h agree silent =
+    record {
+      ranges = h.joined.far_ranges;
+      sound = h.joined.far_sound;
+      timed = h.sane.1.timed;
+      heeds = h.sane.1.heeds;
+      up = h.joined.far_up;
+      repeats = silent.repeats;
+      own_busy = silent.own_busy;
+      waiting = silent.waiting;
+      way = silent.way;
+      low = agree.acknowledged;
+      high = silent.high;
+      delivered = agree.delivered;
+      sizes = subst (λ i. All (λ octets. length octets ≤ i) e.far.link.contents) (sym h.same) h.joined.far_sound.sizes;
+    }
+
+pub reached : (ds : List Doing) (u : ℕ) (e : Ends) → Begins e.near → Begins e.far → IsTimed e.near.link → IsTimed e.far.link
+    → e.near.terms.n201 ≡ e.far.terms.n201 → StayUp ds e
+    → IsSilent (doing_all ds e).near (doing_all ds e).far → IsSilent (doing_all ds e).far (doing_all ds e).near
+    → HasMissing u (doing_all ds e).near (doing_all ds e).far → HasMissing u (doing_all ds e).far (doing_all ds e).near
+    → Arrived (doing_all ds e).near.link.contents (doing_all ds e).far.link.contents (rounds (u + 3) (with_t200_expired (doing_all ds e)))
+reached ds u e b c tb tc same up sn sf un uf =
+    let h = all-whole ds e up (record { joined = joined-first e.near e.far b c; sane = (begins-sane e.near b tb, begins-sane e.far c tc); same = same }) in
+    let agree = ends-agree ds e b c up in
+    all-recovered u (doing_all ds e) (cut-off (doing_all ds e) h agree.1 sn) (cut-off-far (doing_all ds e) h agree.0 sf) un uf

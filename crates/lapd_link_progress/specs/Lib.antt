@@ -1,0 +1,10 @@
+-- What a link comes to: statements, and worked values.
+pub mod Waits
+pub mod Polls
+pub mod WorkedPolls
+pub mod Heeds
+pub mod Rounds
+pub mod CutOff
+pub mod WorkedRounds
+pub mod WorkedUntimely
+pub mod Ahead

@@ -1,5 +1,0 @@
-use Rattle.lapd_link_rows.proofs.Steps.{◌▹◌}
-use Rattle.lapd_link_rows.proofs.entity.Entity.accepted_in_5.Goals as goal
-
-pub returns-clause-does : goal.returns-clause-does
-returns-clause-does c = λ info. c.tell_establishment.ensures.does info ▹ c.zero_numbers.ensures.does _ info ▹ c.start_timer.ensures.does _ info ▹ c.enter.ensures _ _ _

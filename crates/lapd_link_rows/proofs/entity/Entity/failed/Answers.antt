@@ -1,5 +1,0 @@
-use Rattle.lapd_link_rows.proofs.Steps.{◌▹◌}
-use Rattle.lapd_link_rows.proofs.entity.Entity.failed.Goals as goal
-
-pub returns-clause-does : goal.returns-clause-does
-returns-clause-does c = λ info. c.error.ensures.does _ _ _ ▹ c.re_establish.ensures.does info

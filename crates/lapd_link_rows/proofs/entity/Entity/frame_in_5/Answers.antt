@@ -1,8 +1,0 @@
-use Rattle.std.proofs.Common.{ap, ◌∙◌, true}
-use Rattle.lapd_frame.specs.declared.controls.Control.TheVariants.{Ua}
-use Rattle.lapd_link_machine.specs.AwaitingEstablishment as row
-use Rattle.lapd_link_rows.proofs.Steps.{with_known}
-use Rattle.lapd_link_rows.proofs.entity.Entity.frame_in_5.Goals as goal
-
-pub returns-in-Ua-true-clause-does : goal.returns-in-Ua-true-clause-does
-returns-in-Ua-true-clause-does c = λ info. with_known (row.frame_in_5 c.args.terms) c.args.control (Ua true) (c.in-Ua-true.is ∙ ap Ua c.in-Ua-true.pf-test) (c.accepted_in_5.ensures.does info)

@@ -1,5 +1,0 @@
-use Rattle.lapd_link_rows.proofs.Steps.{◌▹◌, by_then}
-use Rattle.lapd_link_rows.proofs.entity.Entity.recovered.Goals as goal
-
-pub returns-clause-does : goal.returns-clause-does
-returns-clause-does c = λ terms info. by_then (c.send_again_from.ensures terms info _) (c.start_timer.ensures.does terms info ▹ c.enter.ensures _ _ _)

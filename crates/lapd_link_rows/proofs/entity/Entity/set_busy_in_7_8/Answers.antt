@@ -1,7 +1,0 @@
-use Rattle.lapd_link_machine.specs.Link.{is_own_busy}
-use Rattle.lapd_link_machine.specs.Steps.{nothing}
-use Rattle.lapd_link_rows.proofs.Steps.{◌▹◌, where_no}
-use Rattle.lapd_link_rows.proofs.entity.Entity.set_busy_in_7_8.Goals as goal
-
-pub returns-clause-does : goal.returns-clause-does
-returns-clause-does c = λ info. where_no is_own_busy nothing (λ messages p fits. c.if-self.false) (c.own_busy_is.ensures _ _ _ ▹ c.report_ready.ensures.does info)

@@ -1,0 +1,50 @@
+-- From one event to the next: what an entity stands for as an event begins, and as it ends.
+use Rattle.std.proofs.Common.{◌≡◌, ℕ, ◌≤◌, Bool, List, [], length, drop, Option, ap, subst, ◌∙◌}
+use Rattle.lapd_frame.specs.declared.notes.Note.{Note}
+use Rattle.lapd_link_machine.specs.declared.timers.LinkTimer.{LinkTimer}
+use Rattle.lapd_link_machine.specs.declared.terms.Terms.{Terms}
+use Rattle.lapd_link_machine.specs.Link.{Link, queue_of}
+use Rattle.lapd_link_machine.specs.Steps.{Course, begun, Step}
+use Rattle.lapd_link_steps.specs.declared.entity.Entity.{Entity}
+use Rattle.lapd_link_steps.specs.declared.told.Told.{Told}
+use Rattle.lapd_link_steps.specs.Past.{link_of, if_told, course_of, Fits}
+use Rattle.lapd_link_steps.specs.Does.{Agrees}
+use Rattle.lapd_link_steps.specs.Done.{IsNothing, past_at, Rests, Took}
+
+-- an event begins: its past fits,
+pub fits-resting : {terms : Terms} {e : Entity} {m : Link} {none : Told} → Rests terms e m → length (queue_of m) ≤ 127 → IsNothing none → Fits terms (queue_of m) e none (past_at m)
+fits-resting {m = m} rests few nothing =
+    record {
+      window = rests.window;
+      received = rests.received;
+      ring = rests.ring;
+      queue = ap (λ n. drop n (queue_of m)) nothing.released;
+      few = few;
+    }
+
+-- and its course is the one that begins
+
+pub begun-resting : {terms : Terms} {e : Entity} {m : Link} {none : Told} (info : List ℕ) → Rests terms e m → IsNothing none → course_of info e none (past_at m) ≡ begun m
+begun-resting {e = e} {m} {none} info rests nothing =
+    ap (λ (notes : List Note). record (course_of info e none (past_at m)) { notes = notes }) nothing.notes
+    ∙ ap (λ (b : Bool). record (course_of info e none (past_at m)) { notes = []; delivered = if_told b info }) nothing.delivered
+    ∙ ap (λ (b : Bool). record (course_of info e none (past_at m)) { notes = []; delivered = (begun m).delivered; unit = if_told b info }) nothing.unit
+    ∙ ap (λ (x : Option LinkTimer). record (course_of info e none (past_at m)) { notes = []; delivered = (begun m).delivered; unit = (begun m).unit; started = x }) nothing.started
+    ∙ ap (λ (n : ℕ). record (begun (link_of e (past_at m))) { lost = n; unserved = none.unserved }) nothing.lost
+    ∙ ap (λ (b : Bool). record (begun (link_of e (past_at m))) { unserved = b }) nothing.unserved
+    ∙ ap begun rests.is
+
+pub took-course : {terms : Terms} {info : List ℕ} {f : Step} {e e' : Entity} {t : Told} {m : Link} → Took terms info f e e' t → Rests terms e m → length (queue_of m) ≤ 127 → Agrees terms info (queue_of m) (f (begun m)) e' t
+took-course {terms} {info} {f} {e' = e'} {t} {m} took rests few =
+    subst (λ (c : Course). Agrees terms info (queue_of m) (f c) e' t) (begun-resting info rests took.nothing)
+    (took.does.step (queue_of m) (past_at m) (fits-resting rests few took.nothing))
+
+-- an event ends
+pub rests-after : {terms : Terms} {info : List ℕ} {messages : List (List ℕ)} {c : Course} {e : Entity} {t : Told} → Agrees terms info messages c e t → Rests terms e c.link
+rests-after agrees =
+    record {
+      window = agrees.fits.window;
+      received = agrees.fits.received;
+      ring = agrees.fits.ring;
+      is = ap (λ (c : Course). c.link) agrees.is;
+    }

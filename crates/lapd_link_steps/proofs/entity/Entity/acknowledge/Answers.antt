@@ -1,0 +1,22 @@
+use Rattle.std.proofs.Common.{refl, ap, drop, ◌∙◌}
+use Rattle.lapd_link_steps.proofs.Queue.{released_more}
+use Rattle.lapd_link_steps.proofs.entity.Entity.acknowledge.Goals as goal
+
+pub returns-clause-does : goal.returns-clause-does
+returns-clause-does c = λ terms info.
+    record {
+      step = λ messages p n named fits.
+          record {
+            fits =
+                record {
+                  window = c.acknowledge.ensures.plain p.a p.s n fits.window named;
+                  received = fits.received;
+                  ring = fits.ring;
+                  queue =
+                      ap (λ n. drop n messages) c.min-told.ensures
+                      ∙ released_more messages p.contents c.args.told.now.released c.acknowledged_by.result p.a n fits.few (c.acknowledged_by.ensures.plain p.a p.s n fits.window named) fits.queue;
+                  few = fits.few;
+                };
+            is = refl;
+          };
+    }

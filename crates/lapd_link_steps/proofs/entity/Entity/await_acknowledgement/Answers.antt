@@ -1,0 +1,8 @@
+use Rattle.std.proofs.Common.{sym, ◌∙◌}
+use Rattle.lapd_link_machine.specs.Steps.{nothing}
+use Rattle.lapd_link_machine.specs.Offers.{is_awaiting_acknowledgement}
+use Rattle.lapd_link_steps.proofs.Steps.{where_no}
+use Rattle.lapd_link_steps.proofs.entity.Entity.await_acknowledgement.Goals as goal
+
+pub returns-then-not-runs : goal.returns-then-not-runs
+returns-then-not-runs c = λ terms info. where_no is_awaiting_acknowledgement nothing (λ messages p fits. sym c.runs.ensures ∙ c.if-not-runs.true) (c.start_timer.ensures.does terms info)

@@ -1,0 +1,15 @@
+use Rattle.std.proofs.Common.{false, ap}
+use Rattle.lapd_frame.specs.declared.controls.Control.{Control}
+use Rattle.lapd_link_machine.specs.Steps.{◌then◌}
+use Rattle.lapd_link_machine.specs.Words as word
+use Rattle.lapd_link_steps.specs.Past.{course_of}
+use Rattle.lapd_link_steps.proofs.Steps.{◌▹◌, same_step}
+use Rattle.lapd_link_steps.proofs.entity.Entity.enquire.Goals as goal
+
+pub returns-clause-does : goal.returns-clause-does
+returns-clause-does c = λ info.
+    same_step
+    (λ messages p fits.
+    ap (λ (ready : Control). (word.send c.args.terms (word.command ready) then word.pending_is false) (course_of info c.args.self.now c.args.told.now p))
+    (c.ready_to_receive-ready.ensures p fits.received))
+    (c.command.ensures.does info ▹ c.pending_is.ensures.does _ _ _)

@@ -1,0 +1,13 @@
+use Rattle.std.proofs.Common.{true}
+use Rattle.lapd_link_machine.specs.Link.{is_rejecting}
+use Rattle.lapd_link_machine.specs.Steps.{◌then◌}
+use Rattle.lapd_link_machine.specs.Words as word
+use Rattle.lapd_link_machine.specs.MultipleFrame as row
+use Rattle.lapd_link_steps.proofs.Steps.{◌▹◌, where_yes, where_no}
+use Rattle.lapd_link_steps.proofs.entity.Entity.out_of_sequence.Goals as goal
+
+pub returns-then-self-clause-does : goal.returns-then-self-clause-does
+returns-then-self-clause-does c = λ info. where_yes is_rejecting (word.rejecting_is true then word.reject c.args.terms c.args.pf) (λ messages p fits. c.if-self.true) (c.answer_if.ensures.does info)
+
+pub returns-clause-does : goal.returns-clause-does
+returns-clause-does c = λ info. where_no is_rejecting (row.dropped c.args.terms c.args.pf) (λ messages p fits. c.if-self.false) (c.rejecting_is.ensures _ _ _ ▹ c.reject.ensures.does info)

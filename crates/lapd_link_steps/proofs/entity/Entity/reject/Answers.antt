@@ -1,0 +1,16 @@
+use Rattle.std.proofs.Common.{false, ap}
+use Rattle.lapd_seq.specs.declared.numbers.Seq.{Seq}
+use Rattle.lapd_frame.specs.declared.controls.Control.TheVariants.{Reject}
+use Rattle.lapd_link_machine.specs.Steps.{◌then◌}
+use Rattle.lapd_link_machine.specs.Words as word
+use Rattle.lapd_link_steps.specs.Past.{course_of}
+use Rattle.lapd_link_steps.proofs.Steps.{◌▹◌, same_step}
+use Rattle.lapd_link_steps.proofs.entity.Entity.reject.Goals as goal
+
+pub returns-clause-does : goal.returns-clause-does
+returns-clause-does c = λ info.
+    same_step
+    (λ messages p fits.
+    ap (λ (vr : Seq). (word.send c.args.terms (word.response (Reject vr c.args.pf)) then word.pending_is false) (course_of info c.args.self.now c.args.told.now p))
+    fits.received)
+    (c.response.ensures.does info ▹ c.pending_is.ensures.does _ _ _)

@@ -1,0 +1,23 @@
+use Rattle.std.proofs.Common.{true}
+use Rattle.std.proofs.lemmas.Bool.{lt-ltb, le-ltb}
+use Rattle.lapd_frame.specs.declared.controls.Control.TheVariants.{Sabme}
+use Rattle.lapd_frame.specs.declared.notes.ErrorCode.TheVariants as code
+use Rattle.lapd_link_machine.specs.declared.states.State.TheVariants.{TeiAssigned}
+use Rattle.lapd_link_machine.specs.declared.timers.LinkTimer.TheVariants.{T200}
+use Rattle.lapd_link_machine.specs.Link.{may_repeat}
+use Rattle.lapd_link_machine.specs.Steps.{◌then◌}
+use Rattle.lapd_link_machine.specs.Words as word
+use Rattle.lapd_link_steps.proofs.Steps.{◌▹◌, where_yes, where_no}
+use Rattle.lapd_link_steps.proofs.entity.Entity.t200_in_5.Goals as goal
+
+pub returns-then-self-terms-clause-does : goal.returns-then-self-terms-clause-does
+returns-then-self-terms-clause-does c = λ info.
+    where_yes (may_repeat c.args.terms) (word.discard then word.error c.args.terms code.G then word.release_indication c.args.terms then word.no_timer then word.enter TeiAssigned)
+    (λ messages p fits. lt-ltb c.args.self.now.repeats c.args.terms.n200 c.if-self-terms.true)
+    (c.command.ensures.does info ▹ c.repeated.ensures _ _ _ ▹ c.start_timer.ensures.does _ info)
+
+pub returns-clause-does : goal.returns-clause-does
+returns-clause-does c = λ info.
+    where_no (may_repeat c.args.terms) (word.send c.args.terms (word.command (Sabme true)) then word.repeated then word.start T200)
+    (λ messages p fits. le-ltb c.args.self.now.repeats c.args.terms.n200 c.if-self-terms.false)
+    (c.discard.ensures.does _ info ▹ c.error.ensures.does _ _ _ ▹ c.release_indication.ensures.does _ _ _ ▹ c.no_timer.ensures.does _ info ▹ c.enter.ensures _ _ _)

@@ -1,0 +1,22 @@
+use Rattle.std.proofs.Common.{refl, ap, drop, ◌∙◌}
+use Rattle.lapd_link_steps.proofs.Queue.{released_more}
+use Rattle.lapd_link_steps.proofs.entity.Entity.zero_numbers.Goals as goal
+
+pub returns-clause-does : goal.returns-clause-does
+returns-clause-does c = λ terms info.
+    record {
+      step = λ messages p fits.
+          record {
+            fits =
+                record {
+                  window = c.new-self.ensures.numbers;
+                  received = c.zero-self.ensures;
+                  ring = fits.ring;
+                  queue =
+                      ap (λ n. drop n messages) c.min-told.ensures
+                      ∙ released_more messages p.contents c.args.told.now.released c.outstanding.result p.a p.s fits.few (c.outstanding.ensures.plain p.a p.s fits.window) fits.queue;
+                  few = fits.few;
+                };
+            is = refl;
+          };
+    }

@@ -1,0 +1,13 @@
+use Rattle.std.proofs.Common.{length, arith}
+use Rattle.std.proofs.lemmas.Bool.{lt-ltb, le-ltb}
+use Rattle.lapd_link_machine.specs.Words.{deliver_unit, leave_unserved}
+use Rattle.lapd_link_steps.proofs.Steps.{bit_yes, bit_no}
+use Rattle.lapd_link_steps.proofs.told.Told.unit_data.Goals as goal
+
+pub returns-then-from-octets-clause-does : goal.returns-then-from-octets-clause-does
+returns-then-from-octets-clause-does c = λ info e len.
+    bit_yes _ (deliver_unit c.args.terms info) (lt-ltb c.args.terms.n201 (length info) (omega (arith, len, c.from.ensures, c.if-from-octets.true))) (c.leave_unserved.ensures.does _ _ _)
+
+pub returns-clause-does : goal.returns-clause-does
+returns-clause-does c = λ info e len.
+    bit_no _ leave_unserved (le-ltb c.args.terms.n201 (length info) (omega (arith, len, c.from.ensures, c.if-from-octets.false))) (c.deliver_unit.ensures.does info e)

@@ -1,0 +1,61 @@
+-- Parts of rows that are a method each.
+use Rattle.std.specs.Prelude.{ℕ, Bool, true, false}
+use Rattle.lapd_frame.specs.declared.notes.ErrorCode.{ErrorCode}
+use Rattle.lapd_link_machine.specs.declared.states.State.TheVariants.{Established}
+use Rattle.lapd_link_machine.specs.declared.timers.LinkTimer.{LinkTimer}
+use Rattle.lapd_link_machine.specs.declared.terms.Terms.{Terms}
+use Rattle.lapd_link_machine.specs.Link.{is_asked, has_outstanding}
+use Rattle.lapd_link_machine.specs.Steps.{Step, ◌then◌, nothing, depending_on}
+use Rattle.lapd_link_machine.specs.Words.{peer_busy_is, establish_indication, establish_confirm, discard, send_again_from, start, enter}
+use Rattle.lapd_link_machine.specs.Machine.{malformed_in, told_of_clearing}
+use Rattle.lapd_link_machine.specs.MultipleFrame.{Particulars, answered, is_final}
+use Rattle.lapd_link_machine.specs.Established.{particulars_in_7}
+use Rattle.lapd_link_machine.specs.TimerRecovery.{particulars_in_8}
+use Rattle.lapd_link_machine.specs.Requests.{release_in}
+use Rattle.lapd_link_machine.specs.Offers.{is_awaiting_acknowledgement}
+use Rattle.lapd_link_machine.specs.declared.timers.LinkTimer.TheVariants.{T200}
+use Rattle.lapd_link_steps.specs.declared.states.multiple_frame.Bearer.{Bearer}
+use Rattle.lapd_link_steps.specs.declared.states.multiple_frame.Bearer.TheVariants.{Information, Rr, Rnr, Rej}
+
+-- Where contents are outstanding, all are lost, and layer 3 is told (Q.921 clauses 5.5.1.2 and 5.7).
+abbrev pub renewed : Terms → Step
+renewed t = depending_on has_outstanding (discard then establish_indication t) nothing
+
+-- A UA with F=1 in state 5.
+abbrev pub told_of_establishment : Terms → Step
+told_of_establishment t = depending_on is_asked (establish_confirm t) (renewed t)
+
+-- The enquiry was answered: what was not received is sent again (clause 5.6.7).
+abbrev pub sent_again : LinkTimer → ℕ → Step
+sent_again timer n = send_again_from n then start timer then enter Established
+
+-- Rows by the state that the link is in.
+abbrev pub malformed_by_state : Terms → ErrorCode → Step
+malformed_by_state t e c = malformed_in c.link.state t e c
+
+abbrev pub released_by_state : Terms → Step
+released_by_state t c = release_in c.link.state t c
+
+abbrev pub told_of_clearing_by_state : Terms → Step
+told_of_clearing_by_state t c = told_of_clearing c.link.state t c
+
+-- T200 is started unless it runs.
+abbrev pub awaiting : Step
+awaiting = depending_on is_awaiting_acknowledgement nothing (start T200)
+
+-- What only the state does, of states 7 and 8; true is state 8.
+abbrev pub particulars : Bool → Terms → Particulars
+particulars false t = particulars_in_7 t
+particulars true t = particulars_in_8 t
+
+-- What an N(R) does, by the frame that brought it.
+abbrev pub effect_of : Particulars → Bearer → Bool → ℕ → Step
+effect_of own Information final = own.by_information
+effect_of own Rr final = own.by_rr final
+effect_of own Rnr final = own.by_rnr final
+effect_of own Rej final = own.by_rej final
+
+-- A supervisory frame, before its N(R) has its effect.
+abbrev pub supervised : Particulars → Terms → Bool → Bool → Bool → Step
+supervised own t busy is_command pf =
+    peer_busy_is busy then answered t is_command pf then own.told_of (is_final is_command pf)

@@ -1,0 +1,52 @@
+//! What comes from the terminal.
+
+ghost use Rattle.std.specs.Prelude.{◌≡◌, ℕ, List, length};
+ghost use Rattle.lapd_link_machine.specs.Machine.{frame_step};
+ghost use Rattle.lapd_link_steps.specs.Does.{Does, HasRoom, Tells};
+ghost use Rattle.lapd_link_steps.specs.Parts.{malformed_by_state};
+
+use crate::entity::Entity;
+use crate::told::Told;
+use lapd_frame::{Control, ErrorCode};
+use lapd_link_machine::{State, Terms};
+
+impl Entity {
+    /// A frame came with so many octets of information.
+    pub fn frame(
+        &mut self,
+        terms: Terms,
+        told: &mut Told,
+        command: bool,
+        control: Control,
+        octets: usize,
+    )
+        requires { HasRoom 2 2 told.old }
+        ensures tells { Tells 2 2 told.old told.new }
+        ensures does { (info : List ℕ) → length info ≡ octets →
+            Does terms info (frame_step terms command info control) self.old told.old self.new told.new }
+    {
+        match self.state {
+            State::TeiAssigned => self.frame_in_4(terms, told, control, octets),
+            State::AwaitingEstablishment => self.frame_in_5(terms, told, control, octets),
+            State::AwaitingRelease => self.frame_in_6(terms, told, control, octets),
+            State::Established => self.frame_in_7_8(terms, told, false, command, control, octets),
+            State::TimerRecovery => self.frame_in_7_8(terms, told, true, command, control, octets),
+        }
+    }
+
+    /// A frame came that is undefined (error L), of wrong size (N), or an I-frame that was too long to keep (O).
+    pub fn malformed(&mut self, terms: Terms, told: &mut Told, code: ErrorCode)
+        requires { HasRoom 2 2 told.old }
+        ensures tells { Tells 2 2 told.old told.new }
+        ensures does { (info : List ℕ) →
+            Does terms info (malformed_by_state terms code) self.old told.old self.new told.new }
+    {
+        match self.state {
+            State::TeiAssigned => told.leave_unserved(),
+            State::AwaitingEstablishment => told.leave_unserved(),
+            State::AwaitingRelease => told.leave_unserved(),
+            State::Established => self.failed(terms, told, code),
+            State::TimerRecovery => self.failed(terms, told, code),
+        }
+    }
+}

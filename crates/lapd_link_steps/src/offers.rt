@@ -1,0 +1,123 @@
+//! The next frame that is sent.
+
+ghost use Rattle.std.specs.Prelude.{◌≡◌, [], ℕ, ◌<◌, ◌≤◌, List, length, Some, IsTrue};
+ghost use Rattle.lapd_seq.specs.Windows.{outstanding_of};
+ghost use Rattle.lapd_link_machine.specs.declared.terms.Terms.{Terms};
+ghost use Rattle.lapd_link_machine.specs.Offers as offers;
+ghost use Rattle.lapd_link_steps.specs.declared.told.Told.{Told};
+ghost use Rattle.lapd_link_machine.specs.Steps.{changed};
+ghost use Rattle.lapd_link_steps.specs.Parts.{awaiting};
+ghost use Rattle.lapd_link_steps.specs.Past.{Past, link_of, Fits};
+ghost use Rattle.lapd_link_steps.specs.Does.{Does, Changes};
+
+use crate::entity::Entity;
+use crate::told::Told;
+use lapd_frame::Control;
+use lapd_link_machine::{ControlFrame, LinkTimer, State, Terms};
+
+/// A frame that is sent.
+#[derive(Clone, Copy, PartialEq, Eq, Debug)]
+pub struct Given {
+    /// Command or response, and the control field.
+    pub frame: ControlFrame,
+    /// Where in the queue its contents are, if it is an I-frame; 0 is the oldest.
+    pub place: Option<usize>,
+}
+
+impl Entity {
+    ghost use Rattle.lapd_link_steps.specs.Done.{Gives, given_of};
+
+    /// The next frame, if there is one, while so many contents are queued: the control frame that has waited longest; else
+    /// an I-frame; else the acknowledgement that is owed.
+    pub fn offer(&mut self, terms: Terms, told: &mut Told, queued: usize) -> Option<Given>
+        requires { terms.k ≤ 127 }
+        ensures { Gives terms (offers.offer_step terms) queued self.old told.old self.new told.new result }
+    {
+        match self.waiting.pop_front() {
+            Some(frame) => Some(Given { frame, place: None }),
+            None => self.offer_numbered(terms, told, queued),
+        }
+    }
+
+    // The next frame while no control frame waits.
+    fn offer_numbered(&mut self, terms: Terms, told: &mut Told, queued: usize) -> Option<Given>
+        requires { terms.k ≤ 127 }
+        ensures { Gives terms (offers.offer_among terms []) queued self.old told.old self.new told.new result }
+    {
+        if self.may_send_information(terms, queued) {
+            return Some(self.send_information(told));
+        }
+        if !self.pending {
+            return None;
+        }
+        self.pending = false;
+        Some(Given {
+            frame: ControlFrame {
+                command: false,
+                control: Control::ReceiveReady {
+                    nr: self.vr,
+                    pf: false,
+                },
+            },
+            place: None,
+        })
+    }
+
+    // Whether an I-frame may be sent.
+    fn may_send_information(&self, terms: Terms, queued: usize) -> bool
+        ensures window { IsTrue result → outstanding_of self.now.window < terms.k }
+        ensures machine { (messages : List (List ℕ)) (t : Told) (p : Past) → length messages ≡ queued → t.released ≡ 0 →
+            Fits terms messages self.now t p → result ≡ offers.may_send_information terms (link_of self.now p) }
+    {
+        matches!(self.state, State::Established)
+            && !self.peer_busy
+            && self.window.may_send(terms.k)
+            && usize::from(self.window.outstanding()) < queued
+    }
+
+    // Sends the I-frame with the first contents that are unsent. It carries the acknowledgement.
+    fn send_information(&mut self, told: &mut Told) -> Given
+        requires { outstanding_of self.old.window < 127 }
+        ensures { (terms : Terms) (queued : ℕ) → Gives terms offers.send_information queued self.old told.old self.new told.new (Some result) }
+    {
+        let given = self.next_information();
+        self.count_sent();
+        self.pending_is(false);
+        self.await_acknowledgement(told);
+        given
+    }
+
+    fn next_information(&self) -> Given
+        ensures { (terms : Terms) (messages : List (List ℕ)) (t : Told) (p : Past) → t.released ≡ 0 → Fits terms messages self.now t p →
+            given_of messages (Some result) ≡ Some (record { frame = offers.next_information (link_of self.now p); contents = offers.first_unsent (link_of self.now p) }) }
+    {
+        let frame = ControlFrame {
+            command: true,
+            control: Control::Information {
+                ns: self.window.vs(),
+                nr: self.vr,
+                pf: false,
+            },
+        };
+        Given {
+            frame,
+            place: Some(usize::from(self.window.outstanding())),
+        }
+    }
+
+    fn count_sent(&mut self)
+        requires { outstanding_of self.old.window < 127 }
+        ensures { Changes (changed offers.with_one_sent) self.old self.new }
+    {
+        self.window.advance();
+    }
+
+    // T200 is started unless it runs.
+    fn await_acknowledgement(&mut self, told: &mut Told)
+        ensures { (terms : Terms) (info : List ℕ) → Does terms info awaiting self.old told.old self.new told.new }
+    {
+        if !self.runs(LinkTimer::T200) {
+            self.start_timer(told, LinkTimer::T200);
+        }
+    }
+}

@@ -1,0 +1,82 @@
+//! What layer 3 asks for, and the end of a TEI.
+
+ghost use Rattle.std.specs.Prelude.{ℕ, List};
+ghost use Rattle.lapd_link_machine.specs.Machine.{cleared_step};
+ghost use Rattle.lapd_link_machine.specs.Words.{begin_anew};
+ghost use Rattle.lapd_link_machine.specs.declared.terms.Terms.{Terms};
+ghost use Rattle.lapd_link_steps.specs.Done.{IsFresh};
+ghost use Rattle.lapd_link_steps.specs.Does.{Does, HasRoom, Tells};
+ghost use Rattle.lapd_link_steps.specs.Parts.{released_by_state, told_of_clearing_by_state};
+
+use crate::entity::Entity;
+use crate::told::{ALL, Told};
+use lapd_link_machine::{State, Terms};
+use lapd_seq::{Seq, Window};
+
+impl Entity {
+    /// Layer 3 asks for the release. In states 5 and 6 nothing is done.
+    pub fn release(&mut self, terms: Terms, told: &mut Told)
+        requires { HasRoom 2 2 told.old }
+        ensures tells { Tells 2 2 told.old told.new }
+        ensures does { (info : List ℕ) → Does terms info (released_by_state terms) self.old told.old self.new told.new }
+    {
+        match self.state {
+            State::TeiAssigned => told.release_confirm(terms),
+            State::AwaitingEstablishment => {}
+            State::AwaitingRelease => {}
+            State::Established => self.release_in_7_8(terms, told),
+            State::TimerRecovery => self.release_in_7_8(terms, told),
+        }
+    }
+
+    /// The TEI leaves the line: layer 3 is told as the state has it, and the entity is as one that begins.
+    pub fn clear(&mut self, terms: Terms, told: &mut Told)
+        requires { HasRoom 2 2 told.old }
+        ensures tells { Tells 2 2 told.old told.new }
+        ensures does { (info : List ℕ) → Does terms info (cleared_step terms) self.old told.old self.new told.new }
+    {
+        self.tell_clearing(terms, told);
+        self.begin_anew(told);
+    }
+
+    fn tell_clearing(&self, terms: Terms, told: &mut Told)
+        requires { HasRoom 1 0 told.old }
+        ensures tells { Tells 1 0 told.old told.new }
+        ensures does { (info : List ℕ) →
+            Does terms info (told_of_clearing_by_state terms) self.now told.old self.now told.new }
+    {
+        match self.state {
+            State::TeiAssigned => {}
+            State::AwaitingEstablishment => told.release_indication(terms),
+            State::AwaitingRelease => told.release_confirm(terms),
+            State::Established => told.release_indication(terms),
+            State::TimerRecovery => told.release_indication(terms),
+        }
+    }
+
+    fn begin_anew(&mut self, told: &mut Told)
+        ensures tells { Tells 0 0 told.old told.new }
+        ensures does { (terms : Terms) (info : List ℕ) → Does terms info begin_anew self.old told.old self.new told.new }
+    {
+        self.begin();
+        told.started = None;
+        told.released = ALL;
+    }
+
+    /// The entity is as one that begins, with its ring empty.
+    pub fn begin(&mut self)
+        ensures { IsFresh self.old.waiting.capacity self.new }
+    {
+        self.state = State::TeiAssigned;
+        self.window = Window::new();
+        self.vr = Seq::zero();
+        self.peer_busy = false;
+        self.own_busy = false;
+        self.rejecting = false;
+        self.pending = false;
+        self.asked = false;
+        self.repeats = 0;
+        self.running = None;
+        self.waiting.clear();
+    }
+}

@@ -1,0 +1,99 @@
+//! State 5, awaiting establishment: SABME was sent.
+
+ghost use Rattle.std.specs.Prelude.{◌≡◌, ℕ, List, true, length};
+ghost use Rattle.lapd_frame.specs.declared.controls.Control.TheVariants.{Ua, Dm};
+ghost use Rattle.lapd_link_machine.specs.AwaitingEstablishment as row;
+ghost use Rattle.lapd_link_steps.specs.Does.{Does, HasRoom, Tells};
+ghost use Rattle.lapd_link_steps.specs.Parts.{told_of_establishment};
+
+use crate::entity::Entity;
+use crate::told::Told;
+use lapd_frame::{Control, ErrorCode};
+use lapd_link_machine::{LinkTimer, State, Terms};
+
+impl Entity {
+    // A frame with so many octets of information.
+    pub(crate) fn frame_in_5(
+        &mut self,
+        terms: Terms,
+        told: &mut Told,
+        control: Control,
+        octets: usize,
+    )
+        requires { HasRoom 1 1 told.old }
+        ensures tells { Tells 1 1 told.old told.new }
+        ensures does { (info : List ℕ) → length info ≡ octets →
+            Does terms info (row.frame_in_5 terms info control) self.old told.old self.new told.new }
+    {
+        match control {
+            Control::Sabme { pf } => self.response(terms, told, Control::Ua { pf }),
+            Control::Disc { pf } => self.response(terms, told, Control::Dm { pf }),
+            Control::Ua { pf: true } => self.accepted_in_5(terms, told),
+            Control::Ua { pf: false } => told.error(terms, ErrorCode::D),
+            Control::Dm { pf: true } => self.declined_in_5(terms, told),
+            Control::Dm { pf: false } => told.leave_unserved(),
+            Control::Ui { .. } => told.unit_data(terms, octets),
+            Control::Xid { .. } => told.xid(terms),
+            Control::Information { .. } => told.leave_unserved(),
+            Control::ReceiveReady { .. } => told.leave_unserved(),
+            Control::ReceiveNotReady { .. } => told.leave_unserved(),
+            Control::Reject { .. } => told.leave_unserved(),
+            Control::Frmr { .. } => told.leave_unserved(),
+        }
+    }
+
+    // The terminal accepts the SABME.
+    fn accepted_in_5(&mut self, terms: Terms, told: &mut Told)
+        requires { HasRoom 1 0 told.old }
+        ensures tells { Tells 1 0 told.old told.new }
+        ensures does { (info : List ℕ) → Does terms info (row.frame_in_5 terms info (Ua true)) self.old told.old self.new told.new }
+    {
+        self.tell_establishment(terms, told);
+        self.zero_numbers(told);
+        self.start_timer(told, LinkTimer::T203);
+        self.enter(State::Established);
+    }
+
+    // Layer 3 is told where it asked, or where contents are lost.
+    fn tell_establishment(&mut self, terms: Terms, told: &mut Told)
+        requires { HasRoom 1 0 told.old }
+        ensures tells { Tells 1 0 told.old told.new }
+        ensures does { (info : List ℕ) → Does terms info (told_of_establishment terms) self.old told.old self.new told.new }
+    {
+        if self.asked {
+            told.establish_confirm(terms);
+        } else {
+            self.discard_outstanding(terms, told);
+        }
+    }
+
+    // The terminal declines it.
+    fn declined_in_5(&mut self, terms: Terms, told: &mut Told)
+        requires { HasRoom 1 0 told.old }
+        ensures tells { Tells 1 0 told.old told.new }
+        ensures does { (info : List ℕ) → Does terms info (row.frame_in_5 terms info (Dm true)) self.old told.old self.new told.new }
+    {
+        self.discard(told);
+        told.release_indication(terms);
+        self.no_timer(told);
+        self.enter(State::TeiAssigned);
+    }
+
+    pub(crate) fn t200_in_5(&mut self, terms: Terms, told: &mut Told)
+        requires { HasRoom 2 1 told.old }
+        ensures tells { Tells 2 1 told.old told.new }
+        ensures does { (info : List ℕ) → Does terms info (row.t200_in_5 terms) self.old told.old self.new told.new }
+    {
+        if self.repeats < terms.n200 {
+            self.command(terms, told, Control::Sabme { pf: true });
+            self.repeated();
+            self.start_timer(told, LinkTimer::T200);
+            return;
+        }
+        self.discard(told);
+        told.error(terms, ErrorCode::G);
+        told.release_indication(terms);
+        self.no_timer(told);
+        self.enter(State::TeiAssigned);
+    }
+}

@@ -1,0 +1,71 @@
+//! State 6, awaiting release: DISC was sent.
+
+ghost use Rattle.std.specs.Prelude.{◌≡◌, ℕ, List, true, length};
+ghost use Rattle.lapd_frame.specs.declared.controls.Control.TheVariants.{Ua};
+ghost use Rattle.lapd_link_machine.specs.AwaitingRelease as row;
+ghost use Rattle.lapd_link_steps.specs.Does.{Does, HasRoom, Tells};
+
+use crate::entity::Entity;
+use crate::told::Told;
+use lapd_frame::{Control, ErrorCode};
+use lapd_link_machine::{LinkTimer, State, Terms};
+
+impl Entity {
+    // A frame with so many octets of information.
+    pub(crate) fn frame_in_6(
+        &mut self,
+        terms: Terms,
+        told: &mut Told,
+        control: Control,
+        octets: usize,
+    )
+        requires { HasRoom 1 1 told.old }
+        ensures tells { Tells 1 1 told.old told.new }
+        ensures does { (info : List ℕ) → length info ≡ octets →
+            Does terms info (row.frame_in_6 terms info control) self.old told.old self.new told.new }
+    {
+        match control {
+            Control::Sabme { pf } => self.response(terms, told, Control::Dm { pf }),
+            Control::Disc { pf } => self.response(terms, told, Control::Ua { pf }),
+            Control::Ua { pf: true } => self.released_in_6(terms, told),
+            Control::Dm { pf: true } => self.released_in_6(terms, told),
+            Control::Dm { pf: false } => told.leave_unserved(),
+            Control::Ua { pf: false } => told.error(terms, ErrorCode::D),
+            Control::Ui { .. } => told.unit_data(terms, octets),
+            Control::Xid { .. } => told.xid(terms),
+            Control::Information { .. } => told.leave_unserved(),
+            Control::ReceiveReady { .. } => told.leave_unserved(),
+            Control::ReceiveNotReady { .. } => told.leave_unserved(),
+            Control::Reject { .. } => told.leave_unserved(),
+            Control::Frmr { .. } => told.leave_unserved(),
+        }
+    }
+
+    // The terminal answers the DISC.
+    fn released_in_6(&mut self, terms: Terms, told: &mut Told)
+        requires { HasRoom 1 0 told.old }
+        ensures tells { Tells 1 0 told.old told.new }
+        ensures does { (info : List ℕ) → Does terms info (row.frame_in_6 terms info (Ua true)) self.old told.old self.new told.new }
+    {
+        told.release_confirm(terms);
+        self.no_timer(told);
+        self.enter(State::TeiAssigned);
+    }
+
+    pub(crate) fn t200_in_6(&mut self, terms: Terms, told: &mut Told)
+        requires { HasRoom 2 1 told.old }
+        ensures tells { Tells 2 1 told.old told.new }
+        ensures does { (info : List ℕ) → Does terms info (row.t200_in_6 terms) self.old told.old self.new told.new }
+    {
+        if self.repeats < terms.n200 {
+            self.command(terms, told, Control::Disc { pf: true });
+            self.repeated();
+            self.start_timer(told, LinkTimer::T200);
+            return;
+        }
+        told.error(terms, ErrorCode::H);
+        told.release_confirm(terms);
+        self.no_timer(told);
+        self.enter(State::TeiAssigned);
+    }
+}

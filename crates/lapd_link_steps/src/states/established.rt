@@ -1,0 +1,109 @@
+//! State 7, multiple frame established.
+
+ghost use Rattle.std.specs.Prelude.{ℕ, Bool, List};
+ghost use Rattle.lapd_seq.specs.Circle.{IsValid};
+ghost use Rattle.lapd_seq.specs.Windows.{va_of, vs_of};
+ghost use Rattle.lapd_link_machine.specs.declared.terms.Terms.{Terms};
+ghost use Rattle.lapd_link_machine.specs.Established as row;
+ghost use Rattle.lapd_link_steps.specs.declared.entity.Entity.{Entity};
+ghost use Rattle.lapd_link_steps.specs.Does.{Does, DoesBy, HasRoom, Tells};
+ghost use Rattle.lapd_link_steps.specs.Parts.{effect_of};
+
+use crate::entity::Entity;
+use crate::states::multiple_frame::Bearer;
+use crate::told::Told;
+use lapd_frame::ErrorCode;
+use lapd_link_machine::{LinkTimer, State, Terms};
+use lapd_seq::Seq;
+
+impl Entity {
+    // What a valid N(R) does, by the frame that brought it. It is the same for a final frame and another.
+    pub(crate) fn acknowledged_in_7(&mut self, told: &mut Told, nr: Seq, by: Bearer)
+        requires { IsValid (va_of self.old.window) nr (vs_of self.old.window) }
+        ensures tells { Tells 0 0 told.old told.new }
+        ensures does { (terms : Terms) (info : List ℕ) (final : Bool) →
+            DoesBy terms info nr (effect_of (row.particulars_in_7 terms) by final) self.old told.old self.new told.new }
+    {
+        match by {
+            Bearer::Information => self.acknowledged_by_information_in_7(told, nr),
+            Bearer::Rr => self.acknowledged_by_rr_in_7(told, nr),
+            Bearer::Rnr => self.acknowledged_by_rnr_in_7(told, nr),
+            Bearer::Rej => self.acknowledged_by_rej_in_7(told, nr),
+        }
+    }
+
+    fn acknowledged_by_information_in_7(&mut self, told: &mut Told, nr: Seq)
+        requires { IsValid (va_of self.old.window) nr (vs_of self.old.window) }
+        ensures tells { Tells 0 0 told.old told.new }
+        ensures does { (terms : Terms) (info : List ℕ) →
+            DoesBy terms info nr row.acknowledged_by_information_in_7 self.old told.old self.new told.new }
+    {
+        if self.peer_busy {
+            return self.acknowledge(told, nr);
+        }
+        self.acknowledged_by_rr_in_7(told, nr);
+    }
+
+    // RR, or an I-frame while the terminal is not busy.
+    fn acknowledged_by_rr_in_7(&mut self, told: &mut Told, nr: Seq)
+        requires { IsValid (va_of self.old.window) nr (vs_of self.old.window) }
+        ensures tells { Tells 0 0 told.old told.new }
+        ensures does { (terms : Terms) (info : List ℕ) →
+            DoesBy terms info nr row.acknowledged_in_7 self.old told.old self.new told.new }
+    {
+        if self.window.names_next(nr) {
+            self.acknowledge(told, nr);
+            return self.start_timer(told, LinkTimer::T203);
+        }
+        if self.window.acknowledged_by(nr) == 0 {
+            return;
+        }
+        self.acknowledge(told, nr);
+        self.start_timer(told, LinkTimer::T200);
+    }
+
+    fn acknowledged_by_rnr_in_7(&mut self, told: &mut Told, nr: Seq)
+        requires { IsValid (va_of self.old.window) nr (vs_of self.old.window) }
+        ensures tells { Tells 0 0 told.old told.new }
+        ensures does { (terms : Terms) (info : List ℕ) →
+            DoesBy terms info nr row.acknowledged_by_rnr_in_7 self.old told.old self.new told.new }
+    {
+        self.acknowledge(told, nr);
+        self.start_timer(told, LinkTimer::T200);
+    }
+
+    fn acknowledged_by_rej_in_7(&mut self, told: &mut Told, nr: Seq)
+        requires { IsValid (va_of self.old.window) nr (vs_of self.old.window) }
+        ensures tells { Tells 0 0 told.old told.new }
+        ensures does { (terms : Terms) (info : List ℕ) →
+            DoesBy terms info nr row.acknowledged_by_rej_in_7 self.old told.old self.new told.new }
+    {
+        self.acknowledge(told, nr);
+        self.send_again_from(nr);
+        self.start_timer(told, LinkTimer::T203);
+    }
+
+    pub(crate) fn timer_in_7(&mut self, terms: Terms, told: &mut Told)
+        requires { HasRoom 0 1 told.old }
+        ensures tells { Tells 0 1 told.old told.new }
+        ensures does { (info : List ℕ) → Does terms info (row.timer_in_7 terms) self.old told.old self.new told.new }
+    {
+        self.repeats_are_0();
+        self.enquire(terms, told);
+        self.start_timer(told, LinkTimer::T200);
+        self.enter(State::TimerRecovery);
+    }
+}
+
+impl Told {
+    // A final response that no command asked for.
+    pub(crate) fn unsolicited(&mut self, terms: Terms, last: bool)
+        requires { HasRoom 1 0 self.old }
+        ensures tells { Tells 1 0 self.old self.new }
+        ensures does { (info : List ℕ) (e : Entity) → Does terms info (row.unsolicited terms last) e self.old e self.new }
+    {
+        if last {
+            self.error(terms, ErrorCode::A);
+        }
+    }
+}

@@ -1,0 +1,312 @@
+//! What states 7 and 8 have in common: multiple-frame operation.
+
+ghost use Rattle.std.specs.Prelude.{◌≡◌, ℕ, List, length};
+ghost use Rattle.lapd_link_machine.specs.Words.{by_number};
+ghost use Rattle.lapd_link_machine.specs.MultipleFrame as row;
+ghost use Rattle.lapd_link_steps.specs.Does.{Does, Adds, HasRoom, Tells};
+ghost use Rattle.lapd_link_steps.specs.Parts.{particulars, effect_of, supervised, renewed};
+
+use crate::entity::Entity;
+use crate::told::Told;
+use lapd_frame::{Control, ErrorCode};
+use lapd_link_machine::{LinkTimer, State, Terms};
+use lapd_seq::Seq;
+
+impl Told {
+    // UA, which no command asked for.
+    pub(crate) fn ua_in_7_8(&mut self, terms: Terms, pf: bool)
+        requires { HasRoom 1 0 self.old }
+        ensures tells { Tells 1 0 self.old self.new }
+        ensures does { Adds (row.ua_in_7_8 terms pf) self.old self.new }
+    {
+        if pf {
+            self.error(terms, ErrorCode::C);
+        } else {
+            self.error(terms, ErrorCode::D);
+        }
+    }
+}
+
+// A frame that brings an N(R), which has its effect by it.
+#[derive(Clone, Copy)]
+pub(crate) enum Bearer {
+    Information,
+    Rr,
+    Rnr,
+    Rej,
+}
+
+// Whether a supervisory frame is a response with F=1, which answers a command.
+fn is_final(command: bool, pf: bool) -> bool
+    ensures { result ≡ row.is_final command pf }
+{
+    !command && pf
+}
+
+impl Entity {
+    // A frame with so many octets of information, in state 8 (`recovering`) or in state 7.
+    pub(crate) fn frame_in_7_8(
+        &mut self,
+        terms: Terms,
+        told: &mut Told,
+        recovering: bool,
+        command: bool,
+        control: Control,
+        octets: usize,
+    )
+        requires { HasRoom 2 2 told.old }
+        ensures tells { Tells 2 2 told.old told.new }
+        ensures does { (info : List ℕ) → length info ≡ octets →
+            Does terms info (row.frame_in_7_8 (particulars recovering terms) terms command info control) self.old told.old self.new told.new }
+    {
+        match control {
+            Control::Information { ns, nr, pf } => {
+                if usize::from(terms.n201) < octets {
+                    return self.failed(terms, told, ErrorCode::O);
+                }
+                self.contents_in_7_8(terms, told, ns, pf);
+                self.number(terms, told, recovering, nr, Bearer::Information, false);
+            }
+            Control::ReceiveReady { nr, pf } => {
+                let last = self.supervised(terms, told, recovering, false, command, pf);
+                self.number(terms, told, recovering, nr, Bearer::Rr, last);
+            }
+            Control::ReceiveNotReady { nr, pf } => {
+                let last = self.supervised(terms, told, recovering, true, command, pf);
+                self.number(terms, told, recovering, nr, Bearer::Rnr, last);
+            }
+            Control::Reject { nr, pf } => {
+                let last = self.supervised(terms, told, recovering, false, command, pf);
+                self.number(terms, told, recovering, nr, Bearer::Rej, last);
+            }
+            Control::Sabme { pf } => self.sabme_in_7_8(terms, told, pf),
+            Control::Disc { pf } => self.disc_in_7_8(terms, told, pf),
+            Control::Ua { pf } => told.ua_in_7_8(terms, pf),
+            Control::Dm { pf: true } => self.dm_in_7_8(terms, told, recovering),
+            Control::Dm { pf: false } => self.failed(terms, told, ErrorCode::E),
+            Control::Frmr { .. } => self.failed(terms, told, ErrorCode::K),
+            Control::Ui { .. } => told.unit_data(terms, octets),
+            Control::Xid { .. } => told.xid(terms),
+        }
+    }
+
+    // A supervisory frame came, before its N(R) has its effect. Whether it is final.
+    fn supervised(
+        &mut self,
+        terms: Terms,
+        told: &mut Told,
+        recovering: bool,
+        busy: bool,
+        command: bool,
+        pf: bool,
+    ) -> bool
+        requires { HasRoom 1 1 told.old }
+        ensures tells { Tells 1 1 told.old told.new }
+        ensures last { result ≡ row.is_final command pf }
+        ensures does { (info : List ℕ) →
+            Does terms info (supervised (particulars recovering terms) terms busy command pf) self.old told.old self.new told.new }
+    {
+        let last = is_final(command, pf);
+        self.peer_busy_is(busy);
+        self.answered(terms, told, command, pf);
+        if recovering {
+            return last;
+        }
+        told.unsolicited(terms, last);
+        last
+    }
+
+    // An N(R): it is not valid, or it has its effect.
+    fn number(
+        &mut self,
+        terms: Terms,
+        told: &mut Told,
+        recovering: bool,
+        nr: Seq,
+        by: Bearer,
+        last: bool,
+    )
+        requires { HasRoom 1 1 told.old }
+        ensures tells { Tells 1 1 told.old told.new }
+        ensures does { (info : List ℕ) →
+            Does terms info (by_number terms nr (effect_of (particulars recovering terms) by last)) self.old told.old self.new told.new }
+    {
+        if !self.names(nr) {
+            return self.failed(terms, told, ErrorCode::J);
+        }
+        if recovering {
+            return self.acknowledged_in_8(told, nr, by, last);
+        }
+        self.acknowledged_in_7(told, nr, by);
+    }
+
+    // DM with F=1.
+    fn dm_in_7_8(&mut self, terms: Terms, told: &mut Told, recovering: bool)
+        requires { HasRoom 1 1 told.old }
+        ensures tells { Tells 1 1 told.old told.new }
+        ensures does { (info : List ℕ) → Does terms info (particulars recovering terms).by_dm self.old told.old self.new told.new }
+    {
+        if recovering {
+            return self.failed(terms, told, ErrorCode::B);
+        }
+        told.error(terms, ErrorCode::B);
+    }
+
+    // Layer 3 asks for the release.
+    pub(crate) fn release_in_7_8(&mut self, terms: Terms, told: &mut Told)
+        requires { HasRoom 0 1 told.old }
+        ensures tells { Tells 0 1 told.old told.new }
+        ensures does { (info : List ℕ) → Does terms info (row.release_in_7_8 terms) self.old told.old self.new told.new }
+    {
+        self.discard(told);
+        self.pending_is(false);
+        self.command(terms, told, Control::Disc { pf: true });
+        self.repeats_are_0();
+        self.start_timer(told, LinkTimer::T200);
+        self.enter(State::AwaitingRelease);
+    }
+
+    /// Layer 3 can take no more contents, in states 7 and 8.
+    pub fn set_busy_in_7_8(&mut self, terms: Terms, told: &mut Told)
+        requires { HasRoom 0 1 told.old }
+        ensures tells { Tells 0 1 told.old told.new }
+        ensures does { (info : List ℕ) → Does terms info (row.set_busy_in_7_8 terms) self.old told.old self.new told.new }
+    {
+        if self.own_busy {
+            return;
+        }
+        self.own_busy_is(true);
+        self.report_ready(terms, told);
+    }
+
+    /// Layer 3 can take contents again, in states 7 and 8.
+    pub fn clear_busy_in_7_8(&mut self, terms: Terms, told: &mut Told)
+        requires { HasRoom 0 1 told.old }
+        ensures tells { Tells 0 1 told.old told.new }
+        ensures does { (info : List ℕ) → Does terms info (row.clear_busy_in_7_8 terms) self.old told.old self.new told.new }
+    {
+        if !self.own_busy {
+            return;
+        }
+        self.own_busy_is(false);
+        self.report_ready(terms, told);
+    }
+
+    // The terminal establishes the link again.
+    pub(crate) fn sabme_in_7_8(&mut self, terms: Terms, told: &mut Told, pf: bool)
+        requires { HasRoom 2 1 told.old }
+        ensures tells { Tells 2 1 told.old told.new }
+        ensures does { (info : List ℕ) → Does terms info (row.sabme_in_7_8 terms pf) self.old told.old self.new told.new }
+    {
+        self.response(terms, told, Control::Ua { pf });
+        self.clear_flags();
+        told.error(terms, ErrorCode::F);
+        self.discard_outstanding(terms, told);
+        self.zero_numbers(told);
+        self.start_timer(told, LinkTimer::T203);
+        self.enter(State::Established);
+    }
+
+    // Where contents are outstanding, all are lost, and layer 3 is told.
+    pub(crate) fn discard_outstanding(&mut self, terms: Terms, told: &mut Told)
+        requires { HasRoom 1 0 told.old }
+        ensures tells { Tells 1 0 told.old told.new }
+        ensures does { (info : List ℕ) → Does terms info (renewed terms) self.old told.old self.new told.new }
+    {
+        if self.window.is_settled() {
+            return;
+        }
+        self.discard(told);
+        told.establish_indication(terms);
+    }
+
+    // The terminal releases the link.
+    pub(crate) fn disc_in_7_8(&mut self, terms: Terms, told: &mut Told, pf: bool)
+        requires { HasRoom 1 1 told.old }
+        ensures tells { Tells 1 1 told.old told.new }
+        ensures does { (info : List ℕ) → Does terms info (row.disc_in_7_8 terms pf) self.old told.old self.new told.new }
+    {
+        self.discard(told);
+        self.pending_is(false);
+        self.response(terms, told, Control::Ua { pf });
+        told.release_indication(terms);
+        self.no_timer(told);
+        self.enter(State::TeiAssigned);
+    }
+
+    // An error that is told, and after which the link is established again.
+    pub(crate) fn failed(&mut self, terms: Terms, told: &mut Told, code: ErrorCode)
+        requires { HasRoom 1 1 told.old }
+        ensures tells { Tells 1 1 told.old told.new }
+        ensures does { (info : List ℕ) → Does terms info (row.failed terms code) self.old told.old self.new told.new }
+    {
+        told.error(terms, code);
+        self.re_establish(terms, told);
+    }
+
+    // A command with P=1 is answered.
+    pub(crate) fn answered(&mut self, terms: Terms, told: &mut Told, command: bool, pf: bool)
+        requires { HasRoom 0 1 told.old }
+        ensures tells { Tells 0 1 told.old told.new }
+        ensures does { (info : List ℕ) → Does terms info (row.answered terms command pf) self.old told.old self.new told.new }
+    {
+        if command && pf {
+            self.answer(terms, told);
+        }
+    }
+
+    // The contents of an I-frame.
+    pub(crate) fn contents_in_7_8(&mut self, terms: Terms, told: &mut Told, ns: Seq, pf: bool)
+        requires { HasRoom 1 1 told.old }
+        ensures tells { Tells 1 1 told.old told.new }
+        ensures does { (info : List ℕ) → Does terms info (row.contents_in_7_8 terms ns pf info) self.old told.old self.new told.new }
+    {
+        if self.own_busy {
+            return self.answer_if(terms, told, pf);
+        }
+        if ns.value == self.vr.value {
+            return self.in_sequence(terms, told, pf);
+        }
+        self.out_of_sequence(terms, told, pf);
+    }
+
+    // P=1 is answered.
+    fn answer_if(&mut self, terms: Terms, told: &mut Told, pf: bool)
+        requires { HasRoom 0 1 told.old }
+        ensures tells { Tells 0 1 told.old told.new }
+        ensures does { (info : List ℕ) → Does terms info (row.dropped terms pf) self.old told.old self.new told.new }
+    {
+        if pf {
+            self.answer(terms, told);
+        }
+    }
+
+    // The next in sequence is delivered.
+    fn in_sequence(&mut self, terms: Terms, told: &mut Told, pf: bool)
+        requires { HasRoom 1 1 told.old }
+        ensures tells { Tells 1 1 told.old told.new }
+        ensures does { (info : List ℕ) → Does terms info (row.in_sequence terms pf info) self.old told.old self.new told.new }
+    {
+        self.count_received();
+        self.rejecting_is(false);
+        told.deliver(terms);
+        if pf {
+            self.answer(terms, told);
+        } else {
+            self.pending_is(true);
+        }
+    }
+
+    // Another is asked for again, once.
+    fn out_of_sequence(&mut self, terms: Terms, told: &mut Told, pf: bool)
+        requires { HasRoom 0 1 told.old }
+        ensures tells { Tells 0 1 told.old told.new }
+        ensures does { (info : List ℕ) → Does terms info (row.out_of_sequence terms pf) self.old told.old self.new told.new }
+    {
+        if self.rejecting {
+            return self.answer_if(terms, told, pf);
+        }
+        self.rejecting_is(true);
+        self.reject(terms, told, pf);
+    }
+}

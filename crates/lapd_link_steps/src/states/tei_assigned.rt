@@ -1,0 +1,65 @@
+//! State 4, TEI assigned: the link is down.
+
+ghost use Rattle.std.specs.Prelude.{◌≡◌, ℕ, List, length};
+ghost use Rattle.lapd_frame.specs.declared.controls.Control.TheVariants.{Sabme};
+ghost use Rattle.lapd_link_machine.specs.TeiAssigned as row;
+ghost use Rattle.lapd_link_steps.specs.Does.{Does, HasRoom, Tells};
+
+use crate::entity::Entity;
+use crate::told::Told;
+use lapd_frame::{Control, ErrorCode};
+use lapd_link_machine::{LinkTimer, State, Terms};
+
+impl Entity {
+    // A frame with so many octets of information.
+    pub(crate) fn frame_in_4(
+        &mut self,
+        terms: Terms,
+        told: &mut Told,
+        control: Control,
+        octets: usize,
+    )
+        requires { HasRoom 1 1 told.old }
+        ensures tells { Tells 1 1 told.old told.new }
+        ensures does { (info : List ℕ) → length info ≡ octets →
+            Does terms info (row.frame_in_4 terms info control) self.old told.old self.new told.new }
+    {
+        match control {
+            Control::Sabme { pf } => self.sabme_in_4(terms, told, pf),
+            Control::Disc { pf } => self.response(terms, told, Control::Dm { pf }),
+            Control::Ua { pf: true } => told.error(terms, ErrorCode::C),
+            Control::Ua { pf: false } => told.error(terms, ErrorCode::D),
+            Control::Ui { .. } => told.unit_data(terms, octets),
+            Control::Xid { .. } => told.xid(terms),
+            _ => told.leave_unserved(),
+        }
+    }
+
+    // The terminal establishes the link.
+    fn sabme_in_4(&mut self, terms: Terms, told: &mut Told, pf: bool)
+        requires { HasRoom 1 1 told.old }
+        ensures tells { Tells 1 1 told.old told.new }
+        ensures does { (info : List ℕ) → Does terms info (row.frame_in_4 terms info (Sabme pf)) self.old told.old self.new told.new }
+    {
+        self.response(terms, told, Control::Ua { pf });
+        self.clear_flags();
+        self.zero_numbers(told);
+        self.start_timer(told, LinkTimer::T203);
+        told.establish_indication(terms);
+        self.enter(State::Established);
+    }
+
+    /// Layer 3 asks for the establishment, in state 4.
+    pub fn establish_in_4(&mut self, terms: Terms, told: &mut Told)
+        requires { HasRoom 0 1 told.old }
+        ensures tells { Tells 0 1 told.old told.new }
+        ensures does { (info : List ℕ) → Does terms info (row.establish_in_4 terms) self.old told.old self.new told.new }
+    {
+        self.clear_flags();
+        self.command(terms, told, Control::Sabme { pf: true });
+        self.repeats_are_0();
+        self.start_timer(told, LinkTimer::T200);
+        self.asked_is(true);
+        self.enter(State::AwaitingEstablishment);
+    }
+}

@@ -1,0 +1,76 @@
+//! State 8, timer recovery: multiple-frame operation while this side asks how far the terminal has received.
+
+ghost use Rattle.std.specs.Prelude.{ℕ, List};
+ghost use Rattle.lapd_seq.specs.Circle.{IsValid};
+ghost use Rattle.lapd_seq.specs.Windows.{va_of, vs_of};
+ghost use Rattle.lapd_link_machine.specs.declared.terms.Terms.{Terms};
+ghost use Rattle.lapd_link_machine.specs.TimerRecovery as row;
+ghost use Rattle.lapd_link_steps.specs.Does.{Does, DoesBy, HasRoom, Tells};
+ghost use Rattle.lapd_link_steps.specs.Parts.{effect_of, sent_again};
+
+use crate::entity::Entity;
+use crate::states::multiple_frame::Bearer;
+use crate::told::Told;
+use lapd_frame::ErrorCode;
+use lapd_link_machine::{LinkTimer, State, Terms};
+use lapd_seq::Seq;
+
+impl Entity {
+    // What a valid N(R) does, by the frame that brought it.
+    pub(crate) fn acknowledged_in_8(&mut self, told: &mut Told, nr: Seq, by: Bearer, last: bool)
+        requires { IsValid (va_of self.old.window) nr (vs_of self.old.window) }
+        ensures tells { Tells 0 0 told.old told.new }
+        ensures does { (terms : Terms) (info : List ℕ) →
+            DoesBy terms info nr (effect_of (row.particulars_in_8 terms) by last) self.old told.old self.new told.new }
+    {
+        match by {
+            Bearer::Information => self.acknowledge(told, nr),
+            Bearer::Rr => self.acknowledged_by_supervisory_in_8(told, nr, last, LinkTimer::T203),
+            Bearer::Rnr => self.acknowledged_by_supervisory_in_8(told, nr, last, LinkTimer::T200),
+            Bearer::Rej => self.acknowledged_by_supervisory_in_8(told, nr, last, LinkTimer::T203),
+        }
+    }
+
+    // A final frame answers the enquiry.
+    fn acknowledged_by_supervisory_in_8(
+        &mut self,
+        told: &mut Told,
+        nr: Seq,
+        last: bool,
+        timer: LinkTimer,
+    )
+        requires { IsValid (va_of self.old.window) nr (vs_of self.old.window) }
+        ensures tells { Tells 0 0 told.old told.new }
+        ensures does { (terms : Terms) (info : List ℕ) →
+            DoesBy terms info nr (row.acknowledged_in_8 timer last) self.old told.old self.new told.new }
+    {
+        self.acknowledge(told, nr);
+        if last {
+            self.recovered(told, nr, timer);
+        }
+    }
+
+    // What was not received is sent again.
+    fn recovered(&mut self, told: &mut Told, nr: Seq, timer: LinkTimer)
+        requires { IsValid (va_of self.old.window) nr (vs_of self.old.window) }
+        ensures tells { Tells 0 0 told.old told.new }
+        ensures does { (terms : Terms) (info : List ℕ) → DoesBy terms info nr (sent_again timer) self.old told.old self.new told.new }
+    {
+        self.send_again_from(nr);
+        self.start_timer(told, timer);
+        self.enter(State::Established);
+    }
+
+    pub(crate) fn t200_in_8(&mut self, terms: Terms, told: &mut Told)
+        requires { HasRoom 1 1 told.old }
+        ensures tells { Tells 1 1 told.old told.new }
+        ensures does { (info : List ℕ) → Does terms info (row.t200_in_8 terms) self.old told.old self.new told.new }
+    {
+        if self.repeats < terms.n200 {
+            self.enquire(terms, told);
+            self.repeated();
+            return self.start_timer(told, LinkTimer::T200);
+        }
+        self.failed(terms, told, ErrorCode::I);
+    }
+}

@@ -1,0 +1,57 @@
+//! Timers that expire.
+
+ghost use Rattle.std.specs.Prelude.{◌≡◌, ℕ, List};
+ghost use Rattle.lapd_link_machine.specs.Told.{runs};
+ghost use Rattle.lapd_link_machine.specs.Machine.{expired_step, expire_running};
+ghost use Rattle.lapd_link_steps.specs.Does.{Does, HasRoom, Tells};
+
+use crate::entity::Entity;
+use crate::told::Told;
+use lapd_link_machine::{LinkTimer, State, Terms};
+
+/// Whether the one that runs, or the one that was started, is this timer.
+pub fn is_the(timer: LinkTimer, other: Option<LinkTimer>) -> bool
+    ensures { result ≡ runs timer other }
+{
+    match (other, timer) {
+        (Some(LinkTimer::T200), LinkTimer::T200) => true,
+        (Some(LinkTimer::T203), LinkTimer::T203) => true,
+        _ => false,
+    }
+}
+
+impl Entity {
+    /// A timer expires. One that does not run changes nothing.
+    pub fn expire(&mut self, terms: Terms, told: &mut Told, timer: LinkTimer)
+        requires { HasRoom 2 2 told.old }
+        ensures tells { Tells 2 2 told.old told.new }
+        ensures does { (info : List ℕ) → Does terms info (expired_step terms timer) self.old told.old self.new told.new }
+    {
+        if self.runs(timer) {
+            self.expire_running(terms, told, timer);
+        }
+    }
+
+    // Whether the timer runs.
+    pub(crate) fn runs(&self, timer: LinkTimer) -> bool
+        ensures { result ≡ runs timer self.now.running }
+    {
+        is_the(timer, self.running)
+    }
+
+    fn expire_running(&mut self, terms: Terms, told: &mut Told, timer: LinkTimer)
+        requires { HasRoom 2 2 told.old }
+        ensures tells { Tells 2 2 told.old told.new }
+        ensures does { (info : List ℕ) → Does terms info (expire_running timer terms) self.old told.old self.new told.new }
+    {
+        match (self.state, timer) {
+            (State::AwaitingEstablishment, LinkTimer::T200) => self.t200_in_5(terms, told),
+            (State::AwaitingRelease, LinkTimer::T200) => self.t200_in_6(terms, told),
+            (State::Established, _) => self.timer_in_7(terms, told),
+            (State::TimerRecovery, LinkTimer::T200) => self.t200_in_8(terms, told),
+            // In state 4 no timer runs, and T203 runs in state 7 alone.
+            (State::TeiAssigned, _) => {}
+            (_, LinkTimer::T203) => {}
+        }
+    }
+}

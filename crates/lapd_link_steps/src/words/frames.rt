@@ -1,0 +1,126 @@
+//! Control frames, which wait to be sent.
+
+ghost use Rattle.std.specs.Prelude.{◌≡◌, ℕ, List};
+ghost use Rattle.lapd_seq.specs.Numbers.{seq};
+ghost use Rattle.lapd_link_machine.specs.Words as word;
+ghost use Rattle.lapd_link_steps.specs.Past.{Past, link_of};
+ghost use Rattle.lapd_link_steps.specs.Does.{Does, HasRoom, Tells};
+
+use crate::entity::Entity;
+use crate::told::Told;
+use lapd_frame::Control;
+use lapd_link_machine::{ControlFrame, LinkTimer, State, Terms};
+
+impl Entity {
+    // Puts a frame into the ring. Where the ring is full, it is lost.
+    pub(crate) fn send(&mut self, terms: Terms, told: &mut Told, frame: ControlFrame)
+        requires { HasRoom 0 1 told.old }
+        ensures tells { Tells 0 1 told.old told.new }
+        ensures repeats { self.new.repeats ≡ self.old.repeats }
+        ensures does { (info : List ℕ) → Does terms info (word.send terms frame) self.old told.old self.new told.new }
+    {
+        if self.waiting.try_push_back(frame).is_err() {
+            told.lost += 1;
+        }
+    }
+
+    pub(crate) fn command(&mut self, terms: Terms, told: &mut Told, control: Control)
+        requires { HasRoom 0 1 told.old }
+        ensures tells { Tells 0 1 told.old told.new }
+        ensures repeats { self.new.repeats ≡ self.old.repeats }
+        ensures does { (info : List ℕ) → Does terms info (word.send terms (word.command control)) self.old told.old self.new told.new }
+    {
+        self.send(
+            terms,
+            told,
+            ControlFrame {
+                command: true,
+                control,
+            },
+        );
+    }
+
+    pub(crate) fn response(&mut self, terms: Terms, told: &mut Told, control: Control)
+        requires { HasRoom 0 1 told.old }
+        ensures tells { Tells 0 1 told.old told.new }
+        ensures does { (info : List ℕ) → Does terms info (word.send terms (word.response control)) self.old told.old self.new told.new }
+    {
+        self.send(
+            terms,
+            told,
+            ControlFrame {
+                command: false,
+                control,
+            },
+        );
+    }
+
+    // RR, or RNR where own busy is on.
+    fn ready_to_receive(&self, pf: bool) -> Control
+        ensures { (p : Past) → self.now.vr ≡ seq p.r → result ≡ word.ready_to_receive pf (link_of self.now p) }
+    {
+        if self.own_busy {
+            Control::ReceiveNotReady { nr: self.vr, pf }
+        } else {
+            Control::ReceiveReady { nr: self.vr, pf }
+        }
+    }
+
+    // Asks for the terminal's state.
+    pub(crate) fn enquire(&mut self, terms: Terms, told: &mut Told)
+        requires { HasRoom 0 1 told.old }
+        ensures tells { Tells 0 1 told.old told.new }
+        ensures repeats { self.new.repeats ≡ self.old.repeats }
+        ensures does { (info : List ℕ) → Does terms info (word.enquire terms) self.old told.old self.new told.new }
+    {
+        let ready = self.ready_to_receive(true);
+        self.command(terms, told, ready);
+        self.pending_is(false);
+    }
+
+    // Answers a command with P.
+    pub(crate) fn answer(&mut self, terms: Terms, told: &mut Told)
+        requires { HasRoom 0 1 told.old }
+        ensures tells { Tells 0 1 told.old told.new }
+        ensures does { (info : List ℕ) → Does terms info (word.answer terms) self.old told.old self.new told.new }
+    {
+        let ready = self.ready_to_receive(true);
+        self.response(terms, told, ready);
+        self.pending_is(false);
+    }
+
+    // Reports, unasked, whether own busy is on.
+    pub(crate) fn report_ready(&mut self, terms: Terms, told: &mut Told)
+        requires { HasRoom 0 1 told.old }
+        ensures tells { Tells 0 1 told.old told.new }
+        ensures does { (info : List ℕ) → Does terms info (word.report_ready terms) self.old told.old self.new told.new }
+    {
+        let ready = self.ready_to_receive(false);
+        self.response(terms, told, ready);
+        self.pending_is(false);
+    }
+
+    // Asks for the I-frames from V(R) on again.
+    pub(crate) fn reject(&mut self, terms: Terms, told: &mut Told, pf: bool)
+        requires { HasRoom 0 1 told.old }
+        ensures tells { Tells 0 1 told.old told.new }
+        ensures does { (info : List ℕ) → Does terms info (word.reject terms pf) self.old told.old self.new told.new }
+    {
+        self.response(terms, told, Control::Reject { nr: self.vr, pf });
+        self.pending_is(false);
+    }
+
+    // Begins the establishment again.
+    pub(crate) fn re_establish(&mut self, terms: Terms, told: &mut Told)
+        requires { HasRoom 0 1 told.old }
+        ensures tells { Tells 0 1 told.old told.new }
+        ensures does { (info : List ℕ) → Does terms info (word.re_establish terms) self.old told.old self.new told.new }
+    {
+        self.clear_flags();
+        self.command(terms, told, Control::Sabme { pf: true });
+        self.repeats_are_0();
+        self.start_timer(told, LinkTimer::T200);
+        self.asked_is(false);
+        self.enter(State::AwaitingEstablishment);
+    }
+}

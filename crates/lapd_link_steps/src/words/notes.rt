@@ -1,0 +1,110 @@
+//! What is told.
+
+ghost use Rattle.std.specs.Prelude.{◌≡◌, ℕ, List, length};
+ghost use Rattle.lapd_link_machine.specs.Words as word;
+ghost use Rattle.lapd_link_steps.specs.declared.entity.Entity.{Entity};
+ghost use Rattle.lapd_link_steps.specs.Does.{Does, Adds, HasRoom, Tells};
+
+use crate::told::Told;
+use lapd_frame::{ErrorCode, Note};
+use lapd_link_machine::Terms;
+
+impl Told {
+    pub(crate) fn note(&mut self, note: Note)
+        requires { HasRoom 1 0 self.old }
+        ensures tells { Tells 1 0 self.old self.new }
+        ensures does { Adds (word.note note) self.old self.new }
+    {
+        self.notes.push(note);
+    }
+
+    pub(crate) fn establish_indication(&mut self, terms: Terms)
+        requires { HasRoom 1 0 self.old }
+        ensures tells { Tells 1 0 self.old self.new }
+        ensures does { Adds (word.establish_indication terms) self.old self.new }
+    {
+        self.note(Note::EstablishIndication(terms.service, terms.tei));
+    }
+
+    pub(crate) fn establish_confirm(&mut self, terms: Terms)
+        requires { HasRoom 1 0 self.old }
+        ensures tells { Tells 1 0 self.old self.new }
+        ensures does { Adds (word.establish_confirm terms) self.old self.new }
+    {
+        self.note(Note::EstablishConfirm(terms.service, terms.tei));
+    }
+
+    pub(crate) fn release_indication(&mut self, terms: Terms)
+        requires { HasRoom 1 0 self.old }
+        ensures tells { Tells 1 0 self.old self.new }
+        ensures does { Adds (word.release_indication terms) self.old self.new }
+    {
+        self.note(Note::ReleaseIndication(terms.service, terms.tei));
+    }
+
+    pub(crate) fn release_confirm(&mut self, terms: Terms)
+        requires { HasRoom 1 0 self.old }
+        ensures tells { Tells 1 0 self.old self.new }
+        ensures does { Adds (word.release_confirm terms) self.old self.new }
+    {
+        self.note(Note::ReleaseConfirm(terms.service, terms.tei));
+    }
+
+    pub(crate) fn error(&mut self, terms: Terms, code: ErrorCode)
+        requires { HasRoom 1 0 self.old }
+        ensures tells { Tells 1 0 self.old self.new }
+        ensures does { Adds (word.error terms code) self.old self.new }
+    {
+        self.note(Note::Error(terms.service, terms.tei, code));
+    }
+
+    // The information of an I-frame is delivered.
+    pub(crate) fn deliver(&mut self, terms: Terms)
+        requires { HasRoom 1 0 self.old }
+        ensures tells { Tells 1 0 self.old self.new }
+        ensures does { (info : List ℕ) (e : Entity) → Does terms info (word.deliver terms info) e self.old e self.new }
+    {
+        self.notes.push(Note::Data(terms.service, terms.tei));
+        self.delivered = true;
+    }
+
+    // That of a UI frame is told.
+    pub(crate) fn deliver_unit(&mut self, terms: Terms)
+        requires { HasRoom 1 0 self.old }
+        ensures tells { Tells 1 0 self.old self.new }
+        ensures does { (info : List ℕ) (e : Entity) → Does terms info (word.deliver_unit terms info) e self.old e self.new }
+    {
+        self.notes.push(Note::Unit(terms.service, terms.tei));
+        self.unit = true;
+    }
+
+    // The state does not serve the frame.
+    pub(crate) fn leave_unserved(&mut self)
+        ensures tells { Tells 0 0 self.old self.new }
+        ensures does { Adds word.leave_unserved self.old self.new }
+    {
+        self.unserved = true;
+    }
+
+    // UI in any state: unit data, where it is not too long.
+    pub(crate) fn unit_data(&mut self, terms: Terms, octets: usize)
+        requires { HasRoom 1 0 self.old }
+        ensures tells { Tells 1 0 self.old self.new }
+        ensures does { (info : List ℕ) (e : Entity) → length info ≡ octets →
+            Does terms info (word.unit_data terms info) e self.old e self.new }
+    {
+        if usize::from(terms.n201) < octets {
+            return self.leave_unserved();
+        }
+        self.deliver_unit(terms);
+    }
+
+    // XID in any state: it is told, and not answered.
+    pub(crate) fn xid(&mut self, terms: Terms)
+        requires { HasRoom 1 0 self.old }
+        ensures tells { Tells 1 0 self.old self.new }
+        ensures does { Adds (word.xid terms) self.old self.new }
+    {
+        self.note(Note::Xid(terms.service, terms.tei));
+    }
+}

@@ -1,0 +1,30 @@
+//! Timers, of which one at most runs.
+
+ghost use Rattle.std.specs.Prelude.{ℕ, List};
+ghost use Rattle.lapd_link_machine.specs.declared.terms.Terms.{Terms};
+ghost use Rattle.lapd_link_machine.specs.Words as word;
+ghost use Rattle.lapd_link_steps.specs.Does.{Does, Tells};
+
+use crate::entity::Entity;
+use crate::told::Told;
+use lapd_link_machine::LinkTimer;
+
+impl Entity {
+    // Starts a timer, or starts it anew; the other is stopped.
+    pub(crate) fn start_timer(&mut self, told: &mut Told, timer: LinkTimer)
+        ensures tells { Tells 0 0 told.old told.new }
+        ensures does { (terms : Terms) (info : List ℕ) → Does terms info (word.start timer) self.old told.old self.new told.new }
+    {
+        self.running = Some(timer);
+        told.started = Some(timer);
+    }
+
+    // Stops both timers.
+    pub(crate) fn no_timer(&mut self, told: &mut Told)
+        ensures tells { Tells 0 0 told.old told.new }
+        ensures does { (terms : Terms) (info : List ℕ) → Does terms info word.no_timer self.old told.old self.new told.new }
+    {
+        self.running = None;
+        told.started = None;
+    }
+}

@@ -1,0 +1,8 @@
+-- What the numbers of C mean.
+pub mod Statuses
+pub mod Services
+pub mod Config
+pub mod Timers
+pub mod Notes
+pub mod Requests
+pub mod Reports

@@ -1,0 +1,31 @@
+//! The card's types as C sees them, and the way there and back: `include/lapd.h` declares the same structs.
+//!
+//! A C program gives a configuration, timers and requests as numbers, and reads notes, orders, causes and refusals as
+//! numbers from a report of its own. What stands here are those structs, with what each number means (`specs/`), and
+//! nothing of a card: the library for C joins both.
+//!
+//! - `statuses`: what a call answers: refusals, wrong calls, fields of a configuration.
+//! - `config`: the configuration.
+//! - `timers`: timers and orders, there and back.
+//! - `requests`: what is asked of a line, from numbers.
+//! - `notes`: notes, and why something was dropped.
+//! - `reports`: the report of an event.
+#![tactic(auto)]
+
+mod config;
+mod notes;
+mod reports;
+mod requests;
+mod statuses;
+mod timers;
+
+pub use config::PlainConfig;
+pub use notes::{PlainNote, cause_number};
+pub use reports::PlainReport;
+pub use requests::request_in;
+pub use statuses::{
+    NO_CARD, NO_CLOCK, NO_MEMORY, NO_PLACE, NO_TIMER, OK, SECOND_START, WRONG_LENGTH, WRONG_LINE,
+    WRONG_ORDER, WRONG_REQUEST, WRONG_SERVICE, WRONG_TEI, WRONG_TIME, WRONG_TIMER, field_status,
+    refusal_status, service_in,
+};
+pub use timers::{PlainDue, PlainOrder, PlainTimer, link_in};

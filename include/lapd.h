@@ -1,0 +1,470 @@
+/*
+ * lapd.h: a line card that ends ISDN D-channels, network side (ITU-T Q.921, modulo 128), for C99 and C++.
+ *
+ * A card takes the octets of its lines and answers with notes for layer 3, orders for timers, and octets to send. It
+ * has no callbacks, starts no thread, prints nothing, sets no errno, and takes memory in lapd_card_start and
+ * lapd_clock_start alone. Link with liblapd.a, and with three functions of memory: rattle_alloc, rattle_dealloc and
+ * rattle_realloc (docs/EMBEDDING.md).
+ *
+ * What the caller promises, and no call can test:
+ *
+ *  - Each pointer is valid for what it points to, and none is null, also where a length is 0.
+ *  - A length is the true number of octets behind its pointer.
+ *  - What two arguments of a call point to does not overlap, and neither overlaps what a card or a clock holds.
+ *  - A card or a clock is used by one call at a time; other cards and clocks may be used meanwhile. What starts and
+ *    frees do at the same time, the three functions of memory must bear (malloc's do, heap.c's do not).
+ *  - It begins as LAPD_CARD_NONE or LAPD_CLOCK_NONE, no copy of it is used, and its fields are left alone.
+ *
+ * Everything else is tested: each function says by its status what was wrong, and then nothing has changed, neither
+ * the card or clock nor what is behind the other pointers (but for LAPD_NO_PLACE of lapd_clock_apply_report). Where
+ * several things are wrong, the first is told: that there is no card or clock, the line, the other arguments in their
+ * order; a refusal of a request is told last.
+ */
+#ifndef LAPD_H
+#define LAPD_H
+
+#include <stdbool.h>
+#include <stddef.h>
+#include <stdint.h>
+
+#ifdef __cplusplus
+extern "C" {
+#endif
+
+/* ---- Statuses: what a function answers -------------------------------------------------------------------------- */
+
+enum {
+    LAPD_OK = 0, /* the call did what it says */
+
+    /* A request was refused: the first of these that holds. Nothing has changed. */
+    LAPD_REFUSED_BAD_TEI = 1,       /* the TEI is over 126 (for unit data over 127) */
+    LAPD_REFUSED_NO_LINK = 2,       /* the TEI is not on the line (not for assign, nor for unit data to 127) */
+    LAPD_REFUSED_WRONG_STATE = 3,   /* the state of the link does not serve the request */
+    LAPD_REFUSED_TOO_LONG = 4,      /* the contents are longer than n201 */
+    LAPD_REFUSED_QUEUE_FULL = 5,    /* the link's queue is full, or the line's queue of unit data */
+    LAPD_REFUSED_POOL_FULL = 6,     /* as many contents wait on the card as it has slots */
+    LAPD_REFUSED_TEI_TAKEN = 7,     /* the TEI is on the line already */
+    LAPD_REFUSED_TABLE_FULL = 8,    /* the line has as many TEIs as it may have */
+    LAPD_REFUSED_CHECK_RUNNING = 9, /* an identity check is running on the line */
+    LAPD_REFUSED_CONTROL_FULL = 10, /* no room for one more message of TEI management */
+
+    /* A wrong call. Nothing has changed. */
+    LAPD_NO_CARD = 11,       /* no card is there: it was not started, or was freed */
+    LAPD_NO_CLOCK = 12,      /* no clock is there */
+    LAPD_SECOND_START = 13,  /* a card or a clock is there already */
+    LAPD_WRONG_LINE = 14,    /* the card, or the clock, has no such line */
+    LAPD_WRONG_SERVICE = 15, /* neither LAPD_CALL nor LAPD_PACKET */
+    LAPD_WRONG_TEI = 16,     /* a TEI over 126 */
+    LAPD_WRONG_TIMER = 17,   /* none of LAPD_T200, LAPD_T203 and LAPD_T201 */
+    LAPD_WRONG_REQUEST = 18, /* none of the requests */
+    LAPD_WRONG_LENGTH = 19,  /* contents of a request that has none; or an exchange of two lengths, or beyond them */
+    LAPD_WRONG_ORDER = 20,   /* an order is none, or a report's number of orders is over 4 */
+    LAPD_WRONG_TIME = 21,    /* a moment after LAPD_LATEST */
+
+    /* What else can be. */
+    LAPD_NO_MEMORY = 22, /* a start was refused memory; what it had taken is given back */
+    LAPD_NO_TIMER = 23,  /* no timer is due, or none runs */
+    LAPD_NO_PLACE = 24,  /* no place for one more timer of the line; tests see none where a card alone orders */
+
+    /* A field of the configuration is out of range: the first, in their order. */
+    LAPD_BAD_LINES = 33,
+    LAPD_BAD_TERMINALS = 34,
+    LAPD_BAD_K = 35,
+    LAPD_BAD_K16 = 36,
+    LAPD_BAD_QUEUE = 37,
+    LAPD_BAD_UNIT_QUEUE = 38,
+    LAPD_BAD_CONTROL = 39,
+    LAPD_BAD_SLOTS = 40,
+    LAPD_BAD_N201 = 41,
+    LAPD_BAD_N200 = 42
+};
+
+/* ---- The configuration of a card -------------------------------------------------------------------------------- */
+
+/* How large a card is, and the limits of its lines and links. */
+typedef struct lapd_config {
+    uint16_t lines;      /* lines: 1 to 64 */
+    uint16_t terminals;  /* TEIs on each line at most: 1 to 8 */
+    uint16_t k;          /* the window of call control links: 1 to 127 (clause 5.9.5) */
+    uint16_t k16;        /* the window of packet links: 1 to 127 */
+    uint16_t queue;      /* contents that wait on each link, sent or unsent: the greater of k and k16, to 127 */
+    uint16_t unit_queue; /* unit data that wait on each line: 1 to 16 */
+    uint16_t control;    /* control frames that wait on each link: 2 to 16 */
+    uint16_t slots;      /* contents that wait on the whole card: 1 to 8192 */
+    uint16_t n201;       /* octets of an information field at most: 8 to 260 (clause 5.9.3) */
+    uint16_t n200;       /* how often a command is repeated: 0 to 10 (clause 5.9.2) */
+} lapd_config;
+
+/* ---- What is told ----------------------------------------------------------------------------------------------- */
+
+enum {
+    LAPD_CALL = 0,   /* the service of SAPI 0: call control */
+    LAPD_PACKET = 16 /* the service of SAPI 16: packet mode */
+};
+
+enum {
+    LAPD_GROUP_TEI = 127,   /* the TEI of all terminals of a line, for unit data */
+    LAPD_MOST_NOTES = 4,    /* no event tells more notes */
+    LAPD_MOST_ORDERS = 4,   /* nor gives more orders */
+    LAPD_MOST_OCTETS = 260, /* no configuration allows longer contents */
+    LAPD_MOST_LINES = 64    /* no card has more lines */
+};
+
+/* What a note says. Those of a link name its service and TEI. */
+enum {
+    LAPD_ESTABLISH_INDICATION = 1, /* the link is up without a request; contents not acknowledged are lost */
+    LAPD_ESTABLISH_CONFIRM = 2,    /* the link is up, as was asked for */
+    LAPD_RELEASE_INDICATION = 3,   /* the link is down without a request */
+    LAPD_RELEASE_CONFIRM = 4,      /* the link is down, as was asked for */
+    LAPD_DATA_INDICATION = 5,      /* the report's contents came in an I-frame, in order */
+    LAPD_UNIT_INDICATION = 6,      /* the report's contents came in a UI frame */
+    LAPD_ERROR_INDICATION = 7,     /* an error, for layer management; its letter is in the note */
+    LAPD_ASSIGNED = 8,             /* TEI management gave the TEI to a terminal that asked for one */
+    LAPD_REMOVED = 9,              /* no terminal has the TEI any more: it left the line */
+    LAPD_DOUBLED = 10,             /* two terminals had the TEI: it left the line */
+    LAPD_XID_INDICATION = 11       /* an XID frame came; it is not answered */
+};
+
+/* A note for layer 3 or management. */
+typedef struct lapd_note {
+    uint8_t note;    /* LAPD_ESTABLISH_INDICATION to LAPD_XID_INDICATION */
+    uint8_t service; /* LAPD_CALL or LAPD_PACKET; LAPD_CALL for assigned, removed and doubled, which are of both */
+    uint8_t tei;     /* the TEI that it is about */
+    uint8_t error;   /* of LAPD_ERROR_INDICATION: the letter, 'A' to 'O' without 'M'; else 0 */
+} lapd_note;
+
+enum {
+    LAPD_T200 = 1, /* an answer or an acknowledgement is awaited; 1,000 ms on a lapd_clock (clause 5.9.1) */
+    LAPD_T203 = 2, /* the longest time without frames; 10,000 ms (clause 5.9.8) */
+    LAPD_T201 = 3  /* responses to an identity check are awaited; 1,000 ms (clause 5.9.6) */
+};
+
+/* A timer of a line. */
+typedef struct lapd_timer {
+    uint8_t timer;   /* LAPD_T200, LAPD_T203 or LAPD_T201 */
+    uint8_t service; /* of the link, for T200 and T203; told as 0 for T201, and not read then */
+    uint8_t tei;     /* of the link, for T200 and T203: 0 to 126; told as 0 for T201, and not read then */
+} lapd_timer;
+
+enum {
+    LAPD_START = 1, /* start the timer; where it runs, anew */
+    LAPD_STOP = 2   /* stop the timer, which ran */
+};
+
+/* What is to be done with a timer. */
+typedef struct lapd_order {
+    uint8_t order; /* LAPD_START or LAPD_STOP */
+    lapd_timer timer;
+} lapd_order;
+
+/* Why a frame, or what stood for one, was dropped: the first that holds. */
+enum {
+    LAPD_ABORT = 1,     /* seven contiguous 1s gave up what stood since the latest flag (clause 2.10) */
+    LAPD_RAGGED = 2,    /* not what a sender makes of whole octets (clauses 2.6 and 2.9) */
+    LAPD_SHORT = 3,     /* too short for a frame (clause 2.9) */
+    LAPD_FCS = 4,       /* the frame check tells of an error (clause 2.7) */
+    LAPD_EXTENSION = 5, /* the address is not one of two octets (clauses 2.9 and 3.3.1) */
+    LAPD_SAPI = 6,      /* the SAPI is none of 0, 16 and 63 */
+    LAPD_TEI = 7,       /* the TEI is not on the line; for SAPI 63: is not 127 */
+    LAPD_UNSERVED = 8   /* a good frame for a known address that is not served */
+};
+
+/*
+ * What an event led to: notes, then why something was dropped, then orders. Each call that succeeds tells all of one
+ * event: the numbers of notes and orders, cause, lost, begun, delivered and length are always those of this event;
+ * behind the numbers, and behind length, the arrays may hold what earlier events told.
+ */
+typedef struct lapd_report {
+    uint8_t note_count;  /* 0 to 4 */
+    uint8_t order_count; /* 0 to 4 */
+    uint8_t cause;       /* 0, or LAPD_ABORT to LAPD_UNSERVED */
+    uint8_t lost;        /* so many frames to send found no room to wait, and are lost as if on the line */
+    uint8_t begun;       /* of a pull: 1 where it began a frame that waited; else 0 */
+    uint8_t delivered;   /* 1 where contents were delivered, of `length` octets; else 0, and length is 0 */
+    uint16_t length;     /* octets of contents, at most the card's n201 */
+    lapd_note notes[LAPD_MOST_NOTES];
+    lapd_order orders[LAPD_MOST_ORDERS];
+    uint8_t contents[LAPD_MOST_OCTETS];
+} lapd_report;
+
+/* ---- A card ----------------------------------------------------------------------------------------------------- */
+
+/* A card, or none: `lapd_card card = LAPD_CARD_NONE;` (so does zeroed memory). */
+typedef struct lapd_card {
+    bool started;
+    void *at;
+} lapd_card;
+
+#define LAPD_CARD_NONE { false, 0 }
+
+/* Starts a card on which no TEI is on any line. Takes memory, as the only call on a card. LAPD_SECOND_START, the first
+ * bad field (LAPD_BAD_LINES to LAPD_BAD_N200) or LAPD_NO_MEMORY: there is no other card than before. */
+uint32_t lapd_card_start(lapd_card *card, const lapd_config *config);
+
+/* Ends a card and gives back all memory that its start took. LAPD_NO_CARD: nothing happens. */
+uint32_t lapd_card_free(lapd_card *card);
+
+/* Takes an octet that came from a line, bit 1 (the low bit) first. */
+uint32_t lapd_octet(lapd_card *card, uint32_t line, uint8_t octet, lapd_report *report);
+
+/* Gives the next octet of a line to send, bit 1 first: of a frame where one waits or is on its way, else of flags. */
+uint32_t lapd_pull(lapd_card *card, uint32_t line, uint8_t *octet, lapd_report *report);
+
+/* A timer of a line expired. One that does not run has no effect, and nothing is told. */
+uint32_t lapd_expire(lapd_card *card, uint32_t line, const lapd_timer *timer, lapd_report *report);
+
+enum {
+    LAPD_ESTABLISH = 1, /* establish the link (DL-ESTABLISH request, clause 4.1.1.1) */
+    LAPD_RELEASE = 2,   /* release the link (DL-RELEASE request, clause 4.1.1.2) */
+    LAPD_DATA = 3,      /* send contents on the link, acknowledged (DL-DATA request, clause 4.1.1.3) */
+    LAPD_UNIT = 4,      /* send contents without acknowledgement (DL-UNIT DATA request, clause 4.1.1.4) */
+    LAPD_ASSIGN = 5,    /* put the TEI on the line (MDL-ASSIGN request, clause 4.1.1.5) */
+    LAPD_REMOVE = 6,    /* take the TEI from the line (MDL-REMOVE request, clause 4.1.1.6) */
+    LAPD_CHECK = 7,     /* ask which terminals have the TEI (clause 5.3.3.2) */
+    LAPD_BUSY = 8,      /* take no I-frames on the link for now (clause 5.6.6) */
+    LAPD_READY = 9      /* take I-frames again */
+};
+
+/* Asks for something at a line; the contents are copied. LAPD_REFUSED_BAD_TEI to LAPD_REFUSED_CONTROL_FULL where it is
+ * refused. The service is LAPD_CALL or LAPD_PACKET in each, though assign, remove and check are about both; the length
+ * is 0 but for LAPD_DATA and LAPD_UNIT. */
+uint32_t lapd_request(lapd_card *card, uint32_t line, uint8_t request, uint8_t service, uint8_t tei,
+                      const uint8_t *contents, size_t length, lapd_report *report);
+
+/*
+ * Takes and gives octets in turn: step 2i takes in[i], step 2i+1 gives out[i]. Goes on from step *steps, up to and with
+ * the first step that has something to tell (a note, an order, a cause, a frame lost, contents, a frame begun), or to
+ * the end; *steps is then the next step, and the report is that of this step, or tells nothing where no step had
+ * anything to tell. LAPD_WRONG_LENGTH: the two lengths differ, or *steps is beyond twice the length. For a step that
+ * has nothing to tell no report is written.
+ *
+ *     for (size_t steps = 0; steps < 2 * n;) {
+ *         lapd_exchange(&card, line, in, n, out, n, &steps, &report);
+ *         ... what the report tells ...
+ *     }
+ */
+uint32_t lapd_exchange(lapd_card *card, uint32_t line, const uint8_t *in, size_t in_length, uint8_t *out,
+                       size_t out_length, size_t *steps, lapd_report *report);
+
+/* The state of the link of a service with this TEI, by its number in Q.921: 4 (TEI assigned), 5 (awaiting
+ * establishment), 6 (awaiting release), 7 (multiple frame established), 8 (timer recovery); 0 where the TEI is not on
+ * the line. */
+uint32_t lapd_state(lapd_card *card, uint32_t line, uint8_t service, uint8_t tei, uint8_t *state);
+
+/* How many octets the card stores now, of frames, messages and contents; at most lapd_limit's. */
+uint32_t lapd_stored(lapd_card *card, uint32_t *octets);
+
+/* How many octets the card stores at most, which its configuration alone says. */
+uint32_t lapd_limit(lapd_card *card, uint32_t *octets);
+
+/* How many lines the card has. */
+uint32_t lapd_lines(lapd_card *card, uint32_t *lines);
+
+/* ---- A clock ---------------------------------------------------------------------------------------------------- */
+
+/* Keeps the timers of all lines of a card, for a caller that has none of its own. It reads no time: each moment is a
+ * number that the caller hands in, in milliseconds from any origin. */
+typedef struct lapd_clock {
+    bool started;
+    void *at;
+} lapd_clock;
+
+#define LAPD_CLOCK_NONE { false, 0 }
+
+/* The latest moment that a timer may be ordered at: 2^63 ms. */
+#define LAPD_LATEST ((uint64_t)1 << 63)
+
+/* A timer that fell due. */
+typedef struct lapd_due {
+    uint32_t line;
+    lapd_timer timer;
+} lapd_due;
+
+/* Starts a clock on which no timer runs, for a card of this configuration. Takes memory, as the only call on a clock.
+ * LAPD_SECOND_START, the first bad field or LAPD_NO_MEMORY: there is no other clock than before. */
+uint32_t lapd_clock_start(lapd_clock *clock, const lapd_config *config);
+
+/* Ends a clock and gives back all memory that its start took. LAPD_NO_CLOCK: nothing happens. */
+uint32_t lapd_clock_free(lapd_clock *clock);
+
+/* Carries out one order for a timer of a line at a moment. LAPD_NO_PLACE: the line has no place for the timer, and
+ * nothing has changed. */
+uint32_t lapd_clock_apply(lapd_clock *clock, uint32_t line, const lapd_order *order, uint64_t now);
+
+/* Carries out all orders of a report, in order, at a moment: to be called with each report whose order_count is not 0.
+ * LAPD_NO_PLACE: at least one found no place; the others were carried out. */
+uint32_t lapd_clock_apply_report(lapd_clock *clock, uint32_t line, const lapd_report *report, uint64_t now);
+
+/* Takes out the timer that falls due first, where its moment is not after `now`; hand it to lapd_expire. At one moment:
+ * by line, then T200 before T203 before T201, by TEI, and call control before packet. LAPD_NO_TIMER: none is due. */
+uint32_t lapd_clock_due(lapd_clock *clock, uint64_t now, lapd_due *due);
+
+/* The moment of the timer that falls due first, due or not. LAPD_NO_TIMER: none runs. */
+uint32_t lapd_clock_next(lapd_clock *clock, uint64_t *moment);
+
+#ifdef __cplusplus
+}
+#endif
+
+/* ---- In words and by name: defined here ------------------------------------------------------------------------- */
+
+/* Whether a report has anything to tell. */
+static inline bool lapd_tells(const lapd_report *report) {
+    return report->note_count != 0 || report->order_count != 0 || report->cause != 0 || report->lost != 0
+           || report->begun != 0 || report->delivered != 0;
+}
+
+/* A block of memory in a heap: rounded up to 16 octets, and 16 octets for what the heap notes of it. */
+static inline uint64_t lapd_block_octets(uint64_t octets) {
+    return (octets + 15) / 16 * 16 + 16;
+}
+
+/* So many octets of memory are enough for the start of a card whose configuration is in range, by blocks as above. This
+ * is no promise of the proofs: tests start cards in so many, on a target with 8 octets a pointer. */
+static inline uint64_t lapd_card_octets(const lapd_config *config) {
+    uint64_t links = 2 * (uint64_t)config->terminals;
+    uint64_t link = lapd_block_octets(16 * (uint64_t)config->control) + lapd_block_octets(8 * (uint64_t)config->queue);
+    uint64_t line = lapd_block_octets(config->n201 + 6u) + lapd_block_octets(config->n201 + 6u)
+                    + lapd_block_octets(192 * links) + links * link
+                    + lapd_block_octets(16 * (uint64_t)config->unit_queue) + lapd_block_octets(128)
+                    + lapd_block_octets(16 * (uint64_t)config->terminals);
+    return lapd_block_octets(256) + lapd_block_octets(640 * (uint64_t)config->lines) + config->lines * line
+           + lapd_block_octets(2 * (uint64_t)config->slots) + lapd_block_octets((uint64_t)config->slots * config->n201);
+}
+
+/* The same of a clock. */
+static inline uint64_t lapd_clock_octets(const lapd_config *config) {
+    uint64_t places = 4 * (uint64_t)config->terminals + 1;
+    return lapd_block_octets(64) + lapd_block_octets(32 * (uint64_t)config->lines)
+           + config->lines * lapd_block_octets(24 * places);
+}
+
+/* Asks for the link (DL-ESTABLISH request). */
+static inline uint32_t lapd_establish(lapd_card *card, uint32_t line, uint8_t service, uint8_t tei,
+                                      lapd_report *report) {
+    return lapd_request(card, line, LAPD_ESTABLISH, service, tei, (const uint8_t *)"", 0, report);
+}
+
+/* Releases the link (DL-RELEASE request). */
+static inline uint32_t lapd_release(lapd_card *card, uint32_t line, uint8_t service, uint8_t tei,
+                                    lapd_report *report) {
+    return lapd_request(card, line, LAPD_RELEASE, service, tei, (const uint8_t *)"", 0, report);
+}
+
+/* Contents for the link, acknowledged (DL-DATA request). Without contents the pointer may be null. */
+static inline uint32_t lapd_data(lapd_card *card, uint32_t line, uint8_t service, uint8_t tei,
+                                 const uint8_t *contents, size_t length, lapd_report *report) {
+    return lapd_request(card, line, LAPD_DATA, service, tei, length != 0 ? contents : (const uint8_t *)"", length,
+                        report);
+}
+
+/* Contents without acknowledgement (DL-UNIT DATA request); LAPD_GROUP_TEI is all terminals of the line. */
+static inline uint32_t lapd_unit(lapd_card *card, uint32_t line, uint8_t service, uint8_t tei,
+                                 const uint8_t *contents, size_t length, lapd_report *report) {
+    return lapd_request(card, line, LAPD_UNIT, service, tei, length != 0 ? contents : (const uint8_t *)"", length,
+                        report);
+}
+
+/* Puts the TEI on the line (MDL-ASSIGN request). */
+static inline uint32_t lapd_assign(lapd_card *card, uint32_t line, uint8_t tei, lapd_report *report) {
+    return lapd_request(card, line, LAPD_ASSIGN, LAPD_CALL, tei, (const uint8_t *)"", 0, report);
+}
+
+/* Takes the TEI from the line (MDL-REMOVE request). */
+static inline uint32_t lapd_remove(lapd_card *card, uint32_t line, uint8_t tei, lapd_report *report) {
+    return lapd_request(card, line, LAPD_REMOVE, LAPD_CALL, tei, (const uint8_t *)"", 0, report);
+}
+
+/* Asks the terminals of the line who has the TEI. */
+static inline uint32_t lapd_check(lapd_card *card, uint32_t line, uint8_t tei, lapd_report *report) {
+    return lapd_request(card, line, LAPD_CHECK, LAPD_CALL, tei, (const uint8_t *)"", 0, report);
+}
+
+/* Layer 3 can take no data of the link for now. */
+static inline uint32_t lapd_busy(lapd_card *card, uint32_t line, uint8_t service, uint8_t tei, lapd_report *report) {
+    return lapd_request(card, line, LAPD_BUSY, service, tei, (const uint8_t *)"", 0, report);
+}
+
+/* It can again. */
+static inline uint32_t lapd_ready(lapd_card *card, uint32_t line, uint8_t service, uint8_t tei, lapd_report *report) {
+    return lapd_request(card, line, LAPD_READY, service, tei, (const uint8_t *)"", 0, report);
+}
+
+/* A status in words: a refusal by its name in docs/FORMAT.md. */
+static inline const char *lapd_status_text(uint32_t status) {
+    switch (status) {
+    case LAPD_OK: return "ok";
+    case LAPD_REFUSED_BAD_TEI: return "bad-tei";
+    case LAPD_REFUSED_NO_LINK: return "no-link";
+    case LAPD_REFUSED_WRONG_STATE: return "wrong-state";
+    case LAPD_REFUSED_TOO_LONG: return "too-long";
+    case LAPD_REFUSED_QUEUE_FULL: return "queue-full";
+    case LAPD_REFUSED_POOL_FULL: return "pool-full";
+    case LAPD_REFUSED_TEI_TAKEN: return "tei-taken";
+    case LAPD_REFUSED_TABLE_FULL: return "table-full";
+    case LAPD_REFUSED_CHECK_RUNNING: return "check-running";
+    case LAPD_REFUSED_CONTROL_FULL: return "control-full";
+    case LAPD_NO_CARD: return "no card";
+    case LAPD_NO_CLOCK: return "no clock";
+    case LAPD_SECOND_START: return "second start";
+    case LAPD_WRONG_LINE: return "wrong line";
+    case LAPD_WRONG_SERVICE: return "wrong service";
+    case LAPD_WRONG_TEI: return "wrong TEI";
+    case LAPD_WRONG_TIMER: return "wrong timer";
+    case LAPD_WRONG_REQUEST: return "wrong request";
+    case LAPD_WRONG_LENGTH: return "wrong length";
+    case LAPD_WRONG_ORDER: return "wrong order";
+    case LAPD_WRONG_TIME: return "wrong time";
+    case LAPD_NO_MEMORY: return "out of memory";
+    case LAPD_NO_TIMER: return "no timer";
+    case LAPD_NO_PLACE: return "no place";
+    case LAPD_BAD_LINES: return "lines is out of range";
+    case LAPD_BAD_TERMINALS: return "terminals is out of range";
+    case LAPD_BAD_K: return "k is out of range";
+    case LAPD_BAD_K16: return "k16 is out of range";
+    case LAPD_BAD_QUEUE: return "queue is out of range";
+    case LAPD_BAD_UNIT_QUEUE: return "unit_queue is out of range";
+    case LAPD_BAD_CONTROL: return "control is out of range";
+    case LAPD_BAD_SLOTS: return "slots is out of range";
+    case LAPD_BAD_N201: return "n201 is out of range";
+    case LAPD_BAD_N200: return "n200 is out of range";
+    default: return "unknown status";
+    }
+}
+
+/* A note in words: its name in docs/FORMAT.md, with -16 for a packet link. */
+static inline const char *lapd_note_text(const lapd_note *note) {
+    bool packet = note->service == LAPD_PACKET;
+    switch (note->note) {
+    case LAPD_ESTABLISH_INDICATION: return packet ? "establish-indication-16" : "establish-indication";
+    case LAPD_ESTABLISH_CONFIRM: return packet ? "establish-confirm-16" : "establish-confirm";
+    case LAPD_RELEASE_INDICATION: return packet ? "release-indication-16" : "release-indication";
+    case LAPD_RELEASE_CONFIRM: return packet ? "release-confirm-16" : "release-confirm";
+    case LAPD_DATA_INDICATION: return packet ? "data-16" : "data";
+    case LAPD_UNIT_INDICATION: return packet ? "unit-16" : "unit";
+    case LAPD_ERROR_INDICATION: return packet ? "error-16" : "error";
+    case LAPD_ASSIGNED: return "assigned";
+    case LAPD_REMOVED: return "removed";
+    case LAPD_DOUBLED: return "doubled";
+    case LAPD_XID_INDICATION: return packet ? "xid-16" : "xid";
+    default: return "unknown note";
+    }
+}
+
+/* A cause in words: its name in docs/FORMAT.md. */
+static inline const char *lapd_cause_text(uint8_t cause) {
+    switch (cause) {
+    case 0: return "none";
+    case LAPD_ABORT: return "abort";
+    case LAPD_RAGGED: return "ragged";
+    case LAPD_SHORT: return "short";
+    case LAPD_FCS: return "fcs";
+    case LAPD_EXTENSION: return "extension";
+    case LAPD_SAPI: return "sapi";
+    case LAPD_TEI: return "tei";
+    case LAPD_UNSERVED: return "unserved";
+    default: return "unknown cause";
+    }
+}
+
+#endif

@@ -1,0 +1,36 @@
+/*
+ * layout.c: where the fields of lapd.h's structs lie. The library's structs are #[repr(C)] with the same fields in the
+ * same order (crates/lapd_plain, crates/lapd_c); these are the numbers that such a layout has on x86-64.
+ */
+#include <stddef.h>
+
+#include "lapd.h"
+
+#define AT(type, field, place) _Static_assert(offsetof(type, field) == (place), #type "." #field)
+#define OCTETS(type, size) _Static_assert(sizeof(type) == (size), #type)
+
+OCTETS(lapd_config, 20);
+AT(lapd_config, k16, 6);
+AT(lapd_config, slots, 14);
+AT(lapd_config, n200, 18);
+OCTETS(lapd_note, 4);
+AT(lapd_note, error, 3);
+OCTETS(lapd_timer, 3);
+OCTETS(lapd_order, 4);
+AT(lapd_order, timer, 1);
+OCTETS(lapd_report, 300);
+AT(lapd_report, order_count, 1);
+AT(lapd_report, cause, 2);
+AT(lapd_report, lost, 3);
+AT(lapd_report, begun, 4);
+AT(lapd_report, delivered, 5);
+AT(lapd_report, length, 6);
+AT(lapd_report, notes, 8);
+AT(lapd_report, orders, 24);
+AT(lapd_report, contents, 40);
+OCTETS(lapd_card, 16);
+AT(lapd_card, at, 8);
+OCTETS(lapd_clock, 16);
+AT(lapd_clock, at, 8);
+OCTETS(lapd_due, 8);
+AT(lapd_due, timer, 4);

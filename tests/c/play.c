@@ -1,0 +1,223 @@
+/*
+ * play.c: plays a script of docs/FORMAT.md through the C library, and writes its transcript, as `lapdsim run` does.
+ * For tests alone.
+ *
+ *     play < SCRIPT
+ *
+ * Status 0; 1 for a faulty line or refused memory, told on standard error; 2 for words.
+ */
+#include <stdio.h>
+#include <stdlib.h>
+#include <string.h>
+
+#include "hdlc.h"
+#include "lapd.h"
+#include "words.h"
+
+/* A card with its clock, and at each line a terminal that sends and a listener that hears. */
+typedef struct {
+    lapd_card card;
+    lapd_clock clock;
+    uint64_t now;
+    hdlc_sender senders[LAPD_MOST_LINES];
+    hdlc_listener listeners[LAPD_MOST_LINES];
+} bench;
+
+static void put_octets(const uint8_t *octets, size_t length) {
+    for (size_t i = 0; i < length; i++)
+        printf("%02X", octets[i]);
+    puts(length == 0 ? "-" : "");
+}
+
+static void put_note(uint32_t line, const lapd_note *note, const lapd_report *report) {
+    printf("%u %s %u", line, lapd_note_text(note), note->tei);
+    if (note->note == LAPD_DATA_INDICATION || note->note == LAPD_UNIT_INDICATION) {
+        putchar(' ');
+        put_octets(report->contents, report->length);
+    } else if (note->note == LAPD_ERROR_INDICATION) {
+        printf(" %c\n", note->error);
+    } else {
+        putchar('\n');
+    }
+}
+
+/* Writes what an event told, and hands its orders to the clock. */
+static void tell(bench *b, uint32_t line, const lapd_report *report) {
+    for (int i = 0; i < report->note_count; i++)
+        put_note(line, &report->notes[i], report);
+    if (report->cause != 0)
+        printf("%u dropped %s\n", line, lapd_cause_text(report->cause));
+    if (report->lost != 0)
+        printf("%u lost %u\n", line, report->lost);
+    uint32_t status = lapd_clock_apply_report(&b->clock, line, report, b->now);
+    if (status != LAPD_OK) {
+        fprintf(stderr, "play: orders of the card: %s\n", lapd_status_text(status));
+        exit(3);
+    }
+}
+
+/* A call that can't fail here did: the library is wrong, or this program. */
+static void want_ok(uint32_t status, const char *call) {
+    if (status == LAPD_OK)
+        return;
+    fprintf(stderr, "play: %s: %s\n", call, lapd_status_text(status));
+    exit(3);
+}
+
+static fault start(bench *b, const uint32_t *n) {
+    lapd_config config = {.lines = (uint16_t)n[0], .terminals = (uint16_t)n[1], .k = (uint16_t)n[2],
+                          .k16 = (uint16_t)n[9], .queue = (uint16_t)n[3], .unit_queue = (uint16_t)n[4],
+                          .control = (uint16_t)n[5], .slots = (uint16_t)n[6], .n201 = (uint16_t)n[7],
+                          .n200 = (uint16_t)n[8]};
+    uint32_t status = lapd_card_start(&b->card, &config);
+    if (status == LAPD_OK)
+        status = lapd_clock_start(&b->clock, &config);
+    if (status >= LAPD_BAD_LINES)
+        return BAD_CARD;
+    if (status == LAPD_NO_MEMORY)
+        return NO_MEMORY;
+    want_ok(status, "start");
+    for (uint32_t line = 0; line < n[0]; line++) {
+        hdlc_begin(&b->senders[line]);
+        hdlc_listen(&b->listeners[line]);
+    }
+    return NO_FAULT;
+}
+
+static void receive(bench *b, uint32_t line, uint8_t octet) {
+    static lapd_report report;
+    want_ok(lapd_octet(&b->card, line, octet, &report), "octet");
+    tell(b, line, &report);
+}
+
+/* The terminal's frame, up to and with the last bit of its closing flag. */
+static void send(bench *b, uint32_t line, const command *c) {
+    hdlc_sender *sender = &b->senders[line];
+    while (hdlc_busy(sender))
+        receive(b, line, hdlc_octet(sender));
+    hdlc_load(sender, c->octets, c->length);
+    for (size_t left = hdlc_left(sender), given = 0; given < left; given += 8)
+        receive(b, line, hdlc_octet(sender));
+}
+
+static void pull(bench *b, uint32_t line, uint32_t count) {
+    static lapd_report report;
+    static uint8_t octets[4096];
+    for (uint32_t i = 0; i < count; i++) {
+        want_ok(lapd_pull(&b->card, line, &octets[i], &report), "pull");
+        tell(b, line, &report);
+    }
+    printf("%u tx ", line);
+    put_octets(octets, count);
+    hdlc_listener *listener = &b->listeners[line];
+    for (uint32_t i = 0; i < count; i++)
+        if (hdlc_hear(listener, octets[i])) {
+            printf("%u frame ", line);
+            put_octets(listener->frame, listener->length);
+        }
+}
+
+static fault wait(bench *b, uint32_t ms) {
+    static lapd_report report;
+    if (b->now > INT64_MAX - (uint64_t)ms)
+        return TIME_OVER;
+    uint64_t end = b->now + ms, moment;
+    while (lapd_clock_next(&b->clock, &moment) == LAPD_OK && moment <= end) {
+        lapd_due due;
+        b->now = moment;
+        want_ok(lapd_clock_due(&b->clock, moment, &due), "due");
+        want_ok(lapd_expire(&b->card, due.line, &due.timer, &report), "expire");
+        tell(b, due.line, &report);
+    }
+    b->now = end;
+    return NO_FAULT;
+}
+
+static void ask(bench *b, uint32_t line, const command *c) {
+    static lapd_report report;
+    uint32_t status = lapd_request(&b->card, line, c->request, c->service, (uint8_t)c->numbers[1], c->octets,
+                                   c->length, &report);
+    if (LAPD_REFUSED_BAD_TEI <= status && status <= LAPD_REFUSED_CONTROL_FULL) {
+        printf("%u refused %s\n", line, lapd_status_text(status));
+        return;
+    }
+    want_ok(status, "request");
+    tell(b, line, &report);
+}
+
+static void show_stored(bench *b) {
+    uint32_t stored, limit;
+    want_ok(lapd_stored(&b->card, &stored), "stored");
+    want_ok(lapd_limit(&b->card, &limit), "limit");
+    printf("stored %u limit %u\n", stored, limit);
+}
+
+/* A line that is about one line of the card, or about all. */
+static fault obey(bench *b, const command *c) {
+    uint32_t lines, line = c->numbers[0];
+    if (c->verb == CARD)
+        return b->card.started ? SECOND_CARD : start(b, c->numbers);
+    if (lapd_lines(&b->card, &lines) != LAPD_OK)
+        return NO_CARD;
+    if (c->verb == WAIT)
+        return wait(b, c->numbers[0]);
+    if (c->verb == STORED) {
+        show_stored(b);
+        return NO_FAULT;
+    }
+    if (line >= lines)
+        return BAD_LINE;
+    if (c->verb == IN && (c->length < 3 || c->length > HDLC_MOST_OCTETS))
+        return BAD_FRAME;
+    if (c->verb == IN)
+        send(b, line, c);
+    else if (c->verb == PULL)
+        pull(b, line, c->numbers[1]);
+    else if (c->verb == REQUEST)
+        ask(b, line, c);
+    else
+        for (size_t i = 0; i < c->length; i++)
+            receive(b, line, c->octets[i]);
+    return NO_FAULT;
+}
+
+/* Reads a line up to its line feed or the end. Answers false where nothing is left. */
+static bool next_line(char *line, size_t *length) {
+    int c = getchar();
+    if (c == EOF)
+        return false;
+    for (*length = 0; c != EOF && c != '\n'; c = getchar())
+        if ((*length)++ < MOST_LINE)
+            line[*length - 1] = (char)c;
+    return true;
+}
+
+int main(int words, char **argv) {
+    static bench b = {LAPD_CARD_NONE, LAPD_CLOCK_NONE, 0, {{{0}, 0, 0}}, {{{0}, 0, 0, 0, false, {0}, 0}}};
+    static char line[MOST_LINE];
+    static command c;
+    if (words != 1) {
+        fprintf(stderr, "usage: %s < SCRIPT\n", argv[0]);
+        return 2;
+    }
+    fault kind = NO_FAULT;
+    size_t length, number = 0;
+    while (kind == NO_FAULT && next_line(line, &length)) {
+        number++;
+        if (length > MOST_LINE)
+            kind = TOO_LONG;
+        else if (length > 0 && line[0] != '#')
+            kind = read_command(line, length, &c);
+        else
+            continue;
+        if (kind == NO_FAULT)
+            kind = obey(&b, &c);
+    }
+    lapd_card_free(&b.card);
+    lapd_clock_free(&b.clock);
+    if (kind == NO_MEMORY)
+        fprintf(stderr, "%s\n", fault_text(kind));
+    else if (kind != NO_FAULT)
+        fprintf(stderr, "line %zu: %s\n", number, fault_text(kind));
+    return kind != NO_FAULT;
+}

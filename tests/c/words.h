@@ -1,0 +1,44 @@
+/* A script's lines as words, numbers and octets: the language of docs/FORMAT.md. For tests alone. */
+#ifndef WORDS_H
+#define WORDS_H
+
+#include <stdbool.h>
+#include <stddef.h>
+#include <stdint.h>
+
+enum { MOST_LINE = 4096, MOST_WORDS = 12 };
+
+/* What a line can be faulty in, in the order in which it is told. */
+typedef enum {
+    NO_FAULT,
+    TOO_LONG,
+    UNKNOWN_WORD,
+    BAD_NUMBER_OF_WORDS,
+    BAD_NUMBER,
+    BAD_OCTETS,
+    NO_CARD,
+    SECOND_CARD,
+    BAD_CARD,
+    BAD_LINE,
+    BAD_FRAME,
+    TIME_OVER,
+    NO_MEMORY
+} fault;
+
+const char *fault_text(fault kind);
+
+typedef enum { CARD, RX, IN, PULL, WAIT, STORED, REQUEST } verb;
+
+/* A line that was read: what it says, before a card is asked. */
+typedef struct {
+    verb verb;
+    uint8_t request, service; /* of a REQUEST */
+    uint32_t numbers[10];     /* of a card its ten; else the line, then what follows it */
+    uint8_t octets[MOST_LINE / 2];
+    size_t length;
+} command;
+
+/* Reads a line without its line feed. */
+fault read_command(const char *line, size_t length, command *read);
+
+#endif

@@ -1,0 +1,69 @@
+"""Scripts, as docs/FORMAT.md has them. The program judges a line; this reads those that it can take apart."""
+import re
+import sys
+from typing import Iterator, List, NamedTuple, Optional, Tuple
+
+from .program import Fault
+
+LONGEST_LINE = 4096
+LONGEST_WAIT = 3_600_000
+OCTETS = re.compile(rb"(rx|in) ([0-9]+) (-|(?:[0-9A-Fa-f]{2})*)")
+WAIT = re.compile(rb"wait ([0-9]+)")
+
+
+class Line(NamedTuple):
+    """A line of a script."""
+
+    number: int
+    text: bytes
+
+    def words(self) -> List[str]:
+        return self.text.decode("latin-1").split(" ")
+
+    def word(self) -> str:
+        return self.words()[0]
+
+    def is_comment(self) -> bool:
+        return self.text.startswith(b"#")
+
+    def is_skipped(self) -> bool:
+        return self.text == b"" or self.is_comment()
+
+    def about(self) -> Optional[int]:
+        """The line of the card that it is about, if it is about one."""
+        words = self.words()
+        is_card_wide = self.is_skipped() or words[0] in ("card", "wait", "stored")
+        return None if is_card_wide or len(words) < 2 or not words[1].isdigit() else int(words[1])
+
+    def brings(self) -> Optional[Tuple[str, int, bytes]]:
+        """Of `rx` and `in` the word, the line of the card and the octets."""
+        found = OCTETS.fullmatch(self.text) if len(self.text) <= LONGEST_LINE else None
+        if not found:
+            return None
+        octets = b"" if found[3] == b"-" else bytes.fromhex(found[3].decode())
+        return found[1].decode(), int(found[2]), octets
+
+    def waits(self) -> Optional[int]:
+        """Of `wait` the milliseconds."""
+        found = WAIT.fullmatch(self.text) if len(self.text) <= LONGEST_LINE else None
+        ms = int(found[1]) if found else LONGEST_WAIT + 1
+        return ms if ms <= LONGEST_WAIT else None
+
+
+def read(path: str) -> bytes:
+    """The script at a path, or from standard input where it is `-`."""
+    try:
+        if path == "-":
+            return sys.stdin.buffer.read()
+        with open(path, "rb") as it:
+            return it.read()
+    except OSError as error:
+        raise Fault(f"{path}: {error.strerror}") from None
+
+
+def lines_of(script: bytes) -> Iterator[Line]:
+    """The lines of a script, each ended by a line feed, which the last may lack."""
+    lines = script.split(b"\n")
+    if not lines[-1]:
+        lines.pop()
+    return (Line(number, text) for number, text in enumerate(lines, 1))

@@ -10,7 +10,7 @@ use Rattle.lapd_link_machine.specs.declared.terms.Terms.{Terms}
 use Rattle.lapd_link_machine.specs.Link as machine
 use Rattle.lapd_link_machine.specs.Events.{Request, requested}
 use Rattle.lapd_link_machine.specs.Steps.{Course, begun}
-use Rattle.lapd_link_machine.specs.MultipleFrame.{transfer_in_7_8}
+use Rattle.lapd_link_machine.specs.MultipleFrame.{data_in_7_8}
 use Rattle.lapd_link_machine.specs.Requests.{serves, refusal, refusal_for_room, granted}
 use Rattle.lapd_link_machine.specs.Machine.{course}
 use Rattle.lapd_link_steps.specs.declared.entity.Entity.{Entity}
@@ -35,7 +35,7 @@ granted-course t r pool_is_full m none =
     ap (λ (o : Option Refusal). elim o as (λ _. Course) [ None ↦ granted t r (begun m) | Some _ ↦ begun m ]) (sym none)
 
 -- contents that were put on the shelf and at the end of the queue
-pub transferred : {link : Link} {store : Store} {others : List Owned} {m : machine.Link} {none : Told} (octets : List ℕ) → Stands link store others m → length link.queue.slots < link.queue.capacity → IsNothing none → Agrees (terms_of link) [] (machine.queue_of m ++ octets ∷ []) (transfer_in_7_8 octets (begun m)) link.entity none
+pub transferred : {link : Link} {store : Store} {others : List Owned} {m : machine.Link} {none : Told} (octets : List ℕ) → Stands link store others m → length link.queue.slots < link.queue.capacity → IsNothing none → Agrees (terms_of link) [] (machine.queue_of m ++ octets ∷ []) (data_in_7_8 octets (begun m)) link.entity none
 transferred {m = m} octets s place nothing =
     record {
       fits =
@@ -48,7 +48,7 @@ transferred {m = m} octets s place nothing =
                 ∙ sym (drop-append-le m.a m.contents (octets ∷ []) (omega (arith, s.fits.sound.ordered, s.fits.sound.accepted)));
             few = omega (arith, length-append (machine.queue_of m) (octets ∷ []), s.kept.lengths, place, s.fits.capacity, s.fits.range.queue_high);
           };
-      is = ap (λ (c : Course). transfer_in_7_8 octets c) (begun-resting [] s.fits.rests nothing);
+      is = ap (λ (c : Course). data_in_7_8 octets c) (begun-resting [] s.fits.rests nothing);
     }
 
 -- what was done of a request that is granted, before it settles
@@ -76,7 +76,7 @@ by_contents {old} {link} {others = others} {m} {none} octets s place nothing kep
   messages = machine.queue_of m ++ octets.now ∷ [];
   kept = kept (machine.queue_of m) others s.kept;
   agrees =
-      subst (λ (t : Terms). Agrees t [] (machine.queue_of m ++ octets.now ∷ []) (transfer_in_7_8 octets.now (begun m)) link.entity none) (sym stays.terms)
-      (subst (λ (e : Entity). Agrees (terms_of old) [] (machine.queue_of m ++ octets.now ∷ []) (transfer_in_7_8 octets.now (begun m)) e none) (sym entity)
+      subst (λ (t : Terms). Agrees t [] (machine.queue_of m ++ octets.now ∷ []) (data_in_7_8 octets.now (begun m)) link.entity none) (sym stays.terms)
+      (subst (λ (e : Entity). Agrees (terms_of old) [] (machine.queue_of m ++ octets.now ∷ []) (data_in_7_8 octets.now (begun m)) e none) (sym entity)
       (transferred octets.now s place nothing));
 }

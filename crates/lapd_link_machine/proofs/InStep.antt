@@ -94,7 +94,7 @@ module _ (before : Option LinkTimer) where
   pub send_again_comes : (m : ℕ) → Leads Coming (Words.send_again_from m) Coming
   send_again_comes m = record { leads = λ c h. h }
 
-  pub transfer_comes : (octets : List ℕ) → Leads Coming (MultipleFrame.transfer_in_7_8 octets) Coming
+  pub transfer_comes : (octets : List ℕ) → Leads Coming (MultipleFrame.data_in_7_8 octets) Coming
   transfer_comes octets = record { leads = λ c h. h }
 
   pub sent_one_comes : Leads Coming (changed Offers.with_one_sent) Coming

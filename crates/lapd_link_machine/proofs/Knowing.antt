@@ -143,7 +143,7 @@ module _ (up : Bool) where
     pub send_again_knows : (m : ℕ) → Leads (At here) (Words.send_again_from m) (At here)
     send_again_knows m = record { leads = λ c h. h }
 
-    pub transfer_knows : (octets : List ℕ) → Leads (At here) (MultipleFrame.transfer_in_7_8 octets) (At here)
+    pub transfer_knows : (octets : List ℕ) → Leads (At here) (MultipleFrame.data_in_7_8 octets) (At here)
     transfer_knows octets = record { leads = λ c h. h }
 
     pub sent_one_knows : Leads (At here) (changed Offers.with_one_sent) (At here)

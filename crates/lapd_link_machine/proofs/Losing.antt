@@ -103,7 +103,7 @@ module _ (p : Frames) where
   send_again_loses : (m : ℕ) → Leads (Losing p) (Words.send_again_from m) (Losing p)
   send_again_loses m = record { leads = λ c h. h }
 
-  transfer_loses : (octets : List ℕ) → Leads (Losing p) (MultipleFrame.transfer_in_7_8 octets) (Losing p)
+  transfer_loses : (octets : List ℕ) → Leads (Losing p) (MultipleFrame.data_in_7_8 octets) (Losing p)
   transfer_loses octets = record { leads = λ c h. h }
 
   sent_one_loses : Leads (Losing p) (changed Offers.with_one_sent) (Losing p)

@@ -106,7 +106,7 @@ module _ (own : Terms) where
   reject_own : (t : Terms) (f : Bool) → Leads (Own own) (Words.reject t f) (Own own)
   reject_own t f = record { leads = λ c h. h }
 
-  transfer_own : (octets : List ℕ) → Leads (Own own) (MultipleFrame.transfer_in_7_8 octets) (Own own)
+  transfer_own : (octets : List ℕ) → Leads (Own own) (MultipleFrame.data_in_7_8 octets) (Own own)
   transfer_own octets = record { leads = λ c h. h }
 
   -- notes of the link

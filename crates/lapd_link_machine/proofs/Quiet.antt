@@ -87,7 +87,7 @@ acknowledge_quiet m = record { leads = λ c h. h }
 send_again_quiet : (m : ℕ) → Leads Quiet (Words.send_again_from m) Quiet
 send_again_quiet m = record { leads = λ c h. h }
 
-transfer_quiet : (octets : List ℕ) → Leads Quiet (MultipleFrame.transfer_in_7_8 octets) Quiet
+transfer_quiet : (octets : List ℕ) → Leads Quiet (MultipleFrame.data_in_7_8 octets) Quiet
 transfer_quiet octets = record { leads = λ c h. h }
 
 sent_one_quiet : Leads Quiet (changed Offers.with_one_sent) Quiet

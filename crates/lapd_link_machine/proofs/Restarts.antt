@@ -94,7 +94,7 @@ acknowledge_on m = record { leads = λ c h. h }
 send_again_on : (m : ℕ) → Leads On (Words.send_again_from m) On
 send_again_on m = record { leads = λ c h. h }
 
-transfer_on : (octets : List ℕ) → Leads On (MultipleFrame.transfer_in_7_8 octets) On
+transfer_on : (octets : List ℕ) → Leads On (MultipleFrame.data_in_7_8 octets) On
 transfer_on octets = record { leads = λ c h. h }
 
 sent_one_on : Leads On (changed Offers.with_one_sent) On

@@ -13,7 +13,7 @@ use Rattle.lapd_link_machine.specs.declared.timers.LinkTimer.TheVariants.{T200, 
 use Rattle.lapd_link_machine.specs.declared.terms.Terms.{Terms}
 use Rattle.lapd_link_machine.specs.Link.{Link, queue_of}
 use Rattle.lapd_link_machine.specs.Events
-use Rattle.lapd_link_machine.specs.MultipleFrame.{transfer_in_7_8}
+use Rattle.lapd_link_machine.specs.MultipleFrame.{data_in_7_8}
 use Rattle.lapd_link_machine.specs.Rises.{grows}
 use Rattle.lapd_link_machine.specs.Sound.{IsSound, IsWaitingFrame}
 use Rattle.lapd_link_machine.specs.Steps.{Course, begun}
@@ -190,7 +190,7 @@ one-more t octets l h =
     omega arith
 
 by-refusal : (t : Terms) (octets : List ℕ) (l : Link) (o : Option Refusal) → IsSound t l
-    → length (queue_of (elim o as (λ o. Course) [ None ↦ transfer_in_7_8 octets (begun l) | Some _ ↦ begun l ]).link) ≤ length (queue_of l) + cond {A = ℕ} (is_some o) 0 1
+    → length (queue_of (elim o as (λ o. Course) [ None ↦ data_in_7_8 octets (begun l) | Some _ ↦ begun l ]).link) ≤ length (queue_of l) + cond {A = ℕ} (is_some o) 0 1
 by-refusal t octets l None h = one-more t octets l h
 by-refusal t octets l (Some w) h = omega arith
 

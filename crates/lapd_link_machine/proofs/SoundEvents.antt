@@ -19,7 +19,7 @@ use Rattle.lapd_link_machine.specs.Events
 use Rattle.lapd_link_machine.specs.Sound.{IsInRange, IsSettledIn, IsSound, IsWaitingFrame}
 use Rattle.lapd_link_machine.specs.Steps.{Course, begun, Step, ◌then◌, changed}
 use Rattle.lapd_link_machine.specs.Words
-use Rattle.lapd_link_machine.specs.MultipleFrame.{transfer_in_7_8}
+use Rattle.lapd_link_machine.specs.MultipleFrame.{data_in_7_8}
 use Rattle.lapd_link_machine.specs.Requests
 use Rattle.lapd_link_machine.specs.Offers
 use Rattle.lapd_link_machine.specs.Machine
@@ -213,7 +213,7 @@ with-room t full octets l e =
 
 module _ (t : Terms) (r : t.tei ≤ 126) where
   transferring : (octets : List ℕ) (c : Course) → Bound t settled c → IsTrue (is_multiple_frame c.link.state)
-      → length octets ≤ t.n201 → length (drop c.link.a c.link.contents) < t.queue → Bound t settled (transfer_in_7_8 octets c)
+      → length octets ≤ t.n201 → length (drop c.link.a c.link.contents) < t.queue → Bound t settled (data_in_7_8 octets c)
   transferring octets c h m small free =
       let all : c.link.s ≤ length c.link.contents = h.bounded.accepted in
       let low : c.link.a ≤ c.link.s = h.bounded.ordered in

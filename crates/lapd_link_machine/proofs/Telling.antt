@@ -115,7 +115,7 @@ module _ (total : ℕ) (p : Notes) where
   pub reject_tells : (t : Terms) (f : Bool) → Leads (Telling total p) (Words.reject t f) (Telling total p)
   reject_tells t f = record { leads = λ c h. h }
 
-  pub transfer_tells : (octets : List ℕ) → Leads (Telling total p) (MultipleFrame.transfer_in_7_8 octets) (Telling total p)
+  pub transfer_tells : (octets : List ℕ) → Leads (Telling total p) (MultipleFrame.data_in_7_8 octets) (Telling total p)
   transfer_tells octets = record { leads = λ c h. h }
 
   -- a note that is not of data, and one that is

@@ -98,7 +98,7 @@ module _ (here : State) where
   pub count_timed : Leads (At here) (Words.count_received) (At here)
   count_timed = record { leads = λ c h. h }
 
-  pub transfer_timed : (octets : List ℕ) → Leads (At here) (MultipleFrame.transfer_in_7_8 octets) (At here)
+  pub transfer_timed : (octets : List ℕ) → Leads (At here) (MultipleFrame.data_in_7_8 octets) (At here)
   transfer_timed octets = record { leads = λ c h. h }
 
   pub waiting_rest_timed : (fs : List ControlFrame) → Leads (At here) (changed (Offers.with_waiting_rest fs)) (At here)

@@ -25,8 +25,8 @@ release_in_7_8 t =
 abbrev pub with_contents : List ℕ → Link → Link
 with_contents octets l = record l { contents = l.contents ++ octets ∷ [] }
 
-abbrev pub transfer_in_7_8 : List ℕ → Step
-transfer_in_7_8 octets = changed (with_contents octets)
+abbrev pub data_in_7_8 : List ℕ → Step
+data_in_7_8 octets = changed (with_contents octets)
 
 -- clause 5.6.6
 abbrev pub set_busy_in_7_8 : Terms → Step

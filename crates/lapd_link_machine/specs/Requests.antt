@@ -9,7 +9,7 @@ use Rattle.lapd_link_machine.specs.Link.{Link, queue_of, is_multiple_frame}
 use Rattle.lapd_link_machine.specs.Events.{Request, Establish, Release, Data, SetBusy, ClearBusy}
 use Rattle.lapd_link_machine.specs.Steps.{Step, nothing}
 use Rattle.lapd_link_machine.specs.TeiAssigned.{establish_in_4, release_in_4}
-use Rattle.lapd_link_machine.specs.MultipleFrame.{release_in_7_8, transfer_in_7_8, set_busy_in_7_8, clear_busy_in_7_8}
+use Rattle.lapd_link_machine.specs.MultipleFrame.{release_in_7_8, data_in_7_8, set_busy_in_7_8, clear_busy_in_7_8}
 
 -- Which states serve which request (profile).
 abbrev pub is_down : State → Bool
@@ -61,7 +61,7 @@ release_in TimerRecovery t = release_in_7_8 t
 abbrev pub granted : Terms → Request → Step
 granted t Establish c = establish_in_4 t c
 granted t Release c = release_in c.link.state t c
-granted t (Data octets) c = transfer_in_7_8 octets c
+granted t (Data octets) c = data_in_7_8 octets c
 granted t SetBusy c = set_busy_in_7_8 t c
 granted t ClearBusy c = clear_busy_in_7_8 t c
 

@@ -32,7 +32,7 @@ IsPollWith t l command octets (Frmr f) = ⊥
 IsPollWith t l command octets (Xid pf) = ⊥
 
 -- It comes in state 7 or 8.
-pub record IsPollInTransfer (t : Terms) (l : Link) (f : Parts) : Type 0 where
+pub record IsPollWhileUp (t : Terms) (l : Link) (f : Parts) : Type 0 where
   pub up : IsTrue (is_multiple_frame l.state)
   pub poll : IsPollWith t l f.address.command f.info f.control
 

@@ -14,7 +14,7 @@ ghost use Rattle.lapd_link_progress.specs.Heeds.{Heeds};
 ghost use Rattle.lapd_link_machine.specs.TwoEnds.{Ends, Doing, doing_all, Begins, StayUp, Agree};
 ghost use Rattle.lapd_link_progress.specs.Rounds.{rounds, IsReady, IsTaken, HasUnsent, HasArrived};
 ghost use Rattle.lapd_link_progress.specs.Waits.{HasNothingToSend, after_offers, turns, GoesWhole};
-ghost use Rattle.lapd_link_progress.specs.Polls.{IsPollInTransfer, Answered, AnsweredBy, asked_of, polls, finals};
+ghost use Rattle.lapd_link_progress.specs.Polls.{IsPollWhileUp, Answered, AnsweredBy, asked_of, polls, finals};
 
 /// A link holds nothing back: an offer gives nothing exactly where no control frame waits, no I-frame may go, and no
 /// acknowledgement is owed. An I-frame may go in state 7 while the terminal is not busy, fewer than k are
@@ -35,10 +35,10 @@ pub fn nothing_is_held_back()
 /// one: a response RR, RNR or REJ with F=1 and N(R) = V(R), as V(R) is after the event (Q.921 clauses 5.6.2 to 5.6.7
 /// and 5.8.1). In every state SABME and DISC put exactly one frame more there, with F = P: UA to SABME but in state 6,
 /// where it is DM; UA to DISC in states 6, 7 and 8, and DM in 4 and 5 (clauses 5.5.1.2, 5.5.3.2, 5.5.4 and 5.5.5). And
-/// no response with F=1 has another cause: with each event those that wait grow by at most one, and not at all where
-/// the event is no poll.
+/// nothing else puts a response with F=1 there: with each event those that wait grow by at most one, and not at all
+/// where the event is no poll. Where there is no room the answer is lost, and told as lost.
 pub fn polls_are_answered()
-    ensures transfer { (t : Terms) (l : Link) (f : Parts) → IsPollInTransfer t l f → length l.waiting + 1 ≤ t.control →
+    ensures multiple_frame { (t : Terms) (l : Link) (f : Parts) → IsPollWhileUp t l f → length l.waiting + 1 ≤ t.control →
         Answered l.waiting (after t (received (frame f)) l) }
     ensures unnumbered { (t : Terms) (l : Link) (f : Parts) → length l.waiting + 1 ≤ t.control →
         AnsweredBy (asked_of l.state f.control) l.waiting (after t (received (frame f)) l) }

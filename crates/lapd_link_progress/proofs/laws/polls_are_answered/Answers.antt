@@ -2,8 +2,8 @@ use Rattle.lapd_link_progress.proofs.Answering.{poll-answered, unnumbered-answer
 use Rattle.lapd_link_progress.proofs.FinalRows.{event-finals}
 use Rattle.lapd_link_progress.proofs.laws.polls_are_answered.Goals as goal
 
-pub returns-clause-transfer : goal.returns-clause-transfer
-returns-clause-transfer c = λ t l f h room. poll-answered t l room f h.up h.poll
+pub returns-clause-multiple_frame : goal.returns-clause-transfer
+returns-clause-multiple_frame c = λ t l f h room. poll-answered t l room f h.up h.poll
 
 pub returns-clause-unnumbered : goal.returns-clause-unnumbered
 returns-clause-unnumbered c = λ t l f room. unnumbered-answered t l room f.address.command f.info f.control

@@ -2,7 +2,7 @@ use Rattle.lapd_link_progress.proofs.Answering.{poll-answered, unnumbered-answer
 use Rattle.lapd_link_progress.proofs.FinalRows.{event-finals}
 use Rattle.lapd_link_progress.proofs.laws.polls_are_answered.Goals as goal
 
-pub returns-clause-multiple_frame : goal.returns-clause-transfer
+pub returns-clause-multiple_frame : goal.returns-clause-multiple_frame
 returns-clause-multiple_frame c = λ t l f h room. poll-answered t l room f h.up h.poll
 
 pub returns-clause-unnumbered : goal.returns-clause-unnumbered

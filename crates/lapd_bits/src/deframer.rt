@@ -64,6 +64,7 @@ impl Deframer {
 
     /// Takes the next octet of the line, low bit first, and tells what it has ended: one event at most.
     /// A frame is lent until the next octet.
+    #[inline(always)]
     pub fn octet(&mut self, octet: u8) -> Heard<'_>
         // What is heard in all the octets so far has gained exactly this event.
         ensures heard { (n201 : ℕ) (past : List ℕ) → Stands n201 self.old past
@@ -80,6 +81,7 @@ impl Deframer {
 
     /// Takes the next octet of the line as [`Deframer::octet`] does, and answers without references, for a caller
     /// that has more to change before it looks at a frame. [`Deframer::latest`] lends what the octet ended.
+    #[inline(always)]
     pub fn step(&mut self, octet: u8) -> Ended
         // What is heard in all the octets so far has gained exactly what the deframer lends now,
         ensures heard { (n201 : ℕ) (past : List ℕ) → Stands n201 self.old past
@@ -89,12 +91,19 @@ impl Deframer {
         // The answer tells what it is, and how long where it is a frame.
         ensures told { result ≡ without_octets (latest_of self.new) }
     {
+        // Most octets end nothing. They are taken here, and all others apart, so that a caller has little to do for them.
+        if let Some(content) = at_once(self.ones, octet) {
+            self.take_content(content);
+            self.ended = Ended::Nothing;
+            return Ended::Nothing;
+        }
         let ended = self.hear(octet);
         self.ended = ended;
         ended
     }
 
     /// Lends again what the latest octet ended, until the next octet; nothing where no octet has come.
+    #[inline(always)]
     pub fn latest(&self) -> Heard<'_>
         ensures lent { heard_of result ≡ latest_of self.now }
         // It is what the latest octet brought.
@@ -122,6 +131,8 @@ impl Deframer {
         }
     }
 
+    /// Takes an octet that goes on with an idle line or may end something.
+    #[inline(never)]
     fn hear(&mut self, octet: u8) -> Ended
         ensures fits { FitsIn (vec_len self.new.octets) result }
         ensures room { length self.new.octets.items ≡ length self.old.octets.items }
@@ -132,13 +143,10 @@ impl Deframer {
             ≡ heard_until (length self.old.octets.items) past
             ++ option_to_list (event_in self.new.octets.items result) }
     {
-        match at_once(self.ones, octet) {
-            Some(content) => {
-                self.take_content(content);
-                Ended::Nothing
-            }
-            None if self.is_idle(octet) => Ended::Nothing,
-            None => self.bit_by_bit(octet),
+        if self.is_idle(octet) {
+            Ended::Nothing
+        } else {
+            self.bit_by_bit(octet)
         }
     }
 
@@ -163,6 +171,7 @@ impl Deframer {
     }
 
     /// Takes what an octet brings that ends nothing.
+    #[inline(always)]
     fn take_content(&mut self, content: Content)
         ensures room { length self.new.octets.items ≡ length self.old.octets.items }
         ensures ones { self.new.ones ≡ content.ones }

@@ -1,11 +1,38 @@
-use Rattle.std.proofs.Common.{sym, ◌∙◌, subst, reverse}
-use Rattle.lapd_bits.specs.Bits.{bits}
+-- An octet in which no six 1s come ends nothing, and goes on the open gap all at once.
+use Rattle.std.proofs.Common.{◌++◌, None, true, replicate, sym, ◌∙◌, subst, reverse, length}
+use Rattle.std.proofs.lemmas.Bool.{false≢true, false_from_ne_true}
+use Rattle.lapd_bits.specs.Bits.{bits, low_bits}
 use Rattle.lapd_bits.specs.Deframer.{HoldsPast}
 use Rattle.lapd_bits.specs.Ended.{FitsIn}
 use Rattle.lapd_bits.specs.Heard.{event_in}
+use Rattle.lapd_bits.specs.Unstuffer.{has_six}
+use Rattle.lapd_bits.proofs.AtOnce.{HoldsPast-octet, heard-octet}
 use Rattle.lapd_bits.proofs.BitSteps.{with_bits-octet}
 use Rattle.lapd_bits.proofs.Latest.{heard_more, latest_more, told_is}
 use Rattle.lapd_bits.proofs.deframer.Deframer.step.Goals as goal
+
+pub returns-in-Some-clause-heard : goal.returns-in-Some-clause-heard
+returns-in-Some-clause-heard c n201 past h =
+    let old = c.args.self.now in
+    let none = false_from_ne_true (has_six (replicate old.ones true ++ low_bits 8 c.args.octet)) (λ six. false≢true (sym (c.in-Some.ensures.none.1 six))) in
+    heard_more n201 past c.args.octet _ None h.room
+    (heard-octet (length old.octets.items) old.ones (reverse (bits past)) c.args.octet none h.holds.run)
+
+pub returns-in-Some-clause-after : goal.returns-in-Some-clause-after
+returns-in-Some-clause-after c n201 past h =
+    let old = c.args.self.now in
+    let new = c.take_content.new.self in
+    let content = c.in-Some.content in
+    let none = false_from_ne_true (has_six (replicate old.ones true ++ low_bits 8 c.args.octet)) (λ six. false≢true (sym (c.in-Some.ensures.none.1 six))) in
+    let holds =
+    HoldsPast-octet old.octets.items new.octets.items old.ones new.ones old.gap new.gap (reverse (bits past)) c.args.octet content.bits content.count content.ones
+    none c.in-Some.ensures.some c.take_content.ensures.ones (c.take_content.ensures.stands c.args.octet) h.holds in
+    record {
+      room = c.take_content.ensures.room ∙ h.room;
+      holds = subst (HoldsPast new.octets.items new.ones new.gap) (sym (with_bits-octet past c.args.octet)) holds;
+      latest = latest_more n201 past c.args.octet None (heard_more n201 past c.args.octet _ None h.room
+          (heard-octet (length old.octets.items) old.ones (reverse (bits past)) c.args.octet none h.holds.run));
+    }
 
 pub returns-clause-heard : goal.returns-clause-heard
 returns-clause-heard c n201 past h =

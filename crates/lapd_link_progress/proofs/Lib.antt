@@ -15,4 +15,14 @@ pub mod Recovery
 pub mod Staying
 pub mod Together
 pub mod Reached
+pub mod Trains
+pub mod Flow
+pub mod Flowing
+pub mod Effects
+pub mod HeardRows
+pub mod Meeting
+pub mod Going
+pub mod StayingUp
+pub mod TimelyRuns
 pub mod PremisesMet
+pub mod TimelyMet

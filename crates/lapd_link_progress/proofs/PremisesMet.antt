@@ -19,7 +19,7 @@ use Rattle.lapd_link_progress.specs.WorkedRounds.{losing, cut_off}
 use Rattle.lapd_link_progress.proofs.Together.{all-stay_up}
 
 -- a test of what goes on ahead
-mild_request : Request → Bool
+unfoldable pub mild_request : Request → Bool
 mild_request Establish = true
 mild_request Release = false
 mild_request (Data octets) = true
@@ -41,7 +41,7 @@ stay_ahead : List Doing → Ends → Bool
 stay_ahead [] e = true
 stay_ahead (d ∷ ds) e = nat_le e.far.link.r e.near.link.s && nat_le e.near.link.r e.far.link.s && mild d e && stay_ahead ds (doing d e)
 
-by-request : (request : Request) → mild_request request ≡ true → IsMildRequest request
+pub by-request : (request : Request) → mild_request request ≡ true → IsMildRequest request
 unfolding mild_request
 by-request Establish e = tt
 by-request Release e = absurd (cc)

@@ -206,7 +206,7 @@ module _ (t : Terms) (l : Link) (up : IsTrue (is_multiple_frame l.state)) where
   branch false u v x y = y
 
   -- an establishment is refused in states 7 and 8
-  refused : (here : State) → l.state ≡ here → IsTrue (is_multiple_frame here) → (full : Bool) → Requests.refusal t l full Establish ≡ Some WrongState
+  pub refused : (here : State) → l.state ≡ here → IsTrue (is_multiple_frame here) → (full : Bool) → Requests.refusal t l full Establish ≡ Some WrongState
   refused TeiAssigned e h full = absurd (true≢false (sym h))
   refused AwaitingEstablishment e h full = absurd (true≢false (sym h))
   refused AwaitingRelease e h full = absurd (true≢false (sym h))

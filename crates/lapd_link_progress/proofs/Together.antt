@@ -64,7 +64,7 @@ module _ (n m : End) (h : Joined n m) (same : n.terms.n201 ≡ m.terms.n201) (ah
   acted-up receives mild = (first-of m.way refl, h.far_up)
   acted-up loses mild = (h.near_up, h.far_up)
 
-done-up : (d : Doing) (e : Ends) → Joined e.near e.far → e.near.terms.n201 ≡ e.far.terms.n201 → IsAhead e → IsMild d e → IsUp (doing d e)
+pub done-up : (d : Doing) (e : Ends) → Joined e.near e.far → e.near.terms.n201 ≡ e.far.terms.n201 → IsAhead e → IsMild d e → IsUp (doing d e)
 done-up (at_near act) e h same ahead mild = acted-up e.near e.far h same ahead.0 act mild
 done-up (at_far act) e h same ahead mild =
     let up = acted-up e.far e.near (joined-turned e.near e.far h) (sym same) ahead.1 act mild in

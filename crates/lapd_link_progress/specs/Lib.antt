@@ -8,3 +8,5 @@ pub mod CutOff
 pub mod WorkedRounds
 pub mod WorkedUntimely
 pub mod Ahead
+pub mod Timely
+pub mod WorkedTimely

@@ -8,11 +8,12 @@ ghost use Rattle.lapd_link_machine.specs.Link.{Link, fresh};
 ghost use Rattle.lapd_link_machine.specs.Events.{Event, frame, received};
 ghost use Rattle.lapd_link_machine.specs.Machine.{after, after_all, given};
 ghost use Rattle.lapd_link_machine.specs.Timed.{IsTimed};
-ghost use Rattle.lapd_link_progress.specs.Ahead.{StayAhead};
+ghost use Rattle.lapd_link_progress.specs.Ahead.{IsAhead, StayAhead};
 ghost use Rattle.lapd_link_progress.specs.CutOff.{IsCutOff, IsSilent, HasMissing, with_t200_expired};
 ghost use Rattle.lapd_link_progress.specs.Heeds.{Heeds};
 ghost use Rattle.lapd_link_machine.specs.TwoEnds.{Ends, Doing, doing_all, Begins, StayUp, Agree};
 ghost use Rattle.lapd_link_progress.specs.Rounds.{rounds, IsReady, IsTaken, HasUnsent, HasArrived};
+ghost use Rattle.lapd_link_progress.specs.Timely.{StayTimely, IsHushed};
 ghost use Rattle.lapd_link_progress.specs.Waits.{HasNothingToSend, after_offers, turns, GoesWhole};
 ghost use Rattle.lapd_link_progress.specs.Polls.{IsPollWhileUp, Answered, AnsweredBy, asked_of, polls, finals};
 
@@ -110,4 +111,33 @@ pub fn stay_up_while_ahead()
         Agree (doing_all ds e).near (doing_all ds e).far }
     ensures far { (ds : List Doing) (e : Ends) → Begins e.near → Begins e.far → e.near.terms.n201 ≡ e.far.terms.n201 → StayAhead ds e →
         Agree (doing_all ds e).far (doing_all ds e).near }
+{}
+
+/// Two links stay up where T200 is long enough. From an establishment on, whatever layer 3 asks for but a release,
+/// whatever frames are lost as long as the others keep their order, and whenever timers expire as long as an enquiry can
+/// be repeated and T200 is timely, which is that in state 8 it expires only where no enquiry of this end and no response
+/// with F=1 of the other waits or is on its way (a lost one is not): both stay in states 7 and 8, neither's V(S) is ever
+/// below the other's V(R), and so each has delivered exactly the first contents that the other accepted, in order and
+/// none twice (Q.921 clauses 5.6.4 and 5.6.7). The two have the same N201. And wherever such a run has led them, losses
+/// are recovered (`recovered_near`, `recovered_far`): where nothing waits or is on its way, neither is busy itself, and
+/// each can repeat an enquiry, once T200 expires where it runs u + 3 rounds without loss suffice, where neither has more
+/// than u contents that were not received. That T200 has to be timely is needed: `specs/WorkedUntimely` is a run in
+/// which it is not, and contents are delivered twice.
+pub fn links_stay_up()
+    ensures up { (ds : List Doing) (e : Ends) → Begins e.near → Begins e.far → e.near.terms.n201 ≡ e.far.terms.n201 → StayTimely ds e →
+        StayUp ds e }
+    ensures ahead { (ds : List Doing) (e : Ends) → Begins e.near → Begins e.far → e.near.terms.n201 ≡ e.far.terms.n201 → StayTimely ds e →
+        IsAhead (doing_all ds e) }
+    ensures near { (ds : List Doing) (e : Ends) → Begins e.near → Begins e.far → e.near.terms.n201 ≡ e.far.terms.n201 → StayTimely ds e →
+        Agree (doing_all ds e).near (doing_all ds e).far }
+    ensures far { (ds : List Doing) (e : Ends) → Begins e.near → Begins e.far → e.near.terms.n201 ≡ e.far.terms.n201 → StayTimely ds e →
+        Agree (doing_all ds e).far (doing_all ds e).near }
+    ensures recovered_near { (ds : List Doing) (u : ℕ) (e : Ends) → Begins e.near → Begins e.far → IsTimed e.near.link → IsTimed e.far.link →
+        e.near.terms.n201 ≡ e.far.terms.n201 → StayTimely ds e → IsHushed (doing_all ds e).near → IsHushed (doing_all ds e).far →
+        HasMissing u (doing_all ds e).near (doing_all ds e).far → HasMissing u (doing_all ds e).far (doing_all ds e).near →
+        HasArrived (doing_all ds e).near.link.contents (rounds (u + 3) (with_t200_expired (doing_all ds e))).near (rounds (u + 3) (with_t200_expired (doing_all ds e))).far }
+    ensures recovered_far { (ds : List Doing) (u : ℕ) (e : Ends) → Begins e.near → Begins e.far → IsTimed e.near.link → IsTimed e.far.link →
+        e.near.terms.n201 ≡ e.far.terms.n201 → StayTimely ds e → IsHushed (doing_all ds e).near → IsHushed (doing_all ds e).far →
+        HasMissing u (doing_all ds e).near (doing_all ds e).far → HasMissing u (doing_all ds e).far (doing_all ds e).near →
+        HasArrived (doing_all ds e).far.link.contents (rounds (u + 3) (with_t200_expired (doing_all ds e))).far (rounds (u + 3) (with_t200_expired (doing_all ds e))).near }
 {}

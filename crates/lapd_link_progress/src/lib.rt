@@ -3,13 +3,13 @@
 //!
 //! `specs/` has the statements: what waits and what goes (`Waits`), polls and their answers (`Polls`), a busy terminal
 //! (`Heeds`), two ends in rounds (`Rounds`), two ends whose frames were lost (`CutOff`), what keeps two links up
-//! (`Ahead`); and worked values that compute (`WorkedPolls`, `WorkedRounds`, and `WorkedUntimely`, a run in which T200 is
-//! too short). `docs/PROGRESS.md` says it in words.
+//! (`Ahead`, `Timely`); and worked values that compute (`WorkedPolls`, `WorkedRounds`, `WorkedTimely`, and
+//! `WorkedUntimely`, a run in which T200 is too short). `docs/PROGRESS.md` says it in words.
 #![tactic(auto)]
 
 mod laws;
 
 pub use laws::{
-    busy_is_heeded, contents_arrive, losses_are_recovered, nothing_is_held_back,
+    busy_is_heeded, contents_arrive, links_stay_up, losses_are_recovered, nothing_is_held_back,
     polls_are_answered, stay_up_while_ahead,
 };

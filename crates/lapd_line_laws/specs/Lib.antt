@@ -5,3 +5,5 @@ pub mod Pulls
 pub mod Heard
 pub mod Laws
 pub mod Worked
+pub mod WorkedPulls
+pub mod WorkedHeard

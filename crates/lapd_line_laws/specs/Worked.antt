@@ -15,14 +15,14 @@ use Rattle.lapd_line_machine.specs.Request.{Assign, Data, Unit, Remove, Release}
 use Rattle.lapd_line_laws.specs.Share.{no_share, ending, share_of, asked_by}
 use Rattle.lapd_line_laws.specs.Pulls.{units_asked}
 
-abbrev usual : Config
+abbrev pub usual : Config
 usual = record { lines = 1; terminals = 8; k = 7; k16 = 7; queue = 8; unit_queue = 4; control = 4; slots = 64; n201 = 260; n200 = 3 }
 
 -- TEI 64 on the line, and its SABME of both services
-abbrev hears : List ℕ → Line → Line
+abbrev pub hears : List ℕ → Line → Line
 hears octets l = (of_aim usual (aim_of_heard l (stream.frame octets)) l).line
 
-abbrev both_up : Line
+abbrev pub both_up : Line
 both_up = hears (0x40 ∷ 0x81 ∷ 0x7F ∷ []) (hears (0x00 ∷ 0x81 ∷ 0x7F ∷ []) (of_request usual (Assign 64) (fresh_line usual)).line)
 
 -- Data for the call control link of TEI 64 is accepted for link 0, and for no other.

@@ -9,3 +9,5 @@ pub mod Owing
 pub mod Beginning
 pub mod Worked
 pub mod WorkedSending
+pub mod WorkedEnds
+pub mod WorkedBeginning

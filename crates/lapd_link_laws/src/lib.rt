@@ -6,7 +6,7 @@
 //! began (`History`), what an offer gives (`Offered`), what a frame that is heard brings (`Heard`), what two links that
 //! face each other have accepted (`Ends`), when an I-frame goes and from where it goes again (`Sending`), what follows a
 //! delivery (`Owing`), what is told where the numbers begin anew (`Beginning`), and worked values (`Worked`,
-//! `WorkedSending`). Each law is the contract of a call that does nothing.
+//! `WorkedSending`, `WorkedEnds`, `WorkedBeginning`). Each law is the contract of a call that does nothing.
 //!
 //! - `laws`: what becomes of contents;
 //! - `sending`: when an I-frame goes, from where it is sent again, and what follows a delivery.

@@ -1,0 +1,234 @@
+//! The table of TEI management.
+
+ghost use Rattle.std.specs.Prelude.{◌≤◌};
+
+use crate::fault::Fault;
+use crate::words;
+use lapd_frame::Refusal;
+use lapd_tei::{Change, TeiOutcome, Teis};
+use std::alloc::Global;
+
+const HEAD: &str = "
+## TEI management
+
+A line with room for two TEIs. A cell has, in this order: the message that is sent, or how many found no room and are
+lost; what layer management is told; what is ordered of T201; and which TEI comes to the line (+) or leaves it (-), or
+that none does (=). Ri is the reference number of a request; that of TEI 64 is 1, that of TEI 65 is 2. A check has two
+periods of T201. What waited has been sent, but for four messages where a column says that they wait.
+";
+
+/// What happens to TEI management.
+#[derive(Clone, Copy, Debug)]
+enum Event {
+    /// A message of a terminal: the last octet of its Ri, its type, and its Ai.
+    Message(u8, u8, u8),
+    /// T201 expires.
+    Expire,
+    /// Layer management asks for these, of TEI 64 or 65.
+    Assign(bool),
+    Remove(bool),
+    Check(bool),
+}
+
+/// A state of TEI management, and the events that lead there from the empty table.
+#[derive(Clone, Copy, Debug)]
+struct Case {
+    name: &'static str,
+    /// Events after each of which what waits is sent.
+    events: &'static [Event],
+    /// Events after them, each of which leaves a message waiting.
+    held: &'static [Event],
+}
+
+const FIRST: Event = Event::Message(1, 1, 127);
+
+const SECOND: Event = Event::Message(2, 1, 127);
+
+const RESPONSE: Event = Event::Message(0, 5, 64);
+
+const CHECK: Event = Event::Check(false);
+
+const CASES: [Case; 8] = [
+    Case {
+        name: "no TEI",
+        events: &[],
+        held: &[],
+    },
+    Case {
+        name: "64",
+        events: &[FIRST],
+        held: &[],
+    },
+    Case {
+        name: "64 and 65",
+        events: &[FIRST, SECOND],
+        held: &[],
+    },
+    Case {
+        name: "64, checked",
+        events: &[FIRST, CHECK],
+        held: &[],
+    },
+    Case {
+        name: "64, checked, one response",
+        events: &[FIRST, CHECK, RESPONSE],
+        held: &[],
+    },
+    Case {
+        name: "64, second period",
+        events: &[FIRST, CHECK, Event::Expire],
+        held: &[],
+    },
+    Case {
+        name: "64, second period, one response before",
+        events: &[FIRST, CHECK, RESPONSE, Event::Expire],
+        held: &[],
+    },
+    Case {
+        name: "64, four messages wait",
+        events: &[FIRST],
+        held: &[FIRST, FIRST, FIRST, FIRST],
+    },
+];
+
+const EVENTS: [(&str, Event); 15] = [
+    ("identity request, Ri 1", FIRST),
+    ("identity request, Ri 2", SECOND),
+    ("identity request, Ri 3", Event::Message(3, 1, 127)),
+    ("identity request, Ai 64", Event::Message(4, 1, 64)),
+    ("identity verify, Ai 64", Event::Message(0, 7, 64)),
+    ("identity verify, Ai 65", Event::Message(0, 7, 65)),
+    ("check response, Ai 64", RESPONSE),
+    ("check response, Ai 65", Event::Message(0, 5, 65)),
+    ("message of another type", Event::Message(0, 9, 64)),
+    ("T201 expires", Event::Expire),
+    ("assign 64", Event::Assign(false)),
+    ("assign 65", Event::Assign(true)),
+    ("remove 64", Event::Remove(false)),
+    ("check 64", CHECK),
+    ("check 65", Event::Check(true)),
+];
+
+/// Prints the table of TEI management.
+pub fn print(rt: &impl Print, alloc: Global) -> Result<(), Fault> {
+    println!(rt; "{}", HEAD)?;
+    titles(rt)?;
+    for (name, event) in EVENTS {
+        print!(rt; "\n| {} |", name)?;
+        row(rt, alloc, event)?;
+    }
+    println!(rt; "")?;
+    Ok(())
+}
+
+fn titles(rt: &impl Print) -> Result<(), Fault> {
+    print!(rt; "| Event |")?;
+    for case in &CASES {
+        print!(rt; " {} |", case.name)?;
+    }
+    print!(rt; "\n|---|")?;
+    for _ in 0..CASES.len() {
+        print!(rt; "---|")?;
+    }
+    Ok(())
+}
+
+fn row(rt: &impl Print, alloc: Global, event: Event) -> Result<(), Fault> {
+    for case in &CASES {
+        print!(rt; " ")?;
+        cell(rt, alloc, *case, event)?;
+        print!(rt; " |")?;
+    }
+    Ok(())
+}
+
+/// What one event leads to in one state.
+fn cell(rt: &impl Print, alloc: Global, case: Case, event: Event) -> Result<(), Fault> {
+    let mut teis = Teis::start(alloc, 2)?;
+    prepare(&mut teis, case.events);
+    hold(&mut teis, case.held);
+    let answer = play(&mut teis, event);
+    skip(&mut teis, case.held.len());
+    match answer {
+        Ok(outcome) => tell(rt, &outcome, teis.offer()),
+        Err(refusal) => {
+            print!(rt; "{}", words::refusal_name(refusal))?;
+            Ok(())
+        }
+    }
+}
+
+/// Plays events, and after each sends what waits.
+fn prepare(teis: &mut Teis, events: &[Event]) {
+    for event in events {
+        let _ = play(teis, *event);
+        let _ = teis.offer();
+    }
+}
+
+fn hold(teis: &mut Teis, events: &[Event]) {
+    for event in events {
+        let _ = play(teis, *event);
+    }
+}
+
+fn skip(teis: &mut Teis, messages: usize) {
+    for _ in 0..messages {
+        let _ = teis.offer();
+    }
+}
+
+/// TEI 64, or the next one.
+fn tei_of(next: bool) -> u8
+    ensures { result ≤ 126 }
+{
+    if next { 65 } else { 64 }
+}
+
+fn play(teis: &mut Teis, event: Event) -> Result<TeiOutcome, Refusal> {
+    match event {
+        Event::Message(ri, kind, ai) => {
+            Ok(teis.message(&[0x0F, 0, ri, kind, 2 * (ai % 128) + 1]))
+        }
+        Event::Expire => Ok(teis.expire_t201()),
+        Event::Assign(next) => teis.assign(tei_of(next)),
+        Event::Remove(next) => teis.remove(tei_of(next)),
+        Event::Check(next) => teis.check(tei_of(next)),
+    }
+}
+
+fn tell(rt: &impl Print, outcome: &TeiOutcome, sent: Option<[u8; 8]>) -> Result<(), Fault> {
+    if let Some(frame) = sent {
+        message(rt, frame)?;
+    }
+    if outcome.lost > 0 {
+        print!(rt; "{} lost; ", outcome.lost)?;
+    }
+    if outcome.unserved {
+        print!(rt; "unserved; ")?;
+    }
+    for note in outcome.notes.as_slice() {
+        words::note(rt, *note)?;
+    }
+    words::orders(rt, outcome.orders.as_slice())?;
+    match outcome.change {
+        Some(Change::Gained { tei, .. }) => print!(rt; "+{}", tei)?,
+        Some(Change::Left { tei, .. }) => print!(rt; "-{}", tei)?,
+        None => print!(rt; "=")?,
+    }
+    Ok(())
+}
+
+/// A message that is sent: its type, its Ri or its Ai.
+fn message(rt: &impl Print, frame: [u8; 8]) -> Result<(), Fault> {
+    let [_, _, _, _, _, ri, kind, last] = frame;
+    let ai = last / 2;
+    match kind {
+        2 => print!(rt; "identity assigned Ri {} Ai {}; ", ri, ai)?,
+        3 => print!(rt; "identity denied Ri {}; ", ri)?,
+        4 => print!(rt; "identity check request Ai {}; ", ai)?,
+        6 => print!(rt; "identity remove Ai {}; ", ai)?,
+        _ => print!(rt; "another message; ")?,
+    }
+    Ok(())
+}

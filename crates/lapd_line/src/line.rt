@@ -159,6 +159,7 @@ impl Line {
     /// Gives the next octet of the line, low bit first. Where fewer than eight bits are left to send, the frame that is
     /// next is taken: a message of TEI management, else unit data, else one of a link, each link in its turn; or an
     /// idle flag where none waits (profile).
+    #[inline(always)]
     pub fn pull<S: Shelf>(&mut self, shelf: &mut S) -> Pulled
         requires { (others : List Owned) × (m : machine.Line) × Stands self.old (S.store shelf.old) others m }
         ensures told { (others : List Owned) (m : machine.Line) → Stands self.old (S.store shelf.old) others m
@@ -182,7 +183,9 @@ impl Line {
         self.quiet
     }
 
-    /// Gives the next octet as [`Line::pull`] does, where fewer than eight bits are left to send.
+    /// Gives the next octet as [`Line::pull`] does, where fewer than eight bits are left to send. It stands apart, so that
+    /// a caller has little to do for the pulls that take no frame, which are most.
+    #[inline(never)]
     fn pull_next<S: Shelf>(&mut self, shelf: &mut S) -> Pulled
         requires stands { (others : List Owned) × (m : machine.Line) × Stands self.old (S.store shelf.old) others m }
         requires few { length self.old.framer.left < 8 }

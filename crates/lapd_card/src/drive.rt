@@ -13,7 +13,7 @@ ghost use Rattle.lapd_card_machine.specs.ByEvent.{ArePriced};
 ghost use Rattle.lapd_card_machine.specs.Drops.{AreDropsWithoutCost, AreDropsWithoutEffect};
 ghost use Rattle.lapd_card_machine.specs.Laws.{RefusedByTheTable, RunIsMoments};
 ghost use Rattle.lapd_card_machine.specs.Promises.{IsWithinLimit, IsAmortised, IsAmortisedFromZero, HasSixOctetsAFrame, HasSevenOctetsAReject, IsLinear, IsIsolated, IsNeverFull, IsNumbered, IsNumberedFromZero, IsTextual};
-ghost use Rattle.lapd_card_laws.specs.Promises.{IsKept, IsCountedIn, BeginsEmpty, IsServedIn, UnitsWaitAll, IsDelivered};
+ghost use Rattle.lapd_card_laws.specs.Promises.{IsKept, IsCountedIn, BeginsEmpty, IsServedIn, UnitsWaitAll, TurnsStay, AreHeeded, IsDelivered};
 ghost use Rattle.lapd_card.specs.Sink.{one_failure_more};
 ghost use Rattle.lapd_card.specs.Stands.{Stands, Leads};
 
@@ -53,8 +53,14 @@ impl<S: Shelf> Card<S> {
     ///   one, and none else; or it keeps nothing, and the event was a release of it that was granted, or the answer notes
     ///   an establishment indication, a release indication or a release confirm of it, or its TEI left the line (Q.921
     ///   clauses 5.5.3.2, 5.6.3.2 and 5.7).
-    /// - `units_wait`: in every moment unit data waits behind what waits, whole, where its request was granted, and no
-    ///   other event but a pull changes what waits.
+    /// - `units_wait`, `turns_stay`: in every moment unit data waits behind what waits, whole, where its request was
+    ///   granted, and no other event but a pull changes what waits, or which link is asked first.
+    /// - `frames_are_heeded`: in every moment an octet that ends a frame for a link puts exactly one frame more behind
+    ///   those that wait at it, where the frame is a poll with a valid N(R) in state 7 or 8 (RR, RNR or REJ with F=1 and
+    ///   N(R) = V(R)), SABME or DISC (UA or DM, as the state has it, with F = P), or the answer counts it as lost, since as
+    ///   many waited as may; no other frame puts a response with F=1 there. A delivery leaves its acknowledgement owed, or
+    ///   waiting, or counted as lost, but where the I-frame's N(R) was invalid. Where the terminal rejects I-frames from
+    ///   number n on, contents number n are the next to be sent (clauses 5.5.1.2, 5.5.3.2, 5.6.2 to 5.6.7 and 5.8.1).
     /// - `heard_is_delivered`: in every moment an octet that ends a frame which spells the SAPI of a service and a TEI on
     ///   the line is an event of that link and of no other, and one that ends no frame changes nothing but what was
     ///   received; contents are handed on only of an I-frame or a UI that an octet ends, whose information they are, with
@@ -86,10 +92,13 @@ impl<S: Shelf> Card<S> {
     ///   without what went, and its V(A) counts those that were acknowledged (clause 3.5.2.2); and on a card that has just
     ///   begun, `begins_empty`, there are none.
     /// - `served`: what a pull begins, with fewer than eight bits left, is the message of TEI management that has waited
-    ///   longest, or the unit data that has waited longest, whole, once, with its service and TEI, or a frame of a link of
-    ///   a TEI on the line, with its SAPI and TEI, which, if it is an I-frame, carries contents number V(S) of those that
-    ///   were accepted for the link since its numbers began, and V(S) counts it (clauses 3.5.2.3, 5.2.2 and 5.6.1); and it
-    ///   begins none only where none of these waits.
+    ///   longest; where none waits, the unit data that has waited longest, whole, once, with its service and TEI; where
+    ///   none waits either, a frame of the first link in turn that has anything to send, of a TEI on the line, with its
+    ///   SAPI and TEI, and the next turn is that of the link after it. That is the control frame that has waited longest;
+    ///   else, in state 7 while the terminal is not busy and fewer than k are outstanding, an I-frame with N(R) = V(R),
+    ///   which carries contents number V(S) of those that were accepted for the link since its numbers began, and V(S)
+    ///   counts it; else the acknowledgement that is owed (clauses 3.5.2.3, 5.2.2, 5.6.1, 5.6.3.1 and 5.6.5). It begins
+    ///   none only where none of these waits.
     ///
     /// # Errors
     ///
@@ -127,6 +136,8 @@ impl<S: Shelf> Card<S> {
             → AreDropsWithoutEffect m (events_of events.now) }
         ensures nothing_is_lost { (m : machine.Card) → Stands S.store self.old m → IsKept m (events_of events.now) }
         ensures units_wait { (m : machine.Card) → Stands S.store self.old m → UnitsWaitAll m (events_of events.now) }
+        ensures turns_stay { (m : machine.Card) → Stands S.store self.old m → TurnsStay m (events_of events.now) }
+        ensures frames_are_heeded { (m : machine.Card) → Stands S.store self.old m → AreHeeded m (events_of events.now) }
         ensures heard_is_delivered { (m : machine.Card) → Stands S.store self.old m → IsDelivered m (events_of events.now) }
 
         // After every front of the list, from every card or, where it says `fresh`, from one that has just begun.

@@ -38,7 +38,7 @@ module _ (card : Card) (e : Event) (s : IsSound card) (here : IsAtLine card e) w
   unfolding lines.takes_slot
   takes-none value = refl
 
-  no-octet : lines.takes_slot card.config e.what (line_at e.line card) ≡ true → (value : ℕ) → e.what ≡ octet value → ⊥
+  pub no-octet : lines.takes_slot card.config e.what (line_at e.line card) ≡ true → (value : ℕ) → e.what ≡ octet value → ⊥
   no-octet takes value is = true≢false (sym takes ∙ ap (λ what. lines.takes_slot card.config what (line_at e.line card)) is ∙ takes-none value)
 
   by-line : Served card.config e.what (line_at e.line card) (lines.after card.config e.what (line_at e.line card)) (lines.answer card.config e.what (line_at e.line card))

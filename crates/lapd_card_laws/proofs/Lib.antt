@@ -2,3 +2,4 @@
 pub mod Keeping
 pub mod Serving
 pub mod Hearing
+pub mod Heeding

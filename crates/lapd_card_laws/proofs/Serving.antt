@@ -9,8 +9,8 @@ use Rattle.lapd_line_machine.specs.Answer.{Answer, refused, pull}
 use Rattle.lapd_line_machine.specs.Line.{Line, fresh_line, link_at, link_count}
 use Rattle.lapd_line_machine.specs.Machine as lines
 use Rattle.lapd_line_machine.specs.Pull.{Taken, begun}
-use Rattle.lapd_line_laws.specs.Pulls.{IsMessage, IsUnit, IsOfLink, IsOwed, IsIdle, contents_of, IsServed, UnitsWait}
-use Rattle.lapd_line_laws.proofs.Serving.{served, units-wait}
+use Rattle.lapd_line_laws.specs.Pulls.{IsMessage, IsUnit, IsOfLink, IsOwed, IsIdle, contents_of, IsServed, UnitsWait, TurnStays}
+use Rattle.lapd_line_laws.proofs.Serving.{served, units-wait, turn-stays}
 use Rattle.lapd_card_machine.specs.Event.{Event}
 use Rattle.lapd_card_machine.specs.Card.{Card, line_at}
 use Rattle.lapd_card_machine.specs.Machine.{after, answer}
@@ -20,8 +20,8 @@ use Rattle.lapd_card_machine.proofs.CardSound.{always_sound}
 use Rattle.lapd_card_machine.proofs.EachMoment.{moment_of, each_moment}
 use Rattle.lapd_card_machine.proofs.Steps.{has_lines, by_room, line_sound}
 use Rattle.lapd_card_laws.specs.Contents.{name_of, accepted_at}
-use Rattle.lapd_card_laws.specs.Faithful.{UnitsWaitIn}
-use Rattle.lapd_card_laws.specs.Promises.{IsServedIn, UnitsWaitAll}
+use Rattle.lapd_card_laws.specs.Faithful.{UnitsWaitIn, TurnStaysIn}
+use Rattle.lapd_card_laws.specs.Promises.{IsServedIn, UnitsWaitAll, TurnsStay}
 use Rattle.lapd_card_laws.proofs.Keeping.{run-counted}
 
 -- the same of other lists of contents that are the same
@@ -30,12 +30,14 @@ module _ (c : Config) (one other : ℕ → List (List ℕ)) (same : (number : �
   of-link next frame x = record {
     number = x.number;
     few = x.few;
+    its_turn = x.its_turn;
     tei = x.tei;
     on_line = x.on_line;
     command = x.command;
     control = x.control;
     information = x.information;
     spelled = x.spelled;
+    in_order = x.in_order;
     carried = subst (λ all. IsOffered all (link_at x.number l).s (record { command = x.command; control = x.control }) x.information) (same x.number x.few) x.carried;
     counted = x.counted;
     messages = x.messages;
@@ -93,3 +95,23 @@ units-in card e s here =
 
 pub units-all : (card : Card) (events : List Event) → IsSound card → AreAtLines card events → UnitsWaitAll card events
 units-all card events s all = each_moment UnitsWaitIn units-in card events s all
+
+-- Whose turn it is, in a moment.
+refused-stays : (e : happening.Event) (l : Line) → TurnStays e l l
+refused-stays (happening.octet value) l = refl
+refused-stays (happening.expiry timer) l = refl
+refused-stays (happening.request r) l = refl
+refused-stays happening.pull l = tt
+
+turn-in : (card : Card) (e : Event) → IsSound card → IsAtLine card e → TurnStaysIn (moment_of card e)
+turn-in card e s here =
+    by_room (λ ls a. TurnStays e.what (line_at e.line card) (get_or ls e.line (fresh_line card.config))) e card
+    (λ full. refused-stays e.what (line_at e.line card))
+    (λ room.
+    let own = lines.after card.config e.what (line_at e.line card) in
+    subst (λ (x : Line). TurnStays e.what (line_at e.line card) x)
+    (sym (get_or-set_same card.lines e.line own (fresh_line card.config) (omega (arith, s.count, here))))
+    (turn-stays card.config e.what (line_at e.line card)))
+
+pub turns-stay : (card : Card) (events : List Event) → IsSound card → AreAtLines card events → TurnsStay card events
+turns-stay card events s all = each_moment TurnStaysIn turn-in card events s all

@@ -5,10 +5,12 @@ use Rattle.lapd_frame.specs.Grammar.{Parts}
 use Rattle.lapd_link_machine.specs.Events as link
 use Rattle.lapd_link_laws.specs.History as links
 use Rattle.lapd_line_machine.specs.Answer.{octet}
+use Rattle.lapd_line_machine.specs.Line.{link_in, terms}
 use Rattle.lapd_line_machine.specs.Octet.{gained}
+use Rattle.lapd_line_laws.specs.Frames.{IsHeeded}
 use Rattle.lapd_line_laws.specs.Share.{asked_by}
 use Rattle.lapd_line_laws.specs.Loss.{IsTold}
-use Rattle.lapd_line_laws.specs.Pulls.{UnitsWait}
+use Rattle.lapd_line_laws.specs.Pulls.{UnitsWait, TurnStays}
 use Rattle.lapd_line_laws.specs.Heard.{Ends, IsFor, IsOneEvent, IsNoEvent, contents_in, IsHeard}
 use Rattle.lapd_card_machine.specs.Card.{line_at}
 use Rattle.lapd_card_machine.specs.Machine.{after}
@@ -32,6 +34,18 @@ IsFaithful m = (name : LinkName) → HasLink m.card name → IsFaithfulTo name m
 -- pull changes what waits.
 abbrev pub UnitsWaitIn : Moment → Type 0
 UnitsWaitIn m = UnitsWait m.event.what (line_before m) (line_after m) m.answer
+
+-- Whose turn it is, is changed by pulls alone.
+abbrev pub TurnStaysIn : Moment → Type 0
+TurnStaysIn m = TurnStays m.event.what (line_before m) (line_after m)
+
+-- A frame for a link that an octet ends is heeded: polls are answered, deliveries acknowledged, and what was rejected is
+-- sent again.
+abbrev pub IsHeededIn : Moment → Type 0
+IsHeededIn m =
+    (value : ℕ) (service : Service) (tei place : ℕ) (parts : Parts) (octets : List ℕ) → m.event.what ≡ octet value
+    → Ends m.card.config (line_before m) value octets → IsFor (line_before m) service tei place parts octets
+    → IsHeeded (terms m.card.config service tei) parts (link_in (line_before m) service place) (link_in (line_after m) service place) m.answer
 
 -- A frame for a link that an octet ends is an event of this link alone, one that ends no frame is no event of any; contents
 -- are handed on of a frame that was heard; and no other line feels an event.

@@ -5,7 +5,7 @@ use Rattle.lapd_card_machine.specs.Card.{Card}
 use Rattle.lapd_card_machine.specs.Event.{Event}
 use Rattle.lapd_card_machine.specs.Run.{AreAtLines}
 use Rattle.lapd_card_machine.specs.Sound.{IsSound}
-use Rattle.lapd_card_laws.specs.Promises.{IsKept, IsCountedIn, BeginsEmpty, IsServedIn, UnitsWaitAll, IsDelivered}
+use Rattle.lapd_card_laws.specs.Promises.{IsKept, IsCountedIn, BeginsEmpty, IsServedIn, UnitsWaitAll, TurnsStay, AreHeeded, IsDelivered}
 
 pub record NothingIsLost : Type 0 where
   pub kept : (card : Card) (events : List Event) → IsSound card → AreAtLines card events → IsKept card events
@@ -15,6 +15,10 @@ pub record NothingIsLost : Type 0 where
 pub record PullsServe : Type 0 where
   pub served : (card : Card) (events : List Event) → IsSound card → AreAtLines card events → IsServedIn card events
   pub units : (card : Card) (events : List Event) → IsSound card → AreAtLines card events → UnitsWaitAll card events
+  pub turns : (card : Card) (events : List Event) → IsSound card → AreAtLines card events → TurnsStay card events
 
 abbrev pub HeardIsDelivered : Type 0
 HeardIsDelivered = (card : Card) (events : List Event) → IsSound card → AreAtLines card events → IsDelivered card events
+
+abbrev pub FramesAreHeeded : Type 0
+FramesAreHeeded = (card : Card) (events : List Event) → IsSound card → AreAtLines card events → AreHeeded card events

@@ -9,7 +9,7 @@ use Rattle.lapd_card_machine.specs.Numbered.{LinkName}
 use Rattle.lapd_card_machine.specs.Promises.{HasLink}
 use Rattle.lapd_card_machine.specs.Run.{Moment, moments, after_all}
 use Rattle.lapd_card_laws.specs.Contents.{link_named, begun, history, accepted_at}
-use Rattle.lapd_card_laws.specs.Faithful.{IsFaithful, UnitsWaitIn, IsHeardIn}
+use Rattle.lapd_card_laws.specs.Faithful.{IsFaithful, UnitsWaitIn, TurnStaysIn, IsHeededIn, IsHeardIn}
 
 -- In every moment nothing that was accepted is lost silently.
 abbrev pub IsKept : Card → List Event → Type 0
@@ -35,6 +35,14 @@ IsServedIn m events =
 -- In every moment unit data waits that was granted,
 abbrev pub UnitsWaitAll : Card → List Event → Type 0
 UnitsWaitAll m events = All UnitsWaitIn (moments m events)
+
+-- and whose turn it is, is changed by pulls alone.
+abbrev pub TurnsStay : Card → List Event → Type 0
+TurnsStay m events = All TurnStaysIn (moments m events)
+
+-- In every moment each frame for a link is heeded,
+abbrev pub AreHeeded : Card → List Event → Type 0
+AreHeeded m events = All IsHeededIn (moments m events)
 
 -- and only what was heard is delivered, and from whom.
 abbrev pub IsDelivered : Card → List Event → Type 0

@@ -1,6 +1,6 @@
 //! What a card does, over whole runs. Each law is the contract of a call that does nothing.
 
-ghost use Rattle.lapd_card_laws.specs.Laws.{NothingIsLost, PullsServe, HeardIsDelivered};
+ghost use Rattle.lapd_card_laws.specs.Laws.{NothingIsLost, PullsServe, FramesAreHeeded, HeardIsDelivered};
 
 /// Nothing that was accepted is lost silently. In every moment of a run each link keeps what it kept before, without the
 /// oldest contents, as many as a valid N(R) acknowledges, and with the contents of a data request for this link at the
@@ -12,15 +12,25 @@ pub fn nothing_is_lost()
     ensures { NothingIsLost }
 {}
 
-/// What is sent is what was accepted, and for whom. After every list of events a pull of a line, with fewer than eight
-/// bits left, begins the message of TEI management that has waited longest; or the unit data that has waited longest,
-/// whole, once, with its service and TEI; or a frame of a link of a TEI on the line, with the SAPI of its service and its
-/// TEI, whose information, if it is an I-frame, is contents number V(S) of those that the link has accepted since its
-/// numbers began, with N(S) = V(S) modulo 128, and V(S) counts it. It begins none only where no message waits, no unit
-/// data, and no link has anything to send. Unit data waits where its request was granted, in order, and no other event
-/// but a pull changes what waits.
+/// What is sent is what was accepted, for whom, and in which order. After every list of events a pull of a line, with
+/// fewer than eight bits left, begins the message of TEI management that has waited longest; where none waits, the unit
+/// data that has waited longest, whole, once, with its service and TEI; where none waits either, a frame of a link of a
+/// TEI on the line, the first in turn that has anything to send, with the SAPI of its service and its TEI. That is the
+/// control frame of the link that has waited longest; else an I-frame, if one may go, whose information is contents number
+/// V(S) of those that the link has accepted since its numbers began, with N(S) = V(S) modulo 128 and N(R) = V(R), and V(S)
+/// counts it; else the acknowledgement that is owed. It begins none only where no message waits, no unit data, and no link
+/// has anything to send. Unit data waits where its request was granted, in order, and no other event but a pull changes
+/// what waits, or whose turn it is.
 pub fn pulls_serve()
     ensures { PullsServe }
+{}
+
+/// Frames are heeded. In every moment of a run a frame for a link on the line is answered where it is a poll with a valid
+/// N(R) in state 7 or 8, SABME or DISC: by exactly one frame, the last that waits, or one that is told as lost, since as
+/// many waited as may. A delivery leaves its acknowledgement owed, or waiting, or told as lost, but where the I-frame's
+/// N(R) was invalid. And what the terminal rejects is sent again, from the number that it names on.
+pub fn frames_are_heeded()
+    ensures { FramesAreHeeded }
 {}
 
 /// Only what was heard is delivered, and from whom. In every moment of a run an octet that ends a frame which spells the

@@ -12,4 +12,4 @@
 
 mod laws;
 
-pub use laws::{heard_is_delivered, nothing_is_lost, pulls_serve};
+pub use laws::{frames_are_heeded, heard_is_delivered, nothing_is_lost, pulls_serve};

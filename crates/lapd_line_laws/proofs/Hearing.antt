@@ -118,7 +118,7 @@ own-data t (notes.Removed n) own = (refl, refl)
 own-data t (notes.Doubled n) own = (refl, refl)
 own-data t (notes.Xid s n) own = (refl, refl)
 
-own-all : (t : Terms) (ns : List Note) → All (IsOwn t) ns
+pub own-all : (t : Terms) (ns : List Note) → All (IsOwn t) ns
     → (list_any (is_data_of t.service t.tei) ns ≡ list_any is_data ns) × (list_any (is_unit_of t.service t.tei) ns ≡ list_any is_unit ns)
 own-all t [] all = (refl, refl)
 own-all t (n ∷ ns) all =

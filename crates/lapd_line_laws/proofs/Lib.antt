@@ -4,3 +4,4 @@ pub mod Asked
 pub mod Told
 pub mod Serving
 pub mod Hearing
+pub mod Heeding

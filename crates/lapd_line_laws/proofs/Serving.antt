@@ -25,7 +25,9 @@ use Rattle.lapd_link_machine.specs.Machine as links
 use Rattle.lapd_link_machine.specs.Sound.{is_information}
 use Rattle.lapd_link_machine.specs.Sound as link_sound
 use Rattle.lapd_link_machine.specs.Told.{Given}
+use Rattle.lapd_link_laws.specs.InOrder.{IsInOrder}
 use Rattle.lapd_link_laws.specs.Offered.{IsOffered, one}
+use Rattle.lapd_link_laws.proofs.InOrder.{given-in-order}
 use Rattle.lapd_link_laws.proofs.Offering.{given-is-offered, offer-counts}
 use Rattle.lapd_link_progress.specs.Waits.{HasNothingToSend}
 use Rattle.lapd_link_progress.proofs.Waiting.{nothing-given}
@@ -47,7 +49,7 @@ use Rattle.lapd_line_machine.specs.Pull as pulls
 use Rattle.lapd_line_machine.specs.Pull.{Taken, with_message, with_unit, with_given_frame, link_taken, first_taken, round, taken, is_due, begun, with_item, after_pull}
 use Rattle.lapd_line_machine.specs.Sound.{IsInRange, IsSoundAt, IsSound}
 use Rattle.lapd_line_machine.proofs.PullSound.{round_below}
-use Rattle.lapd_line_laws.specs.Pulls.{IsMessage, IsUnit, IsOfLink, IsOwed, HasNothing, IsIdle, contents_of, IsServed, unit_asked, UnitsWait}
+use Rattle.lapd_line_laws.specs.Pulls.{IsMessage, IsUnit, IsQuiet, IsItsTurn, IsOfLink, IsOwed, HasNothing, IsIdle, contents_of, IsServed, unit_asked, UnitsWait, TurnStays}
 
 -- the first of a list is not there
 no-first : {X : Type 0} (xs : List X) → slice_get xs 0 ≡ None → xs ≡ []
@@ -61,8 +63,8 @@ module _ (c : Config) (l : Line) (s : IsSound c l) where
   Fate (Some t) = IsOwed c (contents_of l) l t.line t.frame
 
   abbrev LinkFate : ℕ → Option Taken → Type 0
-  LinkFate number None = (tei : ℕ) → tei_at (place_at number) l ≡ Some tei → HasNothingToSend (terms c (service_at number) tei) (link_at number l)
-  LinkFate number (Some t) = IsOfLink c (contents_of l) l t.line t.frame
+  LinkFate number None = IsQuiet c l number
+  LinkFate number (Some t) = (IsItsTurn c l t.line number → IsOfLink c (contents_of l) l t.line t.frame) × (t.line.turn ≡ number + 1)
 
   -- one link
   fresh-gives : (number : ℕ) → link_at number l ≡ fresh → links.given (terms_at c number l) (link_at number l) ≡ None
@@ -87,21 +89,25 @@ module _ (c : Config) (l : Line) (s : IsSound c l) where
           let counts : next.s ≡ (link_at number l).s + one (is_information g.frame.control) =
           offer-counts t (link_at number l) sound ∙ ap (λ o. (link_at number l).s + one (option_map_or (λ g. is_information g.frame.control) o false)) e in
           let here : get_or (set l.links number next) number fresh ≡ next = get_or-set_same l.links number next fresh (omega (arith, few, s.count)) in
-          record {
+          let ordered : IsInOrder t (link_at number l) next g.frame =
+          subst (λ o. IfSome o (λ g. IsInOrder t (link_at number l) next g.frame)) e (given-in-order t (link_at number l) sound) in
+          (λ turn. record {
             number = number;
             few = few;
+            its_turn = turn;
             tei = tei;
             on_line = at;
             command = g.frame.command;
             control = g.frame.control;
             information = g.contents;
             spelled = refl;
+            in_order = subst (λ (x : Link). IsInOrder t (link_at number l) x g.frame) (sym here) ordered;
             carried = carried;
             counted = ap (λ (x : Link). x.s) here ∙ counts;
             messages = refl;
             units = refl;
             others = λ other apart. get_or-set_other l.links number other next fresh apart;
-          }
+          }, refl)
 
       go : (o : Option ℕ) → tei_at (place_at number) l ≡ o → IsSoundAt c number (link_at number l) o → LinkFate number (link_taken c l number)
       go None e begins =
@@ -116,18 +122,34 @@ module _ (c : Config) (l : Line) (s : IsSound c l) where
   abbrev Idle : ℕ → Type 0
   Idle number = LinkFate number None
 
+  -- the first of a list that has something to give
+  record First (ns : List ℕ) (t : Taken) : Type 0 where
+    number : ℕ
+    passed : List ℕ
+    behind : List ℕ
+    place : ns ≡ passed ++ number ∷ behind
+    quiet : All Idle passed
+    fate : LinkFate number (Some t)
+
   abbrev RoundFate : List ℕ → Option Taken → Type 0
   RoundFate ns None = All Idle ns
-  RoundFate ns (Some t) = IsOfLink c (contents_of l) l t.line t.frame
+  RoundFate ns (Some t) = First ns t
 
   by-round : (ns : List ℕ) → All (λ n. n < link_count c) ns → RoundFate ns (first_taken c l ns)
   by-round [] few = All-nil Idle
   by-round (n ∷ ns) few = go (link_taken c l n) (by-link n (All-head (λ n. n < link_count c) n ns few)) (first_taken c l ns) (by-round ns (All-tail (λ n. n < link_count c) n ns few))
     where
       go : (o : Option Taken) → LinkFate n o → (rest : Option Taken) → RoundFate ns rest → RoundFate (n ∷ ns) (option_or o rest)
-      go (Some t) x rest y = x
+      go (Some t) x rest y = record { number = n; passed = []; behind = ns; place = refl; quiet = All-nil Idle; fate = x }
       go None x None y = All-cons Idle n ns x y
-      go None x (Some t) y = y
+      go None x (Some t) y = record {
+        number = y.number;
+        passed = n ∷ y.passed;
+        behind = y.behind;
+        place = ap (λ xs. n ∷ xs) y.place;
+        quiet = All-cons Idle n y.passed x y.quiet;
+        fate = y.fate;
+      }
 
   -- a round is all links
   front : {X : Type 0} (P : X → Type 0) (xs ys : List X) → All P (xs ++ ys) → All P xs × All P ys
@@ -146,16 +168,25 @@ module _ (c : Config) (l : Line) (s : IsSound c l) where
 
   by-all : (m : Option Message) → slice_get l.management.waiting 0 ≡ m → (u : Option UnitData) → slice_get l.units 0 ≡ u
       → Fate (option_or (option_map (with_message l) (option_map frame_of m)) (option_or (option_map (with_unit l) u) (first_taken c l (round c l))))
-  by-all (Some message) e u e' = inl (record { message = message; oldest = e; spelled = refl; rest = refl; units = refl; links = refl })
-  by-all None e (Some unit) e' = inr (inl (record { unit = unit; oldest = e'; spelled = refl; messages = refl; rest = refl; links = refl }))
+  by-all (Some message) e u e' = inl (record { message = message; oldest = e; spelled = refl; rest = refl; units = refl; links = refl; turn = refl })
+  by-all None e (Some unit) e' =
+      inr (inl (record { no_message = no-first l.management.waiting e; unit = unit; oldest = e'; spelled = refl; messages = refl; rest = refl; links = refl; turn = refl }))
   by-all None e None e' = go (first_taken c l (round c l)) (by-round (round c l) (round_below c l))
     where
       go : (o : Option Taken) → RoundFate (round c l) o → Fate o
-      go (Some t) x = inr (inr x)
+      go (Some t) x = inr (inr (x.fate.0 (record {
+        no_message = no-first l.management.waiting e;
+        no_unit = no-first l.units e';
+        passed = x.passed;
+        behind = x.behind;
+        place = x.place;
+        quiet = x.quiet;
+        next = x.fate.1;
+      })))
       go None x = record {
         messages = no-first l.management.waiting e;
         units = no-first l.units e';
-        links = λ number tei few at. whole-round x number few tei at;
+        links = λ number few. whole-round x number few;
       }
 
   taken-is : Fate (taken c l)
@@ -167,17 +198,28 @@ module _ (c : Config) (l : Line) (s : IsSound c l) where
   served = go (is_due l) refl (taken c l) taken-is
     where
       with-item : (t : Taken) → IsOwed c (contents_of l) l t.line t.frame → IsOwed c (contents_of l) l (pulls.with_octet (with_item (Some t) l)) t.frame
-      with-item t (inl x) = inl (record { message = x.message; oldest = x.oldest; spelled = x.spelled; rest = x.rest; units = x.units; links = x.links })
-      with-item t (inr (inl x)) = inr (inl (record { unit = x.unit; oldest = x.oldest; spelled = x.spelled; messages = x.messages; rest = x.rest; links = x.links }))
+      with-item t (inl x) = inl (record { message = x.message; oldest = x.oldest; spelled = x.spelled; rest = x.rest; units = x.units; links = x.links; turn = x.turn })
+      with-item t (inr (inl x)) =
+          inr (inl (record { no_message = x.no_message; unit = x.unit; oldest = x.oldest; spelled = x.spelled; messages = x.messages; rest = x.rest; links = x.links; turn = x.turn }))
       with-item t (inr (inr x)) = inr (inr (record {
         number = x.number;
         few = x.few;
+        its_turn = record {
+          no_message = x.its_turn.no_message;
+          no_unit = x.its_turn.no_unit;
+          passed = x.its_turn.passed;
+          behind = x.its_turn.behind;
+          place = x.its_turn.place;
+          quiet = x.its_turn.quiet;
+          next = x.its_turn.next;
+        };
         tei = x.tei;
         on_line = x.on_line;
         command = x.command;
         control = x.control;
         information = x.information;
         spelled = x.spelled;
+        in_order = x.in_order;
         carried = x.carried;
         counted = x.counted;
         messages = x.messages;
@@ -190,8 +232,8 @@ module _ (c : Config) (l : Line) (s : IsSound c l) where
             | None ↦ IsIdle c l (pulls.with_octet (cond due (with_item o l) l))
             | Some t ↦ IsOwed c (contents_of l) l (pulls.with_octet (cond due (with_item o l) l)) t.frame
           ]
-      go false e o x = record { nothing = λ due. absurd (true≢false (sym due ∙ e)); messages = refl; units = refl; links = refl }
-      go true e None x = record { nothing = λ due. x; messages = refl; units = refl; links = refl }
+      go false e o x = record { nothing = λ due. absurd (true≢false (sym due ∙ e)); messages = refl; units = refl; links = refl; turn = refl }
+      go true e None x = record { nothing = λ due. x; messages = refl; units = refl; links = refl; turn = refl }
       go true e (Some t) x = with-item t x
 
 -- Unit data that waits.
@@ -253,3 +295,22 @@ units-wait c (request r) l = go (refusal c false r l)
     go None = aim-units c l l (aim_of_request r l) refl ∙ ap (λ us. l.units ++ us) (by-request c l r)
     go (Some why) = sym (append-nil l.units)
 units-wait c pull l = tt
+
+-- Whose turn it is stays.
+aim-turn : (c : Config) (m : Line) (aim : Aim) → (of_aim c aim m).line.turn ≡ m.turn
+aim-turn c m (at_none t) = refl
+aim-turn c m (at_link service tei place what) = refl
+aim-turn c m (at_management what) = by-change (teis.told what m.management).change
+  where
+    by-change : (o : Option Change) → (of_change c o (told_of_management (teis.told what m.management)) (record m { management = teis.after what m.management })).line.turn ≡ m.turn
+    by-change None = refl
+    by-change (Some (Gained tei place)) = refl
+    by-change (Some (Left tei place)) = refl
+aim-turn c m (at_units unit) = refl
+
+pub turn-stays : (c : Config) (e : Event) (l : Line) → TurnStays e l (after c e l)
+unfolding after
+turn-stays c (octet value) l = aim-turn c (with_received value l) (aim_of_octet c value l)
+turn-stays c (expiry timer) l = aim-turn c l (aim_of_expiry timer l)
+turn-stays c (request r) l = aim-turn c l (unless_refused (refusal c false r l) (aim_of_request r l))
+turn-stays c pull l = tt

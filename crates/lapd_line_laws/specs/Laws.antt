@@ -5,13 +5,14 @@ use Rattle.lapd_frame.specs.Grammar.{Parts}
 use Rattle.lapd_link_machine.specs.Events as link
 use Rattle.lapd_line_machine.specs.declared.config.Config.{Config}
 use Rattle.lapd_line_machine.specs.Answer.{Event, octet}
-use Rattle.lapd_line_machine.specs.Line.{Line, link_count}
+use Rattle.lapd_line_machine.specs.Line.{Line, link_count, link_in, terms}
 use Rattle.lapd_line_machine.specs.Machine.{after, answer}
 use Rattle.lapd_line_machine.specs.Octet.{gained}
 use Rattle.lapd_line_machine.specs.Sound.{IsInRange, IsSound}
 use Rattle.lapd_line_laws.specs.Share.{share_of, IsKept, asked_by}
 use Rattle.lapd_line_laws.specs.Loss.{IsTold}
-use Rattle.lapd_line_laws.specs.Pulls.{contents_of, IsServed, UnitsWait}
+use Rattle.lapd_line_laws.specs.Pulls.{contents_of, IsServed, UnitsWait, TurnStays}
+use Rattle.lapd_line_laws.specs.Frames.{IsHeeded}
 use Rattle.lapd_line_laws.specs.Heard.{Ends, IsFor, IsOneEvent, IsNoEvent, contents_in, IsHeard}
 
 -- What each link keeps after an event is what the event leaves of what it kept; the event accepts exactly the contents
@@ -23,10 +24,11 @@ pub record NothingIsLost : Type 0 where
   pub told : (c : Config) (e : Event) (l : Line) (number : ℕ) → IsInRange c → IsSound c l → number < link_count c
       → (share_of c number e l).empties ≡ true → IsTold number e l (after c e l) (answer c e l)
 
--- A pull begins what waits, or nothing waits; and what waits of unit data is what was granted.
+-- A pull begins what waits, or nothing waits; what waits of unit data is what was granted; and only pulls change turns.
 pub record PullsServe : Type 0 where
   pub served : (c : Config) (l : Line) → IsInRange c → IsSound c l → IsServed c (contents_of l) l
   pub units : (c : Config) (e : Event) (l : Line) → UnitsWait e l (after c e l) (answer c e l)
+  pub turns : (c : Config) (e : Event) (l : Line) → TurnStays e l (after c e l)
 
 -- A frame for a link is an event of this link alone, and an octet that ends none is no event of any; contents are handed
 -- on of a frame that was heard.
@@ -38,3 +40,10 @@ pub record HeardIsDelivered : Type 0 where
       → IsNoEvent l (after c (octet value) l) (answer c (octet value) l) value
   pub heard : (c : Config) (e : Event) (l : Line) (contents : List ℕ) → IsInRange c → IsSound c l
       → contents_in (answer c e l) ≡ Some contents → IsHeard c l e (answer c e l) contents
+
+-- A frame for a link is heeded: polls are answered, deliveries acknowledged, and what was rejected is sent again.
+abbrev pub FramesAreHeeded : Type 0
+FramesAreHeeded =
+    (c : Config) (l : Line) (value : ℕ) (service : Service) (tei place : ℕ) (parts : Parts) (octets : List ℕ) → IsSound c l
+    → Ends c l value octets → IsFor l service tei place parts octets
+    → IsHeeded (terms c service tei) parts (link_in l service place) (link_in (after c (octet value) l) service place) (answer c (octet value) l)

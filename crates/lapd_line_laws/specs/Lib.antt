@@ -3,6 +3,7 @@ pub mod Share
 pub mod Loss
 pub mod Pulls
 pub mod Heard
+pub mod Frames
 pub mod Laws
 pub mod Worked
 pub mod WorkedPulls

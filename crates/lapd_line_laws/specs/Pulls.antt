@@ -1,5 +1,6 @@
 -- What a pull begins, of what waits.
-use Rattle.std.specs.Prelude.{◌≡◌, ◌≢◌, ◌⊎◌, ℕ, ◌+◌, ◌<◌, Bool, true, false, List, [], ◌∷◌, ◌++◌, drop, slice_get, Option, Some, None, if◌then◌else◌}
+use Rattle.std.specs.Prelude.{◌≡◌, ◌≢◌, ◌⊎◌, ℕ, ◌+◌, ◌<◌, Bool, true, false, List, [], ◌∷◌, ◌++◌, drop, take, slice_get, All, Option, Some, None, if◌then◌else◌}
+use Rattle.std.specs.List.{range_with_len}
 use Rattle.std.specs.Option.{unwrap_or}
 use Rattle.lapd_frame.specs.declared.addresses.Side.TheVariants.{Network}
 use Rattle.lapd_frame.specs.declared.controls.Control.{Control}
@@ -7,6 +8,7 @@ use Rattle.lapd_frame.specs.declared.controls.Control.TheVariants.{Ui}
 use Rattle.lapd_frame.specs.Grammar.{spelling}
 use Rattle.lapd_frame.specs.Services.{sapi_of}
 use Rattle.lapd_link_machine.specs.Sound.{is_information}
+use Rattle.lapd_link_laws.specs.InOrder.{IsInOrder}
 use Rattle.lapd_link_laws.specs.Offered.{IsOffered, one}
 use Rattle.lapd_link_progress.specs.Waits.{HasNothingToSend}
 use Rattle.lapd_tei.specs.declared.messages.Message.{Message}
@@ -27,10 +29,12 @@ pub record IsMessage (before after : Line) (frame : List ℕ) : Type 0 where
   pub rest : after.management.waiting ≡ drop 1 before.management.waiting
   pub units : after.units ≡ before.units
   pub links : after.links ≡ before.links
+  pub turn : after.turn ≡ before.turn
 
--- or the unit data that has waited longest, whole, with its service and its TEI, in a UI command with P=0, which waits no
--- more (Q.921 clauses 3.6.5 and 5.2.2);
+-- or, where no message waits, the unit data that has waited longest, whole, with its service and its TEI, in a UI command
+-- with P=0, which waits no more (Q.921 clauses 3.6.5 and 5.2.2);
 pub record IsUnit (before after : Line) (frame : List ℕ) : Type 0 where
+  pub no_message : before.management.waiting ≡ []
   pub unit : UnitData
   pub oldest : slice_get before.units 0 ≡ Some unit
   pub spelled : frame ≡ spelling Network (record {
@@ -41,12 +45,34 @@ pub record IsUnit (before after : Line) (frame : List ℕ) : Type 0 where
   pub messages : after.management.waiting ≡ before.management.waiting
   pub rest : after.units ≡ drop 1 before.units
   pub links : after.links ≡ before.links
+  pub turn : after.turn ≡ before.turn
 
--- or a frame of a link of a TEI on the line, with the SAPI of its service and its TEI. If it is an I-frame, it carries the
--- link's contents number V(S), and V(S) counts it. The other links stay as they are.
+-- or, where neither waits, a frame of a link. The links are asked one after the other, from the one whose turn it is on,
+-- and then from link 0 on; those that are asked before it have nothing to send; and the next turn is that of the link
+-- after it (profile).
+abbrev pub in_turn : Config → Line → List ℕ
+in_turn c l = drop l.turn (range_with_len 0 (link_count c)) ++ take l.turn (range_with_len 0 (link_count c))
+
+abbrev pub IsQuiet : Config → Line → ℕ → Type 0
+IsQuiet c l number =
+    (tei : ℕ) → tei_at (place_at number) l ≡ Some tei → HasNothingToSend (terms c (service_at number) tei) (link_at number l)
+
+pub record IsItsTurn (c : Config) (before after : Line) (number : ℕ) : Type 0 where
+  pub no_message : before.management.waiting ≡ []
+  pub no_unit : before.units ≡ []
+  pub passed : List ℕ
+  pub behind : List ℕ
+  pub place : in_turn c before ≡ passed ++ number ∷ behind
+  pub quiet : All (IsQuiet c before) passed
+  pub next : after.turn ≡ number + 1
+
+-- The link is of a TEI on the line, and the frame has the SAPI of its service and its TEI. It is what the link gives in its
+-- order: the control frame that has waited longest, an I-frame that may go, or the acknowledgement that is owed. If it is
+-- an I-frame, it carries the link's contents number V(S), and V(S) counts it. The other links stay as they are.
 pub record IsOfLink (c : Config) (contents : ℕ → List (List ℕ)) (before after : Line) (frame : List ℕ) : Type 0 where
   pub number : ℕ
   pub few : number < link_count c
+  pub its_turn : IsItsTurn c before after number
   pub tei : ℕ
   pub on_line : tei_at (place_at number) before ≡ Some tei
   pub command : Bool
@@ -57,6 +83,7 @@ pub record IsOfLink (c : Config) (contents : ℕ → List (List ℕ)) (before af
     control = control;
     info = unwrap_or information [];
   })
+  pub in_order : IsInOrder (terms c (service_at number) tei) (link_at number before) (link_at number after) (record { command = command; control = control })
   pub carried : IsOffered (contents number) (link_at number before).s (record { command = command; control = control }) information
   pub counted : (link_at number after).s ≡ (link_at number before).s + one (is_information control)
   pub messages : after.management.waiting ≡ before.management.waiting
@@ -70,8 +97,7 @@ IsOwed c contents before after frame = IsMessage before after frame ⊎ IsUnit b
 pub record HasNothing (c : Config) (l : Line) : Type 0 where
   pub messages : l.management.waiting ≡ []
   pub units : l.units ≡ []
-  pub links : (number tei : ℕ) → number < link_count c → tei_at (place_at number) l ≡ Some tei
-      → HasNothingToSend (terms c (service_at number) tei) (link_at number l)
+  pub links : (number : ℕ) → number < link_count c → IsQuiet c l number
 
 -- A pull begins no frame only where eight bits or more are left to give, or where nothing waits to be sent; and then
 -- nothing of what waits is changed.
@@ -80,6 +106,7 @@ pub record IsIdle (c : Config) (before after : Line) : Type 0 where
   pub messages : after.management.waiting ≡ before.management.waiting
   pub units : after.units ≡ before.units
   pub links : after.links ≡ before.links
+  pub turn : after.turn ≡ before.turn
 
 abbrev pub contents_of : Line → ℕ → List (List ℕ)
 contents_of l number = (link_at number l).contents
@@ -112,3 +139,10 @@ UnitsWait pull before after answer = Unit {0}
 UnitsWait (octet value) before after answer = after.units ≡ before.units
 UnitsWait (expiry timer) before after answer = after.units ≡ before.units
 UnitsWait (request r) before after answer = after.units ≡ before.units ++ units_asked (request r) answer
+
+-- No other event but a pull changes whose turn it is.
+abbrev pub TurnStays : Event → Line → Line → Type 0
+TurnStays pull before after = Unit {0}
+TurnStays (octet value) before after = after.turn ≡ before.turn
+TurnStays (expiry timer) before after = after.turn ≡ before.turn
+TurnStays (request r) before after = after.turn ≡ before.turn

@@ -1,6 +1,6 @@
 //! What a line does. Each law is the contract of a call that does nothing.
 
-ghost use Rattle.lapd_line_laws.specs.Laws.{NothingIsLost, PullsServe, HeardIsDelivered};
+ghost use Rattle.lapd_line_laws.specs.Laws.{NothingIsLost, PullsServe, HeardIsDelivered, FramesAreHeeded};
 
 /// Nothing that was accepted is lost silently. What each link of a line keeps after an event is what it kept before,
 /// without the oldest contents, as many as a valid N(R) acknowledges, and with the contents of a data request for this
@@ -26,4 +26,13 @@ pub fn pulls_serve()
 /// are its information, and the answer notes data, or unit data, of the service and the TEI that it spells.
 pub fn heard_is_delivered()
     ensures { HeardIsDelivered }
+{}
+
+/// A frame for a link is heeded. In states 7 and 8 a poll with a valid N(R) puts exactly one response with F=1 and N(R) =
+/// V(R) behind what waits; SABME and DISC put UA or DM there, as the state has it, with F = P; where no place was left,
+/// the frame is told as lost, and no other frame puts a response with F=1 there. A delivery leaves its acknowledgement
+/// owed, or waiting, or told as lost, but where the I-frame's N(R) was invalid. And where the terminal rejects I-frames
+/// from number n on, contents number n are the next to be sent (Q.921 clauses 5.5.1.2, 5.5.3.2, 5.6.2 to 5.6.7 and 5.8.1).
+pub fn frames_are_heeded()
+    ensures { FramesAreHeeded }
 {}

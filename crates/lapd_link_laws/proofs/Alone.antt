@@ -32,7 +32,7 @@ off true e = absurd (true≢false (sym e))
 off false e = refl
 
 module _ (t : Terms) (l : Link) (h : IsSound t l) where
-  may-go : Offers.may_send_information t l ≡ true → MayGo t l
+  pub may-go : Offers.may_send_information t l ≡ true → MayGo t l
   may-go e =
       let some = and_parts (Offers.is_established l.state && not l.peer_busy && nat_lt (outstanding l) t.k) (nat_lt l.s (length l.contents)) e in
       let fewer = and_parts (Offers.is_established l.state && not l.peer_busy) (nat_lt (outstanding l) t.k) some.0 in

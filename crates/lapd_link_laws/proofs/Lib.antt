@@ -11,3 +11,4 @@ pub mod Alone
 pub mod GoingBack
 pub mod Owing
 pub mod Beginning
+pub mod InOrder

@@ -6,6 +6,7 @@ pub mod Heard
 pub mod Ends
 pub mod Sending
 pub mod Owing
+pub mod InOrder
 pub mod Beginning
 pub mod Worked
 pub mod WorkedSending

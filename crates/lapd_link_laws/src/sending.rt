@@ -6,7 +6,7 @@ ghost use Rattle.lapd_seq.specs.Circle.{named};
 ghost use Rattle.lapd_frame.specs.Grammar.{Parts};
 ghost use Rattle.lapd_link_machine.specs.declared.terms.Terms.{Terms};
 ghost use Rattle.lapd_link_machine.specs.Link.{Link};
-ghost use Rattle.lapd_link_machine.specs.Events.{Event, frame, received};
+ghost use Rattle.lapd_link_machine.specs.Events.{Event, frame, received, offer};
 ghost use Rattle.lapd_link_machine.specs.Machine.{after, told, given};
 ghost use Rattle.lapd_link_machine.specs.Deliveries.{restarts};
 ghost use Rattle.lapd_link_machine.specs.Sound.{IsInRange, IsSound};
@@ -14,11 +14,20 @@ ghost use Rattle.lapd_link_laws.specs.Offered.{IsOffered, is_i_frame};
 ghost use Rattle.lapd_link_laws.specs.Sending.{MayGo, asked_from, GoesBackTo, offered, i_frames_offered};
 ghost use Rattle.lapd_link_laws.specs.Beginning.{IsSeen};
 ghost use Rattle.lapd_link_laws.specs.Owing.{Owes, IsBegunAgain};
+ghost use Rattle.lapd_link_laws.specs.InOrder.{IsInOrder};
 
 /// A busy terminal is left alone. An offer gives an I-frame in state 7 alone, and only while the terminal is not taken
 /// for busy, fewer than k I-frames are outstanding, and contents are unsent (Q.921 clauses 5.6.1, 5.6.5 and 5.6.7).
 pub fn busy_is_left_alone()
     ensures left_alone { (t : Terms) (l : Link) → IsSound t l → IfSome (given t l) (λ g. IsTrue (is_i_frame g) → MayGo t l) }
+{}
+
+/// What waits goes in its order. An offer gives the control frame that has waited longest, which waits no more; where none
+/// waits, an I-frame, if one may go, with N(S) = V(S), N(R) = V(R) and P=0; where none may go, the acknowledgement that is
+/// owed, RR with N(R) = V(R) and F=0. An I-frame acknowledges, so that nothing is owed behind it (Q.921 clauses 5.6.1,
+/// 5.6.2 and 5.6.3.1, and the profile).
+pub fn sent_in_order()
+    ensures in_order { (t : Terms) (l : Link) → IsSound t l → IfSome (given t l) (λ g. IsInOrder t l (after t offer l) g.frame) }
 {}
 
 /// What a terminal rejects is sent again. After REJ in state 7, and after a response with F=1 in state 8, whose valid

@@ -1,6 +1,7 @@
 -- Lemmas.
 pub mod Waiting
 pub mod Answering
+pub mod Unanswered
 pub mod Finals
 pub mod FinalRows
 pub mod Heeding

@@ -1,12 +1,12 @@
 //! The laws of one link, and of two that face each other. Each is the contract of a call that does nothing.
 
-ghost use Rattle.std.specs.Prelude.{◌≡◌, ℕ, ◌+◌, ◌≤◌, Bool, true, false, List, [], ◌∷◌, ◌++◌, length, None};
+ghost use Rattle.std.specs.Prelude.{◌≡◌, ℕ, ◌+◌, ◌≤◌, Bool, true, false, List, [], ◌∷◌, ◌++◌, length, None, is_some};
 ghost use Rattle.lapd_frame.specs.Grammar.{Parts};
 ghost use Rattle.lapd_link_machine.specs.declared.terms.Terms.{Terms};
 ghost use Rattle.lapd_link_machine.specs.declared.frames.ControlFrame.{ControlFrame};
 ghost use Rattle.lapd_link_machine.specs.Link.{Link, fresh};
 ghost use Rattle.lapd_link_machine.specs.Events.{Event, frame, received};
-ghost use Rattle.lapd_link_machine.specs.Machine.{after, after_all, given};
+ghost use Rattle.lapd_link_machine.specs.Machine.{after, after_all, told, given};
 ghost use Rattle.lapd_link_machine.specs.Timed.{IsTimed};
 ghost use Rattle.lapd_link_progress.specs.Ahead.{IsAhead, StayAhead};
 ghost use Rattle.lapd_link_progress.specs.CutOff.{IsCutOff, IsSilent, HasMissing, with_t200_expired};
@@ -37,12 +37,16 @@ pub fn nothing_is_held_back()
 /// and 5.8.1). In every state SABME and DISC put exactly one frame more there, with F = P: UA to SABME but in state 6,
 /// where it is DM; UA to DISC in states 6, 7 and 8, and DM in 4 and 5 (clauses 5.5.1.2, 5.5.3.2, 5.5.4 and 5.5.5). And
 /// nothing else puts a response with F=1 there: with each event those that wait grow by at most one, and not at all
-/// where the event is no poll. Where there is no room the answer is lost, and told as lost.
+/// where the event is no poll. Where there is no room the answer is lost, and told as lost (`lost`, `lost_unnumbered`).
 pub fn polls_are_answered()
     ensures multiple_frame { (t : Terms) (l : Link) (f : Parts) → IsPollWhileUp t l f → length l.waiting + 1 ≤ t.control →
         Answered l.waiting (after t (received (frame f)) l) }
     ensures unnumbered { (t : Terms) (l : Link) (f : Parts) → length l.waiting + 1 ≤ t.control →
         AnsweredBy (asked_of l.state f.control) l.waiting (after t (received (frame f)) l) }
+    ensures lost { (t : Terms) (l : Link) (f : Parts) → IsPollWhileUp t l f → t.control ≤ length l.waiting →
+        1 ≤ (told t (received (frame f)) l).lost }
+    ensures lost_unnumbered { (t : Terms) (l : Link) (f : Parts) → is_some (asked_of l.state f.control) ≡ true → t.control ≤ length l.waiting →
+        1 ≤ (told t (received (frame f)) l).lost }
     ensures nothing_else { (t : Terms) (e : Event) (l : Link) → finals (after t e l).waiting ≤ finals l.waiting + polls e }
 {}
 

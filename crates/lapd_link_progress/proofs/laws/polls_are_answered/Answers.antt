@@ -1,4 +1,5 @@
 use Rattle.lapd_link_progress.proofs.Answering.{poll-answered, unnumbered-answered}
+use Rattle.lapd_link_progress.proofs.Unanswered.{poll-lost, unnumbered-lost}
 use Rattle.lapd_link_progress.proofs.FinalRows.{event-finals}
 use Rattle.lapd_link_progress.proofs.laws.polls_are_answered.Goals as goal
 
@@ -10,3 +11,9 @@ returns-clause-unnumbered c = λ t l f room. unnumbered-answered t l room f.addr
 
 pub returns-clause-nothing_else : goal.returns-clause-nothing_else
 returns-clause-nothing_else c = λ t e l. event-finals t l e
+
+pub returns-clause-lost : goal.returns-clause-lost
+returns-clause-lost c = λ t l f h full. poll-lost t l full f h.up h.poll
+
+pub returns-clause-lost_unnumbered : goal.returns-clause-lost_unnumbered
+returns-clause-lost_unnumbered c = λ t l f some full. unnumbered-lost t l full f.address.command f.info f.control some

@@ -16,10 +16,11 @@ use Rattle.lapd_card_machine.proofs.Refusals.{refused_by_the_table}
 use Rattle.lapd_card_machine.proofs.ByEvent.{frames_by_event}
 use Rattle.lapd_card_machine.proofs.Drops.{drops_cost_nothing, drops_change_nothing}
 use Rattle.lapd_card_machine.specs.Promises.{IsWithinLimit, IsAmortised, IsAmortisedFromZero, HasSixOctetsAFrame, HasSevenOctetsAReject, IsLinear, IsIsolated, IsNeverFull, IsNumbered, IsNumberedFromZero, IsTextual}
-use Rattle.lapd_card_laws.specs.Promises.{IsKept, IsCountedIn, IsServedIn, UnitsWaitAll, IsDelivered}
+use Rattle.lapd_card_laws.specs.Promises.{IsKept, IsCountedIn, IsServedIn, UnitsWaitAll, TurnsStay, AreHeeded, IsDelivered}
 use Rattle.lapd_card_laws.proofs.Keeping.{kept, run-counted, begins-empty}
-use Rattle.lapd_card_laws.proofs.Serving.{served-in, units-all}
+use Rattle.lapd_card_laws.proofs.Serving.{served-in, units-all, turns-stay}
 use Rattle.lapd_card_laws.proofs.Hearing.{heard-all}
+use Rattle.lapd_card_laws.proofs.Heeding.{heeded-all}
 use Rattle.lapd_card.proofs.Headline.{whole_list, each_front, fresh_front}
 use Rattle.lapd_card.proofs.card.Card.drive.Goals as goal
 
@@ -176,3 +177,15 @@ returns-then-is_err-clause-served g c = λ m count. each_front g.S.Shelf.store c
 
 pub returns-then-is_err-clause-begins_empty : goal.returns-then-is_err-clause-begins_empty
 returns-then-is_err-clause-begins_empty g c = begins-empty c.args.self.now.config
+
+pub returns-clause-turns_stay : goal.returns-clause-turns_stay
+returns-clause-turns_stay g c = λ m. whole_list g.S.Shelf.store c.args.self.now c.args.events.now c.requires TurnsStay turns-stay m
+
+pub returns-clause-frames_are_heeded : goal.returns-clause-frames_are_heeded
+returns-clause-frames_are_heeded g c = λ m. whole_list g.S.Shelf.store c.args.self.now c.args.events.now c.requires AreHeeded heeded-all m
+
+pub returns-then-is_err-clause-turns_stay : goal.returns-then-is_err-clause-turns_stay
+returns-then-is_err-clause-turns_stay g c = λ m. whole_list g.S.Shelf.store c.args.self.now c.args.events.now c.requires TurnsStay turns-stay m
+
+pub returns-then-is_err-clause-frames_are_heeded : goal.returns-then-is_err-clause-frames_are_heeded
+returns-then-is_err-clause-frames_are_heeded g c = λ m. whole_list g.S.Shelf.store c.args.self.now c.args.events.now c.requires AreHeeded heeded-all m

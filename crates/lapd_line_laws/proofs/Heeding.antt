@@ -1,0 +1,95 @@
+-- What a frame that is heard makes of its link.
+use Rattle.std.proofs.Common.{◌≡◌, ℕ, ◌≤◌, ◌<◌, Bool, true, false, List, length, get_or, set, Option, Some, None, is_some, refl, sym, ap, ◌∙◌, subst, arith, true≢false, ◌⊎◌, inl, inr, ⊎_elim}
+use Rattle.std.proofs.lemmas.Bool.{cases_lt}
+use Rattle.std.proofs.lemmas.List.{get_or-set_same}
+use Rattle.std.specs.List.{list_any}
+use Rattle.lapd_frame.specs.declared.services.Service.{Service}
+use Rattle.lapd_frame.specs.declared.controls.Control.{Control}
+use Rattle.lapd_frame.specs.Grammar.{Parts}
+use Rattle.lapd_link_machine.specs.declared.terms.Terms.{Terms}
+use Rattle.lapd_link_machine.specs.Events as link
+use Rattle.lapd_link_machine.specs.Link.{Link, fresh}
+use Rattle.lapd_link_machine.specs.Machine as links
+use Rattle.lapd_link_machine.specs.Notes.{is_data}
+use Rattle.lapd_link_machine.proofs.OwnNotes.{notes-own}
+use Rattle.lapd_link_machine.proofs.TellRows.{event-tells}
+use Rattle.lapd_link_laws.specs.Owing.{Owes, IsBegunAgain}
+use Rattle.lapd_link_laws.proofs.GoingBack.{goes-back}
+use Rattle.lapd_link_laws.proofs.Owing as owing
+use Rattle.lapd_link_progress.specs.Polls.{IsPollWhileUp, Answered, AnsweredBy, asked_of}
+use Rattle.lapd_link_progress.proofs.Answering.{poll-answered, unnumbered-answered}
+use Rattle.lapd_link_progress.proofs.FinalRows.{event-finals}
+use Rattle.lapd_link_progress.proofs.Unanswered.{poll-lost, unnumbered-lost}
+use Rattle.lapd_tei.proofs.Tables.{place_of-is}
+use Rattle.lapd_line_machine.specs.declared.config.Config.{Config}
+use Rattle.lapd_line_machine.specs.Answer.{Answer, octet, told}
+use Rattle.lapd_line_machine.specs.Effect.{told_of_link}
+use Rattle.lapd_line_machine.specs.Line.{Line, link_number, link_in, terms}
+use Rattle.lapd_line_machine.specs.Machine.{after, answer}
+use Rattle.lapd_line_machine.specs.Sound.{IsSound}
+use Rattle.lapd_line_machine.proofs.Numbers.{number_within}
+use Rattle.lapd_line_laws.specs.Frames.{lost_in, IsLost, IsHeeded}
+use Rattle.lapd_line_laws.specs.Heard.{Ends, IsFor, is_data_of, notes_of, Says}
+use Rattle.lapd_line_laws.proofs.Hearing.{own-all, one-event}
+
+-- some contents are there
+is-there : (o : Option (List ℕ)) → is_some o ≡ true → (contents : List ℕ) × (o ≡ Some contents)
+is-there None e = absurd (true≢false (sym e))
+is-there (Some contents) e = (contents, refl)
+
+-- of a link's own event
+module _ (t : Terms) (f : Parts) (l : Link) where
+  abbrev e : link.Event
+  e = link.received (link.frame f)
+
+  room-or-none : {P Q : Type 0} → (length l.waiting < t.control → P) → (t.control ≤ length l.waiting → Q) → P ⊎ Q
+  room-or-none x y = ⊎_elim (λ less. inl (x less)) (λ most. inr (y most)) (cases_lt (length l.waiting) t.control)
+
+  polled : IsPollWhileUp t l f → Answered l.waiting (links.after t e l) ⊎ ((t.control ≤ length l.waiting) × (1 ≤ (links.told t e l).lost))
+  polled h = room-or-none (λ room. poll-answered t l (omega (arith, room)) f h.up h.poll) (λ full. (full, poll-lost t l full f h.up h.poll))
+
+  asked : AnsweredBy (asked_of l.state f.control) l.waiting (links.after t e l) ⊎ ((t.control ≤ length l.waiting) × (1 ≤ (links.told t e l).lost))
+  asked = go (asked_of l.state f.control) refl
+    where
+      go : (o : Option Control) → asked_of l.state f.control ≡ o → AnsweredBy o l.waiting (links.after t e l) ⊎ ((t.control ≤ length l.waiting) × (1 ≤ (links.told t e l).lost))
+      go None is = inl tt
+      go (Some control) is =
+          room-or-none
+          (λ room. subst (λ o. AnsweredBy o l.waiting (links.after t e l)) is (unnumbered-answered t l (omega (arith, room)) f.address.command f.info f.control))
+          (λ full. (full, unnumbered-lost t l full f.address.command f.info f.control (ap is_some is)))
+
+  owed : list_any (is_data_of t.service t.tei) (links.told t e l).notes ≡ true
+      → Owes l.waiting (links.after t e l) (links.told t e l).lost ⊎ IsBegunAgain t (links.after t e l) (links.told t e l).notes
+  owed noted =
+      let some = is-there (links.told t e l).delivered (sym (event-tells t e l).1 ∙ sym (own-all t (links.told t e l).notes (notes-own t e l)).0 ∙ noted) in
+      owing.acknowledged t l e some.0 some.1
+
+  pub heeded : (a : Answer) → notes_of a ≡ (links.told t e l).notes → lost_in a ≡ (links.told t e l).lost → IsHeeded t f l (links.after t e l) a
+  heeded a notes lost =
+      let counted : 1 ≤ (links.told t e l).lost → 1 ≤ lost_in a = λ some. subst (λ n. 1 ≤ n) (sym lost) some in
+      record {
+        poll = λ h. ⊎_elim (λ x. inl x) (λ x. inr (record { full = x.0; counted = counted x.1 })) (polled h);
+        unnumbered = ⊎_elim (λ x. inl x) (λ x. inr (record { full = x.0; counted = counted x.1 })) asked;
+        final = event-finals t l e;
+        acknowledged = λ noted.
+            subst (λ ns. Owes l.waiting (links.after t e l) (lost_in a) ⊎ IsBegunAgain t (links.after t e l) ns) (sym notes)
+            (subst (λ n. Owes l.waiting (links.after t e l) n ⊎ IsBegunAgain t (links.after t e l) (links.told t e l).notes) (sym lost)
+            (owed (ap (list_any (is_data_of t.service t.tei)) (sym notes) ∙ noted)));
+        again = λ nr n is valid. goes-back t l nr n valid f.address.command f.info f.control is;
+      }
+
+-- at its line
+pub frame-heeded : (c : Config) (l : Line) → IsSound c l → (value : ℕ) (service : Service) (tei place : ℕ) (parts : Parts) (octets : List ℕ)
+    → Ends c l value octets → IsFor l service tei place parts octets
+    → IsHeeded (terms c service tei) parts (link_in l service place) (link_in (after c (octet value) l) service place) (answer c (octet value) l)
+frame-heeded c l s value service tei place parts octets ends f =
+    let one = one-event c l value service tei place parts octets ends f in
+    let t = terms c service tei in
+    let next = links.after t (link.received (link.frame parts)) (link_in l service place) in
+    let within : place < length l.management.places = (place_of-is l.management.places tei place f.on_line).0 in
+    let few = number_within place c.terminals service (omega (arith, within, s.places)) in
+    let there : link_in (after c (octet value) l) service place ≡ next =
+    ap (λ (x : Line). link_in x service place) one.line ∙ get_or-set_same l.links (link_number place service) next fresh (omega (arith, few, s.count)) in
+    subst (λ (x : Link). IsHeeded t parts (link_in l service place) x (answer c (octet value) l)) (sym there)
+    (heeded t parts (link_in l service place) (answer c (octet value) l)
+    (ap notes_of one.answer_is.is ∙ one.answer_is.notes) (ap lost_in one.answer_is.is ∙ one.answer_is.lost))

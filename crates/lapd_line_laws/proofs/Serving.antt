@@ -90,24 +90,26 @@ module _ (c : Config) (l : Line) (s : IsSound c l) where
           offer-counts t (link_at number l) sound ∙ ap (λ o. (link_at number l).s + one (option_map_or (λ g. is_information g.frame.control) o false)) e in
           let here : get_or (set l.links number next) number fresh ≡ next = get_or-set_same l.links number next fresh (omega (arith, few, s.count)) in
           let ordered : IsInOrder t (link_at number l) next g.frame =
-          subst (λ o. IfSome o (λ g. IsInOrder t (link_at number l) next g.frame)) e (given-in-order t (link_at number l) sound) in
-          (λ turn. record {
-            number = number;
-            few = few;
-            its_turn = turn;
-            tei = tei;
-            on_line = at;
-            command = g.frame.command;
-            control = g.frame.control;
-            information = g.contents;
-            spelled = refl;
-            in_order = subst (λ (x : Link). IsInOrder t (link_at number l) x g.frame) (sym here) ordered;
-            carried = carried;
-            counted = ap (λ (x : Link). x.s) here ∙ counts;
-            messages = refl;
-            units = refl;
-            others = λ other apart. get_or-set_other l.links number other next fresh apart;
-          }, refl)
+          subst (λ o. IfSome o (λ g. IsInOrder t (link_at number l) next g.frame)) e (given-in-order t (link_at number l) sound) in (
+            λ turn. record {
+              number = number;
+              few = few;
+              its_turn = turn;
+              tei = tei;
+              on_line = at;
+              command = g.frame.command;
+              control = g.frame.control;
+              information = g.contents;
+              spelled = refl;
+              in_order = subst (λ (x : Link). IsInOrder t (link_at number l) x g.frame) (sym here) ordered;
+              carried = carried;
+              counted = ap (λ (x : Link). x.s) here ∙ counts;
+              messages = refl;
+              units = refl;
+              others = λ other apart. get_or-set_other l.links number other next fresh apart;
+            },
+            refl,
+          )
 
       go : (o : Option ℕ) → tei_at (place_at number) l ≡ o → IsSoundAt c number (link_at number l) o → LinkFate number (link_taken c l number)
       go None e begins =

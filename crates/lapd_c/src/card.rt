@@ -62,8 +62,10 @@ pub extern "C" fn lapd_card_start(
     requires { IsHandle handle.old }
     ensures handle { IsHandle handle.new }
     ensures second { IfSome (card_of handle.old) (λ _. (result ≡ status.second_start) × (handle.new ≡ handle.old)) }
-    ensures fault { card_of handle.old ≡ None → IfSome (first_fault (config_in config.now)) (λ field. (result ≡ field_status field) × (handle.new ≡ handle.old)) }
-    ensures otherwise { card_of handle.old ≡ None → first_fault (config_in config.now) ≡ None → (result ≡ status.ok) ⊎ (result ≡ status.no_memory) }
+    ensures fault { card_of handle.old ≡ None → IfSome (first_fault (config_in config.now))
+        (λ field. (result ≡ field_status field) × (handle.new ≡ handle.old)) }
+    ensures otherwise { card_of handle.old ≡ None → first_fault (config_in config.now) ≡ None
+        → (result ≡ status.ok) ⊎ (result ≡ status.no_memory) }
     ensures fresh { result ≡ status.ok → Stands handle.new (machine.fresh (config_in config.now)) }
     ensures no_memory { result ≡ status.no_memory → handle.new ≡ handle.old }
 {

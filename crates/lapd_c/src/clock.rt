@@ -70,8 +70,10 @@ pub extern "C" fn lapd_clock_start(
     requires { IsHandle handle.old }
     ensures handle { IsHandle handle.new }
     ensures second { IfSome (clock_of handle.old) (λ _. (result ≡ status.second_start) × (handle.new ≡ handle.old)) }
-    ensures fault { clock_of handle.old ≡ None → IfSome (first_fault (config_in config.now)) (λ field. (result ≡ field_status field) × (handle.new ≡ handle.old)) }
-    ensures otherwise { clock_of handle.old ≡ None → first_fault (config_in config.now) ≡ None → (result ≡ status.ok) ⊎ (result ≡ status.no_memory) }
+    ensures fault { clock_of handle.old ≡ None → IfSome (first_fault (config_in config.now))
+        (λ field. (result ≡ field_status field) × (handle.new ≡ handle.old)) }
+    ensures otherwise { clock_of handle.old ≡ None → first_fault (config_in config.now) ≡ None
+        → (result ≡ status.ok) ⊎ (result ≡ status.no_memory) }
     ensures idle { result ≡ status.ok → clock_of handle.new ≡ Some (idle config.now.lines config.now.terminals) }
     ensures no_memory { result ≡ status.no_memory → handle.new ≡ handle.old }
 {
@@ -169,10 +171,13 @@ pub extern "C" fn lapd_clock_due(
 ) -> u32
     requires { IsHandle handle.old }
     ensures handle { IsHandle handle.new }
-    ensures no_clock { clock_of handle.old ≡ None → (result ≡ status.no_clock) × (handle.new ≡ handle.old) × (due.new ≡ due.old) }
+    ensures no_clock { clock_of handle.old ≡ None
+        → (result ≡ status.no_clock) × (handle.new ≡ handle.old) × (due.new ≡ due.old) }
     ensures after { clock_of handle.new ≡ option_map (λ c. after_due c now) (clock_of handle.old) }
-    ensures none { IfSome (clock_of handle.old) (λ c. due_at c now ≡ None → (result ≡ status.no_timer) × (due.new ≡ due.old)) }
-    ensures due { IfSome (clock_of handle.old) (λ c. IfSome (due_at c now) (λ first. (result ≡ status.ok) × (due.new ≡ plain_due first))) }
+    ensures none { IfSome (clock_of handle.old) (λ c. due_at c now ≡ None
+        → (result ≡ status.no_timer) × (due.new ≡ due.old)) }
+    ensures due { IfSome (clock_of handle.old) (λ c. IfSome (due_at c now)
+        (λ first. (result ≡ status.ok) × (due.new ≡ plain_due first))) }
 {
     let Some(mut clock) = handle.take(alloc) else {
         return NO_CLOCK;
@@ -196,10 +201,13 @@ pub extern "C" fn lapd_clock_due(
 pub extern "C" fn lapd_clock_next(alloc: Global, handle: &mut ClockHandle, moment: &mut u64) -> u32
     requires { IsHandle handle.old }
     ensures handle { IsHandle handle.new }
-    ensures no_clock { clock_of handle.old ≡ None → (result ≡ status.no_clock) × (handle.new ≡ handle.old) × (moment.new ≡ moment.old) }
+    ensures no_clock { clock_of handle.old ≡ None
+        → (result ≡ status.no_clock) × (handle.new ≡ handle.old) × (moment.new ≡ moment.old) }
     ensures unchanged { clock_of handle.new ≡ clock_of handle.old }
-    ensures none { IfSome (clock_of handle.old) (λ c. next_moment c ≡ None → (result ≡ status.no_timer) × (moment.new ≡ moment.old)) }
-    ensures next { IfSome (clock_of handle.old) (λ c. IfSome (next_moment c) (λ first. (result ≡ status.ok) × (moment.new ≡ first))) }
+    ensures none { IfSome (clock_of handle.old) (λ c. next_moment c ≡ None
+        → (result ≡ status.no_timer) × (moment.new ≡ moment.old)) }
+    ensures next { IfSome (clock_of handle.old) (λ c. IfSome (next_moment c)
+        (λ first. (result ≡ status.ok) × (moment.new ≡ first))) }
 {
     let Some(clock) = handle.take(alloc) else {
         return NO_CLOCK;

@@ -29,7 +29,8 @@ pub extern "C" fn lapd_octet(
 ) -> u32
     requires { IsHandle handle.old }
     ensures handle { IsHandle handle.new }
-    ensures no_card { card_of handle.old ≡ None → (result ≡ status.no_card) × (handle.new ≡ handle.old) × (report.new ≡ report.old) }
+    ensures no_card { card_of handle.old ≡ None
+        → (result ≡ status.no_card) × (handle.new ≡ handle.old) × (report.new ≡ report.old) }
     ensures wrong_line { (m : machine.Card) → Stands handle.old m → m.config.lines ≤ line
         → (result ≡ status.wrong_line) × Stands handle.new m × (report.new ≡ report.old) }
     ensures served { (m : machine.Card) → Stands handle.old m → line < m.config.lines
@@ -77,12 +78,14 @@ pub extern "C" fn lapd_pull(
 ) -> u32
     requires { IsHandle handle.old }
     ensures handle { IsHandle handle.new }
-    ensures no_card { card_of handle.old ≡ None → (result ≡ status.no_card) × (handle.new ≡ handle.old) × (octet.new ≡ octet.old) × (report.new ≡ report.old) }
+    ensures no_card { card_of handle.old ≡ None
+        → (result ≡ status.no_card) × (handle.new ≡ handle.old) × (octet.new ≡ octet.old) × (report.new ≡ report.old) }
     ensures wrong_line { (m : machine.Card) → Stands handle.old m → m.config.lines ≤ line
         → (result ≡ status.wrong_line) × Stands handle.new m × (octet.new ≡ octet.old) × (report.new ≡ report.old) }
     ensures served { (m : machine.Card) → Stands handle.old m → line < m.config.lines
         → (result ≡ status.ok) × Stands handle.new (after (at line happening.pull) m)
-        × (octet.new ≡ octet_of (answer (at line happening.pull) m)) × ShowsAnswer report.new (answer (at line happening.pull) m) }
+        × (octet.new ≡ octet_of (answer (at line happening.pull) m))
+        × ShowsAnswer report.new (answer (at line happening.pull) m) }
 {
     let Some(mut card) = handle.take(alloc) else {
         return NO_CARD;
@@ -97,7 +100,8 @@ fn give_octet(card: &mut Card<RawShelf>, line: u32, octet: &mut u8, report: &mut
         → (result ≡ status.wrong_line) × CardStands card.new m × (octet.new ≡ octet.old) × (report.new ≡ report.old) }
     ensures served { (m : machine.Card) → CardStands card.old m → line < m.config.lines
         → (result ≡ status.ok) × CardStands card.new (after (at line happening.pull) m)
-        × (octet.new ≡ octet_of (answer (at line happening.pull) m)) × ShowsAnswer report.new (answer (at line happening.pull) m) }
+        × (octet.new ≡ octet_of (answer (at line happening.pull) m))
+        × ShowsAnswer report.new (answer (at line happening.pull) m) }
 {
     let line = line as usize;
     if line >= card.lines() {
@@ -120,12 +124,15 @@ pub extern "C" fn lapd_expire(
 ) -> u32
     requires { IsHandle handle.old }
     ensures handle { IsHandle handle.new }
-    ensures no_card { card_of handle.old ≡ None → (result ≡ status.no_card) × (handle.new ≡ handle.old) × (report.new ≡ report.old) }
+    ensures no_card { card_of handle.old ≡ None
+        → (result ≡ status.no_card) × (handle.new ≡ handle.old) × (report.new ≡ report.old) }
     ensures wrong_line { (m : machine.Card) → Stands handle.old m → m.config.lines ≤ line
         → (result ≡ status.wrong_line) × Stands handle.new m × (report.new ≡ report.old) }
-    ensures wrong_timer { (m : machine.Card) → Stands handle.old m → line < m.config.lines → IfErr (timer_in timer.now) (λ wrong.
+    ensures wrong_timer { (m : machine.Card) → Stands handle.old m → line < m.config.lines
+        → IfErr (timer_in timer.now) (λ wrong.
         (result ≡ wrong) × Stands handle.new m × (report.new ≡ report.old)) }
-    ensures served { (m : machine.Card) → Stands handle.old m → line < m.config.lines → IfOk (timer_in timer.now) (λ expired.
+    ensures served { (m : machine.Card) → Stands handle.old m → line < m.config.lines
+        → IfOk (timer_in timer.now) (λ expired.
         (result ≡ status.ok) × Stands handle.new (after (at line (happening.expiry expired)) m)
         × ShowsAnswer report.new (answer (at line (happening.expiry expired)) m)) }
 {
@@ -145,9 +152,11 @@ fn expire_timer(
 ) -> u32
     ensures wrong_line { (m : machine.Card) → CardStands card.old m → m.config.lines ≤ line
         → (result ≡ status.wrong_line) × CardStands card.new m × (report.new ≡ report.old) }
-    ensures wrong_timer { (m : machine.Card) → CardStands card.old m → line < m.config.lines → IfErr (timer_in timer.now) (λ wrong.
+    ensures wrong_timer { (m : machine.Card) → CardStands card.old m → line < m.config.lines
+        → IfErr (timer_in timer.now) (λ wrong.
         (result ≡ wrong) × CardStands card.new m × (report.new ≡ report.old)) }
-    ensures served { (m : machine.Card) → CardStands card.old m → line < m.config.lines → IfOk (timer_in timer.now) (λ expired.
+    ensures served { (m : machine.Card) → CardStands card.old m → line < m.config.lines
+        → IfOk (timer_in timer.now) (λ expired.
         (result ≡ status.ok) × CardStands card.new (after (at line (happening.expiry expired)) m)
         × ShowsAnswer report.new (answer (at line (happening.expiry expired)) m)) }
 {
@@ -185,15 +194,19 @@ pub extern "C" fn lapd_request(
 ) -> u32
     requires { IsHandle handle.old }
     ensures handle { IsHandle handle.new }
-    ensures no_card { card_of handle.old ≡ None → (result ≡ status.no_card) × (handle.new ≡ handle.old) × (report.new ≡ report.old) }
+    ensures no_card { card_of handle.old ≡ None
+        → (result ≡ status.no_card) × (handle.new ≡ handle.old) × (report.new ≡ report.old) }
     ensures wrong_line { (m : machine.Card) → Stands handle.old m → m.config.lines ≤ line
         → (result ≡ status.wrong_line) × Stands handle.new m × (report.new ≡ report.old) }
     ensures wrong_request { (m : machine.Card) → Stands handle.old m → line < m.config.lines
-        → IfErr (request_in request service tei contents.now) (λ wrong. (result ≡ wrong) × Stands handle.new m × (report.new ≡ report.old)) }
-    ensures refused { (m : machine.Card) → Stands handle.old m → line < m.config.lines → IfOk (request_in request service tei contents.now) (λ asked.
+        → IfErr (request_in request service tei contents.now) (λ wrong. (result ≡ wrong) × Stands handle.new m
+        × (report.new ≡ report.old)) }
+    ensures refused { (m : machine.Card) → Stands handle.old m → line < m.config.lines
+        → IfOk (request_in request service tei contents.now) (λ asked.
         IfSome (refusal m.config (machine.is_full m) asked (machine.line_at line m)) (λ why.
         (result ≡ refusal_status why) × Stands handle.new m × (report.new ≡ report.old))) }
-    ensures served { (m : machine.Card) → Stands handle.old m → line < m.config.lines → IfOk (request_in request service tei contents.now) (λ asked.
+    ensures served { (m : machine.Card) → Stands handle.old m → line < m.config.lines
+        → IfOk (request_in request service tei contents.now) (λ asked.
         refusal m.config (machine.is_full m) asked (machine.line_at line m) ≡ None
         → (result ≡ status.ok) × Stands handle.new (after (at line (happening.request asked)) m)
         × ShowsAnswer report.new (answer (at line (happening.request asked)) m)) }
@@ -218,11 +231,14 @@ fn ask(
     ensures wrong_line { (m : machine.Card) → CardStands card.old m → m.config.lines ≤ line
         → (result ≡ status.wrong_line) × CardStands card.new m × (report.new ≡ report.old) }
     ensures wrong_request { (m : machine.Card) → CardStands card.old m → line < m.config.lines
-        → IfErr (request_in request service tei contents.now) (λ wrong. (result ≡ wrong) × CardStands card.new m × (report.new ≡ report.old)) }
-    ensures refused { (m : machine.Card) → CardStands card.old m → line < m.config.lines → IfOk (request_in request service tei contents.now) (λ asked.
+        → IfErr (request_in request service tei contents.now) (λ wrong. (result ≡ wrong) × CardStands card.new m
+        × (report.new ≡ report.old)) }
+    ensures refused { (m : machine.Card) → CardStands card.old m → line < m.config.lines
+        → IfOk (request_in request service tei contents.now) (λ asked.
         IfSome (refusal m.config (machine.is_full m) asked (machine.line_at line m)) (λ why.
         (result ≡ refusal_status why) × CardStands card.new m × (report.new ≡ report.old))) }
-    ensures served { (m : machine.Card) → CardStands card.old m → line < m.config.lines → IfOk (request_in request service tei contents.now) (λ asked.
+    ensures served { (m : machine.Card) → CardStands card.old m → line < m.config.lines
+        → IfOk (request_in request service tei contents.now) (λ asked.
         refusal m.config (machine.is_full m) asked (machine.line_at line m) ≡ None
         → (result ≡ status.ok) × CardStands card.new (after (at line (happening.request asked)) m)
         × ShowsAnswer report.new (answer (at line (happening.request asked)) m)) }

@@ -32,12 +32,18 @@ pub extern "C" fn lapd_exchange(
 ) -> u32
     requires { IsHandle handle.old }
     ensures handle { IsHandle handle.new }
-    ensures no_card { card_of handle.old ≡ None → (result ≡ status.no_card) × (handle.new ≡ handle.old) × (given.new ≡ given.old) × (steps.new ≡ steps.old) × (report.new ≡ report.old) }
+    ensures no_card { card_of handle.old ≡ None
+        → (result ≡ status.no_card) × (handle.new ≡ handle.old) × (given.new ≡ given.old) × (steps.new ≡ steps.old)
+        × (report.new ≡ report.old) }
     ensures wrong_line { (m : machine.Card) → Stands handle.old m → m.config.lines ≤ line
-        → (result ≡ status.wrong_line) × Stands handle.new m × (given.new ≡ given.old) × (steps.new ≡ steps.old) × (report.new ≡ report.old) }
-    ensures wrong_length { (m : machine.Card) → Stands handle.old m → line < m.config.lines → is_exchange taken.now given.old steps.old ≡ false
-        → (result ≡ status.wrong_length) × Stands handle.new m × (given.new ≡ given.old) × (steps.new ≡ steps.old) × (report.new ≡ report.old) }
-    ensures served { (m : machine.Card) → Stands handle.old m → line < m.config.lines → is_exchange taken.now given.old steps.old ≡ true
+        → (result ≡ status.wrong_line) × Stands handle.new m × (given.new ≡ given.old) × (steps.new ≡ steps.old)
+        × (report.new ≡ report.old) }
+    ensures wrong_length { (m : machine.Card) → Stands handle.old m → line < m.config.lines
+        → is_exchange taken.now given.old steps.old ≡ false
+        → (result ≡ status.wrong_length) × Stands handle.new m × (given.new ≡ given.old) × (steps.new ≡ steps.old)
+        × (report.new ≡ report.old) }
+    ensures served { (m : machine.Card) → Stands handle.old m → line < m.config.lines
+        → is_exchange taken.now given.old steps.old ≡ true
         → (result ≡ status.ok) × ExchangedIn line taken.now steps.old m (card_of handle.new) given.old given.new steps.new report.new }
 {
     let Some(mut card) = handle.take(alloc) else {
@@ -57,10 +63,14 @@ fn exchange_at(
     report: &mut PlainReport,
 ) -> u32
     ensures wrong_line { (m : machine.Card) → CardStands card.old m → m.config.lines ≤ line
-        → (result ≡ status.wrong_line) × CardStands card.new m × (given.new ≡ given.old) × (steps.new ≡ steps.old) × (report.new ≡ report.old) }
-    ensures wrong_length { (m : machine.Card) → CardStands card.old m → line < m.config.lines → is_exchange taken.now given.old steps.old ≡ false
-        → (result ≡ status.wrong_length) × CardStands card.new m × (given.new ≡ given.old) × (steps.new ≡ steps.old) × (report.new ≡ report.old) }
-    ensures served { (m : machine.Card) → CardStands card.old m → line < m.config.lines → is_exchange taken.now given.old steps.old ≡ true
+        → (result ≡ status.wrong_line) × CardStands card.new m × (given.new ≡ given.old) × (steps.new ≡ steps.old)
+        × (report.new ≡ report.old) }
+    ensures wrong_length { (m : machine.Card) → CardStands card.old m → line < m.config.lines
+        → is_exchange taken.now given.old steps.old ≡ false
+        → (result ≡ status.wrong_length) × CardStands card.new m × (given.new ≡ given.old) × (steps.new ≡ steps.old)
+        × (report.new ≡ report.old) }
+    ensures served { (m : machine.Card) → CardStands card.old m → line < m.config.lines
+        → is_exchange taken.now given.old steps.old ≡ true
         → (result ≡ status.ok) × Exchanged line taken.now steps.old m card.new given.old given.new steps.new report.new }
 {
     let line = line as usize;
@@ -111,10 +121,13 @@ fn make_step(
     requires within { step < 2 * length taken.now }
     requires lengths { length given.old ≡ length taken.now }
     ensures leads { Leads shelf_of (step_event line taken.now step) card.old card.new }
-    ensures given { (m : machine.Card) → CardStands card.old m → given.new ≡ with_step step (answer (step_event line taken.now step) m) given.old }
+    ensures given { (m : machine.Card) → CardStands card.old m
+        → given.new ≡ with_step step (answer (step_event line taken.now step) m) given.old }
     ensures length { length given.new ≡ length given.old }
-    ensures tells { (m : machine.Card) → CardStands card.old m → result ≡ not (is_quiet (answer (step_event line taken.now step) m)) }
-    ensures shown { (m : machine.Card) → CardStands card.old m → result ≡ true → ShowsAnswer report.new (answer (step_event line taken.now step) m) }
+    ensures tells { (m : machine.Card) → CardStands card.old m
+        → result ≡ not (is_quiet (answer (step_event line taken.now step) m)) }
+    ensures shown { (m : machine.Card) → CardStands card.old m → result ≡ true
+        → ShowsAnswer report.new (answer (step_event line taken.now step) m) }
 {
     if step % 2 == 0 {
         return tells_taken(card, line, taken[step / 2], report);
@@ -126,8 +139,10 @@ fn make_step(
 fn tells_taken(card: &mut Card<RawShelf>, line: usize, octet: u8, report: &mut PlainReport) -> bool
     requires { line < line_count card.old }
     ensures leads { Leads shelf_of (at line (happening.octet octet)) card.old card.new }
-    ensures tells { (m : machine.Card) → CardStands card.old m → result ≡ not (is_quiet (answer (at line (happening.octet octet)) m)) }
-    ensures shown { (m : machine.Card) → CardStands card.old m → result ≡ true → ShowsAnswer report.new (answer (at line (happening.octet octet)) m) }
+    ensures tells { (m : machine.Card) → CardStands card.old m
+        → result ≡ not (is_quiet (answer (at line (happening.octet octet)) m)) }
+    ensures shown { (m : machine.Card) → CardStands card.old m → result ≡ true
+        → ShowsAnswer report.new (answer (at line (happening.octet octet)) m) }
     ensures unchanged { result ≡ false → report.new ≡ report.old }
 {
     let told = card.octet(line, octet);
@@ -153,9 +168,12 @@ fn tells_given(
 ) -> bool
     requires { line < line_count card.old }
     ensures leads { Leads shelf_of (at line happening.pull) card.old card.new }
-    ensures octet { (m : machine.Card) → CardStands card.old m → octet.new ≡ octet_of (answer (at line happening.pull) m) }
-    ensures tells { (m : machine.Card) → CardStands card.old m → result ≡ not (is_quiet (answer (at line happening.pull) m)) }
-    ensures shown { (m : machine.Card) → CardStands card.old m → result ≡ true → ShowsAnswer report.new (answer (at line happening.pull) m) }
+    ensures octet { (m : machine.Card) → CardStands card.old m
+        → octet.new ≡ octet_of (answer (at line happening.pull) m) }
+    ensures tells { (m : machine.Card) → CardStands card.old m
+        → result ≡ not (is_quiet (answer (at line happening.pull) m)) }
+    ensures shown { (m : machine.Card) → CardStands card.old m → result ≡ true
+        → ShowsAnswer report.new (answer (at line happening.pull) m) }
     ensures unchanged { result ≡ false → report.new ≡ report.old }
 {
     let pulled = card.pull(line);

@@ -4,8 +4,8 @@
 //! from there, serves, and puts it back; a ghost field says which card it is, so that the contracts speak of the card's
 //! machine (`lapd_card_machine`) and of the clock's timers (`lapd_clock`).
 //!
-//! - `card`: a card in C, how it begins and ends; `card_slot`, where it lies; `events`, what happens at it; `exchange`, octets taken and given in turn;
-//!   `questions`, what it answers about itself.
+//! - `card`: a card in C, how it begins and ends; `card_slot`, where it lies; `events`, what happens at it; `exchange`,
+//!   octets taken and given in turn; `questions`, what it answers about itself.
 //! - `clock`: a clock in C, and its exports; `clock_reports`, the orders of a report; `clock_slot`, where it lies.
 //! - `laws`: what holds of the machine's answers, so that a report has room for each.
 //! - `loose`: a box as the address of its block.

@@ -29,13 +29,16 @@ pub extern "C" fn lapd_state(
 ) -> u32
     requires { IsHandle handle.old }
     ensures handle { IsHandle handle.new }
-    ensures no_card { card_of handle.old ≡ None → (result ≡ status.no_card) × (handle.new ≡ handle.old) × (state.new ≡ state.old) }
+    ensures no_card { card_of handle.old ≡ None
+        → (result ≡ status.no_card) × (handle.new ≡ handle.old) × (state.new ≡ state.old) }
     ensures unchanged { card_of handle.new ≡ card_of handle.old }
-    ensures wrong_line { (m : machine.Card) → Stands handle.old m → m.config.lines ≤ line → (result ≡ status.wrong_line) × (state.new ≡ state.old) }
+    ensures wrong_line { (m : machine.Card) → Stands handle.old m → m.config.lines ≤ line
+        → (result ≡ status.wrong_line) × (state.new ≡ state.old) }
     ensures wrong_link { (m : machine.Card) → Stands handle.old m → line < m.config.lines
         → IfErr (link_in service tei) (λ wrong. (result ≡ wrong) × (state.new ≡ state.old)) }
     ensures told { (m : machine.Card) → Stands handle.old m → line < m.config.lines
-        → IfOk (link_in service tei) (λ link. (result ≡ status.ok) × (state.new ≡ unwrap_or (machine.state line link.0 link.1 m) 0)) }
+        → IfOk (link_in service tei) (λ link. (result ≡ status.ok)
+        × (state.new ≡ unwrap_or (machine.state line link.0 link.1 m) 0)) }
 {
     let Some(card) = handle.take(alloc) else {
         return NO_CARD;
@@ -46,11 +49,13 @@ pub extern "C" fn lapd_state(
 }
 
 fn tell_state(card: &Card<RawShelf>, line: u32, service: u8, tei: u8, state: &mut u8) -> u32
-    ensures wrong_line { (m : machine.Card) → CardStands card.now m → m.config.lines ≤ line → (result ≡ status.wrong_line) × (state.new ≡ state.old) }
+    ensures wrong_line { (m : machine.Card) → CardStands card.now m → m.config.lines ≤ line
+        → (result ≡ status.wrong_line) × (state.new ≡ state.old) }
     ensures wrong_link { (m : machine.Card) → CardStands card.now m → line < m.config.lines
         → IfErr (link_in service tei) (λ wrong. (result ≡ wrong) × (state.new ≡ state.old)) }
     ensures told { (m : machine.Card) → CardStands card.now m → line < m.config.lines
-        → IfOk (link_in service tei) (λ link. (result ≡ status.ok) × (state.new ≡ unwrap_or (machine.state line link.0 link.1 m) 0)) }
+        → IfOk (link_in service tei) (λ link. (result ≡ status.ok)
+        × (state.new ≡ unwrap_or (machine.state line link.0 link.1 m) 0)) }
 {
     let line = line as usize;
     if line >= card.lines() {
@@ -70,7 +75,8 @@ fn tell_state(card: &Card<RawShelf>, line: u32, service: u8, tei: u8, state: &mu
 pub extern "C" fn lapd_stored(alloc: Global, handle: &mut CardHandle, octets: &mut u32) -> u32
     requires { IsHandle handle.old }
     ensures handle { IsHandle handle.new }
-    ensures no_card { card_of handle.old ≡ None → (result ≡ status.no_card) × (handle.new ≡ handle.old) × (octets.new ≡ octets.old) }
+    ensures no_card { card_of handle.old ≡ None
+        → (result ≡ status.no_card) × (handle.new ≡ handle.old) × (octets.new ≡ octets.old) }
     ensures unchanged { card_of handle.new ≡ card_of handle.old }
     ensures told { (m : machine.Card) → Stands handle.old m → (result ≡ status.ok) × (octets.new ≡ stored m) }
 {
@@ -87,7 +93,8 @@ pub extern "C" fn lapd_stored(alloc: Global, handle: &mut CardHandle, octets: &m
 pub extern "C" fn lapd_limit(alloc: Global, handle: &mut CardHandle, octets: &mut u32) -> u32
     requires { IsHandle handle.old }
     ensures handle { IsHandle handle.new }
-    ensures no_card { card_of handle.old ≡ None → (result ≡ status.no_card) × (handle.new ≡ handle.old) × (octets.new ≡ octets.old) }
+    ensures no_card { card_of handle.old ≡ None
+        → (result ≡ status.no_card) × (handle.new ≡ handle.old) × (octets.new ≡ octets.old) }
     ensures unchanged { card_of handle.new ≡ card_of handle.old }
     ensures told { (m : machine.Card) → Stands handle.old m → (result ≡ status.ok) × (octets.new ≡ limit m.config) }
 {
@@ -104,7 +111,8 @@ pub extern "C" fn lapd_limit(alloc: Global, handle: &mut CardHandle, octets: &mu
 pub extern "C" fn lapd_lines(alloc: Global, handle: &mut CardHandle, lines: &mut u32) -> u32
     requires { IsHandle handle.old }
     ensures handle { IsHandle handle.new }
-    ensures no_card { card_of handle.old ≡ None → (result ≡ status.no_card) × (handle.new ≡ handle.old) × (lines.new ≡ lines.old) }
+    ensures no_card { card_of handle.old ≡ None
+        → (result ≡ status.no_card) × (handle.new ≡ handle.old) × (lines.new ≡ lines.old) }
     ensures unchanged { card_of handle.new ≡ card_of handle.old }
     ensures told { (m : machine.Card) → Stands handle.old m → (result ≡ status.ok) × (lines.new ≡ m.config.lines) }
 {

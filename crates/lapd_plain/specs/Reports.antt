@@ -25,6 +25,11 @@ abbrev pub contents_of : Option (List ℕ) → List ℕ
 contents_of None = []
 contents_of (Some contents) = contents
 
+-- 1 where there are contents, also of no octets; else 0.
+abbrev pub mark_of : Option (List ℕ) → ℕ
+mark_of None = 0
+mark_of (Some contents) = 1
+
 -- An answer of these parts.
 abbrev pub told_by : List Note → List Order → Option Cause → ℕ → Option (List ℕ) → Told
 told_by notes orders cause lost contents = record { notes = notes; contents = contents; cause = cause; orders = orders; lost = lost }
@@ -33,6 +38,7 @@ told_by notes orders cause lost contents = record { notes = notes; contents = co
 pub record Shows (r : PlainReport) (t : Told) : Type 0 where
   pub note_count : r.note_count ≡ length t.notes
   pub order_count : r.order_count ≡ length t.orders
+  pub delivered : r.delivered ≡ mark_of t.contents
   pub octet_count : r.length ≡ length (contents_of t.contents)
   pub notes : notes_in r ≡ map plain_note t.notes
   pub orders : orders_of r ≡ map plain_order t.orders
@@ -45,6 +51,7 @@ pub record Shows (r : PlainReport) (t : Told) : Type 0 where
 pub record ShowsPull (r : PlainReport) (is_begun : Bool) (given : List Order) : Type 0 where
   pub note_count : r.note_count ≡ 0
   pub order_count : r.order_count ≡ length given
+  pub delivered : r.delivered ≡ 0
   pub octet_count : r.length ≡ 0
   pub orders : orders_of r ≡ map plain_order given
   pub contents : contents_in r ≡ None

@@ -4,7 +4,7 @@ ghost use Rattle.std.specs.Prelude.{◌≡◌, ◌≤◌, length, take, map};
 ghost use Rattle.std.specs.Option.{option_copied};
 ghost use Rattle.lapd_plain.specs.Notes.{plain_note};
 ghost use Rattle.lapd_plain.specs.Timers.{plain_order};
-ghost use Rattle.lapd_plain.specs.Reports.{Shows, ShowsPull, SameButContents, contents_in, contents_of, orders_of, told_by};
+ghost use Rattle.lapd_plain.specs.Reports.{Shows, ShowsPull, SameButContents, contents_in, contents_of, mark_of, orders_of, told_by};
 
 use crate::notes::{PlainNote, cause_number};
 use crate::timers::PlainOrder;
@@ -14,7 +14,7 @@ use lapd_frame::{Note, Order};
 /// The most octets of contents that a configuration allows.
 const MOST_OCTETS: usize = 260;
 
-/// What an event led to. Behind the numbers of notes and orders, and behind `length`, the arrays hold what they held.
+/// What an event led to. Behind the numbers of notes and orders, and behind `length`, the arrays may hold anything.
 #[repr(C)]
 #[derive(Clone, Copy, Debug)]
 pub struct PlainReport {
@@ -88,6 +88,7 @@ impl PlainReport {
 
     fn deliver(&mut self, delivered: Option<&[u8]>)
         ensures rest { SameButContents self.old self.new }
+        ensures mark { self.new.delivered ≡ mark_of (option_copied delivered.entry) }
         ensures length { length (contents_of (option_copied delivered.entry)) ≤ 260
             → self.new.length ≡ length (contents_of (option_copied delivered.entry)) }
         ensures contents { length (contents_of (option_copied delivered.entry)) ≤ 260

@@ -1,88 +1,107 @@
 /*
- * bench.c: how many octets of a line the C library takes and gives in a second, call by call and by lapd_exchange. Each octet
- * taken is followed by one given; both count. One line, on which flags come, or I-frames with 64 octets of information.
- * By processor time; for tests alone.
+ * bench.c: has a card through the C library take and give octets in turn, call by call or by lapd_exchange, as lapd_bench
+ * does with the card from Rattle: see tests/c/speed, which measures both. For tests alone.
+ *
+ *     bench calls|exchange idle|frames ROUNDS
+ *
+ * One line. A round of `idle` is 1,024 flags that come, one of `frames` 128 I-frames with 64 octets of information; each
+ * octet that comes is followed by one that goes. Prints how many octets came and went, how many contents were delivered,
+ * and the sum of the octets that went.
  */
 #include <stdio.h>
+#include <stdlib.h>
 #include <string.h>
-#include <time.h>
 
 #include "hdlc.h"
 #include "lapd.h"
 
-enum { FRAMES = 128, INFORMATION = 64, MOST_STREAM = 16384, ROUNDS = 400, CHUNK = 256 };
+enum { FLAGS = 1024, FRAMES = 128, INFORMATION = 64, MOST_STREAM = 16384, CHUNK = 256 };
 
 static lapd_card card = LAPD_CARD_NONE;
 static lapd_report report;
 static uint8_t stream[MOST_STREAM], out[MOST_STREAM];
+static unsigned long long delivered;
 
 /* Octets of a sender until less than one is left, behind those that there are. */
-static size_t given(hdlc_sender *sender, uint8_t *octets, size_t count) {
+static size_t sent(hdlc_sender *sender, size_t count) {
     while (hdlc_busy(sender))
-        octets[count++] = hdlc_octet(sender);
+        stream[count++] = hdlc_octet(sender);
     return count;
 }
 
-/* SABME, and then I-frames with N(S) 0 to 127: what follows them can be the same again. */
-static size_t make_stream(void) {
+/* A frame that a terminal sends, between flags: the stream anew. */
+static size_t make_frames(unsigned frames, const uint8_t *head, size_t head_length, size_t information) {
     static hdlc_sender sender;
-    static const uint8_t sabme[] = {0x00, 0x81, 0x7F};
-    uint8_t frame[4 + INFORMATION] = {0x00, 0x81, 0, 0};
+    uint8_t frame[4 + INFORMATION];
+    memset(frame, 0x5A, sizeof frame);
+    memcpy(frame, head, head_length);
     hdlc_begin(&sender);
-    hdlc_load(&sender, sabme, sizeof sabme);
-    size_t count = given(&sender, stream, 0);
-    for (size_t i = 0; i < INFORMATION; i++)
-        frame[4 + i] = (uint8_t)(i * 37);
-    for (unsigned number = 0; number < FRAMES; number++) {
-        frame[2] = (uint8_t)(number * 2);
-        hdlc_load(&sender, frame, sizeof frame);
-        count = given(&sender, stream, count);
+    size_t count = 0;
+    for (unsigned number = 0; number < frames; number++) {
+        if (frames > 1)
+            frame[2] = (uint8_t)(number * 2);
+        hdlc_load(&sender, frame, head_length + information);
+        count = sent(&sender, count);
     }
-    return hdlc_left(&sender) > 0 ? (stream[count] = hdlc_octet(&sender), count + 1) : count;
+    if (hdlc_left(&sender) > 0)
+        stream[count++] = hdlc_octet(&sender);
+    return count;
 }
 
-static unsigned by_calls(const uint8_t *in, size_t count) {
-    unsigned delivered = 0;
+static void by_calls(size_t count) {
     for (size_t i = 0; i < count; i++) {
-        lapd_octet(&card, 0, in[i], &report);
+        lapd_octet(&card, 0, stream[i], &report);
         delivered += report.delivered;
         lapd_pull(&card, 0, &out[i], &report);
     }
-    return delivered;
 }
 
-static unsigned by_exchange(const uint8_t *in, size_t count) {
-    unsigned delivered = 0;
+static void by_exchange(size_t count) {
     for (size_t from = 0; from < count; from += CHUNK) {
         size_t length = count - from < CHUNK ? count - from : CHUNK;
         for (size_t steps = 0; steps < 2 * length;) {
-            lapd_exchange(&card, 0, in + from, length, out + from, length, &steps, &report);
+            lapd_exchange(&card, 0, stream + from, length, out + from, length, &steps, &report);
             delivered += report.delivered;
         }
     }
-    return delivered;
 }
 
-static void measure(const char *name, unsigned (*way)(const uint8_t *, size_t), const uint8_t *in, size_t count) {
-    unsigned delivered = 0;
-    clock_t start = clock();
-    for (int round = 0; round < ROUNDS; round++)
-        delivered += way(in, count);
-    double seconds = (double)(clock() - start) / CLOCKS_PER_SEC;
-    printf("%-22s %7.1f million octets a second, %u delivered\n", name, 2.0 * ROUNDS * (double)count / seconds / 1e6,
-           delivered);
+/* The octets that come in a round. */
+static size_t make_stream(const char *work) {
+    static const uint8_t i_frame[] = {0x00, 0x81, 0x00, 0x00};
+    if (strcmp(work, "frames") == 0)
+        return make_frames(FRAMES, i_frame, sizeof i_frame, INFORMATION);
+    memset(stream, 0x7E, FLAGS);
+    return FLAGS;
 }
 
-int main(void) {
-    static const lapd_config config = {1, 8, 7, 7, 8, 4, 4, 64, 260, 3};
-    static uint8_t idle[MOST_STREAM];
+static bool start(void) {
+    static const lapd_config config = {1, 8, 7, 7, 8, 4, 4, 8, 260, 3};
+    static const uint8_t sabme[] = {0x00, 0x81, 0x7F};
     if (lapd_card_start(&card, &config) != LAPD_OK || lapd_assign(&card, 0, 64, &report) != LAPD_OK)
+        return false;
+    by_calls(make_frames(1, sabme, sizeof sabme, 0));
+    uint8_t state;
+    return lapd_state(&card, 0, LAPD_CALL, 64, &state) == LAPD_OK && state == 7;
+}
+
+int main(int words, char **word) {
+    bool is_read = words == 4 && (strcmp(word[1], "calls") == 0 || strcmp(word[1], "exchange") == 0)
+                   && (strcmp(word[2], "idle") == 0 || strcmp(word[2], "frames") == 0);
+    if (!is_read) {
+        fprintf(stderr, "usage: bench calls|exchange idle|frames ROUNDS\n");
+        return 2;
+    }
+    if (!start())
         return 1;
-    memset(idle, 0x7E, sizeof idle);
-    size_t count = make_stream();
-    measure("idle, call by call", by_calls, idle, sizeof idle);
-    measure("idle, by exchange", by_exchange, idle, sizeof idle);
-    measure("frames, call by call", by_calls, stream, count);
-    measure("frames, by exchange", by_exchange, stream, count);
+    unsigned long long rounds = strtoull(word[3], NULL, 10), sum = 0;
+    size_t count = make_stream(word[2]);
+    void (*way)(size_t) = strcmp(word[1], "calls") == 0 ? by_calls : by_exchange;
+    for (unsigned long long round = 0; round < rounds; round++) {
+        way(count);
+        for (size_t i = 0; i < count; i++)
+            sum += out[i];
+    }
+    printf("%llu octets %llu delivered sum %llu\n", 2 * rounds * count, delivered, sum);
     return lapd_card_free(&card) != LAPD_OK;
 }

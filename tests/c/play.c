@@ -2,8 +2,10 @@
  * play.c: plays a script of docs/FORMAT.md through the C library, and writes its transcript, as `lapdsim run` does.
  * For tests alone.
  *
- *     play < SCRIPT
+ *     play [--exchange] < SCRIPT
  *
+ * With --exchange every pull is one of lapd_exchange: lines `rx LINE OCTET` and `pull LINE 1` in turn are handed over as
+ * one run, as turn.c makes them; other pulls are exchanges of one octet from their second step.
  * Status 0; 1 for a faulty line or refused memory, told on standard error; 2 for words.
  */
 #include <stdio.h>
@@ -14,11 +16,22 @@
 #include "lapd.h"
 #include "words.h"
 
+enum { MOST_TURNS = 2048 };
+
+/* Octets that are to be taken and given in turn on a line: two steps for each, or one for the last. */
+typedef struct {
+    uint32_t line;
+    uint8_t taken[MOST_TURNS + 1];
+    size_t steps;
+} run;
+
 /* A card with its clock, and at each line a terminal that sends and a listener that hears. */
 typedef struct {
     lapd_card card;
     lapd_clock clock;
     uint64_t now;
+    bool by_exchange;
+    run run; /* what is not handed over yet */
     hdlc_sender senders[LAPD_MOST_LINES];
     hdlc_listener listeners[LAPD_MOST_LINES];
 } bench;
@@ -100,21 +113,73 @@ static void send(bench *b, uint32_t line, const command *c) {
         receive(b, line, hdlc_octet(sender));
 }
 
-static void pull(bench *b, uint32_t line, uint32_t count) {
-    static lapd_report report;
-    static uint8_t octets[4096];
-    for (uint32_t i = 0; i < count; i++) {
-        want_ok(lapd_pull(&b->card, line, &octets[i], &report), "pull");
-        tell(b, line, &report);
-    }
+/* Writes what a line gave, and the frames that it ended. */
+static void put_given(bench *b, uint32_t line, const uint8_t *octets, size_t count) {
     printf("%u tx ", line);
     put_octets(octets, count);
     hdlc_listener *listener = &b->listeners[line];
-    for (uint32_t i = 0; i < count; i++)
+    for (size_t i = 0; i < count; i++)
         if (hdlc_hear(listener, octets[i])) {
             printf("%u frame ", line);
             put_octets(listener->frame, listener->length);
         }
+}
+
+static void pull(bench *b, uint32_t line, uint32_t count) {
+    static lapd_report report;
+    static uint8_t octets[4096];
+    for (uint32_t i = 0; i < count; i++) {
+        const uint8_t none = 0;
+        size_t steps = 1;
+        if (b->by_exchange)
+            want_ok(lapd_exchange(&b->card, line, &none, 1, &octets[i], 1, &steps, &report), "exchange");
+        else
+            want_ok(lapd_pull(&b->card, line, &octets[i], &report), "pull");
+        tell(b, line, &report);
+    }
+    put_given(b, line, octets, count);
+}
+
+/* ---- Runs of octets taken and given in turn ------------------------------------------------------------------------- */
+
+/* Whether a line goes on with the run that waits, or begins one. */
+static bool joins(const bench *b, const command *c) {
+    const run *r = &b->run;
+    bool is_whole = r->steps % 2 == 0, is_same = r->steps == 0 || r->line == c->numbers[0];
+    if (!b->by_exchange || !is_same)
+        return false;
+    return is_whole ? c->verb == RX && c->length == 1 && r->steps < 2 * MOST_TURNS
+                    : c->verb == PULL && c->numbers[1] == 1;
+}
+
+static void join(bench *b, const command *c) {
+    run *r = &b->run;
+    r->line = c->numbers[0];
+    if (c->verb == RX)
+        r->taken[r->steps / 2] = c->octets[0];
+    r->steps++;
+}
+
+/* Hands the run over. Steps that tell nothing show what they gave alone. */
+static void hand_over(bench *b) {
+    static lapd_report report;
+    static uint8_t given[MOST_TURNS];
+    const run *r = &b->run;
+    size_t length = r->steps / 2, steps = 0;
+    for (size_t from = 0; from < 2 * length; from = steps) {
+        want_ok(lapd_exchange(&b->card, r->line, r->taken, length, given, length, &steps, &report), "exchange");
+        if (steps <= from || steps > 2 * length)
+            want_ok(LAPD_WRONG_LENGTH, "the steps of an exchange");
+        for (size_t step = from; step < steps; step++) {
+            if (step + 1 == steps)
+                tell(b, r->line, &report);
+            if (step % 2 == 1)
+                put_given(b, r->line, &given[step / 2], 1);
+        }
+    }
+    if (r->steps % 2 == 1)
+        receive(b, r->line, r->taken[length]);
+    b->run.steps = 0;
 }
 
 static fault wait(bench *b, uint32_t ms) {
@@ -159,6 +224,8 @@ static fault obey(bench *b, const command *c) {
         return b->card.started ? SECOND_CARD : start(b, c->numbers);
     if (lapd_lines(&b->card, &lines) != LAPD_OK)
         return NO_CARD;
+    if (c->verb == WAIT || c->verb == STORED)
+        hand_over(b);
     if (c->verb == WAIT)
         return wait(b, c->numbers[0]);
     if (c->verb == STORED) {
@@ -167,6 +234,11 @@ static fault obey(bench *b, const command *c) {
     }
     if (line >= lines)
         return BAD_LINE;
+    if (joins(b, c)) {
+        join(b, c);
+        return NO_FAULT;
+    }
+    hand_over(b);
     if (c->verb == IN && (c->length < 3 || c->length > HDLC_MOST_OCTETS))
         return BAD_FRAME;
     if (c->verb == IN)
@@ -181,23 +253,13 @@ static fault obey(bench *b, const command *c) {
     return NO_FAULT;
 }
 
-/* Reads a line up to its line feed or the end. Answers false where nothing is left. */
-static bool next_line(char *line, size_t *length) {
-    int c = getchar();
-    if (c == EOF)
-        return false;
-    for (*length = 0; c != EOF && c != '\n'; c = getchar())
-        if ((*length)++ < MOST_LINE)
-            line[*length - 1] = (char)c;
-    return true;
-}
-
 int main(int words, char **argv) {
-    static bench b = {LAPD_CARD_NONE, LAPD_CLOCK_NONE, 0, {{{0}, 0, 0}}, {{{0}, 0, 0, 0, false, {0}, 0}}};
+    static bench b; /* zeroed memory is no card and no clock */
     static char line[MOST_LINE];
     static command c;
-    if (words != 1) {
-        fprintf(stderr, "usage: %s < SCRIPT\n", argv[0]);
+    b.by_exchange = words == 2 && strcmp(argv[1], "--exchange") == 0;
+    if (words != 1 && !b.by_exchange) {
+        fprintf(stderr, "usage: %s [--exchange] < SCRIPT\n", argv[0]);
         return 2;
     }
     fault kind = NO_FAULT;
@@ -213,6 +275,7 @@ int main(int words, char **argv) {
         if (kind == NO_FAULT)
             kind = obey(&b, &c);
     }
+    hand_over(&b);
     lapd_card_free(&b.card);
     lapd_clock_free(&b.clock);
     if (kind == NO_MEMORY)

@@ -1,6 +1,7 @@
 /* A script's lines as words, numbers and octets: see words.h. */
 #include "words.h"
 
+#include <stdio.h>
 #include <string.h>
 
 #include "lapd.h"
@@ -137,4 +138,14 @@ fault read_command(const char *line, size_t length, command *read) {
         if (is_word(words[0], meanings[i].name))
             return read_rest(&meanings[i], words + 1, count, read);
     return UNKNOWN_WORD;
+}
+
+bool next_line(char *line, size_t *length) {
+    int c = getchar();
+    if (c == EOF)
+        return false;
+    for (*length = 0; c != EOF && c != '\n'; c = getchar())
+        if ((*length)++ < MOST_LINE)
+            line[*length - 1] = (char)c;
+    return true;
 }

@@ -38,6 +38,10 @@ typedef struct {
     size_t length;
 } command;
 
+/* Reads the next line of standard input, up to its line feed or the end: its first MOST_LINE octets, and how many it has.
+ * Answers false where nothing is left. */
+bool next_line(char *line, size_t *length);
+
 /* Reads a line without its line feed. */
 fault read_command(const char *line, size_t length, command *read);
 

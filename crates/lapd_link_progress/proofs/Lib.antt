@@ -2,6 +2,7 @@
 pub mod Waiting
 pub mod Answering
 pub mod Unanswered
+pub mod Gapping
 pub mod Finals
 pub mod FinalRows
 pub mod Heeding

@@ -2,6 +2,8 @@
 pub mod Waits
 pub mod Polls
 pub mod WorkedPolls
+pub mod Gaps
+pub mod WorkedGaps
 pub mod Heeds
 pub mod Rounds
 pub mod CutOff

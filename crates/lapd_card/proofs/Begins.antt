@@ -10,6 +10,7 @@ use Rattle.lapd_line.proofs.Stood.{held_of}
 use Rattle.lapd_line_machine.specs.declared.config.Config.{Config}
 use Rattle.lapd_line_machine.specs.Config.{first_fault}
 use Rattle.lapd_line_machine.specs.Line.{fresh_line}
+use Rattle.lapd_card_laws.proofs.TimersRun.{begins-timely-card}
 use Rattle.lapd_card_machine.specs.Card.{fresh}
 use Rattle.lapd_card_machine.proofs.CardSound.{cards_stay_sound}
 use Rattle.lapd_store.specs.Ownership.{Holds}
@@ -66,4 +67,5 @@ fresh_stands store c ls shelf range room all =
       };
       slots = slots;
       sound = cards_stay_sound.begins c range;
+      timers = begins-timely-card c;
     }

@@ -9,6 +9,7 @@ use Rattle.lapd_card_machine.specs.Card.{Card, fresh}
 use Rattle.lapd_card_machine.specs.Event.{Event, event_of}
 use Rattle.lapd_card_machine.specs.Run.{IsAtLine, AreAtLines}
 use Rattle.lapd_card_machine.specs.Sound.{IsSound}
+use Rattle.lapd_card_laws.specs.Timers.{AllHaveTheirTimers}
 use Rattle.lapd_store.specs.Store.{Store}
 use Rattle.lapd_card.specs.Card.{Held, line_count}
 use Rattle.lapd_card.specs.Drive.{line_of, events_of}
@@ -31,6 +32,10 @@ front_at_lines store card events within m count s =
 -- and the law holds of each front
 pub each_front : {S : Type 0} (store : S → Store) (card : Held S) (events : List rust.Event) → All (λ e. line_of e < line_count card) events → (P : Card → List Event → Type 0) → ((m : Card) (es : List Event) → IsSound m → AreAtLines m es → P m es) → (m : Card) (count : ℕ) → Stands store card m → P m (take count (events_of events))
 each_front store card events within P law m count s = law m (take count (events_of events)) s.sound (front_at_lines store card events within m count s)
+
+-- and one that asks for timely cards, too
+pub timely_front : {S : Type 0} (store : S → Store) (card : Held S) (events : List rust.Event) → All (λ e. line_of e < line_count card) events → (P : Card → List Event → Type 0) → ((m : Card) (es : List Event) → IsSound m → AllHaveTheirTimers m → AreAtLines m es → P m es) → (m : Card) (count : ℕ) → Stands store card m → P m (take count (events_of events))
+timely_front store card events within P law m count s = law m (take count (events_of events)) s.sound s.timers (front_at_lines store card events within m count s)
 
 -- and a law of every sound card and line holds of a line of the card
 pub at_line : {S : Type 0} (store : S → Store) (card : Held S) (line : ℕ) → line < line_count card → (P : Card → Type 0) → ((m : Card) → IsSound m → line < m.config.lines → P m) → (m : Card) → Stands store card m → P m

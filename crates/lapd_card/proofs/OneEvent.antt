@@ -22,6 +22,8 @@ use Rattle.lapd_card_machine.specs.Card.{Card, line_at, used, is_full, state}
 use Rattle.lapd_card_machine.specs.Event.{Event, at}
 use Rattle.lapd_card_machine.specs.Machine.{wants_room, after, answer}
 use Rattle.lapd_card_machine.specs.Sound.{IsSound}
+use Rattle.lapd_card_laws.specs.Timers.{AllHaveTheirTimers}
+use Rattle.lapd_card_laws.proofs.TimersRun.{timely-after}
 use Rattle.lapd_card_machine.proofs.CardSound.{cards_stay_sound}
 use Rattle.lapd_card_machine.proofs.Refusals.{refused_by_the_table}
 use Rattle.lapd_store.specs.Ownership.{owned_octets}
@@ -69,6 +71,7 @@ event_leads {S} store what number old ls shelf within room lead =
             lines = subst (λ c. Stand old.config ls (store shelf) (after_event c number what m.lines)) (sym s.config) (lead.stand old.config m.lines s.lines);
             slots = subst (λ n. old.config.slots ≤ n) (sym lead.limits.slots) s.slots;
             sound = subst IsSound is (cards_stay_sound.stays m (at number what) s.sound (subst (λ c. number < c.lines) (sym s.config) within));
+            timers = subst AllHaveTheirTimers is (timely-after m (at number what) s.sound s.timers (subst (λ c. number < c.lines) (sym s.config) within));
           });
     }
 

@@ -4,17 +4,20 @@ use Rattle.lapd_card_machine.specs.Card as machine
 use Rattle.lapd_card_machine.specs.Event.{Event}
 use Rattle.lapd_card_machine.specs.Machine.{after}
 use Rattle.lapd_card_machine.specs.Sound.{IsSound}
+use Rattle.lapd_card_laws.specs.Timers.{AllHaveTheirTimers}
 use Rattle.lapd_card.specs.Card.{Held}
 use Rattle.lapd_card.specs.Lines as lines
 use Rattle.lapd_store.specs.Store.{Store}
 
 -- A card stands for a machine: it has its configuration, and its lines stand for the machine's over its shelf, which
--- has as many slots as the configuration says, or more; and the machine is sound.
+-- has as many slots as the configuration says, or more; and the machine is sound, and each of its links runs the timer
+-- that it needs.
 pub record Stands {S : Type 0} (store : S → Store) (card : Held S) (m : machine.Card) : Type 0 where
   pub config : m.config ≡ card.config
   pub lines : lines.Stand card.config card.lines (store card.shelf) m.lines
   pub slots : card.config.slots ≤ (store card.shelf).slots
   pub sound : IsSound m
+  pub timers : AllHaveTheirTimers m
 
 -- There is a machine for which it stands.
 abbrev pub HasPast : {S : Type 0} → (S → Store) → Held S → Type 0

@@ -13,7 +13,7 @@ ghost use Rattle.lapd_card_machine.specs.ByEvent.{ArePriced};
 ghost use Rattle.lapd_card_machine.specs.Drops.{AreDropsWithoutCost, AreDropsWithoutEffect};
 ghost use Rattle.lapd_card_machine.specs.Laws.{RefusedByTheTable, RunIsMoments};
 ghost use Rattle.lapd_card_machine.specs.Promises.{IsWithinLimit, IsAmortised, IsAmortisedFromZero, HasSixOctetsAFrame, HasSevenOctetsAReject, IsLinear, IsIsolated, IsNeverFull, IsNumbered, IsNumberedFromZero, IsTextual};
-ghost use Rattle.lapd_card_laws.specs.Promises.{IsKept, IsCountedIn, BeginsEmpty, IsServedIn, UnitsWaitAll, TurnsStay, AreHeeded, IsDelivered};
+ghost use Rattle.lapd_card_laws.specs.Promises.{IsKept, IsCountedIn, BeginsEmpty, IsServedIn, UnitsWaitAll, TurnsStay, AreHeeded, IsDelivered, RunsWhatIsNeeded, NeedsNone};
 ghost use Rattle.lapd_card.specs.Sink.{one_failure_more};
 ghost use Rattle.lapd_card.specs.Stands.{Stands, Leads};
 
@@ -91,6 +91,11 @@ impl<S: Shelf> Card<S> {
     /// - `counted`: the contents of each link are those that were accepted for it since its numbers began, in order,
     ///   without what went, and its V(A) counts those that were acknowledged (clause 3.5.2.2); and on a card that has just
     ///   begun, `begins_empty`, there are none.
+    /// - `timers`: a caller that runs exactly the timers that are needed, and obeys the orders in the replies, each in its
+    ///   turn, does so after every event, whatever TEIs come and leave: T200 of a link on the line in states 5, 6 and 8,
+    ///   and in state 7 where an I-frame is outstanding or the terminal is busy; T203 of one in state 7 else; T201 while
+    ///   a TEI is checked (clauses 5.3.3.2, 5.5.1.3, 5.5.3.3, 5.6.1, 5.6.5, 5.6.7, 5.9.8 and 5.10.3); and on a card that
+    ///   has just begun, `no_timers`, none is needed.
     /// - `served`: what a pull begins, with fewer than eight bits left, is the message of TEI management that has waited
     ///   longest; where none waits, the unit data that has waited longest, whole, once, with its service and TEI; where
     ///   none waits either, a frame of the first link in turn that has anything to send, of a TEI on the line, with its
@@ -166,6 +171,9 @@ impl<S: Shelf> Card<S> {
         ensures counted { (m : machine.Card) (count : ℕ) → Stands S.store self.old m
             → IsCountedIn m (take count (events_of events.now)) }
         ensures begins_empty { BeginsEmpty self.old.config }
+        ensures timers { (m : machine.Card) (count : ℕ) → Stands S.store self.old m
+            → RunsWhatIsNeeded m (take count (events_of events.now)) }
+        ensures no_timers { NeedsNone self.old.config }
         ensures served { (m : machine.Card) (count : ℕ) → Stands S.store self.old m
             → IsServedIn m (take count (events_of events.now)) }
     {

@@ -3,3 +3,4 @@ pub mod Keeping
 pub mod Serving
 pub mod Hearing
 pub mod Heeding
+pub mod TimersRun

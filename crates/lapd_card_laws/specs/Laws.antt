@@ -1,11 +1,13 @@
 -- Laws of whole runs: what a card does with what it is given and what it hears.
 use Rattle.std.specs.Prelude.{List}
 use Rattle.lapd_line_machine.specs.declared.config.Config.{Config}
-use Rattle.lapd_card_machine.specs.Card.{Card}
+use Rattle.lapd_card_machine.specs.Card.{Card, fresh}
 use Rattle.lapd_card_machine.specs.Event.{Event}
-use Rattle.lapd_card_machine.specs.Run.{AreAtLines}
+use Rattle.lapd_card_machine.specs.Machine.{after}
+use Rattle.lapd_card_machine.specs.Run.{IsAtLine, AreAtLines}
 use Rattle.lapd_card_machine.specs.Sound.{IsSound}
-use Rattle.lapd_card_laws.specs.Promises.{IsKept, IsCountedIn, BeginsEmpty, IsServedIn, UnitsWaitAll, TurnsStay, AreHeeded, IsDelivered}
+use Rattle.lapd_card_laws.specs.Promises.{IsKept, IsCountedIn, BeginsEmpty, IsServedIn, UnitsWaitAll, TurnsStay, AreHeeded, IsDelivered, RunsWhatIsNeeded, NeedsNone}
+use Rattle.lapd_card_laws.specs.Timers.{AllHaveTheirTimers}
 
 pub record NothingIsLost : Type 0 where
   pub kept : (card : Card) (events : List Event) → IsSound card → AreAtLines card events → IsKept card events
@@ -22,3 +24,9 @@ HeardIsDelivered = (card : Card) (events : List Event) → IsSound card → AreA
 
 abbrev pub FramesAreHeeded : Type 0
 FramesAreHeeded = (card : Card) (events : List Event) → IsSound card → AreAtLines card events → AreHeeded card events
+
+pub record TimersFollow : Type 0 where
+  pub follow : (card : Card) (events : List Event) → IsSound card → AllHaveTheirTimers card → AreAtLines card events → RunsWhatIsNeeded card events
+  pub none : (c : Config) → NeedsNone c
+  pub begins : (c : Config) → AllHaveTheirTimers (fresh c)
+  pub stays : (card : Card) (e : Event) → IsSound card → AllHaveTheirTimers card → IsAtLine card e → AllHaveTheirTimers (after e card)

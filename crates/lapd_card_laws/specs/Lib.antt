@@ -2,5 +2,7 @@
 pub mod Contents
 pub mod Faithful
 pub mod Promises
+pub mod Timers
 pub mod Laws
 pub mod Worked
+pub mod WorkedTimers

@@ -1,7 +1,9 @@
 -- What is promised of a list of events, from a card on.
-use Rattle.std.specs.Prelude.{◌≡◌, ◌<◌, ℕ, [], List, All}
+use Rattle.std.specs.Prelude.{◌≡◌, ◌<◌, ℕ, false, [], List, All}
+use Rattle.lapd_frame.specs.declared.timers.Timer.{Timer}
 use Rattle.lapd_link_laws.specs.History.{IsCounted, nothing_yet}
 use Rattle.lapd_line_laws.specs.Pulls.{IsServed}
+use Rattle.lapd_line_laws.specs.Timers.{is_needed}
 use Rattle.lapd_line_machine.specs.declared.config.Config.{Config}
 use Rattle.lapd_card_machine.specs.Card.{Card, fresh, line_at}
 use Rattle.lapd_card_machine.specs.Event.{Event}
@@ -10,6 +12,7 @@ use Rattle.lapd_card_machine.specs.Promises.{HasLink}
 use Rattle.lapd_card_machine.specs.Run.{Moment, moments, after_all}
 use Rattle.lapd_card_laws.specs.Contents.{link_named, begun, history, accepted_at}
 use Rattle.lapd_card_laws.specs.Faithful.{IsFaithful, UnitsWaitIn, TurnStaysIn, IsHeededIn, IsHeardIn}
+use Rattle.lapd_card_laws.specs.Timers.{runs_at_callers}
 
 -- In every moment nothing that was accepted is lost silently.
 abbrev pub IsKept : Card → List Event → Type 0
@@ -47,3 +50,13 @@ AreHeeded m events = All IsHeededIn (moments m events)
 -- and only what was heard is delivered, and from whom.
 abbrev pub IsDelivered : Card → List Event → Type 0
 IsDelivered m events = All IsHeardIn (moments m events)
+
+-- A caller that runs exactly the timers that are needed before a run, and obeys, does so after it.
+abbrev pub RunsWhatIsNeeded : Card → List Event → Type 0
+RunsWhatIsNeeded m events =
+    (line : ℕ) (timer : Timer) → line < m.config.lines →
+    runs_at_callers line timer (is_needed timer (line_at line m)) (moments m events) ≡ is_needed timer (line_at line (after_all m events))
+
+-- On a card as it begins none is needed.
+abbrev pub NeedsNone : Config → Type 0
+NeedsNone c = (line : ℕ) (timer : Timer) → line < c.lines → is_needed timer (line_at line (fresh c)) ≡ false

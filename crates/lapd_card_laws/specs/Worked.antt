@@ -14,17 +14,17 @@ use Rattle.lapd_card_machine.specs.Event.{Event, at}
 use Rattle.lapd_card_machine.specs.Run.{moments}
 use Rattle.lapd_card_laws.specs.Contents.{name_of, history, accepted_at}
 
-abbrev usual : Config
+abbrev pub usual : Config
 usual = record { lines = 1; terminals = 8; k = 7; k16 = 7; queue = 8; unit_queue = 4; control = 4; slots = 64; n201 = 260; n200 = 3 }
 
-abbrev on_0 : Request → Event
+abbrev pub on_0 : Request → Event
 on_0 r = at 0 (request r)
 
-abbrev hears : ℕ → Event
+abbrev pub hears : ℕ → Event
 hears value = at 0 (octet value)
 
 -- TEI 64 on line 0, and its SABME, with its check, between two flags
-abbrev up : List Event
+abbrev pub up : List Event
 up =
     on_0 (Assign 64) ∷ hears 0x7E ∷ hears 0x00 ∷ hears 0x81 ∷ hears 0xEF ∷ hears 0x50 ∷ hears 0xB1 ∷ hears 0xFD
     ∷ hears 0xFC ∷ []

@@ -3,13 +3,16 @@
 //!
 //! The machine itself, and the laws that say what a card never does, stand in `lapd_card_machine`; the laws of a line in
 //! `lapd_line_laws`, and those of a link in `lapd_link_laws`. `specs/` has the contents of the links from moment to moment
-//! (`Contents`), what holds in a moment (`Faithful`), what is promised of a list of events (`Promises`), the laws, which
-//! say of which cards and lists (`Laws`), and worked values (`Worked`). Each law is the contract of a call that does
+//! (`Contents`), what holds in a moment (`Faithful`), what is promised of a list of events (`Promises`), which timers
+//! a caller runs (`Timers`), the laws, which say of which cards and lists (`Laws`), and worked values (`Worked`,
+//! `WorkedTimers`). Each law is the contract of a call that does
 //! nothing, and the call of a card that runs a list of events cites the promises.
 //!
-//! - `laws`: the laws.
+//! - `laws`, `timers`: the laws.
 #![tactic(auto)]
 
 mod laws;
+mod timers;
 
 pub use laws::{frames_are_heeded, heard_is_delivered, nothing_is_lost, pulls_serve};
+pub use timers::timers_follow;

@@ -5,3 +5,8 @@ pub mod Told
 pub mod Serving
 pub mod Hearing
 pub mod Heeding
+pub mod Places
+pub mod LinkMoves
+pub mod Obeyed
+pub mod Following
+pub mod TimersFollow

@@ -1,11 +1,12 @@
 -- Laws of a line: what it does with what it is given, and with what it hears.
-use Rattle.std.specs.Prelude.{◌≡◌, ℕ, ◌<◌, true, List, Some, None}
+use Rattle.std.specs.Prelude.{◌≡◌, ℕ, ◌<◌, true, false, List, Some, None}
 use Rattle.lapd_frame.specs.declared.services.Service.{Service}
+use Rattle.lapd_frame.specs.declared.timers.Timer.{Timer}
 use Rattle.lapd_frame.specs.Grammar.{Parts}
 use Rattle.lapd_link_machine.specs.Events as link
 use Rattle.lapd_line_machine.specs.declared.config.Config.{Config}
 use Rattle.lapd_line_machine.specs.Answer.{Event, octet}
-use Rattle.lapd_line_machine.specs.Line.{Line, link_count, link_in, terms}
+use Rattle.lapd_line_machine.specs.Line.{Line, fresh_line, link_count, link_in, terms}
 use Rattle.lapd_line_machine.specs.Machine.{after, answer}
 use Rattle.lapd_line_machine.specs.Octet.{gained}
 use Rattle.lapd_line_machine.specs.Sound.{IsInRange, IsSound}
@@ -14,6 +15,7 @@ use Rattle.lapd_line_laws.specs.Loss.{IsTold}
 use Rattle.lapd_line_laws.specs.Pulls.{contents_of, IsServed, UnitsWait, TurnStays}
 use Rattle.lapd_line_laws.specs.Frames.{IsHeeded}
 use Rattle.lapd_line_laws.specs.Heard.{Ends, IsFor, IsOneEvent, IsNoEvent, contents_in, IsHeard}
+use Rattle.lapd_line_laws.specs.Timers.{is_needed, runs_then, HaveTheirTimers}
 
 -- What each link keeps after an event is what the event leaves of what it kept; the event accepts exactly the contents
 -- of a data request for this link that was granted; and where all that was kept goes, layer 3 learns it.
@@ -47,3 +49,12 @@ FramesAreHeeded =
     (c : Config) (l : Line) (value : ℕ) (service : Service) (tei place : ℕ) (parts : Parts) (octets : List ℕ) → IsSound c l
     → Ends c l value octets → IsFor l service tei place parts octets
     → IsHeeded (terms c service tei) parts (link_in l service place) (link_in (after c (octet value) l) service place) (answer c (octet value) l)
+
+-- What a caller has to run is what it runs by obeying: so it is as a line begins, where it runs no timer, and each event
+-- keeps it so.
+pub record TimersFollow : Type 0 where
+  pub begins : (c : Config) → HaveTheirTimers (fresh_line c)
+  pub none : (c : Config) (timer : Timer) → is_needed timer (fresh_line c) ≡ false
+  pub timely : (c : Config) (e : Event) (l : Line) → IsInRange c → IsSound c l → HaveTheirTimers l → HaveTheirTimers (after c e l)
+  pub followed : (c : Config) (e : Event) (l : Line) (timer : Timer) → IsInRange c → IsSound c l → HaveTheirTimers l
+      → runs_then timer (is_needed timer l) e (answer c e l) ≡ is_needed timer (after c e l)

@@ -4,6 +4,7 @@ pub mod Loss
 pub mod Pulls
 pub mod Heard
 pub mod Frames
+pub mod Timers
 pub mod Laws
 pub mod Worked
 pub mod WorkedPulls

@@ -4,12 +4,15 @@
 //! The machine itself, and the laws that say what a line never does, stand in `lapd_line_machine`; the laws of a single
 //! link in `lapd_link_laws`. `specs/` has the words of these laws: what an event is to the contents of one link
 //! (`Share`), how layer 3 learns that a link keeps nothing (`Loss`), what a pull begins (`Pulls`), what an octet brings
-//! (`Heard`), what a frame makes of its link (`Frames`), the laws (`Laws`), and worked values (`Worked`, `WorkedPulls`,
-//! `WorkedHeard`). Each law is the contract of a call that does nothing.
+//! (`Heard`), what a frame makes of its link (`Frames`), which timers are needed and which a caller runs (`Timers`), the
+//! laws (`Laws`), and worked values (`Worked`, `WorkedPulls`, `WorkedHeard`). Each law is the contract of a call that does
+//! nothing.
 //!
-//! - `laws`: the laws.
+//! - `laws`, `timers`: the laws.
 #![tactic(auto)]
 
 mod laws;
+mod timers;
 
 pub use laws::{frames_are_heeded, heard_is_delivered, nothing_is_lost, pulls_serve};
+pub use timers::timers_follow;

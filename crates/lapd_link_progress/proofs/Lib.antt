@@ -7,6 +7,8 @@ pub mod Finals
 pub mod FinalRows
 pub mod Heeding
 pub mod HeedingEvents
+pub mod Awaiting
+pub mod Needing
 pub mod Plain
 pub mod Halves
 pub mod Arriving

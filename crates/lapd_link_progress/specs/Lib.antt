@@ -5,6 +5,7 @@ pub mod WorkedPolls
 pub mod Gaps
 pub mod WorkedGaps
 pub mod Heeds
+pub mod Needed
 pub mod Rounds
 pub mod CutOff
 pub mod WorkedRounds

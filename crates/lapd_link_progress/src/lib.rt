@@ -2,20 +2,23 @@
 //! each other. There is nothing to call: each law is the contract of a function that does nothing.
 //!
 //! `specs/` has the statements: what waits and what goes (`Waits`), polls and their answers (`Polls`), I-frames out of
-//! sequence (`Gaps`), a busy terminal (`Heeds`), two ends in rounds (`Rounds`), two ends whose frames were lost
-//! (`CutOff`), what keeps two links up (`Ahead`, `Timely`); and worked values that compute (`WorkedPolls`, `WorkedGaps`,
-//! `WorkedRounds`, `WorkedTimely`, and `WorkedUntimely`, a run in which T200 is too short). `docs/PROGRESS.md` says it in
-//! words.
+//! sequence (`Gaps`), a busy terminal (`Heeds`), the timer that a link needs (`Needed`), two ends in rounds (`Rounds`),
+//! two ends whose frames were lost (`CutOff`), what keeps two links up (`Ahead`, `Timely`); and worked values that
+//! compute (`WorkedPolls`, `WorkedGaps`, `WorkedRounds`, `WorkedTimely`, and `WorkedUntimely`, a run in which T200 is too
+//! short). `docs/PROGRESS.md` says it in words.
 //!
 //! - `laws`: what waits, polls, and two links that face each other;
-//! - `gaps`: what a link does where I-frames are missing.
+//! - `gaps`: what a link does where I-frames are missing;
+//! - `timers`: which timer a link runs.
 #![tactic(auto)]
 
 mod gaps;
 mod laws;
+mod timers;
 
 pub use gaps::gaps_are_rejected;
 pub use laws::{
     busy_is_heeded, contents_arrive, links_stay_up, losses_are_recovered, nothing_is_held_back,
     polls_are_answered, stay_up_while_ahead,
 };
+pub use timers::runs_what_it_needs;

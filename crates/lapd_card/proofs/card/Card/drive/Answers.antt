@@ -16,12 +16,13 @@ use Rattle.lapd_card_machine.proofs.Refusals.{refused_by_the_table}
 use Rattle.lapd_card_machine.proofs.ByEvent.{frames_by_event}
 use Rattle.lapd_card_machine.proofs.Drops.{drops_cost_nothing, drops_change_nothing}
 use Rattle.lapd_card_machine.specs.Promises.{IsWithinLimit, IsAmortised, IsAmortisedFromZero, HasSixOctetsAFrame, HasSevenOctetsAReject, IsLinear, IsIsolated, IsNeverFull, IsNumbered, IsNumberedFromZero, IsTextual}
-use Rattle.lapd_card_laws.specs.Promises.{IsKept, IsCountedIn, IsServedIn, UnitsWaitAll, TurnsStay, AreHeeded, IsDelivered}
+use Rattle.lapd_card_laws.specs.Promises.{IsKept, IsCountedIn, IsServedIn, UnitsWaitAll, TurnsStay, AreHeeded, IsDelivered, RunsWhatIsNeeded}
 use Rattle.lapd_card_laws.proofs.Keeping.{kept, run-counted, begins-empty}
 use Rattle.lapd_card_laws.proofs.Serving.{served-in, units-all, turns-stay}
 use Rattle.lapd_card_laws.proofs.Hearing.{heard-all}
 use Rattle.lapd_card_laws.proofs.Heeding.{heeded-all}
-use Rattle.lapd_card.proofs.Headline.{whole_list, each_front, fresh_front}
+use Rattle.lapd_card_laws.proofs.TimersRun.{needed-run, needs-none}
+use Rattle.lapd_card.proofs.Headline.{whole_list, each_front, timely_front, fresh_front}
 use Rattle.lapd_card.proofs.card.Card.drive.Goals as goal
 
 pub loop-at-preserved : goal.loop-at-preserved
@@ -189,3 +190,15 @@ returns-then-is_err-clause-turns_stay g c = λ m. whole_list g.S.Shelf.store c.a
 
 pub returns-then-is_err-clause-frames_are_heeded : goal.returns-then-is_err-clause-frames_are_heeded
 returns-then-is_err-clause-frames_are_heeded g c = λ m. whole_list g.S.Shelf.store c.args.self.now c.args.events.now c.requires AreHeeded heeded-all m
+
+pub returns-clause-timers : goal.returns-clause-timers
+returns-clause-timers g c = λ m count. timely_front g.S.Shelf.store c.args.self.now c.args.events.now c.requires RunsWhatIsNeeded needed-run m count
+
+pub returns-clause-no_timers : goal.returns-clause-no_timers
+returns-clause-no_timers g c = needs-none c.args.self.now.config
+
+pub returns-then-is_err-clause-timers : goal.returns-then-is_err-clause-timers
+returns-then-is_err-clause-timers g c = λ m count. timely_front g.S.Shelf.store c.args.self.now c.args.events.now c.requires RunsWhatIsNeeded needed-run m count
+
+pub returns-then-is_err-clause-no_timers : goal.returns-then-is_err-clause-no_timers
+returns-then-is_err-clause-no_timers g c = needs-none c.args.self.now.config

@@ -32,6 +32,8 @@ const INFORMATION: [u8; 64] = [0x5A; 64];
 pub enum Traffic {
     /// Flags alone.
     Idle,
+    /// Flags alone, of which each is followed by one that is pulled.
+    Turns,
     /// I-frames with 64 octets of information, of which each octet is followed by one that is pulled.
     Inward,
     /// They acknowledge the I-frames with 64 octets that layer 3 asks for, all of them pulled.
@@ -83,6 +85,8 @@ impl Traffic {
         match self {
             Traffic::Idle if is_one => "idle-1",
             Traffic::Idle => "idle-64",
+            Traffic::Turns if is_one => "turns-1",
+            Traffic::Turns => "turns-64",
             Traffic::Inward if is_one => "frames-in-1",
             Traffic::Inward => "frames-in-64",
             Traffic::Outward if is_one => "frames-out-1",
@@ -98,7 +102,7 @@ impl Traffic {
 
     // Whether each octet that comes is followed by one that is pulled.
     fn is_answered(self) -> bool {
-        self == Traffic::Inward || self == Traffic::Polls
+        self == Traffic::Turns || self == Traffic::Inward || self == Traffic::Polls
     }
 }
 
@@ -129,7 +133,7 @@ fn establish(alloc: Global, card: &mut Card<SlabShelf>) -> Result<(), Fault> {
 fn texts_of(alloc: Global, traffic: Traffic) -> Result<Vec<Vec<u8>>, Fault> {
     let mut texts = Vec::new(alloc);
     match traffic {
-        Traffic::Idle => texts.push(vec![in alloc; 0x7E; 1024]?)?,
+        Traffic::Idle | Traffic::Turns => texts.push(vec![in alloc; 0x7E; 1024]?)?,
         Traffic::Inward => texts.push(numbered(alloc)?)?,
         Traffic::Outward => {
             for number in 0..128u8 {

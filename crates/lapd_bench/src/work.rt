@@ -54,7 +54,7 @@ pub enum Work {
 }
 
 /// All of them.
-pub const WORKS: [Work; 67] = [
+pub const WORKS: [Work; 69] = [
     Work::Check,
     Work::HearShort,
     Work::HearLong,
@@ -65,6 +65,8 @@ pub const WORKS: [Work; 67] = [
     Work::SendLong,
     Work::Card(Traffic::Idle, 1),
     Work::Card(Traffic::Idle, 64),
+    Work::Card(Traffic::Turns, 1),
+    Work::Card(Traffic::Turns, 64),
     Work::Card(Traffic::Inward, 1),
     Work::Card(Traffic::Inward, 64),
     Work::Card(Traffic::Outward, 1),

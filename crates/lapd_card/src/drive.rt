@@ -13,7 +13,7 @@ ghost use Rattle.lapd_card_machine.specs.ByEvent.{ArePriced};
 ghost use Rattle.lapd_card_machine.specs.Drops.{AreDropsWithoutCost, AreDropsWithoutEffect};
 ghost use Rattle.lapd_card_machine.specs.Laws.{RefusedByTheTable, RunIsMoments};
 ghost use Rattle.lapd_card_machine.specs.Promises.{IsWithinLimit, IsAmortised, IsAmortisedFromZero, HasSixOctetsAFrame, HasSevenOctetsAReject, IsLinear, IsIsolated, IsNeverFull, IsNumbered, IsNumberedFromZero, IsTextual};
-ghost use Rattle.lapd_card_laws.specs.Promises.{IsKept, IsCountedIn, BeginsEmpty, IsServedIn, UnitsWaitAll, TurnsStay, AreHeeded, IsDelivered, RunsWhatIsNeeded, NeedsNone};
+ghost use Rattle.lapd_card_laws.specs.Promises.{IsKept, IsCountedIn, BeginsEmpty, IsServedIn, UnitsWaitAll, TurnsStay, AreHeeded, TakeEffect, AreSteady, IsDelivered, RunsWhatIsNeeded, NeedsNone};
 ghost use Rattle.lapd_card.specs.Sink.{one_failure_more};
 ghost use Rattle.lapd_card.specs.Stands.{Stands, Leads};
 
@@ -61,6 +61,19 @@ impl<S: Shelf> Card<S> {
     ///   many waited as may; no other frame puts a response with F=1 there. A delivery leaves its acknowledgement owed, or
     ///   waiting, or counted as lost, but where the I-frame's N(R) was invalid. Where the terminal rejects I-frames from
     ///   number n on, contents number n are the next to be sent (clauses 5.5.1.2, 5.5.3.2, 5.6.2 to 5.6.7 and 5.8.1).
+    /// - `requests_take_effect`: in every moment a request that is granted takes effect: for an establishment SABME with P=1
+    ///   waits, and for a release DISC with P=1, and the link awaits UA with T200 running, or the release of a link that is
+    ///   down is confirmed at once; contents are kept behind what the link keeps, and nothing is told; own busy is on, or
+    ///   off, and RNR or RR with N(R) = V(R) says so where it was not; a TEI that is assigned is on the line; and for one
+    ///   that is removed or checked the message waits (clauses 5.3.2 to 5.3.4, 5.5.1.1, 5.5.3.2, 5.6.1 and 5.6.6).
+    /// - `links_are_steady`: in every moment a link is left as it is; or its TEI leaves the line, or one comes to its place,
+    ///   and it is as one that begins; or the event is one of the link. Then V(S) stays but for an I-frame that is begun,
+    ///   which it counts, where the terminal asks for I-frames again, to the number that a valid N(R) names, where all that
+    ///   is kept goes, to V(A), and where the numbers begin anew, to 0; own busy changes only by SetBusy and ClearBusy and
+    ///   where the link is established anew; only a poll puts a response with F=1 behind what waits; a loss is told only of
+    ///   SABME, DISC, UA or DM of the terminal, of the expiry of T200 and of a release; and the numbers begin anew only where
+    ///   a note tells it, or at the end of an establishment that this side began itself (clauses 3.5.2.3, 5.5.1 to 5.5.3,
+    ///   5.6.1, 5.6.4, 5.6.6, 5.6.7 and 5.7).
     /// - `heard_is_delivered`: in every moment an octet that ends a frame which spells the SAPI of a service and a TEI on
     ///   the line is an event of that link and of no other, and one that ends no frame changes nothing but what was
     ///   received; contents are handed on only of an I-frame or a UI that an octet ends, whose information they are, with
@@ -143,6 +156,8 @@ impl<S: Shelf> Card<S> {
         ensures units_wait { (m : machine.Card) → Stands S.store self.old m → UnitsWaitAll m (events_of events.now) }
         ensures turns_stay { (m : machine.Card) → Stands S.store self.old m → TurnsStay m (events_of events.now) }
         ensures frames_are_heeded { (m : machine.Card) → Stands S.store self.old m → AreHeeded m (events_of events.now) }
+        ensures requests_take_effect { (m : machine.Card) → Stands S.store self.old m → TakeEffect m (events_of events.now) }
+        ensures links_are_steady { (m : machine.Card) → Stands S.store self.old m → AreSteady m (events_of events.now) }
         ensures heard_is_delivered { (m : machine.Card) → Stands S.store self.old m → IsDelivered m (events_of events.now) }
 
         // After every front of the list, from every card or, where it says `fresh`, from one that has just begun.

@@ -4,3 +4,5 @@ pub mod Serving
 pub mod Hearing
 pub mod Heeding
 pub mod TimersRun
+pub mod Granting
+pub mod Happening

@@ -11,6 +11,8 @@ use Rattle.lapd_line_laws.specs.Frames.{IsHeeded}
 use Rattle.lapd_line_laws.specs.Share.{asked_by}
 use Rattle.lapd_line_laws.specs.Loss.{IsTold}
 use Rattle.lapd_line_laws.specs.Pulls.{UnitsWait, TurnStays}
+use Rattle.lapd_line_laws.specs.Requests.{LinkTakesEffect, ManagementTakesEffect}
+use Rattle.lapd_line_laws.specs.Steady.{Happens}
 use Rattle.lapd_line_laws.specs.Heard.{Ends, IsFor, IsOneEvent, IsNoEvent, contents_in, IsHeard}
 use Rattle.lapd_card_machine.specs.Card.{line_at}
 use Rattle.lapd_card_machine.specs.Machine.{after}
@@ -46,6 +48,21 @@ IsHeededIn m =
     (value : ℕ) (service : Service) (tei place : ℕ) (parts : Parts) (octets : List ℕ) → m.event.what ≡ octet value
     → Ends m.card.config (line_before m) value octets → IsFor (line_before m) service tei place parts octets
     → IsHeeded (terms m.card.config service tei) parts (link_in (line_before m) service place) (link_in (line_after m) service place) m.answer
+
+-- A request that is granted takes effect, at its link or in TEI management.
+pub record TakesEffectIn (m : Moment) : Type 0 where
+  pub link : LinkTakesEffect m.card.config m.event.what (line_before m) (line_after m) m.answer
+  pub management : ManagementTakesEffect m.event.what (line_before m) (line_after m) m.answer
+
+-- Each link of the event's line is left as it is, or is as one that begins, or has one event and is steady; and each link
+-- of another line is left as it is.
+pub record IsSteadyFor (name : LinkName) (m : Moment) : Type 0 where
+  pub here : m.event.line ≡ name.line
+      → Happens m.card.config name.number m.event.what (line_at name.line m.card) (line_at name.line (after m.event m.card)) m.answer
+  pub elsewhere : m.event.line ≢ name.line → link_named name (after m.event m.card) ≡ link_named name m.card
+
+abbrev pub IsSteadyIn : Moment → Type 0
+IsSteadyIn m = (name : LinkName) → HasLink m.card name → IsSteadyFor name m
 
 -- A frame for a link that an octet ends is an event of this link alone, one that ends no frame is no event of any; contents
 -- are handed on of a frame that was heard; and no other line feels an event.

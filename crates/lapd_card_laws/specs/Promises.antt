@@ -11,7 +11,7 @@ use Rattle.lapd_card_machine.specs.Numbered.{LinkName}
 use Rattle.lapd_card_machine.specs.Promises.{HasLink}
 use Rattle.lapd_card_machine.specs.Run.{Moment, moments, after_all}
 use Rattle.lapd_card_laws.specs.Contents.{link_named, begun, history, accepted_at}
-use Rattle.lapd_card_laws.specs.Faithful.{IsFaithful, UnitsWaitIn, TurnStaysIn, IsHeededIn, IsHeardIn}
+use Rattle.lapd_card_laws.specs.Faithful.{IsFaithful, UnitsWaitIn, TurnStaysIn, IsHeededIn, TakesEffectIn, IsSteadyIn, IsHeardIn}
 use Rattle.lapd_card_laws.specs.Timers.{runs_at_callers}
 
 -- In every moment nothing that was accepted is lost silently.
@@ -46,6 +46,14 @@ TurnsStay m events = All TurnStaysIn (moments m events)
 -- In every moment each frame for a link is heeded,
 abbrev pub AreHeeded : Card → List Event → Type 0
 AreHeeded m events = All IsHeededIn (moments m events)
+
+-- each request that is granted takes effect,
+abbrev pub TakeEffect : Card → List Event → Type 0
+TakeEffect m events = All TakesEffectIn (moments m events)
+
+-- each link is steady,
+abbrev pub AreSteady : Card → List Event → Type 0
+AreSteady m events = All IsSteadyIn (moments m events)
 
 -- and only what was heard is delivered, and from whom.
 abbrev pub IsDelivered : Card → List Event → Type 0

@@ -1,6 +1,6 @@
 //! What a card does, over whole runs. Each law is the contract of a call that does nothing.
 
-ghost use Rattle.lapd_card_laws.specs.Laws.{NothingIsLost, PullsServe, FramesAreHeeded, HeardIsDelivered};
+ghost use Rattle.lapd_card_laws.specs.Laws.{NothingIsLost, PullsServe, FramesAreHeeded, RequestsTakeEffect, LinksAreSteady, HeardIsDelivered};
 
 /// Nothing that was accepted is lost silently. In every moment of a run each link keeps what it kept before, without the
 /// oldest contents, as many as a valid N(R) acknowledges, and with the contents of a data request for this link at the
@@ -31,6 +31,23 @@ pub fn pulls_serve()
 /// N(R) was invalid. And what the terminal rejects is sent again, from the number that it names on.
 pub fn frames_are_heeded()
     ensures { FramesAreHeeded }
+{}
+
+/// A request that is granted takes effect, in its own moment: SABME or DISC waits, and the link awaits UA with T200 running;
+/// contents are kept behind what is kept, and nothing is told; own busy is on, or off, and RNR, or RR, says so; a TEI is on
+/// the line; and for one that is removed or checked the message waits.
+pub fn requests_take_effect()
+    ensures { RequestsTakeEffect }
+{}
+
+/// Links are steady. In every moment of a run a link is left as it is, or its TEI leaves the line or one comes to its place,
+/// and it is as one that begins, or it has one event. Then V(S) stays but for an I-frame that is given, for what the
+/// terminal asks for again, for the end of all that is kept, and for a beginning of its numbers; own busy stays but for
+/// SetBusy, ClearBusy and a new establishment; only a poll puts a response with F=1 behind what waits; a loss is told only
+/// of SABME, DISC, UA or DM, of the expiry of T200 and of a release; and the numbers begin anew only where it is told, or
+/// at the end of an establishment that this side began itself.
+pub fn links_are_steady()
+    ensures { LinksAreSteady }
 {}
 
 /// Only what was heard is delivered, and from whom. In every moment of a run an octet that ends a frame which spells the

@@ -14,5 +14,8 @@
 mod laws;
 mod timers;
 
-pub use laws::{frames_are_heeded, heard_is_delivered, nothing_is_lost, pulls_serve};
+pub use laws::{
+    frames_are_heeded, heard_is_delivered, links_are_steady, nothing_is_lost, pulls_serve,
+    requests_take_effect,
+};
 pub use timers::timers_follow;

@@ -30,7 +30,7 @@ use Rattle.lapd_line_machine.proofs.ProperAims.{heard_aims}
 use Rattle.lapd_line_laws.specs.Share.{no_share, ending, share_aimed, share_of, is_link, is_of, is_granted, asked_for, asked_by}
 
 -- a row that does not hold is passed over
-passed : (row : Row) (rows : List Row) → first_that_holds (row ∷ rows) ≡ None → (row.holds ≡ false) × (first_that_holds rows ≡ None)
+pub passed : (row : Row) (rows : List Row) → first_that_holds (row ∷ rows) ≡ None → (row.holds ≡ false) × (first_that_holds rows ≡ None)
 passed row rows e = go row.holds e
   where
     go : (b : Bool) → cond b (Some row.why) (first_that_holds rows) ≡ None → (b ≡ false) × (first_that_holds rows ≡ None)

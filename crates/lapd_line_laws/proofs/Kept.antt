@@ -43,7 +43,7 @@ use Rattle.lapd_line_machine.proofs.ProperAims.{octet_proper, expiry_proper, req
 use Rattle.lapd_line_laws.specs.Share.{no_share, ending, share_aimed, share_of}
 
 -- both links of a place begin anew
-begin_here : (all : List Link) (place number : ℕ) → place_at number ≡ place → 2 * place + 1 < length all
+pub begin_here : (all : List Link) (place number : ℕ) → place_at number ≡ place → 2 * place + 1 < length all
     → get_or (set (set all (link_number place Call) fresh) (link_number place Packet) fresh) number fresh ≡ fresh
 begin_here all place number here few =
     let one = set all (link_number place Call) fresh in
@@ -57,7 +57,7 @@ begin_here all place number here few =
     ∙ get_or-set_same one (link_number place Packet) fresh fresh (omega (arith, few, length-set all (link_number place Call) fresh)))
     (at_place number place here)
 
-begin_away : (all : List Link) (place number : ℕ) → place_at number ≢ place
+pub begin_away : (all : List Link) (place number : ℕ) → place_at number ≢ place
     → get_or (set (set all (link_number place Call) fresh) (link_number place Packet) fresh) number fresh ≡ get_or all number fresh
 begin_away all place number away =
     get_or-set_other (set all (link_number place Call) fresh) (link_number place Packet) number fresh fresh (λ e. away (ap place_at e ∙ place_at-number place Packet))
@@ -143,11 +143,11 @@ set_keeps (y ∷ ys) (suc n) (suc number) x h = set_keeps ys n number x h
 abbrev Keeps : Line → ℕ → Taken → Type 0
 Keeps l number t = Same (link_at number l) (link_at number t.line)
 
-mapped : {X Y : Type 0} (f : X → Y) (P : Y → Type 0) (o : Option X) → ((x : X) → P (f x)) → IfSome (option_map f o) P
+pub mapped : {X Y : Type 0} (f : X → Y) (P : Y → Type 0) (o : Option X) → ((x : X) → P (f x)) → IfSome (option_map f o) P
 mapped f P None h = tt
 mapped f P (Some x) h = h x
 
-first_of : (P : Taken → Type 0) (o rest : Option Taken) → IfSome o P → IfSome rest P → IfSome (option_or o rest) P
+pub first_of : (P : Taken → Type 0) (o rest : Option Taken) → IfSome o P → IfSome rest P → IfSome (option_or o rest) P
 first_of P None rest h h' = h'
 first_of P (Some t) rest h h' = h
 

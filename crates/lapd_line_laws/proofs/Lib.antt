@@ -10,3 +10,7 @@ pub mod LinkMoves
 pub mod Obeyed
 pub mod Following
 pub mod TimersFollow
+pub mod Granting
+pub mod Managing
+pub mod Tied
+pub mod Happening

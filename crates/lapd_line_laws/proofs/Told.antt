@@ -86,7 +86,7 @@ one-of true b e = inl refl
 one-of false b e = inr e
 
 -- the end of one place, and what comes to it
-moved : (places new : List (Option ℕ)) (place : ℕ) (o : Option Change) → is_change_at place o ≡ true → tei_laws.Moves places o new
+pub moved : (places new : List (Option ℕ)) (place : ℕ) (o : Option Change) → is_change_at place o ≡ true → tei_laws.Moves places o new
     → get_or new place None ≢ get_or places place None
 moved places new place None e m = absurd (true≢false (sym e))
 moved places new place (Some (Gained tei other)) e m =

@@ -14,6 +14,8 @@ use Rattle.lapd_line_laws.specs.Share.{share_of, IsKept, asked_by}
 use Rattle.lapd_line_laws.specs.Loss.{IsTold}
 use Rattle.lapd_line_laws.specs.Pulls.{contents_of, IsServed, UnitsWait, TurnStays}
 use Rattle.lapd_line_laws.specs.Frames.{IsHeeded}
+use Rattle.lapd_line_laws.specs.Requests.{LinkTakesEffect, ManagementTakesEffect}
+use Rattle.lapd_line_laws.specs.Steady.{Happens}
 use Rattle.lapd_line_laws.specs.Heard.{Ends, IsFor, IsOneEvent, IsNoEvent, contents_in, IsHeard}
 use Rattle.lapd_line_laws.specs.Timers.{is_needed, runs_then, HaveTheirTimers}
 
@@ -58,3 +60,13 @@ pub record TimersFollow : Type 0 where
   pub timely : (c : Config) (e : Event) (l : Line) → IsInRange c → IsSound c l → HaveTheirTimers l → HaveTheirTimers (after c e l)
   pub followed : (c : Config) (e : Event) (l : Line) (timer : Timer) → IsInRange c → IsSound c l → HaveTheirTimers l
       → runs_then timer (is_needed timer l) e (answer c e l) ≡ is_needed timer (after c e l)
+
+-- A request that is granted takes effect, at its link or in TEI management.
+pub record RequestsTakeEffect : Type 0 where
+  pub link : (c : Config) (e : Event) (l : Line) → IsInRange c → IsSound c l → LinkTakesEffect c e l (after c e l) (answer c e l)
+  pub management : (c : Config) (e : Event) (l : Line) → ManagementTakesEffect e l (after c e l) (answer c e l)
+
+-- Whatever happens on a line, a link is left as it is, or is as one that begins, or has one event, and is steady.
+abbrev pub LinksAreSteady : Type 0
+LinksAreSteady = (c : Config) (e : Event) (l : Line) (number : ℕ) → IsSound c l → number < link_count c
+    → Happens c number e l (after c e l) (answer c e l)

@@ -5,7 +5,10 @@ pub mod Pulls
 pub mod Heard
 pub mod Frames
 pub mod Timers
+pub mod Requests
+pub mod Steady
 pub mod Laws
 pub mod Worked
 pub mod WorkedPulls
 pub mod WorkedHeard
+pub mod WorkedLinks

@@ -12,7 +12,7 @@ use Rattle.lapd_line_machine.specs.Pull.{Taken, begun}
 use Rattle.lapd_line_machine.specs.Request.{Request, Assign, Data, Unit, Check}
 use Rattle.lapd_line_laws.specs.Worked.{usual, both_up, hears}
 
-abbrev asked : Request → Line → Line
+abbrev pub asked : Request → Line → Line
 asked r l = (of_request usual r l).line
 
 abbrev frame_in : Taken → List ℕ
@@ -22,7 +22,7 @@ abbrev frame_begun : Line → Option (List ℕ)
 frame_begun l = option_map frame_in (begun usual l)
 
 -- The line after so many pulls.
-unfoldable pulled : ℕ → Line → Line
+unfoldable pub pulled : ℕ → Line → Line
 pulled zero l = l
 pulled (suc n) l = pulled n (after usual pull l)
 

@@ -1,6 +1,6 @@
 //! What a line does. Each law is the contract of a call that does nothing.
 
-ghost use Rattle.lapd_line_laws.specs.Laws.{NothingIsLost, PullsServe, HeardIsDelivered, FramesAreHeeded};
+ghost use Rattle.lapd_line_laws.specs.Laws.{NothingIsLost, PullsServe, HeardIsDelivered, FramesAreHeeded, RequestsTakeEffect, LinksAreSteady};
 
 /// Nothing that was accepted is lost silently. What each link of a line keeps after an event is what it kept before,
 /// without the oldest contents, as many as a valid N(R) acknowledges, and with the contents of a data request for this
@@ -35,4 +35,24 @@ pub fn heard_is_delivered()
 /// from number n on, contents number n are the next to be sent (Q.921 clauses 5.5.1.2, 5.5.3.2, 5.6.2 to 5.6.7 and 5.8.1).
 pub fn frames_are_heeded()
     ensures { FramesAreHeeded }
+{}
+
+/// A request that is granted takes effect. At its link: DL-ESTABLISH puts SABME with P=1 behind what waits, and DL-RELEASE
+/// DISC with P=1, and the link awaits UA with T200 running, or the release of a link that is down is confirmed at once;
+/// contents are kept behind what is kept; own busy is on, or off, and RNR, or RR, says so. In TEI management: a TEI that
+/// is assigned is on the line, and for one that is removed or checked the message waits (Q.921 clauses 5.3.2 to 5.3.4,
+/// 5.5.1.1, 5.5.3.2, 5.6.1 and 5.6.6).
+pub fn requests_take_effect()
+    ensures { RequestsTakeEffect }
+{}
+
+/// Links are steady. An event of a line leaves a link as it is, or its TEI leaves the line, or one comes to its place, and it
+/// is as one that begins; or it is one event of the link: a frame, an expiry of its timer, a granted request of it, or a
+/// pull. Then V(S) stays but where an I-frame is given, where the terminal asks for I-frames again, to that number, and
+/// where all that is kept goes, or the numbers begin anew; own busy changes only by SetBusy and ClearBusy and where the
+/// link is established anew; only a poll puts a response with F=1 behind what waits; a loss is told only of SABME, DISC, UA
+/// or DM, the expiry of T200 and a release; and the numbers begin anew only where it is told, or at the end of an
+/// establishment that this side began itself (Q.921 clauses 3.5.2.3, 5.5.1 to 5.5.3, 5.6.1, 5.6.4, 5.6.6, 5.6.7 and 5.7).
+pub fn links_are_steady()
+    ensures { LinksAreSteady }
 {}

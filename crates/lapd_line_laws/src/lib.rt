@@ -4,8 +4,9 @@
 //! The machine itself, and the laws that say what a line never does, stand in `lapd_line_machine`; the laws of a single
 //! link in `lapd_link_laws`. `specs/` has the words of these laws: what an event is to the contents of one link
 //! (`Share`), how layer 3 learns that a link keeps nothing (`Loss`), what a pull begins (`Pulls`), what an octet brings
-//! (`Heard`), what a frame makes of its link (`Frames`), which timers are needed and which a caller runs (`Timers`), the
-//! laws (`Laws`), and worked values (`Worked`, `WorkedPulls`, `WorkedHeard`). Each law is the contract of a call that does
+//! (`Heard`), what a frame makes of its link (`Frames`), which timers are needed and which a caller runs (`Timers`),
+//! what comes of a request that is granted (`Requests`), what an event may change of a link (`Steady`), the laws (`Laws`),
+//! and worked values (`Worked`, `WorkedPulls`, `WorkedHeard`, `WorkedLinks`). Each law is the contract of a call that does
 //! nothing.
 //!
 //! - `laws`, `timers`: the laws.
@@ -14,5 +15,8 @@
 mod laws;
 mod timers;
 
-pub use laws::{frames_are_heeded, heard_is_delivered, nothing_is_lost, pulls_serve};
+pub use laws::{
+    frames_are_heeded, heard_is_delivered, links_are_steady, nothing_is_lost, pulls_serve,
+    requests_take_effect,
+};
 pub use timers::timers_follow;

@@ -12,3 +12,6 @@ pub mod GoingBack
 pub mod Owing
 pub mod Beginning
 pub mod InOrder
+pub mod Ordinary
+pub mod Steady
+pub mod Effects

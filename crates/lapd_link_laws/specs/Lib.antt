@@ -7,6 +7,8 @@ pub mod Ends
 pub mod Sending
 pub mod Owing
 pub mod InOrder
+pub mod Steady
+pub mod Effects
 pub mod Beginning
 pub mod Worked
 pub mod WorkedSending

@@ -20,5 +20,5 @@ pub use laws::{
 };
 pub use sending::{
     beginnings_are_told, busy_is_left_alone, deliveries_are_acknowledged, rejected_is_sent_again,
-    sent_in_order,
+    requests_take_effect, sent_in_order, steady_unless_seen,
 };

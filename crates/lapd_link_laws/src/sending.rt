@@ -1,12 +1,12 @@
 //! What a link sends, and when. Each law is the contract of a call that does nothing.
 
-ghost use Rattle.std.specs.Prelude.{◌≡◌, ◌⊎◌, ℕ, ◌+◌, true, IsTrue, List, Some, IfSome};
+ghost use Rattle.std.specs.Prelude.{◌≡◌, ◌⊎◌, ℕ, ◌+◌, Bool, true, IsTrue, List, Some, None, IfSome};
 ghost use Rattle.lapd_seq.specs.declared.numbers.Seq.{Seq};
 ghost use Rattle.lapd_seq.specs.Circle.{named};
 ghost use Rattle.lapd_frame.specs.Grammar.{Parts};
 ghost use Rattle.lapd_link_machine.specs.declared.terms.Terms.{Terms};
 ghost use Rattle.lapd_link_machine.specs.Link.{Link};
-ghost use Rattle.lapd_link_machine.specs.Events.{Event, frame, received, offer};
+ghost use Rattle.lapd_link_machine.specs.Events.{Event, Request, frame, received, requested, offer};
 ghost use Rattle.lapd_link_machine.specs.Machine.{after, told, given};
 ghost use Rattle.lapd_link_machine.specs.Deliveries.{restarts};
 ghost use Rattle.lapd_link_machine.specs.Sound.{IsInRange, IsSound};
@@ -15,6 +15,10 @@ ghost use Rattle.lapd_link_laws.specs.Sending.{MayGo, asked_from, GoesBackTo, of
 ghost use Rattle.lapd_link_laws.specs.Beginning.{IsSeen};
 ghost use Rattle.lapd_link_laws.specs.Owing.{Owes, IsBegunAgain};
 ghost use Rattle.lapd_link_laws.specs.InOrder.{IsInOrder};
+ghost use Rattle.lapd_link_laws.specs.Steady.{MovesSent, MovesBusy, MayLose};
+ghost use Rattle.lapd_link_laws.specs.Effects.{TakesEffect};
+ghost use Rattle.lapd_link_machine.specs.Requests.{refusal};
+ghost use Rattle.lapd_link_laws.specs.Accepted.{empties};
 
 /// A busy terminal is left alone. An offer gives an I-frame in state 7 alone, and only while the terminal is not taken
 /// for busy, fewer than k I-frames are outstanding, and contents are unsent (Q.921 clauses 5.6.1, 5.6.5 and 5.6.7).
@@ -55,4 +59,26 @@ pub fn deliveries_are_acknowledged()
 /// but this side began itself (Q.921 clauses 5.5.1.2 and 5.7).
 pub fn beginnings_are_told()
     ensures seen { (t : Terms) (e : Event) (l : Link) → restarts t e l ≡ true → IsSeen e l (told t e l).notes }
+{}
+
+/// Nothing changes unseen. V(S) stays but where an I-frame is given, which it counts; where the terminal asks for I-frames
+/// again, from the number that a valid N(R) names on; where all that is kept goes, to V(A); and where the numbers begin
+/// anew, to 0. Own busy begins by SetBusy, and ends by ClearBusy, by an establishment that layer 3 asks for or that is told
+/// (an establishment indication, or an error after which the link is established anew), and where the TEI leaves. And all
+/// that is kept goes only by SABME, DISC, UA or DM of the terminal, by the expiry of T200, by a release that layer 3 asks
+/// for, and where the TEI leaves (Q.921 clauses 3.5.2.3, 5.5.1 to 5.5.3, 5.6.1, 5.6.4, 5.6.6, 5.6.7 and 5.7).
+pub fn steady_unless_seen()
+    ensures sent { (t : Terms) (e : Event) (l : Link) → MovesSent t e l (after t e l) }
+    ensures busy { (t : Terms) (e : Event) (l : Link) → MovesBusy e l (after t e l) (told t e l).notes }
+    ensures loss { (t : Terms) (e : Event) (l : Link) → empties t e l ≡ true → MayLose e }
+{}
+
+/// A request that is granted takes effect. DL-ESTABLISH puts SABME with P=1 behind what waits, and the link awaits UA, in
+/// state 5 with T200 running; DL-RELEASE puts DISC with P=1 there, and the link awaits UA, in state 6 with T200 running, and
+/// keeps nothing; in state 4 it is confirmed at once. DL-DATA: the contents are kept behind what is kept, and nothing is
+/// told. SetBusy and ClearBusy: own busy is on, or off, and where it was not before, RNR or RR with N(R) = V(R) is put
+/// there. A frame that finds as many waiting as may is told as lost (Q.921 clauses 5.5.1.1, 5.5.3.2, 5.6.1 and 5.6.6).
+pub fn requests_take_effect()
+    ensures takes_effect { (t : Terms) (request : Request) (full : Bool) (l : Link) → IsSound t l → refusal t l full request ≡ None
+        → TakesEffect t request l (after t (requested request full) l) (told t (requested request full) l).notes (told t (requested request full) l).lost }
 {}

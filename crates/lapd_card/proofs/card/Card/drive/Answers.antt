@@ -16,11 +16,13 @@ use Rattle.lapd_card_machine.proofs.Refusals.{refused_by_the_table}
 use Rattle.lapd_card_machine.proofs.ByEvent.{frames_by_event}
 use Rattle.lapd_card_machine.proofs.Drops.{drops_cost_nothing, drops_change_nothing}
 use Rattle.lapd_card_machine.specs.Promises.{IsWithinLimit, IsAmortised, IsAmortisedFromZero, HasSixOctetsAFrame, HasSevenOctetsAReject, IsLinear, IsIsolated, IsNeverFull, IsNumbered, IsNumberedFromZero, IsTextual}
-use Rattle.lapd_card_laws.specs.Promises.{IsKept, IsCountedIn, IsServedIn, UnitsWaitAll, TurnsStay, AreHeeded, IsDelivered, RunsWhatIsNeeded}
+use Rattle.lapd_card_laws.specs.Promises.{IsKept, IsCountedIn, IsServedIn, UnitsWaitAll, TurnsStay, AreHeeded, TakeEffect, AreSteady, IsDelivered, RunsWhatIsNeeded}
 use Rattle.lapd_card_laws.proofs.Keeping.{kept, run-counted, begins-empty}
 use Rattle.lapd_card_laws.proofs.Serving.{served-in, units-all, turns-stay}
 use Rattle.lapd_card_laws.proofs.Hearing.{heard-all}
 use Rattle.lapd_card_laws.proofs.Heeding.{heeded-all}
+use Rattle.lapd_card_laws.proofs.Granting.{effect-all}
+use Rattle.lapd_card_laws.proofs.Happening.{steady-all}
 use Rattle.lapd_card_laws.proofs.TimersRun.{needed-run, needs-none}
 use Rattle.lapd_card.proofs.Headline.{whole_list, each_front, timely_front, fresh_front}
 use Rattle.lapd_card.proofs.card.Card.drive.Goals as goal
@@ -202,3 +204,15 @@ returns-then-is_err-clause-timers g c = λ m count. timely_front g.S.Shelf.store
 
 pub returns-then-is_err-clause-no_timers : goal.returns-then-is_err-clause-no_timers
 returns-then-is_err-clause-no_timers g c = needs-none c.args.self.now.config
+
+pub returns-clause-requests_take_effect : goal.returns-clause-requests_take_effect
+returns-clause-requests_take_effect g c = λ m. whole_list g.S.Shelf.store c.args.self.now c.args.events.now c.requires TakeEffect effect-all m
+
+pub returns-clause-links_are_steady : goal.returns-clause-links_are_steady
+returns-clause-links_are_steady g c = λ m. whole_list g.S.Shelf.store c.args.self.now c.args.events.now c.requires AreSteady steady-all m
+
+pub returns-then-is_err-clause-requests_take_effect : goal.returns-then-is_err-clause-requests_take_effect
+returns-then-is_err-clause-requests_take_effect g c = λ m. whole_list g.S.Shelf.store c.args.self.now c.args.events.now c.requires TakeEffect effect-all m
+
+pub returns-then-is_err-clause-links_are_steady : goal.returns-then-is_err-clause-links_are_steady
+returns-then-is_err-clause-links_are_steady g c = λ m. whole_list g.S.Shelf.store c.args.self.now c.args.events.now c.requires AreSteady steady-all m

@@ -1,0 +1,46 @@
+-- What comes of a request that is granted, in a moment of a run.
+use Rattle.std.proofs.Common.{◌≡◌, List, true, false, get_or, sym, subst, arith, true≢false}
+use Rattle.std.proofs.lemmas.List.{get_or-set_same}
+use Rattle.lapd_line_machine.specs.Answer as happening
+use Rattle.lapd_line_machine.specs.Answer.{Answer}
+use Rattle.lapd_line_machine.specs.Line.{Line, fresh_line}
+use Rattle.lapd_line_machine.specs.Machine as lines
+use Rattle.lapd_line_machine.specs.declared.config.Config.{Config}
+use Rattle.lapd_line_laws.specs.Requests.{LinkTakesEffect, ManagementTakesEffect}
+use Rattle.lapd_line_laws.proofs.Granting.{link-takes-effect}
+use Rattle.lapd_line_laws.proofs.Managing.{management-takes-effect}
+use Rattle.lapd_card_machine.specs.Event.{Event}
+use Rattle.lapd_card_machine.specs.Card.{Card, line_at}
+use Rattle.lapd_card_machine.specs.Machine.{after, answer}
+use Rattle.lapd_card_machine.specs.Run.{IsAtLine, AreAtLines}
+use Rattle.lapd_card_machine.specs.Sound.{IsSound}
+use Rattle.lapd_card_machine.proofs.EachMoment.{moment_of, each_moment}
+use Rattle.lapd_card_machine.proofs.Steps.{has_lines, by_room, line_sound}
+use Rattle.lapd_card_laws.specs.Faithful.{TakesEffectIn}
+use Rattle.lapd_card_laws.specs.Promises.{TakeEffect}
+
+record Takes (c : Config) (e : happening.Event) (before after : Line) (a : Answer) : Type 0 where
+  link : LinkTakesEffect c e before after a
+  management : ManagementTakesEffect e before after a
+
+effect-in : (card : Card) (e : Event) → IsSound card → IsAtLine card e → TakesEffectIn (moment_of card e)
+effect-in card e s here = record { link = taken.link; management = taken.management }
+  where
+    taken : Takes card.config e.what (line_at e.line card) (line_at e.line (after e card)) (answer e card)
+    taken =
+        by_room (λ ls a. Takes card.config e.what (line_at e.line card) (get_or ls e.line (fresh_line card.config)) a) e card
+        (λ full. record {
+          link = λ service tei place asked is granted. absurd (true≢false (sym granted));
+          management = λ r is granted. absurd (true≢false (sym granted));
+        })
+        (λ room.
+        let own = lines.after card.config e.what (line_at e.line card) in
+        subst (λ (x : Line). Takes card.config e.what (line_at e.line card) x (lines.answer card.config e.what (line_at e.line card)))
+        (sym (get_or-set_same card.lines e.line own (fresh_line card.config) (omega (arith, s.count, here))))
+        (record {
+          link = link-takes-effect card.config e.what (line_at e.line card) s.config (line_sound card e.line (has_lines card s) here);
+          management = management-takes-effect card.config e.what (line_at e.line card);
+        }))
+
+pub effect-all : (card : Card) (events : List Event) → IsSound card → AreAtLines card events → TakeEffect card events
+effect-all card events s all = each_moment TakesEffectIn effect-in card events s all

@@ -1,0 +1,56 @@
+-- Worked values: what frames, requests and pulls make of a link of a line.
+use Rattle.std.specs.Prelude.{◌≡◌, true, false, [], ◌∷◌, Some, refl}
+use Rattle.lapd_bits.specs.Bits.{low_bits}
+use Rattle.lapd_frame.specs.declared.controls.Control.TheVariants.{ReceiveReady, ReceiveNotReady, Sabme, Ua}
+use Rattle.lapd_frame.specs.declared.services.Service.TheVariants.{Call}
+use Rattle.lapd_frame.specs.Reading.{reading, header_of, control_of, unnumbered_of, supervisory_of}
+use Rattle.lapd_link_machine.specs.declared.states.State.TheVariants.{AwaitingEstablishment}
+use Rattle.lapd_link_machine.specs.declared.timers.LinkTimer.TheVariants.{T200}
+use Rattle.lapd_link_machine.specs.Words.{command, response}
+use Rattle.lapd_seq.specs.Circle.{distance_of, named}
+use Rattle.lapd_seq.specs.Numbers.{seq}
+use Rattle.lapd_tei.specs.Events as teis
+use Rattle.lapd_line_machine.specs.Line.{Line, fresh_line, link_at}
+use Rattle.lapd_line_machine.specs.Machine.{after}
+use Rattle.lapd_line_machine.specs.Request.{Establish, Data, Assign, SetBusy}
+use Rattle.lapd_line_laws.specs.Worked.{usual, both_up, hears}
+use Rattle.lapd_line_laws.specs.WorkedPulls.{asked, pulled}
+
+-- RR with P=1 comes for the call control link of TEI 64: behind the UA to its SABME one answer waits, with F=1.
+poll_answered : (link_at 0 (hears (0x00 ∷ 0x81 ∷ 0x01 ∷ 0x01 ∷ []) both_up)).waiting
+    ≡ response (Ua true) ∷ response (ReceiveReady (seq 0) true) ∷ []
+unfolding seq distance_of named reading header_of control_of unnumbered_of supervisory_of teis.course teis.refusal
+poll_answered = refl
+
+-- An establishment is granted: SABME waits, and UA is awaited.
+abbrev establishing : Line
+establishing = asked (Establish Call 64) (asked (Assign 64) (fresh_line usual))
+
+establishment_waits : (link_at 0 establishing).waiting ≡ command (Sabme true) ∷ []
+unfolding teis.course teis.refusal
+establishment_waits = refl
+
+establishment_awaited : (link_at 0 establishing).state ≡ AwaitingEstablishment
+unfolding teis.course teis.refusal
+establishment_awaited = refl
+
+establishment_timed : (link_at 0 establishing).running ≡ Some T200
+unfolding teis.course teis.refusal
+establishment_timed = refl
+
+-- Own busy begins: RNR says so.
+busy_told : (link_at 0 (asked (SetBusy Call 64) both_up)).waiting ≡ response (Ua true) ∷ response (ReceiveNotReady (seq 0) false) ∷ []
+unfolding seq reading header_of control_of unnumbered_of supervisory_of teis.course teis.refusal
+busy_told = refl
+
+-- An I-frame is begun, and V(S) counts it; REJ with N(R) 0 takes V(S) back to 0.
+abbrev one_sent : Line
+one_sent = pulled 1 (asked (Data Call 64 (0x41 ∷ [])) (pulled 13 both_up))
+
+sent_counted : (link_at 0 one_sent).s ≡ 1
+unfolding after seq reading header_of control_of unnumbered_of teis.course teis.refusal low_bits pulled
+sent_counted = refl
+
+sent_again : (link_at 0 (hears (0x02 ∷ 0x81 ∷ 0x09 ∷ 0x00 ∷ []) one_sent)).s ≡ 0
+unfolding after seq distance_of named reading header_of control_of unnumbered_of supervisory_of teis.course teis.refusal low_bits pulled
+sent_again = refl

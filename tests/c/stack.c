@@ -1,0 +1,121 @@
+/*
+ * stack.c: how much stack the calls of the library take, measured: each call of a conversation runs on a stack of its own,
+ * which is painted before. With heap.c, whose functions of memory take little, and linked with -z now, since the linker
+ * takes some KB of stack where it first finds a function later. For tests alone.
+ *
+ *     stack          prints octets of stack by call; status 1 where a call takes more than docs/EMBEDDING.md allows
+ */
+#define _XOPEN_SOURCE 700
+
+#include <stdio.h>
+#include <string.h>
+#include <ucontext.h>
+
+#include "hdlc.h"
+#include "lapd.h"
+
+enum { PAINT = 0xA5, MOST = 2048, STACK = 65536 };
+
+static uint8_t stack[STACK];
+static ucontext_t here, there;
+static lapd_card card;
+static lapd_clock timers;
+static lapd_report report;
+static const lapd_config config = {1, 8, 7, 7, 8, 4, 4, 8, 260, 3};
+
+/* What is called, and what it is called with. */
+static void (*called)(void);
+static uint8_t octet, octets[32], given[32];
+static lapd_due due;
+static size_t steps;
+static uint32_t status;
+
+static void run(void) {
+    called();
+}
+
+/* The octets of stack that a call takes, with what it takes to come and go. */
+static size_t taken(void (*call)(void)) {
+    called = call;
+    memset(stack, PAINT, sizeof stack);
+    getcontext(&there);
+    there.uc_stack.ss_sp = stack;
+    there.uc_stack.ss_size = sizeof stack;
+    there.uc_link = &here;
+    makecontext(&there, run, 0);
+    swapcontext(&here, &there);
+    size_t untouched = 0;
+    while (untouched < sizeof stack && stack[untouched] == PAINT)
+        untouched++;
+    return sizeof stack - untouched;
+}
+
+static void nothing(void) {}
+static void card_start(void) { status = lapd_card_start(&card, &config); }
+static void card_free(void) { status = lapd_card_free(&card); }
+static void clock_start(void) { status = lapd_clock_start(&timers, &config); }
+static void clock_free(void) { status = lapd_clock_free(&timers); }
+static void take(void) { status = lapd_octet(&card, 0, octet, &report); }
+static void give(void) { status = lapd_pull(&card, 0, &octet, &report); }
+static void assign(void) { status = lapd_assign(&card, 0, 64, &report); }
+static void ask_data(void) { status = lapd_data(&card, 0, LAPD_CALL, 64, octets, sizeof octets, &report); }
+static void expire(void) { status = lapd_expire(&card, due.line, &due.timer, &report); }
+static void apply(void) { status = lapd_clock_apply_report(&timers, 0, &report, 0); }
+static void find_due(void) { status = lapd_clock_due(&timers, LAPD_LATEST, &due); }
+static void exchange(void) { status = lapd_exchange(&card, 0, octets, sizeof octets, given, sizeof given, &steps, &report); }
+
+static size_t base;
+static bool failed;
+
+/* The most that calls of a kind took. */
+static size_t most(size_t before, void (*call)(void)) {
+    size_t own = taken(call) - base;
+    failed |= status != LAPD_OK || own > MOST;
+    return own > before ? own : before;
+}
+
+static void show(const char *name, size_t own) {
+    printf("%-24s %5zu\n", name, own);
+}
+
+/* A frame that comes, with its octets and the pulls after them. */
+static void hear(hdlc_sender *sender, const uint8_t *frame, size_t length, size_t *takes, size_t *gives, size_t *applies) {
+    hdlc_load(sender, frame, length);
+    for (size_t left = hdlc_left(sender), given = 0; given < left; given += 8) {
+        octet = hdlc_octet(sender);
+        *takes = most(*takes, take);
+        *applies = most(*applies, apply);
+        *gives = most(*gives, give);
+        *applies = most(*applies, apply);
+    }
+}
+
+int main(void) {
+    static hdlc_sender sender;
+    static const uint8_t request[] = {0xFC, 0xFF, 0x03, 0x0F, 0x12, 0x34, 0x01, 0xFF}, sabme[] = {0x00, 0x81, 0x7F},
+                         data[] = {0x00, 0x81, 0x00, 0x00, 0x08, 0x01}, twice[] = {0x00, 0x81, 0x06, 0x01, 0x08};
+    size_t takes = 0, gives = 0, applies = 0;
+    base = taken(nothing);
+    show("lapd_card_start", most(0, card_start));
+    show("lapd_clock_start", most(0, clock_start));
+    show("lapd_request, assign", most(0, assign));
+    hdlc_begin(&sender);
+    hear(&sender, request, sizeof request, &takes, &gives, &applies);
+    hear(&sender, sabme, sizeof sabme, &takes, &gives, &applies);
+    hear(&sender, data, sizeof data, &takes, &gives, &applies);
+    hear(&sender, twice, sizeof twice, &takes, &gives, &applies);
+    show("lapd_request, data", most(0, ask_data));
+    for (int i = 0; i < 64; i++)
+        gives = most(gives, give);
+    applies = most(applies, apply);
+    show("lapd_octet", takes);
+    show("lapd_pull", gives);
+    show("lapd_exchange", most(0, exchange));
+    applies = most(applies, apply);
+    show("lapd_clock_apply_report", applies);
+    show("lapd_clock_due", most(0, find_due));
+    show("lapd_expire", most(0, expire));
+    show("lapd_card_free", most(0, card_free));
+    show("lapd_clock_free", most(0, clock_free));
+    return failed;
+}

@@ -1,0 +1,2 @@
+-- What the lines of a card come to by their pulls.
+pub mod Among

@@ -1,0 +1,8 @@
+-- Lemmas.
+pub mod Lengths
+pub mod Draining
+pub mod Bounds
+pub mod Leaving
+pub mod InRounds
+pub mod Ordered
+pub mod Polled

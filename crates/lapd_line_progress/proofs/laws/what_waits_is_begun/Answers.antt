@@ -1,0 +1,17 @@
+use Rattle.lapd_line_progress.proofs.Ordered.{enough-goes}
+use Rattle.lapd_line_progress.proofs.Polled.{poll-goes, unnumbered-goes}
+use Rattle.lapd_line_progress.proofs.laws.what_waits_is_begun.Goals as goal
+
+pub returns-clause-waiting : goal.returns-clause-waiting
+returns-clause-waiting c =
+    λ c n l number tei before f behind ranged s few at e less. enough-goes c ranged number tei few n l s at before f behind e less
+
+pub returns-clause-polled : goal.returns-clause-polled
+returns-clause-polled c =
+    λ c n l value service tei place parts octets ranged s ends h p room less.
+    poll-goes c ranged l s value service tei place parts octets ends h n p room less
+
+pub returns-clause-unnumbered : goal.returns-clause-unnumbered
+returns-clause-unnumbered c =
+    λ c n l value service tei place parts octets answer ranged s ends h e room less.
+    unnumbered-goes c ranged l s value service tei place parts octets ends h n answer e room less

@@ -1,7 +1,7 @@
 //! A sink that keeps replies.
 
-ghost use Rattle.std.specs.Prelude.{◌≡◌, ◌∷◌, ◌++◌, [], IfSome, IfOk};
-ghost use Rattle.lapd_card.specs.Kept.{kept_of};
+ghost use Rattle.std.specs.Prelude.{◌≡◌, ◌≤◌, ◌↔◌, [], length, IsSome, IfSome, IfOk};
+ghost use Rattle.lapd_card.specs.Kept.{kept_of, IsShort};
 ghost use Rattle.lapd_card.specs.Reply.{answer_of};
 ghost use Rattle.lapd_line.specs.Reports.{report_told};
 ghost use Rattle.lapd_line_machine.specs.Answer.{told};
@@ -26,8 +26,8 @@ pub struct KeptReply {
     pub contents: Option<ArrayVec<u8, LONGEST>>,
 }
 
-/// A sink that keeps replies, whole and in order, while it has room. All memory is taken by [`Kept::start`], about 400
-/// octets a reply.
+/// A sink that keeps replies, whole and in order, exactly while it has room. All memory is taken by [`Kept::start`],
+/// about 400 octets a reply.
 #[derive(Debug, Drop)]
 pub struct Kept {
     /// The replies that were kept.
@@ -37,7 +37,7 @@ pub struct Kept {
 }
 
 impl Kept {
-    ghost use Rattle.lapd_card.specs.Kept.{replies_in};
+    ghost use Rattle.lapd_card.specs.Kept.{replies_in, room_in};
 
     /// A sink that has kept no reply, and has room for so many.
     ///
@@ -45,7 +45,8 @@ impl Kept {
     ///
     /// `AllocError` where memory is refused.
     pub fn start(alloc: Global, room: usize) -> Result<Kept, AllocError>
-        ensures { IfOk result (λ sink. replies_in sink ≡ []) }
+        ensures empty { IfOk result (λ sink. replies_in sink ≡ []) }
+        ensures room { IfOk result (λ sink. room_in sink ≡ room) }
     {
         let replies = Vec::with_capacity(alloc, room)?;
         Ok(Kept {
@@ -56,11 +57,11 @@ impl Kept {
 }
 
 impl Sink for Kept {
-    ghost use Rattle.lapd_card.specs.Kept.{replies_in};
+    ghost use Rattle.lapd_card.specs.Kept.{Keeps, Misses};
 
-    ghost takes = { λ old line answer new. replies_in new ≡ replies_in old ++ (line, answer) ∷ [] };
+    ghost takes = { Keeps };
 
-    ghost misses = { λ old line answer new. replies_in new ≡ replies_in old };
+    ghost misses = { Misses };
 
     ghost failures = { λ s. s.failures };
 
@@ -78,7 +79,8 @@ impl Sink for Kept {
 
 /// The reply as it is kept; none where it lends contents that are too long, which those of a card never are.
 fn copy_of(line: usize, reply: &Reply<'_>) -> Option<KeptReply>
-    ensures { IfSome result (λ kept. kept_of kept ≡ (line, answer_of reply.now)) }
+    ensures short { IsSome result ↔ IsShort (answer_of reply.now) }
+    ensures whole { IfSome result (λ kept. kept_of kept ≡ (line, answer_of reply.now)) }
 {
     match reply {
         Reply::Report(report) => kept_report(line, report),
@@ -96,7 +98,8 @@ fn copy_of(line: usize, reply: &Reply<'_>) -> Option<KeptReply>
 }
 
 fn kept_report(line: usize, report: &Report<'_>) -> Option<KeptReply>
-    ensures { IfSome result (λ kept. kept_of kept ≡ (line, told (report_told report.now))) }
+    ensures short { IsSome result ↔ IsShort (told (report_told report.now)) }
+    ensures whole { IfSome result (λ kept. kept_of kept ≡ (line, told (report_told report.now))) }
 {
     let contents = match report.delivered {
         Some(octets) => Some(copied(octets)?),
@@ -110,7 +113,8 @@ fn kept_report(line: usize, report: &Report<'_>) -> Option<KeptReply>
 }
 
 fn copied(octets: &[u8]) -> Option<ArrayVec<u8, LONGEST>>
-    ensures { IfSome result (λ copy. copy.items ≡ octets.now) }
+    ensures short { IsSome result ↔ (length octets.now ≤ 260) }
+    ensures whole { IfSome result (λ copy. copy.items ≡ octets.now) }
 {
     let mut copy = ArrayVec::new();
     copy.try_extend_from_slice(octets).ok()?;

@@ -1,13 +1,13 @@
 //! Starts, and runs of many events: `tests/memory` refuses their memory, and counts how often they take any.
 
-ghost use Rattle.std.specs.Prelude.{◌≡◌, ◌+◌};
-ghost use Rattle.arrayvec.specs.ArrayVec.{array_vec_len};
+ghost use Rattle.std.specs.Prelude.{◌<◌, All};
 ghost use Rattle.lapd_card.specs.Card.{line_count};
+ghost use Rattle.lapd_card.specs.Drive.{line_of};
 
+use crate::kept::keep_replies;
 use crate::refusals::bring_up;
 use crate::starts::{USUAL, usual_card};
-use arrayvec::ArrayVec;
-use lapd_card::{Card, Config, Event, Reply, Request, Sink, SinkFailed};
+use lapd_card::{Card, Config, Event, Kept, KeptReply, Reply, Request};
 use lapd_frame::{Service, Timer};
 use lapd_line::Line;
 use lapd_store::{RawShelf, SlabShelf};
@@ -15,36 +15,9 @@ use std::alloc::Global;
 use std::process::Abort;
 use std::test::Fail;
 
-/// Keeps of each reply whether it is a refusal, in a place of fixed size.
-#[derive(Drop)]
-struct Kept {
-    refused: ArrayVec<bool, 8>,
-    failures: u64,
-}
-
-impl Sink for Kept {
-    ghost takes = { λ old line answer new. array_vec_len new.refused ≡ array_vec_len old.refused + 1 };
-
-    ghost misses = { λ old line answer new. new.refused ≡ old.refused };
-
-    ghost failures = { λ s. s.failures };
-
-    fn take(&mut self, _line: usize, reply: &Reply<'_>) -> Result<(), SinkFailed> {
-        if self
-            .refused
-            .try_push(matches!(reply, Reply::Refused(_)))
-            .is_ok()
-        {
-            return Ok(());
-        }
-        self.failures = self.failures.saturating_add(1);
-        Err(SinkFailed)
-    }
-}
-
 const CALL: Service = Service::Call;
 
-/// Contents and unit data wait, layer 3 takes no more, and a check begins.
+/// Contents and unit data wait, layer 3 takes no more, and a check begins. One is refused.
 const GIVEN: [Event<'static>; 5] = [
     Event::Request(0, Request::Data(CALL, 64, &[1, 2])),
     Event::Request(0, Request::Data(CALL, 65, &[3])),
@@ -62,22 +35,17 @@ const ENDED: [Event<'static>; 5] = [
     Event::Request(0, Request::Remove(64)),
 ];
 
-/// Whether a card takes such events, of which the second is refused.
-fn give(card: &mut Card<SlabShelf>, sink: &mut Kept) -> bool
-    requires { line_count card.old ≡ 1 }
+/// How many of so many events are refused; None where the sink did not keep every reply.
+fn refused(card: &mut Card<SlabShelf>, sink: &mut Kept, events: &[Event<'_>]) -> Option<usize>
+    requires { All (λ event. line_of event < line_count card.old) events.now }
 {
-    sink.refused.clear();
-    let is_taken = card.drive(&GIVEN, sink) == Ok(5);
-    is_taken && sink.refused.as_slice() == [false, true, false, false, false].as_slice()
+    sink.replies.clear();
+    keep_replies(card, events, sink).ok()?;
+    Some(sink.replies.iter().filter(is_refusal).count())
 }
 
-/// Whether a card takes such events, of which none is refused.
-fn end(card: &mut Card<SlabShelf>, sink: &mut Kept) -> bool
-    requires { line_count card.old ≡ 1 }
-{
-    sink.refused.clear();
-    let is_taken = card.drive(&ENDED, sink) == Ok(5);
-    is_taken && sink.refused.as_slice() == [false; 5].as_slice()
+fn is_refusal(kept: &&KeptReply) -> bool {
+    matches!(kept.reply, Reply::Refused(_))
 }
 
 /// Takes more octets than wait.
@@ -91,17 +59,14 @@ fn take(rt: &impl Abort, card: &mut Card<SlabShelf>) {
 /// Brings a link up and ends it, so many times.
 fn drive(rt: &impl Abort, alloc: Global, rounds: u32) -> Result<(), Fail> {
     let mut card = usual_card(alloc)?;
-    let mut sink = Kept {
-        refused: ArrayVec::new(),
-        failures: 0,
-    };
+    let mut sink = Kept::start(alloc, 5)?;
     for _ in 0..rounds {
         bring_up(rt, &mut card);
         assert!(rt; card.lines() == 1);
-        assert!(rt; give(&mut card, &mut sink));
+        assert!(rt; refused(&mut card, &mut sink, &GIVEN) == Some(1));
         take(rt, &mut card);
         assert!(rt; card.lines() == 1);
-        assert!(rt; end(&mut card, &mut sink));
+        assert!(rt; refused(&mut card, &mut sink, &ENDED) == Some(0));
         take(rt, &mut card);
     }
     Ok(())

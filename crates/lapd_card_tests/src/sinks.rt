@@ -2,7 +2,7 @@
 
 use crate::kept::keep_replies;
 use crate::starts::usual_card;
-use lapd_card::{Event, Kept, Reply, Request, SinkFailed, SinkFault};
+use lapd_card::{Event, Kept, KeptReply, Reply, Request, SinkFailed, SinkFault};
 use lapd_frame::{Refusal, Service};
 use std::test::Fail;
 
@@ -60,8 +60,44 @@ fn each_reply_goes_to_the_sink(rt: HostRuntime) -> Result<(), Fail> {
     let mut card = usual_card(rt.alloc())?;
     let mut sink = Kept::start(rt.alloc(), 5)?;
     assert!(rt; keep_replies(&mut card, &EVENTS, &mut sink) == Ok(5));
-    assert!(rt; card.drive(&[], &mut sink) == Ok(0));
+    assert!(rt; keep_replies(&mut card, &[], &mut sink) == Ok(0));
     assert!(rt; has_taken(&sink, &TAKEN) && sink.failures == 0);
+    Ok(())
+}
+
+/// A terminal's unit data, of one octet.
+const UNIT: [Event<'static>; 10] = [
+    Event::Request(0, Request::Assign(64)),
+    Event::Octet(0, 0x7E),
+    Event::Octet(0, 0x00),
+    Event::Octet(0, 0x81),
+    Event::Octet(0, 0x03),
+    Event::Octet(0, 0xCB),
+    Event::Octet(0, 0x59),
+    Event::Octet(0, 0xF8),
+    Event::Octet(0, 0xFC),
+    Event::Octet(0, 0xFC),
+];
+
+/// Whether contents were kept with the latest reply, and are these.
+fn has_kept(sink: &Kept, contents: &[u8]) -> bool {
+    match sink.replies.last() {
+        Some(
+            KeptReply {
+                contents: Some(copy),
+                ..
+            },
+        ) => copy.as_slice() == contents,
+        _ => false,
+    }
+}
+
+#[test]
+fn contents_are_kept(rt: HostRuntime) -> Result<(), Fail> {
+    let mut card = usual_card(rt.alloc())?;
+    let mut sink = Kept::start(rt.alloc(), 10)?;
+    assert!(rt; keep_replies(&mut card, &UNIT, &mut sink) == Ok(10));
+    assert!(rt; has_kept(&sink, &[0xCB]));
     Ok(())
 }
 
@@ -71,7 +107,7 @@ fn a_sink_that_fails_ends_the_run(rt: HostRuntime) -> Result<(), Fail> {
     for (room, state) in [(2, Some(4)), (1, None)] {
         let mut card = usual_card(rt.alloc())?;
         let mut sink = Kept::start(rt.alloc(), room)?;
-        let ended = card.drive(&EVENTS, &mut sink);
+        let ended = keep_replies(&mut card, &EVENTS, &mut sink);
         assert!(rt; ended == Err(SinkFault { at: room }));
         assert!(rt; sink.replies.len() == room && sink.failures == 1);
         assert!(rt; card.state(0, Service::Call, 64) == state);

@@ -2,13 +2,21 @@
 //!
 //! `tests/memory` runs them with every allocation after the starts refused: no answer changes.
 //!
-//! - `bench`: what a row is, and how it is run.
-//! - `rows`, `streams`: the rows, and their longer octet strings.
+//! - `row`: what a row is.
+//! - `line_rows`, `link_rows`, `streams`: the rows, and their longer octet strings.
+//! - `sink`: what the answers say, in room of fixed size.
+//! - `bench`: how the rows are run.
 #![tactic(auto)]
 
 #[cfg(test)]
 mod bench;
 #[cfg(test)]
-mod rows;
+mod line_rows;
+#[cfg(test)]
+mod link_rows;
+#[cfg(test)]
+mod row;
+#[cfg(test)]
+mod sink;
 #[cfg(test)]
 mod streams;

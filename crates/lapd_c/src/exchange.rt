@@ -105,7 +105,7 @@ fn exchange(
         }
     }
     *steps = end;
-    report.show(&[], &[], None, 0, None);
+    report.show_nothing();
 }
 
 // Makes one step, and says whether there is anything to tell; else no report is written.

@@ -1,7 +1,8 @@
 //! The report of an event.
 
-ghost use Rattle.std.specs.Prelude.{◌≡◌, ◌≤◌, length, take, map};
+ghost use Rattle.std.specs.Prelude.{◌≡◌, ◌≤◌, [], false, length, take, map};
 ghost use Rattle.std.specs.Option.{option_copied};
+ghost use Rattle.lapd_line_machine.specs.Answer.{nothing};
 ghost use Rattle.lapd_plain.specs.Notes.{plain_note};
 ghost use Rattle.lapd_plain.specs.Timers.{plain_order};
 ghost use Rattle.lapd_plain.specs.Reports.{Shows, ShowsPull, SameButContents, contents_in, contents_of, mark_of, orders_of, told_by};
@@ -41,8 +42,25 @@ pub struct PlainReport {
 }
 
 impl PlainReport {
+    /// Shows that nothing was told: of an octet, of an expiry, of a request, or of a pull that began no frame.
+    pub fn show_nothing(&mut self)
+        ensures told { Shows self.new nothing }
+        ensures pulled { ShowsPull self.new false [] }
+    {
+        self.note_count = 0;
+        self.order_count = 0;
+        self.cause = 0;
+        self.lost = 0;
+        self.begun = 0;
+        self.delivered = 0;
+        self.length = 0;
+    }
+
     /// Shows what an octet, an expiry or a request was answered with: at most four notes and four orders. Contents
     /// have at most 260 octets, as no configuration allows more; of longer ones the first 260 are shown.
+    ///
+    /// It stands apart, so that what tells nothing has no part of it in its way.
+    #[inline(never)]
     pub fn show(
         &mut self,
         notes: &[Note],
@@ -65,6 +83,9 @@ impl PlainReport {
     }
 
     /// Shows what a pull was answered with: whether it began a frame, and at most four orders.
+    ///
+    /// It stands apart, as `show` does.
+    #[inline(never)]
     pub fn show_pull(&mut self, begun: bool, orders: &[Order])
         requires { length orders.now ≤ 4 }
         ensures { ShowsPull self.new begun orders.now }

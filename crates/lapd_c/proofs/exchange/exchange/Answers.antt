@@ -75,5 +75,5 @@ returns c =
       n = n;
       stands = t.stands;
       octets = t.octets;
-      ended = inl (record { end = omega arith; made = omega (arith, at); quiet = t.quiet; report = c.show.ensures (omega arith) });
+      ended = inl (record { end = omega arith; made = omega (arith, at); quiet = t.quiet; report = c.show_nothing.ensures.told });
     }

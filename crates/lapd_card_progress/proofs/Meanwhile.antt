@@ -1,6 +1,5 @@
 -- A line of a card after so many pulls, whatever happened at the other lines meanwhile.
-use Rattle.std.proofs.Common.{◌≡◌, ◌≢◌, ℕ, zero, suc, ◌+◌, ◌*◌, ◌<◌, ◌≤◌, ◌==◌, ◌&&◌, Bool, true, false, cond, List, [], ◌∷◌, ◌++◌, length, get_or, set, Some, refl, sym, ap, subst, ◌∙◌, arith}
-use Rattle.std.specs.Prelude.{All}
+use Rattle.std.proofs.Common.{◌≡◌, ◌≢◌, ℕ, zero, suc, ◌+◌, ◌*◌, ◌<◌, ◌≤◌, ◌==◌, Bool, true, false, cond, List, [], ◌∷◌, ◌++◌, length, get_or, set, refl, sym, ap, subst, ◌∙◌, arith}
 use Rattle.std.proofs.lemmas.Bool.{eqb-true, eqb-false}
 use Rattle.std.proofs.lemmas.List.{get_or-set_same, get_or-set_other}
 use Rattle.std.proofs.lemmas.List.Elements.{All-nil, All-cons, All-head, All-tail, All-get_or}
@@ -8,7 +7,6 @@ use Rattle.lapd_frame.specs.declared.services.Service.{Service}
 use Rattle.lapd_frame.specs.Grammar.{Parts}
 use Rattle.lapd_link_progress.specs.Polls.{IsPollWhileUp}
 use Rattle.lapd_line_machine.specs.declared.config.Config.{Config}
-use Rattle.lapd_line_machine.specs.Answer as happening
 use Rattle.lapd_line_machine.specs.Answer.{octet, pull}
 use Rattle.lapd_line_machine.specs.Line.{Line, fresh_line, link_number, link_in, terms}
 use Rattle.lapd_line_machine.specs.Machine as lines
@@ -16,10 +14,10 @@ use Rattle.lapd_line_machine.specs.Pull.{begun}
 use Rattle.lapd_line_machine.specs.Sound as line_sound
 use Rattle.lapd_line_laws.specs.Heard.{Ends, IsFor}
 use Rattle.lapd_line_laws.specs.Pulls.{HasNothing}
-use Rattle.lapd_line_progress.specs.Drains.{after_pulls, bits_to_go, IsEnough, IsBegunWithin, IsAnsweredWithin}
+use Rattle.lapd_line_progress.specs.Drains.{after_pulls, bits_to_go, IsEnough, IsBegunWithin}
 use Rattle.lapd_line_progress.proofs.Draining.{drains}
 use Rattle.lapd_line_progress.proofs.Polled.{poll-goes}
-use Rattle.lapd_card_machine.specs.Card.{Card, line_at, is_full}
+use Rattle.lapd_card_machine.specs.Card.{Card, line_at}
 use Rattle.lapd_card_machine.specs.Event.{Event, at}
 use Rattle.lapd_card_machine.specs.Machine.{wants_room, after}
 use Rattle.lapd_card_machine.specs.Run.{IsAtLine, AreAtLines, after_all, run}

@@ -1,5 +1,5 @@
 -- What a report shows is what the machine answers.
-use Rattle.std.proofs.Common.{◌≡◌, ℕ, ◌≤◌, ◌<◌, List, length, Option, Result, Ok, Err, IfOk, sym, subst, arith}
+use Rattle.std.proofs.Common.{◌≡◌, ℕ, ◌≤◌, ◌<◌, List, length, Option, Some, IfSome, Result, Ok, Err, IfOk, sym, subst, arith}
 use Rattle.std.specs.Option.{option_copied}
 use Rattle.lapd_frame.specs.declared.notes.Note.{Note}
 use Rattle.lapd_frame.specs.declared.timers.Order.{Order}
@@ -20,6 +20,10 @@ use Rattle.lapd_c.proofs.Contents.{contents_fit}
 -- a result that is known
 pub if_ok : {X E : Type 0} (P : X → Type 0) (o : Result X E) (x : X) → o ≡ Ok x → P x → IfOk o P
 if_ok P o x e p = subst (λ r. IfOk r P) (sym e) p
+
+-- and an option that is
+pub if_some : {X : Type 0} (P : X → Type 0) (o : Option X) (x : X) → o ≡ Some x → P x → IfSome o P
+if_some P o x e p = subst (λ r. IfSome r P) (sym e) p
 
 -- contents of an answer have room in a report
 pub small : (m : Card) (e : Event) (t : Told) → IsSound m → told t ≡ answer e m → length (contents_of t.contents) ≤ 260

@@ -9,6 +9,7 @@ pub mod Eachs
 pub mod Wholes
 pub mod Playing
 pub mod Exchanges
+pub mod Refusing
 pub mod Waits
 pub mod Octets
 pub mod Listeners

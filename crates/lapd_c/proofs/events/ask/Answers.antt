@@ -1,10 +1,12 @@
-use Rattle.std.proofs.Common.{refl, sym, ap, ◌∙◌}
+use Rattle.std.proofs.Common.{refl, sym, ap, subst, ◌∙◌}
+use Rattle.std.proofs.lemmas.Option.{none-some}
 use Rattle.lapd_line_machine.specs.Answer as happening
 use Rattle.lapd_line_machine.specs.Request.{request_of}
 use Rattle.lapd_plain.specs.Requests.{read_of}
 use Rattle.lapd_card.specs.Reply.{answer_of_result}
 use Rattle.lapd_card_machine.specs.Event.{at}
-use Rattle.lapd_c.proofs.Served.{if_ok, shown}
+use Rattle.lapd_c.specs.Cards.{CardStands}
+use Rattle.lapd_c.proofs.Served.{if_ok, if_some, shown}
 use Rattle.lapd_c.proofs.events.ask.Goals as goal
 
 pub returns-in-Ok-request-clause-served : goal.returns-in-Ok-request-clause-served
@@ -13,3 +15,12 @@ returns-in-Ok-request-clause-served c = λ m s w. if_ok _ _ (request_of c.in-Ok.
   c.request.ensures.after.stands m s,
   shown m (at c.args.line (happening.request (request_of c.in-Ok.asked))) c.in-Ok-request.told _ _ c.show.new.self s.sound (ap answer_of_result (sym c.in-Ok-request.is) ∙ c.request.ensures.told m s) c.notes.ensures c.orders.ensures c.show.ensures,
 ))
+
+pub returns-in-Err-request-clause-refused : goal.returns-in-Err-request-clause-refused
+returns-in-Err-request-clause-refused c = λ m s w. if_ok _ _ (request_of c.in-Ok.asked) (sym c.request_in.ensures ∙ ap read_of c.in-Ok.is)
+    (if_some _ _ c.in-Err-request.why (c.in-Err-request.ensures.refused m s)
+    (c.refusal_status.ensures, subst (λ card. CardStands card m) (sym c.in-Err-request.ensures.unchanged) s, refl))
+
+pub returns-in-Err-request-clause-served : goal.returns-in-Err-request-clause-served
+returns-in-Err-request-clause-served c = λ m s w. if_ok _ _ (request_of c.in-Ok.asked) (sym c.request_in.ensures ∙ ap read_of c.in-Ok.is)
+    (λ none. absurd (none-some c.in-Err-request.why (sym none ∙ c.in-Err-request.ensures.refused m s)))

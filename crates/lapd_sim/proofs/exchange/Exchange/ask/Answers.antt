@@ -4,6 +4,7 @@ use Rattle.lapd_line_machine.specs.declared.config.Config.{Config}
 use Rattle.lapd_line_machine.specs.Answer as happening
 use Rattle.lapd_line_machine.specs.Request.{request_of}
 use Rattle.lapd_sim.proofs.Exchanges.{past_on}
+use Rattle.lapd_sim.proofs.Refusing.{refused-told, refused-clock}
 use Rattle.lapd_sim.proofs.exchange.Exchange.ask.Goals as goal
 
 pub invariant_of-self : goal.invariant_of-self
@@ -23,3 +24,14 @@ invariant_of-self-in-Err-1 g c = record {
   clock_lines = c.args.self.now.clock_lines;
   in_time = c.args.self.now.in_time;
 }
+
+pub returns-in-Err-clause-told : goal.returns-in-Err-clause-told
+returns-in-Err-clause-told g c = λ m h.
+    let e = at c.args.line (happening.request (request_of c.args.request)) in
+    let is = c.in-Err.ensures.told m.card h.card in
+    refused-told c.write_refused.result _ _ c.in-Err.refusal m e _ is c.write_refused.ensures (record {
+      config = h.config;
+      card = c.in-Err.ensures.after.stands m.card h.card;
+      clock = refused-clock c.args.self.now.clock c.in-Err.refusal m e is h.clock;
+      now = h.now;
+    })

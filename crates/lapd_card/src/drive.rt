@@ -14,6 +14,7 @@ ghost use Rattle.lapd_card_machine.specs.Drops.{AreDropsWithoutCost, AreDropsWit
 ghost use Rattle.lapd_card_machine.specs.Laws.{RefusedByTheTable, RunIsMoments};
 ghost use Rattle.lapd_card_machine.specs.Promises.{IsWithinLimit, IsAmortised, IsAmortisedFromZero, HasSixOctetsAFrame, HasSevenOctetsAReject, IsLinear, IsIsolated, IsNeverFull, IsNumbered, IsNumberedFromZero, IsTextual};
 ghost use Rattle.lapd_card_laws.specs.Promises.{IsKept, IsCountedIn, BeginsEmpty, IsServedIn, UnitsWaitAll, TurnsStay, AreHeeded, TakeEffect, AreSteady, IsDelivered, RunsWhatIsNeeded, NeedsNone};
+ghost use Rattle.lapd_card_laws.specs.Promises.{NotesTell, TeisAreTold, BeginsDown, TeisHaveOnePlace, BegunIsTold};
 ghost use Rattle.lapd_card.specs.Sink.{one_failure_more};
 ghost use Rattle.lapd_card.specs.Stands.{Stands, Leads};
 
@@ -74,6 +75,8 @@ impl<S: Shelf> Card<S> {
     ///   SABME, DISC, UA or DM of the terminal, of the expiry of T200 and of a release; and the numbers begin anew only where
     ///   a note tells it, or at the end of an establishment that this side began itself (clauses 3.5.2.3, 5.5.1 to 5.5.3,
     ///   5.6.1, 5.6.4, 5.6.6, 5.6.7 and 5.7).
+    /// - `begun_is_told`: in every moment the reply says that a pull began a frame exactly where it did: the frame stands
+    ///   behind what was on the line, and the octet pulled has its first bit (clause 2.2).
     /// - `heard_is_delivered`: in every moment an octet that ends a frame which spells the SAPI of a service and a TEI on
     ///   the line is an event of that link and of no other, and one that ends no frame changes nothing but what was
     ///   received; contents are handed on only of an I-frame or a UI that an octet ends, whose information they are, with
@@ -109,6 +112,13 @@ impl<S: Shelf> Card<S> {
     ///   and in state 7 where an I-frame is outstanding or the terminal is busy; T203 of one in state 7 else; T201 while
     ///   a TEI is checked (clauses 5.3.3.2, 5.5.1.3, 5.5.3.3, 5.6.1, 5.6.5, 5.6.7, 5.9.8 and 5.10.3); and on a card that
     ///   has just begun, `no_timers`, none is needed.
+    /// - `notes_tell`: by the notes in the replies alone layer 3 knows of each link whether it is up: an indication or a
+    ///   confirm of an establishment says that it is, one of a release that it is not (clauses 4.1.1.1, 4.1.1.2, 5.5 and
+    ///   5.7.1).
+    /// - `teis_are_told`: by the notes that a TEI was assigned, that no terminal answered its check, or that two did, and by
+    ///   the requests to assign and to remove a TEI that were granted, management knows which TEIs are on each line
+    ///   (clauses 4.1.1.5 and 5.3.2 to 5.3.4); on a card that has just begun, `begins_down`, none is, and no link is up.
+    /// - `one_place`: no TEI has two places of a line.
     /// - `served`: what a pull begins, with fewer than eight bits left, is the message of TEI management that has waited
     ///   longest; where none waits, the unit data that has waited longest, whole, once, with its service and TEI; where
     ///   none waits either, a frame of the first link in turn that has anything to send, of a TEI on the line, with its
@@ -158,6 +168,7 @@ impl<S: Shelf> Card<S> {
         ensures frames_are_heeded { (m : machine.Card) → Stands S.store self.old m → AreHeeded m (events_of events.now) }
         ensures requests_take_effect { (m : machine.Card) → Stands S.store self.old m → TakeEffect m (events_of events.now) }
         ensures links_are_steady { (m : machine.Card) → Stands S.store self.old m → AreSteady m (events_of events.now) }
+        ensures begun_is_told { (m : machine.Card) → Stands S.store self.old m → BegunIsTold m (events_of events.now) }
         ensures heard_is_delivered { (m : machine.Card) → Stands S.store self.old m → IsDelivered m (events_of events.now) }
 
         // After every front of the list, from every card or, where it says `fresh`, from one that has just begun.
@@ -189,6 +200,13 @@ impl<S: Shelf> Card<S> {
         ensures timers { (m : machine.Card) (count : ℕ) → Stands S.store self.old m
             → RunsWhatIsNeeded m (take count (events_of events.now)) }
         ensures no_timers { NeedsNone self.old.config }
+        ensures notes_tell { (m : machine.Card) (count : ℕ) → Stands S.store self.old m
+            → NotesTell m (take count (events_of events.now)) }
+        ensures teis_are_told { (m : machine.Card) (count : ℕ) → Stands S.store self.old m
+            → TeisAreTold m (take count (events_of events.now)) }
+        ensures begins_down { BeginsDown self.old.config }
+        ensures one_place { (m : machine.Card) (count : ℕ) → Stands S.store self.old m
+            → TeisHaveOnePlace m (take count (events_of events.now)) }
         ensures served { (m : machine.Card) (count : ℕ) → Stands S.store self.old m
             → IsServedIn m (take count (events_of events.now)) }
     {

@@ -6,3 +6,6 @@ pub mod Heeding
 pub mod TimersRun
 pub mod Granting
 pub mod Happening
+pub mod Watching
+pub mod Knowing
+pub mod Beginning

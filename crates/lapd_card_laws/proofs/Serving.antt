@@ -59,7 +59,7 @@ module _ (c : Config) (one other : ℕ → List (List ℕ)) (same : (number : �
       go None x = x
       go (Some t) x = owed (lines.after c pull l) t.frame x
 
-after-config : (card : Card) (events : List Event) → (after_all card events).config ≡ card.config
+pub after-config : (card : Card) (events : List Event) → (after_all card events).config ≡ card.config
 unfolding after_all
 after-config card [] = refl
 after-config card (e ∷ events) = after-config (after e card) events

@@ -6,7 +6,7 @@ use Rattle.lapd_card_machine.specs.Event.{Event}
 use Rattle.lapd_card_machine.specs.Machine.{after}
 use Rattle.lapd_card_machine.specs.Run.{IsAtLine, AreAtLines}
 use Rattle.lapd_card_machine.specs.Sound.{IsSound}
-use Rattle.lapd_card_laws.specs.Promises.{IsKept, IsCountedIn, BeginsEmpty, IsServedIn, UnitsWaitAll, TurnsStay, AreHeeded, TakeEffect, AreSteady, IsDelivered, RunsWhatIsNeeded, NeedsNone}
+use Rattle.lapd_card_laws.specs.Promises.{IsKept, IsCountedIn, BeginsEmpty, IsServedIn, UnitsWaitAll, TurnsStay, AreHeeded, TakeEffect, AreSteady, IsDelivered, RunsWhatIsNeeded, NeedsNone, NotesTell, TeisAreTold, BeginsDown, TeisHaveOnePlace, BegunIsTold}
 use Rattle.lapd_card_laws.specs.Timers.{AllHaveTheirTimers}
 
 pub record NothingIsLost : Type 0 where
@@ -36,3 +36,12 @@ RequestsTakeEffect = (card : Card) (events : List Event) → IsSound card → Ar
 
 abbrev pub LinksAreSteady : Type 0
 LinksAreSteady = (card : Card) (events : List Event) → IsSound card → AreAtLines card events → AreSteady card events
+
+pub record Known : Type 0 where
+  pub up : (card : Card) (events : List Event) → IsSound card → AreAtLines card events → NotesTell card events
+  pub on : (card : Card) (events : List Event) → IsSound card → AreAtLines card events → TeisAreTold card events
+  pub begins : (c : Config) → BeginsDown c
+  pub places : (card : Card) (events : List Event) → IsSound card → AreAtLines card events → TeisHaveOnePlace card events
+
+abbrev pub BegunIsTrue : Type 0
+BegunIsTrue = (card : Card) (events : List Event) → IsSound card → AreAtLines card events → BegunIsTold card events

@@ -1,10 +1,13 @@
 -- What is promised of a list of events, from a card on.
-use Rattle.std.specs.Prelude.{◌≡◌, ◌<◌, ℕ, false, [], List, All}
+use Rattle.std.specs.Prelude.{◌≡◌, ◌<◌, ℕ, false, [], List, Some, All}
+use Rattle.lapd_frame.specs.declared.services.Service.{Service}
 use Rattle.lapd_frame.specs.declared.timers.Timer.{Timer}
 use Rattle.lapd_link_laws.specs.History.{IsCounted, nothing_yet}
 use Rattle.lapd_line_laws.specs.Pulls.{IsServed}
+use Rattle.lapd_line_laws.specs.Knowledge.{is_up_of}
 use Rattle.lapd_line_laws.specs.Timers.{is_needed}
 use Rattle.lapd_line_machine.specs.declared.config.Config.{Config}
+use Rattle.lapd_line_machine.specs.Line.{has_tei, tei_at}
 use Rattle.lapd_card_machine.specs.Card.{Card, fresh, line_at}
 use Rattle.lapd_card_machine.specs.Event.{Event}
 use Rattle.lapd_card_machine.specs.Numbered.{LinkName}
@@ -12,6 +15,8 @@ use Rattle.lapd_card_machine.specs.Promises.{HasLink}
 use Rattle.lapd_card_machine.specs.Run.{Moment, moments, after_all}
 use Rattle.lapd_card_laws.specs.Contents.{link_named, begun, history, accepted_at}
 use Rattle.lapd_card_laws.specs.Faithful.{IsFaithful, UnitsWaitIn, TurnStaysIn, IsHeededIn, TakesEffectIn, IsSteadyIn, IsHeardIn}
+use Rattle.lapd_card_laws.specs.Begun.{IsBegunIn}
+use Rattle.lapd_card_laws.specs.Knowledge.{up_by_notes, on_by_notes}
 use Rattle.lapd_card_laws.specs.Timers.{runs_at_callers}
 
 -- In every moment nothing that was accepted is lost silently.
@@ -68,3 +73,31 @@ RunsWhatIsNeeded m events =
 -- On a card as it begins none is needed.
 abbrev pub NeedsNone : Config → Type 0
 NeedsNone c = (line : ℕ) (timer : Timer) → line < c.lines → is_needed timer (line_at line (fresh c)) ≡ false
+
+-- Whoever knows before a run which links are up, and which TEIs are on each line, knows it after it by the notes, and for
+-- the TEIs by the requests that were granted.
+abbrev pub NotesTell : Card → List Event → Type 0
+NotesTell m events =
+    (line : ℕ) (service : Service) (tei : ℕ) → line < m.config.lines →
+    up_by_notes line service tei (is_up_of service tei (line_at line m)) (moments m events) ≡ is_up_of service tei (line_at line (after_all m events))
+
+abbrev pub TeisAreTold : Card → List Event → Type 0
+TeisAreTold m events =
+    (line tei : ℕ) → line < m.config.lines →
+    on_by_notes line tei (has_tei tei (line_at line m)) (moments m events) ≡ has_tei tei (line_at line (after_all m events))
+
+-- On a card as it begins no link is up, and no TEI on a line.
+abbrev pub BeginsDown : Config → Type 0
+BeginsDown c =
+    (line : ℕ) (service : Service) (tei : ℕ) → line < c.lines →
+    (is_up_of service tei (line_at line (fresh c)) ≡ false) × (has_tei tei (line_at line (fresh c)) ≡ false)
+
+-- No TEI has two places of a line.
+abbrev pub TeisHaveOnePlace : Card → List Event → Type 0
+TeisHaveOnePlace m events =
+    (line one other tei : ℕ) → line < m.config.lines →
+    tei_at one (line_at line (after_all m events)) ≡ Some tei → tei_at other (line_at line (after_all m events)) ≡ Some tei → one ≡ other
+
+-- In every moment the answer says that a frame was begun exactly where one was: the octet pulled has its first bit.
+abbrev pub BegunIsTold : Card → List Event → Type 0
+BegunIsTold m events = All IsBegunIn (moments m events)

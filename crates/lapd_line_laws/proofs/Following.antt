@@ -140,7 +140,7 @@ module _ (c : Config) (l : Line) (s : IsSound c l) (service : Service) (tei plac
   pub one-steered : (timer : Timer) → Steered timer
   one-steered = each-timer Steered (steers.others T201 (is_running T201 l) refl refl) link-timer
 
-and-false : (b : Bool) → (b && false) ≡ false
+pub and-false : (b : Bool) → (b && false) ≡ false
 and-false true = refl
 and-false false = refl
 

@@ -14,3 +14,9 @@ pub mod Granting
 pub mod Managing
 pub mod Tied
 pub mod Happening
+pub mod Readings
+pub mod TeiNotes
+pub mod Noting
+pub mod Knowing
+pub mod KnowingTeis
+pub mod Beginning

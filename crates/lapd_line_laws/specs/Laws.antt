@@ -6,7 +6,7 @@ use Rattle.lapd_frame.specs.Grammar.{Parts}
 use Rattle.lapd_link_machine.specs.Events as link
 use Rattle.lapd_line_machine.specs.declared.config.Config.{Config}
 use Rattle.lapd_line_machine.specs.Answer.{Event, octet}
-use Rattle.lapd_line_machine.specs.Line.{Line, fresh_line, link_count, link_in, terms}
+use Rattle.lapd_line_machine.specs.Line.{Line, fresh_line, link_count, link_in, terms, has_tei}
 use Rattle.lapd_line_machine.specs.Machine.{after, answer}
 use Rattle.lapd_line_machine.specs.Octet.{gained}
 use Rattle.lapd_line_machine.specs.Sound.{IsInRange, IsSound}
@@ -17,6 +17,8 @@ use Rattle.lapd_line_laws.specs.Frames.{IsHeeded}
 use Rattle.lapd_line_laws.specs.Requests.{LinkTakesEffect, ManagementTakesEffect}
 use Rattle.lapd_line_laws.specs.Steady.{Happens}
 use Rattle.lapd_line_laws.specs.Heard.{Ends, IsFor, IsOneEvent, IsNoEvent, contents_in, IsHeard}
+use Rattle.lapd_line_laws.specs.Begun.{says_begun, BeginsAs}
+use Rattle.lapd_line_laws.specs.Knowledge.{is_up_of, taken_for_up, taken_for_on}
 use Rattle.lapd_line_laws.specs.Timers.{is_needed, runs_then, HaveTheirTimers}
 
 -- What each link keeps after an event is what the event leaves of what it kept; the event accepts exactly the contents
@@ -70,3 +72,17 @@ pub record RequestsTakeEffect : Type 0 where
 abbrev pub LinksAreSteady : Type 0
 LinksAreSteady = (c : Config) (e : Event) (l : Line) (number : ℕ) → IsSound c l → number < link_count c
     → Happens c number e l (after c e l) (answer c e l)
+
+-- By notes alone layer 3 knows whether a link is up, and by notes and granted requests management knows which TEIs are on
+-- the line.
+pub record NotesTell : Type 0 where
+  pub down : (c : Config) (service : Service) (tei : ℕ) → is_up_of service tei (fresh_line c) ≡ false
+  pub up : (c : Config) (e : Event) (l : Line) (service : Service) (tei : ℕ) → IsSound c l
+      → taken_for_up service tei (is_up_of service tei l) (answer c e l) ≡ is_up_of service tei (after c e l)
+  pub off : (c : Config) (tei : ℕ) → has_tei tei (fresh_line c) ≡ false
+  pub on : (c : Config) (e : Event) (l : Line) (tei : ℕ) → IsSound c l
+      → taken_for_on tei (has_tei tei l) e (answer c e l) ≡ has_tei tei (after c e l)
+
+-- What an answer says of a frame that was begun is what became of the line's text.
+abbrev pub BegunIsTrue : Type 0
+BegunIsTrue = (c : Config) (e : Event) (l : Line) → IsInRange c → IsSound c l → BeginsAs (says_begun (answer c e l)) l (after c e l)

@@ -7,6 +7,8 @@ pub mod Frames
 pub mod Timers
 pub mod Requests
 pub mod Steady
+pub mod Knowledge
+pub mod Begun
 pub mod Laws
 pub mod Worked
 pub mod WorkedPulls

@@ -5,18 +5,20 @@
 //! link in `lapd_link_laws`. `specs/` has the words of these laws: what an event is to the contents of one link
 //! (`Share`), how layer 3 learns that a link keeps nothing (`Loss`), what a pull begins (`Pulls`), what an octet brings
 //! (`Heard`), what a frame makes of its link (`Frames`), which timers are needed and which a caller runs (`Timers`),
-//! what comes of a request that is granted (`Requests`), what an event may change of a link (`Steady`), the laws (`Laws`),
-//! and worked values (`Worked`, `WorkedPulls`, `WorkedHeard`, `WorkedLinks`). Each law is the contract of a call that does
-//! nothing.
+//! what comes of a request that is granted (`Requests`), what an event may change of a link (`Steady`), what notes tell
+//! (`Knowledge`), which frames pulls begin (`Begun`), the laws (`Laws`), and worked values (`Worked`, `WorkedPulls`,
+//! `WorkedHeard`, `WorkedLinks`). Each law is the contract of a call that does nothing.
 //!
-//! - `laws`, `timers`: the laws.
+//! - `laws`, `timers`, `notes`: the laws.
 #![tactic(auto)]
 
 mod laws;
+mod notes;
 mod timers;
 
 pub use laws::{
     frames_are_heeded, heard_is_delivered, links_are_steady, nothing_is_lost, pulls_serve,
     requests_take_effect,
 };
+pub use notes::{begun_is_true, notes_tell};
 pub use timers::timers_follow;

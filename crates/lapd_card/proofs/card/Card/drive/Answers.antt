@@ -16,13 +16,15 @@ use Rattle.lapd_card_machine.proofs.Refusals.{refused_by_the_table}
 use Rattle.lapd_card_machine.proofs.ByEvent.{frames_by_event}
 use Rattle.lapd_card_machine.proofs.Drops.{drops_cost_nothing, drops_change_nothing}
 use Rattle.lapd_card_machine.specs.Promises.{IsWithinLimit, IsAmortised, IsAmortisedFromZero, HasSixOctetsAFrame, HasSevenOctetsAReject, IsLinear, IsIsolated, IsNeverFull, IsNumbered, IsNumberedFromZero, IsTextual}
-use Rattle.lapd_card_laws.specs.Promises.{IsKept, IsCountedIn, IsServedIn, UnitsWaitAll, TurnsStay, AreHeeded, TakeEffect, AreSteady, IsDelivered, RunsWhatIsNeeded}
+use Rattle.lapd_card_laws.specs.Promises.{IsKept, IsCountedIn, IsServedIn, UnitsWaitAll, TurnsStay, AreHeeded, TakeEffect, AreSteady, IsDelivered, RunsWhatIsNeeded, NotesTell, TeisAreTold, TeisHaveOnePlace, BegunIsTold}
 use Rattle.lapd_card_laws.proofs.Keeping.{kept, run-counted, begins-empty}
 use Rattle.lapd_card_laws.proofs.Serving.{served-in, units-all, turns-stay}
 use Rattle.lapd_card_laws.proofs.Hearing.{heard-all}
 use Rattle.lapd_card_laws.proofs.Heeding.{heeded-all}
 use Rattle.lapd_card_laws.proofs.Granting.{effect-all}
 use Rattle.lapd_card_laws.proofs.Happening.{steady-all}
+use Rattle.lapd_card_laws.proofs.Beginning.{begun-told}
+use Rattle.lapd_card_laws.proofs.Knowing.{up-known, on-known, down-at-first, one-place}
 use Rattle.lapd_card_laws.proofs.TimersRun.{needed-run, needs-none}
 use Rattle.lapd_card.proofs.Headline.{whole_list, each_front, timely_front, fresh_front}
 use Rattle.lapd_card.proofs.card.Card.drive.Goals as goal
@@ -216,3 +218,33 @@ returns-then-is_err-clause-requests_take_effect g c = λ m. whole_list g.S.Shelf
 
 pub returns-then-is_err-clause-links_are_steady : goal.returns-then-is_err-clause-links_are_steady
 returns-then-is_err-clause-links_are_steady g c = λ m. whole_list g.S.Shelf.store c.args.self.now c.args.events.now c.requires AreSteady steady-all m
+
+pub returns-clause-notes_tell : goal.returns-clause-notes_tell
+returns-clause-notes_tell g c = λ m count. each_front g.S.Shelf.store c.args.self.now c.args.events.now c.requires NotesTell up-known m count
+
+pub returns-clause-teis_are_told : goal.returns-clause-teis_are_told
+returns-clause-teis_are_told g c = λ m count. each_front g.S.Shelf.store c.args.self.now c.args.events.now c.requires TeisAreTold on-known m count
+
+pub returns-clause-one_place : goal.returns-clause-one_place
+returns-clause-one_place g c = λ m count. each_front g.S.Shelf.store c.args.self.now c.args.events.now c.requires TeisHaveOnePlace one-place m count
+
+pub returns-clause-begins_down : goal.returns-clause-begins_down
+returns-clause-begins_down g c = down-at-first c.args.self.now.config
+
+pub returns-then-is_err-clause-notes_tell : goal.returns-then-is_err-clause-notes_tell
+returns-then-is_err-clause-notes_tell g c = λ m count. each_front g.S.Shelf.store c.args.self.now c.args.events.now c.requires NotesTell up-known m count
+
+pub returns-then-is_err-clause-teis_are_told : goal.returns-then-is_err-clause-teis_are_told
+returns-then-is_err-clause-teis_are_told g c = λ m count. each_front g.S.Shelf.store c.args.self.now c.args.events.now c.requires TeisAreTold on-known m count
+
+pub returns-then-is_err-clause-one_place : goal.returns-then-is_err-clause-one_place
+returns-then-is_err-clause-one_place g c = λ m count. each_front g.S.Shelf.store c.args.self.now c.args.events.now c.requires TeisHaveOnePlace one-place m count
+
+pub returns-then-is_err-clause-begins_down : goal.returns-then-is_err-clause-begins_down
+returns-then-is_err-clause-begins_down g c = down-at-first c.args.self.now.config
+
+pub returns-clause-begun_is_told : goal.returns-clause-begun_is_told
+returns-clause-begun_is_told g c = λ m. whole_list g.S.Shelf.store c.args.self.now c.args.events.now c.requires BegunIsTold begun-told m
+
+pub returns-then-is_err-clause-begun_is_told : goal.returns-then-is_err-clause-begun_is_told
+returns-then-is_err-clause-begun_is_told g c = λ m. whole_list g.S.Shelf.store c.args.self.now c.args.events.now c.requires BegunIsTold begun-told m

@@ -26,7 +26,7 @@ const REJECT: Event = Event::Command(Kind::OtherInformation, 0, false);
 const ENQUIRY: Event = Event::Command(Kind::Ready, 0, true);
 
 /// States 4, 5 and 6.
-pub const DOWN: [Case; 6] = [
+pub const DOWN: [Case; 7] = [
     Case {
         name: "4",
         events: &[],
@@ -45,6 +45,11 @@ pub const DOWN: [Case; 6] = [
     Case {
         name: "5 again, one outstanding",
         events: &[SABME, DATA, DM],
+        held: &[],
+    },
+    Case {
+        name: "5 again, one unsent",
+        events: &[SABME, PEER_BUSY, DATA, DM],
         held: &[],
     },
     Case {
@@ -84,7 +89,7 @@ pub const UP: [Case; 4] = [
 ];
 
 /// State 7 while someone is busy, or no control frame finds room.
-pub const UP_BUSY: [Case; 4] = [
+pub const UP_BUSY: [Case; 5] = [
     Case {
         name: "7, own busy",
         events: &[SABME, OWN_BUSY],
@@ -93,6 +98,11 @@ pub const UP_BUSY: [Case; 4] = [
     Case {
         name: "7, peer busy, one unsent",
         events: &[SABME, PEER_BUSY, DATA],
+        held: &[],
+    },
+    Case {
+        name: "7, peer busy, one outstanding",
+        events: &[SABME, DATA, PEER_BUSY],
         held: &[],
     },
     Case {
@@ -132,7 +142,7 @@ pub const RECOVERY: [Case; 4] = [
 ];
 
 /// State 8 while someone is busy, or no control frame finds room.
-pub const RECOVERY_BUSY: [Case; 4] = [
+pub const RECOVERY_BUSY: [Case; 5] = [
     Case {
         name: "8, own busy",
         events: &[SABME, OWN_BUSY, T203],
@@ -141,6 +151,11 @@ pub const RECOVERY_BUSY: [Case; 4] = [
     Case {
         name: "8, peer busy, one unsent",
         events: &[SABME, PEER_BUSY, DATA, T200],
+        held: &[],
+    },
+    Case {
+        name: "8, peer busy, one outstanding",
+        events: &[SABME, DATA, PEER_BUSY, T200],
         held: &[],
     },
     Case {

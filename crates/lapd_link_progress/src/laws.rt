@@ -107,7 +107,7 @@ pub fn losses_are_recovered()
 /// repeated, both stay in states 7 and 8, and so have delivered exactly the first contents that the other accepted, as
 /// long as before each step neither's V(S) is below the other's V(R). The two have the same N201. So nothing leads two
 /// links out of states 7 and 8 but a release, repeats that are used up, and a V(S) that went back too far; the last takes
-/// a T200 that is too short (`specs/WorkedUntimely`). That a timely T200 rules it out is not proved here.
+/// a T200 that is too short (`specs/WorkedUntimely`). A timely T200 rules it out: [`links_stay_up`].
 pub fn stay_up_while_ahead()
     ensures up { (ds : List Doing) (e : Ends) → Begins e.near → Begins e.far → e.near.terms.n201 ≡ e.far.terms.n201 → StayAhead ds e →
         StayUp ds e }

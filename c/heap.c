@@ -2,32 +2,22 @@
  * heap.c: memory for liblapd.a where there is no malloc. The three functions that the library asks for, over one region
  * of the program's own. Compile it with the size of the region, which lapd_card_octets and lapd_clock_octets tell:
  *
- *     cc -DLAPD_HEAP_OCTETS=65536 -c heap.c
+ *     cc -DLAPD_HEAP_OCTETS=65536 $(pkg-config --cflags lapd) -c heap.c
  *
  * Blocks lie one after the other in the region. In front of each stands a header of 16 octets, which says how large the
  * block is and whether it is free; free neighbours are joined when the first that fits is looked for. Cards and clocks
  * take memory as they start and give it back as they end, so time does not matter here. One call at a time: starts and
  * frees, also of different cards, must not run side by side.
  */
-#include <stdbool.h>
-#include <stddef.h>
 #include <stdint.h>
+
+#include "lapd_memory.h"
 
 #ifndef LAPD_HEAP_OCTETS
 #error "LAPD_HEAP_OCTETS: the octets of the region, as lapd_card_octets and lapd_clock_octets tell"
 #endif
 
 enum { UNIT = 16, UNITS = (LAPD_HEAP_OCTETS) / UNIT };
-
-/* What the library is answered: a block, or that there is none, with any pointer that is not null. */
-typedef struct {
-    bool there;
-    void *at;
-} rattle_tried;
-
-rattle_tried rattle_alloc(size_t octets, size_t alignment);
-rattle_tried rattle_realloc(void *at, size_t old_octets, size_t octets, size_t alignment);
-void rattle_dealloc(void *at);
 
 /* A header, and the unit of the region. `units` counts the block's own units. */
 typedef union {

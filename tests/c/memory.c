@@ -3,19 +3,11 @@
  * taken and given back, and refuse the allocation that REFUSED_ALLOCATION numbers, from 1 on. At the end the two counts
  * are written to the file that ALLOCATIONS names.
  */
-#include <stdbool.h>
 #include <stdint.h>
 #include <stdio.h>
 #include <stdlib.h>
 
-typedef struct {
-    bool there;
-    void *at;
-} rattle_tried;
-
-rattle_tried rattle_alloc(size_t octets, size_t alignment);
-rattle_tried rattle_realloc(void *at, size_t old_octets, size_t octets, size_t alignment);
-void rattle_dealloc(void *at);
+#include "lapd_memory.h"
 
 static long asked, taken, given;
 

@@ -2,7 +2,8 @@
 use Rattle.std.proofs.Common.{◌≡◌, ℕ, ◌≤◌, ◌<◌, IsSome, sym, subst}
 use Rattle.lapd_frame.specs.declared.timers.Timer.{Timer}
 use Rattle.lapd_line_machine.specs.Answer.{Told, told, octet, expiry}
-use Rattle.lapd_line_machine.specs.Laws.{orders_in, starts, cause_in}
+use Rattle.lapd_line_machine.specs.Laws.{orders_in, cause_in}
+use Rattle.lapd_link_machine.specs.Told.{starts}
 use Rattle.lapd_card_machine.specs.Card as machine
 use Rattle.lapd_card_machine.specs.Counts.{may_send}
 use Rattle.lapd_card_machine.specs.Event.{at}

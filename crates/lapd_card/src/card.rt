@@ -7,7 +7,7 @@ ghost use Rattle.lapd_card_machine.specs.Event.{at};
 ghost use Rattle.lapd_card_machine.specs.Counts.{may_send};
 ghost use Rattle.lapd_card_machine.specs.Machine.{after, answer};
 ghost use Rattle.lapd_line_machine.specs.Answer as happening;
-ghost use Rattle.lapd_line_machine.specs.Laws.{starts};
+ghost use Rattle.lapd_link_machine.specs.Told.{starts};
 ghost use Rattle.lapd_line_machine.specs.Refusal.{refusal};
 ghost use Rattle.lapd_line_machine.specs.Request.{request_of};
 

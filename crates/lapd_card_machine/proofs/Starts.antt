@@ -2,7 +2,8 @@
 use Rattle.std.proofs.Common.{ℕ, ◌≤◌}
 use Rattle.lapd_frame.specs.declared.timers.Timer.{Timer}
 use Rattle.lapd_line_machine.specs.Answer.{expiry}
-use Rattle.lapd_line_machine.specs.Laws.{orders_in, starts}
+use Rattle.lapd_line_machine.specs.Laws.{orders_in}
+use Rattle.lapd_link_machine.specs.Told.{starts}
 use Rattle.lapd_line_machine.specs.Machine as lines
 use Rattle.lapd_line_machine.proofs.Starts as line
 use Rattle.lapd_card_machine.specs.Card.{Card, line_at}

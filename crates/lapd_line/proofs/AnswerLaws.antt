@@ -4,7 +4,8 @@ use Rattle.lapd_frame.specs.declared.timers.Timer.{Timer}
 use Rattle.lapd_line_machine.specs.declared.config.Config.{Config}
 use Rattle.lapd_line_machine.specs.Answer.{Told, told, octet, expiry}
 use Rattle.lapd_line_machine.specs.Counts.{may_send}
-use Rattle.lapd_line_machine.specs.Laws.{orders_in, starts, cause_in}
+use Rattle.lapd_line_machine.specs.Laws.{orders_in, cause_in}
+use Rattle.lapd_link_machine.specs.Told.{starts}
 use Rattle.lapd_line_machine.specs.Line.{Line}
 use Rattle.lapd_line_machine.specs.Machine.{after, answer}
 use Rattle.lapd_line_machine.proofs.Drops.{drop_costs_nothing}

@@ -8,7 +8,7 @@ ghost use Rattle.lapd_line_machine.specs.Answer as event;
 ghost use Rattle.lapd_line_machine.specs.Answer.{told};
 ghost use Rattle.lapd_line_machine.specs.Line as machine;
 ghost use Rattle.lapd_line_machine.specs.Counts.{may_send};
-ghost use Rattle.lapd_line_machine.specs.Laws.{starts};
+ghost use Rattle.lapd_link_machine.specs.Told.{starts};
 ghost use Rattle.lapd_line_machine.specs.Machine.{after, answer};
 ghost use Rattle.lapd_line_machine.specs.Refusal.{refusal};
 ghost use Rattle.lapd_line_machine.specs.Request.{request_of};

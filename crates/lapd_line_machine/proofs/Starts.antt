@@ -1,15 +1,16 @@
 -- An expiry starts at most one timer.
-use Rattle.std.proofs.Common.{◌≡◌, ℕ, ◌+◌, ◌≤◌, Bool, true, false, cond, not, ◌&&◌, List, [], ◌∷◌, ◌++◌, length, Option, Some, None, refl, arith}
+use Rattle.std.proofs.Common.{◌≡◌, ℕ, ◌≤◌, List, [], ◌∷◌, ◌++◌, length, Option, Some, None, refl, ◌∙◌, arith}
 use Rattle.lapd_frame.specs.declared.services.Service.{Service}
 use Rattle.lapd_frame.specs.declared.services.Service.TheVariants.{Call, Packet}
 use Rattle.lapd_frame.specs.declared.timers.Order.{Order}
 use Rattle.lapd_frame.specs.declared.timers.Order.TheVariants.{Start, Stop}
 use Rattle.lapd_frame.specs.declared.timers.Timer.{Timer}
 use Rattle.lapd_frame.specs.declared.timers.Timer.TheVariants.{T200, T203, T201}
+use Rattle.lapd_link_machine.proofs.TellRows.{one-start}
 use Rattle.lapd_link_machine.specs.Events as link
 use Rattle.lapd_link_machine.specs.Link.{Link}
 use Rattle.lapd_link_machine.specs.Machine as links
-use Rattle.lapd_link_machine.specs.Told.{runs, timer_at, order_for, orders_for}
+use Rattle.lapd_link_machine.specs.Told.{orders_for, starts}
 use Rattle.lapd_link_machine.specs.declared.terms.Terms.{Terms}
 use Rattle.lapd_link_machine.specs.declared.timers.LinkTimer.{LinkTimer}
 use Rattle.lapd_link_machine.specs.declared.timers.LinkTimer.TheVariants as link_timer
@@ -21,77 +22,59 @@ use Rattle.lapd_tei.specs.declared.outcome.Change.TheVariants.{Gained, Left}
 use Rattle.lapd_line_machine.specs.declared.config.Config.{Config}
 use Rattle.lapd_line_machine.specs.Answer.{expiry}
 use Rattle.lapd_line_machine.specs.Expiry.{at_timer, aim_of_expiry}
-use Rattle.lapd_line_machine.specs.Laws.{orders_in, starts}
+use Rattle.lapd_line_machine.specs.Laws.{orders_in}
 use Rattle.lapd_line_machine.specs.Line.{Line, link_in, place_in, terms}
 use Rattle.lapd_line_machine.specs.Machine.{answer}
 use Rattle.lapd_line_machine.specs.Effect.{told_of_management, of_link, of_change, of_aim}
 
-starts-append : (xs ys : List Order) → starts (xs ++ ys) ≡ starts xs + starts ys
-starts-append [] ys = omega arith
-starts-append (Start timer ∷ xs) ys = omega (arith, starts-append xs ys)
-starts-append (Stop timer ∷ xs) ys = starts-append xs ys
+-- what starts nothing may stand before other orders
+before_starts : (xs ys : List Order) → starts xs ≡ 0 → starts (xs ++ ys) ≡ starts ys
+unfolding starts
+before_starts [] ys none = refl
+before_starts (Start timer ∷ xs) ys none = absurd (omega (arith, none))
+before_starts (Stop timer ∷ xs) ys none = omega (arith, before_starts xs ys (omega (arith, none)))
 
-starts-few : (xs : List Order) → starts xs ≤ length xs
-starts-few [] = omega arith
-starts-few (Start timer ∷ xs) = omega (arith, starts-few xs)
-starts-few (Stop timer ∷ xs) = omega (arith, starts-few xs)
+starts_few : (xs : List Order) → starts xs ≤ length xs
+unfolding starts
+starts_few [] = omega arith
+starts_few (Start timer ∷ xs) = omega (arith, starts_few xs)
+starts_few (Stop timer ∷ xs) = omega (arith, starts_few xs)
 
-no_start : (b : Bool) (timer : Timer) → starts (cond b (Stop timer ∷ []) []) ≡ 0
-no_start true timer = refl
-no_start false timer = refl
+none_starts : starts [] ≤ 1
+unfolding starts
+none_starts = omega arith
 
-one_start : (a b : Bool) (timer : Timer) → starts (cond a (Start timer ∷ []) (cond b (Stop timer ∷ []) [])) ≤ 1
-one_start true b timer = omega arith
-one_start false true timer = omega arith
-one_start false false timer = omega arith
+-- a link that is cleared starts nothing
+cleared_orders : (t : Terms) (before : Option LinkTimer) → starts (orders_for t before None None) ≡ 0
+unfolding starts
+cleared_orders t None = refl
+cleared_orders t (Some link_timer.T200) = refl
+cleared_orders t (Some link_timer.T203) = refl
 
--- a link orders at most one start, as its event starts at most one timer
-link_starts : (t : Terms) (before started after : Option LinkTimer) → starts (orders_for t before started after) ≤ 1
-link_starts t before None after =
-    let one = no_start (runs link_timer.T200 before && not (runs link_timer.T200 after)) (timer_at t link_timer.T200) in
-    let two = no_start (runs link_timer.T203 before && not (runs link_timer.T203 after)) (timer_at t link_timer.T203) in
-    let whole = starts-append (order_for t link_timer.T200 before None after) (order_for t link_timer.T203 before None after) in
-    omega (arith, one, two, whole)
-link_starts t before (Some link_timer.T200) after =
-    let one = one_start (runs link_timer.T200 after) (runs link_timer.T200 before && not (runs link_timer.T200 after)) (timer_at t link_timer.T200) in
-    let two = no_start (runs link_timer.T203 before && not (runs link_timer.T203 after)) (timer_at t link_timer.T203) in
-    let whole = starts-append (order_for t link_timer.T200 before (Some link_timer.T200) after) (order_for t link_timer.T203 before (Some link_timer.T200) after) in
-    omega (arith, one, two, whole)
-link_starts t before (Some link_timer.T203) after =
-    let one = no_start (runs link_timer.T200 before && not (runs link_timer.T200 after)) (timer_at t link_timer.T200) in
-    let two = one_start (runs link_timer.T203 after) (runs link_timer.T203 before && not (runs link_timer.T203 after)) (timer_at t link_timer.T203) in
-    let whole = starts-append (order_for t link_timer.T200 before (Some link_timer.T203) after) (order_for t link_timer.T203 before (Some link_timer.T203) after) in
-    omega (arith, one, two, whole)
-
--- and one that is cleared orders none
 cleared_starts : (t : Terms) (l : Link) → starts (links.told t link.cleared l).orders ≡ 0
-cleared_starts t l = go l.running
-  where
-    go : (before : Option LinkTimer) → starts (orders_for t before None None) ≡ 0
-    go None = refl
-    go (Some link_timer.T200) = refl
-    go (Some link_timer.T203) = refl
+cleared_starts t l = cleared_orders t l.running
 
 three : (xs ys zs : List Order) → starts xs ≡ 0 → starts ys ≡ 0 → length zs ≤ 1 → starts (xs ++ ys ++ zs) ≤ 1
 three xs ys zs x y z =
-    omega (arith, starts-append xs (ys ++ zs), starts-append ys zs, starts-append (xs ++ ys) zs, starts-append xs ys, starts-few zs, x, y, z)
+    let none : starts (xs ++ ys) ≡ 0 = before_starts xs ys x ∙ y in
+    omega (arith, before_starts xs (ys ++ zs) x, before_starts ys zs y, before_starts (xs ++ ys) zs none, starts_few zs, z)
 
 module _ (c : Config) where
   change_starts : (o : Option Change) (t : tei.Told) (l : Line) → IsBrief t → starts (of_change c o (told_of_management t) l).told.orders ≤ 1
-  change_starts None t l h = omega (arith, starts-few t.orders, h.orders)
-  change_starts (Some (Gained n place)) t l h = omega (arith, starts-few t.orders, h.orders)
+  change_starts None t l h = omega (arith, starts_few t.orders, h.orders)
+  change_starts (Some (Gained n place)) t l h = omega (arith, starts_few t.orders, h.orders)
   change_starts (Some (Left n place)) t l h =
       let call = of_link c Call n place link.cleared l in
       three call.told.orders (of_link c Packet n place link.cleared call.line).told.orders t.orders
       (cleared_starts (terms c Call n) (link_in l Call place)) (cleared_starts (terms c Packet n) (link_in call.line Packet place)) h.orders
 
   timer_starts : (l : Line) (service : Service) (n : ℕ) (timer : LinkTimer) (o : Option ℕ) → starts (of_aim c (at_timer service n timer o) l).told.orders ≤ 1
-  timer_starts l service n timer None = omega arith
+  timer_starts l service n timer None = none_starts
   timer_starts l service n timer (Some place) =
       let t = terms c service n in
       let x = link_in l service place in
       let course = links.course t (link.expired timer) x in
-      link_starts t x.running course.started course.link.running
+      one-start t x.running course.started course.link.running
 
   aim_starts : (timer : Timer) (l : Line) → starts (of_aim c (aim_of_expiry timer l) l).told.orders ≤ 1
   aim_starts (T200 service n) l = timer_starts l service n link_timer.T200 (place_in l n)

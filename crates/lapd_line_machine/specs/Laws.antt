@@ -1,10 +1,10 @@
 -- Laws of a line.
-use Rattle.std.specs.Prelude.{◌≡◌, ℕ, suc, ◌+◌, ◌*◌, ◌≤◌, max, List, [], ◌∷◌, length, Option, Some, None, IsSome}
+use Rattle.std.specs.Prelude.{◌≡◌, ℕ, ◌+◌, ◌*◌, ◌≤◌, max, List, [], ◌∷◌, length, Option, Some, None, IsSome}
 use Rattle.lapd_frame.specs.declared.notes.Note.{Note}
 use Rattle.lapd_bits.specs.declared.heard.Cause.{Cause}
 use Rattle.lapd_frame.specs.declared.timers.Order.{Order}
-use Rattle.lapd_frame.specs.declared.timers.Order.TheVariants.{Start, Stop}
 use Rattle.lapd_frame.specs.declared.timers.Timer.{Timer}
+use Rattle.lapd_link_machine.specs.Told.{starts}
 use Rattle.lapd_line_machine.specs.declared.config.Config.{Config}
 use Rattle.lapd_line_machine.specs.Answer.{Event, octet, expiry, pull, Answer, told, refused, pulled, dropped}
 use Rattle.lapd_line_machine.specs.Line.{Line, fresh_line}
@@ -54,7 +54,8 @@ pub record LinesRise : Type 0 where
   pub hears : (c : Config) (e : Event) (l : Line) → IsInRange c → IsSound c l → HearsOne c e l
   pub pulls : (c : Config) (l : Line) → IsInRange c → IsSound c l → FallsByPull c l
 
--- An answer has at most four notes and at most four orders, and that to a pull at most two orders.
+-- An answer has at most four notes and at most four orders, and that to a pull at most two orders. The answer to an
+-- expiry starts one timer at most.
 abbrev pub notes_in : Answer → List Note
 notes_in (told t) = t.notes
 notes_in (refused why) = []
@@ -64,12 +65,6 @@ abbrev pub orders_in : Answer → List Order
 orders_in (told t) = t.orders
 orders_in (refused why) = []
 orders_in (pulled value begun orders) = orders
-
--- How many timers orders start. The answer to an expiry starts one at most.
-abbrev pub starts : List Order → ℕ
-starts [] = 0
-starts (Start timer ∷ orders) = suc (starts orders)
-starts (Stop timer ∷ orders) = starts orders
 
 pub record AnswersAreShort : Type 0 where
   pub notes : (c : Config) (e : Event) (l : Line) → length (notes_in (answer c e l)) ≤ 4

@@ -9,7 +9,8 @@ use Rattle.lapd_clock.proofs.TimeUntil.{time_until-due, time_until-stop, time_un
 use Rattle.lapd_clock.specs.Timer.{Timer, T200, T203, T201, Order, Start, Stop, duration}
 use Rattle.lapd_clock.specs.Timers.{Expiry, Timers, with_order, first_due, due_at, after_due, next_moment, time_until}
 use Rattle.lapd_line_machine.specs.Answer as happening
-use Rattle.lapd_line_machine.specs.Laws.{orders_in, starts}
+use Rattle.lapd_line_machine.specs.Laws.{orders_in}
+use Rattle.lapd_link_machine.specs.Told.{starts}
 use Rattle.lapd_sim_machine.specs.Bench.{Bench, ordered, happened}
 use Rattle.lapd_sim_machine.specs.Steps.{Scene, answer_text, at_expiry, expired, expiries, until, moment_of}
 
@@ -22,17 +23,19 @@ runs_long T201 = omega arith
 
 module _ (end line now : ℕ) where
   time_until-none : (orders : List Order) (c : Timers) → starts orders ≡ 0 → time_until end (fold (ordered line now) c orders) ≤ time_until end c
+  unfolding starts
   time_until-none [] c h = omega arith
   time_until-none (Start timer ∷ orders) c h = absurd (omega (arith, h))
-  time_until-none (Stop timer ∷ orders) c h = omega (arith, time_until-none orders (with_order c line (Stop timer) now) h, time_until-stop c line timer now end)
+  time_until-none (Stop timer ∷ orders) c h = omega (arith, time_until-none orders (with_order c line (Stop timer) now) (omega (arith, h)), time_until-stop c line timer now end)
 
   time_until-one : (orders : List Order) (c : Timers) → starts orders ≤ 1 → time_until end (fold (ordered line now) c orders) ≤ time_until end c + (end - now)
+  unfolding starts
   time_until-one [] c h = omega arith
   time_until-one (Start timer ∷ orders) c h =
       let rest = time_until-none orders (with_order c line (Start timer) now) (omega (arith, h)) in
       omega (arith, rest, time_until-start c line timer now end, runs_long timer)
   time_until-one (Stop timer ∷ orders) c h =
-      omega (arith, time_until-one orders (with_order c line (Stop timer) now) h, time_until-stop c line timer now end)
+      omega (arith, time_until-one orders (with_order c line (Stop timer) now) (omega (arith, h)), time_until-stop c line timer now end)
 
 not_due : (P : Type 0) (due : ℕ × Timer) → None ≡ Some due → P
 not_due P due e = absurd (cc)

@@ -13,7 +13,7 @@ ghost use Rattle.lapd_card_machine.specs.ByEvent.{ArePriced};
 ghost use Rattle.lapd_card_machine.specs.Drops.{AreDropsWithoutCost, AreDropsWithoutEffect};
 ghost use Rattle.lapd_card_machine.specs.Laws.{RefusedByTheTable, RunIsMoments};
 ghost use Rattle.lapd_card_machine.specs.Promises.{IsWithinLimit, IsAmortised, IsAmortisedFromZero, HasSixOctetsAFrame, HasSevenOctetsAReject, IsLinear, IsIsolated, IsNeverFull, IsNumbered, IsNumberedFromZero, IsTextual};
-ghost use Rattle.lapd_card_laws.specs.Promises.{IsKept, IsCountedIn, BeginsEmpty, IsServedIn, UnitsWaitAll, TurnsStay, AreHeeded, TakeEffect, AreSteady, IsDelivered, RunsWhatIsNeeded, NeedsNone};
+ghost use Rattle.lapd_card_laws.specs.Promises.{IsKept, IsCountedIn, BeginsEmpty, IsServedIn, UnitsWaitAll, TurnsStay, AreHeeded, TakeEffect, ExpiriesTakeEffectIn, AreSteady, IsDelivered, RunsWhatIsNeeded, NeedsNone};
 ghost use Rattle.lapd_card_laws.specs.Promises.{NotesTell, TeisAreTold, BeginsDown, TeisHaveOnePlace, BegunIsTold};
 ghost use Rattle.lapd_card.specs.Sink.{one_failure_more};
 ghost use Rattle.lapd_card.specs.Stands.{Stands, Leads};
@@ -67,6 +67,9 @@ impl<S: Shelf> Card<S> {
     ///   down is confirmed at once; contents are kept behind what the link keeps, and nothing is told; own busy is on, or
     ///   off, and RNR or RR with N(R) = V(R) says so where it was not; a TEI that is assigned is on the line; and for one
     ///   that is removed or checked the message waits (clauses 5.3.2 to 5.3.4, 5.5.1.1, 5.5.3.2, 5.6.1 and 5.6.6).
+    /// - `expiries_take_effect`: in every moment the expiry of a timer that runs, of a link on the line, sends SABME or DISC
+    ///   again, or gives the link up and tells it, after N200 of them; or it asks for the terminal's state, in state 7 first
+    ///   and in state 8 again, or establishes the link anew, after N200 of them (clauses 5.5.1.3, 5.5.3.3, 5.6.7, 5.10.3).
     /// - `links_are_steady`: in every moment a link is left as it is; or its TEI leaves the line, or one comes to its place,
     ///   and it is as one that begins; or the event is one of the link. Then V(S) stays but for an I-frame that is begun,
     ///   which it counts, where the terminal asks for I-frames again, to the number that a valid N(R) names, where all that
@@ -167,6 +170,8 @@ impl<S: Shelf> Card<S> {
         ensures turns_stay { (m : machine.Card) → Stands S.store self.old m → TurnsStay m (events_of events.now) }
         ensures frames_are_heeded { (m : machine.Card) → Stands S.store self.old m → AreHeeded m (events_of events.now) }
         ensures requests_take_effect { (m : machine.Card) → Stands S.store self.old m → TakeEffect m (events_of events.now) }
+        ensures expiries_take_effect { (m : machine.Card) → Stands S.store self.old m
+            → ExpiriesTakeEffectIn m (events_of events.now) }
         ensures links_are_steady { (m : machine.Card) → Stands S.store self.old m → AreSteady m (events_of events.now) }
         ensures begun_is_told { (m : machine.Card) → Stands S.store self.old m → BegunIsTold m (events_of events.now) }
         ensures heard_is_delivered { (m : machine.Card) → Stands S.store self.old m → IsDelivered m (events_of events.now) }

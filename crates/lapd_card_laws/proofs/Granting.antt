@@ -1,5 +1,10 @@
 -- What comes of a request that is granted, in a moment of a run.
-use Rattle.std.proofs.Common.{◌≡◌, List, true, false, get_or, sym, subst, arith, true≢false}
+use Rattle.std.proofs.Common.{◌≡◌, ℕ, List, true, false, get_or, refl, sym, ap, ◌∙◌, subst, arith, true≢false}
+use Rattle.std.proofs.lemmas.Bool.{and_parts}
+use Rattle.lapd_frame.specs.declared.refusals.Refusal.TheVariants.{PoolFull}
+use Rattle.lapd_frame.specs.declared.services.Service.{Service}
+use Rattle.lapd_frame.specs.declared.timers.Timer.{Timer}
+use Rattle.lapd_link_machine.specs.declared.timers.LinkTimer.{LinkTimer}
 use Rattle.std.proofs.lemmas.List.{get_or-set_same}
 use Rattle.lapd_line_machine.specs.Answer as happening
 use Rattle.lapd_line_machine.specs.Answer.{Answer}
@@ -7,17 +12,24 @@ use Rattle.lapd_line_machine.specs.Line.{Line, fresh_line}
 use Rattle.lapd_line_machine.specs.Machine as lines
 use Rattle.lapd_line_machine.specs.declared.config.Config.{Config}
 use Rattle.lapd_line_laws.specs.Requests.{LinkTakesEffect, ManagementTakesEffect}
+use Rattle.lapd_line_laws.specs.Expiries.{ExpiryTakesEffect}
+use Rattle.lapd_line_laws.specs.Steady.{timer_of}
+use Rattle.lapd_line_laws.proofs.Expiring.{expiry-takes-effect}
 use Rattle.lapd_line_laws.proofs.Granting.{link-takes-effect}
 use Rattle.lapd_line_laws.proofs.Managing.{management-takes-effect}
 use Rattle.lapd_card_machine.specs.Event.{Event}
-use Rattle.lapd_card_machine.specs.Card.{Card, line_at}
+use Rattle.lapd_card_machine.specs.Card.{Card, line_at, is_full}
 use Rattle.lapd_card_machine.specs.Machine.{after, answer}
 use Rattle.lapd_card_machine.specs.Run.{IsAtLine, AreAtLines}
 use Rattle.lapd_card_machine.specs.Sound.{IsSound}
 use Rattle.lapd_card_machine.proofs.EachMoment.{moment_of, each_moment}
 use Rattle.lapd_card_machine.proofs.Steps.{has_lines, by_room, line_sound}
-use Rattle.lapd_card_laws.specs.Faithful.{TakesEffectIn}
-use Rattle.lapd_card_laws.specs.Promises.{TakeEffect}
+use Rattle.lapd_card_laws.specs.Faithful.{TakesEffectIn, ExpiryTakesEffectIn}
+use Rattle.lapd_card_laws.specs.Promises.{TakeEffect, ExpiriesTakeEffectIn}
+
+takes-none : (c : Config) (timer : Timer) (l : Line) → lines.takes_slot c (happening.expiry timer) l ≡ false
+unfolding lines.takes_slot
+takes-none c timer l = refl
 
 record Takes (c : Config) (e : happening.Event) (before after : Line) (a : Answer) : Type 0 where
   link : LinkTakesEffect c e before after a
@@ -44,3 +56,23 @@ effect-in card e s here = record { link = taken.link; management = taken.managem
 
 pub effect-all : (card : Card) (events : List Event) → IsSound card → AreAtLines card events → TakeEffect card events
 effect-all card events s all = each_moment TakesEffectIn effect-in card events s all
+
+-- The same of an expiry.
+refused-expires : (c : Config) (e : happening.Event) (l : Line) → lines.takes_slot c e l ≡ true → (a : Answer) → ExpiryTakesEffect c e l l a
+refused-expires c e l takes a service tei place timer is on running = absurd (true≢false (sym takes ∙ ap (λ x. lines.takes_slot c x l) is ∙ never service tei timer))
+  where
+    never : (service : Service) (tei : ℕ) (timer : LinkTimer) → lines.takes_slot c (happening.expiry (timer_of service tei timer)) l ≡ false
+    never service tei timer = takes-none c (timer_of service tei timer) l
+
+expiry-in : (card : Card) (e : Event) → IsSound card → IsAtLine card e → ExpiryTakesEffectIn (moment_of card e)
+expiry-in card e s here =
+    by_room (λ ls a. ExpiryTakesEffect card.config e.what (line_at e.line card) (get_or ls e.line (fresh_line card.config)) a) e card
+    (λ full. refused-expires card.config e.what (line_at e.line card) (and_parts (lines.takes_slot card.config e.what (line_at e.line card)) (is_full card) full).0 (happening.refused PoolFull))
+    (λ room.
+    let own = lines.after card.config e.what (line_at e.line card) in
+    subst (λ (x : Line). ExpiryTakesEffect card.config e.what (line_at e.line card) x (lines.answer card.config e.what (line_at e.line card)))
+    (sym (get_or-set_same card.lines e.line own (fresh_line card.config) (omega (arith, s.count, here))))
+    (expiry-takes-effect card.config e.what (line_at e.line card) (line_sound card e.line (has_lines card s) here)))
+
+pub expiries-all : (card : Card) (events : List Event) → IsSound card → AreAtLines card events → ExpiriesTakeEffectIn card events
+expiries-all card events s all = each_moment ExpiryTakesEffectIn expiry-in card events s all

@@ -13,6 +13,7 @@ use Rattle.lapd_line_laws.specs.Loss.{IsTold}
 use Rattle.lapd_line_laws.specs.Pulls.{UnitsWait, TurnStays}
 use Rattle.lapd_line_laws.specs.Requests.{LinkTakesEffect, ManagementTakesEffect}
 use Rattle.lapd_line_laws.specs.Steady.{Happens}
+use Rattle.lapd_line_laws.specs.Expiries.{ExpiryTakesEffect}
 use Rattle.lapd_line_laws.specs.Heard.{Ends, IsFor, IsOneEvent, IsNoEvent, contents_in, IsHeard}
 use Rattle.lapd_card_machine.specs.Card.{line_at}
 use Rattle.lapd_card_machine.specs.Machine.{after}
@@ -53,6 +54,10 @@ IsHeededIn m =
 pub record TakesEffectIn (m : Moment) : Type 0 where
   pub link : LinkTakesEffect m.card.config m.event.what (line_before m) (line_after m) m.answer
   pub management : ManagementTakesEffect m.event.what (line_before m) (line_after m) m.answer
+
+-- The expiry of a link's timer that runs has its effect at this link.
+abbrev pub ExpiryTakesEffectIn : Moment → Type 0
+ExpiryTakesEffectIn m = ExpiryTakesEffect m.card.config m.event.what (line_before m) (line_after m) m.answer
 
 -- Each link of the event's line is left as it is, or is as one that begins, or has one event and is steady; and each link
 -- of another line is left as it is.

@@ -6,7 +6,7 @@ use Rattle.lapd_card_machine.specs.Event.{Event}
 use Rattle.lapd_card_machine.specs.Machine.{after}
 use Rattle.lapd_card_machine.specs.Run.{IsAtLine, AreAtLines}
 use Rattle.lapd_card_machine.specs.Sound.{IsSound}
-use Rattle.lapd_card_laws.specs.Promises.{IsKept, IsCountedIn, BeginsEmpty, IsServedIn, UnitsWaitAll, TurnsStay, AreHeeded, TakeEffect, AreSteady, IsDelivered, RunsWhatIsNeeded, NeedsNone, NotesTell, TeisAreTold, BeginsDown, TeisHaveOnePlace, BegunIsTold}
+use Rattle.lapd_card_laws.specs.Promises.{IsKept, IsCountedIn, BeginsEmpty, IsServedIn, UnitsWaitAll, TurnsStay, AreHeeded, TakeEffect, ExpiriesTakeEffectIn, AreSteady, IsDelivered, RunsWhatIsNeeded, NeedsNone, NotesTell, TeisAreTold, BeginsDown, TeisHaveOnePlace, BegunIsTold}
 use Rattle.lapd_card_laws.specs.Timers.{AllHaveTheirTimers}
 
 pub record NothingIsLost : Type 0 where
@@ -45,3 +45,6 @@ pub record Known : Type 0 where
 
 abbrev pub BegunIsTrue : Type 0
 BegunIsTrue = (card : Card) (events : List Event) → IsSound card → AreAtLines card events → BegunIsTold card events
+
+abbrev pub ExpiriesTakeEffect : Type 0
+ExpiriesTakeEffect = (card : Card) (events : List Event) → IsSound card → AreAtLines card events → ExpiriesTakeEffectIn card events

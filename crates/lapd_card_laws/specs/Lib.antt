@@ -9,3 +9,5 @@ pub mod Laws
 pub mod Worked
 pub mod WorkedTimers
 pub mod WorkedNotes
+pub mod WorkedBegun
+pub mod WorkedPlaces

@@ -1,5 +1,5 @@
 -- What is promised of a list of events, from a card on.
-use Rattle.std.specs.Prelude.{◌≡◌, ◌<◌, ℕ, false, [], List, Some, All}
+use Rattle.std.specs.Prelude.{◌≡◌, ◌<◌, ℕ, false, List, Some, All}
 use Rattle.lapd_frame.specs.declared.services.Service.{Service}
 use Rattle.lapd_frame.specs.declared.timers.Timer.{Timer}
 use Rattle.lapd_link_laws.specs.History.{IsCounted, nothing_yet}
@@ -12,9 +12,9 @@ use Rattle.lapd_card_machine.specs.Card.{Card, fresh, line_at}
 use Rattle.lapd_card_machine.specs.Event.{Event}
 use Rattle.lapd_card_machine.specs.Numbered.{LinkName}
 use Rattle.lapd_card_machine.specs.Promises.{HasLink}
-use Rattle.lapd_card_machine.specs.Run.{Moment, moments, after_all}
+use Rattle.lapd_card_machine.specs.Run.{moments, after_all}
 use Rattle.lapd_card_laws.specs.Contents.{link_named, begun, history, accepted_at}
-use Rattle.lapd_card_laws.specs.Faithful.{IsFaithful, UnitsWaitIn, TurnStaysIn, IsHeededIn, TakesEffectIn, IsSteadyIn, IsHeardIn}
+use Rattle.lapd_card_laws.specs.Faithful.{IsFaithful, UnitsWaitIn, TurnStaysIn, IsHeededIn, TakesEffectIn, ExpiryTakesEffectIn, IsSteadyIn, IsHeardIn}
 use Rattle.lapd_card_laws.specs.Begun.{IsBegunIn}
 use Rattle.lapd_card_laws.specs.Knowledge.{up_by_notes, on_by_notes}
 use Rattle.lapd_card_laws.specs.Timers.{runs_at_callers}
@@ -55,6 +55,10 @@ AreHeeded m events = All IsHeededIn (moments m events)
 -- each request that is granted takes effect,
 abbrev pub TakeEffect : Card → List Event → Type 0
 TakeEffect m events = All TakesEffectIn (moments m events)
+
+-- so does each expiry of a timer that runs,
+abbrev pub ExpiriesTakeEffectIn : Card → List Event → Type 0
+ExpiriesTakeEffectIn m events = All ExpiryTakesEffectIn (moments m events)
 
 -- each link is steady,
 abbrev pub AreSteady : Card → List Event → Type 0

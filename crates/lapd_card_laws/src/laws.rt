@@ -1,6 +1,6 @@
 //! What a card does, over whole runs. Each law is the contract of a call that does nothing.
 
-ghost use Rattle.lapd_card_laws.specs.Laws.{NothingIsLost, PullsServe, FramesAreHeeded, RequestsTakeEffect, LinksAreSteady, HeardIsDelivered};
+ghost use Rattle.lapd_card_laws.specs.Laws.{NothingIsLost, PullsServe, FramesAreHeeded, RequestsTakeEffect, ExpiriesTakeEffect, LinksAreSteady, HeardIsDelivered};
 
 /// Nothing that was accepted is lost silently. In every moment of a run each link keeps what it kept before, without the
 /// oldest contents, as many as a valid N(R) acknowledges, and with the contents of a data request for this link at the
@@ -38,6 +38,12 @@ pub fn frames_are_heeded()
 /// the line; and for one that is removed or checked the message waits.
 pub fn requests_take_effect()
     ensures { RequestsTakeEffect }
+{}
+
+/// An expiry has its effect, in its own moment, where the timer of a link on the line runs: SABME or DISC goes again, or the
+/// link is given up; the terminal's state is asked for, once more or for the first time, or the link is established anew.
+pub fn expiries_take_effect()
+    ensures { ExpiriesTakeEffect }
 {}
 
 /// Links are steady. In every moment of a run a link is left as it is, or its TEI leaves the line or one comes to its place,

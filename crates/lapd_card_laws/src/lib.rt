@@ -16,8 +16,8 @@ mod notes;
 mod timers;
 
 pub use laws::{
-    frames_are_heeded, heard_is_delivered, links_are_steady, nothing_is_lost, pulls_serve,
-    requests_take_effect,
+    expiries_take_effect, frames_are_heeded, heard_is_delivered, links_are_steady, nothing_is_lost,
+    pulls_serve, requests_take_effect,
 };
 pub use notes::{begun_is_true, notes_tell};
 pub use timers::timers_follow;

@@ -20,3 +20,4 @@ pub mod Noting
 pub mod Knowing
 pub mod KnowingTeis
 pub mod Beginning
+pub mod Expiring

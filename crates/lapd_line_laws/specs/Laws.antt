@@ -16,6 +16,7 @@ use Rattle.lapd_line_laws.specs.Pulls.{contents_of, IsServed, UnitsWait, TurnSta
 use Rattle.lapd_line_laws.specs.Frames.{IsHeeded}
 use Rattle.lapd_line_laws.specs.Requests.{LinkTakesEffect, ManagementTakesEffect}
 use Rattle.lapd_line_laws.specs.Steady.{Happens}
+use Rattle.lapd_line_laws.specs.Expiries.{ExpiryTakesEffect}
 use Rattle.lapd_line_laws.specs.Heard.{Ends, IsFor, IsOneEvent, IsNoEvent, contents_in, IsHeard}
 use Rattle.lapd_line_laws.specs.Begun.{says_begun, BeginsAs}
 use Rattle.lapd_line_laws.specs.Knowledge.{is_up_of, taken_for_up, taken_for_on}
@@ -86,3 +87,7 @@ pub record NotesTell : Type 0 where
 -- What an answer says of a frame that was begun is what became of the line's text.
 abbrev pub BegunIsTrue : Type 0
 BegunIsTrue = (c : Config) (e : Event) (l : Line) → IsInRange c → IsSound c l → BeginsAs (says_begun (answer c e l)) l (after c e l)
+
+-- The expiry of a link's timer that runs has its effect at this link.
+abbrev pub ExpiriesTakeEffect : Type 0
+ExpiriesTakeEffect = (c : Config) (e : Event) (l : Line) → IsSound c l → ExpiryTakesEffect c e l (after c e l) (answer c e l)

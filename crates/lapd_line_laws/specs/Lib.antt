@@ -9,6 +9,7 @@ pub mod Requests
 pub mod Steady
 pub mod Knowledge
 pub mod Begun
+pub mod Expiries
 pub mod Laws
 pub mod Worked
 pub mod WorkedPulls

@@ -1,6 +1,6 @@
 //! What a line does. Each law is the contract of a call that does nothing.
 
-ghost use Rattle.lapd_line_laws.specs.Laws.{NothingIsLost, PullsServe, HeardIsDelivered, FramesAreHeeded, RequestsTakeEffect, LinksAreSteady};
+ghost use Rattle.lapd_line_laws.specs.Laws.{NothingIsLost, PullsServe, HeardIsDelivered, FramesAreHeeded, RequestsTakeEffect, LinksAreSteady, ExpiriesTakeEffect};
 
 /// Nothing that was accepted is lost silently. What each link of a line keeps after an event is what it kept before,
 /// without the oldest contents, as many as a valid N(R) acknowledges, and with the contents of a data request for this
@@ -55,4 +55,11 @@ pub fn requests_take_effect()
 /// establishment that this side began itself (Q.921 clauses 3.5.2.3, 5.5.1 to 5.5.3, 5.6.1, 5.6.4, 5.6.6, 5.6.7 and 5.7).
 pub fn links_are_steady()
     ensures { LinksAreSteady }
+{}
+
+/// The expiry of a link's timer that runs has its effect at this link: SABME or DISC goes again, or the link is given up;
+/// the terminal's state is asked for, in state 7 first and in state 8 again, or the link is established anew (Q.921 clauses
+/// 5.5.1.3, 5.5.3.3, 5.6.7 and 5.10.3).
+pub fn expiries_take_effect()
+    ensures { ExpiriesTakeEffect }
 {}

@@ -9,17 +9,17 @@ use Rattle.lapd_link_machine.specs.declared.states.State.{State}
 use Rattle.lapd_link_machine.specs.declared.states.State.TheVariants.{TeiAssigned, AwaitingEstablishment, AwaitingRelease, Established, TimerRecovery}
 use Rattle.lapd_link_machine.specs.declared.frames.ControlFrame.{ControlFrame}
 use Rattle.lapd_link_machine.specs.declared.terms.Terms.{Terms}
-use Rattle.lapd_link_machine.specs.Link.{Link, queue_of}
+use Rattle.lapd_link_machine.specs.Link.{Link}
 use Rattle.lapd_link_machine.specs.Events
 use Rattle.lapd_link_machine.specs.Machine
 use Rattle.lapd_link_machine.specs.Words
 use Rattle.lapd_link_machine.specs.Requests
 use Rattle.lapd_link_machine.specs.Sound.{IsSound}
 use Rattle.lapd_link_machine.specs.Steps.{Course, begun, ◌then◌}
-use Rattle.lapd_link_laws.specs.Effects.{Puts, IsReleasedIn, IsBusy, IsFree, TakesEffect}
+use Rattle.lapd_link_laws.specs.Effects.{IsReleasedIn, TakesEffect}
 
 -- A frame that is put behind those that wait.
-put : (t : Terms) (f : ControlFrame) (ws : List ControlFrame)
+pub put : (t : Terms) (f : ControlFrame) (ws : List ControlFrame)
     → (cond (nat_lt (length ws) t.control) (ws ++ f ∷ []) ws ≡ ws ++ f ∷ []) ⊎ ((t.control ≤ length ws) × (1 ≤ cond {A = ℕ} (nat_lt (length ws) t.control) 0 (0 + 1)))
 put t f ws =
     ⊎_elim

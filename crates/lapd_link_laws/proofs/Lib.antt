@@ -15,3 +15,4 @@ pub mod InOrder
 pub mod Ordinary
 pub mod Steady
 pub mod Effects
+pub mod Expiries

@@ -9,8 +9,10 @@ pub mod Owing
 pub mod InOrder
 pub mod Steady
 pub mod Effects
+pub mod Expiries
 pub mod Beginning
 pub mod Worked
 pub mod WorkedSending
 pub mod WorkedEnds
 pub mod WorkedBeginning
+pub mod WorkedExpiries

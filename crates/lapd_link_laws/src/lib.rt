@@ -19,6 +19,6 @@ pub use laws::{
     ends_hold_what_was_accepted, heard_is_delivered, nothing_is_lost, sent_is_accepted,
 };
 pub use sending::{
-    beginnings_are_told, busy_is_left_alone, deliveries_are_acknowledged, rejected_is_sent_again,
-    requests_take_effect, sent_in_order, steady_unless_seen,
+    beginnings_are_told, busy_is_left_alone, deliveries_are_acknowledged, expiries_take_effect,
+    rejected_is_sent_again, requests_take_effect, sent_in_order, steady_unless_seen,
 };

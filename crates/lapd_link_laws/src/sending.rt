@@ -6,7 +6,7 @@ ghost use Rattle.lapd_seq.specs.Circle.{named};
 ghost use Rattle.lapd_frame.specs.Grammar.{Parts};
 ghost use Rattle.lapd_link_machine.specs.declared.terms.Terms.{Terms};
 ghost use Rattle.lapd_link_machine.specs.Link.{Link};
-ghost use Rattle.lapd_link_machine.specs.Events.{Event, Request, frame, received, requested, offer};
+ghost use Rattle.lapd_link_machine.specs.Events.{Event, Request, frame, received, requested, expired, offer};
 ghost use Rattle.lapd_link_machine.specs.Machine.{after, told, given};
 ghost use Rattle.lapd_link_machine.specs.Deliveries.{restarts};
 ghost use Rattle.lapd_link_machine.specs.Sound.{IsInRange, IsSound};
@@ -17,6 +17,9 @@ ghost use Rattle.lapd_link_laws.specs.Owing.{Owes, IsBegunAgain};
 ghost use Rattle.lapd_link_laws.specs.InOrder.{IsInOrder};
 ghost use Rattle.lapd_link_laws.specs.Steady.{MovesSent, MovesBusy, MayLose};
 ghost use Rattle.lapd_link_laws.specs.Effects.{TakesEffect};
+ghost use Rattle.lapd_link_laws.specs.Expiries.{Expires};
+ghost use Rattle.lapd_link_machine.specs.Told.{runs};
+ghost use Rattle.lapd_link_machine.specs.declared.timers.LinkTimer.{LinkTimer};
 ghost use Rattle.lapd_link_machine.specs.Requests.{refusal};
 ghost use Rattle.lapd_link_laws.specs.Accepted.{empties};
 
@@ -81,4 +84,13 @@ pub fn steady_unless_seen()
 pub fn requests_take_effect()
     ensures takes_effect { (t : Terms) (request : Request) (full : Bool) (l : Link) → IsSound t l → refusal t l full request ≡ None
         → TakesEffect t request l (after t (requested request full) l) (told t (requested request full) l).notes (told t (requested request full) l).lost }
+{}
+
+/// An expiry has its effect. In state 5 T200 sends SABME again, and in state 6 DISC, as long as RC is below N200; then the
+/// link is down, error G or H is told, and a release indication or confirm. In state 7 T200 or T203 asks for the terminal's
+/// state, RR or RNR with P=1 and N(R) = V(R), and the link is in state 8; there T200 asks again as long as RC is below N200;
+/// then error I is told, and SABME is sent. T200 runs after each of these (Q.921 clauses 5.5.1.3, 5.5.3.3, 5.6.7, 5.10.3).
+pub fn expiries_take_effect()
+    ensures takes_effect { (t : Terms) (timer : LinkTimer) (l : Link) → runs timer l.running ≡ true
+        → Expires timer t l (after t (expired timer) l) (told t (expired timer) l).notes (told t (expired timer) l).lost }
 {}

@@ -16,12 +16,12 @@ use Rattle.lapd_card_machine.proofs.Refusals.{refused_by_the_table}
 use Rattle.lapd_card_machine.proofs.ByEvent.{frames_by_event}
 use Rattle.lapd_card_machine.proofs.Drops.{drops_cost_nothing, drops_change_nothing}
 use Rattle.lapd_card_machine.specs.Promises.{IsWithinLimit, IsAmortised, IsAmortisedFromZero, HasSixOctetsAFrame, HasSevenOctetsAReject, IsLinear, IsIsolated, IsNeverFull, IsNumbered, IsNumberedFromZero, IsTextual}
-use Rattle.lapd_card_laws.specs.Promises.{IsKept, IsCountedIn, IsServedIn, UnitsWaitAll, TurnsStay, AreHeeded, TakeEffect, AreSteady, IsDelivered, RunsWhatIsNeeded, NotesTell, TeisAreTold, TeisHaveOnePlace, BegunIsTold}
+use Rattle.lapd_card_laws.specs.Promises.{IsKept, IsCountedIn, IsServedIn, UnitsWaitAll, TurnsStay, AreHeeded, TakeEffect, ExpiriesTakeEffectIn, AreSteady, IsDelivered, RunsWhatIsNeeded, NotesTell, TeisAreTold, TeisHaveOnePlace, BegunIsTold}
 use Rattle.lapd_card_laws.proofs.Keeping.{kept, run-counted, begins-empty}
 use Rattle.lapd_card_laws.proofs.Serving.{served-in, units-all, turns-stay}
 use Rattle.lapd_card_laws.proofs.Hearing.{heard-all}
 use Rattle.lapd_card_laws.proofs.Heeding.{heeded-all}
-use Rattle.lapd_card_laws.proofs.Granting.{effect-all}
+use Rattle.lapd_card_laws.proofs.Granting.{effect-all, expiries-all}
 use Rattle.lapd_card_laws.proofs.Happening.{steady-all}
 use Rattle.lapd_card_laws.proofs.Beginning.{begun-told}
 use Rattle.lapd_card_laws.proofs.Knowing.{up-known, on-known, down-at-first, one-place}
@@ -248,3 +248,9 @@ returns-clause-begun_is_told g c = λ m. whole_list g.S.Shelf.store c.args.self.
 
 pub returns-then-is_err-clause-begun_is_told : goal.returns-then-is_err-clause-begun_is_told
 returns-then-is_err-clause-begun_is_told g c = λ m. whole_list g.S.Shelf.store c.args.self.now c.args.events.now c.requires BegunIsTold begun-told m
+
+pub returns-clause-expiries_take_effect : goal.returns-clause-expiries_take_effect
+returns-clause-expiries_take_effect g c = λ m. whole_list g.S.Shelf.store c.args.self.now c.args.events.now c.requires ExpiriesTakeEffectIn expiries-all m
+
+pub returns-then-is_err-clause-expiries_take_effect : goal.returns-then-is_err-clause-expiries_take_effect
+returns-then-is_err-clause-expiries_take_effect g c = λ m. whole_list g.S.Shelf.store c.args.self.now c.args.events.now c.requires ExpiriesTakeEffectIn expiries-all m

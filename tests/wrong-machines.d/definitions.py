@@ -1,0 +1,72 @@
+"""Copies of crates for tests/wrong-machines: of those that define machines and state laws, the definitions alone."""
+import os
+import re
+import shutil
+
+# The crates that define machines and state laws, and what a copy of one doesn't have.
+MACHINES = re.compile(r"_(machine|laws|progress)$|^lapd_tei$")
+DROPPED = "proofs", "out", "must-fail", "wrong-bodies"
+# A worked value: its statement, what it unfolds, and its proof by computing.
+WORKED = re.compile(r"^(\S+) :(?:.*\n)(?:[ \t].*\n)*(?:unfolding .*\n)?\1 = refl\n", re.MULTILINE)
+# A plain type, and what it is named.
+TYPE = re.compile(r"^#\[derive\(Clone, Copy.*\npub(?:\(crate\))? (?:struct|enum) .*\{\n(?:.+\n|\n)*?\}\n", re.MULTILINE)
+NAME = re.compile(r"^pub (?:struct|enum) (\w+)", re.MULTILINE)
+
+
+def read(path):
+    with open(path, encoding="utf-8") as it:
+        return it.read()
+
+
+def write(path, text):
+    os.makedirs(os.path.dirname(path), exist_ok=True)
+    with open(path, "w", encoding="utf-8") as it:
+        it.write(text)
+
+
+def types_of(text):
+    """Returns what a file of src/ has of plain types, with the imports that they name; and the names of public ones."""
+    types = "\n".join(TYPE.findall(text))
+
+    def is_named(line):
+        return any(re.search(rf"\b{it}\b", types) for it in re.findall(r"\w+", line.rpartition("::")[2]))
+
+    imports = [it for it in re.findall(r"^use .*;\n", text, re.MULTILINE) if is_named(it)]
+    return "".join(imports) + "\n" + types, NAME.findall(types)
+
+
+def strip(folder, crate):
+    """Leaves of a crate what its definitions are: specs/ without worked values, and the types that specs/ name."""
+    named, lib = set(), read(f"{folder}/specs/Lib.antt")
+    for file in os.listdir(f"{folder}/specs"):
+        text = read(f"{folder}/specs/{file}")
+        if ".TheInside." in text:
+            # (it speaks of what values of the code stand for)
+            os.remove(f"{folder}/specs/{file}")
+            lib = lib.replace(f"pub mod {file.removesuffix('.antt')}\n", "")
+        else:
+            write(f"{folder}/specs/{file}", WORKED.sub("", text))
+            named |= set(re.findall(rf"{crate}\.specs\.declared\.(\w+)", text))
+    write(f"{folder}/specs/Lib.antt", lib)
+    texts = {it: types_of(read(f"{folder}/src/{it}.rt")) for it in sorted(named)}
+    shutil.rmtree(f"{folder}/src")
+    uses = [f"pub use {it}::{{{', '.join(names)}}};\n" for it, (_, names) in texts.items() if names]
+    root = "".join(f"mod {it};\n" for it in texts) + "\n" + "".join(uses)
+    write(f"{folder}/src/lib.rt", f"//! Types.\n#![tactic(auto)]\n\n{root}")
+    for it, (text, _) in texts.items():
+        write(f"{folder}/src/{it}.rt", f"//! Types.\n\n{text}")
+
+
+def copy(crates, name, folder):
+    """Copies a crate. What was proved of a copy that lies there is kept."""
+    at = f"{folder}/{name}"
+    part, is_machine, is_there = f"{at}.part", MACHINES.search(name), os.path.isdir(f"{at}/out")
+    dropped = DROPPED if is_machine else ("out",) if is_there else ()
+    shutil.rmtree(part, ignore_errors=True)
+    shutil.copytree(f"{crates}/{name}", part, ignore=shutil.ignore_patterns(*dropped))
+    if is_machine:
+        strip(part, name)
+    if is_there:
+        os.rename(f"{at}/out", f"{part}/out")
+    shutil.rmtree(at, ignore_errors=True)
+    os.rename(part, at)

@@ -167,8 +167,7 @@ impl LinkLayer {
         ensures { Serves (λ m. unless_at_link (addressed m address link.overlong (drop_for Unserved))) [] self.old (S.store shelf.old) self.new (S.store shelf.new) result }
     {
         match self.addressee(address) {
-            Addressee::Management => BareReport::dropped(Cause::Unserved),
-            Addressee::Link { .. } => BareReport::dropped(Cause::Unserved),
+            Addressee::Management | Addressee::Link { .. } => BareReport::dropped(Cause::Unserved),
             Addressee::Nobody(cause) => BareReport::dropped(cause),
         }
     }

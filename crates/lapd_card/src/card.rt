@@ -73,8 +73,8 @@ impl<S: Shelf> Card<S> {
             → may_send (after (at line (happening.octet octet)) m) ≡ may_send m }
         ensures* after { sem 𝓛 (Rests (the_row S.row S.Shelf) self.entry (λ v. Leads S.store (at line (happening.octet octet)) self.old v)) }
     {
-        let outcome = self.step(line, octet);
-        self.lend(line, &outcome)
+        let bare = self.step(line, octet);
+        self.lend(line, &bare)
     }
 
     /// A timer of a line expired. One that does not run has no effect, and nothing is reported.
@@ -149,10 +149,10 @@ impl<S: Shelf> Card<S> {
 
     // The report borrows from the card, so that no event can come while contents are lent. Whatever the event
     // changed was changed in a step before this one: no loan is proved beside a later write.
-    fn lend(&self, line: usize, outcome: &BareReport) -> Report<'_>
+    fn lend(&self, line: usize, bare: &BareReport) -> Report<'_>
         requires { line < line_count self.now }
-        ensures { report_told result ≡ told_at self.now.lines line outcome.now }
+        ensures { report_told result ≡ told_at self.now.lines line bare.now }
     {
-        self.lines.lend(line, outcome)
+        self.lines.lend(line, bare)
     }
 }

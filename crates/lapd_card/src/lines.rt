@@ -62,11 +62,11 @@ impl Lines {
     }
 
     /// The report of what the latest octet of a line led to, with the contents that it delivered lent from the line.
-    pub(crate) fn lend(&self, line: usize, outcome: &BareReport) -> Report<'_>
+    pub(crate) fn lend(&self, line: usize, bare: &BareReport) -> Report<'_>
         requires { line < length self.now }
-        ensures { report_told result ≡ told_at self.now line outcome.now }
+        ensures { report_told result ≡ told_at self.now line bare.now }
     {
-        self.lines[line].lend(outcome)
+        self.lines[line].lend(bare)
     }
 
     /// A timer of a line expired.

@@ -83,8 +83,8 @@ impl Line {
         ensures* after { sem 𝓛 (Rests the_row self.entry
             (λ v. Leads (event.octet octet) self.old (S.store shelf.old) v (S.store shelf.new))) }
     {
-        let outcome = self.step(octet, shelf);
-        self.lend(&outcome)
+        let bare = self.step(octet, shelf);
+        self.lend(&bare)
     }
 
     /// Takes an octet as [`Line::octet`] does, and answers without references, for a caller that has more to change
@@ -101,10 +101,10 @@ impl Line {
     }
 
     /// The report of what the latest octet led to, with the contents that it delivered lent until the next octet.
-    pub fn lend(&self, outcome: &BareReport) -> Report<'_>
-        ensures { report_told result ≡ told_in (latest_frame self.now) outcome.now }
+    pub fn lend(&self, bare: &BareReport) -> Report<'_>
+        ensures { report_told result ≡ told_in (latest_frame self.now) bare.now }
     {
-        outcome.report(self.frame())
+        bare.report(self.frame())
     }
 
     /// A timer expires: T200 or T203 of a link, or T201 of the check of a TEI (Q.921 clause 5.9). Where it does not
@@ -148,9 +148,9 @@ impl Line {
             Leads (event.request (request_of request.entry)) self.old (S.store shelf.old) self.new (S.store shelf.new)) }
     {
         match self.layer.request(request, shelf, slots) {
-            Ok(outcome) => {
+            Ok(bare) => {
                 self.quiet = false;
-                Ok(outcome.report(&[]))
+                Ok(bare.report(&[]))
             }
             Err(why) => Err(why),
         }

@@ -14,12 +14,12 @@ returns-in-Ok-clause-accepted g c = λ others m st. c.in-Ok.ensures.granted othe
 
 pub returns-in-Ok-clause-told : goal.returns-in-Ok-clause-told
 returns-in-Ok-clause-told g c = λ others m st.
-    request_told c.args.self.now (g.S.Shelf.store c.args.shelf.now) c.request.new.self (g.S.Shelf.store c.request.new.shelf) (nat_le c.args.slots (used_slots (g.S.Shelf.store c.args.shelf.now))) (request_of c.args.request) c.in-Ok.outcome
+    request_told c.args.self.now (g.S.Shelf.store c.args.shelf.now) c.request.new.self (g.S.Shelf.store c.request.new.shelf) (nat_le c.args.slots (used_slots (g.S.Shelf.store c.args.shelf.now))) (request_of c.args.request) c.in-Ok.bare
     c.in-Ok.ensures.granted c.in-Ok.ensures.served c.report.result c.report.ensures others m st
 
 pub returns-in-Ok-clause-after : goal.returns-in-Ok-clause-after
 returns-in-Ok-clause-after g c =
-    requested c.args.self.now (g.S.Shelf.store c.args.shelf.now) c.request.new.self (g.S.Shelf.store c.request.new.shelf) (nat_le c.args.slots (used_slots (g.S.Shelf.store c.args.shelf.now))) (request_of c.args.request) c.in-Ok.outcome
+    requested c.args.self.now (g.S.Shelf.store c.args.shelf.now) c.request.new.self (g.S.Shelf.store c.request.new.shelf) (nat_le c.args.slots (used_slots (g.S.Shelf.store c.args.shelf.now))) (request_of c.args.request) c.in-Ok.bare
     c.in-Ok.ensures.granted c.in-Ok.ensures.served
 
 pub returns-in-Err-clause-refused : goal.returns-in-Err-clause-refused

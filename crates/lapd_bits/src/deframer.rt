@@ -97,7 +97,11 @@ impl Deframer {
             self.ended = Ended::Nothing;
             return Ended::Nothing;
         }
-        let ended = self.hear(octet);
+        if self.is_idle(octet) {
+            self.ended = Ended::Nothing;
+            return Ended::Nothing;
+        }
+        let ended = self.bit_by_bit(octet);
         self.ended = ended;
         ended
     }
@@ -131,27 +135,9 @@ impl Deframer {
         }
     }
 
-    /// Takes an octet that goes on with an idle line or may end something.
-    #[inline(never)]
-    fn hear(&mut self, octet: u8) -> Ended
-        ensures fits { FitsIn (vec_len self.new.octets) result }
-        ensures room { length self.new.octets.items ≡ length self.old.octets.items }
-        ensures stands { (past : List Bool) → HoldsPast self.old.octets.items self.old.ones self.old.gap past
-            → HoldsPast self.new.octets.items self.new.ones self.new.gap (with_bits 8 octet past) }
-        ensures told { (past : List Bool) → HoldsPast self.old.octets.items self.old.ones self.old.gap past
-            → heard_until (length self.old.octets.items) (with_bits 8 octet past)
-            ≡ heard_until (length self.old.octets.items) past
-            ++ option_to_list (event_in self.new.octets.items result) }
-    {
-        if self.is_idle(octet) {
-            Ended::Nothing
-        } else {
-            self.bit_by_bit(octet)
-        }
-    }
-
     /// Whether the octet leaves all as it is: it goes on with the 1s that gave a gap up; or it goes on with flags, the bits
     /// since the latest flag begin another, and the octet has that flag's other bits and as many of the next.
+    #[inline(always)]
     fn is_idle(&self, octet: u8) -> bool
         ensures stays { (past : List Bool) → IsTrue result → HoldsPast self.now.octets.items self.now.ones self.now.gap past
             → StaysIdle self.now.octets.items self.now.ones self.now.gap octet past }
@@ -186,6 +172,7 @@ impl Deframer {
     }
 
     /// Takes an octet that may end something.
+    #[inline(never)]
     fn bit_by_bit(&mut self, octet: u8) -> Ended
         ensures fits { FitsIn (vec_len self.new.octets) result }
         ensures room { length self.new.octets.items ≡ length self.old.octets.items }
@@ -336,6 +323,7 @@ impl Deframer {
 }
 
 /// Whether seven 1s or more have come, and eight more come.
+#[inline(always)]
 fn are_ones_after_seven(ones: u8, octet: u8) -> bool
     ensures { result ≡ true → (ones ≡ 7) × (octet ≡ 255) }
 {

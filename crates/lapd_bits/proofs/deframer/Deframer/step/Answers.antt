@@ -1,5 +1,5 @@
--- An octet in which no six 1s come ends nothing, and goes on the open gap all at once.
-use Rattle.std.proofs.Common.{◌++◌, None, true, replicate, sym, ◌∙◌, subst, reverse, length}
+-- An octet in which no six 1s come ends nothing, and goes on the open gap all at once; one of an idle line brings nothing.
+use Rattle.std.proofs.Common.{◌++◌, None, true, replicate, refl, sym, ◌∙◌, subst, reverse, length, append-nil}
 use Rattle.std.proofs.lemmas.Bool.{false≢true, false_from_ne_true}
 use Rattle.lapd_bits.specs.Bits.{bits, low_bits}
 use Rattle.lapd_bits.specs.Deframer.{HoldsPast}
@@ -34,16 +34,31 @@ returns-in-Some-clause-after c n201 past h =
           (heard-octet (length old.octets.items) old.ones (reverse (bits past)) c.args.octet none h.holds.run));
     }
 
+pub returns-then-is_idle-clause-heard : goal.returns-then-is_idle-clause-heard
+returns-then-is_idle-clause-heard c n201 past h =
+    let idle = c.if-is_idle.ensures.stays (reverse (bits past)) refl h.holds in
+    heard_more n201 past c.args.octet _ None h.room (idle.nothing _ ∙ sym (append-nil _))
+
+pub returns-then-is_idle-clause-after : goal.returns-then-is_idle-clause-after
+returns-then-is_idle-clause-after c n201 past h =
+    let old = c.args.self.now in
+    let idle = c.if-is_idle.ensures.stays (reverse (bits past)) refl h.holds in
+    record {
+      room = h.room;
+      holds = subst (HoldsPast old.octets.items old.ones old.gap) (sym (with_bits-octet past c.args.octet)) idle.holds;
+      latest = latest_more n201 past c.args.octet None (heard_more n201 past c.args.octet _ None h.room (idle.nothing _ ∙ sym (append-nil _)));
+    }
+
 pub returns-clause-heard : goal.returns-clause-heard
 returns-clause-heard c n201 past h =
-    let s = c.hear-ended.ensures in
-    heard_more n201 past c.args.octet _ (event_in c.hear-ended.new.self.octets.items c.hear-ended.result) h.room (s.told (reverse (bits past)) h.holds)
+    let s = c.bit_by_bit-ended.ensures in
+    heard_more n201 past c.args.octet _ (event_in c.bit_by_bit-ended.new.self.octets.items c.bit_by_bit-ended.result) h.room (s.told (reverse (bits past)) h.holds)
 
 pub returns-clause-after : goal.returns-clause-after
 returns-clause-after c n201 past h =
-    let s = c.hear-ended.ensures in
-    let new = c.hear-ended.new.self in
-    let brought = event_in new.octets.items c.hear-ended.result in
+    let s = c.bit_by_bit-ended.ensures in
+    let new = c.bit_by_bit-ended.new.self in
+    let brought = event_in new.octets.items c.bit_by_bit-ended.result in
     record {
       room = s.room ∙ h.room;
       holds = subst (HoldsPast new.octets.items new.ones new.gap) (sym (with_bits-octet past c.args.octet)) (s.stands (reverse (bits past)) h.holds);
@@ -52,5 +67,5 @@ returns-clause-after c n201 past h =
 
 pub returns-clause-told : goal.returns-clause-told
 returns-clause-told c =
-    let new = c.hear-ended.new.self in
-    told_is new.octets.items c.hear-ended.result (subst (λ n. FitsIn n c.hear-ended.result) new.octets.ok.0 c.hear-ended.ensures.fits)
+    let new = c.bit_by_bit-ended.new.self in
+    told_is new.octets.items c.bit_by_bit-ended.result (subst (λ n. FitsIn n c.bit_by_bit-ended.result) new.octets.ok.0 c.bit_by_bit-ended.ensures.fits)

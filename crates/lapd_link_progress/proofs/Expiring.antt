@@ -15,22 +15,23 @@ use Rattle.lapd_link_machine.specs.MultipleFrame
 use Rattle.lapd_link_machine.specs.Timed.{IsTimedIn}
 use Rattle.lapd_link_machine.specs.TwoEnds.{End, with_link}
 use Rattle.lapd_link_progress.specs.Heeds.{HeedsIn}
-use Rattle.lapd_link_progress.specs.CutOff.{IsCutOff}
-use Rattle.lapd_link_progress.proofs.Shapes.{enquiry, in_8, in_7}
+use Rattle.lapd_link_progress.specs.CutOff.{IsCutOffWith}
+use Rattle.lapd_link_progress.proofs.Shapes.{enquiry_with, in_8_with, in_7_with}
 
 abbrev pub with_count : ℕ → End → End
 with_count c n = record n { link = record n.link { repeats = c } }
 
-pub record Asking (n n' : End) : Type 0 where
+pub record Asking (own : Bool) (n n' : End) : Type 0 where
   pub count : ℕ
-  pub is : n' ≡ in_8 (with_count count n) (enquiry n.link.r ∷ []) n.link.peer_busy n.link.a false n.delivered
+  pub is : n' ≡ in_8_with own (with_count count n) (enquiry_with own n.link.r ∷ []) n.link.peer_busy n.link.a false n.delivered
 
-pub record Resting (n n' : End) : Type 0 where
+pub record Resting (own : Bool) (n n' : End) : Type 0 where
   pub running : Option LinkTimer
-  pub is : n' ≡ in_7 n [] n.link.a n.link.s n.link.pending running n.delivered
+  pub is : n' ≡ in_7_with own false n [] n.link.a n.link.s n.link.pending running n.delivered
   pub all : n.link.s ≤ n.link.a
+  pub before : n.link.running ≡ Some T203
 
-module _ (n m : End) (h : IsCutOff n m) where
+module _ (own : Bool) (n m : End) (h : IsCutOffWith own n m) where
   abbrev after : End → End
   after x = with_link (expired T200) x
 
@@ -40,7 +41,7 @@ module _ (n m : End) (h : IsCutOff n m) where
   -- the end with what is known of it
   abbrev known : State → Bool → Option LinkTimer → End
   known here busy running =
-      record n { link = record n.link { state = here; own_busy = false; peer_busy = busy; waiting = []; running = running }; way = [] }
+      record n { link = record n.link { state = here; own_busy = own; peer_busy = busy; waiting = []; running = running }; way = [] }
 
   is-known : (here : State) (busy : Bool) (running : Option LinkTimer) → n.link.state ≡ here → n.link.peer_busy ≡ busy → n.link.running ≡ running → n ≡ known here busy running
   is-known here busy running s b r =
@@ -49,26 +50,27 @@ module _ (n m : End) (h : IsCutOff n m) where
   abbrev asked : Bool → ℕ → End
   asked b count =
       record n {
-        link = record n.link { state = state.TimerRecovery; own_busy = false; pending = false; waiting = cond b (enquiry n.link.r ∷ []) []; running = Some T200; repeats = count };
+        link = record n.link { state = state.TimerRecovery; own_busy = own; pending = false; waiting = cond b (enquiry_with own n.link.r ∷ []) []; running = Some T200; repeats = count };
         way = [];
         delivered = n.delivered ++ [];
       }
 
-  asks : (b : Bool) (count : ℕ) → b ≡ true → asked b count ≡ in_8 (with_count count n) (enquiry n.link.r ∷ []) n.link.peer_busy n.link.a false n.delivered
-  asks b count e = ap (λ x. asked x count) e ∙ ap (λ ds. in_8 (with_count count n) (enquiry n.link.r ∷ []) n.link.peer_busy n.link.a false ds) (append-nil n.delivered)
+  asks : (b : Bool) (count : ℕ) → b ≡ true → asked b count ≡ in_8_with own (with_count count n) (enquiry_with own n.link.r ∷ []) n.link.peer_busy n.link.a false n.delivered
+  asks b count e = ap (λ x. asked x count) e ∙ ap (λ ds. in_8_with own (with_count count n) (enquiry_with own n.link.r ∷ []) n.link.peer_busy n.link.a false ds) (append-nil n.delivered)
 
-  in-7-t200 : n.link.state ≡ state.Established → n.link.running ≡ Some T200 → Asking n (after n)
+  in-7-t200 : n.link.state ≡ state.Established → n.link.running ≡ Some T200 → Asking own n (after n)
   in-7-t200 s r = record { count = 0; is = ap after (is-known state.Established n.link.peer_busy (Some T200) s refl r) ∙ asks (nat_lt 0 n.terms.control) 0 room }
 
-  in-7-t203 : n.link.state ≡ state.Established → n.link.peer_busy ≡ false → n.link.running ≡ Some T203 → n.link.s ≤ n.link.a → Resting n (after n)
+  in-7-t203 : n.link.state ≡ state.Established → n.link.peer_busy ≡ false → n.link.running ≡ Some T203 → n.link.s ≤ n.link.a → Resting own n (after n)
   in-7-t203 s b r all =
       record {
         running = Some T203;
-        is = ap after (is-known state.Established false (Some T203) s b r) ∙ ap (λ ds. in_7 n [] n.link.a n.link.s n.link.pending (Some T203) ds) (append-nil n.delivered);
+        is = ap after (is-known state.Established false (Some T203) s b r) ∙ ap (λ ds. in_7_with own false n [] n.link.a n.link.s n.link.pending (Some T203) ds) (append-nil n.delivered);
         all = all;
+        before = r;
       }
 
-  in-8-t200 : n.link.state ≡ state.TimerRecovery → n.link.running ≡ Some T200 → Asking n (after n)
+  in-8-t200 : n.link.state ≡ state.TimerRecovery → n.link.running ≡ Some T200 → Asking own n (after n)
   in-8-t200 s r =
       let l = (known state.TimerRecovery n.link.peer_busy (Some T200)).link in
       let again : nat_lt n.link.repeats n.terms.n200 ≡ true = lt-ltb n.link.repeats n.terms.n200 (h.repeats s) in
@@ -91,7 +93,7 @@ module _ (n m : End) (h : IsCutOff n m) where
   not-busy true e r w = absurd (let two : Some T203 ≡ Some T200 = sym r ∙ w e in cc)
 
   by-state : (here : State) → n.link.state ≡ here → IsTrue (is_multiple_frame here) → IsTimedIn here n.link → HeedsIn here n.link.peer_busy n.link.running
-      → Asking n (after n) ⊎ Resting n (after n)
+      → Asking own n (after n) ⊎ Resting own n (after n)
   by-state state.TeiAssigned e up timed heeds = absurd (true≢false (sym up))
   by-state state.AwaitingEstablishment e up timed heeds = absurd (true≢false (sym up))
   by-state state.AwaitingRelease e up timed heeds = absurd (true≢false (sym up))
@@ -99,5 +101,5 @@ module _ (n m : End) (h : IsCutOff n m) where
   by-state state.Established e up (inr r) heeds = inr (in-7-t203 e (not-busy n.link.peer_busy refl r.0 heeds) r.0 r.1)
   by-state state.TimerRecovery e up timed heeds = inl (in-8-t200 e timed)
 
-  pub expires-one : Asking n (after n) ⊎ Resting n (after n)
+  pub expires-one : Asking own n (after n) ⊎ Resting own n (after n)
   expires-one = by-state n.link.state refl h.up h.timed.timer h.heeds.heeds

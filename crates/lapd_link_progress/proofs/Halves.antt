@@ -80,7 +80,7 @@ pub record Moved (n m n' m' : End) : Type 0 where
   pub moved : One n m n' m' ⊎ Nothing n m n' m'
 
 -- with no acknowledgement owed nothing is outstanding
-all-acknowledged : (a s : ℕ) (p b : Bool) → nat_lt a s ≡ b → p ≡ false → a ≤ s → (a < s → p ≡ true) → a ≡ s
+pub all-acknowledged : (a s : ℕ) (p b : Bool) → nat_lt a s ≡ b → p ≡ false → a ≤ s → (a < s → p ≡ true) → a ≡ s
 all-acknowledged a s p true e off low h = absurd (true≢false (sym (h (ltb-true a s e)) ∙ off))
 all-acknowledged a s p false e off low h = let high : s ≤ a = ltb-false a s e in omega arith
 
@@ -114,7 +114,7 @@ module _ (n m : End) (hn : IsReady n) (hm : IsReady m) (there : IsTaken n m) (ba
   one : Offers.may_send_information n.terms (plain n.link) ≡ true → Moved n m (giver_of n) (taker_of n m)
   one may =
       let parts = and_parts (nat_lt (n.link.s - n.link.a) n.terms.k) (nat_lt n.link.s (length n.link.contents)) may in
-      let gives : with_sent n ≡ record n { link = with_information n.link; way = information_frame n.terms n.link ∷ [] } = ap with_sent (is_plain n hn) ∙ gives-information n may in
+      let gives : with_sent n ≡ record n { link = with_information n.link; way = information_frame n.terms n.link ∷ [] } = ap with_sent (is_plain n hn) ∙ gives-information false false n may in
       let next : m.link.r ≡ n.link.s = there.received in
       let takes : with_link (received (frame (information_frame n.terms n.link))) m ≡ record m { link = with_taken m.link; way = []; delivered = m.delivered ++ unwrap_or (slice_get n.link.contents n.link.s) [] ∷ [] } =
       ap (with_link (received (frame (information_frame n.terms n.link)))) (is_plain m hm)
@@ -131,7 +131,7 @@ module _ (n m : End) (hn : IsReady n) (hm : IsReady m) (there : IsTaken n m) (ba
   -- an acknowledgement goes
   acknowledges : Offers.may_send_information n.terms (plain n.link) ≡ false → n.link.pending ≡ true → Moved n m (giver_of n) (taker_of n m)
   acknowledges may owed =
-      let gives : with_sent n ≡ record n { link = with_acknowledgement n.link; way = acknowledgement_frame n.terms n.link ∷ [] } = ap with_sent (is_plain n hn) ∙ gives-acknowledgement n may owed in
+      let gives : with_sent n ≡ record n { link = with_acknowledgement n.link; way = acknowledgement_frame n.terms n.link ∷ [] } = ap with_sent (is_plain n hn) ∙ gives-acknowledgement false false n may owed in
       let takes : with_link (received (frame (acknowledgement_frame n.terms n.link))) m ≡ record m { link = with_all_acknowledged m.link; way = []; delivered = m.delivered ++ [] } =
       ap (with_link (received (frame (acknowledgement_frame n.terms n.link)))) (is_plain m hm) ∙ takes-acknowledgement m same n.terms n.link names in
       subst (λ x. Moved n m (with_first_lost x) (with_first_of x.way m)) (sym gives)
@@ -145,7 +145,7 @@ module _ (n m : End) (hn : IsReady n) (hm : IsReady m) (there : IsTaken n m) (ba
   -- nothing goes: then nothing is outstanding at the other end
   rests : Offers.may_send_information n.terms (plain n.link) ≡ false → n.link.pending ≡ false → Moved n m (giver_of n) (taker_of n m)
   rests may owed =
-      let gives : with_sent n ≡ record n { link = with_acknowledgement n.link; way = [] } = ap with_sent (is_plain n hn) ∙ gives-nothing n may owed in
+      let gives : with_sent n ≡ record n { link = with_acknowledgement n.link; way = [] } = ap with_sent (is_plain n hn) ∙ gives-nothing false false n may owed in
       subst (λ x. Moved n m (with_first_lost x) (with_first_of x.way m)) (sym gives)
       (record {
         giver = giver-acknowledgement;

@@ -13,8 +13,15 @@ pub mod Plain
 pub mod Halves
 pub mod Arriving
 pub mod Shapes
+pub mod Acknowledging
+pub mod BusyShapes
+pub mod BusyMoves
 pub mod Expiring
 pub mod Recovering
+pub mod BusyRounds
+pub mod BusyRecovering
+pub mod BusyRecovery
+pub mod BusyBegun
 pub mod Recovery
 pub mod Staying
 pub mod Together
@@ -30,3 +37,4 @@ pub mod StayingUp
 pub mod TimelyRuns
 pub mod PremisesMet
 pub mod TimelyMet
+pub mod BusyMet

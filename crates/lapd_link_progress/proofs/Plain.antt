@@ -1,4 +1,4 @@
--- An end in state 7 with neither side busy and nothing waiting: what it gives, and what it makes of what it receives.
+-- An end in state 7 with nothing waiting: what it gives, and, with neither side busy, what it makes of what it receives.
 use Rattle.std.proofs.Common.{◌≡◌, ℕ, ◌+◌, Bool, true, false, cond, ◌==◌, [], ◌∷◌, ◌++◌, length, Option, None, Some, refl, ap, ◌∙◌}
 use Rattle.std.specs.Prelude.{nat_lt, slice_get, unwrap_or, option_to_list}
 use Rattle.lapd_seq.specs.declared.numbers.Seq.{Seq}
@@ -22,11 +22,18 @@ use Rattle.lapd_link_machine.specs.Offers
 use Rattle.lapd_link_machine.specs.TwoEnds.{End, with_link, with_sent, frame_given}
 use Rattle.lapd_link_progress.specs.Rounds.{IsReady}
 
+-- with own busy, and the other end taken for busy, as the bits say
+abbrev pub plain_with : Bool → Bool → Link → Link
+plain_with own busy l = record l { state = state.Established; peer_busy = busy; own_busy = own; waiting = [] }
+
 abbrev pub plain : Link → Link
-plain l = record l { state = state.Established; peer_busy = false; own_busy = false; waiting = [] }
+plain l = plain_with false false l
+
+abbrev pub plain_end_with : Bool → Bool → End → End
+plain_end_with own busy n = record n { link = plain_with own busy n.link; way = [] }
 
 abbrev pub plain_end : End → End
-plain_end n = record n { link = plain n.link; way = [] }
+plain_end n = plain_end_with false false n
 
 pub is_plain : (n : End) → IsReady n → n ≡ plain_end n
 is_plain n h =
@@ -43,19 +50,25 @@ abbrev pub acknowledgement_frame : Terms → Link → Parts
 acknowledgement_frame t l = frame_of t (Words.response (ReceiveReady (seq l.r) false))
 
 -- What the end is after each offer.
+abbrev pub with_information_with : Bool → Bool → Link → Link
+with_information_with own busy l = record (plain_with own busy l) { s = l.s + 1; pending = false; running = cond (runs T200 l.running) l.running (Some T200) }
+
 abbrev pub with_information : Link → Link
-with_information l = record (plain l) { s = l.s + 1; pending = false; running = cond (runs T200 l.running) l.running (Some T200) }
+with_information l = with_information_with false false l
+
+abbrev pub with_acknowledgement_with : Bool → Bool → Link → Link
+with_acknowledgement_with own busy l = record (plain_with own busy l) { pending = false }
 
 abbrev pub with_acknowledgement : Link → Link
-with_acknowledgement l = record (plain l) { pending = false }
+with_acknowledgement l = with_acknowledgement_with false false l
 
-module _ (n : End) where
+module _ (own busy : Bool) (n : End) where
   abbrev first : Course
-  first = begun (plain n.link)
+  first = begun (plain_with own busy n.link)
 
   -- the end that has given to its way what its link gave
   abbrev giving : Course → End
-  giving c = record n { link = c.link; way = [] ++ frame_given n.terms (given_of n.terms (plain n.link) c c.sent) }
+  giving c = record n { link = c.link; way = [] ++ frame_given n.terms (given_of n.terms (plain_with own busy n.link) c c.sent) }
 
   abbrev informing : Course
   informing = (Offers.give_information then changed Offers.with_one_sent then Words.pending_is false) first
@@ -64,25 +77,25 @@ module _ (n : End) where
   otherwise = cond n.link.pending (Offers.send_acknowledgement first) first
 
   timed : (a : Bool) → runs T200 n.link.running ≡ a
-      → giving (cond a informing (Words.start T200 informing)) ≡ record n { link = record (plain n.link) { s = n.link.s + 1; pending = false; running = cond a n.link.running (Some T200) }; way = information_frame n.terms n.link ∷ [] }
+      → giving (cond a informing (Words.start T200 informing)) ≡ record n { link = record (plain_with own busy n.link) { s = n.link.s + 1; pending = false; running = cond a n.link.running (Some T200) }; way = information_frame n.terms n.link ∷ [] }
   timed true e = refl
   timed false e = refl
 
-  pub gives-information : Offers.may_send_information n.terms (plain n.link) ≡ true
-      → with_sent (plain_end n) ≡ record n { link = with_information n.link; way = information_frame n.terms n.link ∷ [] }
+  pub gives-information : Offers.may_send_information n.terms (plain_with own busy n.link) ≡ true
+      → with_sent (plain_end_with own busy n) ≡ record n { link = with_information_with own busy n.link; way = information_frame n.terms n.link ∷ [] }
   gives-information may =
       ap (λ b. giving (cond b (cond (runs T200 n.link.running) informing (Words.start T200 informing)) otherwise)) may ∙ timed (runs T200 n.link.running) refl
 
-  pub gives-acknowledgement : Offers.may_send_information n.terms (plain n.link) ≡ false → n.link.pending ≡ true
-      → with_sent (plain_end n) ≡ record n { link = with_acknowledgement n.link; way = acknowledgement_frame n.terms n.link ∷ [] }
+  pub gives-acknowledgement : Offers.may_send_information n.terms (plain_with own busy n.link) ≡ false → n.link.pending ≡ true
+      → with_sent (plain_end_with own busy n) ≡ record n { link = with_acknowledgement_with own busy n.link; way = acknowledgement_frame n.terms n.link ∷ [] }
   gives-acknowledgement may owed =
       ap (λ b. giving (cond b (Offers.send_information first) otherwise)) may ∙ ap (λ b. giving (cond b (Offers.send_acknowledgement first) first)) owed
 
-  pub gives-nothing : Offers.may_send_information n.terms (plain n.link) ≡ false → n.link.pending ≡ false
-      → with_sent (plain_end n) ≡ record n { link = with_acknowledgement n.link; way = [] }
+  pub gives-nothing : Offers.may_send_information n.terms (plain_with own busy n.link) ≡ false → n.link.pending ≡ false
+      → with_sent (plain_end_with own busy n) ≡ record n { link = with_acknowledgement_with own busy n.link; way = [] }
   gives-nothing may owed =
       ap (λ b. giving (cond b (Offers.send_information first) otherwise)) may ∙ ap (λ b. giving (cond b (Offers.send_acknowledgement first) first)) owed
-      ∙ ap (λ b. record n { link = record (plain n.link) { pending = b }; way = [] }) owed
+      ∙ ap (λ b. record n { link = record (plain_with own busy n.link) { pending = b }; way = [] }) owed
 
 -- What it is after each frame that acknowledges all.
 abbrev pub with_taken : Link → Link

@@ -26,18 +26,18 @@ mild_request (Data octets) = true
 mild_request SetBusy = true
 mild_request ClearBusy = true
 
-mild_act : Act → End → Bool
+unfoldable pub mild_act : Act → End → Bool
 mild_act (asks request full) n = mild_request request
 mild_act (expires timer) n = nat_lt n.link.repeats n.terms.n200
 mild_act sends n = true
 mild_act receives n = true
 mild_act loses n = true
 
-mild : Doing → Ends → Bool
+unfoldable pub mild : Doing → Ends → Bool
 mild (at_near act) e = mild_act act e.near
 mild (at_far act) e = mild_act act e.far
 
-stay_ahead : List Doing → Ends → Bool
+unfoldable pub stay_ahead : List Doing → Ends → Bool
 stay_ahead [] e = true
 stay_ahead (d ∷ ds) e = nat_le e.far.link.r e.near.link.s && nat_le e.near.link.r e.far.link.s && mild d e && stay_ahead ds (doing d e)
 
@@ -62,7 +62,7 @@ unfolding mild
 by-doing (at_near act) e h = by-act act e.near h
 by-doing (at_far act) e h = by-act act e.far h
 
-by-test : (ds : List Doing) (e : Ends) → stay_ahead ds e ≡ true → StayAhead ds e
+pub by-test : (ds : List Doing) (e : Ends) → stay_ahead ds e ≡ true → StayAhead ds e
 unfolding StayAhead stay_ahead
 by-test [] e h = tt
 by-test (d ∷ ds) e h =

@@ -1,5 +1,5 @@
 -- What holds of two links that came from an establishment, and stayed up: all that recovery asks but silence.
-use Rattle.std.proofs.Common.{◌≡◌, ℕ, ◌+◌, ◌≤◌, List, [], ◌∷◌, length, sym, subst, ◌∙◌, true≢false}
+use Rattle.std.proofs.Common.{◌≡◌, ℕ, ◌+◌, ◌≤◌, Bool, false, List, [], ◌∷◌, length, sym, subst, ◌∙◌, true≢false}
 use Rattle.std.specs.Prelude.{All}
 use Rattle.lapd_frame.specs.Grammar.{Parts}
 use Rattle.lapd_link_machine.specs.Link.{Link}
@@ -10,14 +10,14 @@ use Rattle.lapd_link_machine.proofs.TimedRows.{timed-after}
 use Rattle.lapd_link_machine.proofs.Joined.{Joined, joined-first, done-at, ends-agree}
 use Rattle.lapd_link_progress.specs.Heeds.{HeedsIn, Heeds}
 use Rattle.lapd_link_progress.specs.Rounds.{rounds}
-use Rattle.lapd_link_progress.specs.CutOff.{IsCutOff, IsSilent, HasMissing, with_t200_expired}
+use Rattle.lapd_link_progress.specs.CutOff.{IsCutOffWith, IsSilent, IsSilentWith, HasMissing, with_t200_expired}
 use Rattle.lapd_link_progress.proofs.HeedingEvents.{heeds-after}
 use Rattle.lapd_link_progress.proofs.Arriving.{Arrived}
 use Rattle.lapd_link_progress.proofs.Recovery.{all-recovered}
 use Rattle.lapd_link_progress.proofs.Together.{same-after}
 
 -- of one link
-record Sane (l : Link) : Type 0 where
+pub record Sane (l : Link) : Type 0 where
   timed : IsTimed l
   heeds : Heeds l
 
@@ -42,7 +42,7 @@ sane-doing : (d : Doing) (e : Ends) → BothSane e → BothSane (doing d e)
 sane-doing (at_near act) e h = sane-acting act e h
 sane-doing (at_far act) e h = let x = sane-acting act (turned e) (h.1, h.0) in (x.1, x.0)
 
-record Whole (e : Ends) : Type 0 where
+pub record Whole (e : Ends) : Type 0 where
   joined : Joined e.near e.far
   sane : BothSane e
   same : e.near.terms.n201 ≡ e.far.terms.n201
@@ -60,8 +60,8 @@ begins-sane n b timed =
       heeds = record { heeds = subst (λ s. HeedsIn s n.link.peer_busy n.link.running) (sym b.state) (λ busy. absurd (true≢false (sym busy ∙ b.peer_busy))) };
     }
 
-cut-off : (e : Ends) → Whole e → Agree e.far e.near → IsSilent e.near e.far → IsCutOff e.near e.far
-cut-off e h agree silent =
+pub cut-off : (own : Bool) (e : Ends) → Whole e → Agree e.far e.near → IsSilentWith own e.near e.far → IsCutOffWith own e.near e.far
+cut-off own e h agree silent =
     record {
       ranges = h.joined.near_ranges;
       sound = h.joined.near_sound;
@@ -78,8 +78,8 @@ cut-off e h agree silent =
       sizes = subst (λ i. All (λ octets. length octets ≤ i) e.near.link.contents) h.same h.joined.near_sound.sizes;
     }
 
-cut-off-far : (e : Ends) → Whole e → Agree e.near e.far → IsSilent e.far e.near → IsCutOff e.far e.near
-cut-off-far e h agree silent =
+pub cut-off-far : (own : Bool) (e : Ends) → Whole e → Agree e.near e.far → IsSilentWith own e.far e.near → IsCutOffWith own e.far e.near
+cut-off-far own e h agree silent =
     record {
       ranges = h.joined.far_ranges;
       sound = h.joined.far_sound;
@@ -96,12 +96,17 @@ cut-off-far e h agree silent =
       sizes = subst (λ i. All (λ octets. length octets ≤ i) e.far.link.contents) (sym h.same) h.joined.far_sound.sizes;
     }
 
+pub whole-first : (ds : List Doing) (e : Ends) → Begins e.near → Begins e.far → IsTimed e.near.link → IsTimed e.far.link → e.near.terms.n201 ≡ e.far.terms.n201 → StayUp ds e
+    → Whole (doing_all ds e)
+whole-first ds e b c tb tc same up =
+    all-whole ds e up (record { joined = joined-first e.near e.far b c; sane = (begins-sane e.near b tb, begins-sane e.far c tc); same = same })
+
 pub reached : (ds : List Doing) (u : ℕ) (e : Ends) → Begins e.near → Begins e.far → IsTimed e.near.link → IsTimed e.far.link
     → e.near.terms.n201 ≡ e.far.terms.n201 → StayUp ds e
     → IsSilent (doing_all ds e).near (doing_all ds e).far → IsSilent (doing_all ds e).far (doing_all ds e).near
     → HasMissing u (doing_all ds e).near (doing_all ds e).far → HasMissing u (doing_all ds e).far (doing_all ds e).near
     → Arrived (doing_all ds e).near.link.contents (doing_all ds e).far.link.contents (rounds (u + 3) (with_t200_expired (doing_all ds e)))
 reached ds u e b c tb tc same up sn sf un uf =
-    let h = all-whole ds e up (record { joined = joined-first e.near e.far b c; sane = (begins-sane e.near b tb, begins-sane e.far c tc); same = same }) in
+    let h = whole-first ds e b c tb tc same up in
     let agree = ends-agree ds e b c up in
-    all-recovered u (doing_all ds e) (cut-off (doing_all ds e) h agree.1 sn) (cut-off-far (doing_all ds e) h agree.0 sf) un uf
+    all-recovered u (doing_all ds e) (cut-off false (doing_all ds e) h agree.1 sn) (cut-off-far false (doing_all ds e) h agree.0 sf) un uf

@@ -94,20 +94,21 @@ pub ready-7 : (n : End) (a s : ℕ) (p : Bool) (running : Option LinkTimer) (ds 
 ready-7 n a s p running ds ranges sound =
     record { ranges = ranges; sound = sound; state = refl; peer_busy = refl; own_busy = refl; waiting = refl; way = refl }
 
+-- room for a frame, and for a second one
+pub room-0 : (x : End) → IsInRange x.terms → nat_lt 0 x.terms.control ≡ true
+room-0 x h = let low : 2 ≤ x.terms.control = h.control_low in lt-ltb 0 x.terms.control (omega arith)
+
+pub room-1 : (x : End) → IsInRange x.terms → nat_lt 1 x.terms.control ≡ true
+room-1 x h = let low : 2 ≤ x.terms.control = h.control_low in lt-ltb 1 x.terms.control (omega arith)
+
+-- the other's V(R), from V(A) on and from itself on
+pub names-a : (x y : End) {v : ℕ} {cs : List (List ℕ)} → Between v cs x y → named x.link.a x.link.s (seq y.link.r) ≡ Some y.link.r
+names-a x y h = named-number x.link.a x.link.s y.link.r h.low h.high h.near
+
+pub names-r : (x y : End) {v : ℕ} {cs : List (List ℕ)} → Between v cs x y → named y.link.r x.link.s (seq y.link.r) ≡ Some y.link.r
+names-r x y h = let low : x.link.a ≤ y.link.r = h.low in let near : x.link.s ≤ x.link.a + 127 = h.near in named-number y.link.r x.link.s y.link.r (omega arith) h.high (omega arith)
+
 module _ (u : ℕ) (cn cm : List (List ℕ)) (n m : End) (there : Between u cn n m) (back : Between u cm m n) where
-  room-0 : (x : End) → IsInRange x.terms → nat_lt 0 x.terms.control ≡ true
-  room-0 x h = let low : 2 ≤ x.terms.control = h.control_low in lt-ltb 0 x.terms.control (omega arith)
-
-  room-1 : (x : End) → IsInRange x.terms → nat_lt 1 x.terms.control ≡ true
-  room-1 x h = let low : 2 ≤ x.terms.control = h.control_low in lt-ltb 1 x.terms.control (omega arith)
-
-  -- the other's V(R), from V(A) on and from itself on
-  names-a : (x y : End) {v : ℕ} {cs : List (List ℕ)} → Between v cs x y → named x.link.a x.link.s (seq y.link.r) ≡ Some y.link.r
-  names-a x y h = named-number x.link.a x.link.s y.link.r h.low h.high h.near
-
-  names-r : (x y : End) {v : ℕ} {cs : List (List ℕ)} → Between v cs x y → named y.link.r x.link.s (seq y.link.r) ≡ Some y.link.r
-  names-r x y h = let low : x.link.a ≤ y.link.r = h.low in let near : x.link.s ≤ x.link.a + 127 = h.near in named-number y.link.r x.link.s y.link.r (omega arith) h.high (omega arith)
-
   -- Both ask: two rounds.
   module _ (bn bm : Bool) where
     abbrev both_ask : Ends
@@ -128,22 +129,22 @@ module _ (u : ℕ) (cn cm : List (List ℕ)) (n m : End) (there : Between u cn n
     one : near_moves both_ask ≡ ask_1
     one =
         ap (λ y. record { near = in_8 n [] bn n.link.a false n.delivered; far = y })
-        (asked-8 m (enquiry m.link.r ∷ []) bm m.link.a false m.delivered n.terms n.link.r n.link.r (room-1 m back.ranges) (names-a m n back))
+        (asked-8 false m (enquiry m.link.r ∷ []) bm m.link.a false m.delivered n.terms n.link.r n.link.r (room-1 m back.ranges) (names-a m n back))
 
     two : far_moves ask_1 ≡ ask_2
     two =
         ap (λ x. record { near = x; far = in_8 m (reply m.link.r ∷ []) false n.link.r false m.delivered })
-        (asked-8 n [] bn n.link.a false n.delivered m.terms m.link.r m.link.r (room-0 n there.ranges) (names-a n m there))
+        (asked-8 false n [] bn n.link.a false n.delivered m.terms m.link.r m.link.r (room-0 n there.ranges) (names-a n m there))
 
     three : near_moves ask_2 ≡ ask_3
     three =
         ap (λ y. record { near = in_8 n [] false m.link.r false n.delivered; far = y })
-        (answered-8 m (reply m.link.r ∷ []) false n.link.r false m.delivered n.terms n.link.r n.link.r (names-r m n back))
+        (answered-8 false m (reply m.link.r ∷ []) false n.link.r false m.delivered n.terms n.link.r n.link.r (names-r m n back))
 
     four : far_moves ask_3 ≡ both_answered
     four =
         ap (λ x. record { near = x; far = in_7 m [] n.link.r n.link.r false (Some T203) m.delivered })
-        (answered-8 n [] false m.link.r false n.delivered m.terms m.link.r m.link.r (names-r n m there))
+        (answered-8 false n [] false m.link.r false n.delivered m.terms m.link.r m.link.r (names-r n m there))
 
     all-four : far_moves (near_moves (far_moves (near_moves both_ask))) ≡ both_answered
     all-four = ap far_moves (ap near_moves (ap far_moves one ∙ two) ∙ three) ∙ four
@@ -179,12 +180,12 @@ module _ (u : ℕ) (cn cm : List (List ℕ)) (n m : End) (there : Between u cn n
         let high : n.link.r ≤ m.link.s = back.high in
         let at : n.link.r ≡ m.link.a = omega (arith, all) in
         ap (λ y. record { near = in_8 n [] bn n.link.a false n.delivered; far = y })
-        (asked-7 m m.link.a m.link.s p running m.delivered n.terms n.link.r (room-0 m back.ranges) (names-a m n back ∙ ap Some at))
+        (asked-7 false m m.link.a m.link.s p running m.delivered n.terms n.link.r (room-0 m back.ranges) (names-a m n back ∙ ap Some at))
 
     answers : far_moves replies ≡ near_answered
     answers =
         ap (λ x. record { near = x; far = in_7 m [] m.link.a m.link.s false (cond (m.link.a == m.link.s) (Some T203) running) m.delivered })
-        (answered-8 n [] bn n.link.a false n.delivered m.terms m.link.r m.link.r (names-a n m there))
+        (answered-8 false n [] bn n.link.a false n.delivered m.terms m.link.r m.link.r (names-a n m there))
 
     both-turns : far_moves (near_moves near_asks) ≡ near_answered
     both-turns = ap far_moves asks ∙ answers
@@ -238,13 +239,13 @@ module _ (u : ℕ) (cn cm : List (List ℕ)) (n m : End) (there : Between u cn n
           let high : m.link.r ≤ n.link.s = there.high in
           let at : n.link.a ≡ m.link.r = omega (arith, all) in
           ap (λ x. record { near = x; far = in_8 m' [] b a' p ds })
-          (asked-7 n n.link.a s' false running n.delivered m'.terms m.link.r (room-0 n there.ranges)
+          (asked-7 false n n.link.a s' false running n.delivered m'.terms m.link.r (room-0 n there.ranges)
           (subst (λ i. named n.link.a s' (seq i) ≡ Some n.link.a) at (named-number n.link.a s' n.link.a (omega arith) up few)))
 
       answered : near_moves replied ≡ far_answered
       answered =
           ap (λ y. record { near = in_7 n [] n.link.a s' false later n.delivered; far = y })
-          (answered-8 m' [] b a' p ds n.terms n.link.r n.link.r (subst (λ s. named a' s (seq n.link.r) ≡ Some n.link.r) (sym h.sent) h.names))
+          (answered-8 false m' [] b a' p ds n.terms n.link.r n.link.r (subst (λ s. named a' s (seq n.link.r) ≡ Some n.link.r) (sym h.sent) h.names))
 
       last-turns : near_moves (far_moves (heard m' s' a' b p running ds)) ≡ far_answered
       last-turns = ap near_moves asked ∙ answered
@@ -290,7 +291,7 @@ module _ (u : ℕ) (cn cm : List (List ℕ)) (n m : End) (there : Between u cn n
           let unsent : n.link.s < length n.link.contents = ltb-true n.link.s (length n.link.contents) parts.1 in
           let octets = unwrap_or (slice_get n.link.contents n.link.s) [] in
           let next : near_moves far_asks ≡ heard (with_one_more m) (n.link.s + 1) n.link.r bm true (with_information n.link).running (m.delivered ++ octets ∷ []) =
-          ap (λ x. record { near = with_first_lost x; far = with_first_of x.way (in_8 m (enquiry m.link.r ∷ []) bm m.link.a false m.delivered) }) (gives-information n may)
+          ap (λ x. record { near = with_first_lost x; far = with_first_of x.way (in_8 m (enquiry m.link.r ∷ []) bm m.link.a false m.delivered) }) (gives-information false false n may)
           ∙ ap (λ y. record { near = record n { link = with_information n.link; way = [] }; far = y })
           (informed-8 m (enquiry m.link.r ∷ []) bm m.link.a false m.delivered n.terms n.link n.link.r
           (le-ltb m.terms.n201 (length octets) (fits-at m.terms.n201 n.link.contents n.link.s there.sizes))
@@ -314,9 +315,9 @@ module _ (u : ℕ) (cn cm : List (List ℕ)) (n m : End) (there : Between u cn n
       by-acknowledgement : Offers.may_send_information n.terms (plain n.link) ≡ false → n.link.pending ≡ true → Sounds far_asks → Recovered u cn cm (near_moves (far_moves (near_moves far_asks)))
       by-acknowledgement may owed sounds =
           let next : near_moves far_asks ≡ heard m n.link.s n.link.r false false n.link.running m.delivered =
-          ap (λ x. record { near = with_first_lost x; far = with_first_of x.way (in_8 m (enquiry m.link.r ∷ []) bm m.link.a false m.delivered) }) (gives-acknowledgement n may owed)
+          ap (λ x. record { near = with_first_lost x; far = with_first_of x.way (in_8 m (enquiry m.link.r ∷ []) bm m.link.a false m.delivered) }) (gives-acknowledgement false false n may owed)
           ∙ ap (λ y. record { near = record n { link = with_acknowledgement n.link; way = [] }; far = y })
-          (acknowledged-8 m (enquiry m.link.r ∷ []) bm m.link.a false m.delivered n.terms n.link n.link.r (names-a m n back)) in
+          (acknowledged-8 false m (enquiry m.link.r ∷ []) bm m.link.a false m.delivered n.terms n.link n.link.r (names-a m n back)) in
           subst (λ e. Recovered u cn cm (near_moves (far_moves e))) (sym next)
           (far-recovered m n.link.s n.link.r false false n.link.running m.delivered (omega (arith, at-r, there.low)) there.near
           (record {
@@ -333,7 +334,7 @@ module _ (u : ℕ) (cn cm : List (List ℕ)) (n m : End) (there : Between u cn n
       by-nothing : Offers.may_send_information n.terms (plain n.link) ≡ false → n.link.pending ≡ false → Sounds far_asks → Recovered u cn cm (near_moves (far_moves (near_moves far_asks)))
       by-nothing may owed sounds =
           let next : near_moves far_asks ≡ heard m n.link.s m.link.a bm false n.link.running m.delivered =
-          ap (λ x. record { near = with_first_lost x; far = with_first_of x.way (in_8 m (enquiry m.link.r ∷ []) bm m.link.a false m.delivered) }) (gives-nothing n may owed) in
+          ap (λ x. record { near = with_first_lost x; far = with_first_of x.way (in_8 m (enquiry m.link.r ∷ []) bm m.link.a false m.delivered) }) (gives-nothing false false n may owed) in
           subst (λ e. Recovered u cn cm (near_moves (far_moves e))) (sym next)
           (far-recovered m n.link.s m.link.a bm false n.link.running m.delivered (omega (arith, at-r, there.low)) there.near
           (record {

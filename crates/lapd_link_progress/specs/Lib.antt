@@ -8,7 +8,9 @@ pub mod Heeds
 pub mod Needed
 pub mod Rounds
 pub mod CutOff
+pub mod OwnBusy
 pub mod WorkedRounds
+pub mod WorkedOwnBusy
 pub mod WorkedUntimely
 pub mod Ahead
 pub mod Timely

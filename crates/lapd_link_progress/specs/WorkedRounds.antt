@@ -10,13 +10,13 @@ use Rattle.lapd_link_machine.specs.WorkedEnds.{both}
 use Rattle.lapd_link_progress.specs.Rounds.{rounds}
 use Rattle.lapd_link_progress.specs.CutOff.{with_t200_expired}
 
-abbrev near_asked : ℕ → Doing
+abbrev pub near_asked : ℕ → Doing
 near_asked n = at_near (asks (Data (n ∷ [])) false)
 
-abbrev far_asked : ℕ → Doing
+abbrev pub far_asked : ℕ → Doing
 far_asked n = at_far (asks (Data (n ∷ [])) false)
 
-abbrev octets : List (List ℕ)
+abbrev pub octets : List (List ℕ)
 octets = (1 ∷ []) ∷ (2 ∷ []) ∷ (3 ∷ []) ∷ []
 
 -- Three contents at near, two at far, none sent: four rounds are enough.

@@ -3,17 +3,19 @@
 //!
 //! `specs/` has the statements: what waits and what goes (`Waits`), polls and their answers (`Polls`), I-frames out of
 //! sequence (`Gaps`), a busy terminal (`Heeds`), the timer that a link needs (`Needed`), two ends in rounds (`Rounds`),
-//! two ends whose frames were lost (`CutOff`), what keeps two links up (`Ahead`, `Timely`); and worked values that
-//! compute (`WorkedPolls`, `WorkedGaps`, `WorkedRounds`, `WorkedTimely`, and `WorkedUntimely`, a run in which T200 is too
-//! short). `docs/PROGRESS.md` says it in words.
+//! two ends whose frames were lost (`CutOff`), an end that is busy itself (`OwnBusy`), what keeps two links up (`Ahead`,
+//! `Timely`); and worked values that compute (`WorkedPolls`, `WorkedGaps`, `WorkedRounds`, `WorkedOwnBusy`, `WorkedTimely`,
+//! and `WorkedUntimely`, a run in which T200 is too short). `docs/PROGRESS.md` says it in words.
 //!
 //! - `laws`: what waits, polls, and two links that face each other;
 //! - `gaps`: what a link does where I-frames are missing;
+//! - `own_busy`: two links of which one is busy itself;
 //! - `timers`: which timer a link runs.
 #![tactic(auto)]
 
 mod gaps;
 mod laws;
+mod own_busy;
 mod timers;
 
 pub use gaps::gaps_are_rejected;
@@ -21,4 +23,5 @@ pub use laws::{
     busy_is_heeded, contents_arrive, links_stay_up, losses_are_recovered, nothing_is_held_back,
     polls_are_answered, stay_up_while_ahead,
 };
+pub use own_busy::{busy_ends_are_heard, busy_ends_recover};
 pub use timers::runs_what_it_needs;

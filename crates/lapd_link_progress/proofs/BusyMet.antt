@@ -1,0 +1,87 @@
+-- The premises of the laws on an end that is busy itself are met: by a link where own busy has begun, and by the worked run in
+-- which RNR and all frames are lost.
+use Rattle.std.proofs.Common.{true, false, List, [], ◌∷◌, length, refl, arith}
+use Rattle.std.proofs.lemmas.Bool.{ltb-true, leb-true}
+use Rattle.lapd_seq.specs.Numbers.{seq}
+use Rattle.lapd_seq.specs.Circle.{distance_of, named}
+use Rattle.lapd_frame.specs.Reading.{supervisory_of, unnumbered_of, control_of, header_of, reading}
+use Rattle.lapd_link_machine.specs.Events.{SetBusy, requested, offer}
+use Rattle.lapd_link_machine.specs.Machine.{after_all}
+use Rattle.lapd_link_machine.specs.Worked.{usual, up}
+use Rattle.lapd_link_machine.specs.TwoEnds.{Ends, asks, sends, receives, Doing, at_near, at_far, doing_all, StayUp}
+use Rattle.lapd_link_machine.specs.WorkedEnds.{both}
+use Rattle.lapd_link_machine.proofs.Premises.{begins}
+use Rattle.lapd_link_machine.proofs.SoundEvents.{sound-all}
+use Rattle.lapd_link_progress.specs.Ahead.{StayAhead}
+use Rattle.lapd_link_progress.specs.Rounds.{IsTaken, HasUnsent}
+use Rattle.lapd_link_progress.specs.CutOff.{IsSilent, IsSilentWith, HasMissing}
+use Rattle.lapd_link_progress.specs.OwnBusy.{IsBusyItself, IsDropped}
+use Rattle.lapd_link_progress.specs.WorkedOwnBusy.{busy_losing, busy_cut_off}
+use Rattle.lapd_link_progress.proofs.PremisesMet.{by-test, stay_ahead, mild, mild_act, mild_request}
+use Rattle.lapd_link_progress.proofs.Together.{all-stay_up}
+
+-- the run in which all are lost
+busy-losing-ahead : StayAhead busy_losing both
+unfolding seq distance_of named reading header_of control_of unnumbered_of supervisory_of after_all stay_ahead mild mild_act mild_request
+busy-losing-ahead = by-test busy_losing both refl
+
+pub busy-losing-up : StayUp busy_losing both
+busy-losing-up = all-stay_up busy_losing both begins begins refl busy-losing-ahead
+
+pub near-silent : IsSilentWith true busy_cut_off.near busy_cut_off.far
+unfolding seq distance_of named reading header_of control_of unnumbered_of supervisory_of after_all doing_all
+near-silent =
+    record {
+      repeats = λ e. ltb-true busy_cut_off.near.link.repeats busy_cut_off.near.terms.n200 refl;
+      own_busy = refl;
+      waiting = refl;
+      way = refl;
+      high = leb-true busy_cut_off.far.link.r busy_cut_off.near.link.s refl;
+    }
+
+pub far-silent : IsSilent busy_cut_off.far busy_cut_off.near
+unfolding seq distance_of named reading header_of control_of unnumbered_of supervisory_of after_all doing_all
+far-silent =
+    record {
+      repeats = λ e. ltb-true busy_cut_off.far.link.repeats busy_cut_off.far.terms.n200 refl;
+      own_busy = refl;
+      waiting = refl;
+      way = refl;
+      high = leb-true busy_cut_off.near.link.r busy_cut_off.far.link.s refl;
+    }
+
+pub near-missing : HasMissing 3 busy_cut_off.near busy_cut_off.far
+unfolding seq distance_of named reading header_of control_of unnumbered_of supervisory_of after_all doing_all
+near-missing = leb-true (length busy_cut_off.near.link.contents) 3 refl
+
+-- own busy has begun, and the other has heard of it
+abbrev begun : List Doing
+begun = at_near (asks SetBusy false) ∷ at_near sends ∷ at_far receives ∷ []
+
+abbrev busy_now : Ends
+busy_now = doing_all begun both
+
+pub is-busy : IsBusyItself busy_now.near
+unfolding seq distance_of named reading header_of control_of unnumbered_of supervisory_of after_all doing_all
+is-busy =
+    record {
+      ranges = begins.ranges;
+      sound = sound-all usual begins.ranges (requested SetBusy false ∷ offer ∷ []) up begins.sound;
+      state = refl;
+      peer_busy = refl;
+      own_busy = refl;
+      waiting = refl;
+      way = refl;
+    }
+
+pub is-taken : IsTaken busy_now.near busy_now.far
+unfolding seq distance_of named reading header_of control_of unnumbered_of supervisory_of after_all doing_all
+is-taken = record { received = refl; delivered = refl; owed = λ less. absurd (omega (arith, less)); sizes = begins.sound.sizes }
+
+pub is-dropped : IsDropped busy_now.near busy_now.far
+unfolding seq distance_of named reading header_of control_of unnumbered_of supervisory_of after_all doing_all
+is-dropped = record { low = leb-true 0 0 refl; high = leb-true 0 0 refl; sizes = begins.sound.sizes }
+
+pub unsent : HasUnsent 0 busy_now.near
+unfolding seq distance_of named reading header_of control_of unnumbered_of supervisory_of after_all doing_all
+unsent = leb-true (length busy_now.near.link.contents) 0 refl

@@ -15,6 +15,7 @@ ghost use Rattle.lapd_card_machine.specs.Laws.{RefusedByTheTable, RunIsMoments};
 ghost use Rattle.lapd_card_machine.specs.Promises.{IsWithinLimit, IsAmortised, IsAmortisedFromZero, HasSixOctetsAFrame, HasSevenOctetsAReject, IsLinear, IsIsolated, IsNeverFull, IsNumbered, IsNumberedFromZero, IsTextual};
 ghost use Rattle.lapd_card_laws.specs.Promises.{IsKept, IsCountedIn, BeginsEmpty, IsServedIn, UnitsWaitAll, TurnsStay, AreHeeded, TakeEffect, ExpiriesTakeEffectIn, AreSteady, IsDelivered, RunsWhatIsNeeded, NeedsNone};
 ghost use Rattle.lapd_card_laws.specs.Promises.{NotesTell, TeisAreTold, BeginsDown, TeisHaveOnePlace, BegunIsTold};
+ghost use Rattle.lapd_card_laws.specs.Promises.{MessagesHaveCauses, ToldTeisAreThere};
 ghost use Rattle.lapd_card.specs.Sink.{one_failure_more};
 ghost use Rattle.lapd_card.specs.Stands.{Stands, Leads};
 
@@ -80,6 +81,15 @@ impl<S: Shelf> Card<S> {
     ///   5.6.1, 5.6.4, 5.6.6, 5.6.7 and 5.7).
     /// - `begun_is_told`: in every moment the reply says that a pull began a frame exactly where it did: the frame stands
     ///   behind what was on the line, and the octet pulled has its first bit (clause 2.2).
+    /// - `messages_have_causes`: in every moment a message of TEI management comes to wait, behind those that wait, exactly
+    ///   where an octet ends an identity request (the TEI that is remembered for its Ri; else the lowest from 64 on that is
+    ///   not on the line, which comes to the line; else, where no place is free, a denial), a verify of a TEI on the line
+    ///   while none is checked, or the second answer of a period to a check, whose TEI leaves; where T201 expires in the
+    ///   first period of a check; or where a check or a removal is granted; or the answer counts it as lost, since four
+    ///   wait, and then a request assigns nothing. All else leaves what waits, but for a pull, and changes no TEI, no
+    ///   assignment that is remembered and no check (clauses 5.3.2 to 5.3.5).
+    /// - `told_teis_are_there`: in every moment a TEI that comes to wait to be told to a terminal is on the line; it leaves
+    ///   again only as `teis_are_told` says.
     /// - `heard_is_delivered`: in every moment an octet that ends a frame which spells the SAPI of a service and a TEI on
     ///   the line is an event of that link and of no other, and one that ends no frame changes nothing but what was
     ///   received; contents are handed on only of an I-frame or a UI that an octet ends, whose information they are, with
@@ -174,6 +184,10 @@ impl<S: Shelf> Card<S> {
             → ExpiriesTakeEffectIn m (events_of events.now) }
         ensures links_are_steady { (m : machine.Card) → Stands S.store self.old m → AreSteady m (events_of events.now) }
         ensures begun_is_told { (m : machine.Card) → Stands S.store self.old m → BegunIsTold m (events_of events.now) }
+        ensures messages_have_causes { (m : machine.Card) → Stands S.store self.old m
+            → MessagesHaveCauses m (events_of events.now) }
+        ensures told_teis_are_there { (m : machine.Card) → Stands S.store self.old m
+            → ToldTeisAreThere m (events_of events.now) }
         ensures heard_is_delivered { (m : machine.Card) → Stands S.store self.old m → IsDelivered m (events_of events.now) }
 
         // After every front of the list, from every card or, where it says `fresh`, from one that has just begun.

@@ -9,3 +9,4 @@ pub mod Happening
 pub mod Watching
 pub mod Knowing
 pub mod Beginning
+pub mod Causing

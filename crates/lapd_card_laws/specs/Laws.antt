@@ -6,7 +6,7 @@ use Rattle.lapd_card_machine.specs.Event.{Event}
 use Rattle.lapd_card_machine.specs.Machine.{after}
 use Rattle.lapd_card_machine.specs.Run.{IsAtLine, AreAtLines}
 use Rattle.lapd_card_machine.specs.Sound.{IsSound}
-use Rattle.lapd_card_laws.specs.Promises.{IsKept, IsCountedIn, BeginsEmpty, IsServedIn, UnitsWaitAll, TurnsStay, AreHeeded, TakeEffect, ExpiriesTakeEffectIn, AreSteady, IsDelivered, RunsWhatIsNeeded, NeedsNone, NotesTell, TeisAreTold, BeginsDown, TeisHaveOnePlace, BegunIsTold}
+use Rattle.lapd_card_laws.specs.Promises.{IsKept, IsCountedIn, BeginsEmpty, IsServedIn, UnitsWaitAll, TurnsStay, AreHeeded, TakeEffect, ExpiriesTakeEffectIn, AreSteady, IsDelivered, RunsWhatIsNeeded, NeedsNone, NotesTell, TeisAreTold, BeginsDown, TeisHaveOnePlace, BegunIsTold, MessagesHaveCauses, ToldTeisAreThere}
 use Rattle.lapd_card_laws.specs.Timers.{AllHaveTheirTimers}
 
 pub record NothingIsLost : Type 0 where
@@ -48,3 +48,7 @@ BegunIsTrue = (card : Card) (events : List Event) → IsSound card → AreAtLine
 
 abbrev pub ExpiriesTakeEffect : Type 0
 ExpiriesTakeEffect = (card : Card) (events : List Event) → IsSound card → AreAtLines card events → ExpiriesTakeEffectIn card events
+
+pub record CausesAreKnown : Type 0 where
+  pub causes : (card : Card) (events : List Event) → IsSound card → AreAtLines card events → MessagesHaveCauses card events
+  pub there : (card : Card) (events : List Event) → IsSound card → AreAtLines card events → ToldTeisAreThere card events

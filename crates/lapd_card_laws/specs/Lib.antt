@@ -3,6 +3,7 @@ pub mod Contents
 pub mod Faithful
 pub mod Knowledge
 pub mod Begun
+pub mod Messages
 pub mod Promises
 pub mod Timers
 pub mod Laws

@@ -17,6 +17,7 @@ use Rattle.lapd_card_laws.specs.Contents.{link_named, begun, history, accepted_a
 use Rattle.lapd_card_laws.specs.Faithful.{IsFaithful, UnitsWaitIn, TurnStaysIn, IsHeededIn, TakesEffectIn, ExpiryTakesEffectIn, IsSteadyIn, IsHeardIn}
 use Rattle.lapd_card_laws.specs.Begun.{IsBegunIn}
 use Rattle.lapd_card_laws.specs.Knowledge.{up_by_notes, on_by_notes}
+use Rattle.lapd_card_laws.specs.Messages.{HaveCausesIn, AreThereIn}
 use Rattle.lapd_card_laws.specs.Timers.{runs_at_callers}
 
 -- In every moment nothing that was accepted is lost silently.
@@ -105,3 +106,11 @@ TeisHaveOnePlace m events =
 -- In every moment the answer says that a frame was begun exactly where one was: the octet pulled has its first bit.
 abbrev pub BegunIsTold : Card → List Event → Type 0
 BegunIsTold m events = All IsBegunIn (moments m events)
+
+-- In every moment each message of TEI management that comes to wait has its cause, and each cause its message;
+abbrev pub MessagesHaveCauses : Card → List Event → Type 0
+MessagesHaveCauses m events = All HaveCausesIn (moments m events)
+
+-- and a TEI that is told to a terminal is on its line when the message comes to wait.
+abbrev pub ToldTeisAreThere : Card → List Event → Type 0
+ToldTeisAreThere m events = All AreThereIn (moments m events)

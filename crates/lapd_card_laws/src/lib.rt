@@ -4,14 +4,16 @@
 //! The machine itself, and the laws that say what a card never does, stand in `lapd_card_machine`; the laws of a line in
 //! `lapd_line_laws`, and those of a link in `lapd_link_laws`. `specs/` has the contents of the links from moment to moment
 //! (`Contents`), what holds in a moment (`Faithful`), what is promised of a list of events (`Promises`), which timers
-//! a caller runs (`Timers`), what notes tell (`Knowledge`), which frames pulls begin (`Begun`), the laws, which say of
-//! which cards and lists (`Laws`), and worked values (`Worked`, `WorkedTimers`, `WorkedNotes`). Each law is the contract
-//! of a call that does nothing, and the call of a card that runs a list of events cites the promises.
+//! a caller runs (`Timers`), what notes tell (`Knowledge`), which frames pulls begin (`Begun`), why messages of TEI
+//! management come to wait (`Messages`), the laws, which say of which cards and lists (`Laws`), and worked values
+//! (`Worked`, `WorkedTimers`, `WorkedNotes`). Each law is the contract of a call that does nothing, and the call of a card
+//! that runs a list of events cites the promises.
 //!
-//! - `laws`, `timers`, `notes`: the laws.
+//! - `laws`, `timers`, `notes`, `management`: the laws.
 #![tactic(auto)]
 
 mod laws;
+mod management;
 mod notes;
 mod timers;
 
@@ -19,5 +21,6 @@ pub use laws::{
     expiries_take_effect, frames_are_heeded, heard_is_delivered, links_are_steady, nothing_is_lost,
     pulls_serve, requests_take_effect,
 };
+pub use management::messages_have_causes;
 pub use notes::{begun_is_true, notes_tell};
 pub use timers::timers_follow;

@@ -21,3 +21,6 @@ pub mod Knowing
 pub mod KnowingTeis
 pub mod Beginning
 pub mod Expiring
+pub mod Messaging
+pub mod Causing
+pub mod Telling

@@ -24,10 +24,10 @@ use Rattle.lapd_line_laws.specs.Share.{is_granted}
 use Rattle.lapd_line_laws.proofs.Asked.{passed}
 use Rattle.lapd_line_laws.proofs.Granting.{not-refused}
 
-by-two : (a b : Bool) (x y : Refusal) → a ≡ false → b ≡ false → teis.refusal_if a x (teis.refusal_if b y None) ≡ None
+pub by-two : (a b : Bool) (x y : Refusal) → a ≡ false → b ≡ false → teis.refusal_if a x (teis.refusal_if b y None) ≡ None
 by-two a b x y e e' = rw (e, e') refl
 
-by-three : (a b d : Bool) (x y z : Refusal) → a ≡ false → b ≡ false → d ≡ false → teis.refusal_if a x (teis.refusal_if b y (teis.refusal_if d z None)) ≡ None
+pub by-three : (a b d : Bool) (x y z : Refusal) → a ≡ false → b ≡ false → d ≡ false → teis.refusal_if a x (teis.refusal_if b y (teis.refusal_if d z None)) ≡ None
 by-three a b d x y z e e' e'' = rw (e, e', e'') refl
 
 -- what is not refused has its effect
@@ -46,7 +46,7 @@ module _ (c : Config) (l : Line) where
   m : Management
   m = l.management
 
-  managed : (e : teis.Event) → (of_aim c (at_management e) l).line.management ≡ teis.after e l.management
+  pub managed : (e : teis.Event) → (of_aim c (at_management e) l).line.management ≡ teis.after e l.management
   managed e = by-change (teis.told e l.management).change
     where
       by-change : (o : Option Change) → (of_change c o (told_of_management (teis.told e l.management)) (record l { management = teis.after e l.management })).line.management ≡ teis.after e l.management

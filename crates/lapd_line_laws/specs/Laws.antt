@@ -19,6 +19,7 @@ use Rattle.lapd_line_laws.specs.Steady.{Happens}
 use Rattle.lapd_line_laws.specs.Expiries.{ExpiryTakesEffect}
 use Rattle.lapd_line_laws.specs.Heard.{Ends, IsFor, IsOneEvent, IsNoEvent, contents_in, IsHeard}
 use Rattle.lapd_line_laws.specs.Begun.{says_begun, BeginsAs}
+use Rattle.lapd_line_laws.specs.Causes.{HaveCauses, AreThere}
 use Rattle.lapd_line_laws.specs.Knowledge.{is_up_of, taken_for_up, taken_for_on}
 use Rattle.lapd_line_laws.specs.Timers.{is_needed, runs_then, HaveTheirTimers}
 
@@ -91,3 +92,8 @@ BegunIsTrue = (c : Config) (e : Event) (l : Line) → IsInRange c → IsSound c 
 -- The expiry of a link's timer that runs has its effect at this link.
 abbrev pub ExpiriesTakeEffect : Type 0
 ExpiriesTakeEffect = (c : Config) (e : Event) (l : Line) → IsSound c l → ExpiryTakesEffect c e l (after c e l) (answer c e l)
+
+-- Messages of TEI management have their causes, and a TEI that is told to a terminal is on the line.
+pub record MessagesHaveCauses : Type 0 where
+  pub causes : (c : Config) (e : Event) (l : Line) → IsInRange c → IsSound c l → HaveCauses c e l (after c e l) (answer c e l)
+  pub there : (c : Config) (e : Event) (l : Line) → IsInRange c → IsSound c l → AreThere l (after c e l)

@@ -10,8 +10,11 @@ pub mod Steady
 pub mod Knowledge
 pub mod Begun
 pub mod Expiries
+pub mod Messages
+pub mod Causes
 pub mod Laws
 pub mod Worked
 pub mod WorkedPulls
 pub mod WorkedHeard
 pub mod WorkedLinks
+pub mod WorkedMessages

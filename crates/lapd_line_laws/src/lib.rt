@@ -6,13 +6,15 @@
 //! (`Share`), how layer 3 learns that a link keeps nothing (`Loss`), what a pull begins (`Pulls`), what an octet brings
 //! (`Heard`), what a frame makes of its link (`Frames`), which timers are needed and which a caller runs (`Timers`),
 //! what comes of a request that is granted (`Requests`), what an event may change of a link (`Steady`), what notes tell
-//! (`Knowledge`), which frames pulls begin (`Begun`), the laws (`Laws`), and worked values (`Worked`, `WorkedPulls`,
-//! `WorkedHeard`, `WorkedLinks`). Each law is the contract of a call that does nothing.
+//! (`Knowledge`), which frames pulls begin (`Begun`), what TEI management does, row by row (`Messages`), and which event is
+//! the cause (`Causes`), the laws (`Laws`), and worked values (`Worked`, `WorkedPulls`, `WorkedHeard`, `WorkedLinks`,
+//! `WorkedMessages`). Each law is the contract of a call that does nothing.
 //!
-//! - `laws`, `timers`, `notes`: the laws.
+//! - `laws`, `timers`, `notes`, `management`: the laws.
 #![tactic(auto)]
 
 mod laws;
+mod management;
 mod notes;
 mod timers;
 
@@ -20,5 +22,6 @@ pub use laws::{
     expiries_take_effect, frames_are_heeded, heard_is_delivered, links_are_steady, nothing_is_lost,
     pulls_serve, requests_take_effect,
 };
+pub use management::messages_have_causes;
 pub use notes::{begun_is_true, notes_tell};
 pub use timers::timers_follow;

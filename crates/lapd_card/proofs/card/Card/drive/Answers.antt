@@ -16,7 +16,7 @@ use Rattle.lapd_card_machine.proofs.Refusals.{refused_by_the_table}
 use Rattle.lapd_card_machine.proofs.ByEvent.{frames_by_event}
 use Rattle.lapd_card_machine.proofs.Drops.{drops_cost_nothing, drops_change_nothing}
 use Rattle.lapd_card_machine.specs.Promises.{IsWithinLimit, IsAmortised, IsAmortisedFromZero, HasSixOctetsAFrame, HasSevenOctetsAReject, IsLinear, IsIsolated, IsNeverFull, IsNumbered, IsNumberedFromZero, IsTextual}
-use Rattle.lapd_card_laws.specs.Promises.{IsKept, IsCountedIn, IsServedIn, UnitsWaitAll, TurnsStay, AreHeeded, TakeEffect, ExpiriesTakeEffectIn, AreSteady, IsDelivered, RunsWhatIsNeeded, NotesTell, TeisAreTold, TeisHaveOnePlace, BegunIsTold}
+use Rattle.lapd_card_laws.specs.Promises.{IsKept, IsCountedIn, IsServedIn, UnitsWaitAll, TurnsStay, AreHeeded, TakeEffect, ExpiriesTakeEffectIn, AreSteady, IsDelivered, RunsWhatIsNeeded, NotesTell, TeisAreTold, TeisHaveOnePlace, BegunIsTold, MessagesHaveCauses, ToldTeisAreThere}
 use Rattle.lapd_card_laws.proofs.Keeping.{kept, run-counted, begins-empty}
 use Rattle.lapd_card_laws.proofs.Serving.{served-in, units-all, turns-stay}
 use Rattle.lapd_card_laws.proofs.Hearing.{heard-all}
@@ -24,6 +24,7 @@ use Rattle.lapd_card_laws.proofs.Heeding.{heeded-all}
 use Rattle.lapd_card_laws.proofs.Granting.{effect-all, expiries-all}
 use Rattle.lapd_card_laws.proofs.Happening.{steady-all}
 use Rattle.lapd_card_laws.proofs.Beginning.{begun-told}
+use Rattle.lapd_card_laws.proofs.Causing.{caused-all, there-all}
 use Rattle.lapd_card_laws.proofs.Knowing.{up-known, on-known, down-at-first, one-place}
 use Rattle.lapd_card_laws.proofs.TimersRun.{needed-run, needs-none}
 use Rattle.lapd_card.proofs.Headline.{whole_list, each_front, timely_front, fresh_front}
@@ -254,3 +255,15 @@ returns-clause-expiries_take_effect g c = λ m. whole_list g.S.Shelf.store c.arg
 
 pub returns-then-is_err-clause-expiries_take_effect : goal.returns-then-is_err-clause-expiries_take_effect
 returns-then-is_err-clause-expiries_take_effect g c = λ m. whole_list g.S.Shelf.store c.args.self.now c.args.events.now c.requires ExpiriesTakeEffectIn expiries-all m
+
+pub returns-clause-messages_have_causes : goal.returns-clause-messages_have_causes
+returns-clause-messages_have_causes g c = λ m. whole_list g.S.Shelf.store c.args.self.now c.args.events.now c.requires MessagesHaveCauses caused-all m
+
+pub returns-clause-told_teis_are_there : goal.returns-clause-told_teis_are_there
+returns-clause-told_teis_are_there g c = λ m. whole_list g.S.Shelf.store c.args.self.now c.args.events.now c.requires ToldTeisAreThere there-all m
+
+pub returns-then-is_err-clause-messages_have_causes : goal.returns-then-is_err-clause-messages_have_causes
+returns-then-is_err-clause-messages_have_causes g c = λ m. whole_list g.S.Shelf.store c.args.self.now c.args.events.now c.requires MessagesHaveCauses caused-all m
+
+pub returns-then-is_err-clause-told_teis_are_there : goal.returns-then-is_err-clause-told_teis_are_there
+returns-then-is_err-clause-told_teis_are_there g c = λ m. whole_list g.S.Shelf.store c.args.self.now c.args.events.now c.requires ToldTeisAreThere there-all m

@@ -1,0 +1,12 @@
+-- Why messages of TEI management come to wait, in a moment of a run.
+use Rattle.lapd_line_laws.specs.Causes.{HaveCauses, AreThere}
+use Rattle.lapd_card_machine.specs.Run.{Moment}
+use Rattle.lapd_card_laws.specs.Contents.{line_before, line_after}
+
+-- Each message that comes to wait at the line of the event has its cause, and each cause its message.
+abbrev pub HaveCausesIn : Moment → Type 0
+HaveCausesIn m = HaveCauses m.card.config m.event.what (line_before m) (line_after m) m.answer
+
+-- A TEI that is told to a terminal there is on that line.
+abbrev pub AreThereIn : Moment → Type 0
+AreThereIn m = AreThere (line_before m) (line_after m)

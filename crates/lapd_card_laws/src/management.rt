@@ -1,0 +1,14 @@
+//! What TEI management of a card says to the terminals, and why. The law is the contract of a call that does nothing.
+
+ghost use Rattle.lapd_card_laws.specs.Laws.{CausesAreKnown};
+
+/// In every moment of a run each message of TEI management that comes to wait has its cause, and each cause its message: an
+/// identity request, which the TEI remembered for its Ri answers, else the lowest TEI from 64 on that is not on the line,
+/// which comes to the line, else a denial where no place is free; verify, the expiry of T201 and a granted request for a
+/// check; the second answer of a period, and a granted removal; or the answer counts it as lost, since four wait. All else
+/// puts none there, and changes no TEI, no assignment that is remembered and no check; a pull takes the message that has
+/// waited longest. A TEI that is told to a terminal is on its line when its message comes to wait (Q.921 clauses 5.3.2 to
+/// 5.3.5).
+pub fn messages_have_causes()
+    ensures { CausesAreKnown }
+{}

@@ -1,0 +1,15 @@
+//! What TEI management of a line says to the terminals, and why.
+
+ghost use Rattle.lapd_line_laws.specs.Laws.{MessagesHaveCauses};
+
+/// Each message of TEI management has its cause, and each cause its message. An identity request by an Ri is answered by
+/// exactly one message, behind those that wait: the TEI that this Ri was assigned, as far as that is remembered; else the
+/// lowest TEI from 64 on that is not on the line, which comes to the line; else, where no place is free, a denial; or, where
+/// four wait, the answer counts it as lost, and nothing is assigned. Verify, the expiry of T201 and a granted request of a
+/// check ask for the check of a TEI on the line; the second answer of a period, and a granted request, remove one. All else
+/// puts no message there, and changes no TEI, no assignment that is remembered and no check; a pull takes the message that
+/// has waited longest. And a TEI that is told to a terminal is on the line when its message comes to wait (Q.921 clauses
+/// 5.3.2 to 5.3.5).
+pub fn messages_have_causes()
+    ensures { MessagesHaveCauses }
+{}

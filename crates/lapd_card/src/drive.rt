@@ -16,6 +16,7 @@ ghost use Rattle.lapd_card_machine.specs.Promises.{IsWithinLimit, IsAmortised, I
 ghost use Rattle.lapd_card_laws.specs.Promises.{IsKept, IsCountedIn, BeginsEmpty, IsServedIn, UnitsWaitAll, TurnsStay, AreHeeded, TakeEffect, ExpiriesTakeEffectIn, AreSteady, IsDelivered, RunsWhatIsNeeded, NeedsNone};
 ghost use Rattle.lapd_card_laws.specs.Promises.{NotesTell, TeisAreTold, BeginsDown, TeisHaveOnePlace, BegunIsTold};
 ghost use Rattle.lapd_card_laws.specs.Promises.{MessagesHaveCauses, ToldTeisAreThere};
+ghost use Rattle.lapd_card_progress.specs.Promises.{AnswersAreBegun, PullsComeToAnEnd, FewAreToGo, BeginsWithFew};
 ghost use Rattle.lapd_card.specs.Sink.{one_failure_more};
 ghost use Rattle.lapd_card.specs.Stands.{Stands, Leads};
 
@@ -140,6 +141,16 @@ impl<S: Shelf> Card<S> {
     ///   which carries contents number V(S) of those that were accepted for the link since its numbers began, and V(S)
     ///   counts it; else the acknowledgement that is owed (clauses 3.5.2.3, 5.2.2, 5.6.1, 5.6.3.1 and 5.6.5). It begins
     ///   none only where none of these waits.
+    /// - `answers_are_begun`: wherever in the list an octet ends a frame for a link on its line, where one control frame more
+    ///   finds room, and then the line is only pulled, whatever happens at the others: one of the pulls begins the answer to
+    ///   a poll of states 7 and 8 with a valid N(R), which is RR, RNR or REJ with F=1 and N(R) = V(R), and to SABME or DISC,
+    ///   which is UA or DM with F = P, once the pulls give more than the bits to go, or than those that go before it
+    ///   (clauses 5.5.1.2, 5.5.3.2, 5.6.2 to 5.6.7 and 5.8.1).
+    /// - `pulls_come_to_an_end`: wherever a line is only pulled, once the pulls give more than the bits to go there, nothing
+    ///   waits on it but I-frames behind a closed window, behind a terminal that is busy, or of a link that is not in state
+    ///   7; and idle flags go on, and nothing else (clauses 5.6.1 and 5.6.5).
+    /// - `few_to_go`: on a card that has just begun, `begins_with_few`, and after whatever happens to it, the bits to go of a
+    ///   line are at most what the configuration allows.
     ///
     /// # Errors
     ///
@@ -228,6 +239,13 @@ impl<S: Shelf> Card<S> {
             → TeisHaveOnePlace m (take count (events_of events.now)) }
         ensures served { (m : machine.Card) (count : ℕ) → Stands S.store self.old m
             → IsServedIn m (take count (events_of events.now)) }
+        ensures answers_are_begun { (m : machine.Card) (count : ℕ) → Stands S.store self.old m
+            → AnswersAreBegun m (take count (events_of events.now)) }
+        ensures pulls_come_to_an_end { (m : machine.Card) (count : ℕ) → Stands S.store self.old m
+            → PullsComeToAnEnd m (take count (events_of events.now)) }
+        ensures few_to_go { (m : machine.Card) (count : ℕ) → Stands S.store self.old m
+            → FewAreToGo m (take count (events_of events.now)) }
+        ensures begins_with_few { BeginsWithFew self.old.config }
     {
         for (at, event) in events.iter().enumerate() {
             if self.answer(*event, sink).is_err() {

@@ -1,2 +1,4 @@
 -- Lemmas.
 pub mod Meanwhile
+pub mod Wherever
+pub mod Premises

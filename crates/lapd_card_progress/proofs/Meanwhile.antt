@@ -1,11 +1,12 @@
 -- A line of a card after so many pulls, whatever happened at the other lines meanwhile.
-use Rattle.std.proofs.Common.{◌≡◌, ◌≢◌, ℕ, zero, suc, ◌+◌, ◌*◌, ◌<◌, ◌≤◌, ◌==◌, Bool, true, false, cond, List, [], ◌∷◌, ◌++◌, length, get_or, set, refl, sym, ap, subst, ◌∙◌, arith}
+use Rattle.std.proofs.Common.{◌≡◌, ◌≢◌, ℕ, zero, suc, ◌+◌, ◌*◌, ◌<◌, ◌≤◌, ◌==◌, Bool, true, false, cond, List, [], ◌∷◌, ◌++◌, length, get_or, set, refl, sym, ap, subst, ◌∙◌, arith, Some}
 use Rattle.std.proofs.lemmas.Bool.{eqb-true, eqb-false}
 use Rattle.std.proofs.lemmas.List.{get_or-set_same, get_or-set_other}
 use Rattle.std.proofs.lemmas.List.Elements.{All-nil, All-cons, All-head, All-tail, All-get_or}
+use Rattle.lapd_frame.specs.declared.controls.Control.{Control}
 use Rattle.lapd_frame.specs.declared.services.Service.{Service}
 use Rattle.lapd_frame.specs.Grammar.{Parts}
-use Rattle.lapd_link_progress.specs.Polls.{IsPollWhileUp}
+use Rattle.lapd_link_progress.specs.Polls.{IsPollWhileUp, asked_of}
 use Rattle.lapd_line_machine.specs.declared.config.Config.{Config}
 use Rattle.lapd_line_machine.specs.Answer.{octet, pull}
 use Rattle.lapd_line_machine.specs.Line.{Line, fresh_line, link_number, link_in, terms}
@@ -14,17 +15,16 @@ use Rattle.lapd_line_machine.specs.Pull.{begun}
 use Rattle.lapd_line_machine.specs.Sound as line_sound
 use Rattle.lapd_line_laws.specs.Heard.{Ends, IsFor}
 use Rattle.lapd_line_laws.specs.Pulls.{HasNothing}
-use Rattle.lapd_line_progress.specs.Drains.{after_pulls, bits_to_go, IsEnough, IsBegunWithin}
-use Rattle.lapd_line_progress.proofs.Draining.{drains}
-use Rattle.lapd_line_progress.proofs.Polled.{poll-goes}
+use Rattle.lapd_line_progress.specs.Drains.{after_pulls, bits_to_go, IsEnough, control_text, IsBegunWithin}
+use Rattle.lapd_line_progress.proofs.Draining.{drains, idles}
+use Rattle.lapd_line_progress.proofs.Polled.{poll-goes, unnumbered-goes}
 use Rattle.lapd_card_machine.specs.Card.{Card, line_at}
 use Rattle.lapd_card_machine.specs.Event.{Event, at}
 use Rattle.lapd_card_machine.specs.Machine.{wants_room, after}
-use Rattle.lapd_card_machine.specs.Run.{IsAtLine, AreAtLines, after_all, run}
+use Rattle.lapd_card_machine.specs.Run.{IsAtLine, AreAtLines, after_all}
 use Rattle.lapd_card_machine.specs.Sound.{IsSound}
 use Rattle.lapd_card_machine.proofs.CardSound.{after_is_sound}
-use Rattle.lapd_card_machine.proofs.Fold.{run_is_moments}
-use Rattle.lapd_card_progress.specs.Among.{ArePullsAt, pulls_at, IsBegunAmong, IsAnsweredAmong}
+use Rattle.lapd_card_progress.specs.Among.{ArePullsAt, pulls_at, IsBegunAmong, IsAnsweredAmong, IsIdleAmong}
 
 -- One event, by whether it finds room.
 elsewhere : (card : Card) (number : ℕ) (e : Event) (x : Line) (b : Bool) → number ≢ e.line
@@ -48,7 +48,7 @@ is-pull : (number : ℕ) (e : Event) → (e.line ≡ number → e.what ≡ pull)
 is-pull number e h same = let what = h same in λ i. record { line = same i; what = what i }
 
 module _ (number : ℕ) where
-  few-lines : (card : Card) → IsSound card → number < card.config.lines → number < length card.lines
+  pub few-lines : (card : Card) → IsSound card → number < card.config.lines → number < length card.lines
   few-lines card s few = omega (arith, few, s.count)
 
   -- the line after all of them
@@ -84,7 +84,7 @@ module _ (number : ℕ) where
     lines : AreAtLines card front
     pulls : ArePullsAt number front
 
-  abbrev IsServed : Event → Type 0
+  abbrev pub IsServed : Event → Type 0
   IsServed e = e.line ≡ number → e.what ≡ pull
 
   behind-one : (card : Card) (e : Event) (events : List Event) (k j : ℕ) → IsAtLine card e → IsServed e → cond (e.line == number) 1 0 + j ≡ k → Found card events j → Found card (e ∷ events) k
@@ -119,14 +119,26 @@ module _ (number : ℕ) where
       by-bit k false is less line here more = behind-one card e events k k line here (ap (λ b. cond b 1 0 + k) is ∙ omega arith) (more k (omega (arith, less)))
 
 -- The laws.
-line-sound : (card : Card) (number : ℕ) → IsSound card → number < card.config.lines → line_sound.IsSound card.config (line_at number card)
+pub line-sound : (card : Card) (number : ℕ) → IsSound card → number < card.config.lines → line_sound.IsSound card.config (line_at number card)
 line-sound card number s few = All-get_or (line_sound.IsSound card.config) card.lines number (fresh_line card.config) (few-lines number card s few) s.lines
 
 pub card-drains : (card : Card) (number : ℕ) (events : List Event) → IsSound card → number < card.config.lines → AreAtLines card events → ArePullsAt number events
-    → bits_to_go card.config (line_at number card) < 8 * pulls_at number events → HasNothing card.config (line_at number (run card events).card)
+    → bits_to_go card.config (line_at number card) < 8 * pulls_at number events → HasNothing card.config (line_at number (after_all card events))
 card-drains card number events s few lines pulls less =
-    subst (HasNothing card.config) (sym (ap (line_at number) (run_is_moments.card card events) ∙ line-after number events card s few lines pulls))
+    subst (HasNothing card.config) (sym (line-after number events card s few lines pulls))
     (drains card.config s.config (pulls_at number events) (line_at number card) (line-sound card number s few) less)
+
+pub card-idles : (card : Card) (number : ℕ) (events : List Event) → IsSound card → number < card.config.lines → AreAtLines card events → ArePullsAt number events
+    → HasNothing card.config (line_at number card) → IsIdleAmong card number events
+card-idles card number events s few lines pulls nothing =
+    let there = line-after number events card s few lines pulls in
+    let x = idles card.config s.config (pulls_at number events) (line_at number card) (line-sound card number s few) nothing in
+    record {
+      nothing = subst (HasNothing card.config) (sym there) x.nothing;
+      begins = ap (begun card.config) there ∙ x.begins;
+      flags = x.flags;
+      items = ap (λ (l : Line). l.items) there ∙ x.items;
+    }
 
 module _ (card : Card) (number : ℕ) (s : IsSound card) (few : number < card.config.lines) (value : ℕ) (events : List Event) (all : AreAtLines card events) (pulls : ArePullsAt number events) where
   abbrev heard : Card
@@ -135,14 +147,13 @@ module _ (card : Card) (number : ℕ) (s : IsSound card) (few : number < card.co
   heard-is : line_at number heard ≡ lines.after card.config (octet value) (line_at number card)
   heard-is = at-octet card number value (few-lines number card s few)
 
-  begun-among : (frame : List ℕ) → IsBegunWithin card.config (pulls_at number events) (lines.after card.config (octet value) (line_at number card)) frame
+  pub begun-among : (frame : List ℕ) → IsBegunWithin card.config (pulls_at number events) (lines.after card.config (octet value) (line_at number card)) frame
       → IsBegunAmong card number (at number (octet value) ∷ events) frame
   unfolding after_all
   begun-among frame h =
       let x = found number card events h.pulls all pulls h.few in
-      let there : line_at number (run card (at number (octet value) ∷ x.front)).card ≡ after_pulls card.config h.pulls (lines.after card.config (octet value) (line_at number card)) =
-      ap (line_at number) (run_is_moments.card card (at number (octet value) ∷ x.front))
-      ∙ line-after number x.front heard (after_is_sound card (at number (octet value)) s few) few x.lines x.pulls
+      let there : line_at number (after_all heard x.front) ≡ after_pulls card.config h.pulls (lines.after card.config (octet value) (line_at number card)) =
+      line-after number x.front heard (after_is_sound card (at number (octet value)) s few) few x.lines x.pulls
       ∙ ap (λ k. after_pulls card.config k (line_at number heard)) x.count ∙ ap (after_pulls card.config h.pulls) heard-is in
       record {
         front = at number (octet value) ∷ x.front;
@@ -162,3 +173,13 @@ module _ (card : Card) (number : ℕ) (s : IsSound card) (few : number < card.co
   card-polled service tei place parts octets ends h p room enough =
       let a = poll-goes card.config s.config (line_at number card) (line-sound card number s few) value service tei place parts octets ends h (pulls_at number events) p room enough in
       record { answer = a.answer; is_response = a.is_response; says = a.says; begins = begun-among _ a.begins }
+
+  pub card-unnumbered : (service : Service) (tei place : ℕ) (parts : Parts) (octets : List ℕ) (answer : Control) → Ends card.config (line_at number card) value octets
+      → IsFor (line_at number card) service tei place parts octets → asked_of (link_in (line_at number card) service place).state parts.control ≡ Some answer
+      → length (link_in (line_at number card) service place).waiting + 1 ≤ card.config.control
+      → IsEnough card.config (pulls_at number events) (lines.after card.config (octet value) (line_at number card)) (link_number place service)
+      (length (link_in (line_at number card) service place).waiting)
+      → IsBegunAmong card number (at number (octet value) ∷ events) (control_text card.config (link_number place service) tei (record { command = false; control = answer }))
+  card-unnumbered service tei place parts octets answer ends h asked room enough =
+      begun-among _
+      (unnumbered-goes card.config s.config (line_at number card) (line-sound card number s few) value service tei place parts octets ends h (pulls_at number events) answer asked room enough)

@@ -1,15 +1,17 @@
 -- Pulls of one line among the events of a card.
-use Rattle.std.specs.Prelude.{◌≡◌, ℕ, ◌==◌, false, List, ◌∷◌, ◌++◌, All, Some, [], ◌+◌, if◌then◌else◌}
+use Rattle.std.specs.Prelude.{◌≡◌, ℕ, ◌==◌, false, List, ◌∷◌, ◌++◌, All, Some, None, [], ◌+◌, replicate, if◌then◌else◌}
+use Rattle.lapd_bits.specs.Sent.{idle}
 use Rattle.lapd_frame.specs.declared.services.Service.{Service}
 use Rattle.lapd_link_machine.specs.declared.frames.ControlFrame.{ControlFrame}
 use Rattle.lapd_link_progress.specs.Polls.{SaysReceived}
 use Rattle.lapd_line_machine.specs.Answer.{pull}
 use Rattle.lapd_line_machine.specs.Line.{link_number}
 use Rattle.lapd_line_machine.specs.Pull.{Taken, begun}
+use Rattle.lapd_line_laws.specs.Pulls.{HasNothing}
 use Rattle.lapd_line_progress.specs.Drains.{control_text}
 use Rattle.lapd_card_machine.specs.Card.{Card, line_at}
 use Rattle.lapd_card_machine.specs.Event.{Event, at}
-use Rattle.lapd_card_machine.specs.Run.{run}
+use Rattle.lapd_card_machine.specs.Run.{after_all}
 
 -- What happens at a line are pulls; at the others anything may.
 abbrev pub ArePullsAt : ℕ → List Event → Type 0
@@ -26,7 +28,7 @@ pub record IsBegunAmong (card : Card) (number : ℕ) (events : List Event) (fram
   pub back : List Event
   pub split : events ≡ front ++ at number pull ∷ back
   pub taken : Taken
-  pub begins : begun card.config (line_at number (run card front).card) ≡ Some taken
+  pub begins : begun card.config (line_at number (after_all card front)) ≡ Some taken
   pub is : taken.frame ≡ frame
 
 -- It is the answer to a poll: a response RR, RNR or REJ with F=1, of the link of that service and TEI, that says that so
@@ -36,3 +38,11 @@ pub record IsAnsweredAmong (card : Card) (number : ℕ) (events : List Event) (s
   pub is_response : answer.command ≡ false
   pub says : SaysReceived received answer.control
   pub begins : IsBegunAmong card number events (control_text card.config (link_number place service) tei answer)
+
+-- After these events nothing waits at the line that may go, and its next pull begins no frame; and by them nothing but
+-- idle flags came on the line.
+pub record IsIdleAmong (card : Card) (number : ℕ) (events : List Event) : Type 0 where
+  pub nothing : HasNothing card.config (line_at number (after_all card events))
+  pub begins : begun card.config (line_at number (after_all card events)) ≡ None
+  pub flags : ℕ
+  pub items : (line_at number (after_all card events)).items ≡ (line_at number card).items ++ replicate flags idle

@@ -1,27 +1,32 @@
-//! The law of a card. It is the contract of a call that does nothing.
+//! The laws of a card. Each is the contract of a call that does nothing.
 
-ghost use Rattle.std.specs.Prelude.{◌≡◌, ℕ, ◌+◌, ◌*◌, ◌<◌, ◌≤◌, List, ◌∷◌, ◌++◌, length};
+ghost use Rattle.std.specs.Prelude.{◌≡◌, ℕ, ◌+◌, ◌*◌, ◌<◌, ◌≤◌, List, ◌∷◌, ◌++◌, false, length, Some};
+ghost use Rattle.lapd_frame.specs.declared.controls.Control.{Control};
 ghost use Rattle.lapd_frame.specs.declared.services.Service.{Service};
 ghost use Rattle.lapd_frame.specs.Grammar.{Parts};
 ghost use Rattle.lapd_link_machine.specs.declared.frames.ControlFrame.{ControlFrame};
-ghost use Rattle.lapd_link_progress.specs.Polls.{IsPollWhileUp};
+ghost use Rattle.lapd_link_progress.specs.Polls.{IsPollWhileUp, asked_of};
+ghost use Rattle.lapd_line_machine.specs.declared.config.Config.{Config};
 ghost use Rattle.lapd_line_machine.specs.Answer.{octet};
 ghost use Rattle.lapd_line_machine.specs.Line.{link_number, link_in, terms};
 ghost use Rattle.lapd_line_machine.specs.Machine as lines;
 ghost use Rattle.lapd_line_laws.specs.Heard.{Ends, IsFor};
 ghost use Rattle.lapd_line_laws.specs.Pulls.{HasNothing};
-ghost use Rattle.lapd_line_progress.specs.Drains.{bits_to_go, IsEnough};
+ghost use Rattle.lapd_line_progress.specs.Drains.{bits_to_go, IsEnough, control_text};
 ghost use Rattle.lapd_card_machine.specs.Card.{Card, line_at};
 ghost use Rattle.lapd_card_machine.specs.Event.{Event, at};
 ghost use Rattle.lapd_card_machine.specs.Run.{AreAtLines, run};
 ghost use Rattle.lapd_card_machine.specs.Sound.{IsSound};
-ghost use Rattle.lapd_card_progress.specs.Among.{ArePullsAt, pulls_at, IsAnsweredAmong};
+ghost use Rattle.lapd_card_progress.specs.Among.{ArePullsAt, pulls_at, IsBegunAmong, IsAnsweredAmong, IsIdleAmong};
+ghost use Rattle.lapd_card_progress.specs.Promises.{AnswersAreBegun, PullsComeToAnEnd, FewAreToGo, BeginsWithFew};
 
 /// The pulls of a line serve it, whatever happens at the other lines of its card meanwhile. Once they are more than an
-/// eighth of the bits to go there, nothing waits on it but I-frames that may not go (`drained`). And after an octet that
-/// ends a poll for a link of a TEI on the line, in state 7 or 8, with a valid N(R), contents within N201 and room for a
-/// control frame, one of the pulls begins the response with F=1 and N(R) = V(R), once they are as many as
-/// `what_waits_is_begun` of `lapd_line_progress` asks of that line (`polled`; Q.921 clauses 5.6.2 to 5.6.7 and 5.8.1).
+/// eighth of the bits to go there, nothing waits on it but I-frames that may not go (`drained`); and then idle flags go
+/// on, and nothing else (`idle`). And after an octet that ends a poll for a link of a TEI on the line, in state 7 or 8,
+/// with a valid N(R), contents within N201 and room for a control frame, one of the pulls begins the response with F=1 and
+/// N(R) = V(R), once they are as many as `what_waits_is_begun` of `lapd_line_progress` asks of that line (`polled`; Q.921
+/// clauses 5.6.2 to 5.6.7 and 5.8.1); so they do the UA or the DM with F = P that SABME or DISC asks for, in whatever
+/// state (`unnumbered`; clauses 5.5.1.2, 5.5.3.2, 5.5.4 and 5.5.5).
 pub fn pulls_serve_a_line()
     ensures drained { (card : Card) (number : ℕ) (events : List Event) → IsSound card → number < card.config.lines → AreAtLines card events →
         ArePullsAt number events → bits_to_go card.config (line_at number card) < 8 * pulls_at number events →
@@ -35,4 +40,27 @@ pub fn pulls_serve_a_line()
         (length (link_in (line_at number card) service place).waiting) →
         IsAnsweredAmong card number (at number (octet value) ∷ events) service tei place
         (link_in (lines.after card.config (octet value) (line_at number card)) service place).r }
+    ensures idle { (card : Card) (number : ℕ) (events : List Event) → IsSound card → number < card.config.lines → AreAtLines card events →
+        ArePullsAt number events → HasNothing card.config (line_at number card) → IsIdleAmong card number events }
+    ensures unnumbered { (card : Card) (number : ℕ) (events : List Event) (value : ℕ) (service : Service) (tei place : ℕ) (parts : Parts) (octets : List ℕ) (answer : Control) →
+        IsSound card → number < card.config.lines → AreAtLines card events → ArePullsAt number events →
+        Ends card.config (line_at number card) value octets → IsFor (line_at number card) service tei place parts octets →
+        asked_of (link_in (line_at number card) service place).state parts.control ≡ Some answer →
+        length (link_in (line_at number card) service place).waiting + 1 ≤ card.config.control →
+        IsEnough card.config (pulls_at number events) (lines.after card.config (octet value) (line_at number card)) (link_number place service)
+        (length (link_in (line_at number card) service place).waiting) →
+        IsBegunAmong card number (at number (octet value) ∷ events)
+        (control_text card.config (link_number place service) tei (record { command = false; control = answer })) }
+{}
+
+/// So it is wherever in a list of events a line is only pulled, from any card on. After an octet that ends a poll of states 7
+/// and 8 for a link on the line, or SABME or DISC, one of the pulls begins the answer, once they are enough (`answered`).
+/// Once they give more than the bits to go, nothing waits but I-frames that may not go, and idle flags go on (`ended`).
+/// And on a card as it begins, and after whatever happens to it, the bits to go of a line are at most what the
+/// configuration allows (`few`, `begins`).
+pub fn pulls_serve_wherever()
+    ensures answered { (m : Card) (events : List Event) → IsSound m → AreAtLines m events → AnswersAreBegun m events }
+    ensures ended { (m : Card) (events : List Event) → IsSound m → AreAtLines m events → PullsComeToAnEnd m events }
+    ensures few { (m : Card) (events : List Event) → IsSound m → AreAtLines m events → FewAreToGo m events }
+    ensures begins { (c : Config) → BeginsWithFew c }
 {}

@@ -1,24 +1,20 @@
 -- What a configuration gives: the most bits that are left, and the most frames that wait.
-use Rattle.std.proofs.Common.{◌≡◌, ℕ, ◌+◌, ◌-◌, ◌*◌, ◌≤◌, ◌<◌, max, Bool, true, false, cond, List, length, Option, Some, None, IfSome, refl, sym, subst, arith}
+use Rattle.std.proofs.Common.{◌≡◌, ℕ, ◌+◌, ◌-◌, ◌*◌, ◌≤◌, ◌<◌, max, min, Bool, true, false, cond, not, ◌&&◌, List, length, Option, Some, None, IfSome, refl, sym, subst, arith}
 use Rattle.std.specs.Option.{unwrap_or}
 use Rattle.std.proofs.Math.Nat.{mul-le-mul_right}
 use Rattle.std.proofs.lemmas.Bool.{ltb-true}
-use Rattle.std.proofs.lemmas.List.{length-drop}
 use Rattle.lapd_bits.specs.Sent.{idle, frame}
 use Rattle.lapd_frame.specs.declared.services.Service.{Service}
 use Rattle.lapd_frame.specs.declared.services.Service.TheVariants.{Call, Packet}
-use Rattle.lapd_link_machine.specs.declared.states.State.{State}
-use Rattle.lapd_link_machine.specs.declared.states.State.TheVariants.{TeiAssigned, AwaitingEstablishment, AwaitingRelease, Established, TimerRecovery}
 use Rattle.lapd_link_machine.specs.declared.terms.Terms.{Terms}
-use Rattle.lapd_link_machine.specs.Link.{Link}
-use Rattle.lapd_link_machine.specs.Rises as links
+use Rattle.lapd_link_machine.specs.Link.{Link, outstanding, unsent}
+use Rattle.lapd_link_machine.specs.Offers.{is_established}
 use Rattle.lapd_link_machine.specs.Sound as link_sound
 use Rattle.lapd_tei.specs.Events as teis
 use Rattle.lapd_tei.specs.declared.outcome.Change.{Change}
 use Rattle.lapd_tei.specs.declared.outcome.Change.TheVariants.{Gained, Left}
 use Rattle.lapd_line_machine.specs.declared.config.Config.{Config}
 use Rattle.lapd_line_machine.specs.Answer.{Event, octet, expiry, request, pull, Told}
-use Rattle.lapd_line_machine.specs.Counts.{may_send_at_link, may_send}
 use Rattle.lapd_line_machine.specs.Effect.{Aim, at_none, at_link, at_management, at_units, told_of_management, of_change, of_aim}
 use Rattle.lapd_line_machine.specs.Expiry.{aim_of_expiry}
 use Rattle.lapd_line_machine.specs.Line.{Line, fresh_line, link_count, service_at, place_at, tei_at, window, terms, link_at}
@@ -30,7 +26,7 @@ use Rattle.lapd_line_machine.specs.Requested.{aim_of_request}
 use Rattle.lapd_line_machine.specs.Sound.{IsInRange, IsSoundAt, IsSound}
 use Rattle.lapd_line_machine.proofs.Numbers.{sum_bounded}
 use Rattle.lapd_line_machine.proofs.PullSound.{TakesSoundly, taken_sound}
-use Rattle.lapd_line_progress.specs.Drains.{longest_text, bits_to_go, HasFewLeft, most_frames, most_bits}
+use Rattle.lapd_line_progress.specs.Drains.{longest_text, link_to_go, to_go_at_link, frames_to_go, bits_to_go, HasFewLeft, most_frames, most_bits}
 use Rattle.lapd_line_progress.proofs.Lengths.{text-longest, flag-short, octet-shortens, item-lengthens}
 
 -- of a link
@@ -38,32 +34,26 @@ window-most : (c : Config) (service : Service) → window c service ≤ max c.k 
 window-most c Call = omega arith
 window-most c Packet = omega arith
 
-back-most : (here : State) (k : ℕ) → links.window_back here k ≤ k
-back-most TeiAssigned k = omega arith
-back-most AwaitingEstablishment k = omega arith
-back-most AwaitingRelease k = omega arith
-back-most Established k = omega arith
-back-most TimerRecovery k = omega arith
-
 bit-most : (b : Bool) → cond b 1 0 ≤ 1
 bit-most true = omega arith
 bit-most false = omega arith
 
-link-most : (t : Terms) (l : Link) → link_sound.IsSound t l → links.may_send t l ≤ t.control + t.queue + 1 + t.k
+window-few : (b : Bool) (k used unsent : ℕ) → cond b (min (k - used) unsent) 0 ≤ k
+window-few true k used unsent = omega arith
+window-few false k used unsent = omega arith
+
+link-most : (t : Terms) (l : Link) → link_sound.IsSound t l → link_to_go t l ≤ t.control + t.k + 1
 link-most t l s =
     let ring : length l.waiting ≤ t.control = s.ring in
-    let kept = s.queue in
-    let size = length-drop l.a l.contents in
-    let ordered : l.a ≤ l.s = s.ordered in
-    let back = back-most l.state t.k in
+    let window = window-few (is_established l.state && not l.peer_busy) t.k (outstanding l) (unsent l) in
     let owed = bit-most l.pending in
-    omega (arith, ring, kept, size, ordered, back, owed)
+    omega (arith, ring, window, owed)
 
-at-most : (c : Config) (l : Line) → IsSound c l → (n : ℕ) → n < link_count c → may_send_at_link c l n ≤ c.control + c.queue + 1 + max c.k c.k16
+at-most : (c : Config) (l : Line) → IsSound c l → (n : ℕ) → n < link_count c → to_go_at_link c l n ≤ c.control + max c.k c.k16 + 1
 at-most c l s n few = go (tei_at (place_at n) l) (s.links n few)
   where
-    go : (o : Option ℕ) → IsSoundAt c n (link_at n l) o → links.may_send (terms c (service_at n) (unwrap_or o 0)) (link_at n l) ≤ c.control + c.queue + 1 + max c.k c.k16
-    go None is_fresh = subst (λ x. links.may_send (terms c (service_at n) 0) x ≤ c.control + c.queue + 1 + max c.k c.k16) (sym is_fresh) (omega arith)
+    go : (o : Option ℕ) → IsSoundAt c n (link_at n l) o → link_to_go (terms c (service_at n) (unwrap_or o 0)) (link_at n l) ≤ c.control + max c.k c.k16 + 1
+    go None is_fresh = subst (λ x. link_to_go (terms c (service_at n) 0) x ≤ c.control + max c.k c.k16 + 1) (sym is_fresh) (omega arith)
     go (Some tei) sound =
         let most = link-most (terms c (service_at n) tei) (link_at n l) sound in
         let small = window-most c (service_at n) in
@@ -71,11 +61,11 @@ at-most c l s n few = go (tei_at (place_at n) l) (s.links n few)
 
 pub bits-few : (c : Config) (l : Line) → IsSound c l → HasFewLeft c l → bits_to_go c l ≤ most_bits c
 bits-few c l s left =
-    let each = sum_bounded (may_send_at_link c l) 0 (link_count c) (c.control + c.queue + 1 + max c.k c.k16) (λ n few. at-most c l s n (omega (arith, few))) in
+    let each = sum_bounded (to_go_at_link c l) 0 (link_count c) (c.control + max c.k c.k16 + 1) (λ n few. at-most c l s n (omega (arith, few))) in
     let messages = s.management.queue.few in
     let units = s.few_units in
-    let frames : may_send c l ≤ most_frames c = omega (arith, each, messages, units) in
-    let most : may_send c l * longest_text c ≤ most_frames c * longest_text c = mul-le-mul_right (longest_text c) frames in
+    let frames : frames_to_go c l ≤ most_frames c = omega (arith, each, messages, units) in
+    let most : frames_to_go c l * longest_text c ≤ most_frames c * longest_text c = mul-le-mul_right (longest_text c) frames in
     let sum : (1 + most_frames c) * longest_text c ≡ longest_text c + most_frames c * longest_text c = omega arith in
     subst (λ x. bits_to_go c l ≤ x) (sym sum) (omega (arith, left, most))
 

@@ -12,18 +12,18 @@ use Rattle.lapd_link_progress.proofs.Waiting.{nothing-to_send}
 use Rattle.lapd_tei.specs.Messages.{frame_of}
 use Rattle.lapd_line_machine.specs.declared.config.Config.{Config}
 use Rattle.lapd_line_machine.specs.Answer.{pull}
-use Rattle.lapd_line_machine.specs.Counts.{one, may_send}
+use Rattle.lapd_line_machine.specs.Counts.{one}
 use Rattle.lapd_line_machine.specs.Line.{Line, link_count, service_at, place_at, tei_at, terms, terms_at, link_at}
 use Rattle.lapd_line_machine.specs.Machine.{after}
 use Rattle.lapd_line_machine.specs.Pull.{Taken, with_message, with_unit, unit_taken, with_given_frame, link_taken, first_taken, round, taken, left_of, is_due, begun, with_item, with_due, with_octet, after_pull}
 use Rattle.lapd_line_machine.specs.Sound.{IsInRange, IsSoundAt, IsSound}
 use Rattle.lapd_line_machine.proofs.LineSound.{after_sound}
 use Rattle.lapd_line_machine.proofs.Offered.{fresh_gives_nothing}
-use Rattle.lapd_line_machine.proofs.PullRises.{pull_falls}
 use Rattle.lapd_line_machine.proofs.PullSound.{TakesSoundly, round_below, taken_sound}
 use Rattle.lapd_line_laws.specs.Pulls.{IsOwed, HasNothing, IsIdle, contents_of}
 use Rattle.lapd_line_laws.proofs.Serving.{served}
-use Rattle.lapd_line_progress.specs.Drains.{after_pulls, longest_text, bits_to_go, IsIdling}
+use Rattle.lapd_line_progress.specs.Drains.{after_pulls, longest_text, frames_to_go, bits_to_go, IsIdling}
+use Rattle.lapd_line_progress.proofs.Going.{going-falls}
 use Rattle.lapd_line_progress.proofs.Lengths.{text-longest, frame-long, octet-shortens, item-lengthens}
 
 -- where nothing waits, nothing is taken
@@ -92,8 +92,8 @@ module _ (c : Config) (ranged : IsInRange c) (l : Line) (s : IsSound c l) where
       let whole : length (left_of (after_pull c l)) ≡ length (left_of (with_due c l)) - 8 = octet-shortens (with_due c l) in
       let same : length (left_of (with_due c l)) ≡ length (left_of l) = ap (λ l'. length (left_of l')) (not-due e) in
       let enough : 8 ≤ length (left_of l) = ltb-false (length (left_of l)) 8 e in
-      let falls = (pull_falls c ranged l s).0 in
-      by-lengths shorter (may_send c l) (may_send c (after_pull c l)) (omega (arith, whole, same, enough)) (omega (arith, falls))
+      let falls = going-falls c l s in
+      by-lengths shorter (frames_to_go c l) (frames_to_go c (after_pull c l)) (omega (arith, whole, same, enough)) (omega (arith, falls))
 
   pub begins-item : (t : Taken) → is_due l ≡ true → taken c l ≡ Some t → with_due c l ≡ with_item (Some t) l
   begins-item t e e' = ap (λ b. cond b (with_item (taken c l) l) l) e ∙ ap (λ o. with_item o l) e'
@@ -106,9 +106,9 @@ module _ (c : Config) (ranged : IsInRange c) (l : Line) (s : IsSound c l) where
       item-lengthens l (with_item (Some t) l) (frame t.frame) refl x.given s.text in
       let some : begun c l ≡ Some t = ap (λ b. cond b (taken c l) None) e ∙ e' in
       let counted : one (is_some (begun c l)) ≡ 1 = ap (λ o. one (is_some o)) some in
-      let falls = (pull_falls c ranged l s).0 in
+      let falls = going-falls c l s in
       let eight : 8 ≤ length (item_text (frame t.frame)) = frame-long t.frame in
-      by-frame shorter (may_send c l) (may_send c (after_pull c l)) (length (item_text (frame t.frame))) (omega (arith, whole, same, longer, eight))
+      by-frame shorter (frames_to_go c l) (frames_to_go c (after_pull c l)) (length (item_text (frame t.frame))) (omega (arith, whole, same, longer, eight))
       (text-longest c t.frame x.size) (omega (arith, falls, counted))
 
   -- as `served` says

@@ -1,8 +1,11 @@
 -- Lemmas.
 pub mod Lengths
+pub mod Going
+pub mod Exact
 pub mod Draining
 pub mod Bounds
 pub mod Leaving
 pub mod InRounds
 pub mod Ordered
 pub mod Polled
+pub mod Premises

@@ -1,18 +1,20 @@
 -- What pulls alone come to.
-use Rattle.std.specs.Prelude.{◌≡◌, ◌⊎◌, ℕ, zero, suc, ◌+◌, ◌-◌, ◌*◌, ◌/◌, ◌<◌, ◌≤◌, max, false, List, ◌++◌, length, replicate, Some, None, nat_le, if◌then◌else◌}
+use Rattle.std.specs.Prelude.{◌≡◌, ◌⊎◌, ℕ, zero, suc, ◌+◌, ◌-◌, ◌*◌, ◌/◌, ◌<◌, ◌≤◌, ◌&&◌, not, max, min, false, List, ◌++◌, length, replicate, Some, None, nat_le, if◌then◌else◌}
 use Rattle.lapd_bits.specs.Sent.{idle}
 use Rattle.lapd_frame.specs.declared.addresses.Side.TheVariants.{Network}
 use Rattle.lapd_frame.specs.declared.services.Service.{Service}
 use Rattle.lapd_frame.specs.Grammar.{spelling}
 use Rattle.lapd_link_machine.specs.declared.frames.ControlFrame.{ControlFrame}
-use Rattle.lapd_link_machine.specs.Link.{frame_of}
+use Rattle.lapd_link_machine.specs.declared.terms.Terms.{Terms}
+use Rattle.lapd_link_machine.specs.Link.{Link, frame_of, outstanding, unsent}
+use Rattle.lapd_link_machine.specs.Offers.{is_established}
 use Rattle.lapd_link_progress.specs.Polls.{SaysReceived}
 use Rattle.lapd_line_machine.specs.declared.config.Config.{Config}
 use Rattle.lapd_line_machine.specs.Answer.{pull}
-use Rattle.lapd_line_machine.specs.Counts.{may_send}
-use Rattle.lapd_line_machine.specs.Line.{Line, link_number, link_count, service_at, link_in, terms}
+use Rattle.lapd_line_machine.specs.Line.{Line, link_number, link_count, service_at, link_at, link_in, terms, terms_at}
 use Rattle.lapd_line_machine.specs.Machine.{after}
 use Rattle.lapd_line_machine.specs.Pull.{Taken, left_of, begun}
+use Rattle.lapd_line_machine.specs.Stored.{sum_of_links}
 use Rattle.lapd_line_laws.specs.Pulls.{HasNothing}
 
 -- A line after so many pulls, with no other event between them.
@@ -25,10 +27,25 @@ after_pulls c (suc n) l = after_pulls c n (after c pull l)
 abbrev pub longest_text : Config → ℕ
 longest_text c = let octets = 8 * (c.n201 + 6) in octets + octets / 5 + 8
 
--- The bits to go: those that are left of the last item, and at worst those of each frame that may be sent without anything
--- else happening.
+-- The I-frames that pulls alone bring of a link: in state 7, while the terminal is not busy, of those that are unsent as many
+-- as the window has room for (Q.921 clauses 5.6.1 and 5.6.5); else none.
+abbrev pub information_to_go : Terms → Link → ℕ
+information_to_go t l = if is_established l.state && not l.peer_busy then min (t.k - outstanding l) (unsent l) else 0
+
+-- The frames to go of a link: the control frames that wait, those I-frames, and the acknowledgement that is owed.
+abbrev pub link_to_go : Terms → Link → ℕ
+link_to_go t l = length l.waiting + information_to_go t l + (if l.pending then 1 else 0)
+
+abbrev pub to_go_at_link : Config → Line → ℕ → ℕ
+to_go_at_link c l number = link_to_go (terms_at c number l) (link_at number l)
+
+-- The frames to go of a line: the messages of TEI management, the unit data, and those of its links.
+abbrev pub frames_to_go : Config → Line → ℕ
+frames_to_go c l = length l.management.waiting + length l.units + sum_of_links c (to_go_at_link c l)
+
+-- The bits to go: those that are left of the last item, and at worst those of each frame to go.
 abbrev pub bits_to_go : Config → Line → ℕ
-bits_to_go c l = length (left_of l) + may_send c l * longest_text c
+bits_to_go c l = length (left_of l) + frames_to_go c l * longest_text c
 
 -- How many links come before one in the round that begins at a turn.
 abbrev pub way_round : ℕ → ℕ → ℕ → ℕ
@@ -82,10 +99,10 @@ pub record IsIdling (c : Config) (n : ℕ) (l : Line) : Type 0 where
 abbrev pub HasFewLeft : Config → Line → Type 0
 HasFewLeft c l = length (left_of l) ≤ longest_text c
 
--- What a configuration lets wait: the rest of one frame, four messages of TEI management, unit data, and for each link its
--- control frames, its contents, an acknowledgement, and the window, which an answer may bring back.
+-- The most frames to go that a configuration allows: four messages of TEI management, unit data, and for each link its
+-- control frames, a window of I-frames and an acknowledgement. With them goes the rest of one frame.
 abbrev pub most_frames : Config → ℕ
-most_frames c = 4 + c.unit_queue + link_count c * (c.control + c.queue + 1 + max c.k c.k16)
+most_frames c = 4 + c.unit_queue + link_count c * (c.control + max c.k c.k16 + 1)
 
 abbrev pub most_bits : Config → ℕ
 most_bits c = (1 + most_frames c) * longest_text c

@@ -1,3 +1,4 @@
 -- What a line comes to with pulls alone, and worked values of it.
 pub mod Drains
 pub mod Worked
+pub mod WorkedPolled

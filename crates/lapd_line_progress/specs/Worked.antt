@@ -20,11 +20,11 @@ usual = record { lines = 1; terminals = 8; k = 7; k16 = 7; queue = 8; unit_queue
 longest : longest_text usual ≡ 2561
 longest = refl
 
--- At most 328 frames wait on a line, and the rest of one is left: 842,569 bits, or 105,322 octets.
-most_wait : most_frames usual ≡ 328
+-- At most 200 frames are to go on a line, and the rest of one: 514,761 bits, which 64,346 octets are more than.
+most_wait : most_frames usual ≡ 200
 most_wait = refl
 
-most_go : most_bits usual ≡ 842569
+most_go : most_bits usual ≡ 514761
 most_go = refl
 
 -- Link 3 of 16, where the turn is at link 3, at link 5, and behind the last.

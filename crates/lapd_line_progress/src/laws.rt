@@ -1,6 +1,6 @@
 //! The laws. Each is the contract of a call that does nothing.
 
-ghost use Rattle.std.specs.Prelude.{◌≡◌, ℕ, ◌+◌, ◌*◌, ◌<◌, ◌≤◌, false, List, ◌∷◌, ◌++◌, length, Some};
+ghost use Rattle.std.specs.Prelude.{◌≡◌, ◌↔◌, ℕ, ◌+◌, ◌*◌, ◌<◌, ◌≤◌, false, List, ◌∷◌, ◌++◌, length, Some};
 ghost use Rattle.lapd_frame.specs.declared.controls.Control.{Control};
 ghost use Rattle.lapd_frame.specs.declared.services.Service.{Service};
 ghost use Rattle.lapd_frame.specs.Grammar.{Parts};
@@ -13,15 +13,19 @@ ghost use Rattle.lapd_line_machine.specs.Machine.{after};
 ghost use Rattle.lapd_line_machine.specs.Sound.{IsInRange, IsSound};
 ghost use Rattle.lapd_line_laws.specs.Heard.{Ends, IsFor};
 ghost use Rattle.lapd_line_laws.specs.Pulls.{HasNothing};
-ghost use Rattle.lapd_line_progress.specs.Drains.{after_pulls, bits_to_go, IsEnough, control_text, IsBegunWithin, IsAnsweredWithin, IsIdling, HasFewLeft, most_bits};
+ghost use Rattle.lapd_line_progress.specs.Drains.{after_pulls, frames_to_go, bits_to_go, IsEnough, control_text, IsBegunWithin, IsAnsweredWithin, IsIdling, HasFewLeft, most_bits};
 
-/// Pulls come to an end of what waits. The bits to go are those left of the frame or flag that has begun, and, for each
-/// frame that may be sent without anything else happening, those of the longest frame at worst. With pulls alone, once
-/// they are more than an eighth of these, nothing waits on the line but I-frames behind a closed window or a terminal
-/// that is taken for busy, or of a link that is not in state 7 (`drained`); and then idle flags go on, and nothing else
-/// (`idle`). A configuration gives a number that the bits to go of its lines are never above (`few`): at most the longest
-/// frame is left as a line begins and after every event (`begins`, `each`).
+/// Pulls come to an end of what waits. The frames to go are the messages of TEI management and the unit data that wait,
+/// and of each link its control frames, the acknowledgement that it owes, and, in state 7 while the terminal is not taken
+/// for busy, the unsent I-frames that its window has room for (Q.921 clauses 5.6.1 and 5.6.5): none exactly where nothing
+/// waits that may go (`exact`). The bits to go are those left of the frame or flag that has begun, and those of the longest
+/// frame at worst for each of them. With pulls alone, once they are more than an eighth of these, nothing waits on the line
+/// but I-frames behind a closed window or a terminal that is taken for busy, or of a link that is not in state 7
+/// (`drained`); and then idle flags go on, and nothing else (`idle`). A configuration gives a number that the bits to go
+/// of its lines are never above (`few`): at most the longest frame is left as a line begins and after every event
+/// (`begins`, `each`).
 pub fn pulls_come_to_an_end()
+    ensures exact { (c : Config) (l : Line) → IsSound c l → (frames_to_go c l ≡ 0) ↔ HasNothing c l }
     ensures drained { (c : Config) (n : ℕ) (l : Line) → IsInRange c → IsSound c l → bits_to_go c l < 8 * n → HasNothing c (after_pulls c n l) }
     ensures idle { (c : Config) (n : ℕ) (l : Line) → IsInRange c → IsSound c l → HasNothing c l → IsIdling c n l }
     ensures few { (c : Config) (l : Line) → IsInRange c → IsSound c l → HasFewLeft c l → bits_to_go c l ≤ most_bits c }

@@ -1,6 +1,10 @@
 use Rattle.lapd_line_progress.proofs.Bounds.{bits-few, fresh-few, each-few}
 use Rattle.lapd_line_progress.proofs.Draining.{drains, idles}
+use Rattle.lapd_line_progress.proofs.Exact.{exactly-none}
 use Rattle.lapd_line_progress.proofs.laws.pulls_come_to_an_end.Goals as goal
+
+pub returns-clause-exact : goal.returns-clause-exact
+returns-clause-exact c = exactly-none
 
 pub returns-clause-drained : goal.returns-clause-drained
 returns-clause-drained c = λ c n l ranged s few. drains c ranged n l s few

@@ -27,6 +27,8 @@ use Rattle.lapd_card_laws.proofs.Beginning.{begun-told}
 use Rattle.lapd_card_laws.proofs.Causing.{caused-all, there-all}
 use Rattle.lapd_card_laws.proofs.Knowing.{up-known, on-known, down-at-first, one-place}
 use Rattle.lapd_card_laws.proofs.TimersRun.{needed-run, needs-none}
+use Rattle.lapd_card_progress.specs.Promises.{AnswersAreBegun, PullsComeToAnEnd, FewAreToGo}
+use Rattle.lapd_card_progress.proofs.Wherever.{answers-begun, come-to-an-end, few-to-go, begins-with-few}
 use Rattle.lapd_card.proofs.Headline.{whole_list, each_front, timely_front, fresh_front}
 use Rattle.lapd_card.proofs.card.Card.drive.Goals as goal
 
@@ -267,3 +269,27 @@ returns-then-is_err-clause-messages_have_causes g c = λ m. whole_list g.S.Shelf
 
 pub returns-then-is_err-clause-told_teis_are_there : goal.returns-then-is_err-clause-told_teis_are_there
 returns-then-is_err-clause-told_teis_are_there g c = λ m. whole_list g.S.Shelf.store c.args.self.now c.args.events.now c.requires ToldTeisAreThere there-all m
+
+pub returns-clause-answers_are_begun : goal.returns-clause-answers_are_begun
+returns-clause-answers_are_begun g c = λ m count. each_front g.S.Shelf.store c.args.self.now c.args.events.now c.requires AnswersAreBegun answers-begun m count
+
+pub returns-clause-pulls_come_to_an_end : goal.returns-clause-pulls_come_to_an_end
+returns-clause-pulls_come_to_an_end g c = λ m count. each_front g.S.Shelf.store c.args.self.now c.args.events.now c.requires PullsComeToAnEnd come-to-an-end m count
+
+pub returns-clause-few_to_go : goal.returns-clause-few_to_go
+returns-clause-few_to_go g c = λ m count. each_front g.S.Shelf.store c.args.self.now c.args.events.now c.requires FewAreToGo few-to-go m count
+
+pub returns-clause-begins_with_few : goal.returns-clause-begins_with_few
+returns-clause-begins_with_few g c = begins-with-few c.args.self.now.config
+
+pub returns-then-is_err-clause-answers_are_begun : goal.returns-then-is_err-clause-answers_are_begun
+returns-then-is_err-clause-answers_are_begun g c = λ m count. each_front g.S.Shelf.store c.args.self.now c.args.events.now c.requires AnswersAreBegun answers-begun m count
+
+pub returns-then-is_err-clause-pulls_come_to_an_end : goal.returns-then-is_err-clause-pulls_come_to_an_end
+returns-then-is_err-clause-pulls_come_to_an_end g c = λ m count. each_front g.S.Shelf.store c.args.self.now c.args.events.now c.requires PullsComeToAnEnd come-to-an-end m count
+
+pub returns-then-is_err-clause-few_to_go : goal.returns-then-is_err-clause-few_to_go
+returns-then-is_err-clause-few_to_go g c = λ m count. each_front g.S.Shelf.store c.args.self.now c.args.events.now c.requires FewAreToGo few-to-go m count
+
+pub returns-then-is_err-clause-begins_with_few : goal.returns-then-is_err-clause-begins_with_few
+returns-then-is_err-clause-begins_with_few g c = begins-with-few c.args.self.now.config

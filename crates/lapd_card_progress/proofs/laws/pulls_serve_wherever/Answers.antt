@@ -1,0 +1,14 @@
+use Rattle.lapd_card_progress.proofs.Wherever.{answers-begun, come-to-an-end, few-to-go, begins-with-few}
+use Rattle.lapd_card_progress.proofs.laws.pulls_serve_wherever.Goals as goal
+
+pub returns-clause-answered : goal.returns-clause-answered
+returns-clause-answered c = answers-begun
+
+pub returns-clause-ended : goal.returns-clause-ended
+returns-clause-ended c = come-to-an-end
+
+pub returns-clause-few : goal.returns-clause-few
+returns-clause-few c = few-to-go
+
+pub returns-clause-begins : goal.returns-clause-begins
+returns-clause-begins c = begins-with-few

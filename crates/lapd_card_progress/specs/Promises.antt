@@ -1,0 +1,75 @@
+-- What is promised of the pulls in a list of events, from a card on.
+use Rattle.std.specs.Prelude.{◌≡◌, ℕ, ◌+◌, ◌*◌, ◌<◌, ◌≤◌, false, List, ◌∷◌, ◌++◌, length, Some}
+use Rattle.lapd_frame.specs.declared.controls.Control.{Control}
+use Rattle.lapd_frame.specs.declared.services.Service.{Service}
+use Rattle.lapd_frame.specs.Grammar.{Parts}
+use Rattle.lapd_link_progress.specs.Polls.{IsPollWhileUp, asked_of}
+use Rattle.lapd_line_machine.specs.declared.config.Config.{Config}
+use Rattle.lapd_line_machine.specs.Answer.{octet}
+use Rattle.lapd_line_machine.specs.Line.{link_number, link_in, terms}
+use Rattle.lapd_line_machine.specs.Machine as lines
+use Rattle.lapd_line_laws.specs.Heard.{Ends, IsFor}
+use Rattle.lapd_line_progress.specs.Drains.{bits_to_go, IsEnough, control_text, HasFewLeft, most_bits}
+use Rattle.lapd_card_machine.specs.Card.{Card, fresh, line_at}
+use Rattle.lapd_card_machine.specs.Event.{Event, at}
+use Rattle.lapd_card_machine.specs.Run.{after_all}
+use Rattle.lapd_card_progress.specs.Among.{ArePullsAt, pulls_at, IsBegunAmong, IsAnsweredAmong, IsIdleAmong}
+
+-- Wherever in a list of events: of the card after any front of it, and of the events behind that.
+abbrev pub Wherever : (Card → List Event → Type 0) → Card → List Event → Type 0
+Wherever P m events = (front behind : List Event) → events ≡ front ++ behind → P (after_all m front) behind
+
+-- An octet ends a frame for the link of a service and a TEI on the line, where one control frame more finds room; and then
+-- the line is only pulled, and often enough for a control frame that waits last of that link.
+pub record IsHeardAndPulled (card : Card) (number value : ℕ) (pulls : List Event) (service : Service) (tei place : ℕ) (parts : Parts) : Type 0 where
+  pub octets : List ℕ
+  pub ends : Ends card.config (line_at number card) value octets
+  pub is_for : IsFor (line_at number card) service tei place parts octets
+  pub room : length (link_in (line_at number card) service place).waiting + 1 ≤ card.config.control
+  pub only : ArePullsAt number pulls
+  pub enough :
+      IsEnough card.config (pulls_at number pulls) (lines.after card.config (octet value) (line_at number card)) (link_number place service)
+      (length (link_in (line_at number card) service place).waiting)
+
+-- Where that frame is a poll in state 7 or 8, one of the pulls begins its answer: a response with F=1 and N(R) = V(R).
+abbrev pub PollIsAnswered : Card → List Event → Type 0
+PollIsAnswered card events =
+    (number value : ℕ) (pulls : List Event) (service : Service) (tei place : ℕ) (parts : Parts) → events ≡ at number (octet value) ∷ pulls →
+    IsHeardAndPulled card number value pulls service tei place parts →
+    IsPollWhileUp (terms card.config service tei) (link_in (line_at number card) service place) parts →
+    IsAnsweredAmong card number events service tei place (link_in (lines.after card.config (octet value) (line_at number card)) service place).r
+
+-- Where it is SABME or DISC, one of them begins the UA or the DM that the state asks for, with F = P.
+abbrev pub UnnumberedIsAnswered : Card → List Event → Type 0
+UnnumberedIsAnswered card events =
+    (number value : ℕ) (pulls : List Event) (service : Service) (tei place : ℕ) (parts : Parts) (answer : Control) → events ≡ at number (octet value) ∷ pulls →
+    IsHeardAndPulled card number value pulls service tei place parts →
+    asked_of (link_in (line_at number card) service place).state parts.control ≡ Some answer →
+    IsBegunAmong card number events (control_text card.config (link_number place service) tei (record { command = false; control = answer }))
+
+pub record AnswersAreBegun (m : Card) (events : List Event) : Type 0 where
+  pub polls : Wherever PollIsAnswered m events
+  pub unnumbered : Wherever UnnumberedIsAnswered m events
+
+-- Where a line is only pulled, once the pulls give more than the bits to go there, nothing waits on it that may go, and
+-- the pulls after those bring idle flags and nothing else.
+abbrev pub EndsInFlags : Card → List Event → Type 0
+EndsInFlags card events =
+    (number : ℕ) (pulls more : List Event) → number < card.config.lines → events ≡ pulls ++ more → ArePullsAt number events →
+    bits_to_go card.config (line_at number card) < 8 * pulls_at number pulls → IsIdleAmong (after_all card pulls) number more
+
+abbrev pub PullsComeToAnEnd : Card → List Event → Type 0
+PullsComeToAnEnd m events = Wherever EndsInFlags m events
+
+-- Where at most the longest frame is left of a line, so it is after the events, and the bits to go are at most what the
+-- configuration allows. So it is on a card as it begins.
+pub record HasFewToGo (c : Config) (number : ℕ) (card : Card) : Type 0 where
+  pub left : HasFewLeft c (line_at number card)
+  pub bits : bits_to_go c (line_at number card) ≤ most_bits c
+
+abbrev pub FewAreToGo : Card → List Event → Type 0
+FewAreToGo m events =
+    (number : ℕ) → number < m.config.lines → HasFewLeft m.config (line_at number m) → HasFewToGo m.config number (after_all m events)
+
+abbrev pub BeginsWithFew : Config → Type 0
+BeginsWithFew c = (number : ℕ) → number < c.lines → HasFewLeft c (line_at number (fresh c))

@@ -6,8 +6,11 @@ import shutil
 # The crates that define machines and state laws, and what a copy of one doesn't have.
 MACHINES = re.compile(r"_(machine|laws|progress)$|^lapd_tei$")
 DROPPED = "proofs", "out", "must-fail", "wrong-bodies"
-# A worked value: its statement, what it unfolds, and its proof by computing.
-WORKED = re.compile(r"^(\S+) :(?:.*\n)(?:[ \t].*\n)*(?:unfolding .*\n)?\1 = refl\n", re.MULTILINE)
+# A worked value: its statement, what it unfolds, and its proof by computing, alone or field by field.
+WORKED = re.compile(
+    r"^(?:pub )?(\S+) :(?:.*\n)(?:[ \t].*\n)*(?:unfolding .*\n)?\1 = (?:refl|record \{\n(?:[ \t].*\n)*\})\n",
+    re.MULTILINE,
+)
 # A plain type, and what it is named.
 TYPE = re.compile(r"^#\[derive\(Clone, Copy.*\npub(?:\(crate\))? (?:struct|enum) .*\{\n(?:.+\n|\n)*?\}\n", re.MULTILINE)
 NAME = re.compile(r"^pub (?:struct|enum) (\w+)", re.MULTILINE)

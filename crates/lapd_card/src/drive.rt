@@ -63,7 +63,8 @@ impl<S: Shelf> Card<S> {
     ///   N(R) = V(R)), SABME or DISC (UA or DM, as the state has it, with F = P), or the answer counts it as lost, since as
     ///   many waited as may; no other frame puts a response with F=1 there. A delivery leaves its acknowledgement owed, or
     ///   waiting, or counted as lost, but where the I-frame's N(R) was invalid. Where the terminal rejects I-frames from
-    ///   number n on, contents number n are the next to be sent (clauses 5.5.1.2, 5.5.3.2, 5.6.2 to 5.6.7 and 5.8.1).
+    ///   number n on, contents number n are the next to be sent. And what the frame leaves follows, as `links_are_steady` says
+    ///   (clauses 5.5.1.2, 5.5.3.2, 5.6.2 to 5.6.7 and 5.8.1).
     /// - `requests_take_effect`: in every moment a request that is granted takes effect: for an establishment SABME with P=1
     ///   waits, and for a release DISC with P=1, and the link awaits UA with T200 running, or the release of a link that is
     ///   down is confirmed at once; contents are kept behind what the link keeps, and nothing is told; own busy is on, or
@@ -79,7 +80,13 @@ impl<S: Shelf> Card<S> {
     ///   where the link is established anew; only a poll puts a response with F=1 behind what waits; a loss is told only of
     ///   SABME, DISC, UA or DM of the terminal, of the expiry of T200 and of a release; and the numbers begin anew only where
     ///   a note tells it, or at the end of an establishment that this side began itself (clauses 3.5.2.3, 5.5.1 to 5.5.3,
-    ///   5.6.1, 5.6.4, 5.6.6, 5.6.7 and 5.7).
+    ///   5.6.1, 5.6.4, 5.6.6, 5.6.7 and 5.7). And what the event leaves follows: the state is the one to which the table of
+    ///   moves leads; control frames that wait stay, in order, until pulls begin them, and behind them stands exactly what the
+    ///   event puts (RNR for a poll under own busy, REJ for the first I-frame out of sequence, RR for any other; SABME, DISC
+    ///   or an enquiry where the link comes to await its answer, and at each expiry of T200), as far as there is room, and
+    ///   what finds none is counted as lost; the terminal is taken for busy by RNR, and for free by RR and REJ; an
+    ///   acknowledgement is owed until a frame with N(R) is put, or begun, or the link leaves states 7 and 8; and the numbers
+    ///   begin anew by SABME that leads to state 7, by UA with F=1 in state 5, and by nothing else (clauses 5.5 to 5.8).
     /// - `begun_is_told`: in every moment the reply says that a pull began a frame exactly where it did: the frame stands
     ///   behind what was on the line, and the octet pulled has its first bit (clause 2.2).
     /// - `messages_have_causes`: in every moment a message of TEI management comes to wait, behind those that wait, exactly

@@ -51,7 +51,8 @@ pub fn expiries_take_effect()
 /// terminal asks for again, for the end of all that is kept, and for a beginning of its numbers; own busy stays but for
 /// SetBusy, ClearBusy and a new establishment; only a poll puts a response with F=1 behind what waits; a loss is told only
 /// of SABME, DISC, UA or DM, of the expiry of T200 and of a release; and the numbers begin anew only where it is told, or
-/// at the end of an establishment that this side began itself.
+/// at the end of an establishment that this side began itself. And the state, the flags and what waits are what follows the
+/// event by the tables of moves, of frames that are put, and of flags.
 pub fn links_are_steady()
     ensures { LinksAreSteady }
 {}

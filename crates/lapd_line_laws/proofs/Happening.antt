@@ -19,6 +19,7 @@ use Rattle.lapd_link_machine.specs.Steps.{Course, begun, ◌then◌, changed}
 use Rattle.lapd_link_machine.specs.Words
 use Rattle.lapd_link_laws.specs.Accepted.{ends, tells_loss}
 use Rattle.lapd_link_laws.proofs.Beginning.{beginning-seen}
+use Rattle.lapd_link_laws.proofs.Follows.{event-follows}
 use Rattle.lapd_link_laws.proofs.Steady.{event-steady}
 use Rattle.lapd_link_progress.proofs.FinalRows.{event-finals}
 use Rattle.lapd_tei.specs.Events as teis
@@ -44,6 +45,7 @@ use Rattle.lapd_line_machine.proofs.AimsSound.{IsProper}
 use Rattle.lapd_line_machine.proofs.Numbers.{place_at-number, service_at-number}
 use Rattle.lapd_line_machine.proofs.ProperAims.{octet_proper, expiry_proper, request_proper}
 use Rattle.lapd_line_machine.proofs.PullSound.{round_below}
+use Rattle.lapd_line_laws.specs.Frames.{lost_in}
 use Rattle.lapd_line_laws.specs.Heard.{notes_of}
 use Rattle.lapd_line_laws.specs.Steady.{IsBy, IsSteady, HasOne, Happens}
 use Rattle.lapd_line_laws.proofs.Kept.{begin_here, begin_away, mapped, first_of}
@@ -55,7 +57,7 @@ always : (b : Bool) → (b || true) ≡ true
 always true = refl
 always false = refl
 
-steady-of : (t : Terms) (e : link.Event) (l : Link) → IsSteady t e l (links.after t e l) (links.told t e l).notes
+steady-of : (t : Terms) (e : link.Event) (l : Link) → IsSteady t e l (links.after t e l) (links.told t e l).notes (links.told t e l).lost
 steady-of t e l =
     let x = event-steady t l e in
     record {
@@ -64,6 +66,7 @@ steady-of t e l =
       final = event-finals t l e;
       loss = λ some. x.loss (ap (λ b. ends t e l || b) some ∙ always (ends t e l));
       begins = λ is. beginning-seen t l e is;
+      follows = event-follows t e l;
     }
 
 module _ (c : Config) (l : Line) (s : IsSound c l) (received : List ℕ) (number : ℕ) (few : number < link_count c) (e : Event) (a : Answer) where
@@ -72,8 +75,9 @@ module _ (c : Config) (l : Line) (s : IsSound c l) (received : List ℕ) (number
 
   at-its-link : (service : Service) (tei place : ℕ) (le : link.Event) → aim_of c e l ≡ at_link service tei place le → IsAt l.management.places place tei
       → IsBy c l e a service tei le → notes_of a ≡ (links.told (terms c service tei) le (link_in l service place)).notes
+      → lost_in a ≡ (links.told (terms c service tei) le (link_in l service place)).lost
       → Goes (of_aim c (at_link service tei place le) (record l { received = received })).line
-  at-its-link service tei place le is at by notes = go (link_number place service == number) refl
+  at-its-link service tei place le is at by notes lost = go (link_number place service == number) refl
     where
       one : link_number place service ≡ number → HasOne c service (link_number place service) e l (of_aim c (at_link service tei place le) (record l { received = received })).line a
       one same =
@@ -84,8 +88,13 @@ module _ (c : Config) (l : Line) (s : IsSound c l) (received : List ℕ) (number
             on_line = ap (λ p. tei_at p l) (place_at-number place service) ∙ at;
             event = le;
             by = by;
-            steady = subst (λ ns. IsSteady (terms c service tei) le (link_in l service place) (link_at (link_number place service) (of_aim c (at_link service tei place le) (record l { received = received })).line) ns) (sym notes)
-                (subst (λ (x : Link). IsSteady (terms c service tei) le (link_in l service place) x (links.told (terms c service tei) le (link_in l service place)).notes) (sym there) (steady-of (terms c service tei) le (link_in l service place)));
+            steady =
+                let t = terms c service tei in
+                let x = link_in l service place in
+                let next = link_at (link_number place service) (of_aim c (at_link service tei place le) (record l { received = received })).line in
+                subst (λ n. IsSteady t le x next (notes_of a) n) (sym lost)
+                (subst (λ ns. IsSteady t le x next ns (links.told t le x).lost) (sym notes)
+                (subst (λ (y : Link). IsSteady t le x y (links.told t le x).notes (links.told t le x).lost) (sym there) (steady-of t le x)));
             restarts = ap (restarts_aimed c (link_number place service) l) is
                 ∙ ap (λ b. cond b (link_deliveries.restarts (terms c service tei) le (link_in l service place)) false) (eq-eqb (link_number place service) (link_number place service) refl);
           }
@@ -135,28 +144,29 @@ module _ (c : Config) (l : Line) (s : IsSound c l) (received : List ℕ) (number
       go (Some (Left tei place)) change m = at-its-place me is (Some (Left tei place)) change place refl m.within m _ refl refl (place == place_at number) refl
 
   pub aim-happens : (aim : Aim) → aim_of c e l ≡ aim → IsProper c l aim → Ties c l e a aim → notes_of a ≡ (of_aim c aim (record l { received = received })).told.notes
+      → lost_in a ≡ (of_aim c aim (record l { received = received })).told.lost
       → Goes (of_aim c aim (record l { received = received })).line
-  aim-happens (at_none what) is proper ties notes = inl (refl, ap (restarts_aimed c number l) is)
-  aim-happens (at_link service tei place le) is proper ties notes = at-its-link service tei place le is proper ties notes
-  aim-happens (at_management me) is proper ties notes = managed me is proper
-  aim-happens (at_units unit) is proper ties notes = inl (refl, ap (restarts_aimed c number l) is)
+  aim-happens (at_none what) is proper ties notes lost = inl (refl, ap (restarts_aimed c number l) is)
+  aim-happens (at_link service tei place le) is proper ties notes lost = at-its-link service tei place le is proper ties notes lost
+  aim-happens (at_management me) is proper ties notes lost = managed me is proper
+  aim-happens (at_units unit) is proper ties notes lost = inl (refl, ap (restarts_aimed c number l) is)
 
--- An offer tells nothing, and begins no numbers anew.
+-- An offer tells nothing, begins no numbers anew, and loses nothing.
 module _ (t : Terms) (l : Link) where
   abbrev Silent : Course → Type 0
-  Silent c = (c.notes ≡ []) × (c.zeroed ≡ false)
+  Silent c = (c.notes ≡ []) × (c.zeroed ≡ false) × (c.lost ≡ 0)
 
   choose : (b : Bool) (u v : Course) → Silent u → Silent v → Silent (cond b u v)
   choose true u v x y = x
   choose false u v x y = y
 
   offers : (ws : List ControlFrame) → Silent (Offers.offer_among t ws (begun l))
-  offers (f ∷ fs) = (refl, refl)
+  offers (f ∷ fs) = (refl, refl, refl)
   offers [] =
       let one_more = (Offers.give_information then changed Offers.with_one_sent then Words.pending_is false) (begun l) in
       choose (Offers.may_send_information t l) _ _
-      (choose (Offers.is_awaiting_acknowledgement one_more.link) one_more (Words.start T200 one_more) (refl, refl) (refl, refl))
-      (choose l.pending _ _ (refl, refl) (refl, refl))
+      (choose (Offers.is_awaiting_acknowledgement one_more.link) one_more (Words.start T200 one_more) (refl, refl, refl) (refl, refl, refl))
+      (choose l.pending _ _ (refl, refl, refl) (refl, refl, refl))
 
   pub offer-silent : Silent (links.course t link.offer l)
   offer-silent = offers l.waiting
@@ -232,8 +242,12 @@ module _ (c : Config) (l : Line) (s : IsSound c l) (number : ℕ) where
             on_line = y.1;
             event = link.offer;
             by = refl;
-            steady = subst (λ ns. IsSteady t link.offer (link_at number l) (link_at number (after_pull c l)) ns) silent.0
-                (subst (λ (x : Link). IsSteady t link.offer (link_at number l) x (links.told t link.offer (link_at number l)).notes) (sym y.2) (steady-of t link.offer (link_at number l)));
+            steady =
+                let x = link_at number l in
+                let next = link_at number (after_pull c l) in
+                subst (λ n. IsSteady t link.offer x next [] n) silent.2
+                (subst (λ ns. IsSteady t link.offer x next ns (links.told t link.offer x).lost) silent.0
+                (subst (λ (y : Link). IsSteady t link.offer x y (links.told t link.offer x).notes (links.told t link.offer x).lost) (sym y.2) (steady-of t link.offer x)));
             restarts = sym silent.1;
           }))
 
@@ -243,10 +257,10 @@ unfolding after answer
 event-happens c (octet value) l number s few =
     let aim = aim_of_octet c value l in
     let now = record l { received = l.received ++ value ∷ [] } in
-    aim-happens c l s now.received number few (octet value) (told (of_aim c aim now).told) aim refl (octet_proper c l value) (octet-ties c l value (told (of_aim c aim now).told)) refl
+    aim-happens c l s now.received number few (octet value) (told (of_aim c aim now).told) aim refl (octet_proper c l value) (octet-ties c l value (told (of_aim c aim now).told)) refl refl
 event-happens c (expiry timer) l number s few =
     let aim = aim_of_expiry timer l in
-    aim-happens c l s l.received number few (expiry timer) (told (of_aim c aim l).told) aim refl (expiry_proper c l timer) (expiry-ties c l timer (told (of_aim c aim l).told)) refl
+    aim-happens c l s l.received number few (expiry timer) (told (of_aim c aim l).told) aim refl (expiry_proper c l timer) (expiry-ties c l timer (told (of_aim c aim l).told)) refl refl
 event-happens c (request r) l number s few = go (refusal c false r l) refl
   where
     go : (o : Option Refusal) → refusal c false r l ≡ o
@@ -254,6 +268,6 @@ event-happens c (request r) l number s few = go (refusal c false r l) refl
     go None none =
         let a = told (of_aim c (aim_of_request r l) l).told in
         aim-happens c l s l.received number few (request r) a (aim_of_request r l) (ap (λ o. unless_refused o (aim_of_request r l)) none)
-        (subst (λ o. IsProper c l (unless_refused o (aim_of_request r l))) none (request_proper c l r)) (request-ties c l a refl r) refl
+        (subst (λ o. IsProper c l (unless_refused o (aim_of_request r l))) none (request_proper c l r)) (request-ties c l a refl r) refl refl
     go (Some why) some = inl (refl, ap (λ o. restarts_aimed c number l (unless_refused o (aim_of_request r l))) some)
 event-happens c pull l number s few = pull-happens c l s number

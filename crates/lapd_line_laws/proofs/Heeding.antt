@@ -13,7 +13,9 @@ use Rattle.lapd_link_machine.specs.Machine as links
 use Rattle.lapd_link_machine.specs.Notes.{is_data}
 use Rattle.lapd_link_machine.proofs.OwnNotes.{notes-own}
 use Rattle.lapd_link_machine.proofs.TellRows.{event-tells}
+use Rattle.lapd_link_laws.specs.Following.{Follows}
 use Rattle.lapd_link_laws.specs.Owing.{Owes, IsBegunAgain}
+use Rattle.lapd_link_laws.proofs.Follows.{event-follows}
 use Rattle.lapd_link_laws.proofs.GoingBack.{goes-back}
 use Rattle.lapd_link_laws.proofs.Owing as owing
 use Rattle.lapd_link_progress.specs.Polls.{IsPollWhileUp, Answered, AnsweredBy, asked_of}
@@ -76,6 +78,7 @@ module _ (t : Terms) (f : Parts) (l : Link) where
             (subst (λ n. Owes l.waiting (links.after t e l) n ⊎ IsBegunAgain t (links.after t e l) (links.told t e l).notes) (sym lost)
             (owed (ap (list_any (is_data_of t.service t.tei)) (sym notes) ∙ noted)));
         again = λ nr n is valid. goes-back t l nr n valid f.address.command f.info f.control is;
+        follows = subst (λ n. Follows t e l (links.after t e l) n) (sym lost) (event-follows t e l);
       }
 
 -- at its line

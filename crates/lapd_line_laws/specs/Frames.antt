@@ -7,6 +7,7 @@ use Rattle.lapd_frame.specs.Grammar.{Parts}
 use Rattle.lapd_link_machine.specs.declared.terms.Terms.{Terms}
 use Rattle.lapd_link_machine.specs.Events.{received, frame}
 use Rattle.lapd_link_machine.specs.Link.{Link}
+use Rattle.lapd_link_laws.specs.Following.{Follows}
 use Rattle.lapd_link_laws.specs.Owing.{Owes, IsBegunAgain}
 use Rattle.lapd_link_laws.specs.Sending.{asked_from, GoesBackTo}
 use Rattle.lapd_link_progress.specs.Polls.{IsPollWhileUp, Answered, AnsweredBy, asked_of, polls, finals}
@@ -39,3 +40,6 @@ pub record IsHeeded (t : Terms) (f : Parts) (before after : Link) (answer : Answ
   -- response with F=1, names n by its N(R) (clauses 5.6.4 and 5.6.7).
   pub again : (nr : Seq) (n : ℕ) → asked_from before.state f.address.command f.control ≡ Some nr
       → named before.a before.s nr ≡ Some n → GoesBackTo n before after
+  -- And what it leaves of the link's state, its flags and what waits, and how many frames are lost, is what follows: so which
+  -- of RR, RNR and REJ answers a poll, that a gap is told by REJ, and that what waits stays (clauses 5.5 to 5.8).
+  pub follows : Follows t (received (frame f)) before after (lost_in answer)

@@ -16,12 +16,14 @@ use Rattle.lapd_link_machine.specs.Events as link
 use Rattle.lapd_link_machine.specs.Link.{Link, fresh}
 use Rattle.lapd_link_laws.specs.Accepted.{tells_loss}
 use Rattle.lapd_link_laws.specs.Beginning.{IsSeen}
+use Rattle.lapd_link_laws.specs.Following.{Follows}
 use Rattle.lapd_link_laws.specs.Steady.{MovesSent, MovesBusy, MayLose}
 use Rattle.lapd_link_progress.specs.Polls.{polls, finals}
 use Rattle.lapd_line_machine.specs.declared.config.Config.{Config}
 use Rattle.lapd_line_machine.specs.Answer.{Event, octet, expiry, request, pull, Answer}
 use Rattle.lapd_line_machine.specs.Deliveries as lines
 use Rattle.lapd_line_machine.specs.Line.{Line, service_at, place_at, tei_at, terms, link_at}
+use Rattle.lapd_line_laws.specs.Frames.{lost_in}
 use Rattle.lapd_line_laws.specs.Heard.{Ends, notes_of}
 use Rattle.lapd_line_laws.specs.Loss.{IsMoved}
 use Rattle.lapd_line_laws.specs.Requests.{of_link}
@@ -52,13 +54,15 @@ IsBy c l e answer service tei link.offer = e ≡ pull
 IsBy c l e answer service tei link.cleared = ⊥
 
 -- What an event may change of a link: V(S), own busy, the responses with F=1 that wait, and what it keeps; and its
--- numbers begin anew only where it is seen.
-pub record IsSteady (t : Terms) (e : link.Event) (before after : Link) (ns : List Note) : Type 0 where
+-- numbers begin anew only where it is seen. And what it leaves of the link's state, its flags and what waits, and how many
+-- frames are lost, is what follows.
+pub record IsSteady (t : Terms) (e : link.Event) (before after : Link) (ns : List Note) (lost : ℕ) : Type 0 where
   pub sent : MovesSent t e before after
   pub busy : MovesBusy e before after ns
   pub final : finals after.waiting ≤ finals before.waiting + polls e
   pub loss : tells_loss ns ≡ true → MayLose e
   pub begins : links.restarts t e before ≡ true → IsSeen e before ns
+  pub follows : Follows t e before after lost
 
 -- One event of the link,
 pub record HasOne (c : Config) (service : Service) (number : ℕ) (e : Event) (before after : Line) (answer : Answer) : Type 0 where
@@ -66,7 +70,7 @@ pub record HasOne (c : Config) (service : Service) (number : ℕ) (e : Event) (b
   pub on_line : tei_at (place_at number) before ≡ Some tei
   pub event : link.Event
   pub by : IsBy c before e answer service tei event
-  pub steady : IsSteady (terms c service tei) event (link_at number before) (link_at number after) (notes_of answer)
+  pub steady : IsSteady (terms c service tei) event (link_at number before) (link_at number after) (notes_of answer) (lost_in answer)
   pub restarts : lines.restarts c number e before ≡ links.restarts (terms c service tei) event (link_at number before)
 
 -- or nothing happens to the link; or its TEI leaves the line, or a TEI comes to its place, and it is as one that begins.

@@ -16,3 +16,10 @@ pub mod Ordinary
 pub mod Steady
 pub mod Effects
 pub mod Expiries
+pub mod Columns
+pub mod RowsDown
+pub mod RowsUp
+pub mod RowsRecovering
+pub mod EachRow
+pub mod Placing
+pub mod Follows

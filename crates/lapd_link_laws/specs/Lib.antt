@@ -11,8 +11,13 @@ pub mod Steady
 pub mod Effects
 pub mod Expiries
 pub mod Beginning
+pub mod States
+pub mod Waiting
+pub mod Flags
+pub mod Following
 pub mod Worked
 pub mod WorkedSending
 pub mod WorkedEnds
 pub mod WorkedBeginning
 pub mod WorkedExpiries
+pub mod WorkedFollowing

@@ -15,7 +15,7 @@ use Rattle.lapd_link_machine.specs.Steps.{Course, Step, ◌then◌}
 use Rattle.lapd_link_machine.specs.Words
 use Rattle.lapd_link_machine.specs.Machine
 use Rattle.lapd_link_laws.specs.States.{as_heard, state_after, numbers_begin}
-use Rattle.lapd_link_laws.specs.Waiting.{answers, commands, put}
+use Rattle.lapd_link_laws.specs.Waiting.{answers, commands}
 use Rattle.lapd_link_laws.specs.Flags.{peer_busy_left, own_busy_left, flag_left, rejecting_heard, takes, unless_put, owed_in, owed_behind, asked_left, repeats_left}
 
 -- What a course leaves: fields of its link, how many frames were lost, and whether the numbers begin.

@@ -4,7 +4,6 @@ use Rattle.std.specs.Prelude.{nat_lt}
 use Rattle.lapd_frame.specs.declared.controls.Control.{Control}
 use Rattle.lapd_frame.specs.declared.controls.Control.TheVariants.{Information, ReceiveReady, ReceiveNotReady, Reject, Sabme, Disc, Ui, Ua, Dm, Frmr, Xid}
 use Rattle.lapd_frame.specs.Grammar.{Parts}
-use Rattle.lapd_link_machine.specs.declared.states.State.{State}
 use Rattle.lapd_link_machine.specs.declared.states.State.TheVariants.{TeiAssigned, AwaitingEstablishment, AwaitingRelease, Established}
 use Rattle.lapd_link_machine.specs.declared.timers.LinkTimer.TheVariants.{T203}
 use Rattle.lapd_link_machine.specs.declared.terms.Terms.{Terms}

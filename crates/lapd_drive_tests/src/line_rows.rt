@@ -3,10 +3,10 @@
 //! Their octets, and the length and the check of what is delivered and sent, were worked out from the rules of
 //! docs/MACHINE.md by another program, not by this card.
 
-use crate::row::{CALL, ESTABLISHED, ON_THE_LINE, Row, Said, Step, Text, UP, USUAL};
+use crate::row::{CALL, ESTABLISHED, ON_THE_LINE, Row, START_T203, Said, Step, Text, UP, USUAL};
 use lapd_bits::Cause;
 use lapd_card::Request;
-use lapd_frame::Note;
+use lapd_frame::{Note, Order, Timer};
 
 pub const LINE_ROWS: [Row; 11] = [
     // SABME is answered by UA.
@@ -18,6 +18,7 @@ pub const LINE_ROWS: [Row; 11] = [
         data: 0,
         delivered: Text(0, 0x0000),
         sent: Text(8, 0xBB84),
+        orders: Some(&[START_T203]),
         state: Some(7),
     },
     // A line of 1s and of flags.
@@ -29,6 +30,7 @@ pub const LINE_ROWS: [Row; 11] = [
         data: 0,
         delivered: Text(0, 0x0000),
         sent: Text(0, 0x0000),
+        orders: Some(&[]),
         state: Some(4),
     },
     // A wrong check.
@@ -43,6 +45,7 @@ pub const LINE_ROWS: [Row; 11] = [
         data: 0,
         delivered: Text(0, 0x0000),
         sent: Text(8, 0xB06B),
+        orders: Some(&[]),
         state: Some(4),
     },
     // The last stuffed 0 is missing.
@@ -54,6 +57,7 @@ pub const LINE_ROWS: [Row; 11] = [
         data: 0,
         delivered: Text(0, 0x0000),
         sent: Text(0, 0x0000),
+        orders: Some(&[]),
         state: Some(4),
     },
     // The same with it.
@@ -65,6 +69,7 @@ pub const LINE_ROWS: [Row; 11] = [
         data: 0,
         delivered: Text(1, 0x88A7),
         sent: Text(0, 0x0000),
+        orders: Some(&[]),
         state: Some(4),
     },
     // A frame is aborted, and comes again.
@@ -81,6 +86,7 @@ pub const LINE_ROWS: [Row; 11] = [
         data: 0,
         delivered: Text(0, 0x0000),
         sent: Text(8, 0xBB84),
+        orders: Some(&[START_T203]),
         state: Some(7),
     },
     // Too short for a frame.
@@ -92,6 +98,7 @@ pub const LINE_ROWS: [Row; 11] = [
         data: 0,
         delivered: Text(0, 0x0000),
         sent: Text(0, 0x0000),
+        orders: Some(&[]),
         state: Some(4),
     },
     // A terminal asks for a TEI.
@@ -108,6 +115,7 @@ pub const LINE_ROWS: [Row; 11] = [
         data: 0,
         delivered: Text(0, 0x0000),
         sent: Text(16, 0x9F22),
+        orders: Some(&[]),
         state: Some(4),
     },
     // Nine terminals ask for a TEI: eight get one.
@@ -165,6 +173,7 @@ pub const LINE_ROWS: [Row; 11] = [
         data: 0,
         delivered: Text(0, 0x0000),
         sent: Text(144, 0x23AC),
+        orders: Some(&[]),
         state: Some(4),
     },
     // Two terminals answer a check.
@@ -183,6 +192,7 @@ pub const LINE_ROWS: [Row; 11] = [
         data: 0,
         delivered: Text(0, 0x0000),
         sent: Text(32, 0xC04A),
+        orders: Some(&[Order::Start(Timer::T201), Order::Stop(Timer::T201)]),
         state: None,
     },
     // Unit data to the group.
@@ -194,6 +204,7 @@ pub const LINE_ROWS: [Row; 11] = [
         data: 0,
         delivered: Text(0, 0x0000),
         sent: Text(16, 0xA013),
+        orders: Some(&[]),
         state: Some(4),
     },
 ];

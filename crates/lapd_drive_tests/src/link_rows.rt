@@ -3,7 +3,10 @@
 //! Their octets, and the length and the check of what is delivered and sent, were worked out from the rules of
 //! docs/MACHINE.md by another program, not by this card.
 
-use crate::row::{CALL, ESTABLISHED, ON_THE_LINE, Row, Said, Step, Text, UP, USUAL};
+use crate::row::{
+    CALL, ESTABLISHED, ON_THE_LINE, Row, START_T200, START_T203, STOP_T203, Said, Step, Text, UP,
+    USUAL,
+};
 use crate::streams::{
     LONGEST_OCTETS, NUMBERS_GO_ROUND_OCTETS, TOO_LONG_OCTETS, WINDOW_AGAIN_OCTETS,
 };
@@ -38,6 +41,7 @@ pub const LINK_ROWS: [Row; 13] = [
         data: 129,
         delivered: Text(129, 0x0A09),
         sent: Text(1048, 0xF7F4),
+        orders: None,
         state: Some(7),
     },
     // The same I-frame twice: it is delivered once, and asked for once.
@@ -55,6 +59,7 @@ pub const LINK_ROWS: [Row; 13] = [
         data: 1,
         delivered: Text(1, 0xA3F5),
         sent: Text(32, 0xCA11),
+        orders: Some(&[START_T203, START_T203, START_T203]),
         state: Some(7),
     },
     // N(R) of what was never sent: error J, and a new establishment.
@@ -69,6 +74,7 @@ pub const LINK_ROWS: [Row; 13] = [
         data: 0,
         delivered: Text(0, 0x0000),
         sent: Text(24, 0x4166),
+        orders: Some(&[START_T203, START_T200, STOP_T203]),
         state: Some(5),
     },
     // A window of one, a queue of two.
@@ -85,6 +91,7 @@ pub const LINK_ROWS: [Row; 13] = [
         data: 0,
         delivered: Text(0, 0x0000),
         sent: Text(0, 0x0000),
+        orders: Some(&[START_T203]),
         state: Some(7),
     },
     // One slot.
@@ -99,6 +106,7 @@ pub const LINK_ROWS: [Row; 13] = [
         data: 0,
         delivered: Text(0, 0x0000),
         sent: Text(8, 0xBB84),
+        orders: Some(&[START_T203]),
         state: Some(7),
     },
     // 260 octets.
@@ -110,6 +118,7 @@ pub const LINK_ROWS: [Row; 13] = [
         data: 1,
         delivered: Text(260, 0x06F6),
         sent: Text(24, 0x9D89),
+        orders: Some(&[START_T203, START_T203]),
         state: Some(7),
     },
     // 261 octets.
@@ -121,6 +130,7 @@ pub const LINK_ROWS: [Row; 13] = [
         data: 0,
         delivered: Text(0, 0x0000),
         sent: Text(24, 0x4166),
+        orders: Some(&[START_T203, START_T200, STOP_T203]),
         state: Some(5),
     },
     // Fifty REJ of a window of seven: 358 frames go out.
@@ -146,6 +156,7 @@ pub const LINK_ROWS: [Row; 13] = [
         data: 0,
         delivered: Text(0, 0x0000),
         sent: Text(3272, 0x3B56),
+        orders: None,
         state: Some(7),
     },
     // Enquiries that nobody answers.
@@ -168,6 +179,9 @@ pub const LINK_ROWS: [Row; 13] = [
         data: 0,
         delivered: Text(0, 0x0000),
         sent: Text(88, 0x77CF),
+        orders: Some(&[
+            START_T203, START_T200, STOP_T203, START_T200, START_T200, START_T200, START_T200,
+        ]),
         state: Some(5),
     },
     // Layer 3 asks for an establishment.
@@ -179,6 +193,7 @@ pub const LINK_ROWS: [Row; 13] = [
         data: 0,
         delivered: Text(0, 0x0000),
         sent: Text(8, 0xD742),
+        orders: Some(&[START_T200]),
         state: Some(5),
     },
     // The terminal releases the link.
@@ -193,6 +208,7 @@ pub const LINK_ROWS: [Row; 13] = [
         data: 0,
         delivered: Text(0, 0x0000),
         sent: Text(24, 0x25AB),
+        orders: Some(&[START_T203, STOP_T203]),
         state: Some(4),
     },
     // Layer 3 takes nothing.
@@ -208,6 +224,7 @@ pub const LINK_ROWS: [Row; 13] = [
         data: 0,
         delivered: Text(0, 0x0000),
         sent: Text(32, 0x3695),
+        orders: Some(&[START_T203, START_T203]),
         state: Some(7),
     },
     // Five answers wait, and one is lost.
@@ -233,6 +250,7 @@ pub const LINK_ROWS: [Row; 13] = [
         data: 0,
         delivered: Text(0, 0x0000),
         sent: Text(40, 0x11F5),
+        orders: Some(&[START_T203, START_T203, START_T203, START_T203, START_T203]),
         state: Some(7),
     },
 ];

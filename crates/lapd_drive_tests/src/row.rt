@@ -2,7 +2,7 @@
 
 use lapd_bits::{Cause, fcs};
 use lapd_card::{Config, Request};
-use lapd_frame::{Note, Refusal, Service, Timer};
+use lapd_frame::{Note, Order, Refusal, Service, Timer};
 
 pub const CALL: Service = Service::Call;
 
@@ -63,6 +63,8 @@ pub struct Row {
     pub delivered: Text,
     /// The octets that are pulled.
     pub sent: Text,
+    /// What is ordered of timers, in order, where the row says it.
+    pub orders: Option<&'static [Order]>,
     /// The state of the link of TEI 64 at the end.
     pub state: Option<u8>,
 }
@@ -92,3 +94,10 @@ pub const UP: [Step; 3] = [
 
 /// That it is established.
 pub const ESTABLISHED: Said = Said::Note(Note::EstablishIndication(CALL, 64));
+
+/// That the link's timers are started, or stopped.
+pub const START_T200: Order = Order::Start(Timer::T200(CALL, 64));
+
+pub const START_T203: Order = Order::Start(Timer::T203(CALL, 64));
+
+pub const STOP_T203: Order = Order::Stop(Timer::T203(CALL, 64));

@@ -3,13 +3,14 @@
 use crate::row::{CALL, Row, Said, text_of};
 use arrayvec::ArrayVec;
 use lapd_card::{Reply, Report, Sink, SinkFailed};
-use lapd_frame::Note;
+use lapd_frame::{Note, Order};
 
-/// What was said, noted, delivered and sent.
+/// What was said, noted, ordered, delivered and sent.
 #[derive(Drop)]
 pub struct Seen {
     said: ArrayVec<Said, 16>,
     data: usize,
+    orders: ArrayVec<Option<Order>, 256>,
     delivered: ArrayVec<u8, 512>,
     sent: ArrayVec<u8, 4096>,
 }
@@ -19,6 +20,7 @@ impl Seen {
         Seen {
             said: ArrayVec::new(),
             data: 0,
+            orders: ArrayVec::new(),
             delivered: ArrayVec::new(),
             sent: ArrayVec::new(),
         }
@@ -28,8 +30,21 @@ impl Seen {
     pub fn is_wanted_by(&self, row: &Row) -> bool {
         self.said.as_slice() == row.said
             && self.data == row.data
+            && self.has_ordered(row.orders)
             && text_of(self.delivered.as_slice()) == row.delivered
             && text_of(self.sent.as_slice()) == row.sent
+    }
+
+    fn has_ordered(&self, wanted: Option<&[Order]>) -> bool {
+        let Some(orders) = wanted else {
+            return true;
+        };
+        for (place, order) in orders.iter().enumerate() {
+            if self.orders.as_slice().get(place) != Some(&Some(*order)) {
+                return false;
+            }
+        }
+        self.orders.len() == orders.len()
     }
 
     fn say(&mut self, said: Said) -> bool {
@@ -47,6 +62,15 @@ impl Seen {
     fn notes(&mut self, notes: &[Note]) -> bool {
         for note in notes {
             if !self.note(*note) {
+                return false;
+            }
+        }
+        true
+    }
+
+    fn order(&mut self, orders: &[Order]) -> bool {
+        for order in orders {
+            if self.orders.try_push(Some(*order)).is_err() {
                 return false;
             }
         }
@@ -74,9 +98,13 @@ impl Seen {
 
     fn keep(&mut self, reply: &Reply<'_>) -> bool {
         match reply {
-            Reply::Report(report) => self.notes(report.notes()) && self.report(report),
+            Reply::Report(report) => {
+                self.notes(report.notes()) && self.order(report.orders()) && self.report(report)
+            }
             Reply::Refused(refusal) => self.say(Said::Refused(*refusal)),
-            Reply::Pulled(pulled) => self.sent.try_push(pulled.octet).is_ok(),
+            Reply::Pulled(pulled) => {
+                self.order(pulled.orders()) && self.sent.try_push(pulled.octet).is_ok()
+            }
         }
     }
 }

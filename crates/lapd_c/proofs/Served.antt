@@ -42,3 +42,14 @@ shown m e r notes orders p sound is same_notes same_orders h =
     let all = h (small m e t sound is) in
     let with_notes = subst (λ (n : List Note). Shows p (told_by n orders r.cause r.lost (option_copied r.delivered))) same_notes all in
     subst (ShowsAnswer p) is (subst (λ (o : List Order). Shows p (told_by t.notes o r.cause r.lost (option_copied r.delivered))) same_orders with_notes)
+
+-- and what they tell
+pub shown_told : (t : Told) (r : Report) (notes : List Note) (orders : List Order) (p : PlainReport) → report_told r ≡ t
+    → notes ≡ (report_told r).notes → orders ≡ (report_told r).orders
+    → (length (contents_of (option_copied r.delivered)) ≤ 260 → Shows p (told_by notes orders r.cause r.lost (option_copied r.delivered)))
+    → length (contents_of t.contents) ≤ 260 → Shows p t
+shown_told t r notes orders p is same_notes same_orders h few =
+    let u = report_told r in
+    let all = h (subst (λ (v : Told). length (contents_of v.contents) ≤ 260) (sym is) few) in
+    let with_notes = subst (λ (n : List Note). Shows p (told_by n orders r.cause r.lost (option_copied r.delivered))) same_notes all in
+    subst (Shows p) is (subst (λ (o : List Order). Shows p (told_by u.notes o r.cause r.lost (option_copied r.delivered))) same_orders with_notes)

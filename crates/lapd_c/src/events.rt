@@ -56,15 +56,23 @@ fn take_octet(card: &mut Card<RawShelf>, line: u32, octet: u8, report: &mut Plai
     if line >= card.lines() {
         return WRONG_LINE;
     }
-    let told = card.octet(line, octet);
-    report.show(
-        told.notes(),
-        told.orders(),
-        told.cause,
-        told.lost,
-        told.delivered,
-    );
-    OK
+    match card.hear(line, octet) {
+        None => {
+            report.show_nothing();
+            OK
+        }
+        Some(bare) => {
+            let told = card.lend(line, &bare);
+            report.show(
+                told.notes(),
+                told.orders(),
+                told.cause,
+                told.lost,
+                told.delivered,
+            );
+            OK
+        }
+    }
 }
 
 /// Gives the next octet of a line to send, low bit first.

@@ -6,14 +6,16 @@ ghost use Rattle.lapd_card_machine.specs.Event.{at};
 ghost use Rattle.lapd_card_machine.specs.Machine.{answer};
 ghost use Rattle.lapd_line_machine.specs.Answer as happening;
 ghost use Rattle.lapd_card.specs.Card.{line_count};
+ghost use Rattle.lapd_card.specs.Lines.{told_at};
 ghost use Rattle.lapd_card.specs.Stands.{Leads};
 ghost use Rattle.lapd_line.specs.Reports.{report_told};
+ghost use Rattle.lapd_plain.specs.Reports.{Shows, contents_of};
 ghost use Rattle.lapd_plain.specs.Statuses as status;
 ghost use Rattle.lapd_c.specs.Cards.{card_of, IsHandle, Stands, CardStands, ShowsAnswer, octet_of, shelf_of};
 ghost use Rattle.lapd_c.specs.Exchange.{is_quiet, is_exchange, step_event, with_step, Exchanged, ExchangedIn};
 
 use crate::card::CardHandle;
-use lapd_card::{Card, Report};
+use lapd_card::{BareReport, Card, Report};
 use lapd_plain::{NO_CARD, OK, PlainReport, WRONG_LENGTH, WRONG_LINE};
 use lapd_store::RawShelf;
 use std::alloc::Global;
@@ -145,7 +147,27 @@ fn tells_taken(card: &mut Card<RawShelf>, line: usize, octet: u8, report: &mut P
         → ShowsAnswer report.new (answer (at line (happening.octet octet)) m) }
     ensures unchanged { result ≡ false → report.new ≡ report.old }
 {
-    let told = card.octet(line, octet);
+    match card.hear(line, octet) {
+        None => false,
+        Some(bare) => tells_ended(card, line, &bare, report),
+    }
+}
+
+// Shows what an octet has ended, if that is anything to tell. It stands apart from the loop, since few octets end anything.
+#[inline(never)]
+fn tells_ended(
+    card: &Card<RawShelf>,
+    line: usize,
+    bare: &BareReport,
+    report: &mut PlainReport,
+) -> bool
+    requires { line < line_count card.now }
+    ensures tells { result ≡ not (is_quiet (happening.told (told_at card.now.lines line bare.now))) }
+    ensures shown { length (contents_of (told_at card.now.lines line bare.now).contents) ≤ 260 → result ≡ true
+        → Shows report.new (told_at card.now.lines line bare.now) }
+    ensures unchanged { result ≡ false → report.new ≡ report.old }
+{
+    let told = card.lend(line, bare);
     if is_quiet(&told) {
         return false;
     }

@@ -1,12 +1,13 @@
 -- One line of a card, taken out of its lines and put back.
-use Rattle.std.proofs.Common.{Some, ◌≡◌, ℕ, ◌≤◌, ◌<◌, List, [], length, sym, ap, subst, ◌∙◌, arith, get_or, set, length-set}
+use Rattle.std.proofs.Common.{Option, None, Some, ◌≡◌, ℕ, ◌≤◌, ◌<◌, List, [], length, sym, ap, subst, ◌∙◌, arith, get_or, set, length-set, refl}
 use Rattle.std.proofs.lemmas.List.{get_or_default, get_or-set_same}
 use Rattle.std.proofs.lemmas.Option.{slice_get-get_or}
 use Rattle.std.specs.Option.{option_map_or}
 use Rattle.lapd_line.specs.declared.reports.BareReport.{BareReport}
 use Rattle.lapd_line.specs.declared.line.Line.{Line}
 use Rattle.lapd_line.specs.Stands as line
-use Rattle.lapd_line.specs.Stands.{config_of}
+use Rattle.lapd_line.specs.Reports.{told_if}
+use Rattle.lapd_line.specs.Stands.{config_of, latest_frame}
 use Rattle.lapd_line.proofs.Stood.{held_of, stands_on}
 use Rattle.lapd_line_machine.specs.declared.config.Config.{Config}
 use Rattle.lapd_line_machine.specs.Answer.{Event, nothing}
@@ -15,7 +16,7 @@ use Rattle.lapd_line_machine.specs.Machine.{after}
 use Rattle.lapd_store.specs.Ownership.{Owned}
 use Rattle.lapd_store.specs.Store.{Store, SameLimits}
 use Rattle.lapd_store.proofs.Focus.{FocusPair, focus_pair}
-use Rattle.lapd_card.specs.Lines.{IsFit, owned, Stand, Serve, Lead, line_in, told_of, told_at}
+use Rattle.lapd_card.specs.Lines.{IsFit, owned, Stand, Serve, Lead, line_in, told_of, told_at, told_if_at}
 
 -- A line stands for its part of the machine, beside what the other lines own; and whatever it and the shelf are
 -- afterwards, if it stands for another line of the machine, the lines stand with that in its place.
@@ -86,3 +87,8 @@ told_there items lines i y outcome same within =
     let within_set : i < length (set items i y) = omega (arith, within, ap length same, length-set items i y) in
     ap (λ at. option_map_or (told_of outcome) at nothing)
     (slice_get-get_or (set items i y) i y within_set ∙ ap Some (get_or-set_same items i y y (omega (arith, within, ap length same))))
+
+pub told_if_there : (items lines : List Line) (i : ℕ) (y : Line) (outcome : Option BareReport) → items ≡ lines → i < length lines
+    → told_if_at (set items i y) i outcome ≡ told_if (latest_frame y) outcome
+told_if_there items lines i y None same within = refl
+told_if_there items lines i y (Some outcome) same within = told_there items lines i y outcome same within

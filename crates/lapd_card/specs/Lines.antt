@@ -1,5 +1,5 @@
 -- The lines of a card and those of its machine, over one shelf.
-use Rattle.std.specs.Prelude.{◌≡◌, ℕ, ◌≤◌, List, [], ◌++◌, length, get_or, set, slice_get}
+use Rattle.std.specs.Prelude.{◌≡◌, ℕ, ◌≤◌, List, [], ◌++◌, length, get_or, set, slice_get, Option, None, Some}
 use Rattle.std.specs.List.{All, AllByRecursion, flat_map, zip}
 use Rattle.std.specs.Option.{option_map_or}
 use Rattle.lapd_line.specs.declared.line.Line.{Line}
@@ -56,6 +56,11 @@ told_of outcome l = told_in (latest_frame l) outcome
 
 abbrev pub told_at : List Line → ℕ → BareReport → Told
 told_at lines number outcome = option_map_or (told_of outcome) (slice_get lines number) nothing
+
+-- The same where there is an outcome, and nothing where there is none.
+abbrev pub told_if_at : List Line → ℕ → Option BareReport → Told
+told_if_at lines number None = nothing
+told_if_at lines number (Some outcome) = told_at lines number outcome
 
 -- Lines as they begin.
 pub record IsFresh (c : Config) (l : Line) : Type 0 where

@@ -47,7 +47,7 @@ impl<S: Shelf> Card<S> {
     ghost use Rattle.std.specs.Io.BufRead.{Rests};
     ghost use Rattle.lapd_card.specs.contracts.card.Card.{the_row};
     ghost use Rattle.lapd_card.specs.Card.{line_count};
-    ghost use Rattle.lapd_card.specs.Lines.{told_at};
+    ghost use Rattle.lapd_card.specs.Lines.{told_at, told_if_at};
     ghost use Rattle.lapd_card.specs.Reply.{answer_of_result};
     ghost use Rattle.lapd_card.specs.Stands.{Stands, Leads};
     ghost use Rattle.lapd_line.specs.Reports.{report_told, pulled_of};
@@ -73,8 +73,31 @@ impl<S: Shelf> Card<S> {
             → may_send (after (at line (happening.octet octet)) m) ≡ may_send m }
         ensures* after { sem 𝓛 (Rests (the_row S.row S.Shelf) self.entry (λ v. Leads S.store (at line (happening.octet octet)) self.old v)) }
     {
-        let bare = self.step(line, octet);
-        self.lend(line, &bare)
+        let bare = self.hear(line, octet);
+        self.report(line, &bare)
+    }
+
+    /// Takes an octet as [`Card::octet`] does, and answers without references; none where it ended nothing, so that there is
+    /// nothing to tell and no report to make. [`Card::lend`] makes the report of the bare one.
+    #[inline(always)]
+    pub fn hear(&mut self, line: usize, octet: u8) -> Option<BareReport>
+        requires { line < line_count self.old }
+        ensures told { (m : machine.Card) → Stands S.store self.old m
+            → happening.told (told_if_at self.new.lines line result) ≡ answer (at line (happening.octet octet)) m }
+        ensures after { Leads S.store (at line (happening.octet octet)) self.old self.new }
+        ensures frames { (m : machine.Card) → Stands S.store self.old m → RisesByOctet line octet m }
+    {
+        self.lines.hear(line, octet, &mut self.shelf)
+    }
+
+    /// The report of what the latest octet of a line led to. Contents that it delivered are lent until the card's next event.
+    // The report borrows from the card, so that no event can come while contents are lent. Whatever the event
+    // changed was changed in a step before this one: no loan is proved beside a later write.
+    pub fn lend(&self, line: usize, bare: &BareReport) -> Report<'_>
+        requires { line < line_count self.now }
+        ensures { report_told result ≡ told_at self.now.lines line bare.now }
+    {
+        self.lines.lend(line, bare)
     }
 
     /// A timer of a line expired. One that does not run has no effect, and nothing is reported.
@@ -115,6 +138,7 @@ impl<S: Shelf> Card<S> {
 
     /// Gives the next octet of a line, low bit first. Where fewer than eight bits are left to send, the frame that is next
     /// is taken, or an idle flag where none waits.
+    #[inline(always)]
     pub fn pull(&mut self, line: usize) -> Pulled
         requires { line < line_count self.old }
         ensures told { (m : machine.Card) → Stands S.store self.old m → pulled_of result ≡ answer (at line happening.pull) m }
@@ -137,22 +161,13 @@ impl<S: Shelf> Card<S> {
         }
     }
 
-    fn step(&mut self, line: usize, octet: u8) -> BareReport
-        requires { line < line_count self.old }
-        ensures told { (m : machine.Card) → Stands S.store self.old m
-            → happening.told (told_at self.new.lines line result) ≡ answer (at line (happening.octet octet)) m }
-        ensures after { Leads S.store (at line (happening.octet octet)) self.old self.new }
-        ensures frames { (m : machine.Card) → Stands S.store self.old m → RisesByOctet line octet m }
-    {
-        self.lines.step(line, octet, &mut self.shelf)
-    }
-
-    // The report borrows from the card, so that no event can come while contents are lent. Whatever the event
-    // changed was changed in a step before this one: no loan is proved beside a later write.
-    fn lend(&self, line: usize, bare: &BareReport) -> Report<'_>
+    fn report(&self, line: usize, bare: &Option<BareReport>) -> Report<'_>
         requires { line < line_count self.now }
-        ensures { report_told result ≡ told_at self.now.lines line bare.now }
+        ensures { report_told result ≡ told_if_at self.now.lines line bare.now }
     {
-        self.lines.lend(line, bare)
+        match bare {
+            None => Report::nothing(),
+            Some(bare) => self.lend(line, bare),
+        }
     }
 }

@@ -48,7 +48,7 @@ pub use card::Card;
 pub use fault::CardFault;
 pub use kept::{Kept, KeptReply};
 pub use lapd_card_machine::Event;
-pub use lapd_line::{Config, Field, Pulled, Report, Request};
+pub use lapd_line::{BareReport, Config, Field, Pulled, Report, Request};
 pub use replies::Reply;
 pub use sink::{Sink, SinkFailed, SinkFault};
 pub use stored::limit;

@@ -10,7 +10,7 @@ ghost use Rattle.lapd_line_machine.specs.Request.{request_of};
 ghost use Rattle.lapd_line_machine.specs.Sound.{IsInRange};
 ghost use Rattle.lapd_line_machine.specs.Stored.{held_in};
 ghost use Rattle.lapd_store.specs.Store.{Store, used_slots};
-ghost use Rattle.lapd_card.specs.Lines.{Stand, Serve, Lead, AreFresh, line_in, told_at};
+ghost use Rattle.lapd_card.specs.Lines.{Stand, Serve, Lead, AreFresh, line_in, told_at, told_if_at};
 
 use lapd_frame::{Refusal, Service, Timer};
 use lapd_line::{BareReport, Config, Line, Pulled, Report, Request, StartFault};
@@ -50,15 +50,21 @@ impl Lines {
         Ok(Lines { lines })
     }
 
-    /// An octet came from a line.
-    pub(crate) fn step<S: Shelf>(&mut self, line: usize, octet: u8, shelf: &mut S) -> BareReport
+    /// An octet came from a line; none where it ended nothing.
+    #[inline(always)]
+    pub(crate) fn hear<S: Shelf>(
+        &mut self,
+        line: usize,
+        octet: u8,
+        shelf: &mut S,
+    ) -> Option<BareReport>
         requires within { line < length self.old }
         requires serve { Serve self.old (S.store shelf.old) }
         ensures told { (c : Config) (ms : List machine.Line) → Stand c self.old (S.store shelf.old) ms
-            → happening.told (told_at self.new line result) ≡ answer c (happening.octet octet) (line_in c line ms) }
+            → happening.told (told_if_at self.new line result) ≡ answer c (happening.octet octet) (line_in c line ms) }
         ensures after { Lead line (happening.octet octet) self.old (S.store shelf.old) self.new (S.store shelf.new) }
     {
-        self.lines[line].step(octet, shelf)
+        self.lines[line].hear(octet, shelf)
     }
 
     /// The report of what the latest octet of a line led to, with the contents that it delivered lent from the line.
@@ -111,6 +117,7 @@ impl Lines {
     }
 
     /// The next octet of a line.
+    #[inline(always)]
     pub(crate) fn pull<S: Shelf>(&mut self, line: usize, shelf: &mut S) -> Pulled
         requires within { line < length self.old }
         requires serve { Serve self.old (S.store shelf.old) }

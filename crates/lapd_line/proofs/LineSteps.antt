@@ -7,6 +7,7 @@ use Rattle.lapd_bits.specs.declared.heard.Ended.TheVariants as ended
 use Rattle.lapd_bits.specs.Framer as framer
 use Rattle.lapd_bits.specs.Stream as stream
 use Rattle.lapd_bits.specs.Stream.{heard_in}
+use Rattle.lapd_frame.specs.declared.short_lists.ShortList.TheVariants as short
 use Rattle.lapd_frame.specs.declared.timers.Timer.{Timer}
 use Rattle.lapd_store.specs.Ownership.{Owned}
 use Rattle.lapd_store.specs.Store.{Store}
@@ -139,6 +140,30 @@ step_told old new s t octet o heard served others m st =
     let m' = with_received octet m in
     let aim : aim_of_octet c octet m ≡ aim_of_event (deframer.latest_of new.deframer) m' = ap (λ h. aim_of_event h m') (gained_is c.n201 octet m.received _ (heard c.n201 m.received st.received)) in
     ap told (served.told others m' (with_octet old.layer s others m octet st.layer) ∙ ap (λ a. (of_aim c a m').told) (sym aim))
+
+-- an octet that ended nothing leaves the entities as they are, and a report of nothing tells what it brings
+abbrev nothing_told : BareReport
+nothing_told = record { notes = short.None; orders = short.None; contents = None; cause = None; lost = 0 }
+
+nothing_served : (e : LinkLayer) (s : Store) (octets : List ℕ) (h : Option stream.Event) → h ≡ None → Serves (aim_of_event h) octets e s e s nothing_told
+nothing_served e s octets h none =
+    subst (λ o. Serves (aim_of_event o) octets e s e s nothing_told) (sym none)
+    (record { config = refl; limits = record { slots = refl; width = refl }; stands = λ others m st. st; told = λ others m st. refl })
+
+pub unheard : (old new : Line) (s : Store) (octet : ℕ)
+    → ((n201 : ℕ) (past : List ℕ) → deframer.Stands n201 old.deframer past → heard_in n201 (past ++ octet ∷ []) ≡ heard_in n201 past ++ option_to_list (deframer.latest_of new.deframer))
+    → ((n201 : ℕ) (past : List ℕ) → deframer.Stands n201 old.deframer past → deframer.Stands n201 new.deframer (past ++ octet ∷ []))
+    → new.framer ≡ old.framer → new.quiet ≡ old.quiet → new.layer ≡ old.layer
+    → deframer.latest_of new.deframer ≡ None
+    → Leads (event.octet octet) old s new s
+    × ((others : List Owned) (m : machine.Line) → Stands old s others m → told nothing ≡ answer (config_of old) (event.octet octet) m)
+unheard old new s octet heard goes_on framed same entities none =
+    let served : Serves (aim_of_event (deframer.latest_of new.deframer)) (latest_frame new) old.layer s new.layer s nothing_told =
+    subst (λ e. Serves (aim_of_event (deframer.latest_of new.deframer)) (latest_frame new) old.layer s e s nothing_told) (sym entities)
+    (nothing_served old.layer s (latest_frame new) (deframer.latest_of new.deframer) none) in (
+      stepped old new s s octet nothing_told heard goes_on framed (λ on. (sym same ∙ on, none)) served,
+      step_told old new s s octet nothing_told heard served,
+    )
 
 -- the bits stay, where the entities alone go on
 pub with_layer : (old : Line) (t : Store) (others : List Owned) (m : machine.Line) (e : LinkLayer) (aim : Aim) (s : Store) → Stands old s others m → e.config ≡ config_of old

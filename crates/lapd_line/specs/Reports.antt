@@ -3,7 +3,7 @@ use Rattle.std.specs.Prelude.{ℕ, List, [], drop, Option, Some, None, option_ma
 use Rattle.std.specs.Option.{option_copied}
 use Rattle.lapd_bits.specs.Stream as stream
 use Rattle.lapd_frame.specs.ShortLists.{listed}
-use Rattle.lapd_line_machine.specs.Answer.{Told, Answer, pulled}
+use Rattle.lapd_line_machine.specs.Answer.{Told, Answer, pulled, nothing}
 use Rattle.lapd_line.specs.declared.reports.BareReport.{BareReport}
 use Rattle.lapd_line.specs.declared.reports.Report.{Report}
 use Rattle.lapd_line.specs.declared.pulled.Pulled.{Pulled}
@@ -20,6 +20,11 @@ without_contents t = record t { contents = None }
 abbrev pub told_in : List ℕ → BareReport → Told
 told_in octets o =
     record { notes = listed o.notes; contents = option_map (λ start. drop start octets) o.contents; cause = o.cause; orders = listed o.orders; lost = o.lost }
+
+-- The same where there is an outcome, and nothing where there is none.
+abbrev pub told_if : List ℕ → Option BareReport → Told
+told_if octets None = nothing
+told_if octets (Some o) = told_in octets o
 
 -- The octets of a frame that is heard, and none of anything else.
 abbrev pub octets_of : Option stream.Event → List ℕ

@@ -1,5 +1,5 @@
 -- What a line holds of its past.
-use Rattle.std.specs.Prelude.{◌≡◌, List, ℕ, ◌++◌, true, None}
+use Rattle.std.specs.Prelude.{◌≡◌, List, ℕ, ◌++◌, true, false, None}
 use Rattle.lapd_bits.specs.Deframer as deframer
 use Rattle.lapd_bits.specs.Framer as framer
 use Rattle.lapd_store.specs.Ownership.{Owned}
@@ -10,6 +10,7 @@ use Rattle.lapd_line_machine.specs.Line as machine
 use Rattle.lapd_line_machine.specs.Machine.{after}
 use Rattle.lapd_line_machine.specs.Pull.{taken}
 use Rattle.lapd_line.specs.declared.line.Line.{Line}
+use Rattle.lapd_line.specs.declared.link_layer.LinkLayer.{LinkLayer}
 use Rattle.lapd_line.specs.LinkLayer as layer
 use Rattle.lapd_line.specs.Links.{links_pairs}
 use Rattle.lapd_line.specs.Reports.{octets_of}
@@ -25,6 +26,10 @@ latest_frame line = octets_of (deframer.latest_of line.deframer)
 -- What a line owns on the shelf: the slots of its links and of the unit data that waits, with their contents.
 abbrev pub pairs_of : Line → machine.Line → List Owned
 pairs_of line m = links_pairs line.layer.links m.links ++ unit_pairs line.layer.units.waiting m.units
+
+-- A line whose entities have served something, so that they may have something to send.
+abbrev pub with_served : LinkLayer → Line → Line
+with_served e line = record line { layer = e; quiet = false }
 
 -- A line stands for a past beside others on its shelf: its deframer for the octets received, its framer for the items
 -- sent and the octets given, its entities for the rest; and the shelf holds exactly what the line and the others own.

@@ -1,7 +1,7 @@
 //! The line: one call an event.
 
-ghost use Rattle.std.specs.Prelude.{◌≡◌, ◌<◌, ◌≤◌, List, length, true, IsTrue, IsFalse, Some, None, IsSome, IfOk, IfErr, OnErr, nat_le};
-ghost use Rattle.lapd_bits.specs.declared.heard.Ended.TheVariants as ends;
+ghost use Rattle.std.specs.Prelude.{◌≡◌, ◌<◌, ◌≤◌, List, length, IsTrue, IsFalse, Some, None, IsSome, IfOk, IfErr, OnErr, nat_le};
+ghost use Rattle.lapd_bits.specs.Deframer.{latest_of};
 ghost use Rattle.lapd_store.specs.Ownership.{Owned, Holds};
 ghost use Rattle.lapd_store.specs.Store.{Store, used_slots};
 ghost use Rattle.lapd_line_machine.specs.Answer as event;
@@ -43,9 +43,10 @@ impl Line {
     ghost use Rattle.std.specs.Borrow.{sem};
     ghost use Rattle.std.specs.Io.BufRead.{Rests};
     ghost use Rattle.lapd_line.specs.contracts.line.Line.{the_row};
-    ghost use Rattle.lapd_line.specs.Reports.{report_told, told_in, pulled_of};
+    ghost use Rattle.lapd_line.specs.LinkLayer.{Standing, Serves, aim_of_event};
+    ghost use Rattle.lapd_line.specs.Reports.{report_told, told_in, told_if, pulled_of};
     ghost use Rattle.lapd_line.specs.Begins.{Begins};
-    ghost use Rattle.lapd_line.specs.Stands.{Stands, Leads, config_of, latest_frame};
+    ghost use Rattle.lapd_line.specs.Stands.{Stands, Leads, config_of, latest_frame, with_served};
     ghost use Rattle.lapd_line.specs.Takes.{orders_taken};
 
     /// A line of a card with these sizes and limits, all in range. No TEI is on it.
@@ -95,8 +96,32 @@ impl Line {
             → told (told_in (latest_frame self.new) result) ≡ answer (config_of self.old) (event.octet octet) m }
         ensures after { Leads (event.octet octet) self.old (S.store shelf.old) self.new (S.store shelf.new) }
     {
-        let ended = self.deframer.step(octet);
-        self.quiet = stays_quiet(self.quiet, ended);
+        self.hear(octet, shelf).unwrap_or(BareReport::nothing())
+    }
+
+    /// Takes an octet as [`Line::step`] does; none where it ended nothing, so that there is nothing to tell and no report
+    /// to make. That is so of most octets, so it is compiled into its caller.
+    #[inline(always)]
+    pub fn hear<S: Shelf>(&mut self, octet: u8, shelf: &mut S) -> Option<BareReport>
+        requires { (others : List Owned) × (m : machine.Line) × Stands self.old (S.store shelf.old) others m }
+        ensures told { (others : List Owned) (m : machine.Line) → Stands self.old (S.store shelf.old) others m
+            → told (told_if (latest_frame self.new) result) ≡ answer (config_of self.old) (event.octet octet) m }
+        ensures after { Leads (event.octet octet) self.old (S.store shelf.old) self.new (S.store shelf.new) }
+    {
+        match self.deframer.step(octet) {
+            Ended::Nothing => None,
+            Ended::Dropped(_) | Ended::Frame(_) | Ended::Overlong => Some(self.serve(shelf)),
+        }
+    }
+
+    /// Serves what the latest octet has ended.
+    fn serve<S: Shelf>(&mut self, shelf: &mut S) -> BareReport
+        requires { Standing self.old.layer (S.store shelf.old) }
+        ensures line { self.new ≡ with_served self.new.layer self.old }
+        ensures served { Serves (aim_of_event (latest_of self.old.deframer)) (latest_frame self.old)
+            self.old.layer (S.store shelf.old) self.new.layer (S.store shelf.new) result }
+    {
+        self.quiet = false;
         self.layer.serve(self.deframer.latest(), shelf)
     }
 
@@ -240,15 +265,5 @@ impl Line {
             Heard::Frame(octets) => octets,
             Heard::Nothing | Heard::Dropped(_) | Heard::Overlong(_) => &[],
         }
-    }
-}
-
-/// Whether a line that has nothing to send still has nothing after an octet: it has, where the octet ended nothing.
-fn stays_quiet(quiet: bool, ended: Ended) -> bool
-    ensures { result ≡ true → (quiet ≡ true) × (ended ≡ ends.Nothing) }
-{
-    match ended {
-        Ended::Nothing => quiet,
-        Ended::Dropped(_) | Ended::Frame(_) | Ended::Overlong => false,
     }
 }

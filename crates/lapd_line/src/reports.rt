@@ -32,7 +32,21 @@ pub struct BareReport {
 }
 
 impl Report<'_> {
+    ghost use Rattle.lapd_line_machine.specs.Answer.{nothing};
     ghost use Rattle.lapd_line.specs.Reports.{report_told, without_contents};
+
+    /// Of something that led to nothing.
+    pub fn nothing() -> Report<'static>
+        ensures { report_told result ≡ nothing }
+    {
+        Report {
+            notes: ShortList::none(),
+            orders: ShortList::none(),
+            delivered: None,
+            cause: None,
+            lost: 0,
+        }
+    }
 
     /// What layer 3 and management are told, in order: at most four notes. The machine of a line never tells more
     /// (`answers_are_short` of `lapd_line_machine`), so none is left out.

@@ -21,7 +21,7 @@ class Call(NamedTuple):
 
 COMES = [
     Call("Card::octet", "lapd_card", "hands the octet to its line"),
-    Call("Line::step", "lapd_line", "asks what the octet ends, if anything"),
+    Call("Line::hear", "lapd_line", "asks what the octet ends, if anything"),
     Call("Deframer::step", "lapd_bits", "flags, stuffed bits, aborts, frame check", [NOTHING, "abort, ragged, short, fcs"]),
     Call("read", "lapd_frame", "reads the frame; the line finds its link", ["extension, sapi, tei"]),
 ]
@@ -128,7 +128,7 @@ def draw(_: str) -> str:
     """The picture."""
     it = Drawing(
         "The way of an octet in and out",
-        "An octet that comes goes by Card::octet, Line::step, Deframer::step and read to Link::receive or Teis::message, "
+        "An octet that comes goes by Card::octet, Line::hear, Deframer::step and read to Link::receive or Teis::message, "
         "and comes back as a Report. One that goes is asked for by Card::pull and Line::pull, and comes by Teis::offer, "
         "unit data or Link::offer, write, Framer::load and Framer::octet.",
     )

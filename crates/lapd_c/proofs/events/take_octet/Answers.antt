@@ -1,12 +1,20 @@
-use Rattle.std.proofs.Common.{refl}
+use Rattle.std.proofs.Common.{refl, ap, subst, ◌∙◌}
 use Rattle.lapd_line_machine.specs.Answer as happening
 use Rattle.lapd_card_machine.specs.Event.{at}
+use Rattle.lapd_c.specs.Cards.{ShowsAnswer}
 use Rattle.lapd_c.proofs.Served.{shown}
 use Rattle.lapd_c.proofs.events.take_octet.Goals as goal
 
-pub returns-clause-served : goal.returns-clause-served
-returns-clause-served c = λ m s w. (
+pub returns-in-None-clause-served : goal.returns-in-None-clause-served
+returns-in-None-clause-served c = λ m s w. (
   refl,
-  c.octet.follows.holds-at-none.stands m s,
-  shown m (at c.args.line (happening.octet c.args.octet)) c.octet.result _ _ c.show.new.self s.sound (c.octet.ensures.told m s) c.notes.ensures c.orders.ensures c.show.ensures,
+  c.hear.ensures.after.stands m s,
+  subst (ShowsAnswer c.show_nothing.new.self) (c.in-None.ensures.told m s) c.show_nothing.ensures.told,
+)
+
+pub returns-in-Some-clause-served : goal.returns-in-Some-clause-served
+returns-in-Some-clause-served c = λ m s w. (
+  refl,
+  c.hear.ensures.after.stands m s,
+  shown m (at c.args.line (happening.octet c.args.octet)) c.lend-told.result _ _ c.show.new.self s.sound (ap happening.told c.lend-told.ensures ∙ c.in-Some.ensures.told m s) c.notes.ensures c.orders.ensures c.show.ensures,
 )

@@ -1,8 +1,18 @@
+use Rattle.std.proofs.Common.{not, ap, subst, ◌∙◌}
 use Rattle.lapd_line_machine.specs.Answer as happening
 use Rattle.lapd_card_machine.specs.Event.{at}
-use Rattle.lapd_c.proofs.Served.{shown}
+use Rattle.lapd_c.specs.Cards.{ShowsAnswer}
+use Rattle.lapd_c.specs.Exchange.{is_quiet}
+use Rattle.lapd_c.proofs.Served.{small}
 use Rattle.lapd_c.proofs.exchange.tells_taken.Goals as goal
 
-pub returns-clause-shown : goal.returns-clause-shown
-returns-clause-shown c = λ m s told.
-    shown m (at c.args.line (happening.octet c.args.octet)) c.octet.result _ _ c.show.new.self s.sound (c.octet.ensures.told m s) c.notes.ensures c.orders.ensures c.show.ensures
+pub returns-in-None-clause-tells : goal.returns-in-None-clause-tells
+returns-in-None-clause-tells c = λ m s. ap (λ a. not (is_quiet a)) (c.in-None.ensures.told m s)
+
+pub returns-in-Some-clause-tells : goal.returns-in-Some-clause-tells
+returns-in-Some-clause-tells c = λ m s. c.tells_ended.ensures.tells ∙ ap (λ a. not (is_quiet a)) (c.in-Some.ensures.told m s)
+
+pub returns-in-Some-clause-shown : goal.returns-in-Some-clause-shown
+returns-in-Some-clause-shown c = λ m s on.
+    subst (ShowsAnswer c.tells_ended.new.report) (c.in-Some.ensures.told m s)
+    (c.tells_ended.ensures.shown (small m (at c.args.line (happening.octet c.args.octet)) _ s.sound (c.in-Some.ensures.told m s)) on)

@@ -15,7 +15,7 @@ ghost use Rattle.lapd_card_machine.specs.Laws.{RefusedByTheTable, RunIsMoments};
 ghost use Rattle.lapd_card_machine.specs.Promises.{IsWithinLimit, IsAmortised, IsAmortisedFromZero, HasSixOctetsAFrame, HasSevenOctetsAReject, IsLinear, IsIsolated, IsNeverFull, IsNumbered, IsNumberedFromZero, IsTextual};
 ghost use Rattle.lapd_card_laws.specs.Promises.{IsKept, IsCountedIn, BeginsEmpty, IsServedIn, UnitsWaitAll, TurnsStay, AreHeeded, TakeEffect, ExpiriesTakeEffectIn, AreSteady, IsDelivered, RunsWhatIsNeeded, NeedsNone};
 ghost use Rattle.lapd_card_laws.specs.Promises.{NotesTell, TeisAreTold, BeginsDown, TeisHaveOnePlace, BegunIsTold};
-ghost use Rattle.lapd_card_laws.specs.Promises.{MessagesHaveCauses, ToldTeisAreThere};
+ghost use Rattle.lapd_card_laws.specs.Promises.{MessagesHaveCauses, ToldTeisAreThere, NotesHaveReasons};
 ghost use Rattle.lapd_card_progress.specs.Promises.{AnswersAreBegun, PullsComeToAnEnd, FewAreToGo, BeginsWithFew};
 ghost use Rattle.lapd_card.specs.Sink.{one_failure_more};
 ghost use Rattle.lapd_card.specs.Stands.{Stands, Leads};
@@ -98,6 +98,9 @@ impl<S: Shelf> Card<S> {
     ///   assignment that is remembered and no check (clauses 5.3.2 to 5.3.5).
     /// - `told_teis_are_there`: in every moment a TEI that comes to wait to be told to a terminal is on the line; it leaves
     ///   again only as `teis_are_told` says.
+    /// - `notes_have_reasons`: in every moment a note that a TEI was assigned is told only of an identity request, one that
+    ///   it was removed only of the expiry of T201, and one that two terminals have it only of an answer to its check
+    ///   (clauses 5.3.2, 5.3.3.2 and 5.3.4).
     /// - `heard_is_delivered`: in every moment an octet that ends a frame which spells the SAPI of a service and a TEI on
     ///   the line is an event of that link and of no other, and one that ends no frame changes nothing but what was
     ///   received; contents are handed on only of an I-frame or a UI that an octet ends, whose information they are, with
@@ -206,6 +209,8 @@ impl<S: Shelf> Card<S> {
             → MessagesHaveCauses m (events_of events.now) }
         ensures told_teis_are_there { (m : machine.Card) → Stands S.store self.old m
             → ToldTeisAreThere m (events_of events.now) }
+        ensures notes_have_reasons { (m : machine.Card) → Stands S.store self.old m
+            → NotesHaveReasons m (events_of events.now) }
         ensures heard_is_delivered { (m : machine.Card) → Stands S.store self.old m → IsDelivered m (events_of events.now) }
 
         // After every front of the list, from every card or, where it says `fresh`, from one that has just begun.

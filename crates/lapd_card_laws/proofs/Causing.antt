@@ -2,6 +2,7 @@
 use Rattle.std.proofs.Common.{◌≡◌, List, true, get_or, sym, ap, ◌∙◌, subst, arith, true≢false, refl, inl}
 use Rattle.std.proofs.lemmas.Bool.{and_parts}
 use Rattle.std.proofs.lemmas.List.{get_or-set_same}
+use Rattle.std.proofs.lemmas.List.Elements.{All-nil}
 use Rattle.lapd_frame.specs.declared.timers.Timer.{Timer}
 use Rattle.lapd_line_machine.specs.Answer as happening
 use Rattle.lapd_line_machine.specs.Line.{Line, fresh_line}
@@ -9,6 +10,8 @@ use Rattle.lapd_line_machine.specs.Machine as lines
 use Rattle.lapd_line_machine.specs.declared.config.Config.{Config}
 use Rattle.lapd_line_laws.specs.Causes.{HaveCauses}
 use Rattle.lapd_line_laws.proofs.Causing.{have-causes}
+use Rattle.lapd_line_laws.specs.Reasons.{HasReason, HaveReasons}
+use Rattle.lapd_line_laws.proofs.Reasoning.{have-reasons}
 use Rattle.lapd_line_laws.proofs.Telling.{told-there}
 use Rattle.lapd_card_machine.specs.Event.{Event}
 use Rattle.lapd_card_machine.specs.Card.{Card, line_at, is_full}
@@ -17,8 +20,8 @@ use Rattle.lapd_card_machine.specs.Run.{IsAtLine, AreAtLines}
 use Rattle.lapd_card_machine.specs.Sound.{IsSound}
 use Rattle.lapd_card_machine.proofs.EachMoment.{moment_of, each_moment}
 use Rattle.lapd_card_machine.proofs.Steps.{has_lines, by_room, line_sound}
-use Rattle.lapd_card_laws.specs.Messages.{HaveCausesIn, AreThereIn}
-use Rattle.lapd_card_laws.specs.Promises.{MessagesHaveCauses, ToldTeisAreThere}
+use Rattle.lapd_card_laws.specs.Messages.{HaveCausesIn, AreThereIn, HaveReasonsIn}
+use Rattle.lapd_card_laws.specs.Promises.{MessagesHaveCauses, ToldTeisAreThere, NotesHaveReasons}
 use Rattle.lapd_card_laws.proofs.Hearing.{no-octet}
 
 -- an expiry takes no slot
@@ -52,3 +55,12 @@ caused-all card events s all = each_moment HaveCausesIn caused-in card events s 
 
 pub there-all : (card : Card) (events : List Event) → IsSound card → AreAtLines card events → ToldTeisAreThere card events
 there-all card events s all = each_moment AreThereIn there-in card events s all
+
+reasons-in : (card : Card) (e : Event) → IsSound card → IsAtLine card e → HaveReasonsIn (moment_of card e)
+reasons-in card e s here =
+    by_room (λ ls a. HaveReasons card.config (line_at e.line card) e.what a) e card
+    (λ full. All-nil (HasReason card.config (line_at e.line card) e.what))
+    (λ room. have-reasons card.config e.what (line_at e.line card))
+
+pub reasons-all : (card : Card) (events : List Event) → IsSound card → AreAtLines card events → NotesHaveReasons card events
+reasons-all card events s all = each_moment HaveReasonsIn reasons-in card events s all

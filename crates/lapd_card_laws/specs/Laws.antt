@@ -6,7 +6,7 @@ use Rattle.lapd_card_machine.specs.Event.{Event}
 use Rattle.lapd_card_machine.specs.Machine.{after}
 use Rattle.lapd_card_machine.specs.Run.{IsAtLine, AreAtLines}
 use Rattle.lapd_card_machine.specs.Sound.{IsSound}
-use Rattle.lapd_card_laws.specs.Promises.{IsKept, IsCountedIn, BeginsEmpty, IsServedIn, UnitsWaitAll, TurnsStay, AreHeeded, TakeEffect, ExpiriesTakeEffectIn, AreSteady, IsDelivered, RunsWhatIsNeeded, NeedsNone, NotesTell, TeisAreTold, BeginsDown, TeisHaveOnePlace, BegunIsTold, MessagesHaveCauses, ToldTeisAreThere}
+use Rattle.lapd_card_laws.specs.Promises.{IsKept, IsCountedIn, BeginsEmpty, IsServedIn, UnitsWaitAll, TurnsStay, AreHeeded, TakeEffect, ExpiriesTakeEffectIn, AreSteady, IsDelivered, RunsWhatIsNeeded, NeedsNone, NotesTell, TeisAreTold, BeginsDown, TeisHaveOnePlace, BegunIsTold, MessagesHaveCauses, ToldTeisAreThere, NotesHaveReasons}
 use Rattle.lapd_card_laws.specs.Timers.{AllHaveTheirTimers}
 
 pub record NothingIsLost : Type 0 where
@@ -52,3 +52,4 @@ ExpiriesTakeEffect = (card : Card) (events : List Event) → IsSound card → Ar
 pub record CausesAreKnown : Type 0 where
   pub causes : (card : Card) (events : List Event) → IsSound card → AreAtLines card events → MessagesHaveCauses card events
   pub there : (card : Card) (events : List Event) → IsSound card → AreAtLines card events → ToldTeisAreThere card events
+  pub reasons : (card : Card) (events : List Event) → IsSound card → AreAtLines card events → NotesHaveReasons card events

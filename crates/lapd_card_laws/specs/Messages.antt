@@ -1,5 +1,6 @@
--- Why messages of TEI management come to wait, in a moment of a run.
+-- Why messages of TEI management come to wait, and notes tell of TEIs, in a moment of a run.
 use Rattle.lapd_line_laws.specs.Causes.{HaveCauses, AreThere}
+use Rattle.lapd_line_laws.specs.Reasons.{HaveReasons}
 use Rattle.lapd_card_machine.specs.Run.{Moment}
 use Rattle.lapd_card_laws.specs.Contents.{line_before, line_after}
 
@@ -10,3 +11,7 @@ HaveCausesIn m = HaveCauses m.card.config m.event.what (line_before m) (line_aft
 -- A TEI that is told to a terminal there is on that line.
 abbrev pub AreThereIn : Moment → Type 0
 AreThereIn m = AreThere (line_before m) (line_after m)
+
+-- What is noted there of TEIs has its reason.
+abbrev pub HaveReasonsIn : Moment → Type 0
+HaveReasonsIn m = HaveReasons m.card.config (line_before m) m.event.what m.answer

@@ -17,7 +17,7 @@ use Rattle.lapd_card_laws.specs.Contents.{link_named, begun, history, accepted_a
 use Rattle.lapd_card_laws.specs.Faithful.{IsFaithful, UnitsWaitIn, TurnStaysIn, IsHeededIn, TakesEffectIn, ExpiryTakesEffectIn, IsSteadyIn, IsHeardIn}
 use Rattle.lapd_card_laws.specs.Begun.{IsBegunIn}
 use Rattle.lapd_card_laws.specs.Knowledge.{up_by_notes, on_by_notes}
-use Rattle.lapd_card_laws.specs.Messages.{HaveCausesIn, AreThereIn}
+use Rattle.lapd_card_laws.specs.Messages.{HaveCausesIn, AreThereIn, HaveReasonsIn}
 use Rattle.lapd_card_laws.specs.Timers.{runs_at_callers}
 
 -- In every moment nothing that was accepted is lost silently.
@@ -114,3 +114,7 @@ MessagesHaveCauses m events = All HaveCausesIn (moments m events)
 -- and a TEI that is told to a terminal is on its line when the message comes to wait.
 abbrev pub ToldTeisAreThere : Card → List Event → Type 0
 ToldTeisAreThere m events = All AreThereIn (moments m events)
+
+-- In every moment what is noted of TEIs has its reason.
+abbrev pub NotesHaveReasons : Card → List Event → Type 0
+NotesHaveReasons m events = All HaveReasonsIn (moments m events)

@@ -7,8 +7,9 @@ ghost use Rattle.lapd_card_laws.specs.Laws.{CausesAreKnown};
 /// which comes to the line, else a denial where no place is free; verify, the expiry of T201 and a granted request for a
 /// check; the second answer of a period, and a granted removal; or the answer counts it as lost, since four wait. All else
 /// puts none there, and changes no TEI, no assignment that is remembered and no check; a pull takes the message that has
-/// waited longest. A TEI that is told to a terminal is on its line when its message comes to wait (Q.921 clauses 5.3.2 to
-/// 5.3.5).
+/// waited longest. A TEI that is told to a terminal is on its line when its message comes to wait. And that a TEI was assigned
+/// is noted of an identity request alone, that it was removed of the expiry of T201, and that two terminals have it of an
+/// answer to its check (Q.921 clauses 5.3.2 to 5.3.5).
 pub fn messages_have_causes()
     ensures { CausesAreKnown }
 {}

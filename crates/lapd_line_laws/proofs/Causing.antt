@@ -1,21 +1,12 @@
 -- Why a message of TEI management comes to wait: each event of a line.
-use Rattle.std.proofs.Common.{◌≡◌, ◌⊎◌, inl, inr, ℕ, ◌<◌, ◌==◌, Bool, true, false, not, cond, List, [], ◌∷◌, length, Option, Some, None, IfSome, Result, Ok, Err, refl, sym, ap, ◌∙◌, subst, arith, eqb-true}
+use Rattle.std.proofs.Common.{◌≡◌, ◌⊎◌, inl, inr, ℕ, ◌<◌, ◌==◌, Bool, true, false, not, cond, [], ◌∷◌, length, Option, Some, None, IfSome, refl, sym, ap, ◌∙◌, subst, arith}
 use Rattle.std.specs.Option.{option_map_or}
-use Rattle.lapd_bits.specs.Stream as stream
-use Rattle.lapd_bits.specs.declared.heard.Cause.TheVariants.{Tei, Unserved}
+use Rattle.lapd_bits.specs.declared.heard.Cause.TheVariants.{Tei}
 use Rattle.lapd_frame.specs.declared.addresses.Address.{Address}
-use Rattle.lapd_frame.specs.declared.addresses.Side.TheVariants.{User}
-use Rattle.lapd_frame.specs.declared.controls.Control.{Control}
-use Rattle.lapd_frame.specs.declared.controls.Control.TheVariants as control
-use Rattle.lapd_frame.specs.declared.faults.ReadFault.{ReadFault}
-use Rattle.lapd_frame.specs.declared.faults.ReadFault.TheVariants.{BadExtension, Undefined, WrongSize, Short}
-use Rattle.lapd_frame.specs.declared.overlong.Long.{Long}
-use Rattle.lapd_frame.specs.declared.overlong.Long.TheVariants as long
 use Rattle.lapd_frame.specs.declared.refusals.Refusal.{Refusal}
 use Rattle.lapd_frame.specs.declared.services.Service.{Service}
 use Rattle.lapd_frame.specs.declared.timers.Timer.TheVariants.{T200, T203, T201}
 use Rattle.lapd_frame.specs.Grammar.{Parts}
-use Rattle.lapd_frame.specs.Reading.{reading, long_reading}
 use Rattle.lapd_frame.specs.Services.{service_of}
 use Rattle.lapd_link_machine.specs.Events as link
 use Rattle.lapd_link_machine.specs.declared.timers.LinkTimer.{LinkTimer}
@@ -29,11 +20,11 @@ use Rattle.lapd_tei.specs.declared.outcome.Change.{Change}
 use Rattle.lapd_tei.specs.declared.outcome.Change.TheVariants.{Gained, Left}
 use Rattle.lapd_line_machine.specs.declared.config.Config.{Config}
 use Rattle.lapd_line_machine.specs.Answer.{Event, octet, expiry, request, pull, Answer, nothing}
-use Rattle.lapd_line_machine.specs.Effect.{Aim, at_none, at_link, at_management, at_units, told_of_management, of_change, of_aim}
+use Rattle.lapd_line_machine.specs.Effect.{Aim, at_none, at_management, told_of_management, of_change, of_aim}
 use Rattle.lapd_line_machine.specs.Expiry.{at_timer}
 use Rattle.lapd_line_machine.specs.Line.{Line, place_in, has_tei}
 use Rattle.lapd_line_machine.specs.Machine.{after, answer, unless_refused, unless_refused_told}
-use Rattle.lapd_line_machine.specs.Octet.{gained, management_sapi, group_tei, drop_for, at_place, to_service, addressed, message_of, aim_of_reading, unless_at_link, aim_of_long, aim_of_heard, aim_of_octet, with_received}
+use Rattle.lapd_line_machine.specs.Octet.{management_sapi, group_tei, drop_for, to_service, addressed, message_of, aim_of_reading, aim_of_heard, aim_of_octet, with_received}
 use Rattle.lapd_line_machine.specs.Pull.{Taken, taken, is_due, with_item, after_pull}
 use Rattle.lapd_line_machine.specs.Refusal.{bad_tei, no_link, tei_taken, table_full, check_running, control_full, refusal}
 use Rattle.lapd_line_machine.specs.Request.{Request, Establish, Release, Data, Unit, Assign, Remove, Check, SetBusy, ClearBusy}
@@ -42,22 +33,15 @@ use Rattle.lapd_line_machine.specs.Sound.{IsInRange, IsSound}
 use Rattle.lapd_line_machine.proofs.Ranges.{ranges_of}
 use Rattle.lapd_line_laws.specs.Causes.{Hears, HasCause, IsTaken, HaveCauses}
 use Rattle.lapd_line_laws.specs.Frames.{lost_in}
-use Rattle.lapd_line_laws.specs.Heard.{Ends}
 use Rattle.lapd_line_laws.specs.Messages.{Said, Says, Serves, Expires, Grants}
 use Rattle.lapd_line_laws.specs.Share.{is_granted}
 use Rattle.lapd_line_laws.proofs.Asked.{passed}
 use Rattle.lapd_line_laws.proofs.Granting.{not-refused}
+use Rattle.lapd_line_laws.proofs.GroupAims.{brings, IsUi, hears, octet-aims}
 use Rattle.lapd_line_laws.proofs.LinkMoves.{IsOne, taken-one}
 use Rattle.lapd_line_laws.proofs.Managing.{by-two, by-three, managed}
 use Rattle.lapd_line_laws.proofs.Messaging.{serves, told-or-not, expires, puts-on, takes-off, begins-asked}
 use Rattle.lapd_tei.proofs.Tables.{not_not}
-
--- An octet ends a frame exactly where it brings one.
-brings : (c : Config) (l : Line) (value : ℕ) (octets : List ℕ) → Ends c l value octets → gained c.n201 l.received value ≡ Some (stream.frame octets)
-brings c l value octets ends = ends
-
-ends-one : (c : Config) (l : Line) (value : ℕ) (octets : List ℕ) → gained c.n201 l.received value ≡ Some (stream.frame octets) → Ends c l value octets
-ends-one c l value octets e = e
 
 -- How many messages an event of TEI management loses is what the line tells.
 module _ (c : Config) (l : Line) (e : teis.Event) where
@@ -146,102 +130,20 @@ module _ (c : Config) (l : Line) where
 
 -- Without a cause TEI management stays.
 module _ (c : Config) (l : Line) (value : ℕ) where
-  abbrev now : Aim → Management
-  now aim = (of_aim c aim (with_received value l)).line.management
-
   abbrev Caused : Aim → Type 0
-  Caused aim = (now aim ≡ l.management) ⊎ ((said : Said) × Hears c l (octet value) said)
-
-  at-service : (service : Service) (tei : ℕ) (what : link.Received) (o : Option ℕ) → Caused (at_place service tei what o)
-  at-service service tei what None = inl refl
-  at-service service tei what (Some place) = inl refl
-
-  to-links : (tei : ℕ) (what : link.Received) (o : Option Service) → Caused (to_service l tei what o)
-  to-links tei what None = inl refl
-  to-links tei what (Some service) = at-service service tei what (place_in l tei)
-
-  to : (address : Address) (what : link.Received) (m : Aim) → (address.sapi ≡ 63 → address.tei ≡ 127 → Caused m) → Caused (addressed l address what m)
-  to address what m h = go (address.sapi == management_sapi) refl (address.tei == group_tei) refl
-    where
-      go : (known : Bool) → (address.sapi == management_sapi) ≡ known → (group : Bool) → (address.tei == group_tei) ≡ group
-          → Caused (cond known (cond group m (drop_for Tei)) (to_service l address.tei what (service_of address.sapi)))
-      go true sapi true group = h (eqb-true address.sapi management_sapi sapi) (eqb-true address.tei group_tei group)
-      go true sapi false group = inl refl
-      go false sapi group tei = to-links address.tei what (service_of address.sapi)
-
-  dropped-too : (address : Address) (what : link.Received) → Caused (addressed l address what (drop_for Unserved))
-  dropped-too address what = to address what (drop_for Unserved) (λ sapi group. inl refl)
-
-  unless : (aim : Aim) → Caused aim → Caused (unless_at_link aim)
-  unless (at_none what) h = h
-  unless (at_link service tei place event) h = inl refl
-  unless (at_management event) h = h
-  unless (at_units unit) h = h
-
-  too-long : (r : Result Long ReadFault) → Caused (aim_of_long l r)
-  too-long (Ok (long.Information address)) = dropped-too address link.overlong
-  too-long (Ok (long.Unnumbered address)) = unless (addressed l address link.overlong (drop_for Unserved)) (dropped-too address link.overlong)
-  too-long (Err BadExtension) = inl refl
-  too-long (Err (Undefined address)) = dropped-too address link.undefined
-  too-long (Err (WrongSize address)) = dropped-too address link.wrong_size
-  too-long (Err Short) = inl refl
+  Caused aim = ((of_aim c aim (with_received value l)).line.management ≡ l.management) ⊎ ((said : Said) × Hears c l (octet value) said)
 
   -- a UI to the group brings a message, or one that is not served
-  by-message : (octets : List ℕ) → Ends c l value octets → (parts : Parts) → reading User octets ≡ Ok parts → parts.address.sapi ≡ 63 → parts.address.tei ≡ 127
-      → (poll : Bool) → parts.control ≡ control.Ui poll → Caused (at_management (teis.message parts.info))
+  by-message : (parts : Parts) → IsUi c l value parts → Caused (at_management (teis.message parts.info))
   unfolding teis.course teis.refusal
-  by-message octets ends parts read sapi group poll is = go (told-or-not l.management parts.info)
+  by-message parts ui = go (told-or-not l.management parts.info)
     where
       go : ((rows.serve (heard_in parts.info) (words.begun l.management)).now ≡ l.management) ⊎ ((said : Said) × Says parts.info said) → Caused (at_management (teis.message parts.info))
       go (inl stays) = inl (managed c (with_received value l) (teis.message parts.info) ∙ stays)
-      go (inr (said, says)) =
-          inr (
-            said,
-            record {
-              value = value;
-              by = refl;
-              octets = octets;
-              ends = ends;
-              parts = parts;
-              read = read;
-              sapi = sapi;
-              group = group;
-              poll = poll;
-              control = is;
-              says = says;
-            },
-          )
-
-  by-control : (octets : List ℕ) → Ends c l value octets → (parts : Parts) → reading User octets ≡ Ok parts → parts.address.sapi ≡ 63 → parts.address.tei ≡ 127
-      → (k : Control) → parts.control ≡ k → Caused (message_of k parts.info)
-  by-control octets ends parts read sapi group (control.Ui poll) is = by-message octets ends parts read sapi group poll is
-  by-control octets ends parts read sapi group (control.Information ns nr p) is = inl refl
-  by-control octets ends parts read sapi group (control.ReceiveReady nr pf) is = inl refl
-  by-control octets ends parts read sapi group (control.ReceiveNotReady nr pf) is = inl refl
-  by-control octets ends parts read sapi group (control.Reject nr pf) is = inl refl
-  by-control octets ends parts read sapi group (control.Sabme p) is = inl refl
-  by-control octets ends parts read sapi group (control.Disc p) is = inl refl
-  by-control octets ends parts read sapi group (control.Ua f) is = inl refl
-  by-control octets ends parts read sapi group (control.Dm f) is = inl refl
-  by-control octets ends parts read sapi group (control.Frmr f) is = inl refl
-  by-control octets ends parts read sapi group (control.Xid pf) is = inl refl
-
-  by-reading : (octets : List ℕ) → Ends c l value octets → (r : Result Parts ReadFault) → reading User octets ≡ r → Caused (aim_of_reading l r)
-  by-reading octets ends (Ok parts) read =
-      to parts.address (link.frame parts) (message_of parts.control parts.info) (λ sapi group. by-control octets ends parts read sapi group parts.control refl)
-  by-reading octets ends (Err BadExtension) read = inl refl
-  by-reading octets ends (Err (Undefined address)) read = dropped-too address link.undefined
-  by-reading octets ends (Err (WrongSize address)) read = dropped-too address link.wrong_size
-  by-reading octets ends (Err Short) read = inl refl
+      go (inr (said, says)) = inr (said, hears c l value parts said ui says)
 
   octet-caused : Caused (aim_of_octet c value l)
-  octet-caused = go (gained c.n201 l.received value) refl
-    where
-      go : (o : Option stream.Event) → gained c.n201 l.received value ≡ o → Caused (option_map_or (aim_of_heard l) o (at_none nothing))
-      go None e = inl refl
-      go (Some (stream.frame octets)) e = by-reading octets (ends-one c l value octets e) (reading User octets) refl
-      go (Some (stream.overlong head)) e = too-long (long_reading User head)
-      go (Some (stream.dropped cause)) e = inl refl
+  octet-caused = octet-aims c l value Caused (inl refl) (λ cause. inl refl) (λ service tei place what. inl refl) (λ parts ui. by-message parts ui)
 
 module _ (c : Config) (l : Line) where
   abbrev FromCause : Event → Line → Answer → Type 0

@@ -22,5 +22,7 @@ pub mod KnowingTeis
 pub mod Beginning
 pub mod Expiring
 pub mod Messaging
+pub mod GroupAims
 pub mod Causing
 pub mod Telling
+pub mod Reasoning

@@ -238,7 +238,7 @@ module _ (m : Management) where
   Told info c = (c.now ≡ m) ⊎ ((said : Said) × Says info said)
 
   module _ (entity high low type last : ℕ) (ours : entity ≡ 0x0F) (odd : last % 2 ≡ 1) where
-    spelled : (kind action : ℕ) → type ≡ kind → last / 2 ≡ action → IsSpelled (entity ∷ high ∷ low ∷ type ∷ last ∷ []) kind (256 * high + low) action
+    pub spelled : (kind action : ℕ) → type ≡ kind → last / 2 ≡ action → IsSpelled (entity ∷ high ∷ low ∷ type ∷ last ∷ []) kind (256 * high + low) action
     spelled kind action is half =
         let end : last ≡ 2 * action + 1 = omega (arith, odd, half) in
         record { high = high; low = low; ri_is = refl; octets = λ i. ours i ∷ high ∷ low ∷ is i ∷ end i ∷ [] }

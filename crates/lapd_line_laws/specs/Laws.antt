@@ -20,6 +20,7 @@ use Rattle.lapd_line_laws.specs.Expiries.{ExpiryTakesEffect}
 use Rattle.lapd_line_laws.specs.Heard.{Ends, IsFor, IsOneEvent, IsNoEvent, contents_in, IsHeard}
 use Rattle.lapd_line_laws.specs.Begun.{says_begun, BeginsAs}
 use Rattle.lapd_line_laws.specs.Causes.{HaveCauses, AreThere}
+use Rattle.lapd_line_laws.specs.Reasons.{HaveReasons}
 use Rattle.lapd_line_laws.specs.Knowledge.{is_up_of, taken_for_up, taken_for_on}
 use Rattle.lapd_line_laws.specs.Timers.{is_needed, runs_then, HaveTheirTimers}
 
@@ -93,7 +94,9 @@ BegunIsTrue = (c : Config) (e : Event) (l : Line) → IsInRange c → IsSound c 
 abbrev pub ExpiriesTakeEffect : Type 0
 ExpiriesTakeEffect = (c : Config) (e : Event) (l : Line) → IsSound c l → ExpiryTakesEffect c e l (after c e l) (answer c e l)
 
--- Messages of TEI management have their causes, and a TEI that is told to a terminal is on the line.
+-- Messages of TEI management have their causes, a TEI that is told to a terminal is on the line, and notes of TEIs have
+-- their reasons.
 pub record MessagesHaveCauses : Type 0 where
   pub causes : (c : Config) (e : Event) (l : Line) → IsInRange c → IsSound c l → HaveCauses c e l (after c e l) (answer c e l)
   pub there : (c : Config) (e : Event) (l : Line) → IsInRange c → IsSound c l → AreThere l (after c e l)
+  pub reasons : (c : Config) (e : Event) (l : Line) → HaveReasons c l e (answer c e l)

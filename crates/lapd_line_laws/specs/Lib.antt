@@ -12,6 +12,7 @@ pub mod Begun
 pub mod Expiries
 pub mod Messages
 pub mod Causes
+pub mod Reasons
 pub mod Laws
 pub mod Worked
 pub mod WorkedPulls

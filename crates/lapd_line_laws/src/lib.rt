@@ -7,7 +7,7 @@
 //! (`Heard`), what a frame makes of its link (`Frames`), which timers are needed and which a caller runs (`Timers`),
 //! what comes of a request that is granted (`Requests`), what an event may change of a link (`Steady`), what notes tell
 //! (`Knowledge`), which frames pulls begin (`Begun`), what TEI management does, row by row (`Messages`), and which event is
-//! the cause (`Causes`), the laws (`Laws`), and worked values (`Worked`, `WorkedPulls`, `WorkedHeard`, `WorkedLinks`,
+//! the cause (`Causes`) and the reason of a note (`Reasons`), the laws (`Laws`), and worked values (`Worked`, `WorkedPulls`, `WorkedHeard`, `WorkedLinks`,
 //! `WorkedMessages`). Each law is the contract of a call that does nothing.
 //!
 //! - `laws`, `timers`, `notes`, `management`: the laws.

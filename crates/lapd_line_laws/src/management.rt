@@ -8,8 +8,9 @@ ghost use Rattle.lapd_line_laws.specs.Laws.{MessagesHaveCauses};
 /// four wait, the answer counts it as lost, and nothing is assigned. Verify, the expiry of T201 and a granted request of a
 /// check ask for the check of a TEI on the line; the second answer of a period, and a granted request, remove one. All else
 /// puts no message there, and changes no TEI, no assignment that is remembered and no check; a pull takes the message that
-/// has waited longest. And a TEI that is told to a terminal is on the line when its message comes to wait (Q.921 clauses
-/// 5.3.2 to 5.3.5).
+/// has waited longest. A TEI that is told to a terminal is on the line when its message comes to wait. And notes have their
+/// reasons: that a TEI was assigned is noted of an identity request, that it was removed of the expiry of T201, and that
+/// two terminals have it of an answer to its check (Q.921 clauses 5.3.2 to 5.3.5).
 pub fn messages_have_causes()
     ensures { MessagesHaveCauses }
 {}

@@ -1,4 +1,5 @@
 use Rattle.lapd_line_laws.proofs.Causing.{have-causes}
+use Rattle.lapd_line_laws.proofs.Reasoning.{have-reasons}
 use Rattle.lapd_line_laws.proofs.Telling.{are-there}
 use Rattle.lapd_line_laws.proofs.management.messages_have_causes.Goals as goal
 
@@ -6,4 +7,5 @@ pub returns : goal.returns
 returns c = record {
   causes = λ c e l ranged s. have-causes c e l ranged s;
   there = λ c e l ranged s. are-there c e l ranged s;
+  reasons = have-reasons;
 }

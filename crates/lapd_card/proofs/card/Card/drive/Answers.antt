@@ -16,7 +16,7 @@ use Rattle.lapd_card_machine.proofs.Refusals.{refused_by_the_table}
 use Rattle.lapd_card_machine.proofs.ByEvent.{frames_by_event}
 use Rattle.lapd_card_machine.proofs.Drops.{drops_cost_nothing, drops_change_nothing}
 use Rattle.lapd_card_machine.specs.Promises.{IsWithinLimit, IsAmortised, IsAmortisedFromZero, HasSixOctetsAFrame, HasSevenOctetsAReject, IsLinear, IsIsolated, IsNeverFull, IsNumbered, IsNumberedFromZero, IsTextual}
-use Rattle.lapd_card_laws.specs.Promises.{IsKept, IsCountedIn, IsServedIn, UnitsWaitAll, TurnsStay, AreHeeded, TakeEffect, ExpiriesTakeEffectIn, AreSteady, IsDelivered, RunsWhatIsNeeded, NotesTell, TeisAreTold, TeisHaveOnePlace, BegunIsTold, MessagesHaveCauses, ToldTeisAreThere}
+use Rattle.lapd_card_laws.specs.Promises.{IsKept, IsCountedIn, IsServedIn, UnitsWaitAll, TurnsStay, AreHeeded, TakeEffect, ExpiriesTakeEffectIn, AreSteady, IsDelivered, RunsWhatIsNeeded, NotesTell, TeisAreTold, TeisHaveOnePlace, BegunIsTold, MessagesHaveCauses, ToldTeisAreThere, NotesHaveReasons}
 use Rattle.lapd_card_laws.proofs.Keeping.{kept, run-counted, begins-empty}
 use Rattle.lapd_card_laws.proofs.Serving.{served-in, units-all, turns-stay}
 use Rattle.lapd_card_laws.proofs.Hearing.{heard-all}
@@ -24,7 +24,7 @@ use Rattle.lapd_card_laws.proofs.Heeding.{heeded-all}
 use Rattle.lapd_card_laws.proofs.Granting.{effect-all, expiries-all}
 use Rattle.lapd_card_laws.proofs.Happening.{steady-all}
 use Rattle.lapd_card_laws.proofs.Beginning.{begun-told}
-use Rattle.lapd_card_laws.proofs.Causing.{caused-all, there-all}
+use Rattle.lapd_card_laws.proofs.Causing.{caused-all, there-all, reasons-all}
 use Rattle.lapd_card_laws.proofs.Knowing.{up-known, on-known, down-at-first, one-place}
 use Rattle.lapd_card_laws.proofs.TimersRun.{needed-run, needs-none}
 use Rattle.lapd_card_progress.specs.Promises.{AnswersAreBegun, PullsComeToAnEnd, FewAreToGo}
@@ -293,3 +293,9 @@ returns-then-is_err-clause-few_to_go g c = λ m count. each_front g.S.Shelf.stor
 
 pub returns-then-is_err-clause-begins_with_few : goal.returns-then-is_err-clause-begins_with_few
 returns-then-is_err-clause-begins_with_few g c = begins-with-few c.args.self.now.config
+
+pub returns-clause-notes_have_reasons : goal.returns-clause-notes_have_reasons
+returns-clause-notes_have_reasons g c = λ m. whole_list g.S.Shelf.store c.args.self.now c.args.events.now c.requires NotesHaveReasons reasons-all m
+
+pub returns-then-is_err-clause-notes_have_reasons : goal.returns-then-is_err-clause-notes_have_reasons
+returns-then-is_err-clause-notes_have_reasons g c = λ m. whole_list g.S.Shelf.store c.args.self.now c.args.events.now c.requires NotesHaveReasons reasons-all m

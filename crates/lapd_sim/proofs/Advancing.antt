@@ -1,12 +1,13 @@
 -- How the lines of a script are gone through.
 use Rattle.std.proofs.Common.{◌≡◌, ◌≢◌, ℕ, ◌+◌, ◌-◌, ◌<◌, ◌≤◌, Bool, true, false, List, [], ◌∷◌, ◌++◌, length, get_or, take, drop, Result, Ok, Err, Some, Option, refl, sym, ap, ◌∙◌, subst, append_assoc, arith, ◌==◌, true≢false, inl, inr}
+use Rattle.std.specs.Prelude.{IfOk}
 use Rattle.std.specs.List.{list_any, AllWithin, HoldsAt}
 use Rattle.std.proofs.lemmas.Bool.Decides.{eqb_tells}
 use Rattle.std.proofs.lemmas.List.{append-nil, drop-append-le, drop_all, drop_more, get_or-take, length-append, length-drop, length-take, take-append-drop, take-take}
 use Rattle.lapd_sim.specs.declared.faults.PlayFault.{PlayFault}
 use Rattle.lapd_sim.specs.declared.faults.PlayFault.TheVariants.{Read}
 use Rattle.lapd_sim.specs.declared.lines.ScriptLines.{ScriptLines}
-use Rattle.lapd_sim.specs.ScriptLines.{held, too_long_after, AreLeft, Takes, Advances}
+use Rattle.lapd_sim.specs.ScriptLines.{held, too_long_after, AreLeft, Takes, Advances, IsReady}
 use Rattle.lapd_sim_machine.specs.Pieces.{pieces_of, line_in}
 use Rattle.lapd_sim.proofs.Pieces.{IsOpen, HasPiece, piece_ended, line_ended, piece_last, line_last, piece_long}
 use Rattle.lapd_sim.proofs.Reading.{open_part}
@@ -104,6 +105,22 @@ pub advances_found : (old mid new : ScriptLines) (result : Result Bool PlayFault
     → AreLeft mid source text → Takes result mid new end (end + 1) → Advances result old new source text
 advances_found old mid new result source text end begins octets number after before short h here left taken =
     take_found old mid new result source text end octets number after short (found mid source text end begins after before h here left) taken
+
+-- The same, where its line feed has come already.
+pub ready_found : (old mid new : ScriptLines) (result : Result Bool PlayFault) (source : Option (List ℕ)) (text : List ℕ) (end : ℕ) → mid.next ≡ mid.start → mid.octets ≡ old.octets → mid.number ≡ old.number
+    → mid.start ≤ end → end < mid.filled → end ≤ mid.start + 4096 → AllWithin (λ octet. octet ≢ 10) mid.buffer.items mid.start end → HoldsAt (λ octet. octet ≡ 10) mid.buffer.items end
+    → AreLeft mid source text → Takes result mid new end (end + 1) → IsReady result old new source text
+ready_found old mid new (Ok true) source text end begins octets number after before short h here left taken =
+    advances_found old mid new (Ok true) source text end begins octets number after before short h here left taken
+ready_found old mid new (Ok false) source text end begins octets number after before short h here left taken = tt
+ready_found old mid new (Err fault) source text end begins octets number after before short h here left taken =
+    advances_found old mid new (Err fault) source text end begins octets number after before short h here left taken
+
+-- There is one then.
+pub ready_is : (mid new : ScriptLines) (result : Result Bool PlayFault) (end : ℕ) → mid.start ≤ end → Takes result mid new end (end + 1) → IfOk result (λ more. more ≡ false → ⊥)
+ready_is mid new (Ok true) end after taken = λ none. true≢false none
+ready_is mid new (Ok false) end after taken = λ none. absurd (omega (arith, taken, after))
+ready_is mid new (Err fault) end after taken = tt
 
 -- The last line, which has none.
 record IsLast (lines : ScriptLines) (source : Option (List ℕ)) (text : List ℕ) : Type 0 where

@@ -6,6 +6,7 @@ pub mod OneByOne
 pub mod Terminals
 pub mod Scenes
 pub mod Eachs
+pub mod Ending
 pub mod Wholes
 pub mod Playing
 pub mod Exchanges

@@ -9,8 +9,8 @@ use Rattle.lapd_bits.specs.Stream.{Event, heard_in}
 use Rattle.lapd_bits.specs.declared.heard.Heard.{Heard}
 use Rattle.lapd_bits.specs.declared.heard.Heard.TheVariants.{Nothing, Dropped, Frame, Overlong}
 use Rattle.lapd_bits.specs.declared.deframer.Deframer.{Deframer}
-use Rattle.lapd_transcript.proofs.Known.{appends_nothing, writes_then, broken_more}
-use Rattle.lapd_transcript.specs.Streams.{Taken, IsWritten, IsBroken}
+use Rattle.lapd_transcript.proofs.Known.{puts_nothing, puts_then, stuck_more}
+use Rattle.lapd_transcript.specs.Streams.{Output, IsPut, IsStuck}
 use Rattle.lapd_transcript.specs.Text.{frame_text}
 use Rattle.lapd_transcript.specs.declared.streams.WriteFailed.{WriteFailed}
 use Rattle.lapd_sim.specs.Stands.{Hears}
@@ -42,30 +42,30 @@ found_gained line past octets gained heard =
     ap (events_text line) (ap (drop (length (heard_in 1024 past))) heard ∙ drop-append_seam (heard_in 1024 past) gained)
 
 -- After some octets the listener has gained events, and what is told of them has been written.
-pub record Shown (line : ℕ) (listener : Deframer) (before after : Taken) (past octets : List ℕ) : Type 0 where
+pub record Shown (line : ℕ) (listener : Deframer) (before after : Output) (past octets : List ℕ) : Type 0 where
   pub gained : List Event
   pub heard : heard_in 1024 (past ++ octets) ≡ heard_in 1024 past ++ gained
-  pub written : IsWritten before after (events_text line gained)
+  pub written : IsPut before after (events_text line gained)
   pub hears : Hears listener (past ++ octets)
 
-module _ (line : ℕ) (listener new : Deframer) (before after last : Taken) (past octets : List ℕ) (octet : ℕ) (event : Option Event)
+module _ (line : ℕ) (listener new : Deframer) (before after last : Output) (past octets : List ℕ) (octet : ℕ) (event : Option Event)
     (s : Shown line listener before after past octets) (is : heard_in 1024 ((past ++ octets) ++ octet ∷ []) ≡ heard_in 1024 (past ++ octets) ++ option_to_list event) where
   heard_more : heard_in 1024 (past ++ (octets ++ octet ∷ [])) ≡ heard_in 1024 past ++ (s.gained ++ option_to_list event)
   heard_more =
       ap (heard_in 1024) (sym (append_assoc past octets (octet ∷ []))) ∙ is ∙ ap (λ events. events ++ option_to_list event) s.heard
       ∙ append_assoc (heard_in 1024 past) s.gained (option_to_list event)
 
-  pub shown_on : Hears new ((past ++ octets) ++ octet ∷ []) → IsWritten after last (events_text line (option_to_list event)) → Shown line new before last past (octets ++ octet ∷ [])
+  pub shown_on : Hears new ((past ++ octets) ++ octet ∷ []) → IsPut after last (events_text line (option_to_list event)) → Shown line new before last past (octets ++ octet ∷ [])
   shown_on h w = record {
     gained = s.gained ++ option_to_list event;
     heard = heard_more;
-    written = subst (IsWritten before last) (sym (events_text-append line s.gained (option_to_list event)))
-        (writes_then (Ok tt) before after last (events_text line s.gained) (events_text line (option_to_list event)) s.written w);
+    written = subst (IsPut before last) (sym (events_text-append line s.gained (option_to_list event)))
+        (puts_then (Ok tt) before after last (events_text line s.gained) (events_text line (option_to_list event)) s.written w);
     hears = subst (Hears new) (append_assoc past octets (octet ∷ [])) h;
   }
 
-  pub shown_in_vain : (rest : List ℕ) (why : WriteFailed) → IsBroken after last (events_text line (option_to_list event))
-      → IsBroken before last (flat_map (frame_text line) (found past ((octets ++ octet ∷ []) ++ rest)))
+  pub shown_in_vain : (rest : List ℕ) (why : WriteFailed) → IsStuck after last (events_text line (option_to_list event))
+      → IsStuck before last (flat_map (frame_text line) (found past ((octets ++ octet ∷ []) ++ rest)))
   shown_in_vain rest why w =
       let so_far = octets ++ octet ∷ [] in
       let gained = s.gained ++ option_to_list event in
@@ -76,28 +76,28 @@ module _ (line : ℕ) (listener new : Deframer) (before after last : Taken) (pas
       let whole : flat_map (frame_text line) (found past (so_far ++ rest)) ≡ (events_text line s.gained ++ events_text line (option_to_list event)) ++ events_text line later.0 =
       found_gained line past (so_far ++ rest) (gained ++ later.0) all ∙ events_text-append line gained later.0
       ∙ ap (λ text. text ++ events_text line later.0) (events_text-append line s.gained (option_to_list event)) in
-      subst (IsBroken before last) (sym whole) (broken_more before last (events_text line s.gained ++ events_text line (option_to_list event)) (events_text line later.0)
-      (writes_then (Err why) before after last (events_text line s.gained) (events_text line (option_to_list event)) s.written w))
+      subst (IsStuck before last) (sym whole) (stuck_more before last (events_text line s.gained ++ events_text line (option_to_list event)) (events_text line later.0)
+      (puts_then (Err why) before after last (events_text line s.gained) (events_text line (option_to_list event)) s.written w))
 
 -- What is lent is told where it is a frame.
-pub frame_told : (line : ℕ) (before after : Taken) (event : Option Event) (octets : Bor (List ℕ)) → heard_of (Frame octets) ≡ event
-    → IsWritten before after (frame_text line octets.now) → IsWritten before after (events_text line (option_to_list event))
+pub frame_told : (line : ℕ) (before after : Output) (event : Option Event) (octets : Bor (List ℕ)) → heard_of (Frame octets) ≡ event
+    → IsPut before after (frame_text line octets.now) → IsPut before after (events_text line (option_to_list event))
 frame_told line before after event octets is w =
-    subst (λ e. IsWritten before after (events_text line (option_to_list e))) is (subst (IsWritten before after) (sym (append-nil (frame_text line octets.now))) w)
+    subst (λ e. IsPut before after (events_text line (option_to_list e))) is (subst (IsPut before after) (sym (append-nil (frame_text line octets.now))) w)
 
-pub frame_in_vain : (line : ℕ) (before after : Taken) (event : Option Event) (octets : Bor (List ℕ)) → heard_of (Frame octets) ≡ event
-    → IsBroken before after (frame_text line octets.now) → IsBroken before after (events_text line (option_to_list event))
+pub frame_in_vain : (line : ℕ) (before after : Output) (event : Option Event) (octets : Bor (List ℕ)) → heard_of (Frame octets) ≡ event
+    → IsStuck before after (frame_text line octets.now) → IsStuck before after (events_text line (option_to_list event))
 frame_in_vain line before after event octets is w =
-    subst (λ e. IsBroken before after (events_text line (option_to_list e))) is (subst (IsBroken before after) (sym (append-nil (frame_text line octets.now))) w)
+    subst (λ e. IsStuck before after (events_text line (option_to_list e))) is (subst (IsStuck before after) (sym (append-nil (frame_text line octets.now))) w)
 
 -- Nothing else is told.
-pub nothing_told : (line : ℕ) (t : Taken) (heard : Heard) (event : Option Event) → heard_of heard ≡ event → ((octets : Bor (List ℕ)) → heard ≡ Frame octets → ⊥)
-    → IsWritten t t (events_text line (option_to_list event))
+pub nothing_told : (line : ℕ) (t : Output) (heard : Heard) (event : Option Event) → heard_of heard ≡ event → ((octets : Bor (List ℕ)) → heard ≡ Frame octets → ⊥)
+    → IsPut t t (events_text line (option_to_list event))
 nothing_told line t heard event is other =
-    subst (λ e. IsWritten t t (events_text line (option_to_list e))) is (subst (IsWritten t t) (sym (silent heard other)) nothing)
+    subst (λ e. IsPut t t (events_text line (option_to_list e))) is (subst (IsPut t t) (sym (silent heard other)) nothing)
   where
-    nothing : IsWritten t t []
-    nothing = record { whole = appends_nothing t.contents; steady = refl }
+    nothing : IsPut t t []
+    nothing = puts_nothing t
 
     silent : (heard : Heard) → ((octets : Bor (List ℕ)) → heard ≡ Frame octets → ⊥) → events_text line (option_to_list (heard_of heard)) ≡ []
     silent Nothing other = refl

@@ -6,8 +6,8 @@ use Rattle.lapd_line_machine.specs.Answer as happening
 use Rattle.lapd_card_machine.specs.Event.{Event, at}
 use Rattle.lapd_card_machine.specs.Machine.{answer}
 use Rattle.lapd_transcript.specs.declared.streams.WriteFailed.{WriteFailed}
-use Rattle.lapd_transcript.specs.Streams.{Taken, IsWritten, IsBroken}
-use Rattle.lapd_transcript.proofs.Known.{writes_then, broken_more, appends_nothing}
+use Rattle.lapd_transcript.specs.Streams.{Output, IsPut, IsStuck}
+use Rattle.lapd_transcript.proofs.Known.{puts_then, stuck_more, puts_nothing}
 use Rattle.lapd_sim_machine.specs.Bench.{Bench, happened}
 use Rattle.lapd_sim_machine.specs.Steps.{Scene, with_event, with_events, answer_text, octets_at, after_rx}
 use Rattle.lapd_sim.specs.Obeyed.{scene, Tells}
@@ -30,13 +30,13 @@ text_onto (e ∷ events) m x =
     ∙ append_assoc x said (with_events events (scene (happened m e))).text
     ∙ ap (λ l. x ++ l) (sym (text_onto events (happened m e) said))
 
-tells_onto : (r : Result Unit WriteFailed) (a b c : Taken) (P : Bench → Type 0) (events : List Event) (s : Scene) → IsWritten a b s.text → Tells r b c P (with_events events (scene s.bench)) → Tells r a c P (with_events events s)
+tells_onto : (r : Result Unit WriteFailed) (a b c : Output) (P : Bench → Type 0) (events : List Event) (s : Scene) → IsPut a b s.text → Tells r b c P (with_events events (scene s.bench)) → Tells r a c P (with_events events s)
 tells_onto (Ok u) a b c P events s before told = (
-  subst (λ text. IsWritten a c text) (sym (text_onto events s.bench s.text)) (writes_then (Ok u) a b c s.text (with_events events (scene s.bench)).text before told.0),
+  subst (λ text. IsPut a c text) (sym (text_onto events s.bench s.text)) (puts_then (Ok u) a b c s.text (with_events events (scene s.bench)).text before told.0),
   subst P (bench_onto events s.bench [] s.text) told.1,
 )
 tells_onto (Err e) a b c P events s before told =
-    subst (λ text. IsBroken a c text) (sym (text_onto events s.bench s.text)) (writes_then (Err e) a b c s.text (with_events events (scene s.bench)).text before told)
+    subst (λ text. IsStuck a c text) (sym (text_onto events s.bench s.text)) (puts_then (Err e) a b c s.text (with_events events (scene s.bench)).text before told)
 
 -- ---- octets that come from a line
 
@@ -46,17 +46,17 @@ after_rx-append line octets more s =
     ap (λ events. with_events events s) (map-append event octets more) ∙ fold-append with_event s (map event octets) (map event more)
 
 -- some octets, and then more
-pub tells_then : (r : Result Unit WriteFailed) (a b c : Taken) (P : Bench → Type 0) (line : ℕ) (octets more : List ℕ) (m : Bench) → IsWritten a b (after_rx line octets (scene m)).text → Tells r b c P (after_rx line more (scene (after_rx line octets (scene m)).bench)) → Tells r a c P (after_rx line (octets ++ more) (scene m))
+pub tells_then : (r : Result Unit WriteFailed) (a b c : Output) (P : Bench → Type 0) (line : ℕ) (octets more : List ℕ) (m : Bench) → IsPut a b (after_rx line octets (scene m)).text → Tells r b c P (after_rx line more (scene (after_rx line octets (scene m)).bench)) → Tells r a c P (after_rx line (octets ++ more) (scene m))
 tells_then r a b c P line octets more m before told =
     subst (λ s. Tells r a c P s) (sym (after_rx-append line octets more (scene m))) (tells_onto r a b c P (octets_at line more) (after_rx line octets (scene m)) before told)
 
 -- where a write failed, octets that were to follow change nothing
-pub broken_then : (a b : Taken) (line : ℕ) (octets more : List ℕ) (m : Bench) → IsBroken a b (after_rx line octets (scene m)).text → IsBroken a b (after_rx line (octets ++ more) (scene m)).text
+pub broken_then : (a b : Output) (line : ℕ) (octets more : List ℕ) (m : Bench) → IsStuck a b (after_rx line octets (scene m)).text → IsStuck a b (after_rx line (octets ++ more) (scene m)).text
 broken_then a b line octets more m broken =
     let s = after_rx line octets (scene m) in
     let whole : (after_rx line (octets ++ more) (scene m)).text ≡ s.text ++ (after_rx line more (scene s.bench)).text =
     ap (λ (t : Scene). t.text) (after_rx-append line octets more (scene m)) ∙ text_onto (octets_at line more) s.bench s.text in
-    subst (λ text. IsBroken a b text) (sym whole) (broken_more a b s.text (after_rx line more (scene s.bench)).text broken)
+    subst (λ text. IsStuck a b text) (sym whole) (stuck_more a b s.text (after_rx line more (scene s.bench)).text broken)
 
-pub tells_none : (a : Taken) (P : Bench → Type 0) (m : Bench) → P m → Tells {E = WriteFailed} (Ok tt) a a P (scene m)
-tells_none a P m holds = (record { whole = appends_nothing a.contents; steady = refl }, holds)
+pub tells_none : (a : Output) (P : Bench → Type 0) (m : Bench) → P m → Tells {E = WriteFailed} (Ok tt) a a P (scene m)
+tells_none a P m holds = (puts_nothing a, holds)

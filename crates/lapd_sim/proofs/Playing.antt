@@ -9,8 +9,8 @@ use Rattle.lapd_script.specs.declared.kind.FaultKind.{FaultKind}
 use Rattle.lapd_script.specs.declared.kind.FaultKind.TheVariants.{TooLong}
 use Rattle.lapd_script.specs.Meaning.{Meaning}
 use Rattle.lapd_script.specs.Read.{read}
-use Rattle.lapd_transcript.specs.Streams.{Taken, IsWritten, IsBroken}
-use Rattle.lapd_transcript.proofs.Known.{writes_then, broken_more, appends_nothing}
+use Rattle.lapd_transcript.specs.Streams.{Output, IsPut, IsStuck}
+use Rattle.lapd_transcript.proofs.Known.{puts_then, stuck_more, puts_nothing}
 use Rattle.lapd_sim_machine.specs.Bench as machine
 use Rattle.lapd_sim_machine.specs.Pieces.{pieces_of, line_in}
 use Rattle.lapd_sim_machine.specs.Script.{Played, Fault, played, one_more, not_begun, counted, faulty, is_too_long, after_reading, after_meaning, after_bench, after_scene, after_piece, unless_faulty, transcript, first_fault}
@@ -22,15 +22,16 @@ use Rattle.lapd_sim.specs.declared.faults.LineFault.TheVariants.{Faulty}
 use Rattle.lapd_sim.specs.declared.faults.PlayFault.{PlayFault}
 use Rattle.lapd_sim.specs.declared.faults.PlayFault.TheVariants.{Read, Write, Script, OutOfMemory}
 use Rattle.lapd_sim.specs.declared.lines.ScriptLines.{ScriptLines}
-use Rattle.lapd_sim.specs.Faults.{fault_at, line_writes_failed}
+use Rattle.lapd_sim.specs.Faults.{fault_at}
+use Rattle.lapd_sim.specs.Pages.{PutsNone, PutsSome, Reaches}
 use Rattle.lapd_sim.specs.ScriptLines.{AreLeft, IsNext, IsTooLong, Advances, held}
 use Rattle.lapd_sim.specs.Obeyed.{Said, Does, StartsBy, said, said_by, said_of, said_with, said_without, scene}
-use Rattle.lapd_sim.specs.Plays.{Plays, AreAnswered}
+use Rattle.lapd_sim.specs.Plays.{PlaysOn, AreAnswered}
 use Rattle.lapd_sim.specs.Stands.{Has}
 use Rattle.lapd_sim.proofs.Wholes.{AreWhole, no_whole, whole_more, first_whole, some_octet, split_first, read_whole}
 
 -- These pieces of the text have been played without a fault, and what is left of it is still to be read.
-pub record IsPlayed (lines : ScriptLines) (bench : Option Bench) (remaining : Option (List ℕ)) (text : List ℕ) (old new : Taken) : Type 0 where
+pub record IsPlayed (lines : ScriptLines) (bench : Option Bench) (remaining : Option (List ℕ)) (text : List ℕ) (old new : Output) : Type 0 where
   pub done : List (List ℕ)
   pub left : List ℕ
   pub is : pieces_of text ≡ done ++ pieces_of left
@@ -39,7 +40,7 @@ pub record IsPlayed (lines : ScriptLines) (bench : Option Bench) (remaining : Op
   pub octets : lines.octets ≡ (played done).octets
   pub sound : (played done).fault ≡ None
   pub has : Has bench (played done).bench
-  pub written : IsWritten old new (played done).written
+  pub written : IsPut old new (played done).written
   -- the octets of these pieces; they are whole lines but where they are all that the source gave
   pub front : List ℕ
   pub joined : text ≡ front ++ left
@@ -151,7 +152,7 @@ fault_is text left done piece more kind is next sound fault =
     ∙ stays more (faulty kind (played done)) (record { line = (played done).lines + 1; kind = kind }) refl
 
 -- nothing has been played yet
-pub begins : (lines : ScriptLines) (bench : Option Bench) (remaining : Option (List ℕ)) (text : List ℕ) (a : Taken) → bench ≡ None → lines.number ≡ 0 → lines.octets ≡ 0
+pub begins : (lines : ScriptLines) (bench : Option Bench) (remaining : Option (List ℕ)) (text : List ℕ) (a : Output) → bench ≡ None → lines.number ≡ 0 → lines.octets ≡ 0
     → AreLeft lines remaining text → IsPlayed lines bench remaining text a a
 begins lines bench remaining text a none number octets unread = record {
   done = [];
@@ -162,7 +163,7 @@ begins lines bench remaining text a none number octets unread = record {
   octets = octets;
   sound = refl;
   has = subst (λ b. Has b None) (sym none) tt;
-  written = record { whole = appends_nothing a.contents; steady = refl };
+  written = puts_nothing a;
   front = [];
   joined = refl;
   while_open = λ e. no_whole;
@@ -170,52 +171,52 @@ begins lines bench remaining text a none number octets unread = record {
 }
 
 -- no line is left
-pub ends : (lines : ScriptLines) (bench : Option Bench) (remaining : Option (List ℕ)) (text : List ℕ) (a b : Taken) (p : IsPlayed lines bench remaining text a b) → p.left ≡ []
-    → (first_fault text ≡ None) × IsWritten a b (transcript text)
+pub ends : (lines : ScriptLines) (bench : Option Bench) (remaining : Option (List ℕ)) (text : List ℕ) (a b : Output) (p : IsPlayed lines bench remaining text a b) → p.left ≡ []
+    → (first_fault text ≡ None) × IsPut a b (transcript text)
 ends lines bench remaining text a b p none =
     let all : played (pieces_of text) ≡ played p.done = ap played (p.is ∙ ap (λ l. p.done ++ pieces_of l) none ∙ append-nil p.done) in
-    (ap (λ q. Played.fault q) all ∙ p.sound, subst (λ t. IsWritten a b t) (sym (ap (λ q. Played.written q) all)) p.written)
+    (ap (λ q. Played.fault q) all ∙ p.sound, subst (λ t. IsPut a b t) (sym (ap (λ q. Played.written q) all)) p.written)
 
 -- the next line is too long
-pub stops_long : (lines : ScriptLines) (bench : Option Bench) (remaining : Option (List ℕ)) (text : List ℕ) (a b : Taken) (p : IsPlayed lines bench remaining text a b) (number : ℕ) → IsTooLong lines number p.left
-    → (first_fault text ≡ Some (record { line = number; kind = TooLong })) × IsWritten a b (transcript text)
+pub stops_long : (lines : ScriptLines) (bench : Option Bench) (remaining : Option (List ℕ)) (text : List ℕ) (a b : Output) (p : IsPlayed lines bench remaining text a b) (number : ℕ) → IsTooLong lines number p.left
+    → (first_fault text ≡ Some (record { line = number; kind = TooLong })) × IsPut a b (transcript text)
 stops_long lines bench remaining text a b p number long =
     let fault = long_is long.piece (played p.done) (λ short. subst (λ n. 2 ^ 63 < n + length long.piece) p.octets (long.long short)) in
     let all = fault_is text p.left p.done long.piece (pieces_of long.more) TooLong p.is long.pieces p.sound fault in (
       ap (λ q. Played.fault q) all ∙ ap (λ n. Some (record { line = n; kind = TooLong })) (sym (long.number ∙ ap (λ n. n + 1) p.number)),
-      subst (λ t. IsWritten a b t) (sym (ap (λ q. Played.written q) all)) p.written,
+      subst (λ t. IsPut a b t) (sym (ap (λ q. Played.written q) all)) p.written,
     )
 
 -- the next line leads to what it says
-pub next_is : (lines new : ScriptLines) (bench : Option Bench) (remaining left : Option (List ℕ)) (text : List ℕ) (a b : Taken) (p : IsPlayed lines bench remaining text a b) (n : IsNext lines new left p.left)
+pub next_is : (lines new : ScriptLines) (bench : Option Bench) (remaining left : Option (List ℕ)) (text : List ℕ) (a b : Output) (p : IsPlayed lines bench remaining text a b) (n : IsNext lines new left p.left)
     → new.octets ≤ 2 ^ 63 → after_piece n.piece (played p.done) ≡ after_said n.piece (said (line_in n.piece) (played p.done).bench) (played p.done)
 next_is lines new bench remaining left text a b p n bound =
     short_is n.piece (played p.done) n.short (subst (λ octets. octets ≤ 2 ^ 63) (n.octets ∙ ap (λ octets. octets + length n.piece) p.octets) bound)
 
 -- the next line is faulty
-pub stops_faulty : (lines new : ScriptLines) (bench : Option Bench) (remaining left : Option (List ℕ)) (text : List ℕ) (a b : Taken) (p : IsPlayed lines bench remaining text a b) (n : IsNext lines new left p.left)
+pub stops_faulty : (lines new : ScriptLines) (bench : Option Bench) (remaining left : Option (List ℕ)) (text : List ℕ) (a b : Output) (p : IsPlayed lines bench remaining text a b) (n : IsNext lines new left p.left)
     → new.octets ≤ 2 ^ 63 → (kind : FaultKind) → said (line_in n.piece) (played p.done).bench ≡ Err kind
-    → (first_fault text ≡ Some (record { line = new.number; kind = kind })) × IsWritten a b (transcript text)
+    → (first_fault text ≡ Some (record { line = new.number; kind = kind })) × IsPut a b (transcript text)
 stops_faulty lines new bench remaining left text a b p n bound kind fault =
     let next = next_is lines new bench remaining left text a b p n bound ∙ ap (λ x. after_said n.piece x (played p.done)) fault in
     let all = fault_is text p.left p.done n.piece (pieces_of n.more) kind p.is n.pieces p.sound next in (
       ap (λ q. Played.fault q) all ∙ ap (λ i. Some (record { line = i; kind = kind })) (sym (n.number ∙ ap (λ i. i + 1) p.number)),
-      subst (λ t. IsWritten a b t) (sym (ap (λ q. Played.written q) all)) p.written,
+      subst (λ t. IsPut a b t) (sym (ap (λ q. Played.written q) all)) p.written,
     )
 
 -- a write of the next line fails
-pub stops_broken : (lines new : ScriptLines) (bench : Option Bench) (remaining left : Option (List ℕ)) (text : List ℕ) (a b c : Taken) (p : IsPlayed lines bench remaining text a b) (n : IsNext lines new left p.left)
-    → new.octets ≤ 2 ^ 63 → (s : Said) → said (line_in n.piece) (played p.done).bench ≡ Ok s → IsBroken b c s.text → IsBroken a c (transcript text)
+pub stops_broken : (lines new : ScriptLines) (bench : Option Bench) (remaining left : Option (List ℕ)) (text : List ℕ) (a b c : Output) (p : IsPlayed lines bench remaining text a b) (n : IsNext lines new left p.left)
+    → new.octets ≤ 2 ^ 63 → (s : Said) → said (line_in n.piece) (played p.done).bench ≡ Ok s → IsStuck b c s.text → IsStuck a c (transcript text)
 stops_broken lines new bench remaining left text a b c p n bound s fine broken =
     let next = next_is lines new bench remaining left text a b p n bound ∙ ap (λ x. after_said n.piece x (played p.done)) fine in
     let all = all_played text p.left p.done n.piece (pieces_of n.more) p.is n.pieces p.sound ∙ ap (λ q. fold one_more q (pieces_of n.more)) next in
     let rest = grows (pieces_of n.more) (after_said n.piece (Ok s) (played p.done)) in
-    subst (λ t. IsBroken a c t) (sym (ap (λ q. Played.written q) all ∙ rest.1))
-    (broken_more a c ((played p.done).written ++ s.text) rest.0 (writes_then (Err (record {})) a b c (played p.done).written s.text p.written broken))
+    subst (λ t. IsStuck a c t) (sym (ap (λ q. Played.written q) all ∙ rest.1))
+    (stuck_more a c ((played p.done).written ++ s.text) rest.0 (puts_then (Err (record {})) a b c (played p.done).written s.text p.written broken))
 
 -- the next line has been played
-pub goes_on : (lines new : ScriptLines) (bench later : Option Bench) (remaining left : Option (List ℕ)) (text : List ℕ) (a b c : Taken) (p : IsPlayed lines bench remaining text a b) (n : IsNext lines new left p.left)
-    → new.octets ≤ 2 ^ 63 → (s : Said) → said (line_in n.piece) (played p.done).bench ≡ Ok s → IsWritten b c s.text → Has later s.bench → IsPlayed new later left text a c
+pub goes_on : (lines new : ScriptLines) (bench later : Option Bench) (remaining left : Option (List ℕ)) (text : List ℕ) (a b c : Output) (p : IsPlayed lines bench remaining text a b) (n : IsNext lines new left p.left)
+    → new.octets ≤ 2 ^ 63 → (s : Said) → said (line_in n.piece) (played p.done).bench ≡ Ok s → IsPut b c s.text → Has later s.bench → IsPlayed new later left text a c
 goes_on lines new bench later remaining left text a b c p n bound s fine written has =
     let is : played (p.done ++ n.piece ∷ []) ≡ after_said n.piece (Ok s) (played p.done) =
     played_more p.done n.piece p.sound ∙ next_is lines new bench remaining left text a b p n bound ∙ ap (λ x. after_said n.piece x (played p.done)) fine in
@@ -230,24 +231,24 @@ goes_on lines new bench later remaining left text a b c p n bound s fine written
       octets = n.octets ∙ ap (λ i. i + length n.piece) p.octets ∙ sym (ap (λ q. Played.octets q) is);
       sound = ap (λ q. Played.fault q) is ∙ p.sound;
       has = subst (λ q. Has later (Played.bench q)) (sym is) has;
-      written = subst (λ q. IsWritten a c (Played.written q)) (sym is) (writes_then (Ok tt) a b c (played p.done).written s.text p.written written);
+      written = subst (λ q. IsPut a c (Played.written q)) (sym is) (puts_then (Ok tt) a b c (played p.done).written s.text p.written written);
       front = p.front ++ n.piece;
       joined = p.joined ∙ ap (λ l. p.front ++ l) (split_first p.left n.piece n.more n.pieces) ∙ sym (append_assoc p.front n.piece n.more);
       while_open = λ e. whole_more p.front p.done p.left n.piece (pieces_of n.more) whole n.pieces (n.whole e);
       before_more = λ o t e. whole_more p.front p.done p.left n.piece (pieces_of n.more) whole n.pieces (first_whole p.left n.piece n.more o t n.pieces e);
     }
 
--- what a line did to the target's failures, and that there is a bench after it
-pub does_fail : (fault : LineFault) (a b : Taken) (m : Option machine.Bench) (has : Option machine.Bench → Type 0) (x : Result Said FaultKind) → Does (Err fault) a b m has x
-    → b.failures ≡ line_writes_failed fault a.failures
-does_fail (Faulty kind) a b m has x h = ap (λ t. Taken.failures t) h.0
-does_fail line.Write a b m has (Ok s) h = h.failed
-does_fail line.Write a b m has (Err kind) h = absurd h
-does_fail line.OutOfMemory a b m has x h = ap (λ t. Taken.failures t) h.0
+-- what a line put, where it stopped the script and where it did not; and that there is a bench after it
+pub does_fail : (fault : LineFault) (number : ℕ) (a b c : Output) (m : Option machine.Bench) (has : Option machine.Bench → Type 0) (x : Result Said FaultKind) (text : List ℕ) → IsPut a b text
+    → Does (Err fault) b c m has x → PutsSome {A = Unit} (Err (fault_at fault number)) a c
+does_fail (Faulty kind) number a b c m has x text p h = (text, subst (λ d. IsPut a d text) (sym h.0) p)
+does_fail line.Write number a b c m has (Ok s) text p h = (text ++ s.text, puts_then (Err (record {})) a b c text s.text p h)
+does_fail line.Write number a b c m has (Err kind) text p h = absurd h
+does_fail line.OutOfMemory number a b c m has x text p h = (text, subst (λ d. IsPut a d text) (sym h.0) p)
 
-pub does_ok : (u : Unit {0}) (a b : Taken) (m : Option machine.Bench) (has : Option machine.Bench → Type 0) (x : Result Said FaultKind) → Does (Ok u) a b m has x
-    → (b.failures ≡ a.failures) × ((s : Said) × (x ≡ Ok s) × IsWritten a b s.text × has s.bench)
-does_ok u a b m has (Ok s) h = (h.0.steady, (s, refl, h.0, h.1))
+pub does_ok : (u : Unit {0}) (a b : Output) (m : Option machine.Bench) (has : Option machine.Bench → Type 0) (x : Result Said FaultKind) → Does (Ok u) a b m has x
+    → (s : Said) × (x ≡ Ok s) × IsPut a b s.text × has s.bench
+does_ok u a b m has (Ok s) h = (s, refl, h.0, h.1)
 does_ok u a b m has (Err kind) h = absurd h
 
 -- where there is no card yet, nothing has been written
@@ -287,22 +288,22 @@ silent : (pieces : List (List ℕ)) → (played pieces).bench ≡ None → (play
 silent pieces = silent_after pieces not_begun (λ e. refl)
 
 -- the next line stops the script
-pub stops : (fault : LineFault) (lines new : ScriptLines) (bench : Option Bench) (remaining left : Option (List ℕ)) (text : List ℕ) (a b c : Taken) (has : Option machine.Bench → Type 0)
+pub stops : (fault : LineFault) (lines new : ScriptLines) (bench : Option Bench) (remaining left : Option (List ℕ)) (text : List ℕ) (a b c : Output) (has : Option machine.Bench → Type 0)
     (p : IsPlayed lines bench remaining text a b) (n : IsNext lines new left p.left) → new.octets ≤ 2 ^ 63
     → Does (Err fault) b c (played p.done).bench has (said (line_in n.piece) (played p.done).bench)
-    → Plays (Err (fault_at fault new.number)) text left a c
+    → PlaysOn (Err (fault_at fault new.number)) text left a c
 stops (Faulty kind) lines new bench remaining left text a b c has p n bound h =
     let found = stops_faulty lines new bench remaining left text a b p n bound kind h.1 in
-    (found.0, subst (λ t. IsWritten a t (transcript text)) (sym h.0) found.1)
+    (found.0, subst (λ t. IsPut a t (transcript text)) (sym h.0) found.1)
 stops line.Write lines new bench remaining left text a b c has p n bound h =
     stops_write (said (line_in n.piece) (played p.done).bench) refl h where
-      stops_write : (x : Result Said FaultKind) → said (line_in n.piece) (played p.done).bench ≡ x → Does (Err line.Write) b c (played p.done).bench has x → IsBroken a c (transcript text)
+      stops_write : (x : Result Said FaultKind) → said (line_in n.piece) (played p.done).bench ≡ x → Does (Err line.Write) b c (played p.done).bench has x → IsStuck a c (transcript text)
       stops_write (Ok s) e k = stops_broken lines new bench remaining left text a b c p n bound s e k
       stops_write (Err kind) e k = absurd k
 stops line.OutOfMemory lines new bench remaining left text a b c has p n bound h =
     let is : played (p.done ++ n.piece ∷ []) ≡ after_said n.piece (Ok (record { bench = Some h.1.card; text = [] })) (played p.done) =
     played_more p.done n.piece p.sound ∙ next_is lines new bench remaining left text a b p n bound ∙ ap (λ x. after_said n.piece x (played p.done)) h.1.begins in (
-      subst (λ t. IsWritten a t []) (sym h.0) (subst (λ t. IsWritten a b t) (silent p.done h.1.none) p.written),
+      subst (λ t. IsPut a t []) (sym h.0) (subst (λ t. IsPut a b t) (silent p.done h.1.none) p.written),
       inr (record {
         before = p.done;
         piece = n.piece;
@@ -328,8 +329,8 @@ next true old new remaining text e h = h
 next false old new remaining text e h = absurd (true≢false (sym e))
 
 -- reading stops the script
-pub stops_reading : (fault : PlayFault) (lines new : ScriptLines) (bench : Option Bench) (remaining left : Option (List ℕ)) (text : List ℕ) (a b : Taken) (p : IsPlayed lines bench remaining text a b)
-    → Advances (Err fault) lines new left p.left → Plays (Err fault) text left a b
+pub stops_reading : (fault : PlayFault) (lines new : ScriptLines) (bench : Option Bench) (remaining left : Option (List ℕ)) (text : List ℕ) (a b : Output) (p : IsPlayed lines bench remaining text a b)
+    → Advances (Err fault) lines new left p.left → PlaysOn (Err fault) text left a b
 stops_reading Read lines new bench remaining left text a b p h =
     let pieces = read_whole p.front h.begun p.done (p.while_open h.goes_on) h.open_is in
     record {
@@ -337,7 +338,7 @@ stops_reading Read lines new bench remaining left text a b p h =
       unread = h.rest;
       is = p.joined ∙ ap (λ l. p.front ++ l) h.is ∙ sym (append_assoc p.front h.begun h.rest);
       tells = h.tells;
-      answered = subst (λ ps. AreAnswered ps a b) (sym pieces) (record { sound = p.sound; written = p.written });
+      answered = subst (λ ps. AreAnswered ps (IsPut a b)) (sym pieces) (record { sound = p.sound; written = p.written });
     }
 stops_reading (Script number kind) lines new bench remaining left text a b p h =
     let found = stops_long lines bench remaining text a b p number h.1 in
@@ -345,17 +346,63 @@ stops_reading (Script number kind) lines new bench remaining left text a b p h =
 stops_reading Write lines new bench remaining left text a b p h = absurd h
 stops_reading OutOfMemory lines new bench remaining left text a b p h = absurd h
 
+-- ---- the page on its way
+
+-- the page has gone out
+abbrev pub played_on : (lines : ScriptLines) (bench : Option Bench) (remaining : Option (List ℕ)) (text : List ℕ) (a b c : Output) → IsPlayed lines bench remaining text a b → IsPut b c []
+    → IsPlayed lines bench remaining text a c
+played_on lines bench remaining text a b c p put = record {
+  done = p.done;
+  left = p.left;
+  is = p.is;
+  unread = p.unread;
+  number = p.number;
+  octets = p.octets;
+  sound = p.sound;
+  has = p.has;
+  written = subst (IsPut a c) (append-nil (played p.done).written) (puts_then (Ok tt) a b c (played p.done).written [] p.written put);
+  front = p.front;
+  joined = p.joined;
+  while_open = p.while_open;
+  before_more = p.before_more;
+}
+
+-- it could not
+stops_sending : (lines : ScriptLines) (bench : Option Bench) (remaining : Option (List ℕ)) (text : List ℕ) (a b c : Output) → IsPlayed lines bench remaining text a b → IsStuck b c [] → IsStuck a c (transcript text)
+stops_sending lines bench remaining text a b c p stuck =
+    let rest = grows (pieces_of p.left) (played p.done) in
+    let whole : transcript text ≡ (played p.done).written ++ rest.0 =
+    ap (λ pieces. (played pieces).written) p.is ∙ ap (λ q. Played.written q) (fold-append one_more not_begun p.done (pieces_of p.left)) ∙ rest.1 in
+    subst (IsStuck a c) (sym whole)
+    (stuck_more a c (played p.done).written rest.0
+    (subst (IsStuck a c) (append-nil (played p.done).written) (puts_then (Err (record {})) a b c (played p.done).written [] p.written stuck)))
+
+-- where there is no next line
+pub put_before : (fault : PlayFault) (a b c : Output) (text : List ℕ) → IsPut a b text → PutsNone {A = Bool} (Err fault) b c → PutsSome {A = Unit} (Err fault) a c
+put_before Read a b c text put h = (h.0, (text ++ [], puts_then (Ok tt) a b c text [] put h.1))
+put_before Write a b c text put h = (text ++ [], puts_then (Err (record {})) a b c text [] put h)
+put_before (Script number kind) a b c text put h = (text ++ [], puts_then (Ok tt) a b c text [] put h)
+put_before OutOfMemory a b c text put h = (text ++ [], puts_then (Ok tt) a b c text [] put h)
+
+pub stops_before : (fault : PlayFault) (lines new : ScriptLines) (bench : Option Bench) (remaining left : Option (List ℕ)) (text : List ℕ) (a b c : Output) (p : IsPlayed lines bench remaining text a b)
+    → PutsNone {A = Bool} (Err fault) b c → Reaches (Err fault) lines new left p.left → PlaysOn (Err fault) text left a c
+stops_before Read lines new bench remaining left text a b c p put h = stops_reading Read lines new bench remaining left text a c (played_on lines bench remaining text a b c p put.1) h
+stops_before Write lines new bench remaining left text a b c p put h = stops_sending lines bench remaining text a b c p put
+stops_before (Script number kind) lines new bench remaining left text a b c p put h =
+    stops_reading (Script number kind) lines new bench remaining left text a c (played_on lines bench remaining text a b c p put) h
+stops_before OutOfMemory lines new bench remaining left text a b c p put h = absurd h
+
 -- the line that starts the card, or is skipped before it
 has_none : (b : Option Bench) (m : Option machine.Bench) → b ≡ None → Has b m → m ≡ None
 has_none None None e h = refl
 has_none None (Some m) e h = absurd h
 has_none (Some b) m e h = absurd (none-some b (sym e))
 
-starts_as : (bench : Option Bench) (a : Taken) (x : Result (Option machine.Bench) FaultKind) → StartsBy (Ok bench) x → Does (Ok tt) a a None (Has bench) (said_without x)
-starts_as bench a (Ok b) h = (record { whole = appends_nothing a.contents; steady = refl }, h)
+starts_as : (bench : Option Bench) (a : Output) (x : Result (Option machine.Bench) FaultKind) → StartsBy (Ok bench) x → Does (Ok tt) a a None (Has bench) (said_without x)
+starts_as bench a (Ok b) h = (puts_nothing a, h)
 starts_as bench a (Err kind) h = absurd h
 
-pub starts : (before bench : Option Bench) (a : Taken) (meaning : Meaning) (line : List ℕ) (m : Option machine.Bench) → before ≡ None → Has before m → Ok meaning ≡ read line
+pub starts : (before bench : Option Bench) (a : Output) (meaning : Meaning) (line : List ℕ) (m : Option machine.Bench) → before ≡ None → Has before m → Ok meaning ≡ read line
     → StartsBy (Ok bench) (without_card meaning) → Does (Ok tt) a a m (Has bench) (said line m)
 starts before bench a meaning line m e h is k =
     subst (λ n. Does (Ok tt) a a n (Has bench) (said line n)) (sym (has_none before m e h))

@@ -1,5 +1,5 @@
 -- What is told of a request that is refused.
-use Rattle.std.specs.Prelude.{◌≡◌, ℕ, List, [], ◌++◌, Result, Ok, Err, fold}
+use Rattle.std.specs.Prelude.{◌≡◌, Result, Ok, Err, fold}
 use Rattle.std.proofs.Common.{subst, ap, ◌∙◌}
 use Rattle.lapd_frame.specs.declared.refusals.Refusal.{Refusal}
 use Rattle.lapd_line_machine.specs.Answer.{refused}
@@ -7,16 +7,16 @@ use Rattle.lapd_line_machine.specs.Laws.{orders_in}
 use Rattle.lapd_card_machine.specs.Event.{Event}
 use Rattle.lapd_card_machine.specs.Machine.{answer}
 use Rattle.lapd_clock.specs.Timers as clocks
-use Rattle.lapd_transcript.specs.Streams.{Taken, IsWritten, IsBroken, Writes}
+use Rattle.lapd_transcript.specs.Streams.{Output, IsPut, IsStuck, Puts}
 use Rattle.lapd_sim_machine.specs.Bench.{Bench, happened, ordered}
 use Rattle.lapd_sim_machine.specs.Steps.{answer_text, with_event}
 use Rattle.lapd_sim.specs.Obeyed.{scene, Tells}
 
-pub refused-told : {E : Type 0} (result : Result Unit E) (old new : Taken) (why : Refusal) (m : Bench) (e : Event) (stands : Bench → Type 0)
-    → refused why ≡ answer e m.card → Writes result old new (answer_text e.line (refused why)) → stands (happened m e)
+pub refused-told : {E : Type 0} (result : Result Unit E) (old new : Output) (why : Refusal) (m : Bench) (e : Event) (stands : Bench → Type 0)
+    → refused why ≡ answer e m.card → Puts result old new (answer_text e.line (refused why)) → stands (happened m e)
     → Tells result old new stands (with_event (scene m) e)
-refused-told (Ok x) old new why m e stands is written s = (subst (λ a. IsWritten old new (answer_text e.line a)) is written, s)
-refused-told (Err x) old new why m e stands is broken s = subst (λ a. IsBroken old new (answer_text e.line a)) is broken
+refused-told (Ok x) old new why m e stands is written s = (subst (λ a. IsPut old new (answer_text e.line a)) is written, s)
+refused-told (Err x) old new why m e stands is broken s = subst (λ a. IsStuck old new (answer_text e.line a)) is broken
 
 -- it orders nothing
 pub refused-clock : (clock : clocks.Timers) (why : Refusal) (m : Bench) (e : Event) → refused why ≡ answer e m.card → clock ≡ m.clock → clock ≡ (happened m e).clock

@@ -9,8 +9,8 @@ use Rattle.std.proofs.lemmas.Grind.{fold-append}
 use Rattle.lapd_line_machine.specs.Answer.{octet}
 use Rattle.lapd_card_machine.specs.Event.{Event, at}
 use Rattle.lapd_card_machine.specs.Machine.{answer}
-use Rattle.lapd_transcript.specs.Streams.{Taken, IsWritten, IsBroken}
-use Rattle.lapd_transcript.proofs.Known.{broken_more}
+use Rattle.lapd_transcript.specs.Streams.{Output, IsPut, IsStuck}
+use Rattle.lapd_transcript.proofs.Known.{stuck_more}
 use Rattle.lapd_sim_machine.specs.Bench.{Bench}
 use Rattle.lapd_clock.specs.Timers.{due_at}
 use Rattle.lapd_script.specs.declared.kind.FaultKind.{FaultKind}
@@ -46,10 +46,10 @@ rx_says line xs n s =
     )
 
 -- a beginning of the first octets' text is a beginning of the whole
-pub broken_rx : (a b : Taken) (line : ℕ) (xs : List ℕ) (n : ℕ) (s : Scene) → IsBroken a b (after_rx line (take n xs) s).text → IsBroken a b (after_rx line xs s).text
+pub broken_rx : (a b : Output) (line : ℕ) (xs : List ℕ) (n : ℕ) (s : Scene) → IsStuck a b (after_rx line (take n xs) s).text → IsStuck a b (after_rx line xs s).text
 broken_rx a b line xs n s h =
     let rest = rx_says line xs n s in
-    subst (λ text. IsBroken a b text) (sym rest.1) (broken_more a b (after_rx line (take n xs) s).text rest.0 h)
+    subst (λ text. IsStuck a b text) (sym rest.1) (stuck_more a b (after_rx line (take n xs) s).text rest.0 h)
 
 -- events leave the terminals, what was taken, and the card's configuration
 abbrev pub Keeps : Bench → Bench → Type 0
@@ -72,7 +72,7 @@ expiries_keep (suc n) end s =
     ]
 
 -- what has been obeyed at the exchange has been obeyed at the bench
-pub obeyed_at : (r : Result Unit LineFault) (a b : Taken) (P Q : Bench → Type 0) (test : Bool) (t : Scene) (kind : FaultKind) → (P t.bench → Q t.bench)
+pub obeyed_at : (r : Result Unit LineFault) (a b : Output) (P Q : Bench → Type 0) (test : Bool) (t : Scene) (kind : FaultKind) → (P t.bench → Q t.bench)
     → Obeys r a b P (cond test (Ok t) (Err kind)) → Obeys r a b Q (cond test (Ok t) (Err kind))
 obeyed_at (Ok u) a b P Q true t kind f h = (h.0, f h.1)
 obeyed_at (Ok u) a b P Q false t kind f h = absurd h
@@ -82,10 +82,10 @@ obeyed_at (Err Write) a b P Q false t kind f h = absurd h
 obeyed_at (Err OutOfMemory) a b P Q test t kind f h = absurd h
 
 -- what happened at a line that is there
-pub obeyed_there : (a b : Taken) (Q : Bench → Type 0) (line : ℕ) (s after : Scene) → line < s.bench.card.config.lines → IsWritten a b after.text → Q after.bench → Obeys (Ok tt) a b Q (at_line line s after)
+pub obeyed_there : (a b : Output) (Q : Bench → Type 0) (line : ℕ) (s after : Scene) → line < s.bench.card.config.lines → IsPut a b after.text → Q after.bench → Obeys (Ok tt) a b Q (at_line line s after)
 obeyed_there a b Q line s after there written stands = subst (λ said. Obeys (Ok tt) a b Q said) (sym (at_line_is line s after there)) (written, stands)
 
-pub broken_there : (a b : Taken) (Q : Bench → Type 0) (line : ℕ) (s after : Scene) → line < s.bench.card.config.lines → IsBroken a b after.text → Obeys (Err Write) a b Q (at_line line s after)
+pub broken_there : (a b : Output) (Q : Bench → Type 0) (line : ℕ) (s after : Scene) → line < s.bench.card.config.lines → IsStuck a b after.text → Obeys (Err Write) a b Q (at_line line s after)
 broken_there a b Q line s after there broken = subst (λ said. Obeys (Err Write) a b Q said) (sym (at_line_is line s after there)) broken
 
 pub pulls_keep : (n line : ℕ) (p : Pulls) → Keeps p.bench (pulls n line p).bench
@@ -93,13 +93,13 @@ pulls_keep zero line p = (refl, refl, refl)
 pulls_keep (suc n) line p = pulls_keep n line (one_pull line p)
 
 -- what was pulled at a line that is there
-pub pull_obeyed : (a b : Taken) (Q : Bench → Type 0) {line at_it : ℕ} → line ≡ at_it → (count : ℕ) (m : Bench) → line < m.card.config.lines
-    → IsWritten a b (after_pull line count (scene m)).text → Q (after_pull line count (scene m)).bench → Obeys (Ok tt) a b Q (at_line at_it (scene m) (after_pull at_it count (scene m)))
+pub pull_obeyed : (a b : Output) (Q : Bench → Type 0) {line at_it : ℕ} → line ≡ at_it → (count : ℕ) (m : Bench) → line < m.card.config.lines
+    → IsPut a b (after_pull line count (scene m)).text → Q (after_pull line count (scene m)).bench → Obeys (Ok tt) a b Q (at_line at_it (scene m) (after_pull at_it count (scene m)))
 pull_obeyed a b Q {line} e count m there written stands =
     subst (λ n. Obeys (Ok tt) a b Q (at_line n (scene m) (after_pull n count (scene m)))) e (obeyed_there a b Q line (scene m) (after_pull line count (scene m)) there written stands)
 
-pub pull_broken : (a b : Taken) (Q : Bench → Type 0) {line at_it : ℕ} → line ≡ at_it → (count : ℕ) (m : Bench) → line < m.card.config.lines
-    → IsBroken a b (after_pull line count (scene m)).text → Obeys (Err Write) a b Q (at_line at_it (scene m) (after_pull at_it count (scene m)))
+pub pull_broken : (a b : Output) (Q : Bench → Type 0) {line at_it : ℕ} → line ≡ at_it → (count : ℕ) (m : Bench) → line < m.card.config.lines
+    → IsStuck a b (after_pull line count (scene m)).text → Obeys (Err Write) a b Q (at_line at_it (scene m) (after_pull at_it count (scene m)))
 pull_broken a b Q {line} e count m there broken =
     subst (λ n. Obeys (Err Write) a b Q (at_line n (scene m) (after_pull n count (scene m)))) e (broken_there a b Q line (scene m) (after_pull line count (scene m)) there broken)
 
@@ -116,14 +116,14 @@ frame_is line frame s there short long =
     three_yes (nat_lt line s.bench.card.config.lines) (nat_le 3 (length frame)) (nat_le (length frame) 1028) (Ok (after_in line frame s)) (Err BadFrame) (Err BadLine)
     (lt-ltb line s.bench.card.config.lines there) (le-leb 3 (length frame) short) (le-leb (length frame) 1028 long)
 
-pub frame_obeyed : (a b : Taken) (Q : Bench → Type 0) {line at_it : ℕ} → line ≡ at_it → (frame : List ℕ) (m : Bench) → line < m.card.config.lines → 3 ≤ length frame → length frame ≤ 1028
-    → IsWritten a b (after_in line frame (scene m)).text → Q (after_in line frame (scene m)).bench → Obeys (Ok tt) a b Q (with_card (meaning.into at_it frame) (scene m))
+pub frame_obeyed : (a b : Output) (Q : Bench → Type 0) {line at_it : ℕ} → line ≡ at_it → (frame : List ℕ) (m : Bench) → line < m.card.config.lines → 3 ≤ length frame → length frame ≤ 1028
+    → IsPut a b (after_in line frame (scene m)).text → Q (after_in line frame (scene m)).bench → Obeys (Ok tt) a b Q (with_card (meaning.into at_it frame) (scene m))
 frame_obeyed a b Q {line} e frame m there short long written stands =
     subst (λ n. Obeys (Ok tt) a b Q (with_card (meaning.into n frame) (scene m))) e
     (subst (λ said. Obeys (Ok tt) a b Q said) (sym (frame_is line frame (scene m) there short long)) (written, stands))
 
-pub frame_broken : (a b : Taken) (Q : Bench → Type 0) {line at_it : ℕ} → line ≡ at_it → (frame : List ℕ) (m : Bench) → line < m.card.config.lines → 3 ≤ length frame → length frame ≤ 1028
-    → IsBroken a b (after_in line frame (scene m)).text → Obeys (Err Write) a b Q (with_card (meaning.into at_it frame) (scene m))
+pub frame_broken : (a b : Output) (Q : Bench → Type 0) {line at_it : ℕ} → line ≡ at_it → (frame : List ℕ) (m : Bench) → line < m.card.config.lines → 3 ≤ length frame → length frame ≤ 1028
+    → IsStuck a b (after_in line frame (scene m)).text → Obeys (Err Write) a b Q (with_card (meaning.into at_it frame) (scene m))
 frame_broken a b Q {line} e frame m there short long broken =
     subst (λ n. Obeys (Err Write) a b Q (with_card (meaning.into n frame) (scene m))) e
     (subst (λ said. Obeys (Err Write) a b Q said) (sym (frame_is line frame (scene m) there short long)) broken)

@@ -15,27 +15,27 @@ use Rattle.lapd_sim.specs.declared.exchange.Exchange.{Exchange}
 use Rattle.lapd_card.specs.Card.{Held}
 use Rattle.lapd_card.specs.Stands.{Stands}
 use Rattle.lapd_store.specs.Store.{Store}
-use Rattle.lapd_transcript.proofs.Known.{appends_nothing, writes_then, broken_more}
-use Rattle.lapd_transcript.specs.Streams.{Taken, IsWritten, IsBroken}
+use Rattle.lapd_transcript.proofs.Known.{puts_nothing, puts_then, stuck_more}
+use Rattle.lapd_transcript.specs.Streams.{Output, IsPut, IsStuck}
 use Rattle.lapd_transcript.specs.declared.streams.WriteFailed.{WriteFailed}
 use Rattle.lapd_sim_machine.proofs.Expiries.{expiry_lowers, until-expired, until-over, text_grows}
 
 -- From a bench, some timers have expired, and what they say has been written; what falls due until the end is the same.
-pub record Waits (e : Exchange) (before after : Taken) (end : ℕ) (m : Bench) : Type 0 where
+pub record Waits (e : Exchange) (before after : Output) (end : ℕ) (m : Bench) : Type 0 where
   pub by_now : Scene
-  pub written : IsWritten before after by_now.text
+  pub written : IsPut before after by_now.text
   pub holds : Holds e by_now.bench
   pub same : until end (scene m) ≡ until end by_now
 
-pub waits_begins : (e : Exchange) (t : Taken) (end : ℕ) (m : Bench) → Holds e m → Waits e t t end m
+pub waits_begins : (e : Exchange) (t : Output) (end : ℕ) (m : Bench) → Holds e m → Waits e t t end m
 waits_begins e t end m h = record {
   by_now = scene m;
-  written = record { whole = appends_nothing t.contents; steady = refl };
+  written = puts_nothing t;
   holds = h;
   same = refl;
 }
 
-module _ (e new : Exchange) (before after last : Taken) (end : ℕ) (m : Bench) (due : ℕ × Timer) (is : Some due ≡ due_at e.clock end) (w : Waits e before after end m) where
+module _ (e new : Exchange) (before after last : Output) (end : ℕ) (m : Bench) (due : ℕ × Timer) (is : Some due ≡ due_at e.clock end) (w : Waits e before after end m) where
   due_by_now : due_at w.by_now.bench.clock end ≡ Some due
   due_by_now = ap (λ c. due_at c end) (sym w.holds.clock) ∙ sym is
 
@@ -45,7 +45,7 @@ module _ (e new : Exchange) (before after last : Taken) (end : ℕ) (m : Bench) 
   pub waits_on : (u : Unit {0}) → Tells {E = WriteFailed} (Ok u) after last (Holds new) (with_event (scene (at_expiry end w.by_now.bench)) (at due.0 (happening.expiry due.1))) → Waits new before last end m
   waits_on u told = record {
     by_now = expired end due.0 due.1 w.by_now;
-    written = writes_then (Ok u) before after last w.by_now.text said_then w.written told.0;
+    written = puts_then (Ok u) before after last w.by_now.text said_then w.written told.0;
     holds = told.1;
     same = w.same ∙ until-expired end w.by_now due due_by_now;
   }
@@ -55,7 +55,7 @@ module _ (e new : Exchange) (before after last : Taken) (end : ℕ) (m : Bench) 
       let next = expired end due.0 due.1 w.by_now in
       let later = text_grows (time_until end next.bench.clock) end next (due_at next.bench.clock end) refl in
       let whole : (until end (scene m)).text ≡ next.text ++ later.0 = ap (λ (x : Scene). x.text) (w.same ∙ until-expired end w.by_now due due_by_now) ∙ later.1 in
-      subst (IsBroken before last) (sym whole) (broken_more before last next.text later.0 (writes_then (Err why) before after last w.by_now.text said_then w.written told))
+      subst (IsStuck before last) (sym whole) (stuck_more before last next.text later.0 (puts_then (Err why) before after last w.by_now.text said_then w.written told))
 
 -- each expiry lowers what is left, whatever the past
 pub wait_lowers : (e middle new : Exchange) (end : ℕ) (due : ℕ × Timer) → Some due ≡ due_at e.clock end
@@ -72,12 +72,12 @@ wait_lowers e middle new end due is out event =
     subst (λ c. time_until end c < time_until end e.clock) (sym held.clock) (expiry_lowers end due.0 due.1 due m (sym is)))
 
 -- at the end, the moment is the end
-pub waits_over : (e new : Exchange) (before after : Taken) (end : ℕ) (m : Bench) (u : Unit {0}) → None ≡ due_at e.clock end → Waits e before after end m
+pub waits_over : (e new : Exchange) (before after : Output) (end : ℕ) (m : Bench) (u : Unit {0}) → None ≡ due_at e.clock end → Waits e before after end m
     → new.config ≡ e.config → new.card ≡ e.card → new.clock ≡ e.clock → new.moment ≡ end → Tells {E = WriteFailed} (Ok u) before after (Holds new) (until end (scene m))
 waits_over e new before after end m u is w config card clock now =
     let over : until end (scene m) ≡ record w.by_now { bench = record w.by_now.bench { now = end } } =
     w.same ∙ until-over end w.by_now (ap (λ c. due_at c end) (sym w.holds.clock) ∙ sym is) in
-    subst (λ (s : Scene). IsWritten before after s.text × Holds new s.bench) (sym over) (
+    subst (λ (s : Scene). IsPut before after s.text × Holds new s.bench) (sym over) (
       w.written,
       record {
         config = w.holds.config ∙ sym config;

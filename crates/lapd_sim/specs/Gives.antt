@@ -4,13 +4,13 @@ use Rattle.lapd_bits.specs.Framer as framing
 use Rattle.lapd_bits.specs.Sent.{Item}
 use Rattle.lapd_bits.specs.StuffingLaws.{AreOctets}
 use Rattle.lapd_transcript.specs.declared.streams.WriteFailed.{WriteFailed}
-use Rattle.lapd_transcript.specs.Streams.{Taken}
+use Rattle.lapd_transcript.specs.Streams.{Output}
 use Rattle.lapd_sim_machine.specs.Bench.{Bench}
 use Rattle.lapd_sim_machine.specs.Steps.{after_rx}
 use Rattle.lapd_sim.specs.Obeyed.{scene, Tells}
 
 -- Where a write failed, the last of the octets may not have been told.
-pub record Gives (result : Result Unit WriteFailed) (old new : Taken) (before after : Bench → Type 0) (line : ℕ) (items : List Item) (given : List ℕ) (framer : framing.Framing) : Type 0 where
+pub record Gives (result : Result Unit WriteFailed) (old new : Output) (before after : Bench → Type 0) (line : ℕ) (items : List Item) (given : List ℕ) (framer : framing.Framing) : Type 0 where
   pub octets : List ℕ
   pub are_octets : AreOctets octets
   pub stands : framing.Stands framer items (given ++ octets)

@@ -3,6 +3,7 @@ pub mod ScriptLines
 pub mod Past
 pub mod Stands
 pub mod Obeyed
+pub mod Pages
 pub mod Plays
 pub mod Gives
 pub mod Shown

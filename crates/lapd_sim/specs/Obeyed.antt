@@ -5,7 +5,7 @@ use Rattle.lapd_script.specs.Meaning.{Meaning}
 use Rattle.lapd_script.specs.Read.{read}
 use Rattle.lapd_line_machine.specs.declared.config.Config.{Config}
 use Rattle.lapd_line_machine.specs.Config.{first_fault}
-use Rattle.lapd_transcript.specs.Streams.{Taken, IsWritten, IsBroken}
+use Rattle.lapd_transcript.specs.Streams.{Output, IsPut, IsStuck}
 use Rattle.lapd_sim_machine.specs.Bench.{Bench, begun}
 use Rattle.lapd_sim_machine.specs.Steps.{Scene, begun_with, with_card, without_card}
 use Rattle.lapd_sim.specs.declared.bench.Bench as rust
@@ -18,17 +18,17 @@ abbrev pub scene : Bench → Scene
 scene m = record { bench = m; text = [] }
 
 -- What happens at a bench can fail in a write alone: then a beginning has been written of what it says.
-abbrev pub Tells : {E : Type 0} → Result Unit E → Taken → Taken → (Bench → Type 0) → Scene → Type 0
-Tells (Ok _) old new stands s = IsWritten old new s.text × stands s.bench
-Tells (Err _) old new stands s = IsBroken old new s.text
+abbrev pub Tells : {E : Type 0} → Result Unit E → Output → Output → (Bench → Type 0) → Scene → Type 0
+Tells (Ok _) old new stands s = IsPut old new s.text × stands s.bench
+Tells (Err _) old new stands s = IsStuck old new s.text
 
-abbrev pub Breaks : Taken → Taken → Result Scene FaultKind → Type 0
-Breaks old new (Ok s) = IsBroken old new s.text
+abbrev pub Breaks : Output → Output → Result Scene FaultKind → Type 0
+Breaks old new (Ok s) = IsStuck old new s.text
 Breaks old new (Err kind) = ⊥
 
 -- A line that needs the card can be faulty too: then nothing has been written. Memory is never refused.
-abbrev pub Obeys : Result Unit LineFault → Taken → Taken → (Bench → Type 0) → Result Scene FaultKind → Type 0
-Obeys (Ok _) old new stands (Ok s) = IsWritten old new s.text × stands s.bench
+abbrev pub Obeys : Result Unit LineFault → Output → Output → (Bench → Type 0) → Result Scene FaultKind → Type 0
+Obeys (Ok _) old new stands (Ok s) = IsPut old new s.text × stands s.bench
 Obeys (Ok _) old new stands (Err kind) = ⊥
 Obeys (Err (Faulty kind)) old new stands said = (new ≡ old) × (said ≡ Err kind)
 Obeys (Err Write) old new stands said = Breaks old new said
@@ -80,10 +80,10 @@ pub record IsCardLine (before : Option Bench) (said : Result Said FaultKind) : T
   pub begins : said ≡ Ok (record { bench = Some card; text = [] })
 
 -- A line can start the card: memory can be refused then, and nothing has been written.
-abbrev pub Does : Result Unit LineFault → Taken → Taken → Option Bench → (Option Bench → Type 0) → Result Said FaultKind → Type 0
-Does (Ok _) old new before has (Ok s) = IsWritten old new s.text × has s.bench
+abbrev pub Does : Result Unit LineFault → Output → Output → Option Bench → (Option Bench → Type 0) → Result Said FaultKind → Type 0
+Does (Ok _) old new before has (Ok s) = IsPut old new s.text × has s.bench
 Does (Ok _) old new before has (Err kind) = ⊥
 Does (Err (Faulty kind)) old new before has said = (new ≡ old) × (said ≡ Err kind)
-Does (Err Write) old new before has (Ok s) = IsBroken old new s.text
+Does (Err Write) old new before has (Ok s) = IsStuck old new s.text
 Does (Err Write) old new before has (Err kind) = ⊥
 Does (Err OutOfMemory) old new before has said = (new ≡ old) × IsCardLine before said

@@ -1,7 +1,7 @@
 -- What a script that was played has written, and why it ended.
 use Rattle.std.specs.Prelude.{◌≡◌, ℕ, ◌<◌, ◌==◌, ◌⊎◌, List, [], ◌∷◌, ◌++◌, length, take, filter, Bool, Option, None, Some, Result, Ok, Err}
 use Rattle.std.specs.List.{list_any}
-use Rattle.lapd_transcript.specs.Streams.{Taken, IsWritten, IsBroken}
+use Rattle.lapd_transcript.specs.Streams.{Taken, IsWritten, IsBroken, Output, IsPut, IsStuck}
 use Rattle.lapd_sim_machine.specs.Bench.{Bench}
 use Rattle.lapd_sim_machine.specs.Pieces.{pieces_of}
 use Rattle.lapd_sim_machine.specs.Script.{played, transcript, first_fault}
@@ -16,17 +16,17 @@ abbrev pub whole_lines : List ℕ → List (List ℕ)
 whole_lines read = filter is_whole (pieces_of read)
 
 -- The transcript of these lines has been written, and none of them is faulty.
-pub record AreAnswered (pieces : List (List ℕ)) (old new : Taken) : Type 0 where
+pub record AreAnswered (pieces : List (List ℕ)) (is_written : List ℕ → Type 0) : Type 0 where
   pub sound : (played pieces).fault ≡ None
-  pub written : IsWritten old new (played pieces).written
+  pub written : is_written (played pieces).written
 
 -- A read failed: what had been read by then, and what had not.
-pub record IsAnsweredToHere (text : List ℕ) (remaining : Option (List ℕ)) (old new : Taken) : Type 0 where
+pub record IsAnsweredToHere (text : List ℕ) (remaining : Option (List ℕ)) (is_written : List ℕ → Type 0) : Type 0 where
   pub read : List ℕ
   pub unread : List ℕ
   pub is : text ≡ read ++ unread
   pub tells : remaining ≡ Some unread
-  pub answered : AreAnswered (whole_lines read) old new
+  pub answered : AreAnswered (whole_lines read) is_written
 
 -- Memory was refused at a line that starts the card: before it there was none, and with it there is one. What is still
 -- unread is an end of what follows that line.
@@ -47,13 +47,21 @@ pub record IsRefusedAtCard (text : List ℕ) (remaining : Option (List ℕ)) : T
 abbrev pub IsRefused : List ℕ → Option (List ℕ) → Type 0
 IsRefused text remaining = (remaining ≡ Some text) ⊎ IsRefusedAtCard text remaining
 
--- Where memory was refused nothing has been written.
+-- What has been written where a script ends: its transcript, or after a failed write a beginning; where memory was
+-- refused, nothing.
+abbrev pub PlaysAs : (is_written is_broken : List ℕ → Type 0) → Result Unit PlayFault → List ℕ → Option (List ℕ) → Type 0
+PlaysAs is_written is_broken (Ok _) text remaining = (first_fault text ≡ None) × is_written (transcript text) × (remaining ≡ Some [])
+PlaysAs is_written is_broken (Err (Script line kind)) text remaining = (first_fault text ≡ Some (record { line = line; kind = kind })) × is_written (transcript text)
+PlaysAs is_written is_broken (Err Read) text remaining = IsAnsweredToHere text remaining is_written
+PlaysAs is_written is_broken (Err Write) text remaining = is_broken (transcript text)
+PlaysAs is_written is_broken (Err OutOfMemory) text remaining = is_written [] × IsRefused text remaining
+
 abbrev pub Plays : Result Unit PlayFault → List ℕ → Option (List ℕ) → Taken → Taken → Type 0
-Plays (Ok _) text remaining old new = (first_fault text ≡ None) × IsWritten old new (transcript text) × (remaining ≡ Some [])
-Plays (Err (Script line kind)) text remaining old new = (first_fault text ≡ Some (record { line = line; kind = kind })) × IsWritten old new (transcript text)
-Plays (Err Read) text remaining old new = IsAnsweredToHere text remaining old new
-Plays (Err Write) text remaining old new = IsBroken old new (transcript text)
-Plays (Err OutOfMemory) text remaining old new = IsWritten old new [] × IsRefused text remaining
+Plays result text remaining old new = PlaysAs (IsWritten old new) (IsBroken old new) result text remaining
+
+-- The same while a page is on its way to the target.
+abbrev pub PlaysOn : Result Unit PlayFault → List ℕ → Option (List ℕ) → Output → Output → Type 0
+PlaysOn result text remaining old new = PlaysAs (IsPut old new) (IsStuck old new) result text remaining
 
 -- What a status says of the script that was played (profile): 0, it was played to its end; 1, there was a fault.
 abbrev pub status_of : Result Unit PlayFault → ℕ

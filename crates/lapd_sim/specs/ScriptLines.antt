@@ -80,3 +80,9 @@ Advances (Err Read) old new remaining text = IsCut old remaining text
 Advances (Err (Script number kind)) old new remaining text = (kind ≡ TooLong) × IsTooLong old number text
 Advances (Err Write) old new remaining text = ⊥
 Advances (Err OutOfMemory) old new remaining text = ⊥
+
+-- The next line, where its line feed has come, or why there is none.
+abbrev pub IsReady : Result Bool PlayFault → ScriptLines → ScriptLines → Option (List ℕ) → List ℕ → Type 0
+IsReady (Ok true) old new remaining text = Advances (Ok true) old new remaining text
+IsReady (Ok false) old new remaining text = Unit
+IsReady (Err fault) old new remaining text = Advances (Err fault) old new remaining text

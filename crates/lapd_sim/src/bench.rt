@@ -5,6 +5,7 @@ ghost use Rattle.lapd_script.specs.Meaning as meaning;
 ghost use Rattle.lapd_script.specs.declared.kind.FaultKind.TheVariants.{BadLine};
 ghost use Rattle.lapd_sim_machine.specs.Bench as machine;
 ghost use Rattle.lapd_sim_machine.specs.Steps.{with_card};
+ghost use Rattle.lapd_transcript.specs.Streams.{output};
 
 use crate::exchange::Exchange;
 use crate::faults::LineFault;
@@ -14,7 +15,7 @@ use crate::traffic::{pull, receive, send, tell};
 use lapd_bits::Deframer;
 use lapd_card::Config;
 use lapd_script::{Asked, FaultKind};
-use lapd_transcript::{Target, WriteFailed};
+use lapd_transcript::{Page, Target, WriteFailed};
 use std::alloc::Global;
 
 /// The card with its clock, and for each line the terminal that sends, and what listens to the octets that are pulled.
@@ -63,12 +64,13 @@ impl Bench {
         line: u16,
         octets: &[u8],
         target: &mut T,
+        page: &mut Page,
     ) -> Result<(), LineFault>
         ensures { (m : machine.Bench) → Stands self.old m
-            → Obeys result (T.taken target.old) (T.taken target.new) (Stands self.new) (with_card (meaning.rx line octets.now) (scene m)) }
+            → Obeys result (output (T.taken target.old) page.old.items) (output (T.taken target.new) page.new.items) (Stands self.new) (with_card (meaning.rx line octets.now) (scene m)) }
     {
         let line = self.line(line)?;
-        match receive(&mut self.exchange, line, octets, target) {
+        match receive(&mut self.exchange, line, octets, target, page) {
             Ok(()) => Ok(()),
             Err(WriteFailed) => Err(LineFault::Write),
         }
@@ -80,9 +82,10 @@ impl Bench {
         line: u16,
         frame: &[u8],
         target: &mut T,
+        page: &mut Page,
     ) -> Result<(), LineFault>
         ensures { (m : machine.Bench) → Stands self.old m
-            → Obeys result (T.taken target.old) (T.taken target.new) (Stands self.new) (with_card (meaning.into line frame.now) (scene m)) }
+            → Obeys result (output (T.taken target.old) page.old.items) (output (T.taken target.new) page.new.items) (Stands self.new) (with_card (meaning.into line frame.now) (scene m)) }
     {
         let line = self.line(line)?;
         if frame.len() < SHORTEST_FRAME || frame.len() > LONGEST_FRAME {
@@ -94,6 +97,7 @@ impl Bench {
             &mut self.exchange,
             line,
             target,
+            page,
         ) {
             Ok(()) => Ok(()),
             Err(WriteFailed) => Err(LineFault::Write),
@@ -107,15 +111,16 @@ impl Bench {
         count: usize,
         room: &mut [u8],
         target: &mut T,
+        page: &mut Page,
     ) -> Result<(), LineFault>
         requires { count ≤ length room.old }
         ensures { (m : machine.Bench) → Stands self.old m
-            → Obeys result (T.taken target.old) (T.taken target.new) (Stands self.new) (with_card (meaning.pull line count) (scene m)) }
+            → Obeys result (output (T.taken target.old) page.old.items) (output (T.taken target.new) page.new.items) (Stands self.new) (with_card (meaning.pull line count) (scene m)) }
     {
         let line = self.line(line)?;
         let octets = &mut room[..count];
         pull(&mut self.exchange, line, octets);
-        match tell(&mut self.listeners[line], line, octets, target) {
+        match tell(&mut self.listeners[line], line, octets, target, page) {
             Ok(()) => Ok(()),
             Err(WriteFailed) => Err(LineFault::Write),
         }
@@ -129,14 +134,15 @@ impl Bench {
         what: Asked,
         octets: &[u8],
         target: &mut T,
+        page: &mut Page,
     ) -> Result<(), LineFault>
         ensures { (m : machine.Bench) → Stands self.old m
-            → Obeys result (T.taken target.old) (T.taken target.new) (Stands self.new) (with_card (meaning.ask line tei what octets.now) (scene m)) }
+            → Obeys result (output (T.taken target.old) page.old.items) (output (T.taken target.new) page.new.items) (Stands self.new) (with_card (meaning.ask line tei what octets.now) (scene m)) }
     {
         let line = self.line(line)?;
         match self
             .exchange
-            .ask(line, request_for(what, tei, octets), target)
+            .ask(line, request_for(what, tei, octets), target, page)
         {
             Ok(()) => Ok(()),
             Err(WriteFailed) => Err(LineFault::Write),
@@ -148,19 +154,24 @@ impl Bench {
         &mut self,
         milliseconds: u32,
         target: &mut T,
+        page: &mut Page,
     ) -> Result<(), LineFault>
         ensures { (m : machine.Bench) → Stands self.old m
-            → Obeys result (T.taken target.old) (T.taken target.new) (Stands self.new) (with_card (meaning.wait milliseconds) (scene m)) }
+            → Obeys result (output (T.taken target.old) page.old.items) (output (T.taken target.new) page.new.items) (Stands self.new) (with_card (meaning.wait milliseconds) (scene m)) }
     {
-        self.exchange.wait(milliseconds, target)
+        self.exchange.wait(milliseconds, target, page)
     }
 
     /// Shows what the card holds.
-    pub(crate) fn show_stored<T: Target>(&mut self, target: &mut T) -> Result<(), LineFault>
+    pub(crate) fn show_stored<T: Target>(
+        &mut self,
+        target: &mut T,
+        page: &mut Page,
+    ) -> Result<(), LineFault>
         ensures { (m : machine.Bench) → Stands self.old m
-            → Obeys result (T.taken target.old) (T.taken target.new) (Stands self.new) (with_card meaning.stored (scene m)) }
+            → Obeys result (output (T.taken target.old) page.old.items) (output (T.taken target.new) page.new.items) (Stands self.new) (with_card meaning.stored (scene m)) }
     {
-        match self.exchange.show_stored(target) {
+        match self.exchange.show_stored(target, page) {
             Ok(()) => Ok(()),
             Err(WriteFailed) => Err(LineFault::Write),
         }

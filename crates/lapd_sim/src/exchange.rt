@@ -13,7 +13,7 @@ ghost use Rattle.lapd_line_machine.specs.Sound.{IsInRange};
 ghost use Rattle.lapd_sim.specs.Past.{HasPast};
 ghost use Rattle.lapd_sim_machine.specs.Bench as machine;
 ghost use Rattle.lapd_sim_machine.specs.Steps.{answer_text, with_event, octet_in, at_expiry, until, in_time, after_stored};
-ghost use Rattle.lapd_transcript.specs.Streams.{Writes};
+ghost use Rattle.lapd_transcript.specs.Streams.{Puts, output};
 
 use crate::faults::LineFault;
 use lapd_card::{Card, CardFault, Config, Report, Request, limit};
@@ -21,7 +21,7 @@ use lapd_clock::Clock;
 use lapd_frame::{Order, Timer};
 use lapd_script::FaultKind;
 use lapd_store::RawShelf;
-use lapd_transcript::{Target, WriteFailed, write_refused, write_report, write_stored};
+use lapd_transcript::{Page, Target, WriteFailed, put_refused, put_report, put_stored};
 use std::alloc::Global;
 
 /// The last moment of the clock, in milliseconds.
@@ -85,14 +85,15 @@ impl Exchange {
         line: usize,
         octet: u8,
         target: &mut T,
+        page: &mut Page,
     ) -> Result<(), WriteFailed>
         requires { line < self.old.config.lines }
         ensures config { self.new.config ≡ self.old.config }
         ensures told { (m : machine.Bench) → Holds self.old m
-            → Tells result (T.taken target.old) (T.taken target.new) (Holds self.new) (with_event (scene m) (at line (happening.octet octet))) }
+            → Tells result (output (T.taken target.old) page.old.items) (output (T.taken target.new) page.new.items) (Holds self.new) (with_event (scene m) (at line (happening.octet octet))) }
     {
         let report = self.card.octet(line, octet);
-        carry_out(&mut self.clock, line, &report, self.moment, target)
+        carry_out(&mut self.clock, line, &report, self.moment, target, page)
     }
 
     /// A line takes an octet.
@@ -113,16 +114,17 @@ impl Exchange {
         line: usize,
         request: Request<'_>,
         target: &mut T,
+        page: &mut Page,
     ) -> Result<(), WriteFailed>
         requires { line < self.old.config.lines }
         ensures config { self.new.config ≡ self.old.config }
         ensures told { (m : machine.Bench) → Holds self.old m
-            → Tells result (T.taken target.old) (T.taken target.new) (Holds self.new)
+            → Tells result (output (T.taken target.old) page.old.items) (output (T.taken target.new) page.new.items) (Holds self.new)
             (with_event (scene m) (at line (happening.request (request_of request.entry)))) }
     {
         match self.card.request(line, request) {
-            Ok(report) => carry_out(&mut self.clock, line, &report, self.moment, target),
-            Err(refusal) => write_refused(target, line as u16, refusal),
+            Ok(report) => carry_out(&mut self.clock, line, &report, self.moment, target, page),
+            Err(refusal) => put_refused(target, page, line as u16, refusal),
         }
     }
 
@@ -131,30 +133,36 @@ impl Exchange {
         &mut self,
         milliseconds: u32,
         target: &mut T,
+        page: &mut Page,
     ) -> Result<(), LineFault>
         ensures config { self.new.config ≡ self.old.config }
         ensures told { (m : machine.Bench) → Holds self.old m
-            → Obeys result (T.taken target.old) (T.taken target.new) (Holds self.new) (in_time milliseconds (scene m)) }
+            → Obeys result (output (T.taken target.old) page.old.items) (output (T.taken target.new) page.new.items) (Holds self.new) (in_time milliseconds (scene m)) }
     {
         let end = self.moment + u64::from(milliseconds);
         if end > LAST_MOMENT {
             return Err(LineFault::Faulty(FaultKind::TimeOver));
         }
-        match self.until(end, target) {
+        match self.until(end, target, page) {
             Ok(()) => Ok(()),
             Err(WriteFailed) => Err(LineFault::Write),
         }
     }
 
     /// All that falls due until a moment is applied, each at its moment.
-    fn until<T: Target>(&mut self, end: u64, target: &mut T) -> Result<(), WriteFailed>
+    fn until<T: Target>(
+        &mut self,
+        end: u64,
+        target: &mut T,
+        page: &mut Page,
+    ) -> Result<(), WriteFailed>
         requires { end < 2 ^ 63 }
         ensures config { self.new.config ≡ self.old.config }
         ensures told { (m : machine.Bench) → Holds self.old m
-            → Tells result (T.taken target.old) (T.taken target.new) (Holds self.new) (until end (scene m)) }
+            → Tells result (output (T.taken target.old) page.old.items) (output (T.taken target.new) page.new.items) (Holds self.new) (until end (scene m)) }
     {
         while let Some((line, timer)) = self.due(end) {
-            if let Err(WriteFailed) = self.expire(line, timer, target) {
+            if let Err(WriteFailed) = self.expire(line, timer, target, page) {
                 return Err(WriteFailed);
             }
         }
@@ -184,22 +192,27 @@ impl Exchange {
         line: usize,
         timer: Timer,
         target: &mut T,
+        page: &mut Page,
     ) -> Result<(), WriteFailed>
         requires { line < self.old.config.lines }
         ensures config { self.new.config ≡ self.old.config }
         ensures told { (m : machine.Bench) → Holds self.old m
-            → Tells result (T.taken target.old) (T.taken target.new) (Holds self.new) (with_event (scene m) (at line (happening.expiry timer))) }
+            → Tells result (output (T.taken target.old) page.old.items) (output (T.taken target.new) page.new.items) (Holds self.new) (with_event (scene m) (at line (happening.expiry timer))) }
     {
         let report = self.card.expire(line, timer);
-        carry_out(&mut self.clock, line, &report, self.moment, target)
+        carry_out(&mut self.clock, line, &report, self.moment, target, page)
     }
 
     /// Shows how many octets the card holds, and the bound of it.
-    pub(crate) fn show_stored<T: Target>(&self, target: &mut T) -> Result<(), WriteFailed>
+    pub(crate) fn show_stored<T: Target>(
+        &self,
+        target: &mut T,
+        page: &mut Page,
+    ) -> Result<(), WriteFailed>
         ensures { (m : machine.Bench) → Holds self.now m
-            → Tells result (T.taken target.old) (T.taken target.new) (Holds self.now) (after_stored (scene m)) }
+            → Tells result (output (T.taken target.old) page.old.items) (output (T.taken target.new) page.new.items) (Holds self.now) (after_stored (scene m)) }
     {
-        write_stored(target, self.card.stored(), limit(&self.config))
+        put_stored(target, page, self.card.stored(), limit(&self.config))
     }
 }
 
@@ -210,17 +223,19 @@ fn carry_out<T: Target>(
     report: &Report<'_>,
     now: u64,
     target: &mut T,
+    page: &mut Page,
 ) -> Result<(), WriteFailed>
     requires line { line < clock.old.lines }
     requires number { line < 2 ^ 16 }
     requires now { now < 2 ^ 63 }
     ensures lines { clock.new.lines ≡ clock.old.lines }
     ensures ordered { clock.new ≡ fold (machine.ordered line now) clock.old (orders_in (answer_of_result (Ok report.now))) }
-    ensures written { Writes result (T.taken target.old) (T.taken target.new) (answer_text line (answer_of_result (Ok report.now))) }
+    ensures written { Puts result (output (T.taken target.old) page.old.items) (output (T.taken target.new) page.new.items) (answer_text line (answer_of_result (Ok report.now))) }
 {
     order(clock, line, report.orders(), now);
-    write_report(
+    put_report(
         target,
+        page,
         line as u16,
         report.notes(),
         report.delivered,

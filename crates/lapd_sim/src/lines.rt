@@ -1,6 +1,6 @@
 //! How the lines of a script are read: in pieces, into a buffer of fixed size.
 
-ghost use Rattle.std.specs.Prelude.{◌≡◌, ℕ, ◌+◌, ◌^◌, ◌<◌, ◌≤◌, false, List, Some, length, take, vec_len, IfOk, IfErr, IfSome, IfNone, OnOk, OnErr, IsTrue, ◌≢◌, ◌==◌};
+ghost use Rattle.std.specs.Prelude.{◌≡◌, ℕ, ◌+◌, ◌^◌, ◌<◌, ◌≤◌, false, List, Option, Some, length, take, vec_len, IfOk, IfErr, IfSome, IfNone, OnOk, OnErr, IsTrue, ◌≢◌, ◌==◌};
 ghost use Rattle.std.specs.List.{AllWithin, HoldsAt, position};
 ghost use Rattle.lapd_sim.specs.Faults.{reads_failed, reads_failed_by, writes_failed};
 ghost use Rattle.lapd_sim.specs.declared.faults.PlayFault.TheVariants as play;
@@ -47,7 +47,7 @@ pub(crate) struct ScriptLines {
 }
 
 impl ScriptLines {
-    ghost use Rattle.lapd_sim.specs.ScriptLines.{left_to_read, current, held, too_long_after, AreLeft, Advances, Takes};
+    ghost use Rattle.lapd_sim.specs.ScriptLines.{left_to_read, current, held, too_long_after, AreLeft, Advances, IsReady, Takes};
 
     /// No line yet.
     pub(crate) fn start(alloc: Global) -> Result<ScriptLines, AllocError>
@@ -65,6 +65,22 @@ impl ScriptLines {
             number: 0,
             octets: 0,
         })
+    }
+
+    /// Goes on to the next line where its line feed has come already, and tells whether it has. It reads nothing.
+    pub(crate) fn ready(&mut self) -> Result<bool, PlayFault>
+        ensures steady { IfErr result (λ fault. (count : ℕ) → (reads_failed fault count ≡ count) × (writes_failed fault count ≡ count)) }
+        ensures goes_on { IfOk result (λ more. IsTrue more → self.old.octets < self.new.octets) }
+        ensures stays { IfOk result (λ more. more ≡ false → self.new ≡ self.old) }
+        ensures ready { (remaining : Option (List ℕ)) (text : List ℕ) → AreLeft self.old remaining text
+            → IsReady result self.old self.new remaining text }
+    {
+        let Some(end) = self.line_feed(self.next) else {
+            return Ok(false);
+        };
+        self.start = self.next;
+        self.end = self.next;
+        self.take(end, end + 1)
     }
 
     /// Goes on to the next line, and tells whether there is one. It reads only where no line feed has come yet.

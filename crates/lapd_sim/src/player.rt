@@ -1,19 +1,22 @@
 //! Plays a script on a card.
 
-ghost use Rattle.std.specs.Prelude.{◌≡◌, ◌≤◌, ℕ, List, Some, None, Option, length, vec_len, IfOk};
+ghost use Rattle.std.specs.Prelude.{◌≡◌, ◌≤◌, ◌<◌, ℕ, List, [], Some, None, Option, length, vec_len, IfOk, IsTrue};
 ghost use Rattle.lapd_script.specs.Meaning.{meant, IsCounted};
 ghost use Rattle.lapd_sim_machine.specs.Bench as machine;
 ghost use Rattle.lapd_sim_machine.specs.Steps.{with_card, without_card};
 ghost use Rattle.lapd_sim.specs.Faults.{reads_failed_by, writes_failed_by};
 ghost use Rattle.lapd_sim.specs.Obeyed.{Does, Obeys, StartsBy, said, scene};
-ghost use Rattle.lapd_sim.specs.Plays.{Plays};
+ghost use Rattle.lapd_sim.specs.Pages.{PutsNone, PutsSome, Reaches, is_cut};
+ghost use Rattle.lapd_sim.specs.Plays.{Plays, PlaysOn};
+ghost use Rattle.lapd_sim.specs.ScriptLines.{AreLeft};
+ghost use Rattle.lapd_transcript.specs.Streams.{Taken, output};
 ghost use Rattle.lapd_sim.specs.Stands.{Has, Stands};
 
 use crate::bench::Bench;
 use crate::faults::{LineFault, PlayFault};
 use crate::lines::ScriptLines;
 use lapd_script::{Command, FaultKind, read_line};
-use lapd_transcript::{Source, Target};
+use lapd_transcript::{Page, Source, Target, WriteFailed, send};
 use std::alloc::{AllocError, Global};
 
 /// As many octets as one line of a script can have pulled: more than it can bring.
@@ -38,15 +41,69 @@ pub fn play<S: Source, T: Target>(
 {
     let mut lines = ScriptLines::start(alloc)?;
     let mut player = Player::start(alloc)?;
-    loop {
-        match lines.advance(source) {
-            Ok(true) => {}
-            Ok(false) => return Ok(()),
-            Err(fault) => return Err(fault),
-        }
-        if let Err(fault) = player.obey(lines.line(), target) {
-            return Err(fault.at(lines.number()));
-        }
+    let mut page = Page::new();
+    let played = player.play(&mut lines, source, target, &mut page);
+    end(target, &mut page, played)
+}
+
+/// What stands on the page goes out at the end of a script, whatever its end. Before a read it has gone out already, and
+/// after a failed write nothing more does.
+fn end<T: Target>(
+    target: &mut T,
+    page: &mut Page,
+    played: Result<(), PlayFault>,
+) -> Result<(), PlayFault>
+    ensures reads { (count : ℕ) → reads_failed_by result count ≡ reads_failed_by played count }
+    ensures writes { (before : Taken) → PutsSome played (output before []) (output (T.taken target.old) page.old.items)
+        → (T.taken target.new).failures ≡ writes_failed_by result before.failures }
+    ensures played { (before : Taken) (text : List ℕ) (remaining : Option (List ℕ))
+        → PutsSome played (output before []) (output (T.taken target.old) page.old.items)
+        → PlaysOn played text remaining (output before []) (output (T.taken target.old) page.old.items)
+        → Plays result text remaining before (T.taken target.new) }
+{
+    if is_cut(played) {
+        return played;
+    }
+    match send(target, page) {
+        Ok(()) => played,
+        Err(WriteFailed) => Err(PlayFault::Write),
+    }
+}
+
+/// Whether a read or a write failed.
+fn is_cut(played: Result<(), PlayFault>) -> bool
+    ensures { result ≡ is_cut played }
+{
+    match played {
+        Ok(()) => false,
+        Err(fault) => match fault {
+            PlayFault::Read | PlayFault::Write => true,
+            PlayFault::Script { .. } | PlayFault::OutOfMemory => false,
+        },
+    }
+}
+
+/// Goes on to the next line, and tells whether there is one. What stands on the page goes out before more is read.
+fn advance<S: Source, T: Target>(
+    lines: &mut ScriptLines,
+    source: &mut S,
+    target: &mut T,
+    page: &mut Page,
+) -> Result<bool, PlayFault>
+    ensures reads { S.failures source.new ≡ reads_failed_by result (S.failures source.old) }
+    ensures put { PutsNone result (output (T.taken target.old) page.old.items) (output (T.taken target.new) page.new.items) }
+    ensures goes_on { IfOk result (λ more. IsTrue more → lines.old.octets < lines.new.octets) }
+    ensures read { (text : List ℕ) → AreLeft lines.old (S.remaining source.old) text
+        → Reaches result lines.old lines.new (S.remaining source.new) text }
+{
+    match lines.ready() {
+        Ok(true) => return Ok(true),
+        Ok(false) => {}
+        Err(fault) => return Err(fault),
+    }
+    match send(target, page) {
+        Ok(()) => lines.advance(source),
+        Err(WriteFailed) => Err(PlayFault::Write),
     }
 }
 
@@ -71,18 +128,53 @@ impl Player {
         })
     }
 
+    /// Plays the lines, and puts the transcript onto the page.
+    fn play<S: Source, T: Target>(
+        &mut self,
+        lines: &mut ScriptLines,
+        source: &mut S,
+        target: &mut T,
+        page: &mut Page,
+    ) -> Result<(), PlayFault>
+        requires none { self.old.bench ≡ None }
+        requires number { lines.old.number ≡ 0 }
+        requires octets { lines.old.octets ≡ 0 }
+        ensures reads { S.failures source.new ≡ reads_failed_by result (S.failures source.old) }
+        ensures put { PutsSome result (output (T.taken target.old) page.old.items) (output (T.taken target.new) page.new.items) }
+        ensures played { (text : List ℕ) → AreLeft lines.old (S.remaining source.old) text
+            → PlaysOn result text (S.remaining source.new)
+            (output (T.taken target.old) page.old.items) (output (T.taken target.new) page.new.items) }
+    {
+        loop {
+            match advance(lines, source, target, page) {
+                Ok(true) => {}
+                Ok(false) => return Ok(()),
+                Err(fault) => return Err(fault),
+            }
+            if let Err(fault) = self.obey(lines.line(), target, page) {
+                return Err(fault.at(lines.number()));
+            }
+        }
+    }
+
     /// Obeys one line.
-    fn obey<T: Target>(&mut self, line: &[u8], target: &mut T) -> Result<(), LineFault>
+    fn obey<T: Target>(
+        &mut self,
+        line: &[u8],
+        target: &mut T,
+        page: &mut Page,
+    ) -> Result<(), LineFault>
         requires { length line.now ≤ 4096 }
         ensures { (m : Option machine.Bench) → Has self.old.bench m
-            → Does result (T.taken target.old) (T.taken target.new) m (Has self.new.bench) (said line.now m) }
+            → Does result (output (T.taken target.old) page.old.items) (output (T.taken target.new) page.new.items)
+            m (Has self.new.bench) (said line.now m) }
     {
         let command = match read_line(line, self.octets.as_mut_slice()) {
             Ok(command) => command,
             Err(kind) => return Err(LineFault::Faulty(kind)),
         };
         match &mut self.bench {
-            Some(bench) => with_card(bench, command, self.octets.as_mut_slice(), target),
+            Some(bench) => with_card(bench, command, self.octets.as_mut_slice(), target, page),
             None => {
                 self.bench = without_card(self.alloc, command)?;
                 Ok(())
@@ -113,25 +205,26 @@ fn with_card<T: Target>(
     command: Command,
     room: &mut [u8],
     target: &mut T,
+    page: &mut Page,
 ) -> Result<(), LineFault>
     requires counted { IsCounted (length room.old) command }
     requires room { 4096 ≤ length room.old }
     ensures { (m : machine.Bench) → Stands bench.old m
-        → Obeys result (T.taken target.old) (T.taken target.new) (Stands bench.new) (with_card (meant room.old command) (scene m)) }
+        → Obeys result (output (T.taken target.old) page.old.items) (output (T.taken target.new) page.new.items) (Stands bench.new) (with_card (meant room.old command) (scene m)) }
 {
     match command {
         Command::Skip => Ok(()),
         Command::Card(_) => Err(LineFault::Faulty(FaultKind::SecondCard)),
-        Command::Rx { line, octets } => bench.receive(line, &room[..octets], target),
-        Command::In { line, octets } => bench.send(line, &room[..octets], target),
-        Command::Pull { line, count } => bench.pull(line, count as usize, room, target),
-        Command::Wait { milliseconds } => bench.wait(milliseconds, target),
-        Command::Stored => bench.show_stored(target),
+        Command::Rx { line, octets } => bench.receive(line, &room[..octets], target, page),
+        Command::In { line, octets } => bench.send(line, &room[..octets], target, page),
+        Command::Pull { line, count } => bench.pull(line, count as usize, room, target, page),
+        Command::Wait { milliseconds } => bench.wait(milliseconds, target, page),
+        Command::Stored => bench.show_stored(target, page),
         Command::Ask {
             line,
             tei,
             what,
             octets,
-        } => bench.ask(line, tei, what, &room[..octets], target),
+        } => bench.ask(line, tei, what, &room[..octets], target, page),
     }
 }

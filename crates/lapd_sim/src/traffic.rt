@@ -3,7 +3,7 @@
 ghost use Rattle.std.specs.Prelude.{◌≡◌, ◌<◌, ◌≤◌, ℕ, List, [], ◌++◌, length, flat_map, OnOk};
 ghost use Rattle.lapd_bits.specs.Framer as framing;
 ghost use Rattle.lapd_bits.specs.Sent.{Item};
-ghost use Rattle.lapd_transcript.specs.Streams.{Writes};
+ghost use Rattle.lapd_transcript.specs.Streams.{Puts, output};
 ghost use Rattle.lapd_transcript.specs.Text.{frame_text};
 ghost use Rattle.lapd_sim_machine.specs.Bench as machine;
 ghost use Rattle.lapd_sim_machine.specs.Steps.{after_rx, pulls, pulled_text};
@@ -14,7 +14,7 @@ ghost use Rattle.lapd_sim.specs.Stands.{Hears, Holds, Sends};
 use crate::exchange::Exchange;
 use crate::terminal::Terminal;
 use lapd_bits::{Deframer, Heard};
-use lapd_transcript::{Target, WriteFailed, write_frame, write_sent};
+use lapd_transcript::{Page, Target, WriteFailed, put_frame, put_sent};
 
 /// Octets come from a line.
 pub(crate) fn receive<T: Target>(
@@ -22,14 +22,15 @@ pub(crate) fn receive<T: Target>(
     line: usize,
     octets: &[u8],
     target: &mut T,
+    page: &mut Page,
 ) -> Result<(), WriteFailed>
     requires { line < exchange.old.config.lines }
     ensures config { exchange.new.config ≡ exchange.old.config }
     ensures told { (m : machine.Bench) → Holds exchange.old m
-        → Tells result (T.taken target.old) (T.taken target.new) (Holds exchange.new) (after_rx line octets.now (scene m)) }
+        → Tells result (output (T.taken target.old) page.old.items) (output (T.taken target.new) page.new.items) (Holds exchange.new) (after_rx line octets.now (scene m)) }
 {
     for octet in octets {
-        if let Err(WriteFailed) = exchange.octet(line, *octet, target) {
+        if let Err(WriteFailed) = exchange.octet(line, *octet, target, page) {
             return Err(WriteFailed);
         }
     }
@@ -43,25 +44,26 @@ pub(crate) fn send<T: Target>(
     exchange: &mut Exchange,
     line: usize,
     target: &mut T,
+    page: &mut Page,
 ) -> Result<(), WriteFailed>
     requires line { line < exchange.old.config.lines }
     requires short { 3 ≤ length frame.now }
     requires long { length frame.now ≤ 1028 }
     ensures config { exchange.new.config ≡ exchange.old.config }
     ensures told { (m : machine.Bench) (t : machine.Terminal) → Holds exchange.old m → Sends terminal.old t
-        → Tells result (T.taken target.old) (T.taken target.new) (Holds exchange.new) (after_rx line (machine.octets_sent frame.now t) (scene m)) }
+        → Tells result (output (T.taken target.old) page.old.items) (output (T.taken target.new) page.new.items) (Holds exchange.new) (after_rx line (machine.octets_sent frame.now t) (scene m)) }
     ensures after { OnOk result ((t : machine.Terminal) → Sends terminal.old t → Sends terminal.new (machine.after_sending frame.now t)) }
 {
-    if let Err(WriteFailed) = give(terminal, exchange, line, target) {
+    if let Err(WriteFailed) = give(terminal, exchange, line, target, page) {
         return Err(WriteFailed);
     }
     terminal.load(frame);
-    if let Err(WriteFailed) = give(terminal, exchange, line, target) {
+    if let Err(WriteFailed) = give(terminal, exchange, line, target, page) {
         return Err(WriteFailed);
     }
     if terminal.has_rest() {
         let octet = terminal.octet();
-        return exchange.octet(line, octet, target);
+        return exchange.octet(line, octet, target, page);
     }
     Ok(())
 }
@@ -72,16 +74,17 @@ fn give<T: Target>(
     exchange: &mut Exchange,
     line: usize,
     target: &mut T,
+    page: &mut Page,
 ) -> Result<(), WriteFailed>
     requires { line < exchange.old.config.lines }
     ensures config { exchange.new.config ≡ exchange.old.config }
     ensures rest { OnOk result (length terminal.new.framer.left < 8) }
     ensures told { (items : List Item) (given : List ℕ) → framing.Stands terminal.old.framer items given
-        → Gives result (T.taken target.old) (T.taken target.new) (Holds exchange.old) (Holds exchange.new) line items given terminal.new.framer }
+        → Gives result (output (T.taken target.old) page.old.items) (output (T.taken target.new) page.new.items) (Holds exchange.old) (Holds exchange.new) line items given terminal.new.framer }
 {
     while terminal.is_busy() {
         let octet = terminal.octet();
-        if let Err(WriteFailed) = exchange.octet(line, octet, target) {
+        if let Err(WriteFailed) = exchange.octet(line, octet, target, page) {
             return Err(WriteFailed);
         }
     }
@@ -102,40 +105,42 @@ pub(crate) fn pull(exchange: &mut Exchange, line: usize, room: &mut [u8])
     }
 }
 
-/// Writes the octets that a line took, and the frames that are complete in them.
+/// Tells the octets that a line took, and the frames that are complete in them.
 pub(crate) fn tell<T: Target>(
     listener: &mut Deframer,
     line: usize,
     octets: &[u8],
     target: &mut T,
+    page: &mut Page,
 ) -> Result<(), WriteFailed>
     requires { line < 65536 }
     ensures told { (past : List ℕ) → Hears listener.old past
-        → Writes result (T.taken target.old) (T.taken target.new) (pulled_text line past octets.now) }
+        → Puts result (output (T.taken target.old) page.old.items) (output (T.taken target.new) page.new.items) (pulled_text line past octets.now) }
     ensures after { OnOk result ((past : List ℕ) → Hears listener.old past → Hears listener.new (past ++ octets.now)) }
 {
-    if let Err(WriteFailed) = write_sent(target, line as u16, octets) {
+    if let Err(WriteFailed) = put_sent(target, page, line as u16, octets) {
         return Err(WriteFailed);
     }
-    show_frames(listener, line, octets, target)
+    show_frames(listener, line, octets, target, page)
 }
 
-/// Writes the frames that are complete in what a line took.
+/// Tells the frames that are complete in what a line took.
 fn show_frames<T: Target>(
     listener: &mut Deframer,
     line: usize,
     octets: &[u8],
     target: &mut T,
+    page: &mut Page,
 ) -> Result<(), WriteFailed>
     requires { line < 65536 }
     ensures told { (past : List ℕ) → Hears listener.old past
-        → Writes result (T.taken target.old) (T.taken target.new) (flat_map (frame_text line) (machine.found past octets.now)) }
+        → Puts result (output (T.taken target.old) page.old.items) (output (T.taken target.new) page.new.items) (flat_map (frame_text line) (machine.found past octets.now)) }
     ensures after { OnOk result ((past : List ℕ) → Hears listener.old past → Hears listener.new (past ++ octets.now)) }
 {
     for octet in octets {
         listener.step(*octet);
         if let Heard::Frame(frame) = listener.latest() {
-            if let Err(WriteFailed) = write_frame(target, line as u16, frame) {
+            if let Err(WriteFailed) = put_frame(target, page, line as u16, frame) {
                 return Err(WriteFailed);
             }
         }

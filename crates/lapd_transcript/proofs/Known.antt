@@ -8,7 +8,7 @@ use Rattle.std.proofs.lemmas.List.{append-nil, take-append-drop, take_more}
 use Rattle.std.proofs.lemmas.Grind.{flat_map-append}
 use Rattle.std.specs.Io.KnownBytes.{Appends, Keeps}
 use Rattle.lapd_transcript.specs.declared.streams.WriteFailed.{WriteFailed}
-use Rattle.lapd_transcript.specs.Streams.{Taken, IsWritten, IsBroken, Writes, Puts, one_failure_more}
+use Rattle.lapd_transcript.specs.Streams.{Taken, IsWritten, IsBroken, Writes, Output, output, IsPut, IsStuck, Puts, one_failure_more}
 
 appends_then : (a b c : Option (List ℕ)) (x y : List ℕ) → Appends a b x → Appends b c y → Appends a c (x ++ y)
 appends_then None b c x y h k = tt
@@ -45,35 +45,38 @@ flat_map-take_more f xs i d h =
     ap (flat_map f) (take_more xs i d h) ∙ flat_map-append f (take i xs) (get_or xs i d ∷ []) ∙ ap (λ text. flat_map f (take i xs) ++ text) (append-nil (f (get_or xs i d)))
 
 -- One text after another.
-pub puts_then : (r : Result Unit WriteFailed) (u : Unit {0}) (a b c : Taken) (page next last x y : List ℕ) → Puts (Ok u) a page b next x → Puts r b next c last y → Puts r a page c last (x ++ y)
-puts_then (Ok v) u a b c page next last x y h k = λ later end more w. subst (λ text. Writes later a end (page ++ text)) (sym (append_assoc x y more)) (h later end (y ++ more) (k later end more w))
-puts_then (Err e) u a b c page next last x y h k = λ more. subst (λ text. IsBroken a c (page ++ text)) (sym (append_assoc x y more)) (h (Err e) c (y ++ more) (k more))
+pub puts_then : (r : Result Unit WriteFailed) (a b c : Output) (x y : List ℕ) → IsPut a b x → Puts r b c y → Puts r a c (x ++ y)
+puts_then (Ok v) a b c x y h k = record { follows = λ later end more w. subst (λ text. Writes later a.taken end (a.page ++ text)) (sym (append_assoc x y more)) (h.follows later end (y ++ more) (k.follows later end more w)) }
+puts_then (Err e) a b c x y h k = record { broken = λ more. subst (λ text. IsBroken a.taken c.taken (a.page ++ text)) (sym (append_assoc x y more)) (h.follows (Err e) c.taken (y ++ more) (k.broken more)) }
 
-pub puts_broken : (e : WriteFailed) (a c : Taken) (page last x y : List ℕ) → Puts (Err e) a page c last x → Puts (Err e) a page c last (x ++ y)
-puts_broken e a c page last x y h = λ more. subst (λ text. IsBroken a c (page ++ text)) (sym (append_assoc x y more)) (h (y ++ more))
+pub stuck_more : (a c : Output) (x y : List ℕ) → IsStuck a c x → IsStuck a c (x ++ y)
+stuck_more a c x y h = record { broken = λ more. subst (λ text. IsBroken a.taken c.taken (a.page ++ text)) (sym (append_assoc x y more)) (h.broken (y ++ more)) }
+
+pub puts_nothing : (a : Output) → IsPut a a []
+puts_nothing a = record { follows = λ later end more w. w }
 
 -- A page that goes to the target at the end.
-pub puts_written : (r : Result Unit WriteFailed) (u : Unit {0}) (a b c : Taken) (next x : List ℕ) → Puts (Ok u) a [] b next x → Writes r b c next → Writes r a c x
-puts_written r u a b c next x h w = subst (λ text. Writes r a c text) (append-nil x) (h r c [] (subst (λ text. Writes r b c text) (sym (append-nil next)) w))
+pub puts_written : (r : Result Unit WriteFailed) (a c : Taken) (b : Output) (x : List ℕ) → IsPut (output a []) b x → Writes r b.taken c b.page → Writes r a c x
+puts_written r a c b x h w = subst (λ text. Writes r a c text) (append-nil x) (h.follows r c [] (subst (λ text. Writes r b.taken c text) (sym (append-nil b.page)) w))
 
-pub puts_unwritten : (e : WriteFailed) (a b : Taken) (last x : List ℕ) → Puts (Err e) a [] b last x → IsBroken a b x
-puts_unwritten e a b last x h = subst (λ text. IsBroken a b text) (append-nil x) (h [])
+pub puts_unwritten : (a : Taken) (b : Output) (x : List ℕ) → IsStuck (output a []) b x → IsBroken a b.taken x
+puts_unwritten a b x h = subst (λ text. IsBroken a b.taken text) (append-nil x) (h.broken [])
 
 -- One piece: the page goes out before it.
-pub puts_out : (r : Result Unit WriteFailed) (a b c : Taken) (page piece : List ℕ) → IsWritten a b page → Writes r b c piece → Puts r a page c [] piece
-puts_out (Ok u) a b c page piece h k = λ later end more w. writes_then later a b end page (piece ++ more) h (writes_then later b c end piece more k w)
-puts_out (Err e) a b c page piece h k = λ more. writes_then (Err e) a b c page (piece ++ more) h (broken_more b c piece more k)
+pub puts_out : (r : Result Unit WriteFailed) (a b c : Taken) (page piece : List ℕ) → IsWritten a b page → Writes r b c piece → Puts r (output a page) (output c []) piece
+puts_out (Ok u) a b c page piece h k = record { follows = λ later end more w. writes_then later a b end page (piece ++ more) h (writes_then later b c end piece more k w) }
+puts_out (Err e) a b c page piece h k = record { broken = λ more. writes_then (Err e) a b c page (piece ++ more) h (broken_more b c piece more k) }
 
-pub puts_stuck : (e : WriteFailed) (a b : Taken) (page last piece : List ℕ) → IsBroken a b page → Puts (Err e) a page b last piece
-puts_stuck e a b page last piece h = λ more. broken_more a b page (piece ++ more) h
+pub puts_stuck : (a b : Taken) (page last piece : List ℕ) → IsBroken a b page → IsStuck (output a page) (output b last) piece
+puts_stuck a b page last piece h = record { broken = λ more. broken_more a b page (piece ++ more) h }
 
 -- A loop over pieces.
-pub puts_stop : {X : Type 0} (f : X → List ℕ) (xs : List X) (i : ℕ) (d : X) (u : Unit {0}) (e : WriteFailed) (a b c : Taken) (page next last : List ℕ) → i < length xs
-    → Puts (Ok u) a page b next (flat_map f (take i xs)) → Puts (Err e) b next c last (f (get_or xs i d)) → Puts (Err e) a page c last (flat_map f xs)
-puts_stop f xs i d u e a b c page next last h p q =
-    subst (λ text. Puts (Err e) a page c last text)
+pub puts_stop : {X : Type 0} (f : X → List ℕ) (xs : List X) (i : ℕ) (d : X) (a b c : Output) → i < length xs
+    → IsPut a b (flat_map f (take i xs)) → IsStuck b c (f (get_or xs i d)) → IsStuck a c (flat_map f xs)
+puts_stop f xs i d a b c h p q =
+    subst (λ text. IsStuck a c text)
     (ap (λ text. text ++ flat_map f (drop (i + 1) xs)) (sym (flat_map-take_more f xs i d h)) ∙ sym (flat_map-append f (take (i + 1) xs) (drop (i + 1) xs)) ∙ ap (flat_map f) (take-append-drop (i + 1) xs))
-    (puts_broken e a c page last _ (flat_map f (drop (i + 1) xs)) (puts_then (Err e) u a b c page next last _ _ p q))
+    (stuck_more a c _ (flat_map f (drop (i + 1) xs)) (puts_then (Err (record {})) a b c _ _ p q))
 
 -- What a writer of std takes.
 pub appends_keeps : (a b c : Option (List ℕ)) (x : List ℕ) → Appends a b x → Keeps b c → Appends a c x

@@ -30,12 +30,26 @@ abbrev pub Writes : {A E : Type 0} → Result A E → Taken → Taken → List �
 Writes (Ok _) old new text = IsWritten old new text
 Writes (Err _) old new text = IsBroken old new text
 
--- What stands in a page is on its way to a target. After a text was put, whatever is written next follows it;
+-- What a target has taken, and what stands on a page on its way to it.
+pub record Output : Type 0 where
+  pub taken : Taken
+  pub page : List ℕ
+
+abbrev pub output : Taken → List ℕ → Output
+output taken page = record { taken = taken; page = page }
+
+-- After a text was put, whatever is written next follows it, and what stood on the page before it;
+pub record IsPut (old new : Output) (text : List ℕ) : Type 0 where
+  pub follows : (later : Result Unit WriteFailed) (end : Taken) (more : List ℕ) → Writes later new.taken end (new.page ++ more)
+      → Writes later old.taken end (old.page ++ (text ++ more))
+
 -- where a write failed, a beginning has been appended of the page, the text, and whatever was to follow.
-abbrev pub Puts : Result Unit WriteFailed → Taken → List ℕ → Taken → List ℕ → List ℕ → Type 0
-Puts (Ok _) old page new next text =
-    (later : Result Unit WriteFailed) (end : Taken) (more : List ℕ) → Writes later new end (next ++ more) → Writes later old end (page ++ (text ++ more))
-Puts (Err _) old page new next text = (more : List ℕ) → IsBroken old new (page ++ (text ++ more))
+pub record IsStuck (old new : Output) (text : List ℕ) : Type 0 where
+  pub broken : (more : List ℕ) → IsBroken old.taken new.taken (old.page ++ (text ++ more))
+
+abbrev pub Puts : {A E : Type 0} → Result A E → Output → Output → List ℕ → Type 0
+Puts (Ok _) old new text = IsPut old new text
+Puts (Err _) old new text = IsStuck old new text
 
 -- pieces of text, joined
 abbrev pub joined : List (Bor (List ℕ)) → List ℕ

@@ -3,8 +3,8 @@
 //!
 //! - `streams`: where a script is read from and a transcript is written to, [`Source`] and [`Target`].
 //! - `read_from`, `write_to`: any reader of std as a source, any writer of std as a target.
-//! - `output`: writes pieces of text.
-//! - `lines`: writes the lines of a transcript, and what tells of a faulty line of a script.
+//! - `output`: puts pieces of text onto a page, [`Page`], which goes to a target once it is full and by [`send`].
+//! - `lines`: puts the lines of a transcript onto a page, and writes what tells of a faulty line of a script.
 //! - `notes`: what an event brought.
 //! - `shown`: what a frame says, octets of a line, and the bound of a card.
 //! - `names`: the names that stand in them.
@@ -19,7 +19,8 @@ mod shown;
 mod streams;
 mod write_to;
 
-pub use lines::{write_faulty, write_frame, write_refused, write_report, write_sent, write_stored};
+pub use lines::{put_frame, put_refused, put_report, put_sent, put_stored, write_faulty};
+pub use output::{Page, send};
 pub use read_from::ReadFrom;
 pub use shown::{write_bound, write_line_octets, write_shown};
 pub use streams::{ReadFailed, Source, Target, WriteFailed};

@@ -1,11 +1,11 @@
-//! Writes the lines of a transcript.
+//! Puts the lines of a transcript onto a page, and writes what tells of a faulty line.
 
 ghost use Rattle.std.specs.Prelude.{◌++◌, option_copied};
-ghost use Rattle.lapd_transcript.specs.Streams.{Writes};
+ghost use Rattle.lapd_transcript.specs.Streams.{Writes, Puts, output};
 ghost use Rattle.lapd_transcript.specs.Text.{line_text, octets_text, report_text, refused_text, sent_text, frame_text, faulty_text, stored_text};
 
 use crate::names::refusal_name;
-use crate::notes::put_report;
+use crate::notes::put_brought;
 use crate::output::{Page, decimal, finish, put_all, put_octets_line};
 use crate::streams::{Target, WriteFailed};
 use lapd_bits::Cause;
@@ -16,76 +16,83 @@ use lapd_frame::{Note, Refusal};
 ///
 /// # Errors
 ///
-/// [`WriteFailed`] where a write failed: a beginning has been written then.
-pub fn write_report<T: Target>(
+/// [`WriteFailed`] where a write failed: a beginning has been written then of the page and of this.
+pub fn put_report<T: Target>(
     target: &mut T,
+    page: &mut Page,
     line: u16,
     notes: &[Note],
     contents: Option<&[u8]>,
     cause: Option<Cause>,
     lost: u8,
 ) -> Result<(), WriteFailed>
-    ensures { Writes result (T.taken target.old) (T.taken target.new) (report_text line notes.now (option_copied contents.entry) cause lost) }
+    ensures { Puts result (output (T.taken target.old) page.old.items) (output (T.taken target.new) page.new.items) (report_text line notes.now (option_copied contents.entry) cause lost) }
 {
-    let mut page = Page::new();
     let contents = contents.unwrap_or(&[]);
-    let put = put_report(target, &mut page, line, notes, contents, cause, lost);
-    finish(target, &page, put)
+    put_brought(target, page, line, notes, contents, cause, lost)
 }
 
 /// Why a request on a line was refused.
 ///
 /// # Errors
 ///
-/// [`WriteFailed`] where a write failed: a beginning has been written then.
-pub fn write_refused<T: Target>(
+/// [`WriteFailed`] where a write failed: a beginning has been written then of the page and of this.
+pub fn put_refused<T: Target>(
     target: &mut T,
+    page: &mut Page,
     line: u16,
     refusal: Refusal,
 ) -> Result<(), WriteFailed>
-    ensures { Writes result (T.taken target.old) (T.taken target.new) (refused_text line refusal) }
+    ensures { Puts result (output (T.taken target.old) page.old.items) (output (T.taken target.new) page.new.items) (refused_text line refusal) }
 {
-    let mut page = Page::new();
     let line = decimal(u64::from(line));
     let pieces = [line.as_slice(), b" refused ", refusal_name(refusal), b"\n"];
-    let put = put_all(target, &mut page, &pieces);
-    finish(target, &page, put)
+    put_all(target, page, &pieces)
 }
 
 /// The octets that a line took in one pull.
 ///
 /// # Errors
 ///
-/// [`WriteFailed`] where a write failed: a beginning has been written then.
-pub fn write_sent<T: Target>(target: &mut T, line: u16, octets: &[u8]) -> Result<(), WriteFailed>
-    ensures { Writes result (T.taken target.old) (T.taken target.new) (sent_text line octets.now) }
+/// [`WriteFailed`] where a write failed: a beginning has been written then of the page and of this.
+pub fn put_sent<T: Target>(
+    target: &mut T,
+    page: &mut Page,
+    line: u16,
+    octets: &[u8],
+) -> Result<(), WriteFailed>
+    ensures { Puts result (output (T.taken target.old) page.old.items) (output (T.taken target.new) page.new.items) (sent_text line octets.now) }
 {
-    write_octets(target, line, b"tx ", octets)
+    put_named_octets(target, page, line, b"tx ", octets)
 }
 
 /// A frame, without its frame check, that was found complete in what a line took.
 ///
 /// # Errors
 ///
-/// [`WriteFailed`] where a write failed: a beginning has been written then.
-pub fn write_frame<T: Target>(target: &mut T, line: u16, octets: &[u8]) -> Result<(), WriteFailed>
-    ensures { Writes result (T.taken target.old) (T.taken target.new) (frame_text line octets.now) }
+/// [`WriteFailed`] where a write failed: a beginning has been written then of the page and of this.
+pub fn put_frame<T: Target>(
+    target: &mut T,
+    page: &mut Page,
+    line: u16,
+    octets: &[u8],
+) -> Result<(), WriteFailed>
+    ensures { Puts result (output (T.taken target.old) page.old.items) (output (T.taken target.new) page.new.items) (frame_text line octets.now) }
 {
-    write_octets(target, line, b"frame ", octets)
+    put_named_octets(target, page, line, b"frame ", octets)
 }
 
-fn write_octets<T: Target>(
+fn put_named_octets<T: Target>(
     target: &mut T,
+    page: &mut Page,
     line: u16,
     name: &'static [u8],
     octets: &[u8],
 ) -> Result<(), WriteFailed>
-    ensures { Writes result (T.taken target.old) (T.taken target.new) (line_text line (name.now ++ octets_text octets.now)) }
+    ensures { Puts result (output (T.taken target.old) page.old.items) (output (T.taken target.new) page.new.items) (line_text line (name.now ++ octets_text octets.now)) }
 {
-    let mut page = Page::new();
     let line = decimal(u64::from(line));
-    let put = put_octets_line(target, &mut page, &[line.as_slice(), b" ", name], octets);
-    finish(target, &page, put)
+    put_octets_line(target, page, &[line.as_slice(), b" ", name], octets)
 }
 
 /// A faulty line of a script, by its number, and what is wrong with it, in words.
@@ -107,11 +114,15 @@ pub fn write_faulty<T: Target>(target: &mut T, line: u64, words: &[u8]) -> Resul
 ///
 /// # Errors
 ///
-/// [`WriteFailed`] where a write failed: a beginning has been written then.
-pub fn write_stored<T: Target>(target: &mut T, stored: u32, limit: u32) -> Result<(), WriteFailed>
-    ensures { Writes result (T.taken target.old) (T.taken target.new) (stored_text stored limit) }
+/// [`WriteFailed`] where a write failed: a beginning has been written then of the page and of this.
+pub fn put_stored<T: Target>(
+    target: &mut T,
+    page: &mut Page,
+    stored: u32,
+    limit: u32,
+) -> Result<(), WriteFailed>
+    ensures { Puts result (output (T.taken target.old) page.old.items) (output (T.taken target.new) page.new.items) (stored_text stored limit) }
 {
-    let mut page = Page::new();
     let stored = decimal(u64::from(stored));
     let limit = decimal(u64::from(limit));
     let pieces = [
@@ -121,6 +132,5 @@ pub fn write_stored<T: Target>(target: &mut T, stored: u32, limit: u32) -> Resul
         limit.as_slice(),
         b"\n",
     ];
-    let put = put_all(target, &mut page, &pieces);
-    finish(target, &page, put)
+    put_all(target, page, &pieces)
 }

@@ -2,7 +2,7 @@
 
 ghost use Rattle.std.specs.Prelude.{◌++◌, [], ◌∷◌, codes, flat_map};
 ghost use Rattle.lapd_frame.specs.Services.{letter_of};
-ghost use Rattle.lapd_transcript.specs.Streams.{Puts};
+ghost use Rattle.lapd_transcript.specs.Streams.{Puts, output};
 ghost use Rattle.lapd_transcript.specs.Text.{octets_text, line_text, link_words, tei_words, note_text, dropped_text, lost_text};
 
 use crate::names::{cause_name, suffix};
@@ -12,7 +12,7 @@ use lapd_bits::Cause;
 use lapd_frame::{ErrorCode, Note, Service};
 
 /// The notes of an event, then why it dropped a frame, then how many frames it lost.
-pub(crate) fn put_report<T: Target>(
+pub(crate) fn put_brought<T: Target>(
     target: &mut T,
     page: &mut Page,
     line: u16,
@@ -21,7 +21,7 @@ pub(crate) fn put_report<T: Target>(
     cause: Option<Cause>,
     lost: u8,
 ) -> Result<(), WriteFailed>
-    ensures { Puts result (T.taken target.old) page.old.items (T.taken target.new) page.new.items (flat_map (note_text line contents.now) notes.now ++ dropped_text line cause ++ lost_text line lost) }
+    ensures { Puts result (output (T.taken target.old) page.old.items) (output (T.taken target.new) page.new.items) (flat_map (note_text line contents.now) notes.now ++ dropped_text line cause ++ lost_text line lost) }
 {
     if let Err(WriteFailed) = put_notes(target, page, line, notes, contents) {
         return Err(WriteFailed);
@@ -39,7 +39,7 @@ fn put_notes<T: Target>(
     notes: &[Note],
     contents: &[u8],
 ) -> Result<(), WriteFailed>
-    ensures { Puts result (T.taken target.old) page.old.items (T.taken target.new) page.new.items (flat_map (note_text line contents.now) notes.now) }
+    ensures { Puts result (output (T.taken target.old) page.old.items) (output (T.taken target.new) page.new.items) (flat_map (note_text line contents.now) notes.now) }
 {
     for note in notes {
         if let Err(WriteFailed) = put_note(target, page, line, *note, contents) {
@@ -55,7 +55,7 @@ fn put_dropped<T: Target>(
     line: u16,
     cause: Option<Cause>,
 ) -> Result<(), WriteFailed>
-    ensures { Puts result (T.taken target.old) page.old.items (T.taken target.new) page.new.items (dropped_text line cause) }
+    ensures { Puts result (output (T.taken target.old) page.old.items) (output (T.taken target.new) page.new.items) (dropped_text line cause) }
 {
     let Some(cause) = cause else {
         return Ok(());
@@ -74,7 +74,7 @@ fn put_lost<T: Target>(
     line: u16,
     lost: u8,
 ) -> Result<(), WriteFailed>
-    ensures { Puts result (T.taken target.old) page.old.items (T.taken target.new) page.new.items (lost_text line lost) }
+    ensures { Puts result (output (T.taken target.old) page.old.items) (output (T.taken target.new) page.new.items) (lost_text line lost) }
 {
     if lost == 0 {
         return Ok(());
@@ -95,7 +95,7 @@ fn put_note<T: Target>(
     note: Note,
     contents: &[u8],
 ) -> Result<(), WriteFailed>
-    ensures { Puts result (T.taken target.old) page.old.items (T.taken target.new) page.new.items (note_text line contents.now note) }
+    ensures { Puts result (output (T.taken target.old) page.old.items) (output (T.taken target.new) page.new.items) (note_text line contents.now note) }
 {
     match note {
         Note::EstablishIndication(service, tei) => {
@@ -133,7 +133,7 @@ fn put_of_link<T: Target>(
     service: Service,
     tei: u8,
 ) -> Result<(), WriteFailed>
-    ensures { Puts result (T.taken target.old) page.old.items (T.taken target.new) page.new.items (line_text line (link_words name.now service tei)) }
+    ensures { Puts result (output (T.taken target.old) page.old.items) (output (T.taken target.new) page.new.items) (line_text line (link_words name.now service tei)) }
 {
     let line = decimal(u64::from(line));
     let tei = decimal(u64::from(tei));
@@ -161,7 +161,7 @@ fn put_error<T: Target>(
     tei: u8,
     code: ErrorCode,
 ) -> Result<(), WriteFailed>
-    ensures { Puts result (T.taken target.old) page.old.items (T.taken target.new) page.new.items (line_text line (link_words (codes "error") service tei ++ codes " " ++ letter_of code ∷ [])) }
+    ensures { Puts result (output (T.taken target.old) page.old.items) (output (T.taken target.new) page.new.items) (line_text line (link_words (codes "error") service tei ++ codes " " ++ letter_of code ∷ [])) }
 {
     let line = decimal(u64::from(line));
     let tei = decimal(u64::from(tei));
@@ -192,7 +192,7 @@ fn put_contents<T: Target>(
     tei: u8,
     contents: &[u8],
 ) -> Result<(), WriteFailed>
-    ensures { Puts result (T.taken target.old) page.old.items (T.taken target.new) page.new.items (line_text line (link_words name.now service tei ++ codes " " ++ octets_text contents.now)) }
+    ensures { Puts result (output (T.taken target.old) page.old.items) (output (T.taken target.new) page.new.items) (line_text line (link_words name.now service tei ++ codes " " ++ octets_text contents.now)) }
 {
     let line = decimal(u64::from(line));
     let tei = decimal(u64::from(tei));
@@ -216,7 +216,7 @@ fn put_of_tei<T: Target>(
     name: &[u8],
     tei: u8,
 ) -> Result<(), WriteFailed>
-    ensures { Puts result (T.taken target.old) page.old.items (T.taken target.new) page.new.items (line_text line (tei_words name.now tei)) }
+    ensures { Puts result (output (T.taken target.old) page.old.items) (output (T.taken target.new) page.new.items) (line_text line (tei_words name.now tei)) }
 {
     let line = decimal(u64::from(line));
     let tei = decimal(u64::from(tei));

@@ -1,18 +1,18 @@
 //! Puts pieces of text onto a page, which goes to a target once it is full.
 
-ghost use Rattle.std.specs.Prelude.{◌≡◌, [], ◌∷◌, ◌++◌, List, ℕ, codes, decimal};
+ghost use Rattle.std.specs.Prelude.{◌≡◌, [], ◌∷◌, ◌++◌, List, ℕ, codes, decimal, OnOk};
 ghost use Rattle.hex.specs.Hex.{encode_upper};
-ghost use Rattle.lapd_transcript.specs.Streams.{Taken, Writes, Puts, joined};
+ghost use Rattle.lapd_transcript.specs.Streams.{Taken, Writes, Puts, output, joined};
 ghost use Rattle.lapd_transcript.specs.Text.{octets_text};
 
 use crate::streams::{Target, WriteFailed};
 use arrayvec::ArrayVec;
 
 /// As many octets as go to a target at once.
-const ROOM: usize = 256;
+const ROOM: usize = 4096;
 
-/// What is on its way to a target.
-pub(crate) type Page = ArrayVec<u8, ROOM>;
+/// Text on its way to a target: it goes there once the page is full, and by [`send`].
+pub type Page = ArrayVec<u8, ROOM>;
 
 /// The digits of a number of 64 bits.
 pub(crate) type Digits = ArrayVec<u8, 20>;
@@ -38,7 +38,7 @@ pub(crate) fn put<T: Target>(
     page: &mut Page,
     piece: &[u8],
 ) -> Result<(), WriteFailed>
-    ensures { Puts result (T.taken target.old) page.old.items (T.taken target.new) page.new.items piece.now }
+    ensures { Puts result (output (T.taken target.old) page.old.items) (output (T.taken target.new) page.new.items) piece.now }
 {
     if page.try_extend_from_slice(piece).is_ok() {
         return Ok(());
@@ -56,7 +56,7 @@ pub(crate) fn put_all<T: Target>(
     page: &mut Page,
     pieces: &[&[u8]],
 ) -> Result<(), WriteFailed>
-    ensures { Puts result (T.taken target.old) page.old.items (T.taken target.new) page.new.items (joined pieces.now) }
+    ensures { Puts result (output (T.taken target.old) page.old.items) (output (T.taken target.new) page.new.items) (joined pieces.now) }
 {
     for piece in pieces {
         if let Err(WriteFailed) = put(target, page, piece) {
@@ -72,7 +72,7 @@ pub(crate) fn put_octets<T: Target>(
     page: &mut Page,
     octets: &[u8],
 ) -> Result<(), WriteFailed>
-    ensures { Puts result (T.taken target.old) page.old.items (T.taken target.new) page.new.items (octets_text octets.now) }
+    ensures { Puts result (output (T.taken target.old) page.old.items) (output (T.taken target.new) page.new.items) (octets_text octets.now) }
 {
     if octets.is_empty() {
         return put(target, page, b"-");
@@ -87,7 +87,7 @@ pub(crate) fn put_octets_line<T: Target>(
     head: &[&[u8]],
     octets: &[u8],
 ) -> Result<(), WriteFailed>
-    ensures { Puts result (T.taken target.old) page.old.items (T.taken target.new) page.new.items (joined head.now ++ octets_text octets.now ++ codes "\n") }
+    ensures { Puts result (output (T.taken target.old) page.old.items) (output (T.taken target.new) page.new.items) (joined head.now ++ octets_text octets.now ++ codes "\n") }
 {
     if let Err(WriteFailed) = put_all(target, page, head) {
         return Err(WriteFailed);
@@ -98,13 +98,32 @@ pub(crate) fn put_octets_line<T: Target>(
     put(target, page, b"\n")
 }
 
+/// Sends what stands on the page to the target. An empty page asks nothing of it.
+///
+/// # Errors
+///
+/// [`WriteFailed`] where the write failed: a beginning has been written then.
+pub fn send<T: Target>(target: &mut T, page: &mut Page) -> Result<(), WriteFailed>
+    ensures written { Writes result (T.taken target.old) (T.taken target.new) page.old.items }
+    ensures cleared { OnOk result (page.new.items ≡ []) }
+{
+    if page.is_empty() {
+        return Ok(());
+    }
+    if let Err(WriteFailed) = target.write(page.as_slice()) {
+        return Err(WriteFailed);
+    }
+    page.clear();
+    Ok(())
+}
+
 /// Sends the page to the target, where all was put.
 pub(crate) fn finish<T: Target>(
     target: &mut T,
     page: &Page,
     put: Result<(), WriteFailed>,
 ) -> Result<(), WriteFailed>
-    ensures { (before : Taken) (text : List ℕ) → Puts put before [] (T.taken target.old) page.now.items text → Writes result before (T.taken target.new) text }
+    ensures { (before : Taken) (text : List ℕ) → Puts put (output before []) (output (T.taken target.old) page.now.items) text → Writes result before (T.taken target.new) text }
 {
     match put {
         Ok(()) => target.write(page.as_slice()),
@@ -113,7 +132,7 @@ pub(crate) fn finish<T: Target>(
 }
 
 fn put_digits<T: Target>(target: &mut T, page: &mut Page, octets: &[u8]) -> Result<(), WriteFailed>
-    ensures { Puts result (T.taken target.old) page.old.items (T.taken target.new) page.new.items (encode_upper octets.now) }
+    ensures { Puts result (output (T.taken target.old) page.old.items) (output (T.taken target.new) page.new.items) (encode_upper octets.now) }
 {
     for octet in octets {
         if let Err(WriteFailed) = put(target, page, &digits_of(*octet)) {

@@ -3,6 +3,7 @@ use Rattle.lapd_bits.specs.Framer as framing
 use Rattle.lapd_bits.specs.Sent.{Item}
 use Rattle.lapd_sim.specs.Gives.{Gives}
 use Rattle.lapd_sim.specs.Stands.{Holds}
+use Rattle.lapd_transcript.specs.Streams.{output}
 use Rattle.lapd_sim.proofs.traffic.give.Given as goal
 
 -- the lines are the same, and the octets so far have come
@@ -10,7 +11,7 @@ abbrev pub invariant-loop-terminal : goal.invariant-loop-terminal
 invariant-loop-terminal g l =
     (l.exchange.config ≡ l.fn.exchange.config)
     × ((items : List Item) (given : List ℕ) → framing.Stands l.fn.terminal.framer items given
-    → Gives (Ok tt) (g.T.Target.taken l.fn.target) (g.T.Target.taken l.target) (Holds l.fn.exchange) (Holds l.exchange) l.line items given l.terminal.framer)
+    → Gives (Ok tt) (output (g.T.Target.taken l.fn.target) l.fn.page.items) (output (g.T.Target.taken l.target) l.page.items) (Holds l.fn.exchange) (Holds l.exchange) l.line items given l.terminal.framer)
 
 -- each octet takes eight of the bits that are left
 abbrev pub decreases-loop-terminal : goal.decreases-loop-terminal

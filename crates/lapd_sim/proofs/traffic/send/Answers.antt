@@ -2,52 +2,53 @@ use Rattle.std.proofs.Common.{◌++◌, length, Ok, Err}
 use Rattle.lapd_sim_machine.specs.Bench.{with_frame}
 use Rattle.lapd_sim.specs.Stands.{Holds}
 use Rattle.lapd_sim.proofs.Terminals.{items_tail, frame_tail, gives_loaded, gives_whole, gives_rest, none_left, rest_stays, sent_told, sent_after, sent_broken, on_ok}
+use Rattle.lapd_transcript.specs.Streams.{output}
 use Rattle.lapd_sim.proofs.traffic.send.Goals as goal
 
 pub returns-in-Err-clause-told : goal.returns-in-Err-clause-told
 returns-in-Err-clause-told g c = λ m t holds s.
-    sent_broken c.in-Err.field-0 (g.T.Target.taken c.args.target.now) (g.T.Target.taken c.give.new.target) (Holds c.args.exchange.now) (Holds c.give.new.exchange) c.args.line c.args.frame.now t s.octets c.give.new.terminal.framer t.items s.given
+    sent_broken c.in-Err.field-0 (output (g.T.Target.taken c.args.target.now) c.args.page.now.items) (output (g.T.Target.taken c.give.new.target) c.give.new.page.items) (Holds c.args.exchange.now) (Holds c.give.new.exchange) c.args.line c.args.frame.now t s.octets c.give.new.terminal.framer t.items s.given
     (items_tail c.args.frame.now t) (c.in-Err.ensures.told t.items s.octets s.stands) m holds
 
 pub returns-in-Err-give-clause-told : goal.returns-in-Err-give-clause-told
 returns-in-Err-give-clause-told g c = λ m t holds s.
-    let gives = gives_loaded (Err c.in-Err-give.field-0) c.in_default.field-0 (g.T.Target.taken c.args.target.now) (g.T.Target.taken c.give.new.target) (g.T.Target.taken c.give-2.new.target) (Holds c.args.exchange.now) (Holds c.give.new.exchange) (Holds c.give-2.new.exchange) c.args.line c.args.frame.now t s.octets c.give.new.terminal.framer c.load.new.self.framer c.give-2.new.terminal.framer
+    let gives = gives_loaded (Err c.in-Err-give.field-0) c.in_default.field-0 (output (g.T.Target.taken c.args.target.now) c.args.page.now.items) (output (g.T.Target.taken c.give.new.target) c.give.new.page.items) (output (g.T.Target.taken c.give-2.new.target) c.give-2.new.page.items) (Holds c.args.exchange.now) (Holds c.give.new.exchange) (Holds c.give-2.new.exchange) c.args.line c.args.frame.now t s.octets c.give.new.terminal.framer c.load.new.self.framer c.give-2.new.terminal.framer
     (c.in_default.ensures.told t.items s.octets s.stands) c.load.ensures c.in-Err-give.ensures.told in
-    sent_broken c.in-Err-give.field-0 (g.T.Target.taken c.args.target.now) (g.T.Target.taken c.give-2.new.target) (Holds c.args.exchange.now) (Holds c.give-2.new.exchange) c.args.line c.args.frame.now t s.octets c.give-2.new.terminal.framer (with_frame c.args.frame.now t.items) s.given
+    sent_broken c.in-Err-give.field-0 (output (g.T.Target.taken c.args.target.now) c.args.page.now.items) (output (g.T.Target.taken c.give-2.new.target) c.give-2.new.page.items) (Holds c.args.exchange.now) (Holds c.give-2.new.exchange) c.args.line c.args.frame.now t s.octets c.give-2.new.terminal.framer (with_frame c.args.frame.now t.items) s.given
     (frame_tail c.args.frame.now t) gives m holds
 
 pub returns-then-has_rest-clause-told : goal.returns-then-has_rest-clause-told
 returns-then-has_rest-clause-told g c = λ m t holds s.
-    let first = gives_loaded (Ok c.in_default-give.field-0) c.in_default.field-0 (g.T.Target.taken c.args.target.now) (g.T.Target.taken c.give.new.target) (g.T.Target.taken c.give-2.new.target) (Holds c.args.exchange.now) (Holds c.give.new.exchange) (Holds c.give-2.new.exchange) c.args.line c.args.frame.now t s.octets c.give.new.terminal.framer c.load.new.self.framer c.give-2.new.terminal.framer
+    let first = gives_loaded (Ok c.in_default-give.field-0) c.in_default.field-0 (output (g.T.Target.taken c.args.target.now) c.args.page.now.items) (output (g.T.Target.taken c.give.new.target) c.give.new.page.items) (output (g.T.Target.taken c.give-2.new.target) c.give-2.new.page.items) (Holds c.args.exchange.now) (Holds c.give.new.exchange) (Holds c.give-2.new.exchange) c.args.line c.args.frame.now t s.octets c.give.new.terminal.framer c.load.new.self.framer c.give-2.new.terminal.framer
     (c.in_default.ensures.told t.items s.octets s.stands) c.load.ensures c.in_default-give.ensures.told in
     let few = c.in_default-give.ensures.rest in
-    let gives = gives_rest c.octet.result c.in_default-give.field-0 (g.T.Target.taken c.args.target.now) (g.T.Target.taken c.give-2.new.target) (g.T.Target.taken c.octet.new.target) (Holds c.args.exchange.now) (Holds c.give-2.new.exchange) (Holds c.octet.new.self) c.args.line c.octet-octet.result c.args.frame.now t s.octets c.give-2.new.terminal.framer c.octet-octet.new.self.framer
+    let gives = gives_rest c.octet.result c.in_default-give.field-0 (output (g.T.Target.taken c.args.target.now) c.args.page.now.items) (output (g.T.Target.taken c.give-2.new.target) c.give-2.new.page.items) (output (g.T.Target.taken c.octet.new.target) c.octet.new.page.items) (Holds c.args.exchange.now) (Holds c.give-2.new.exchange) (Holds c.octet.new.self) c.args.line c.octet-octet.result c.args.frame.now t s.octets c.give-2.new.terminal.framer c.octet-octet.new.self.framer
     first (c.has_rest.ensures.0 c.if-has_rest.true) few c.octet-octet.type_inv c.octet-octet.ensures.stands c.octet.ensures.told in
     let after = rest_stays c.give-2.new.terminal.framer c.octet-octet.new.self.framer c.octet-octet.result (with_frame c.args.frame.now t.items) (s.octets ++ first.octets) first.stands few (c.octet-octet.ensures.stands (with_frame c.args.frame.now t.items) (s.octets ++ first.octets) first.stands) in
-    sent_told c.octet.result (g.T.Target.taken c.args.target.now) (g.T.Target.taken c.octet.new.target) (Holds c.args.exchange.now) (Holds c.octet.new.self) c.args.line c.args.frame.now t s.octets c.octet-octet.new.self.framer s.given after gives m holds
+    sent_told c.octet.result (output (g.T.Target.taken c.args.target.now) c.args.page.now.items) (output (g.T.Target.taken c.octet.new.target) c.octet.new.page.items) (Holds c.args.exchange.now) (Holds c.octet.new.self) c.args.line c.args.frame.now t s.octets c.octet-octet.new.self.framer s.given after gives m holds
 
 pub returns-then-has_rest-clause-after : goal.returns-then-has_rest-clause-after
 returns-then-has_rest-clause-after g c = on_ok c.octet.result (λ t s.
-    let first = gives_loaded (Ok c.in_default-give.field-0) c.in_default.field-0 (g.T.Target.taken c.args.target.now) (g.T.Target.taken c.give.new.target) (g.T.Target.taken c.give-2.new.target) (Holds c.args.exchange.now) (Holds c.give.new.exchange) (Holds c.give-2.new.exchange) c.args.line c.args.frame.now t s.octets c.give.new.terminal.framer c.load.new.self.framer c.give-2.new.terminal.framer
+    let first = gives_loaded (Ok c.in_default-give.field-0) c.in_default.field-0 (output (g.T.Target.taken c.args.target.now) c.args.page.now.items) (output (g.T.Target.taken c.give.new.target) c.give.new.page.items) (output (g.T.Target.taken c.give-2.new.target) c.give-2.new.page.items) (Holds c.args.exchange.now) (Holds c.give.new.exchange) (Holds c.give-2.new.exchange) c.args.line c.args.frame.now t s.octets c.give.new.terminal.framer c.load.new.self.framer c.give-2.new.terminal.framer
     (c.in_default.ensures.told t.items s.octets s.stands) c.load.ensures c.in_default-give.ensures.told in
     let few = c.in_default-give.ensures.rest in
-    let gives = gives_rest c.octet.result c.in_default-give.field-0 (g.T.Target.taken c.args.target.now) (g.T.Target.taken c.give-2.new.target) (g.T.Target.taken c.octet.new.target) (Holds c.args.exchange.now) (Holds c.give-2.new.exchange) (Holds c.octet.new.self) c.args.line c.octet-octet.result c.args.frame.now t s.octets c.give-2.new.terminal.framer c.octet-octet.new.self.framer
+    let gives = gives_rest c.octet.result c.in_default-give.field-0 (output (g.T.Target.taken c.args.target.now) c.args.page.now.items) (output (g.T.Target.taken c.give-2.new.target) c.give-2.new.page.items) (output (g.T.Target.taken c.octet.new.target) c.octet.new.page.items) (Holds c.args.exchange.now) (Holds c.give-2.new.exchange) (Holds c.octet.new.self) c.args.line c.octet-octet.result c.args.frame.now t s.octets c.give-2.new.terminal.framer c.octet-octet.new.self.framer
     first (c.has_rest.ensures.0 c.if-has_rest.true) few c.octet-octet.type_inv c.octet-octet.ensures.stands c.octet.ensures.told in
     let after = rest_stays c.give-2.new.terminal.framer c.octet-octet.new.self.framer c.octet-octet.result (with_frame c.args.frame.now t.items) (s.octets ++ first.octets) first.stands few (c.octet-octet.ensures.stands (with_frame c.args.frame.now t.items) (s.octets ++ first.octets) first.stands) in
-    sent_after c.octet.result (g.T.Target.taken c.args.target.now) (g.T.Target.taken c.octet.new.target) (Holds c.args.exchange.now) (Holds c.octet.new.self) c.args.line c.args.frame.now t s.octets c.octet-octet.new.self s.given after gives)
+    sent_after c.octet.result (output (g.T.Target.taken c.args.target.now) c.args.page.now.items) (output (g.T.Target.taken c.octet.new.target) c.octet.new.page.items) (Holds c.args.exchange.now) (Holds c.octet.new.self) c.args.line c.args.frame.now t s.octets c.octet-octet.new.self s.given after gives)
 
 pub returns-clause-told : goal.returns-clause-told
 returns-clause-told g c = λ m t holds s.
-    let first = gives_loaded (Ok c.in_default-give.field-0) c.in_default.field-0 (g.T.Target.taken c.args.target.now) (g.T.Target.taken c.give.new.target) (g.T.Target.taken c.give-2.new.target) (Holds c.args.exchange.now) (Holds c.give.new.exchange) (Holds c.give-2.new.exchange) c.args.line c.args.frame.now t s.octets c.give.new.terminal.framer c.load.new.self.framer c.give-2.new.terminal.framer
+    let first = gives_loaded (Ok c.in_default-give.field-0) c.in_default.field-0 (output (g.T.Target.taken c.args.target.now) c.args.page.now.items) (output (g.T.Target.taken c.give.new.target) c.give.new.page.items) (output (g.T.Target.taken c.give-2.new.target) c.give-2.new.page.items) (Holds c.args.exchange.now) (Holds c.give.new.exchange) (Holds c.give-2.new.exchange) c.args.line c.args.frame.now t s.octets c.give.new.terminal.framer c.load.new.self.framer c.give-2.new.terminal.framer
     (c.in_default.ensures.told t.items s.octets s.stands) c.load.ensures c.in_default-give.ensures.told in
     let none = none_left c.has_rest.result (length c.give-2.new.terminal.framer.left) c.if-has_rest.false c.has_rest.ensures.1 in
-    sent_told (Ok c.in_default-give.field-0) (g.T.Target.taken c.args.target.now) (g.T.Target.taken c.give-2.new.target) (Holds c.args.exchange.now) (Holds c.give-2.new.exchange) c.args.line c.args.frame.now t s.octets c.give-2.new.terminal.framer s.given c.in_default-give.ensures.rest
-    (gives_whole (Ok c.in_default-give.field-0) (g.T.Target.taken c.args.target.now) (g.T.Target.taken c.give-2.new.target) (Holds c.args.exchange.now) (Holds c.give-2.new.exchange) c.args.line c.args.frame.now t s.octets c.give-2.new.terminal.framer none first) m holds
+    sent_told (Ok c.in_default-give.field-0) (output (g.T.Target.taken c.args.target.now) c.args.page.now.items) (output (g.T.Target.taken c.give-2.new.target) c.give-2.new.page.items) (Holds c.args.exchange.now) (Holds c.give-2.new.exchange) c.args.line c.args.frame.now t s.octets c.give-2.new.terminal.framer s.given c.in_default-give.ensures.rest
+    (gives_whole (Ok c.in_default-give.field-0) (output (g.T.Target.taken c.args.target.now) c.args.page.now.items) (output (g.T.Target.taken c.give-2.new.target) c.give-2.new.page.items) (Holds c.args.exchange.now) (Holds c.give-2.new.exchange) c.args.line c.args.frame.now t s.octets c.give-2.new.terminal.framer none first) m holds
 
 pub returns-clause-after : goal.returns-clause-after
 returns-clause-after g c = λ t s.
-    let first = gives_loaded (Ok c.in_default-give.field-0) c.in_default.field-0 (g.T.Target.taken c.args.target.now) (g.T.Target.taken c.give.new.target) (g.T.Target.taken c.give-2.new.target) (Holds c.args.exchange.now) (Holds c.give.new.exchange) (Holds c.give-2.new.exchange) c.args.line c.args.frame.now t s.octets c.give.new.terminal.framer c.load.new.self.framer c.give-2.new.terminal.framer
+    let first = gives_loaded (Ok c.in_default-give.field-0) c.in_default.field-0 (output (g.T.Target.taken c.args.target.now) c.args.page.now.items) (output (g.T.Target.taken c.give.new.target) c.give.new.page.items) (output (g.T.Target.taken c.give-2.new.target) c.give-2.new.page.items) (Holds c.args.exchange.now) (Holds c.give.new.exchange) (Holds c.give-2.new.exchange) c.args.line c.args.frame.now t s.octets c.give.new.terminal.framer c.load.new.self.framer c.give-2.new.terminal.framer
     (c.in_default.ensures.told t.items s.octets s.stands) c.load.ensures c.in_default-give.ensures.told in
     let none = none_left c.has_rest.result (length c.give-2.new.terminal.framer.left) c.if-has_rest.false c.has_rest.ensures.1 in
-    sent_after (Ok c.in_default-give.field-0) (g.T.Target.taken c.args.target.now) (g.T.Target.taken c.give-2.new.target) (Holds c.args.exchange.now) (Holds c.give-2.new.exchange) c.args.line c.args.frame.now t s.octets c.give-2.new.terminal s.given c.in_default-give.ensures.rest
-    (gives_whole (Ok c.in_default-give.field-0) (g.T.Target.taken c.args.target.now) (g.T.Target.taken c.give-2.new.target) (Holds c.args.exchange.now) (Holds c.give-2.new.exchange) c.args.line c.args.frame.now t s.octets c.give-2.new.terminal.framer none first)
+    sent_after (Ok c.in_default-give.field-0) (output (g.T.Target.taken c.args.target.now) c.args.page.now.items) (output (g.T.Target.taken c.give-2.new.target) c.give-2.new.page.items) (Holds c.args.exchange.now) (Holds c.give-2.new.exchange) c.args.line c.args.frame.now t s.octets c.give-2.new.terminal s.given c.in_default-give.ensures.rest
+    (gives_whole (Ok c.in_default-give.field-0) (output (g.T.Target.taken c.args.target.now) c.args.page.now.items) (output (g.T.Target.taken c.give-2.new.target) c.give-2.new.page.items) (Holds c.args.exchange.now) (Holds c.give-2.new.exchange) c.args.line c.args.frame.now t s.octets c.give-2.new.terminal.framer none first)

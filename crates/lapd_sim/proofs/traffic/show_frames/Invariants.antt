@@ -1,9 +1,10 @@
 use Rattle.std.proofs.Common.{ℕ, List, take}
 use Rattle.lapd_sim.specs.Stands.{Hears}
 use Rattle.lapd_sim.proofs.Listeners.{Shown}
+use Rattle.lapd_transcript.specs.Streams.{output}
 use Rattle.lapd_sim.proofs.traffic.show_frames.Given as goal
 
 -- the octets so far have been heard, and the frames in them told
 abbrev pub invariant-loop-octet : goal.invariant-loop-octet
 invariant-loop-octet g l = (past : List ℕ) → Hears l.fn.listener past
-    → Shown l.line l.listener (g.T.Target.taken l.fn.target) (g.T.Target.taken l.target) past (take l.octet-index l.octets)
+    → Shown l.line l.listener (output (g.T.Target.taken l.fn.target) l.fn.page.items) (output (g.T.Target.taken l.target) l.page.items) past (take l.octet-index l.octets)

@@ -1,17 +1,17 @@
 use Rattle.std.proofs.Common.{ℕ, List, ap, sym, subst, ◌∙◌}
-use Rattle.lapd_transcript.specs.Streams.{IsWritten, IsBroken, Puts}
+use Rattle.lapd_transcript.specs.Streams.{IsWritten, IsBroken, Puts, output}
 use Rattle.lapd_transcript.proofs.Known.{puts_out, puts_stuck, err_gives}
 use Rattle.lapd_transcript.proofs.output.put.Goals as goal
 
 pub returns-in-Err : goal.returns-in-Err
 returns-in-Err g c =
     let same = c.as_slice.ensures.value ∙ ap (λ page. page.items) (err_gives c.try_extend_from_slice.result c.if-is_ok.ensures.value c.try_extend_from_slice.ensures.err) in
-    puts_stuck c.in-Err.field-0 (g.T.Target.taken c.args.target.now) (g.T.Target.taken c.write.new.self) c.args.page.now.items c.try_extend_from_slice.new.self.items c.args.piece.now
+    puts_stuck (g.T.Target.taken c.args.target.now) (g.T.Target.taken c.write.new.self) c.args.page.now.items c.try_extend_from_slice.new.self.items c.args.piece.now
     (subst (λ (text : List ℕ). IsBroken (g.T.Target.taken c.args.target.now) (g.T.Target.taken c.write.new.self) text) same c.in-Err.ensures)
 
 pub returns : goal.returns
 returns g c =
     let same = c.as_slice.ensures.value ∙ ap (λ page. page.items) (err_gives c.try_extend_from_slice.result c.if-is_ok.ensures.value c.try_extend_from_slice.ensures.err) in
-    subst (λ (next : List ℕ). Puts c.write-2.result (g.T.Target.taken c.args.target.now) c.args.page.now.items (g.T.Target.taken c.write-2.new.self) next c.args.piece.now) (sym c.clear.ensures)
+    subst (λ (next : List ℕ). Puts c.write-2.result (output (g.T.Target.taken c.args.target.now) c.args.page.now.items) (output (g.T.Target.taken c.write-2.new.self) next) c.args.piece.now) (sym c.clear.ensures)
     (puts_out c.write-2.result (g.T.Target.taken c.args.target.now) (g.T.Target.taken c.write.new.self) (g.T.Target.taken c.write-2.new.self) c.args.page.now.items c.args.piece.now
     (subst (λ (text : List ℕ). IsWritten (g.T.Target.taken c.args.target.now) (g.T.Target.taken c.write.new.self) text) same c.in_default.ensures) c.write-2.ensures)

@@ -1,10 +1,10 @@
 use Rattle.std.proofs.Common.{ℕ, List, Bor}
+use Rattle.lapd_transcript.specs.Streams.{output}
 use Rattle.lapd_transcript.proofs.Known.{puts_stop, nowhere}
 use Rattle.lapd_transcript.proofs.output.put_all.Goals as goal
 
 pub returns-in-Err : goal.returns-in-Err
 returns-in-Err g c =
-    puts_stop (λ (piece : Bor (List ℕ)). piece.now) c.args.pieces.now c.loop-piece.piece-index nowhere tt c.in-Err.field-0
-    (g.T.Target.taken c.args.target.now) (g.T.Target.taken c.loop-piece.target) (g.T.Target.taken c.put.new.target)
-    c.args.page.now.items c.loop-piece.page.items c.put.new.page.items
+    puts_stop (λ (piece : Bor (List ℕ)). piece.now) c.args.pieces.now c.loop-piece.piece-index nowhere
+    (output (g.T.Target.taken c.args.target.now) c.args.page.now.items) (output (g.T.Target.taken c.loop-piece.target) c.loop-piece.page.items) (output (g.T.Target.taken c.put.new.target) c.put.new.page.items)
     c.loop-piece-test.true c.loop-piece.invariant c.in-Err.ensures

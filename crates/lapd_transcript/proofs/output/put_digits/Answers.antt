@@ -1,22 +1,21 @@
-use Rattle.std.proofs.Common.{ℕ, List, [], ◌∷◌, Ok, Err, subst, take_all, ap, ◌∙◌}
+use Rattle.std.proofs.Common.{ℕ, List, [], ◌∷◌, subst, take_all, ap, ◌∙◌}
 use Rattle.std.specs.List.{flat_map}
 use Rattle.hex.specs.Hex.{encode_upper}
-use Rattle.lapd_transcript.specs.Streams.{Puts}
+use Rattle.lapd_transcript.specs.Streams.{output, IsPut, IsStuck}
 use Rattle.lapd_transcript.proofs.Known.{puts_stop}
 use Rattle.lapd_transcript.proofs.Digits.{encoded_singly}
 use Rattle.lapd_transcript.proofs.output.put_digits.Goals as goal
 
 pub returns-in-Err : goal.returns-in-Err
 returns-in-Err g c =
-    subst (λ (text : List ℕ). Puts (Err c.in-Err.field-0) (g.T.Target.taken c.args.target.now) c.args.page.now.items (g.T.Target.taken c.put.new.target) c.put.new.page.items text) (encoded_singly c.args.octets.now)
-    (puts_stop (λ octet. encode_upper (octet ∷ [])) c.args.octets.now c.loop-octet.octet-index 0 tt c.in-Err.field-0
-    (g.T.Target.taken c.args.target.now) (g.T.Target.taken c.loop-octet.target) (g.T.Target.taken c.put.new.target)
-    c.args.page.now.items c.loop-octet.page.items c.put.new.page.items
+    subst (λ (text : List ℕ). IsStuck (output (g.T.Target.taken c.args.target.now) c.args.page.now.items) (output (g.T.Target.taken c.put.new.target) c.put.new.page.items) text) (encoded_singly c.args.octets.now)
+    (puts_stop (λ octet. encode_upper (octet ∷ [])) c.args.octets.now c.loop-octet.octet-index 0
+    (output (g.T.Target.taken c.args.target.now) c.args.page.now.items) (output (g.T.Target.taken c.loop-octet.target) c.loop-octet.page.items) (output (g.T.Target.taken c.put.new.target) c.put.new.page.items)
     c.loop-octet-test.true c.loop-octet.invariant
-    (subst (λ (text : List ℕ). Puts (Err c.in-Err.field-0) (g.T.Target.taken c.loop-octet.target) c.loop-octet.page.items (g.T.Target.taken c.put.new.target) c.put.new.page.items text) c.digits_of.ensures c.in-Err.ensures))
+    (subst (λ (text : List ℕ). IsStuck (output (g.T.Target.taken c.loop-octet.target) c.loop-octet.page.items) (output (g.T.Target.taken c.put.new.target) c.put.new.page.items) text) c.digits_of.ensures c.in-Err.ensures))
 
 pub returns : goal.returns
 returns g c =
-    subst (λ (text : List ℕ). Puts (Ok tt) (g.T.Target.taken c.args.target.now) c.args.page.now.items (g.T.Target.taken c.loop-octet.target) c.loop-octet.page.items text)
+    subst (λ (text : List ℕ). IsPut (output (g.T.Target.taken c.args.target.now) c.args.page.now.items) (output (g.T.Target.taken c.loop-octet.target) c.loop-octet.page.items) text)
     (ap (flat_map (λ octet. encode_upper (octet ∷ []))) (take_all c.loop-octet.octet-index c.args.octets.now c.loop-octet-test.false) ∙ encoded_singly c.args.octets.now)
     c.loop-octet.invariant

@@ -1,9 +1,9 @@
-use Rattle.std.proofs.Common.{Ok, take, [], ◌∷◌}
+use Rattle.std.proofs.Common.{take, [], ◌∷◌}
 use Rattle.std.specs.List.{flat_map}
 use Rattle.hex.specs.Hex.{encode_upper}
-use Rattle.lapd_transcript.specs.Streams.{Puts}
+use Rattle.lapd_transcript.specs.Streams.{output, IsPut}
 use Rattle.lapd_transcript.proofs.output.put_digits.Given as goal
 
 -- the digits of the octets so far were put
 abbrev pub invariant-loop-octet : goal.invariant-loop-octet
-invariant-loop-octet g l = Puts (Ok tt) (g.T.Target.taken l.fn.target) l.fn.page.items (g.T.Target.taken l.target) l.page.items (flat_map (λ octet. encode_upper (octet ∷ [])) (take l.octet-index l.octets))
+invariant-loop-octet g l = IsPut (output (g.T.Target.taken l.fn.target) l.fn.page.items) (output (g.T.Target.taken l.target) l.page.items) (flat_map (λ octet. encode_upper (octet ∷ [])) (take l.octet-index l.octets))

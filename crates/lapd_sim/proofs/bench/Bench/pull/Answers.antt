@@ -1,6 +1,6 @@
 use Rattle.std.proofs.Common.{◌≡◌, ◌<◌, ◌++◌, [], length, take, get_or, sym, ap, subst, arith}
 use Rattle.std.proofs.lemmas.List.{length-take}
-use Rattle.lapd_transcript.specs.Streams.{IsWritten, IsBroken}
+use Rattle.lapd_transcript.specs.Streams.{IsPut, IsStuck, output}
 use Rattle.lapd_sim_machine.specs.Bench.{taken_at}
 use Rattle.lapd_sim_machine.specs.Steps.{pulls, pulled_text}
 use Rattle.lapd_sim.specs.Stands.{Stands, Holds, Each, Hears, Sends}
@@ -21,7 +21,7 @@ returns-in-Ok g c = λ m h.
     (each_at Hears c.args.self.now.listeners.items m.taken line c.index_mut.result.now [] bound h.listeners) in
     let past = subst (λ taken. Hears c.index_mut.result.now (get_or taken line [])) (sym keep.1) hears in
     pull_obeyed _ _ _ c.in_ok-line.ensures.0 c.args.count m (subst (λ n. line < n) (sym (ap (λ config. config.lines) h.exchange.config)) c.in_ok-line.ensures.1)
-    (subst (λ xs. IsWritten (g.T.Target.taken c.args.target.now) (g.T.Target.taken c.tell.new.target) (pulled_text line (taken_at line p.bench) xs)) octets (c.in-Ok.ensures.told (taken_at line p.bench) past))
+    (subst (λ xs. IsPut (output (g.T.Target.taken c.args.target.now) c.args.page.now.items) (output (g.T.Target.taken c.tell.new.target) c.tell.new.page.items) (pulled_text line (taken_at line p.bench) xs)) octets (c.in-Ok.ensures.told (taken_at line p.bench) past))
     (record {
       exchange = record { config = holds.config; card = holds.card; clock = holds.clock; now = holds.now };
       terminals = subst (λ ts. Each Sends c.args.self.now.terminals.items ts) (sym keep.0) h.terminals;
@@ -42,4 +42,4 @@ returns-in-Err g c = λ m h.
     (each_at Hears c.args.self.now.listeners.items m.taken line c.index_mut.result.now [] bound h.listeners) in
     let past = subst (λ taken. Hears c.index_mut.result.now (get_or taken line [])) (sym keep.1) hears in
     pull_broken _ _ (Stands c.args.self.now) c.in_ok-line.ensures.0 c.args.count m (subst (λ n. line < n) (sym (ap (λ config. config.lines) h.exchange.config)) c.in_ok-line.ensures.1)
-    (subst (λ xs. IsBroken (g.T.Target.taken c.args.target.now) (g.T.Target.taken c.tell.new.target) (pulled_text line (taken_at line p.bench) xs)) octets (c.in-Err.ensures.told (taken_at line p.bench) past))
+    (subst (λ xs. IsStuck (output (g.T.Target.taken c.args.target.now) c.args.page.now.items) (output (g.T.Target.taken c.tell.new.target) c.tell.new.page.items) (pulled_text line (taken_at line p.bench) xs)) octets (c.in-Err.ensures.told (taken_at line p.bench) past))

@@ -29,7 +29,7 @@ pub returns-in-Err-clause-told : goal.returns-in-Err-clause-told
 returns-in-Err-clause-told g c = λ m h.
     let e = at c.args.line (happening.request (request_of c.args.request)) in
     let is = c.in-Err.ensures.told m.card h.card in
-    refused-told c.write_refused.result _ _ c.in-Err.refusal m e _ is c.write_refused.ensures (record {
+    refused-told c.put_refused.result _ _ c.in-Err.refusal m e _ is c.put_refused.ensures (record {
       config = h.config;
       card = c.in-Err.ensures.after.stands m.card h.card;
       clock = refused-clock c.args.self.now.clock c.in-Err.refusal m e is h.clock;

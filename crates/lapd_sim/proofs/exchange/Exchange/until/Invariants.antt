@@ -3,13 +3,14 @@ use Rattle.lapd_clock.specs.Timers.{time_until}
 use Rattle.lapd_sim.specs.Stands.{Holds}
 use Rattle.lapd_sim.proofs.Waits.{Waits}
 use Rattle.lapd_sim_machine.specs.Bench as machine
+use Rattle.lapd_transcript.specs.Streams.{output}
 use Rattle.lapd_sim.proofs.exchange.Exchange.until.Given as goal
 
 -- from every bench for which the exchange stood, some timers have expired
 abbrev pub invariant-loop-line : goal.invariant-loop-line
 invariant-loop-line g l = record {
   config : l.self.config ≡ l.fn.self.config;
-  waits : (m : machine.Bench) → Holds l.fn.self m → Waits l.self (g.T.Target.taken l.fn.target) (g.T.Target.taken l.target) l.end m;
+  waits : (m : machine.Bench) → Holds l.fn.self m → Waits l.self (output (g.T.Target.taken l.fn.target) l.fn.page.items) (output (g.T.Target.taken l.target) l.page.items) l.end m;
 }
 
 -- each expiry lowers the time that is left

@@ -1,0 +1,34 @@
+use Rattle.std.proofs.Common.{Ok, [], sym, subst}
+use Rattle.lapd_transcript.specs.Streams.{output}
+use Rattle.lapd_transcript.proofs.Known.{puts_stuck}
+use Rattle.lapd_sim.specs.ScriptLines.{IsReady, AreLeft}
+use Rattle.lapd_sim.specs.declared.lines.ScriptLines.{ScriptLines}
+use Rattle.lapd_sim.proofs.Ending.{ready_puts, ready_reaches, read_puts, read_grows, read_reaches}
+use Rattle.lapd_sim.proofs.player.advance.Goals as goal
+
+pub returns-in-Ok-true-clause-read : goal.returns-in-Ok-true-clause-read
+returns-in-Ok-true-clause-read g c = λ text left.
+    subst (λ more. IsReady (Ok more) c.args.lines.now c.ready.new.self (g.S.Source.remaining c.args.source.now) text) c.in-Ok-true.field-0-test
+    (c.in-Ok-true.ensures.ready (g.S.Source.remaining c.args.source.now) text left)
+
+pub returns-in-Err-clause-put : goal.returns-in-Err-clause-put
+returns-in-Err-clause-put g c = ready_puts c.in-Err.fault (output (g.T.Target.taken c.args.target.now) c.args.page.now.items) c.in-Err.ensures.steady
+
+pub returns-in-Err-clause-read : goal.returns-in-Err-clause-read
+returns-in-Err-clause-read g c = λ text left.
+    ready_reaches c.in-Err.fault c.args.lines.now c.ready.new.self (g.S.Source.remaining c.args.source.now) text (c.in-Err.ensures.ready (g.S.Source.remaining c.args.source.now) text left)
+
+pub returns-in-Ok-clause-put : goal.returns-in-Ok-clause-put
+returns-in-Ok-clause-put g c = read_puts c.advance.result (g.T.Target.taken c.args.target.now) (g.T.Target.taken c.send.new.target) c.args.page.now.items c.send.new.page.items c.in-Ok.ensures.cleared c.in-Ok.ensures.written c.advance.ensures.no_write
+
+pub returns-in-Ok-clause-goes_on : goal.returns-in-Ok-clause-goes_on
+returns-in-Ok-clause-goes_on g c = read_grows c.advance.result c.args.lines.now c.ready.new.self c.advance.new.self (c.in-Ok-false.ensures.stays c.in-Ok-false.field-0-test) c.advance.ensures.goes_on
+
+pub returns-in-Ok-clause-read : goal.returns-in-Ok-clause-read
+returns-in-Ok-clause-read g c = λ text left.
+    let same = c.in-Ok-false.ensures.stays c.in-Ok-false.field-0-test in
+    let later = subst (λ (lines : ScriptLines). AreLeft lines (g.S.Source.remaining c.args.source.now) text) (sym same) left in
+    read_reaches c.advance.result c.args.lines.now c.ready.new.self c.advance.new.self (g.S.Source.remaining c.advance.new.source) text same (c.advance.ensures.read text later)
+
+pub returns-in-Err-send-clause-put : goal.returns-in-Err-send-clause-put
+returns-in-Err-send-clause-put g c = puts_stuck (g.T.Target.taken c.args.target.now) (g.T.Target.taken c.send.new.target) c.args.page.now.items c.send.new.page.items [] c.in-Err-send.ensures.written

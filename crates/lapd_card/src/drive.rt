@@ -101,10 +101,13 @@ impl<S: Shelf> Card<S> {
     /// - `notes_have_reasons`: in every moment a note that a TEI was assigned is told only of an identity request, one that
     ///   it was removed only of the expiry of T201, and one that two terminals have it only of an answer to its check
     ///   (clauses 5.3.2, 5.3.3.2 and 5.3.4).
-    /// - `heard_is_delivered`: in every moment an octet that ends a frame which spells the SAPI of a service and a TEI on
-    ///   the line is an event of that link and of no other, and one that ends no frame changes nothing but what was
-    ///   received; contents are handed on only of an I-frame or a UI that an octet ends, whose information they are, with
-    ///   a note of data, or of unit data, of the service and the TEI that it spells (clauses 5.2.3 and 5.6.2).
+    /// - `heard_is_delivered`: in every moment an octet that ends a frame with the SAPI of a service and a TEI on the line
+    ///   is an event of that link and of no other, also where the grammar does not have the frame, or it is too long; one
+    ///   that ends nothing changes nothing but what was received. An octet ends a frame where, in the bits of all octets
+    ///   that the line received, it is heard with this one, behind what was heard before. Contents are handed on exactly
+    ///   of an I-frame in sequence, in state 7 or 8 with own busy off, and of a UI, of at most N201 octets, that an octet
+    ///   ends: its information, with one note of data, or of unit data, of the service and the TEI that it spells; and no
+    ///   such note else (clauses 2.2 to 2.7, 3.6.1, 5.2.3, 5.6.2, 5.6.6 and 5.8.5).
     ///
     /// The rest holds after every front of the list, so after each event, and also where the sink failed on the way:
     ///

@@ -1,12 +1,10 @@
--- What holds in a moment of a run, of what layer 3 gave and of what was heard.
-use Rattle.std.specs.Prelude.{◌≡◌, ◌≢◌, ℕ, true, List, [], Some, None, if◌then◌else◌}
+-- What holds in a moment of a run, of what layer 3 gave and of what its links do.
+use Rattle.std.specs.Prelude.{◌≡◌, ◌≢◌, ℕ, true, List, [], if◌then◌else◌}
 use Rattle.lapd_frame.specs.declared.services.Service.{Service}
 use Rattle.lapd_frame.specs.Grammar.{Parts}
-use Rattle.lapd_link_machine.specs.Events as link
 use Rattle.lapd_link_laws.specs.History as links
 use Rattle.lapd_line_machine.specs.Answer.{octet}
 use Rattle.lapd_line_machine.specs.Line.{link_in, terms}
-use Rattle.lapd_line_machine.specs.Octet.{gained}
 use Rattle.lapd_line_laws.specs.Frames.{IsHeeded}
 use Rattle.lapd_line_laws.specs.Share.{asked_by}
 use Rattle.lapd_line_laws.specs.Loss.{IsTold}
@@ -14,7 +12,7 @@ use Rattle.lapd_line_laws.specs.Pulls.{UnitsWait, TurnStays}
 use Rattle.lapd_line_laws.specs.Requests.{LinkTakesEffect, ManagementTakesEffect}
 use Rattle.lapd_line_laws.specs.Steady.{Happens}
 use Rattle.lapd_line_laws.specs.Expiries.{ExpiryTakesEffect}
-use Rattle.lapd_line_laws.specs.Heard.{Ends, IsFor, IsOneEvent, IsNoEvent, contents_in, IsHeard}
+use Rattle.lapd_line_laws.specs.Heard.{Ends, IsFor}
 use Rattle.lapd_card_machine.specs.Card.{line_at}
 use Rattle.lapd_card_machine.specs.Machine.{after}
 use Rattle.lapd_card_machine.specs.Numbered.{LinkName, is_at}
@@ -68,15 +66,3 @@ pub record IsSteadyFor (name : LinkName) (m : Moment) : Type 0 where
 
 abbrev pub IsSteadyIn : Moment → Type 0
 IsSteadyIn m = (name : LinkName) → HasLink m.card name → IsSteadyFor name m
-
--- A frame for a link that an octet ends is an event of this link alone, one that ends no frame is no event of any; contents
--- are handed on of a frame that was heard; and no other line feels an event.
-pub record IsHeardIn (m : Moment) : Type 0 where
-  pub event : (value : ℕ) (service : Service) (tei place : ℕ) (parts : Parts) (octets : List ℕ) → m.event.what ≡ octet value
-      → Ends m.card.config (line_before m) value octets → IsFor (line_before m) service tei place parts octets
-      → IsOneEvent m.card.config (line_before m) (line_after m) m.answer value service tei place (link.received (link.frame parts))
-  pub none : (value : ℕ) → m.event.what ≡ octet value → gained m.card.config.n201 (line_before m).received value ≡ None
-      → IsNoEvent (line_before m) (line_after m) m.answer value
-  pub heard : (contents : List ℕ) → contents_in m.answer ≡ Some contents
-      → IsHeard m.card.config (line_before m) m.event.what m.answer contents
-  pub others : (other : ℕ) → other ≢ m.event.line → line_at other (after m.event m.card) ≡ line_at other m.card

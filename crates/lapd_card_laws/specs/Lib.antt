@@ -1,6 +1,7 @@
 -- What a card does with what it is given and what it hears, and worked values of it.
 pub mod Contents
 pub mod Faithful
+pub mod Heard
 pub mod Knowledge
 pub mod Begun
 pub mod Messages

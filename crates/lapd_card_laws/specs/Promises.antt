@@ -14,7 +14,8 @@ use Rattle.lapd_card_machine.specs.Numbered.{LinkName}
 use Rattle.lapd_card_machine.specs.Promises.{HasLink}
 use Rattle.lapd_card_machine.specs.Run.{moments, after_all}
 use Rattle.lapd_card_laws.specs.Contents.{link_named, begun, history, accepted_at}
-use Rattle.lapd_card_laws.specs.Faithful.{IsFaithful, UnitsWaitIn, TurnStaysIn, IsHeededIn, TakesEffectIn, ExpiryTakesEffectIn, IsSteadyIn, IsHeardIn}
+use Rattle.lapd_card_laws.specs.Faithful.{IsFaithful, UnitsWaitIn, TurnStaysIn, IsHeededIn, TakesEffectIn, ExpiryTakesEffectIn, IsSteadyIn}
+use Rattle.lapd_card_laws.specs.Heard.{IsHeardIn}
 use Rattle.lapd_card_laws.specs.Begun.{IsBegunIn}
 use Rattle.lapd_card_laws.specs.Knowledge.{up_by_notes, on_by_notes}
 use Rattle.lapd_card_laws.specs.Messages.{HaveCausesIn, AreThereIn, HaveReasonsIn}
@@ -65,7 +66,7 @@ ExpiriesTakeEffectIn m events = All ExpiryTakesEffectIn (moments m events)
 abbrev pub AreSteady : Card → List Event → Type 0
 AreSteady m events = All IsSteadyIn (moments m events)
 
--- and only what was heard is delivered, and from whom.
+-- and what was heard is delivered, once, and from whom, and nothing else.
 abbrev pub IsDelivered : Card → List Event → Type 0
 IsDelivered m events = All IsHeardIn (moments m events)
 

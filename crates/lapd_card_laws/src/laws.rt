@@ -57,10 +57,11 @@ pub fn links_are_steady()
     ensures { LinksAreSteady }
 {}
 
-/// Only what was heard is delivered, and from whom. In every moment of a run an octet that ends a frame which spells the
-/// SAPI of a service and a TEI on the line is an event of that link and of no other; one that ends no frame changes
-/// nothing but what was received; contents are handed on only by an octet that ends an I-frame or a UI, whose information
-/// they are, and the answer notes data, or unit data, of the service and the TEI that it spells. No other line feels it.
+/// What was heard is delivered, once, and from whom, and nothing else. In every moment of a run: an octet that ends a frame
+/// with the SAPI of a service and a TEI on the line is an event of that link and of no other, also where the grammar does not
+/// have the frame, or it is too long; one that ends nothing changes nothing but what was received. Contents are handed on
+/// exactly of an I-frame in sequence that the link may take, and of a UI, that an octet ends: its information, with one note
+/// of data, or of unit data, of the service and the TEI that it spells, and no such note else. No other line feels it.
 pub fn heard_is_delivered()
     ensures { HeardIsDelivered }
 {}

@@ -26,13 +26,14 @@ use Rattle.lapd_line_machine.specs.Octet.{gained, management_sapi, group_tei, dr
 use Rattle.lapd_line_laws.specs.Causes.{Hears}
 use Rattle.lapd_line_laws.specs.Heard.{Ends}
 use Rattle.lapd_line_laws.specs.Messages.{Said, Says}
+use Rattle.lapd_line_laws.proofs.Ending.{gained-is, gained-adds}
 
 -- An octet ends a frame exactly where it brings one.
 pub brings : (c : Config) (l : Line) (value : ℕ) (octets : List ℕ) → Ends c l value octets → gained c.n201 l.received value ≡ Some (stream.frame octets)
-brings c l value octets ends = ends
+brings c l value octets ends = gained-is c l value (Some (stream.frame octets)) ends
 
 ends-one : (c : Config) (l : Line) (value : ℕ) (octets : List ℕ) → gained c.n201 l.received value ≡ Some (stream.frame octets) → Ends c l value octets
-ends-one c l value octets e = e
+ends-one c l value octets e = gained-adds c l value (Some (stream.frame octets)) e
 
 -- An octet ends a UI to the group with SAPI 63.
 pub record IsUi (c : Config) (l : Line) (value : ℕ) (parts : Parts) : Type 0 where

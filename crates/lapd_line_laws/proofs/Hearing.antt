@@ -1,6 +1,6 @@
 -- What an octet brings to a link, and what is handed on of it.
-use Rattle.std.proofs.Common.{◌≡◌, ℕ, Bool, true, false, cond, ◌==◌, List, [], ◌∷◌, ◌++◌, length, Option, Some, None, Result, Ok, Err, is_some, refl, sym, ap, ◌∙◌, subst, true≢false, ◌⊎◌, inl, inr}
-use Rattle.std.specs.Prelude.{All, nat_le}
+use Rattle.std.proofs.Common.{◌≡◌, ℕ, Bool, true, false, cond, ◌==◌, List, [], ◌∷◌, ◌++◌, Option, Some, None, Result, Ok, Err, is_some, refl, sym, ap, ◌∙◌, eqb-true, ◌⊎◌, inl, inr}
+use Rattle.std.specs.Prelude.{All, IfSome}
 use Rattle.std.specs.List.{list_any}
 use Rattle.std.specs.Option.{option_or, option_map_or}
 use Rattle.std.proofs.lemmas.List.Elements.{All-head, All-tail}
@@ -23,10 +23,10 @@ use Rattle.lapd_frame.specs.declared.services.Service.{Service}
 use Rattle.lapd_frame.specs.declared.services.Service.TheVariants.{Call, Packet}
 use Rattle.lapd_frame.specs.declared.timers.Timer.{Timer}
 use Rattle.lapd_frame.specs.declared.timers.Timer.TheVariants.{T200, T203, T201}
-use Rattle.lapd_frame.specs.Grammar.{Parts}
+use Rattle.lapd_frame.specs.Grammar.{Parts, AreOctets}
 use Rattle.lapd_frame.specs.Reading.{reading, long_reading}
 use Rattle.lapd_frame.specs.Services.{service_of, sapi_of}
-use Rattle.lapd_frame.proofs.Spelling.{reading-again}
+use Rattle.lapd_frame.proofs.Spelling.{reading-again, reading-found, fault-again}
 use Rattle.lapd_link_machine.specs.declared.terms.Terms.{Terms}
 use Rattle.lapd_link_machine.specs.declared.timers.LinkTimer.{LinkTimer}
 use Rattle.lapd_link_machine.specs.declared.timers.LinkTimer.TheVariants as link_timer
@@ -38,15 +38,16 @@ use Rattle.lapd_link_machine.specs.Notes.{is_data, is_unit}
 use Rattle.lapd_link_machine.specs.Sound as link_sound
 use Rattle.lapd_link_machine.proofs.OwnNotes.{notes-own}
 use Rattle.lapd_link_machine.proofs.TellRows.{event-tells}
-use Rattle.lapd_link_laws.specs.Heard.{contents_heard, unit_heard, within, unit_due}
+use Rattle.lapd_link_laws.specs.Heard.{contents_heard, unit_heard, data_due, unit_due}
 use Rattle.lapd_link_laws.proofs.Delivered.{delivered-was-heard}
 use Rattle.lapd_link_laws.proofs.Keeping.{event-unit}
+use Rattle.lapd_link_laws.proofs.Once.{data-is, within-is}
 use Rattle.lapd_tei.specs.Events as teis
 use Rattle.lapd_tei.specs.declared.outcome.Change.{Change}
 use Rattle.lapd_tei.specs.declared.outcome.Change.TheVariants.{Gained, Left}
 use Rattle.lapd_tei.proofs.Tables.{place_of-is}
 use Rattle.lapd_line_machine.specs.declared.config.Config.{Config}
-use Rattle.lapd_line_machine.specs.Answer.{Event, octet, expiry, request, pull, Told, told, nothing}
+use Rattle.lapd_line_machine.specs.Answer.{Event, octet, expiry, request, pull, told, nothing}
 use Rattle.lapd_line_machine.specs.Effect.{Aim, at_none, at_link, at_management, at_units, told_of_link, told_of_management, of_change, of_aim}
 use Rattle.lapd_line_machine.specs.Expiry.{at_timer, aim_of_expiry}
 use Rattle.lapd_line_machine.specs.Line.{Line, place_in, link_in, terms}
@@ -57,8 +58,18 @@ use Rattle.lapd_line_machine.specs.Request.{Request, Establish, Release, Data, U
 use Rattle.lapd_line_machine.specs.Requested.{at_requested, aim_of_request}
 use Rattle.lapd_line_machine.specs.Sound.{IsInRange, IsSound}
 use Rattle.lapd_line_machine.proofs.LinksSound.{sound_in}
-use Rattle.lapd_line_laws.specs.Heard.{Ends, IsFor, IsOneEvent, IsNoEvent, contents_in, is_data_of, is_unit_of, IsHeard}
+use Rattle.lapd_line_laws.specs.Heard.{Ends, EndsOverlong, EndsNothing, IsFor, IsTo, IsMalformed, IsTooLong, IsOneEvent, IsNoEvent, contents_in, due, is_data_of, is_unit_of, IsHeard}
+use Rattle.lapd_line_laws.proofs.Ending.{HasOctets, ended-octets, gained-octets, gained-is, gained-adds}
 use Rattle.lapd_line_laws.proofs.Told.{its-own}
+
+-- The SAPI of a service.
+sapi-is : (sapi : ℕ) (service : Service) → service_of sapi ≡ Some service → sapi ≡ sapi_of service
+sapi-is sapi service e = go (sapi == 0) (sapi == 16) refl refl e
+  where
+    go : (call packet : Bool) → (sapi == 0) ≡ call → (sapi == 16) ≡ packet → cond call (Some Call) (cond packet (Some Packet) None) ≡ Some service → sapi ≡ sapi_of service
+    go true packet is other e = let same : Call ≡ service = cc in eqb-true sapi 0 is ∙ ap sapi_of same
+    go false true other is e = let same : Packet ≡ service = cc in eqb-true sapi 16 is ∙ ap sapi_of same
+    go false false other another e = absurd (none-some service e)
 
 -- A frame for a link is an event of this link.
 addressed-is : (l : Line) (address : Address) (service : Service) (tei place : ℕ) (what : link.Received) (m : Aim)
@@ -74,35 +85,87 @@ addressed-is l address service tei place what m sapi tei-is on =
     by-service Call = refl
     by-service Packet = refl
 
+-- what an octet that is aimed at a link comes to
+by-aim : (c : Config) (l : Line) (value : ℕ) (service : Service) (tei place : ℕ) (what : link.Received)
+    → aim_of_octet c value l ≡ at_link service tei place (link.received what)
+    → IsOneEvent c l (after c (octet value) l) (answer c (octet value) l) value service tei place (link.received what)
+unfolding after answer
+by-aim c l value service tei place what aim = record {
+  line = ap (λ a. (of_aim c a (with_received value l)).line) aim;
+  answer_is = record {
+    own = told_of_link (links.told (terms c service tei) (link.received what) (link_in l service place));
+    is = ap (λ a. told (of_aim c a (with_received value l)).told) aim;
+    notes = refl;
+    contents = refl;
+    orders = refl;
+    lost = refl;
+  };
+}
+
+heard-aim : (c : Config) (l : Line) (value : ℕ) (o : Option stream.Event) → gained c.n201 l.received value ≡ o
+    → aim_of_octet c value l ≡ option_map_or (aim_of_heard l) o (at_none nothing)
+heard-aim c l value o gains = ap (λ o. option_map_or (aim_of_heard l) o (at_none nothing)) gains
+
 pub one-event : (c : Config) (l : Line) (value : ℕ) (service : Service) (tei place : ℕ) (parts : Parts) (octets : List ℕ)
     → Ends c l value octets → IsFor l service tei place parts octets
     → IsOneEvent c l (after c (octet value) l) (answer c (octet value) l) value service tei place (link.received (link.frame parts))
-unfolding after answer
 one-event c l value service tei place parts octets ends f =
-    let aim : aim_of_octet c value l ≡ at_link service tei place (link.received (link.frame parts)) =
-    ap (λ o. option_map_or (aim_of_heard l) o (at_none nothing)) ends
+    by-aim c l value service tei place (link.frame parts)
+    (heard-aim c l value (Some (stream.frame octets)) (gained-is c l value (Some (stream.frame octets)) ends)
     ∙ ap (aim_of_reading l) (reading-again User parts octets f.spelled)
-    ∙ addressed-is l parts.address service tei place (link.frame parts) (message_of parts.control parts.info) f.sapi f.tei_is f.on_line in
-    record {
-      line = ap (λ a. (of_aim c a (with_received value l)).line) aim;
-      answer_is = record {
-        own = told_of_link (links.told (terms c service tei) (link.received (link.frame parts)) (link_in l service place));
-        is = ap (λ a. told (of_aim c a (with_received value l)).told) aim;
-        notes = refl;
-        contents = refl;
-        orders = refl;
-        lost = refl;
-      };
-    }
+    ∙ addressed-is l parts.address service tei place (link.frame parts) (message_of parts.control parts.info) f.sapi f.tei_is f.on_line)
 
-pub no-event : (c : Config) (l : Line) (value : ℕ) → gained c.n201 l.received value ≡ None → IsNoEvent l (after c (octet value) l) (answer c (octet value) l) value
+-- A frame that the grammar does not have.
+pub malformed-event : (c : Config) (l : Line) (value : ℕ) (service : Service) (tei place : ℕ) (address : Address) (octets : List ℕ) (what : link.Received)
+    → Ends c l value octets → IsTo l service tei place address → IsMalformed address octets what
+    → IsOneEvent c l (after c (octet value) l) (answer c (octet value) l) value service tei place (link.received what)
+malformed-event c l value service tei place address octets what ends f is =
+    by-aim c l value service tei place what
+    (heard-aim c l value (Some (stream.frame octets)) (gained-is c l value (Some (stream.frame octets)) ends)
+    ∙ by-fault what is ∙ addressed-is l address service tei place what (drop_for Unserved) f.sapi f.tei_is f.on_line)
+  where
+    by-fault : (what : link.Received) → IsMalformed address octets what → aim_of_reading l (reading User octets) ≡ addressed l address what (drop_for Unserved)
+    by-fault link.undefined is = ap (aim_of_reading l) (fault-again User octets (Undefined address) (ended-octets c l value (stream.frame octets) ends) is)
+    by-fault link.wrong_size is = ap (aim_of_reading l) (fault-again User octets (WrongSize address) (ended-octets c l value (stream.frame octets) ends) is)
+    by-fault link.overlong is = absurd is
+    by-fault (link.frame parts) is = absurd is
+
+-- A frame that was too long to keep.
+pub overlong-event : (c : Config) (l : Line) (value : ℕ) (service : Service) (tei place : ℕ) (address : Address) (head : List ℕ) (what : link.Received)
+    → EndsOverlong c l value head → IsTo l service tei place address → IsTooLong address head what
+    → IsOneEvent c l (after c (octet value) l) (answer c (octet value) l) value service tei place (link.received what)
+overlong-event c l value service tei place address head what ends f is =
+    by-aim c l value service tei place what
+    (heard-aim c l value (Some (stream.overlong head)) (gained-is c l value (Some (stream.overlong head)) ends)
+    ∙ by-head what is ∙ addressed-is l address service tei place what (drop_for Unserved) f.sapi f.tei_is f.on_line)
+  where
+    by-head : (what : link.Received) → IsTooLong address head what → aim_of_long l (long_reading User head) ≡ addressed l address what (drop_for Unserved)
+    by-head link.undefined is = ap (aim_of_long l) is
+    by-head link.wrong_size is = ap (aim_of_long l) is
+    by-head link.overlong is = ap (aim_of_long l) is
+    by-head (link.frame parts) is = absurd is
+
+pub no-event : (c : Config) (l : Line) (value : ℕ) → EndsNothing c l value → IsNoEvent l (after c (octet value) l) (answer c (octet value) l) value
 unfolding after answer
-no-event c l value none =
-    let aim : aim_of_octet c value l ≡ at_none nothing = ap (λ o. option_map_or (aim_of_heard l) o (at_none nothing)) none in
+no-event c l value ends =
+    let aim : aim_of_octet c value l ≡ at_none nothing = heard-aim c l value None (gained-is c l value None ends) in
     record {
       line = ap (λ a. (of_aim c a (with_received value l)).line) aim;
       answer_is = ap (λ a. told (of_aim c a (with_received value l)).told) aim;
     }
+
+-- What a frame brings to layer 3 is handed on.
+pub due-is : (c : Config) (l : Line) (value : ℕ) (service : Service) (tei place : ℕ) (parts : Parts) (octets : List ℕ) → IsInRange c → IsSound c l
+    → Ends c l value octets → IsFor l service tei place parts octets
+    → contents_in (answer c (octet value) l) ≡ due (terms c service tei) parts (link_in l service place)
+due-is c l value service tei place parts octets ranged s ends f =
+    let t = terms c service tei in
+    let e = link.received (link.frame parts) in
+    let says = (one-event c l value service tei place parts octets ends f).answer_is in
+    let sound = sound_in c ranged l s service tei place (place_of-is l.management.places tei place f.on_line).1 in
+    ap contents_in says.is ∙ says.contents
+    ∙ ap (λ d. option_or d (links.told t e (link_in l service place)).unit) (data-is t (link_in l service place) e)
+    ∙ ap (option_or (data_due t e (link_in l service place))) (event-unit t (link_in l service place) sound e)
 
 -- Notes of data, and of unit data, are the link's own.
 own-data : (t : Terms) (n : Note) → IsOwn t n → (is_data_of t.service t.tei n ≡ is_data n) × (is_unit_of t.service t.tei n ≡ is_unit n)
@@ -130,14 +193,6 @@ own-all t (n ∷ ns) all =
 pub record FromFrame (t : Terms) (e : link.Event) (ns : List Note) (contents : List ℕ) : Type 0 where
   pub is : ((contents_heard e ≡ Some contents) × (list_any (is_data_of t.service t.tei) ns ≡ true))
       ⊎ ((unit_heard e ≡ Some contents) × (list_any (is_unit_of t.service t.tei) ns ≡ true))
-
-within-is : (n : ℕ) (o : Option (List ℕ)) (contents : List ℕ) → within n o ≡ Some contents → o ≡ Some contents
-within-is n None contents e = e
-within-is n (Some octets) contents e = go (nat_le (length octets) n) e
-  where
-    go : (b : Bool) → cond b (Some octets) None ≡ Some contents → Some octets ≡ Some contents
-    go true e = e
-    go false e = absurd (none-some contents e)
 
 handed-on : (t : Terms) (l : Link) → link_sound.IsSound t l → (e : link.Event) (contents : List ℕ)
     → option_or (links.told t e l).delivered (links.told t e l).unit ≡ Some contents → FromFrame t e (links.told t e l).notes contents
@@ -272,13 +327,10 @@ module _ (c : Config) (ranged : IsInRange c) (l : Line) (s : IsSound c l) (recei
   -- contents by a frame that was heard
   pub record Heard (octets contents : List ℕ) (ns : List Note) : Type 0 where
     pub parts : Parts
-    pub read : reading User octets ≡ Ok parts
     pub service : Service
     pub tei : ℕ
     pub place : ℕ
-    pub sapi : service_of parts.address.sapi ≡ Some service
-    pub tei_is : parts.address.tei ≡ tei
-    pub on_line : place_in l tei ≡ Some place
+    pub whose : IsFor l service tei place parts octets
     pub is : FromFrame (terms c service tei) (link.received (link.frame parts)) ns contents
 
   abbrev Hears : List ℕ → Aim → Type 0
@@ -287,21 +339,18 @@ module _ (c : Config) (ranged : IsInRange c) (l : Line) (s : IsSound c l) (recei
   silently : (octets : List ℕ) (aim : Aim) → Silent aim → Hears octets aim
   silently octets aim x contents h = absurd (x contents h)
 
-  by-reading : (octets : List ℕ) (r : Result Parts ReadFault) → reading User octets ≡ r → Hears octets (aim_of_reading l r)
-  by-reading octets (Ok parts) read = go (parts.address.sapi == management_sapi) (parts.address.tei == group_tei)
+  by-reading : (octets : List ℕ) → AreOctets octets → (r : Result Parts ReadFault) → reading User octets ≡ r → Hears octets (aim_of_reading l r)
+  by-reading octets are (Ok parts) read = go (parts.address.sapi == management_sapi) (parts.address.tei == group_tei)
     where
       at-its-place : (service : Service) → service_of parts.address.sapi ≡ Some service → (o : Option ℕ) → place_in l parts.address.tei ≡ o
           → Hears octets (at_place service parts.address.tei (link.frame parts) o)
       at-its-place service sapi None e = silently octets (drop_for Tei) (drops Tei)
       at-its-place service sapi (Some place) e = λ contents h. record {
         parts = parts;
-        read = read;
         service = service;
         tei = parts.address.tei;
         place = place;
-        sapi = sapi;
-        tei_is = refl;
-        on_line = e;
+        whose = record { spelled = reading-found User octets parts are read; sapi = sapi-is parts.address.sapi service sapi; tei_is = refl; on_line = e };
         is = from-link service parts.address.tei place (link.received (link.frame parts)) e contents h;
       }
 
@@ -313,36 +362,33 @@ module _ (c : Config) (ranged : IsInRange c) (l : Line) (s : IsSound c l) (recei
       go true true = silently octets (message_of parts.control parts.info) (message-silent parts.control parts.info)
       go true false = silently octets (drop_for Tei) (drops Tei)
       go false group = of-service (service_of parts.address.sapi) refl
-  by-reading octets (Err BadExtension) read = silently octets (drop_for Extension) (drops Extension)
-  by-reading octets (Err (Undefined address)) read = silently octets (addressed l address link.undefined (drop_for Unserved)) (not-read address link.undefined (drop_for Unserved) (drops Unserved) refl refl)
-  by-reading octets (Err (WrongSize address)) read = silently octets (addressed l address link.wrong_size (drop_for Unserved)) (not-read address link.wrong_size (drop_for Unserved) (drops Unserved) refl refl)
-  by-reading octets (Err Short) read = silently octets (drop_for Unserved) (drops Unserved)
+  by-reading octets are (Err BadExtension) read = silently octets (drop_for Extension) (drops Extension)
+  by-reading octets are (Err (Undefined address)) read = silently octets (addressed l address link.undefined (drop_for Unserved)) (not-read address link.undefined (drop_for Unserved) (drops Unserved) refl refl)
+  by-reading octets are (Err (WrongSize address)) read = silently octets (addressed l address link.wrong_size (drop_for Unserved)) (not-read address link.wrong_size (drop_for Unserved) (drops Unserved) refl refl)
+  by-reading octets are (Err Short) read = silently octets (drop_for Unserved) (drops Unserved)
 
-  pub heard-by : (o : Option stream.Event) (contents : List ℕ) → HandsOn contents (option_map_or (aim_of_heard l) o (at_none nothing))
+  pub heard-by : (o : Option stream.Event) → IfSome o HasOctets → (contents : List ℕ) → HandsOn contents (option_map_or (aim_of_heard l) o (at_none nothing))
       → (octets : List ℕ) × (o ≡ Some (stream.frame octets)) × Heard octets contents (of_aim c (option_map_or (aim_of_heard l) o (at_none nothing)) (record l { received = received })).told.notes
-  heard-by None contents h = absurd (dropped (at_none nothing) refl contents h)
-  heard-by (Some (stream.frame octets)) contents h = (octets, refl, by-reading octets (reading User octets) refl contents h)
-  heard-by (Some (stream.overlong head)) contents h = absurd (too-long (long_reading User head) contents h)
-  heard-by (Some (stream.dropped cause)) contents h = absurd (dropped (drop_for cause) refl contents h)
+  heard-by None are contents h = absurd (dropped (at_none nothing) refl contents h)
+  heard-by (Some (stream.frame octets)) are contents h = (octets, refl, by-reading octets are (reading User octets) refl contents h)
+  heard-by (Some (stream.overlong head)) are contents h = absurd (too-long (long_reading User head) contents h)
+  heard-by (Some (stream.dropped cause)) are contents h = absurd (dropped (drop_for cause) refl contents h)
 
 pub contents-heard : (c : Config) (e : Event) (l : Line) (contents : List ℕ) → IsInRange c → IsSound c l
     → contents_in (answer c e l) ≡ Some contents → IsHeard c l e (answer c e l) contents
 unfolding answer
 contents-heard c (octet value) l contents ranged s h =
-    let x = heard-by c ranged l s (l.received ++ value ∷ []) (gained c.n201 l.received value) contents h in
+    let x = heard-by c ranged l s (l.received ++ value ∷ []) (gained c.n201 l.received value) (gained-octets c l value) contents h in
     record {
       value = value;
       by = refl;
       octets = x.0;
-      ends = x.1;
+      ends = gained-adds c l value (Some (stream.frame x.0)) x.1;
       parts = x.2.parts;
-      read = x.2.read;
       service = x.2.service;
       tei = x.2.tei;
       place = x.2.place;
-      sapi = x.2.sapi;
-      tei_is = x.2.tei_is;
-      on_line = x.2.on_line;
+      whose = x.2.whose;
       told = x.2.is.is;
     }
 contents-heard c (expiry timer) l contents ranged s h = absurd (expiry-silent c ranged l s l.received timer contents h)

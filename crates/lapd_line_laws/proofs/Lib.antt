@@ -3,7 +3,9 @@ pub mod Kept
 pub mod Asked
 pub mod Told
 pub mod Serving
+pub mod Ending
 pub mod Hearing
+pub mod ToldOnce
 pub mod Heeding
 pub mod Places
 pub mod LinkMoves

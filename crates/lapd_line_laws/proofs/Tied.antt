@@ -1,5 +1,5 @@
 -- How what an event aims at is tied to the event.
-use Rattle.std.proofs.Common.{◌≡◌, ℕ, Bool, true, false, ◌==◌, cond, List, Option, Some, None, Result, Ok, Err, refl, sym, ap, ◌∙◌}
+use Rattle.std.proofs.Common.{◌≡◌, ℕ, Bool, true, false, ◌==◌, cond, List, Option, Some, None, Result, Ok, Err, refl, inl, inr}
 use Rattle.std.specs.Option.{option_map_or}
 use Rattle.lapd_bits.specs.Stream as stream
 use Rattle.lapd_frame.specs.declared.addresses.Address.{Address}
@@ -17,10 +17,10 @@ use Rattle.lapd_bits.specs.declared.heard.Cause.TheVariants.{Tei, Unserved}
 use Rattle.lapd_frame.specs.Grammar.{Parts}
 use Rattle.lapd_frame.specs.Reading.{reading, long_reading}
 use Rattle.lapd_frame.specs.Services.{service_of}
+use Rattle.lapd_frame.proofs.Spelling.{fault-found}
 use Rattle.lapd_link_machine.specs.Events as link
 use Rattle.lapd_link_machine.specs.declared.timers.LinkTimer.{LinkTimer}
 use Rattle.lapd_link_machine.specs.declared.timers.LinkTimer.TheVariants as link_timer
-use Rattle.lapd_tei.specs.Events as teis
 use Rattle.lapd_line_machine.specs.declared.config.Config.{Config}
 use Rattle.lapd_line_machine.specs.Answer.{Event, octet, expiry, request, Answer, nothing}
 use Rattle.lapd_line_machine.specs.Effect.{Aim, at_none, at_link, at_management, at_units}
@@ -30,7 +30,9 @@ use Rattle.lapd_line_machine.specs.Octet.{gained, drop_for, management_sapi, gro
 use Rattle.lapd_line_machine.specs.Request.{Request, Establish, Release, Data, Assign, Remove, Check, SetBusy, ClearBusy}
 use Rattle.lapd_line_machine.specs.Requested.{at_requested, aim_of_request}
 use Rattle.lapd_line_laws.specs.Share.{is_granted}
-use Rattle.lapd_line_laws.specs.Steady.{IsBy}
+use Rattle.lapd_line_laws.specs.Heard.{IsTooLong}
+use Rattle.lapd_line_laws.specs.Steady.{BringsMalformed, IsBy}
+use Rattle.lapd_line_laws.proofs.Ending.{ended-octets, gained-adds}
 
 module _ (c : Config) (l : Line) (e : Event) (answer : Answer) where
   abbrev pub Ties : Aim → Type 0
@@ -69,36 +71,69 @@ module _ (c : Config) (l : Line) (e : Event) (answer : Answer) where
   message-ties (control.Frmr f) info = tt
   message-ties (control.Xid pf) info = tt
 
-  unless-ties : (aim : Aim) → Ties aim → Ties (unless_at_link aim)
-  unless-ties (at_none what) x = x
-  unless-ties (at_link service tei place event) x = tt
-  unless-ties (at_management event) x = x
-  unless-ties (at_units unit) x = x
+  unless-ties : (aim : Aim) → Ties (unless_at_link aim)
+  unless-ties (at_none what) = tt
+  unless-ties (at_link service tei place event) = tt
+  unless-ties (at_management event) = tt
+  unless-ties (at_units unit) = tt
 
 -- An octet.
 module _ (c : Config) (l : Line) (value : ℕ) (answer : Answer) where
-  abbrev by-octet : (value' : ℕ) × (octet value ≡ octet value')
-  by-octet = (value, refl)
-
   read-ties : (octets : List ℕ) → gained c.n201 l.received value ≡ Some (stream.frame octets) → (r : Result Parts ReadFault) → reading User octets ≡ r
       → Ties c l (octet value) answer (aim_of_reading l r)
   read-ties octets ends (Ok parts) read =
       by-address c l (octet value) answer parts.address (link.frame parts) (message_of parts.control parts.info) (message-ties c l (octet value) answer parts.control parts.info)
-      (λ service sapi. record { value = value; by = refl; octets = octets; ends = ends; read = read; sapi = sapi; tei_is = refl })
+      (λ service sapi. record { value = value; by = refl; octets = octets; ends = gained-adds c l value (Some (stream.frame octets)) ends; read = read; sapi = sapi; tei_is = refl })
   read-ties octets ends (Err BadExtension) read = tt
-  read-ties octets ends (Err (Undefined address)) read = by-address c l (octet value) answer address link.undefined (drop_for Unserved) tt (λ service sapi. (value, refl))
-  read-ties octets ends (Err (WrongSize address)) read = by-address c l (octet value) answer address link.wrong_size (drop_for Unserved) tt (λ service sapi. (value, refl))
+  read-ties octets ends (Err (Undefined address)) read =
+      let adds = gained-adds c l value (Some (stream.frame octets)) ends in
+      by-address c l (octet value) answer address link.undefined (drop_for Unserved) tt
+      (λ service sapi.
+      record {
+        value = value;
+        by = refl;
+        octets = octets;
+        address = address;
+        ends = inl (adds, fault-found User octets (Undefined address) (ended-octets c l value (stream.frame octets) adds) read);
+        sapi = sapi;
+        tei_is = refl;
+      })
+  read-ties octets ends (Err (WrongSize address)) read =
+      let adds = gained-adds c l value (Some (stream.frame octets)) ends in
+      by-address c l (octet value) answer address link.wrong_size (drop_for Unserved) tt
+      (λ service sapi.
+      record {
+        value = value;
+        by = refl;
+        octets = octets;
+        address = address;
+        ends = inl (adds, fault-found User octets (WrongSize address) (ended-octets c l value (stream.frame octets) adds) read);
+        sapi = sapi;
+        tei_is = refl;
+      })
   read-ties octets ends (Err Short) read = tt
 
-  long-ties : (r : Result Long ReadFault) → Ties c l (octet value) answer (aim_of_long l r)
-  long-ties (Ok (long.Information address)) = by-address c l (octet value) answer address link.overlong (drop_for Unserved) tt (λ service sapi. (value, refl))
-  long-ties (Ok (long.Unnumbered address)) =
-      unless-ties c l (octet value) answer (addressed l address link.overlong (drop_for Unserved))
-      (by-address c l (octet value) answer address link.overlong (drop_for Unserved) tt (λ service sapi. (value, refl)))
-  long-ties (Err BadExtension) = tt
-  long-ties (Err (Undefined address)) = by-address c l (octet value) answer address link.undefined (drop_for Unserved) tt (λ service sapi. (value, refl))
-  long-ties (Err (WrongSize address)) = by-address c l (octet value) answer address link.wrong_size (drop_for Unserved) tt (λ service sapi. (value, refl))
-  long-ties (Err Short) = tt
+  -- one that was too long to keep
+  too-long : (head : List ℕ) → gained c.n201 l.received value ≡ Some (stream.overlong head) → (address : Address) (what : link.Received) → IsTooLong address head what
+      → (service : Service) → service_of address.sapi ≡ Some service → BringsMalformed c l (octet value) service address.tei what
+  too-long head ends address what is service sapi = record {
+    value = value;
+    by = refl;
+    octets = head;
+    address = address;
+    ends = inr (gained-adds c l value (Some (stream.overlong head)) ends, is);
+    sapi = sapi;
+    tei_is = refl;
+  }
+
+  long-ties : (head : List ℕ) → gained c.n201 l.received value ≡ Some (stream.overlong head) → (r : Result Long ReadFault) → long_reading User head ≡ r
+      → Ties c l (octet value) answer (aim_of_long l r)
+  long-ties head ends (Ok (long.Information address)) read = by-address c l (octet value) answer address link.overlong (drop_for Unserved) tt (too-long head ends address link.overlong read)
+  long-ties head ends (Ok (long.Unnumbered address)) read = unless-ties c l (octet value) answer (addressed l address link.overlong (drop_for Unserved))
+  long-ties head ends (Err BadExtension) read = tt
+  long-ties head ends (Err (Undefined address)) read = by-address c l (octet value) answer address link.undefined (drop_for Unserved) tt (too-long head ends address link.undefined read)
+  long-ties head ends (Err (WrongSize address)) read = by-address c l (octet value) answer address link.wrong_size (drop_for Unserved) tt (too-long head ends address link.wrong_size read)
+  long-ties head ends (Err Short) read = tt
 
   pub octet-ties : Ties c l (octet value) answer (aim_of_octet c value l)
   octet-ties = go (gained c.n201 l.received value) refl
@@ -106,7 +141,7 @@ module _ (c : Config) (l : Line) (value : ℕ) (answer : Answer) where
       go : (o : Option stream.Event) → gained c.n201 l.received value ≡ o → Ties c l (octet value) answer (option_map_or (aim_of_heard l) o (at_none nothing))
       go None e = tt
       go (Some (stream.frame octets)) e = read-ties octets e (reading User octets) refl
-      go (Some (stream.overlong head)) e = long-ties (long_reading User head)
+      go (Some (stream.overlong head)) e = long-ties head e (long_reading User head) refl
       go (Some (stream.dropped cause)) e = tt
 
 -- An expiry.

@@ -1,5 +1,6 @@
 -- Laws of a line: what it does with what it is given, and with what it hears.
-use Rattle.std.specs.Prelude.{◌≡◌, ℕ, ◌<◌, true, false, List, Some, None}
+use Rattle.std.specs.Prelude.{◌≡◌, ℕ, ◌<◌, true, false, List, Some}
+use Rattle.lapd_frame.specs.declared.addresses.Address.{Address}
 use Rattle.lapd_frame.specs.declared.services.Service.{Service}
 use Rattle.lapd_frame.specs.declared.timers.Timer.{Timer}
 use Rattle.lapd_frame.specs.Grammar.{Parts}
@@ -8,7 +9,6 @@ use Rattle.lapd_line_machine.specs.declared.config.Config.{Config}
 use Rattle.lapd_line_machine.specs.Answer.{Event, octet}
 use Rattle.lapd_line_machine.specs.Line.{Line, fresh_line, link_count, link_in, terms, has_tei}
 use Rattle.lapd_line_machine.specs.Machine.{after, answer}
-use Rattle.lapd_line_machine.specs.Octet.{gained}
 use Rattle.lapd_line_machine.specs.Sound.{IsInRange, IsSound}
 use Rattle.lapd_line_laws.specs.Share.{share_of, IsKept, asked_by}
 use Rattle.lapd_line_laws.specs.Loss.{IsTold}
@@ -17,7 +17,7 @@ use Rattle.lapd_line_laws.specs.Frames.{IsHeeded}
 use Rattle.lapd_line_laws.specs.Requests.{LinkTakesEffect, ManagementTakesEffect}
 use Rattle.lapd_line_laws.specs.Steady.{Happens}
 use Rattle.lapd_line_laws.specs.Expiries.{ExpiryTakesEffect}
-use Rattle.lapd_line_laws.specs.Heard.{Ends, IsFor, IsOneEvent, IsNoEvent, contents_in, IsHeard}
+use Rattle.lapd_line_laws.specs.Heard.{Ends, EndsOverlong, EndsNothing, IsFor, IsTo, IsMalformed, IsTooLong, IsOneEvent, IsNoEvent, contents_in, due, IsNotedOnce, IsHeard}
 use Rattle.lapd_line_laws.specs.Begun.{says_begun, BeginsAs}
 use Rattle.lapd_line_laws.specs.Causes.{HaveCauses, AreThere}
 use Rattle.lapd_line_laws.specs.Reasons.{HaveReasons}
@@ -39,14 +39,24 @@ pub record PullsServe : Type 0 where
   pub units : (c : Config) (e : Event) (l : Line) → UnitsWait e l (after c e l) (answer c e l)
   pub turns : (c : Config) (e : Event) (l : Line) → TurnStays e l (after c e l)
 
--- A frame for a link is an event of this link alone, and an octet that ends none is no event of any; contents are handed
--- on of a frame that was heard.
+-- A frame for a link is an event of this link alone, also one that the grammar does not have, or that is too long; an octet
+-- that ends nothing is no event of any. What is due to layer 3 is handed on, once, and nothing that was not heard.
 pub record HeardIsDelivered : Type 0 where
   pub event : (c : Config) (l : Line) (value : ℕ) (service : Service) (tei place : ℕ) (parts : Parts) (octets : List ℕ)
       → Ends c l value octets → IsFor l service tei place parts octets
       → IsOneEvent c l (after c (octet value) l) (answer c (octet value) l) value service tei place (link.received (link.frame parts))
-  pub none : (c : Config) (l : Line) (value : ℕ) → gained c.n201 l.received value ≡ None
+  pub malformed : (c : Config) (l : Line) (value : ℕ) (service : Service) (tei place : ℕ) (address : Address) (octets : List ℕ)
+      (what : link.Received) → Ends c l value octets → IsTo l service tei place address → IsMalformed address octets what
+      → IsOneEvent c l (after c (octet value) l) (answer c (octet value) l) value service tei place (link.received what)
+  pub overlong : (c : Config) (l : Line) (value : ℕ) (service : Service) (tei place : ℕ) (address : Address) (head : List ℕ)
+      (what : link.Received) → EndsOverlong c l value head → IsTo l service tei place address → IsTooLong address head what
+      → IsOneEvent c l (after c (octet value) l) (answer c (octet value) l) value service tei place (link.received what)
+  pub none : (c : Config) (l : Line) (value : ℕ) → EndsNothing c l value
       → IsNoEvent l (after c (octet value) l) (answer c (octet value) l) value
+  pub due : (c : Config) (l : Line) (value : ℕ) (service : Service) (tei place : ℕ) (parts : Parts) (octets : List ℕ)
+      → IsInRange c → IsSound c l → Ends c l value octets → IsFor l service tei place parts octets
+      → contents_in (answer c (octet value) l) ≡ due (terms c service tei) parts (link_in l service place)
+  pub once : (c : Config) (e : Event) (l : Line) → IsInRange c → IsSound c l → IsNotedOnce (answer c e l)
   pub heard : (c : Config) (e : Event) (l : Line) (contents : List ℕ) → IsInRange c → IsSound c l
       → contents_in (answer c e l) ≡ Some contents → IsHeard c l e (answer c e l) contents
 

@@ -1,5 +1,6 @@
 -- What an event of a line is to one of its links, and what it may change of it.
-use Rattle.std.specs.Prelude.{◌≡◌, ◌⊎◌, ℕ, ◌+◌, ◌≤◌, Bool, true, false, List, Result, Ok, Some}
+use Rattle.std.specs.Prelude.{◌≡◌, ◌⊎◌, ℕ, ◌+◌, ◌≤◌, true, false, List, Ok, Some}
+use Rattle.lapd_frame.specs.declared.addresses.Address.{Address}
 use Rattle.lapd_frame.specs.declared.addresses.Side.TheVariants.{User}
 use Rattle.lapd_frame.specs.declared.notes.Note.{Note}
 use Rattle.lapd_frame.specs.declared.services.Service.{Service}
@@ -24,7 +25,7 @@ use Rattle.lapd_line_machine.specs.Answer.{Event, octet, expiry, request, pull, 
 use Rattle.lapd_line_machine.specs.Deliveries as lines
 use Rattle.lapd_line_machine.specs.Line.{Line, service_at, place_at, tei_at, terms, link_at}
 use Rattle.lapd_line_laws.specs.Frames.{lost_in}
-use Rattle.lapd_line_laws.specs.Heard.{Ends, notes_of}
+use Rattle.lapd_line_laws.specs.Heard.{Ends, EndsOverlong, IsMalformed, IsTooLong, notes_of}
 use Rattle.lapd_line_laws.specs.Loss.{IsMoved}
 use Rattle.lapd_line_laws.specs.Requests.{of_link}
 use Rattle.lapd_line_laws.specs.Share.{is_granted}
@@ -39,15 +40,24 @@ pub record Brings (c : Config) (l : Line) (e : Event) (service : Service) (tei :
   pub sapi : service_of parts.address.sapi ≡ Some service
   pub tei_is : parts.address.tei ≡ tei
 
--- The event of the line is this event of the link of a service with a TEI: a frame is brought, or an octet ends one that
--- the grammar does not have; its timer expires; a request of it is granted; or a pull takes what it gives.
+-- An octet ends one that the grammar does not have, or that is too long, with the SAPI of a service and a TEI.
+pub record BringsMalformed (c : Config) (l : Line) (e : Event) (service : Service) (tei : ℕ) (what : link.Received) : Type 0 where
+  pub value : ℕ
+  pub by : e ≡ octet value
+  pub octets : List ℕ
+  pub address : Address
+  pub ends : (Ends c l value octets × IsMalformed address octets what) ⊎ (EndsOverlong c l value octets × IsTooLong address octets what)
+  pub sapi : service_of address.sapi ≡ Some service
+  pub tei_is : address.tei ≡ tei
+
+-- The event of the line is this event of the link of a service with a TEI: a frame is brought, or one that is malformed; its timer expires; a request of it is granted; or a pull takes what it gives.
 abbrev pub timer_of : Service → ℕ → LinkTimer → Timer
 timer_of service tei T200 = timers.T200 service tei
 timer_of service tei T203 = timers.T203 service tei
 
 abbrev pub IsBy : Config → Line → Event → Answer → Service → ℕ → link.Event → Type 0
 IsBy c l e answer service tei (link.received (link.frame parts)) = Brings c l e service tei parts
-IsBy c l e answer service tei (link.received other) = (value : ℕ) × (e ≡ octet value)
+IsBy c l e answer service tei (link.received other) = BringsMalformed c l e service tei other
 IsBy c l e answer service tei (link.expired timer) = e ≡ expiry (timer_of service tei timer)
 IsBy c l e answer service tei (link.requested asked full) = (e ≡ request (of_link service tei asked)) × (is_granted answer ≡ true)
 IsBy c l e answer service tei link.offer = e ≡ pull

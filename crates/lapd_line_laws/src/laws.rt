@@ -20,10 +20,14 @@ pub fn pulls_serve()
     ensures { PullsServe }
 {}
 
-/// Only what was heard is delivered, and from whom. An octet that ends a frame which spells the SAPI of a service and a
-/// TEI on the line is an event of that link and of no other, and the line answers what the link does; one that ends no
-/// frame changes nothing but what was received. Contents are handed on only by an octet that ends an I-frame or a UI: they
-/// are its information, and the answer notes data, or unit data, of the service and the TEI that it spells.
+/// What was heard is delivered, once, and from whom, and nothing else. An octet ends a frame where in the bits of all octets
+/// received, with this one, is heard what was heard before, and then that frame. If it spells the SAPI of a service and a
+/// TEI on the line, the octet is an event of that link and of no other, and the line answers what the link does; so is
+/// one that ends a frame which the grammar does not have, or one that is too long, with such an address. An octet that
+/// ends nothing changes nothing but what was received. Contents are handed on exactly where an octet ends an I-frame in
+/// sequence, in state 7 or 8 with own busy off, or a UI in any state, of at most N201 octets: its information, with one
+/// note of data, or of unit data, of the service and the TEI that it spells; where none are, there is no such note (Q.921
+/// clauses 2.2 to 2.7, 3.6.1, 5.2.3, 5.6.2, 5.6.6 and 5.8.5).
 pub fn heard_is_delivered()
     ensures { HeardIsDelivered }
 {}

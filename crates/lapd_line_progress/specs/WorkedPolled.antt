@@ -2,7 +2,6 @@
 -- what those ask of a line.
 use Rattle.std.specs.Prelude.{◌≡◌, ℕ, true, List, [], ◌∷◌, length, fold, Some, None, refl}
 use Rattle.lapd_bits.specs.Bits.{low_bits}
-use Rattle.lapd_bits.specs.Stream as stream
 use Rattle.lapd_frame.specs.declared.controls.Control.TheVariants.{ReceiveReady}
 use Rattle.lapd_frame.specs.declared.services.Service.TheVariants.{Call}
 use Rattle.lapd_frame.specs.Grammar.{Parts}
@@ -16,7 +15,7 @@ use Rattle.lapd_line_machine.specs.Answer.{octet, request}
 use Rattle.lapd_line_machine.specs.Config.{first_fault}
 use Rattle.lapd_line_machine.specs.Line.{Line, fresh_line, place_in, link_in}
 use Rattle.lapd_line_machine.specs.Machine.{after}
-use Rattle.lapd_line_machine.specs.Octet.{gained}
+use Rattle.lapd_line_laws.specs.Heard.{Ends}
 use Rattle.lapd_line_machine.specs.Request.{Assign}
 use Rattle.lapd_line_progress.specs.Drains.{longest_text, frames_to_go, bits_to_go}
 
@@ -51,7 +50,7 @@ abbrev pub call_link : Line → Link
 call_link l = link_in l Call 0
 
 -- The octet ends the poll, for a TEI at place 0,
-pub poll_ends : gained 8 before_poll.received last_octet ≡ Some (stream.frame (0x00 ∷ 0x81 ∷ 0x01 ∷ 0x01 ∷ []))
+pub poll_ends : Ends small before_poll last_octet (0x00 ∷ 0x81 ∷ 0x01 ∷ 0x01 ∷ [])
 unfolding after reading header_of control_of unnumbered_of supervisory_of teis.course teis.refusal seq distance_of named low_bits
 poll_ends = refl
 

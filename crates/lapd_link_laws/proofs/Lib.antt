@@ -3,6 +3,7 @@ pub mod Queueing
 pub mod Moves
 pub mod QueueRows
 pub mod Delivered
+pub mod Once
 pub mod Keeping
 pub mod Counted
 pub mod Offering

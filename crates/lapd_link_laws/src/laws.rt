@@ -10,7 +10,7 @@ ghost use Rattle.lapd_link_laws.specs.History.{History, nothing_yet, share, with
 ghost use Rattle.lapd_link_laws.specs.Offered.{IsOffered, GoesOn, i_frames};
 ghost use Rattle.lapd_link_machine.specs.TwoEnds.{Ends, Doing, doing_all};
 ghost use Rattle.lapd_link_laws.specs.Ends.{begun, near_history, far_history};
-ghost use Rattle.lapd_link_laws.specs.Heard.{contents_heard, unit_due};
+ghost use Rattle.lapd_link_laws.specs.Heard.{contents_heard, data_due, unit_due, IsNotedOnce};
 
 /// Nothing that was accepted is lost silently. What a link keeps after an event is what it kept before, without the
 /// oldest contents, as many as a valid N(R) acknowledges in state 7 or 8, and with the contents of a data request that
@@ -37,13 +37,17 @@ pub fn sent_is_accepted()
     ensures goes_on { (t : Terms) (e : Event) (l : Link) → IsInRange t → IsSound t l → GoesOn (i_frames t e l) l (after t e l) }
 {}
 
-/// Only what was heard is delivered. Contents that an event delivers are the information of the I-frame that it brings,
-/// and an event tells unit data exactly where it brings a UI frame of at most N201 octets, whatever the state: its
-/// information (Q.921 clauses 5.2.3 and 5.6.2).
+/// What was heard is delivered, once, and nothing else. An event delivers contents exactly where it brings an I-frame of
+/// at most N201 octets in sequence, in state 7 or 8 with own busy off, and whatever its N(R): its information. It tells
+/// unit data exactly where it brings a UI frame of at most N201 octets, whatever the state: its information. For what is
+/// delivered it has one note of data, for what is told one of unit data, and no other (Q.921 clauses 5.2.3, 5.6.2 and
+/// 5.6.6).
 pub fn heard_is_delivered()
     ensures contents { (t : Terms) (e : Event) (l : Link) (contents : List ℕ) → (told t e l).delivered ≡ Some contents
         → contents_heard e ≡ Some contents }
+    ensures data { (t : Terms) (e : Event) (l : Link) → (told t e l).delivered ≡ data_due t e l }
     ensures unit { (t : Terms) (e : Event) (l : Link) → IsInRange t → IsSound t l → (told t e l).unit ≡ unit_due t e }
+    ensures once { (t : Terms) (e : Event) (l : Link) → IsSound t l → IsNotedOnce (told t e l) }
 {}
 
 /// Two links that face each other hold what their layers 3 gave: whatever is asked on either side, whatever timers expire,

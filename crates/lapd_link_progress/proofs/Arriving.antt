@@ -23,7 +23,7 @@ pub record Turn (v w : ℕ) (cn cm : List (List ℕ)) (n m : End) : Type 0 where
   pub left_n : length n.link.contents ≤ n.link.s + w
 
 -- With the window open an end that may send no I-frame has nothing unsent.
-nothing-unsent : (n : End) → IsReady n → n.link.a ≡ n.link.s → Offers.may_send_information n.terms (plain n.link) ≡ false → length n.link.contents ≤ n.link.s
+pub nothing-unsent : (n : End) → IsReady n → n.link.a ≡ n.link.s → Offers.may_send_information n.terms (plain n.link) ≡ false → length n.link.contents ≤ n.link.s
 nothing-unsent n h open_ may = by-test (nat_lt n.link.s (length n.link.contents)) refl
   where
     window : nat_lt (n.link.s - n.link.a) n.terms.k ≡ true

@@ -29,8 +29,7 @@ use Rattle.lapd_link_progress.proofs.Acknowledging.{Acknowledges, by-rr, by-info
 use Rattle.lapd_link_progress.proofs.Recovering.{Sounds, sounds-near, sounds-far}
 use Rattle.lapd_link_progress.proofs.Recovery.{after-round}
 use Rattle.lapd_link_progress.proofs.BusyShapes.{busy_report, learns-7}
-use Rattle.lapd_link_progress.proofs.BusyRounds.{Paired, Done, first-open, from-near, from-far, gets-through}
-use Rattle.lapd_link_progress.proofs.BusyRecovering.{paired-shapes}
+use Rattle.lapd_link_progress.proofs.BusyRounds.{Paired, Done, first-open, from-near, from-far, gets-through, paired-shapes}
 
 -- what the other's I-frame, or acknowledgement, is to a busy end in state 7 whose report waits
 record Heeds (n : End) (ws : List ControlFrame) (x s : ℕ) (p : Bool) (ds : List (List ℕ)) (n' : End) : Type 0 where

@@ -67,10 +67,10 @@ module _ (m : End) where
     abbrev added : Course
     added = MultipleFrame.in_sequence m.terms false octets here
 
-    acked : Acknowledges x added (number added)
+    pub acked : Acknowledges x added (number added)
     acked = by-information m.terms (seq l.r) x added names low
 
-    takes-one : ((seq l.s).value == (seq m.link.r).value) ≡ true
+    pub takes-one : ((seq l.s).value == (seq m.link.r).value) ≡ true
         → with_link (received (frame (information_frame t l))) (plain_end_with false busy m)
         ≡ record m { link = record (plain_with false busy m.link) { r = m.link.r + 1; rejecting = false; pending = true; a = x; running = acked.running }; way = []; delivered = m.delivered ++ octets ∷ [] }
     takes-one next =
@@ -91,15 +91,15 @@ module _ (m : End) where
         ap (λ b. having (cond b (MultipleFrame.failed m.terms code.O there) (number there))) fits
         ∙ ap having heeded.is
 
-  module _ (t : Terms) (l : Link) (x : ℕ) (names : named m.link.a m.link.s (seq l.r) ≡ Some x) (low : m.link.a ≤ x) where
+  module _ (own : Bool) (t : Terms) (l : Link) (x : ℕ) (names : named m.link.a m.link.s (seq l.r) ≡ Some x) (low : m.link.a ≤ x) where
     abbrev told : Course
-    told = begun (plain_with true false m.link)
+    told = begun (plain_with own false m.link)
 
-    noted : Acknowledges x told (Words.by_number m.terms (seq l.r) Established.acknowledged_in_7 told)
+    pub noted : Acknowledges x told (Words.by_number m.terms (seq l.r) Established.acknowledged_in_7 told)
     noted = by-rr m.terms (seq l.r) x told names low
 
-    takes-note : with_link (received (frame (acknowledgement_frame t l))) (plain_end_with true false m)
-        ≡ record m { link = record (plain_with true false m.link) { a = x; running = noted.running }; way = []; delivered = m.delivered ++ [] }
+    pub takes-note : with_link (received (frame (acknowledgement_frame t l))) (plain_end_with own false m)
+        ≡ record m { link = record (plain_with own false m.link) { a = x; running = noted.running }; way = []; delivered = m.delivered ++ [] }
     takes-note = ap having noted.is
 
 -- The busy end's turn.
@@ -232,7 +232,7 @@ module _ (n m : End) (hn : IsBusyItself n) (hm : IsOpenItself m) (there : IsTake
   open-note may owed =
       let gives : with_sent m ≡ record m { link = with_acknowledgement_with false m.link.peer_busy m.link; way = acknowledgement_frame m.terms m.link ∷ [] } = ap with_sent is-m ∙ gives-acknowledgement false m.link.peer_busy m may owed in
       let takes =
-      ap (with_link (received (frame (acknowledgement_frame m.terms m.link)))) is-n ∙ takes-note n m.terms m.link n.link.s names-s hn.sound.ordered in
+      ap (with_link (received (frame (acknowledgement_frame m.terms m.link)))) is-n ∙ takes-note n true m.terms m.link n.link.s names-s hn.sound.ordered in
       subst (λ x. OpenMoved n m (with_first_of x.way n) (with_first_lost x)) (sym gives)
       (subst (λ y. OpenMoved n m y (record m { link = with_acknowledgement_with false m.link.peer_busy m.link; way = [] })) (sym takes)
       (record {

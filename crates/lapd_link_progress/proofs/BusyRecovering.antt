@@ -1,14 +1,14 @@
 -- After the loss of all frames, an end that is busy itself and the other, of which each asks or has nothing outstanding:
 -- after a round or two both are in state 7, and what was sent is taken.
 use Rattle.std.proofs.Common.{◌≡◌, ℕ, suc, ◌+◌, ◌-◌, ◌<◌, ◌≤◌, Bool, true, false, cond, ◌==◌, List, [], ◌∷◌, ◌++◌, length, take, Option, Some, refl, sym, ap, subst, ◌∙◌, eq-eqb, arith}
-use Rattle.std.specs.Prelude.{All, nat_lt, slice_get, unwrap_or}
+use Rattle.std.specs.Prelude.{nat_lt, slice_get, unwrap_or}
 use Rattle.std.proofs.lemmas.Bool.{le-ltb, ltb-true, and_parts}
 use Rattle.lapd_seq.specs.Numbers.{seq}
 use Rattle.lapd_seq.specs.Circle.{named}
 use Rattle.lapd_link_machine.specs.declared.timers.LinkTimer.{LinkTimer}
 use Rattle.lapd_link_machine.specs.declared.timers.LinkTimer.TheVariants.{T200, T203}
 use Rattle.lapd_link_machine.specs.Offers
-use Rattle.lapd_link_machine.specs.Sound.{IsInRange, IsSound}
+use Rattle.lapd_link_machine.specs.Sound.{IsSound}
 use Rattle.lapd_link_machine.specs.TwoEnds.{End, Ends, with_first_of, with_first_lost}
 use Rattle.lapd_link_progress.proofs.Plain.{plain, plain_with, plain_end, plain_end_with, with_information_with, gives-information, gives-acknowledgement, gives-nothing}
 use Rattle.lapd_link_progress.proofs.Halves.{named-number, fits-at, take-one}
@@ -17,26 +17,7 @@ use Rattle.lapd_link_progress.proofs.Arriving.{near_moves, far_moves}
 use Rattle.lapd_link_progress.proofs.Shapes.{enquiry, reply, enquiry_with, reply_with, in_8, in_8_with, in_7, in_7_with, with_one_more, asked-8, answered-8, acknowledged-8, informed-8, asked-7}
 use Rattle.lapd_link_progress.proofs.Recovering.{Sounds, sounds-near, sounds-far, Between, room-0, room-1, names-a, names-r}
 use Rattle.lapd_link_progress.proofs.BusyShapes.{heeds-8, heeds-7, learns-8, drops-8}
-use Rattle.lapd_link_progress.proofs.BusyRounds.{Paired}
-
--- a pair by its shapes
-pub paired-shapes : (n m : End) (a s a' s' : ℕ) (busy p : Bool) (running running' : Option LinkTimer) (ds : List (List ℕ))
-    → IsInRange n.terms → IsInRange m.terms → IsSound n.terms (in_7_with true false n [] a s false running n.delivered).link → IsSound m.terms (in_7_with false busy m [] a' s' p running' ds).link
-    → m.link.r ≡ s → ds ≡ take s n.link.contents → (a < s → p ≡ true) → All (λ octets. length octets ≤ m.terms.n201) n.link.contents
-    → a' ≤ n.link.r → n.link.r ≤ s' → All (λ octets. length octets ≤ n.terms.n201) m.link.contents
-    → Paired busy n.link.r n.delivered n.link.contents m.link.contents (in_7_with true false n [] a s false running n.delivered) (in_7_with false busy m [] a' s' p running' ds)
-paired-shapes n m a s a' s' busy p running running' ds rn rm sn sm received delivered owed sizes low high sizes' =
-    record {
-      itself = record { ranges = rn; sound = sn; state = refl; peer_busy = refl; own_busy = refl; waiting = refl; way = refl };
-      other = record { ranges = rm; sound = sm; state = refl; own_busy = refl; waiting = refl; way = refl };
-      taken = record { received = received; delivered = delivered ∙ ap (λ i. take i n.link.contents) (sym received); owed = owed; sizes = sizes };
-      dropped = record { low = low; high = high; sizes = sizes' };
-      taken_for = refl;
-      received = refl;
-      delivered = refl;
-      kept_n = refl;
-      kept_m = refl;
-    }
+use Rattle.lapd_link_progress.proofs.BusyRounds.{Paired, paired-shapes}
 
 -- The busy end is n.
 module _ (u v : ℕ) (cn cm : List (List ℕ)) (n m : End) (there : Between u cn n m) (back : Between v cm m n) where

@@ -1,9 +1,10 @@
 -- Turn after turn of an end that is busy itself and of the other, until all contents of the busy end have arrived.
-use Rattle.std.proofs.Common.{◌≡◌, ℕ, zero, suc, ◌+◌, ◌-◌, ◌<◌, ◌≤◌, Bool, true, false, ◌&&◌, List, [], ◌∷◌, ◌++◌, length, take, refl, sym, ap, subst, ◌∙◌, ◌⊎◌, inl, inr, true≢false, arith}
+use Rattle.std.proofs.Common.{◌≡◌, ℕ, zero, suc, ◌+◌, ◌-◌, ◌<◌, ◌≤◌, Bool, true, false, ◌&&◌, List, [], ◌∷◌, ◌++◌, length, take, Option, refl, sym, ap, subst, ◌∙◌, ◌⊎◌, inl, inr, true≢false, arith}
 use Rattle.std.specs.Prelude.{All, nat_lt, slice_get, unwrap_or}
 use Rattle.std.proofs.lemmas.Bool.{lt-ltb, le-ltb, ltb-false, and_right}
 use Rattle.std.proofs.Math.Seq.{take-length}
 use Rattle.lapd_frame.specs.Grammar.{Parts}
+use Rattle.lapd_link_machine.specs.declared.timers.LinkTimer.{LinkTimer}
 use Rattle.lapd_link_machine.specs.Events.{frame, received, offer}
 use Rattle.lapd_link_machine.specs.Offers
 use Rattle.lapd_link_machine.specs.Sound.{IsInRange, IsSound}
@@ -14,6 +15,7 @@ use Rattle.lapd_link_progress.specs.OwnBusy.{IsBusyItself, IsOpenItself, IsDropp
 use Rattle.lapd_link_progress.proofs.Plain.{plain}
 use Rattle.lapd_link_progress.proofs.Halves.{take-one, One, Nothing, giver_of, taker_of}
 use Rattle.lapd_link_progress.proofs.Arriving.{near_moves, far_moves, no-more}
+use Rattle.lapd_link_progress.proofs.Shapes.{in_7_with}
 use Rattle.lapd_link_progress.proofs.BusyMoves.{BusyMoved, OpenMoved, busy-moves, open-moves}
 
 -- The busy end n and the other, m: what holds of them between two turns, with the busy end's numbers as they were at first.
@@ -277,3 +279,22 @@ from-far u busy r ds cn cm e h left =
 pub paired-first : (n m : End) → IsBusyItself n → IsOpenItself m → IsTaken n m → IsDropped n m → Paired m.link.peer_busy n.link.r n.delivered n.link.contents m.link.contents n m
 paired-first n m hn hm there back =
     record { itself = hn; other = hm; taken = there; dropped = back; taken_for = refl; received = refl; delivered = refl; kept_n = refl; kept_m = refl }
+
+-- A pair by its shapes.
+pub paired-shapes : (n m : End) (a s a' s' : ℕ) (busy p : Bool) (running running' : Option LinkTimer) (ds : List (List ℕ))
+    → IsInRange n.terms → IsInRange m.terms → IsSound n.terms (in_7_with true false n [] a s false running n.delivered).link → IsSound m.terms (in_7_with false busy m [] a' s' p running' ds).link
+    → m.link.r ≡ s → ds ≡ take s n.link.contents → (a < s → p ≡ true) → All (λ octets. length octets ≤ m.terms.n201) n.link.contents
+    → a' ≤ n.link.r → n.link.r ≤ s' → All (λ octets. length octets ≤ n.terms.n201) m.link.contents
+    → Paired busy n.link.r n.delivered n.link.contents m.link.contents (in_7_with true false n [] a s false running n.delivered) (in_7_with false busy m [] a' s' p running' ds)
+paired-shapes n m a s a' s' busy p running running' ds rn rm sn sm at there owed sizes low high sizes' =
+    record {
+      itself = record { ranges = rn; sound = sn; state = refl; peer_busy = refl; own_busy = refl; waiting = refl; way = refl };
+      other = record { ranges = rm; sound = sm; state = refl; own_busy = refl; waiting = refl; way = refl };
+      taken = record { received = at; delivered = there ∙ ap (λ i. take i n.link.contents) (sym at); owed = owed; sizes = sizes };
+      dropped = record { low = low; high = high; sizes = sizes' };
+      taken_for = refl;
+      received = refl;
+      delivered = refl;
+      kept_n = refl;
+      kept_m = refl;
+    }

@@ -38,3 +38,6 @@ pub mod TimelyRuns
 pub mod PremisesMet
 pub mod TimelyMet
 pub mod BusyMet
+pub mod AnyOrder
+pub mod AnyOrderRuns
+pub mod AnyOrderMet

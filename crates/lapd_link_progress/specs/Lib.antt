@@ -11,6 +11,8 @@ pub mod CutOff
 pub mod OwnBusy
 pub mod WorkedRounds
 pub mod WorkedOwnBusy
+pub mod AnyOrder
+pub mod WorkedAnyOrder
 pub mod WorkedUntimely
 pub mod Ahead
 pub mod Timely

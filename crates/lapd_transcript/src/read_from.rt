@@ -34,7 +34,7 @@ impl<R: io::Read> ReadFrom<R> {
         for _ in 0..u64::MAX {
             match self.reader.read(buffer) {
                 Err(error) if error.kind() == io::ErrorKind::Interrupted => {}
-                outcome => return outcome,
+                answer => return answer,
             }
         }
         Err(io::Error::from(io::ErrorKind::Interrupted))

@@ -34,7 +34,7 @@ impl<W: io::Write> WriteTo<W> {
         for _ in 0..u64::MAX {
             match self.writer.write(octets) {
                 Err(error) if error.kind() == io::ErrorKind::Interrupted => {}
-                outcome => return outcome,
+                answer => return answer,
             }
         }
         Err(io::Error::from(io::ErrorKind::Interrupted))

@@ -70,11 +70,7 @@ fn each_write_of_worked_scripts_fails_in_turn(rt: HostRuntime) {
 /// A write fails: a beginning of the transcript was written.
 #[test]
 fn each_write_fails_in_turn(rt: HostRuntime) {
-    let beginnings: [(usize, &[u8]); 3] = [
-        (0, b""),
-        (1, b"0 establish-indication 64\n"),
-        (2, b"0 establish-indication 64\n0 tx 7E008173C4127E\n"),
-    ];
+    let beginnings: [(usize, &[u8]); 2] = [(0, b""), (1, b"0 establish-indication 64\n")];
     for (good_writes, written) in beginnings {
         let mut target = Page::failing(rt.alloc(), good_writes);
         let mut faults = Page::new(rt.alloc());
@@ -84,7 +80,7 @@ fn each_write_fails_in_turn(rt: HostRuntime) {
         assert!(rt; faults.text() == b"write failed\n".as_slice());
         assert!(rt; status == 1);
     }
-    let mut target = Page::failing(rt.alloc(), 3);
+    let mut target = Page::failing(rt.alloc(), 2);
     let outcome = play(rt.alloc(), &mut Pieces::of(ESTABLISHED, 1), &mut target);
     assert!(rt; outcome == Ok(()));
     assert!(rt; target.text() == TRANSCRIPT);

@@ -1,6 +1,7 @@
 //! Worked scripts, and how much of their transcripts answers how much of them.
 
-/// A script with its transcript, and in how many writes it comes: what one event brought comes in one.
+/// A script with its transcript, and in how many writes it comes where the script is read octet by octet: what one line
+/// brought comes in one.
 #[derive(Clone, Copy)]
 pub struct Worked {
     /// The script.
@@ -42,7 +43,7 @@ stored
 0 frame 008173
 stored 0 limit 17470
 ",
-        writes: 4,
+        writes: 3,
         answers: [(60, 26), (69, 61), (76, 82)],
     },
     Worked {
@@ -57,7 +58,7 @@ pull 0 8
 0 tx 7E0281EF20DAFC04
 0 frame 02817F
 ",
-        writes: 3,
+        writes: 2,
         answers: [(63, 37), (72, 74), (72, 74)],
     },
     Worked {
@@ -73,7 +74,7 @@ wait 14000
 0 error 64 I
 0 lost 1
 ",
-        writes: 4,
+        writes: 3,
         answers: [(60, 26), (69, 61), (80, 83)],
     },
 ];

@@ -1,11 +1,15 @@
 -- The premises of the laws on an end that is busy itself are met: by a link where own busy has begun, and by the worked run in
 -- which RNR and all frames are lost.
-use Rattle.std.proofs.Common.{true, false, List, [], ◌∷◌, length, refl, arith}
+use Rattle.std.proofs.Common.{ℕ, true, false, List, [], ◌∷◌, length, refl, arith}
 use Rattle.std.proofs.lemmas.Bool.{ltb-true, leb-true}
 use Rattle.lapd_seq.specs.Numbers.{seq}
 use Rattle.lapd_seq.specs.Circle.{distance_of, named}
 use Rattle.lapd_frame.specs.Reading.{supervisory_of, unnumbered_of, control_of, header_of, reading}
-use Rattle.lapd_link_machine.specs.Events.{SetBusy, requested, offer}
+use Rattle.lapd_frame.specs.declared.controls.Control.TheVariants.{Information, ReceiveNotReady}
+use Rattle.lapd_frame.specs.Grammar.{Parts}
+use Rattle.lapd_link_machine.specs.Link.{frame_of}
+use Rattle.lapd_link_machine.specs.Words.{command, response}
+use Rattle.lapd_link_machine.specs.Events.{Data, SetBusy, frame, Event, received, requested, offer}
 use Rattle.lapd_link_machine.specs.Machine.{after_all}
 use Rattle.lapd_link_machine.specs.Worked.{usual, up}
 use Rattle.lapd_link_machine.specs.TwoEnds.{Ends, asks, sends, receives, Doing, at_near, at_far, doing_all, StayUp}
@@ -13,10 +17,10 @@ use Rattle.lapd_link_machine.specs.WorkedEnds.{both}
 use Rattle.lapd_link_machine.proofs.Premises.{begins}
 use Rattle.lapd_link_machine.proofs.SoundEvents.{sound-all}
 use Rattle.lapd_link_progress.specs.Ahead.{StayAhead}
-use Rattle.lapd_link_progress.specs.Rounds.{IsTaken, HasUnsent}
+use Rattle.lapd_link_progress.specs.Rounds.{rounds, IsTaken, HasUnsent}
 use Rattle.lapd_link_progress.specs.CutOff.{IsSilent, IsSilentWith, HasMissing}
-use Rattle.lapd_link_progress.specs.OwnBusy.{IsBusyItself, IsDropped}
-use Rattle.lapd_link_progress.specs.WorkedOwnBusy.{busy_losing, busy_cut_off}
+use Rattle.lapd_link_progress.specs.OwnBusy.{IsBusyItself, IsOpenItself, IsDropped, GetsThrough}
+use Rattle.lapd_link_progress.specs.WorkedOwnBusy.{busy_losing, busy_cut_off, near_dropped, far_dropped}
 use Rattle.lapd_link_progress.proofs.PremisesMet.{by-test, stay_ahead, mild, mild_act, mild_request}
 use Rattle.lapd_link_progress.proofs.Together.{all-stay_up}
 
@@ -74,6 +78,18 @@ is-busy =
       way = refl;
     }
 
+pub is-open : IsOpenItself busy_now.far
+unfolding seq distance_of named reading header_of control_of unnumbered_of supervisory_of after_all doing_all
+is-open =
+    record {
+      ranges = begins.ranges;
+      sound = sound-all usual begins.ranges (received (frame (frame_of usual (response (ReceiveNotReady (seq 0) false)))) ∷ []) up begins.sound;
+      state = refl;
+      own_busy = refl;
+      waiting = refl;
+      way = refl;
+    }
+
 pub is-taken : IsTaken busy_now.near busy_now.far
 unfolding seq distance_of named reading header_of control_of unnumbered_of supervisory_of after_all doing_all
 is-taken = record { received = refl; delivered = refl; owed = λ less. absurd (omega (arith, less)); sizes = begins.sound.sizes }
@@ -85,3 +101,87 @@ is-dropped = record { low = leb-true 0 0 refl; high = leb-true 0 0 refl; sizes =
 pub unsent : HasUnsent 0 busy_now.near
 unfolding seq distance_of named reading header_of control_of unnumbered_of supervisory_of after_all doing_all
 unsent = leb-true (length busy_now.near.link.contents) 0 refl
+
+-- own busy is on where one content is unsent, and one of the other's was dropped
+abbrev asks_for : ℕ → Event
+asks_for n = requested (Data (n ∷ [])) false
+
+abbrev sent_first : ℕ → Parts
+sent_first n = record (frame_of usual (command (Information (seq 0) (seq 0) false))) { info = n ∷ [] }
+
+abbrev dropping : ℕ → ℕ → List Event
+dropping theirs own = requested SetBusy false ∷ offer ∷ received (frame (sent_first theirs)) ∷ asks_for own ∷ []
+
+pub near-busy : IsBusyItself near_dropped.near
+unfolding seq distance_of named reading header_of control_of unnumbered_of supervisory_of after_all doing_all
+near-busy =
+    record {
+      ranges = begins.ranges;
+      sound = sound-all usual begins.ranges (dropping 4 1) up begins.sound;
+      state = refl;
+      peer_busy = refl;
+      own_busy = refl;
+      waiting = refl;
+      way = refl;
+    }
+
+pub far-open : IsOpenItself near_dropped.far
+unfolding seq distance_of named reading header_of control_of unnumbered_of supervisory_of after_all doing_all
+far-open =
+    record {
+      ranges = begins.ranges;
+      sound = sound-all usual begins.ranges (asks_for 4 ∷ offer ∷ []) up begins.sound;
+      state = refl;
+      own_busy = refl;
+      waiting = refl;
+      way = refl;
+    }
+
+pub near-taken : IsTaken near_dropped.near near_dropped.far
+unfolding seq distance_of named reading header_of control_of unnumbered_of supervisory_of after_all doing_all
+near-taken = record { received = refl; delivered = refl; owed = λ less. absurd (omega (arith, less)); sizes = near-busy.sound.sizes }
+
+pub near-dropped : IsDropped near_dropped.near near_dropped.far
+unfolding seq distance_of named reading header_of control_of unnumbered_of supervisory_of after_all doing_all
+near-dropped = record { low = leb-true 0 0 refl; high = leb-true 0 1 refl; sizes = far-open.sound.sizes }
+
+pub near-unsent : HasUnsent 1 near_dropped.near
+unfolding seq distance_of named reading header_of control_of unnumbered_of supervisory_of after_all doing_all
+near-unsent = leb-true (length near_dropped.near.link.contents) 1 refl
+
+pub far-busy : IsBusyItself far_dropped.far
+unfolding seq distance_of named reading header_of control_of unnumbered_of supervisory_of after_all doing_all
+far-busy =
+    record {
+      ranges = begins.ranges;
+      sound = sound-all usual begins.ranges (dropping 1 4) up begins.sound;
+      state = refl;
+      peer_busy = refl;
+      own_busy = refl;
+      waiting = refl;
+      way = refl;
+    }
+
+pub near-open : IsOpenItself far_dropped.near
+unfolding seq distance_of named reading header_of control_of unnumbered_of supervisory_of after_all doing_all
+near-open =
+    record {
+      ranges = begins.ranges;
+      sound = sound-all usual begins.ranges (asks_for 1 ∷ offer ∷ []) up begins.sound;
+      state = refl;
+      own_busy = refl;
+      waiting = refl;
+      way = refl;
+    }
+
+pub far-taken : IsTaken far_dropped.far far_dropped.near
+unfolding seq distance_of named reading header_of control_of unnumbered_of supervisory_of after_all doing_all
+far-taken = record { received = refl; delivered = refl; owed = λ less. absurd (omega (arith, less)); sizes = far-busy.sound.sizes }
+
+pub far-dropped : IsDropped far_dropped.far far_dropped.near
+unfolding seq distance_of named reading header_of control_of unnumbered_of supervisory_of after_all doing_all
+far-dropped = record { low = leb-true 0 0 refl; high = leb-true 0 1 refl; sizes = near-open.sound.sizes }
+
+pub far-unsent : HasUnsent 1 far_dropped.far
+unfolding seq distance_of named reading header_of control_of unnumbered_of supervisory_of after_all doing_all
+far-unsent = leb-true (length far_dropped.far.link.contents) 1 refl

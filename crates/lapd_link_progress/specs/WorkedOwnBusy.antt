@@ -38,6 +38,47 @@ kept_by_near : (rounds 4 (with_far_busy asked)).near.link.contents ≡ octets
 unfolding seq distance_of named reading header_of control_of unnumbered_of supervisory_of after_all doing_all rounds
 kept_by_near = refl
 
+-- One content is unsent at the end that is busy itself; the other does not know of it, and has sent one, which was dropped. Two
+-- rounds are enough, and what was dropped is kept.
+abbrev pub near_dropped : Ends
+near_dropped = doing_all (at_near (asks SetBusy false) ∷ at_near sends ∷ at_near loses ∷ far_asked 4 ∷ at_far sends ∷ at_near receives ∷ near_asked 1 ∷ []) both
+
+near_heard : (rounds 2 near_dropped).far.delivered ≡ (1 ∷ []) ∷ []
+unfolding seq distance_of named reading header_of control_of unnumbered_of supervisory_of after_all doing_all rounds
+near_heard = refl
+
+near_acknowledged : (rounds 2 near_dropped).near.link.a ≡ 1
+unfolding seq distance_of named reading header_of control_of unnumbered_of supervisory_of after_all doing_all rounds
+near_acknowledged = refl
+
+near_takes_nothing : (rounds 2 near_dropped).near.delivered ≡ []
+unfolding seq distance_of named reading header_of control_of unnumbered_of supervisory_of after_all doing_all rounds
+near_takes_nothing = refl
+
+far_keeps : (rounds 2 near_dropped).far.link.contents ≡ (4 ∷ []) ∷ []
+unfolding seq distance_of named reading header_of control_of unnumbered_of supervisory_of after_all doing_all rounds
+far_keeps = refl
+
+-- So it is where far is busy itself; one round is not enough then, as the acknowledgement goes in the second.
+abbrev pub far_dropped : Ends
+far_dropped = doing_all (at_far (asks SetBusy false) ∷ at_far sends ∷ at_far loses ∷ near_asked 1 ∷ at_near sends ∷ at_far receives ∷ far_asked 4 ∷ []) both
+
+far_in_one : (rounds 1 far_dropped).far.link.a ≡ 0
+unfolding seq distance_of named reading header_of control_of unnumbered_of supervisory_of after_all doing_all rounds
+far_in_one = refl
+
+far_acknowledged : (rounds 2 far_dropped).far.link.a ≡ 1
+unfolding seq distance_of named reading header_of control_of unnumbered_of supervisory_of after_all doing_all rounds
+far_acknowledged = refl
+
+far_heard : (rounds 2 far_dropped).near.delivered ≡ (4 ∷ []) ∷ []
+unfolding seq distance_of named reading header_of control_of unnumbered_of supervisory_of after_all doing_all rounds
+far_heard = refl
+
+near_keeps : (rounds 2 far_dropped).near.link.contents ≡ (1 ∷ []) ∷ []
+unfolding seq distance_of named reading header_of control_of unnumbered_of supervisory_of after_all doing_all rounds
+near_keeps = refl
+
 -- The RNR that tells of it is lost, and all that both send then. T200 expires; six rounds later near's are there.
 abbrev pub busy_losing : List Doing
 busy_losing =

@@ -9,9 +9,11 @@ ghost use Rattle.lapd_link_progress.specs.OwnBusy.{IsBusyItself, IsOpenItself, I
 ghost use Rattle.lapd_link_progress.specs.Rounds.{rounds, IsReady, IsTaken, HasUnsent};
 
 /// An end that is busy itself is heard, on ways that lose nothing. Two links face each other in state 7, one of them with
-/// own busy on and the other with own busy off; nothing waits or is on its way. What the busy end has sent the other has
-/// delivered, and owes an acknowledgement for what is outstanding; what is to come fits. The other may take the busy end
-/// for busy, or not yet, and may have sent contents that the busy end dropped. Where the busy end has at most u contents
+/// own busy on and the other with own busy off; nothing waits or is on its way, and the busy end does not take the other
+/// for busy (`IsBusyItself.peer_busy`). What the busy end has sent the other has delivered, and owes an acknowledgement for
+/// what is outstanding; what is to come fits. The other may take the busy end for busy, or not yet, and may have sent
+/// contents that the busy end dropped: its V(A) is not above the busy end's V(R), and its V(S) is not below it
+/// (`IsDropped.low`, `IsDropped.high`). Where the busy end has at most u contents
 /// unsent, u + 1 rounds suffice, whichever of the two is first in a round: all its contents are delivered at the other, in
 /// order, and acknowledged; it is busy still, has delivered nothing meanwhile, and has nothing more to say; and the other
 /// is in state 7 and keeps all contents that the busy end did not take (Q.921 clauses 5.6.5 and 5.6.6). Where own busy begins

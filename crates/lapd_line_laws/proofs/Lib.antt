@@ -2,6 +2,7 @@
 pub mod Kept
 pub mod Asked
 pub mod Told
+pub mod Silence
 pub mod Serving
 pub mod Ending
 pub mod Hearing

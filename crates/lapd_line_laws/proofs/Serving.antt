@@ -1,12 +1,15 @@
 -- What a pull begins.
-use Rattle.std.proofs.Common.{◌≡◌, ◌≢◌, ℕ, ◌+◌, ◌<◌, zero, suc, Bool, true, false, cond, List, [], ◌∷◌, ◌++◌, length, drop, take, slice_get, get_or, set, Option, Some, None, refl, sym, ap, ◌∙◌, subst, true≢false, arith, zero-add, append-nil, option_map, inl, inr}
+use Rattle.std.proofs.Common.{◌≡◌, ◌≢◌, ℕ, ◌+◌, ◌<◌, zero, suc, Bool, true, false, cond, List, [], ◌∷◌, ◌++◌, length, drop, take, slice_get, get_or, set, Option, Some, None, refl, sym, ap, ◌∙◌, subst, arith, zero-add, append-nil, option_map, inl, inr}
 use Rattle.std.specs.Prelude.{All, IfSome}
 use Rattle.std.specs.List.{range_with_len}
 use Rattle.std.specs.Option.{option_or, option_map_or, unwrap_or}
-use Rattle.std.proofs.lemmas.List.{get_or-set_same, get_or-set_other, take-append-drop}
+use Rattle.std.proofs.lemmas.Bool.{ltb-false}
+use Rattle.std.proofs.lemmas.List.{length-drop, get_or-set_same, get_or-set_other, take-append-drop}
 use Rattle.std.proofs.lemmas.List.Elements.{All-head, All-tail, All-nil, All-cons, All-get_or, All-append}
 use Rattle.std.proofs.lemmas.List.FromFn.{get_or-range_with_len, length-range_with_len}
 use Rattle.std.proofs.lemmas.Option.{none-some}
+use Rattle.lapd_bits.specs.Bits.{bits}
+use Rattle.lapd_bits.specs.Sent.{line_text}
 use Rattle.lapd_bits.specs.Stream as stream
 use Rattle.lapd_frame.specs.declared.addresses.Side.TheVariants.{Network}
 use Rattle.lapd_frame.specs.declared.refusals.Refusal.{Refusal}
@@ -29,7 +32,6 @@ use Rattle.lapd_link_laws.specs.InOrder.{IsInOrder}
 use Rattle.lapd_link_laws.specs.Offered.{IsOffered, one}
 use Rattle.lapd_link_laws.proofs.InOrder.{given-in-order}
 use Rattle.lapd_link_laws.proofs.Offering.{given-is-offered, offer-counts}
-use Rattle.lapd_link_progress.specs.Waits.{HasNothingToSend}
 use Rattle.lapd_link_progress.proofs.Waiting.{nothing-given}
 use Rattle.lapd_tei.specs.declared.messages.Message.{Message}
 use Rattle.lapd_tei.specs.Messages.{frame_of}
@@ -46,10 +48,11 @@ use Rattle.lapd_line_laws.specs.Share.{is_granted}
 use Rattle.lapd_line_machine.specs.Line.{Line, UnitData, link_count, service_at, place_at, place_in, tei_at, terms, terms_at, link_at}
 use Rattle.lapd_line_machine.specs.Machine.{after, answer, unless_refused, unless_refused_told}
 use Rattle.lapd_line_machine.specs.Pull as pulls
-use Rattle.lapd_line_machine.specs.Pull.{Taken, with_message, with_unit, with_given_frame, link_taken, first_taken, round, taken, is_due, begun, with_item, after_pull}
+use Rattle.lapd_line_machine.specs.Pull.{Taken, with_message, with_unit, with_given_frame, link_taken, first_taken, round, taken, left_of, is_due, begun, with_item, after_pull}
 use Rattle.lapd_line_machine.specs.Sound.{IsInRange, IsSoundAt, IsSound}
 use Rattle.lapd_line_machine.proofs.PullSound.{round_below}
-use Rattle.lapd_line_laws.specs.Pulls.{IsMessage, IsUnit, IsQuiet, IsItsTurn, IsOfLink, IsOwed, HasNothing, IsIdle, contents_of, IsServed, unit_asked, UnitsWait, TurnStays}
+use Rattle.lapd_line_laws.specs.Pulls.{IsMessage, IsUnit, IsSilent, IsQuiet, IsItsTurn, IsOfLink, IsOwed, HasNothing, IsIdle, bits_left, contents_of, IsServed, unit_asked, UnitsWait, TurnStays}
+use Rattle.lapd_line_laws.proofs.Silence.{silent}
 
 -- the first of a list is not there
 no-first : {X : Type 0} (xs : List X) → slice_get xs 0 ≡ None → xs ≡ []
@@ -77,7 +80,10 @@ module _ (c : Config) (l : Line) (s : IsSound c l) where
           → (o : Option Given) → links.given (terms c (service_at number) tei) (link_at number l) ≡ o
           → LinkFate number (option_map (with_given_frame l number (terms c (service_at number) tei)) o)
       at-tei tei at sound None e =
-          λ other at'. subst (λ n. HasNothingToSend (terms c (service_at number) n) (link_at number l)) (same-tei at at') (nothing-given (terms c (service_at number) tei) (link_at number l) e)
+          let t = terms c (service_at number) tei in (
+            λ other at'. subst (λ n. IsSilent (terms c (service_at number) n) (link_at number l)) (same-tei at at')
+                (silent t (link_at number l) sound (nothing-given t (link_at number l) e))
+          )
         where
           same-tei : {n m : ℕ} → tei_at (place_at number) l ≡ Some n → tei_at (place_at number) l ≡ Some m → n ≡ m
           same-tei e e' = let both : Some _ ≡ Some _ = sym e ∙ e' in cc
@@ -229,13 +235,19 @@ module _ (c : Config) (l : Line) (s : IsSound c l) where
         others = x.others;
       }))
 
+      not-few : is_due l ≡ false → bits_left l < 8 → ⊥
+      not-few e few =
+          let some = ltb-false (length (left_of l)) 8 e in
+          let left = length-drop (length (bits l.given)) (line_text l.items) in
+          absurd (omega (arith, some, left, few))
+
       go : (due : Bool) → is_due l ≡ due → (o : Option Taken) → Fate o
           → elim (cond due o None) as (λ o. Type 0) [
             | None ↦ IsIdle c l (pulls.with_octet (cond due (with_item o l) l))
             | Some t ↦ IsOwed c (contents_of l) l (pulls.with_octet (cond due (with_item o l) l)) t.frame
           ]
-      go false e o x = record { nothing = λ due. absurd (true≢false (sym due ∙ e)); messages = refl; units = refl; links = refl; turn = refl }
-      go true e None x = record { nothing = λ due. x; messages = refl; units = refl; links = refl; turn = refl }
+      go false e o x = record { nothing = λ few. absurd (not-few e few); messages = refl; units = refl; links = refl; turn = refl }
+      go true e None x = record { nothing = λ few. x; messages = refl; units = refl; links = refl; turn = refl }
       go true e (Some t) x = with-item t x
 
 -- Unit data that waits.

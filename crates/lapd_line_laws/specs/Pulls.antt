@@ -1,16 +1,20 @@
 -- What a pull begins, of what waits.
-use Rattle.std.specs.Prelude.{◌≡◌, ◌≢◌, ◌⊎◌, ℕ, ◌+◌, ◌<◌, Bool, true, false, List, [], ◌∷◌, ◌++◌, drop, take, slice_get, All, Option, Some, None, if◌then◌else◌}
+use Rattle.std.specs.Prelude.{◌≡◌, ◌≢◌, ◌⊎◌, ℕ, ◌+◌, ◌-◌, ◌<◌, true, false, List, length, [], ◌∷◌, ◌++◌, drop, take, slice_get, All, Option, Some, None, if◌then◌else◌}
 use Rattle.std.specs.List.{range_with_len}
 use Rattle.std.specs.Option.{unwrap_or}
+use Rattle.lapd_bits.specs.Bits.{bits}
+use Rattle.lapd_bits.specs.Sent.{line_text}
 use Rattle.lapd_frame.specs.declared.addresses.Side.TheVariants.{Network}
 use Rattle.lapd_frame.specs.declared.controls.Control.{Control}
 use Rattle.lapd_frame.specs.declared.controls.Control.TheVariants.{Ui}
 use Rattle.lapd_frame.specs.Grammar.{spelling}
 use Rattle.lapd_frame.specs.Services.{sapi_of}
+use Rattle.lapd_link_machine.specs.declared.terms.Terms.{Terms}
+use Rattle.lapd_link_machine.specs.Link.{Link}
 use Rattle.lapd_link_machine.specs.Sound.{is_information}
 use Rattle.lapd_link_laws.specs.InOrder.{IsInOrder}
 use Rattle.lapd_link_laws.specs.Offered.{IsOffered, one}
-use Rattle.lapd_link_progress.specs.Waits.{HasNothingToSend}
+use Rattle.lapd_link_laws.specs.Sending.{MayGo}
 use Rattle.lapd_tei.specs.declared.messages.Message.{Message}
 use Rattle.lapd_tei.specs.Messages.{frame_of}
 use Rattle.lapd_line_machine.specs.declared.config.Config.{Config}
@@ -19,7 +23,7 @@ use Rattle.lapd_line_machine.specs.Machine.{after}
 use Rattle.lapd_line_machine.specs.Answer.{Event, octet, expiry, request, pull, Answer}
 use Rattle.lapd_line_machine.specs.Request.{Request, Establish, Release, Data, Assign, Remove, Check, SetBusy, ClearBusy}
 use Rattle.lapd_line_laws.specs.Share.{is_granted}
-use Rattle.lapd_line_machine.specs.Pull.{Taken, is_due, begun}
+use Rattle.lapd_line_machine.specs.Pull.{Taken, begun}
 
 -- The message of TEI management that has waited longest, which waits no more;
 pub record IsMessage (before after : Line) (frame : List ℕ) : Type 0 where
@@ -53,9 +57,15 @@ pub record IsUnit (before after : Line) (frame : List ℕ) : Type 0 where
 abbrev pub in_turn : Config → Line → List ℕ
 in_turn c l = drop l.turn (range_with_len 0 (link_count c)) ++ take l.turn (range_with_len 0 (link_count c))
 
+-- A link has nothing to send where no control frame waits, no I-frame may go, and no acknowledgement is owed.
+pub record IsSilent (t : Terms) (l : Link) : Type 0 where
+  pub waiting : l.waiting ≡ []
+  pub information : MayGo t l → ⊥
+  pub pending : l.pending ≡ false
+
 abbrev pub IsQuiet : Config → Line → ℕ → Type 0
 IsQuiet c l number =
-    (tei : ℕ) → tei_at (place_at number) l ≡ Some tei → HasNothingToSend (terms c (service_at number) tei) (link_at number l)
+    (tei : ℕ) → tei_at (place_at number) l ≡ Some tei → IsSilent (terms c (service_at number) tei) (link_at number l)
 
 pub record IsItsTurn (c : Config) (before after : Line) (number : ℕ) : Type 0 where
   pub no_message : before.management.waiting ≡ []
@@ -99,10 +109,14 @@ pub record HasNothing (c : Config) (l : Line) : Type 0 where
   pub units : l.units ≡ []
   pub links : (number : ℕ) → number < link_count c → IsQuiet c l number
 
+-- How many bits are on their way, and not given yet.
+abbrev pub bits_left : Line → ℕ
+bits_left l = length (line_text l.items) - length (bits l.given)
+
 -- A pull begins no frame only where eight bits or more are left to give, or where nothing waits to be sent; and then
 -- nothing of what waits is changed.
 pub record IsIdle (c : Config) (before after : Line) : Type 0 where
-  pub nothing : is_due before ≡ true → HasNothing c before
+  pub nothing : bits_left before < 8 → HasNothing c before
   pub messages : after.management.waiting ≡ before.management.waiting
   pub units : after.units ≡ before.units
   pub links : after.links ≡ before.links

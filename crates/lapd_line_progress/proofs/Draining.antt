@@ -3,7 +3,7 @@ use Rattle.std.proofs.Common.{◌≡◌, ℕ, zero, suc, ◌+◌, ◌-◌, ◌*�
 use Rattle.std.specs.Prelude.{All, IfSome}
 use Rattle.std.specs.Option.{option_or, unwrap_or}
 use Rattle.std.proofs.Math.Nat.{mul-le-mul_right}
-use Rattle.std.proofs.lemmas.Bool.{ltb-false}
+use Rattle.std.proofs.lemmas.Bool.{ltb-true, ltb-false}
 use Rattle.std.proofs.lemmas.List.Elements.{All-head, All-tail}
 use Rattle.lapd_bits.specs.Sent.{Item, idle, frame, item_text}
 use Rattle.lapd_link_machine.specs.Link.{Link}
@@ -22,9 +22,10 @@ use Rattle.lapd_line_machine.proofs.Offered.{fresh_gives_nothing}
 use Rattle.lapd_line_machine.proofs.PullSound.{TakesSoundly, round_below, taken_sound}
 use Rattle.lapd_line_laws.specs.Pulls.{IsOwed, HasNothing, IsIdle, contents_of}
 use Rattle.lapd_line_laws.proofs.Serving.{served}
+use Rattle.lapd_line_laws.proofs.Silence.{sends-none}
 use Rattle.lapd_line_progress.specs.Drains.{after_pulls, longest_text, frames_to_go, bits_to_go, IsIdling}
 use Rattle.lapd_line_progress.proofs.Going.{going-falls}
-use Rattle.lapd_line_progress.proofs.Lengths.{text-longest, frame-long, octet-shortens, item-lengthens}
+use Rattle.lapd_line_progress.proofs.Lengths.{left-length, text-longest, frame-long, octet-shortens, item-lengthens}
 
 -- where nothing waits, nothing is taken
 module _ (c : Config) (l : Line) (s : IsSound c l) (h : HasNothing c l) where
@@ -38,7 +39,8 @@ module _ (c : Config) (l : Line) (s : IsSound c l) (h : HasNothing c l) where
       go (Some tei) e sound =
           let t : terms_at c number l ≡ terms c (service_at number) tei = ap (λ o. terms c (service_at number) (unwrap_or o 0)) e in
           let none : links.given (terms_at c number l) (link_at number l) ≡ None =
-          ap (λ t. links.given t (link_at number l)) t ∙ nothing-to_send (terms c (service_at number) tei) (link_at number l) (h.links number few tei e) in
+          ap (λ t. links.given t (link_at number l)) t ∙ nothing-to_send (terms c (service_at number) tei) (link_at number l)
+          (sends-none (terms c (service_at number) tei) (link_at number l) sound (h.links number few tei e)) in
           ap (option_map (with_given_frame l number (terms_at c number l))) none
 
   none-first : (ns : List ℕ) → All (λ n. n < link_count c) ns → first_taken c l ns ≡ None
@@ -117,7 +119,9 @@ module _ (c : Config) (ranged : IsInRange c) (l : Line) (s : IsSound c l) where
       let none : begun c l ≡ None = ap (λ b. cond b (taken c l) None) e ∙ e' in
       let idle : IsIdle c l (after c pull l) =
       subst (λ o. elim o as (λ o. Type 0) [ None ↦ IsIdle c l (after c pull l) | Some t ↦ IsOwed c (contents_of l) l (after c pull l) t.frame ]) none (served c l s) in
-      idle.nothing e
+      let few = ltb-true (length (left_of l)) 8 e in
+      let left = left-length l in
+      idle.nothing (omega (arith, few, left))
 
   by-due : (due : Bool) → is_due l ≡ due → (o : Option Taken) → taken c l ≡ o → IfSome o (TakesSoundly c l) → Fewer c l (after_pull c l) ⊎ HasNothing c l
   by-due false e o e' x = inl (waits e)

@@ -14,6 +14,7 @@ use Rattle.lapd_line_machine.specs.Line.{Line, link_count, service_at, place_at,
 use Rattle.lapd_line_machine.specs.Sound.{IsSoundAt, IsSound}
 use Rattle.lapd_line_machine.specs.Stored.{sum_of_links}
 use Rattle.lapd_line_laws.specs.Pulls.{HasNothing}
+use Rattle.lapd_line_laws.proofs.Silence.{silent, sends-none}
 use Rattle.lapd_line_progress.specs.Drains.{information_to_go, link_to_go, to_go_at_link, frames_to_go}
 
 -- Of a link.
@@ -75,13 +76,14 @@ all-none f a (suc n) h =
     omega (arith, sum, first, rest)
 
 module _ (c : Config) (l : Line) where
-  nothing-left : frames_to_go c l ≡ 0 → HasNothing c l
-  nothing-left e = record {
+  nothing-left : IsSound c l → frames_to_go c l ≡ 0 → HasNothing c l
+  nothing-left s e = record {
     messages = empty l.management.waiting (omega (arith, e));
     units = empty l.units (omega (arith, e));
     links = λ number few tei at.
-        to-nothing (terms c (service_at number) tei) (link_at number l)
-        (each-none (to_go_at_link c l) 0 (link_count c) (omega (arith, e)) number (omega arith) (omega (arith, few)));
+        silent (terms c (service_at number) tei) (link_at number l) (subst (IsSoundAt c number (link_at number l)) at (s.links number few))
+        (to-nothing (terms c (service_at number) tei) (link_at number l)
+        (each-none (to_go_at_link c l) 0 (link_count c) (omega (arith, e)) number (omega arith) (omega (arith, few))));
   }
 
   link-none : IsSound c l → HasNothing c l → (n : ℕ) → n < link_count c → to_go_at_link c l n ≡ 0
@@ -89,7 +91,7 @@ module _ (c : Config) (l : Line) where
     where
       go : (o : Option ℕ) → tei_at (place_at n) l ≡ o → IsSoundAt c n (link_at n l) o → link_to_go (terms c (service_at n) 0) (link_at n l) ≡ 0
       go None e is_fresh = ap (link_to_go (terms c (service_at n) 0)) is_fresh
-      go (Some tei) e sound = from-nothing (terms c (service_at n) tei) (link_at n l) (h.links n few tei e)
+      go (Some tei) e sound = from-nothing (terms c (service_at n) tei) (link_at n l) (sends-none (terms c (service_at n) tei) (link_at n l) sound (h.links n few tei e))
 
   none-to-go : IsSound c l → HasNothing c l → frames_to_go c l ≡ 0
   none-to-go s h =
@@ -99,4 +101,4 @@ module _ (c : Config) (l : Line) where
       omega (arith, messages, units, all)
 
   pub exactly-none : IsSound c l → (frames_to_go c l ≡ 0) ↔ HasNothing c l
-  exactly-none s = (nothing-left, none-to-go s)
+  exactly-none s = (nothing-left s, none-to-go s)

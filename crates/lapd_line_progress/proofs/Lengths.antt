@@ -39,7 +39,7 @@ frame-long octets =
     omega (arith, whole)
 
 -- What is left, by lengths alone.
-left-length : (l : Line) → length (left_of l) ≡ length (line_text l.items) - length (bits l.given)
+pub left-length : (l : Line) → length (left_of l) ≡ length (line_text l.items) - length (bits l.given)
 left-length l = length-drop (length (bits l.given)) (line_text l.items)
 
 -- an octet takes eight bits

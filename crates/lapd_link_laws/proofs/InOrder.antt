@@ -13,6 +13,7 @@ use Rattle.lapd_link_machine.specs.Steps.{Course, Sent, begun, ◌then◌, chang
 use Rattle.lapd_link_machine.specs.Words
 use Rattle.lapd_link_laws.specs.InOrder.{IsInOrder}
 use Rattle.lapd_link_laws.proofs.Alone.{may-go}
+use Rattle.lapd_link_laws.proofs.MayGo.{none-goes}
 
 module _ (t : Terms) (l : Link) (h : IsSound t l) where
   abbrev InOrder : Course → Type 0
@@ -31,7 +32,7 @@ module _ (t : Terms) (l : Link) (h : IsSound t l) where
       let goes : InOrder one_more = inr (inl (record { none = w; may = may-go t l h e; is = refl; rest = w; owed = refl })) in
       let goes_timed : InOrder (Words.start T200 one_more) = inr (inl (record { none = w; may = may-go t l h e; is = refl; rest = w; owed = refl })) in
       tested (Offers.is_awaiting_acknowledgement one_more.link) one_more (Words.start T200 one_more) (λ b. goes) (λ b. goes_timed))
-      (λ e. tested l.pending _ _ (λ owed. inr (inr (record { none = w; may_not = e; was_owed = owed; is = refl; rest = w; owed = refl }))) (λ none. tt))
+      (λ e. tested l.pending _ _ (λ owed. inr (inr (record { none = w; may_not = none-goes t l h e; was_owed = owed; is = refl; rest = w; owed = refl }))) (λ none. tt))
 
   from-sent : (c : Course) (o : Option Sent) → IfSome o (λ s. IsInOrder t l c.link s.frame)
       → IfSome (given_of t l c o) (λ g. IsInOrder t l c.link g.frame)

@@ -9,6 +9,7 @@ pub mod Counted
 pub mod Offering
 pub mod Facing
 pub mod Alone
+pub mod MayGo
 pub mod GoingBack
 pub mod Owing
 pub mod Beginning

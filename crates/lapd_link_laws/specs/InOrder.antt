@@ -5,7 +5,6 @@ use Rattle.lapd_frame.specs.declared.controls.Control.TheVariants.{Information, 
 use Rattle.lapd_link_machine.specs.declared.frames.ControlFrame.{ControlFrame}
 use Rattle.lapd_link_machine.specs.declared.terms.Terms.{Terms}
 use Rattle.lapd_link_machine.specs.Link.{Link}
-use Rattle.lapd_link_machine.specs.Offers.{may_send_information}
 use Rattle.lapd_link_laws.specs.Sending.{MayGo}
 
 -- The control frame that has waited longest, which waits no more;
@@ -25,7 +24,7 @@ pub record IsInformation (t : Terms) (before after : Link) (frame : ControlFrame
 -- where none waits and none may go, the acknowledgement that is owed: RR with N(R) = V(R) and F=0 (clause 5.6.3.1).
 pub record IsAcknowledgement (t : Terms) (before after : Link) (frame : ControlFrame) : Type 0 where
   pub none : before.waiting ≡ []
-  pub may_not : may_send_information t before ≡ false
+  pub may_not : MayGo t before → ⊥
   pub was_owed : before.pending ≡ true
   pub is : frame ≡ record { command = false; control = ReceiveReady (seq before.r) false }
   pub rest : after.waiting ≡ []

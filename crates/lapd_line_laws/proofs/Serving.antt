@@ -81,8 +81,8 @@ module _ (c : Config) (l : Line) (s : IsSound c l) where
           → LinkFate number (option_map (with_given_frame l number (terms c (service_at number) tei)) o)
       at-tei tei at sound None e =
           let t = terms c (service_at number) tei in (
-            λ other at'. subst (λ n. IsSilent (terms c (service_at number) n) (link_at number l)) (same-tei at at')
-                (silent t (link_at number l) sound (nothing-given t (link_at number l) e))
+          λ other at'. subst (λ n. IsSilent (terms c (service_at number) n) (link_at number l)) (same-tei at at')
+          (silent t (link_at number l) sound (nothing-given t (link_at number l) e))
           )
         where
           same-tei : {n m : ℕ} → tei_at (place_at number) l ≡ Some n → tei_at (place_at number) l ≡ Some m → n ≡ m

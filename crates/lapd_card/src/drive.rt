@@ -14,6 +14,7 @@ ghost use Rattle.lapd_card_machine.specs.Drops.{AreDropsWithoutCost, AreDropsWit
 ghost use Rattle.lapd_card_machine.specs.Laws.{RefusedByTheTable, RunIsMoments};
 ghost use Rattle.lapd_card_machine.specs.Promises.{IsWithinLimit, IsAmortised, IsAmortisedFromZero, HasSixOctetsAFrame, HasSevenOctetsAReject, IsLinear, IsIsolated, IsNeverFull, IsNumbered, IsNumberedFromZero, IsTextual};
 ghost use Rattle.lapd_card_laws.specs.Promises.{IsKept, IsCountedIn, BeginsEmpty, IsServedIn, UnitsWaitAll, TurnsStay, AreHeeded, TakeEffect, ExpiriesTakeEffectIn, AreSteady, IsDelivered, RunsWhatIsNeeded, NeedsNone};
+ghost use Rattle.lapd_card_laws.specs.Promises.{AreReceived, BeginsUnheard};
 ghost use Rattle.lapd_card_laws.specs.Promises.{NotesTell, TeisAreTold, BeginsDown, TeisHaveOnePlace, BegunIsTold};
 ghost use Rattle.lapd_card_laws.specs.Promises.{MessagesHaveCauses, ToldTeisAreThere, NotesHaveReasons};
 ghost use Rattle.lapd_card_progress.specs.Promises.{AnswersAreBegun, PullsComeToAnEnd, FewAreToGo, BeginsWithFew};
@@ -94,8 +95,10 @@ impl<S: Shelf> Card<S> {
     ///   not on the line, which comes to the line; else, where no place is free, a denial), a verify of a TEI on the line
     ///   while none is checked, or the second answer of a period to a check, whose TEI leaves; where T201 expires in the
     ///   first period of a check; or where a check or a removal is granted; or the answer counts it as lost, since four
-    ///   wait, and then a request assigns nothing. All else leaves what waits, but for a pull, and changes no TEI, no
-    ///   assignment that is remembered and no check (clauses 5.3.2 to 5.3.5).
+    ///   wait, and then a request assigns nothing. Beside these the first answer of a period to a check is noted with it;
+    ///   T201 at the end of the second period ends the check, and takes the TEI off the line where no terminal answered; a
+    ///   granted assignment puts its TEI on the line; and a pull takes the message that has waited longest. All else
+    ///   changes nothing of TEI management (clauses 4.1.1.5 and 5.3.2 to 5.3.5).
     /// - `told_teis_are_there`: in every moment a TEI that comes to wait to be told to a terminal is on the line; it leaves
     ///   again only as `teis_are_told` says.
     /// - `notes_have_reasons`: in every moment a note that a TEI was assigned is told only of an identity request, one that
@@ -131,6 +134,9 @@ impl<S: Shelf> Card<S> {
     /// - `from_zero`: on a card that has just begun they begin with 0, too.
     /// - `textual`: the octets pulled of a line, after those given before, are a beginning of one text of flags and
     ///   whole frames (Q.921 clause 2), whose frames are those that pulls began, in order.
+    /// - `received`: the octets that each line has received are those that it had received before, and behind them its octets
+    ///   of the list, in order, and no other; so on a card that has just begun, where there are none, `begins_unheard`, they
+    ///   are exactly its octets of the list (clause 2).
     /// - `counted`: the contents of each link are those that were accepted for it since its numbers began, in order,
     ///   without what went, and its V(A) counts those that were acknowledged (clause 3.5.2.2); and on a card that has just
     ///   begun, `begins_empty`, there are none.
@@ -239,6 +245,9 @@ impl<S: Shelf> Card<S> {
             → IsNumberedFromZero self.old.config (take count (events_of events.now)) }
         ensures textual { (m : machine.Card) (count : ℕ) → Stands S.store self.old m
             → IsTextual m (take count (events_of events.now)) }
+        ensures received { (m : machine.Card) (count : ℕ) → Stands S.store self.old m
+            → AreReceived m (take count (events_of events.now)) }
+        ensures begins_unheard { BeginsUnheard self.old.config }
         ensures counted { (m : machine.Card) (count : ℕ) → Stands S.store self.old m
             → IsCountedIn m (take count (events_of events.now)) }
         ensures begins_empty { BeginsEmpty self.old.config }

@@ -2,6 +2,7 @@
 pub mod Keeping
 pub mod Serving
 pub mod Hearing
+pub mod Receiving
 pub mod Heeding
 pub mod TimersRun
 pub mod Granting

@@ -6,7 +6,7 @@ use Rattle.lapd_card_machine.specs.Event.{Event}
 use Rattle.lapd_card_machine.specs.Machine.{after}
 use Rattle.lapd_card_machine.specs.Run.{IsAtLine, AreAtLines}
 use Rattle.lapd_card_machine.specs.Sound.{IsSound}
-use Rattle.lapd_card_laws.specs.Promises.{IsKept, IsCountedIn, BeginsEmpty, IsServedIn, UnitsWaitAll, TurnsStay, AreHeeded, TakeEffect, ExpiriesTakeEffectIn, AreSteady, IsDelivered, RunsWhatIsNeeded, NeedsNone, NotesTell, TeisAreTold, BeginsDown, TeisHaveOnePlace, BegunIsTold, MessagesHaveCauses, ToldTeisAreThere, NotesHaveReasons}
+use Rattle.lapd_card_laws.specs.Promises.{IsKept, IsCountedIn, BeginsEmpty, IsServedIn, UnitsWaitAll, TurnsStay, AreHeeded, TakeEffect, ExpiriesTakeEffectIn, AreSteady, IsDelivered, AreReceived, BeginsUnheard, RunsWhatIsNeeded, NeedsNone, NotesTell, TeisAreTold, BeginsDown, TeisHaveOnePlace, BegunIsTold, MessagesHaveCauses, ToldTeisAreThere, NotesHaveReasons}
 use Rattle.lapd_card_laws.specs.Timers.{AllHaveTheirTimers}
 
 pub record NothingIsLost : Type 0 where
@@ -19,8 +19,10 @@ pub record PullsServe : Type 0 where
   pub units : (card : Card) (events : List Event) → IsSound card → AreAtLines card events → UnitsWaitAll card events
   pub turns : (card : Card) (events : List Event) → IsSound card → AreAtLines card events → TurnsStay card events
 
-abbrev pub HeardIsDelivered : Type 0
-HeardIsDelivered = (card : Card) (events : List Event) → IsSound card → AreAtLines card events → IsDelivered card events
+pub record HeardIsDelivered : Type 0 where
+  pub delivered : (card : Card) (events : List Event) → IsSound card → AreAtLines card events → IsDelivered card events
+  pub received : (card : Card) (events : List Event) → IsSound card → AreAtLines card events → AreReceived card events
+  pub begins : (c : Config) → BeginsUnheard c
 
 abbrev pub FramesAreHeeded : Type 0
 FramesAreHeeded = (card : Card) (events : List Event) → IsSound card → AreAtLines card events → AreHeeded card events

@@ -4,6 +4,7 @@ pub mod Faithful
 pub mod Heard
 pub mod Knowledge
 pub mod Begun
+pub mod Received
 pub mod Messages
 pub mod Promises
 pub mod Timers
@@ -13,3 +14,5 @@ pub mod WorkedTimers
 pub mod WorkedNotes
 pub mod WorkedBegun
 pub mod WorkedPlaces
+pub mod WorkedReceived
+pub mod WorkedReasons

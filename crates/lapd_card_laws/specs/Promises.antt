@@ -1,5 +1,5 @@
 -- What is promised of a list of events, from a card on.
-use Rattle.std.specs.Prelude.{◌≡◌, ◌<◌, ℕ, false, List, Some, All}
+use Rattle.std.specs.Prelude.{◌≡◌, ◌<◌, ℕ, false, List, [], ◌++◌, Some, All}
 use Rattle.lapd_frame.specs.declared.services.Service.{Service}
 use Rattle.lapd_frame.specs.declared.timers.Timer.{Timer}
 use Rattle.lapd_link_laws.specs.History.{IsCounted, nothing_yet}
@@ -19,6 +19,7 @@ use Rattle.lapd_card_laws.specs.Heard.{IsHeardIn}
 use Rattle.lapd_card_laws.specs.Begun.{IsBegunIn}
 use Rattle.lapd_card_laws.specs.Knowledge.{up_by_notes, on_by_notes}
 use Rattle.lapd_card_laws.specs.Messages.{HaveCausesIn, AreThereIn, HaveReasonsIn}
+use Rattle.lapd_card_laws.specs.Received.{octets_at}
 use Rattle.lapd_card_laws.specs.Timers.{runs_at_callers}
 
 -- In every moment nothing that was accepted is lost silently.
@@ -69,6 +70,17 @@ AreSteady m events = All IsSteadyIn (moments m events)
 -- and what was heard is delivered, once, and from whom, and nothing else.
 abbrev pub IsDelivered : Card → List Event → Type 0
 IsDelivered m events = All IsHeardIn (moments m events)
+
+-- The octets that each line has received are those that it had received before, and behind them its octets of these events,
+-- in order, and no other (Q.921 clause 2).
+abbrev pub AreReceived : Card → List Event → Type 0
+AreReceived m events =
+    (line : ℕ) → line < m.config.lines →
+    (line_at line (after_all m events)).received ≡ (line_at line m).received ++ octets_at line events
+
+-- On a card as it begins none are: so from there on they are exactly those of the events.
+abbrev pub BeginsUnheard : Config → Type 0
+BeginsUnheard c = (line : ℕ) → line < c.lines → (line_at line (fresh c)).received ≡ []
 
 -- A caller that runs exactly the timers that are needed before a run, and obeys, does so after it.
 abbrev pub RunsWhatIsNeeded : Card → List Event → Type 0

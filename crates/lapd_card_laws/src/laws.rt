@@ -61,7 +61,9 @@ pub fn links_are_steady()
 /// with the SAPI of a service and a TEI on the line is an event of that link and of no other, also where the grammar does not
 /// have the frame, or it is too long; one that ends nothing changes nothing but what was received. Contents are handed on
 /// exactly of an I-frame in sequence that the link may take, and of a UI, that an octet ends: its information, with one note
-/// of data, or of unit data, of the service and the TEI that it spells, and no such note else. No other line feels it.
+/// of data, or of unit data, of the service and the TEI that it spells, and no such note else. No other line feels it. And
+/// after every list of events the octets that a line has received are those that it had before, and behind them its octets of
+/// the list, in order, and no other; on a card as it begins there are none.
 pub fn heard_is_delivered()
     ensures { HeardIsDelivered }
 {}

@@ -3,11 +3,12 @@
 //!
 //! The machine itself, and the laws that say what a card never does, stand in `lapd_card_machine`; the laws of a line in
 //! `lapd_line_laws`, and those of a link in `lapd_link_laws`. `specs/` has the contents of the links from moment to moment
-//! (`Contents`), what holds in a moment (`Faithful`), what is promised of a list of events (`Promises`), which timers
-//! a caller runs (`Timers`), what notes tell (`Knowledge`), which frames pulls begin (`Begun`), why messages of TEI
-//! management come to wait (`Messages`), the laws, which say of which cards and lists (`Laws`), and worked values
-//! (`Worked`, `WorkedTimers`, `WorkedNotes`). Each law is the contract of a call that does nothing, and the call of a card
-//! that runs a list of events cites the promises.
+//! (`Contents`), what holds in a moment (`Faithful`, `Heard`), what is promised of a list of events (`Promises`), which
+//! timers a caller runs (`Timers`), what notes tell (`Knowledge`), which frames pulls begin (`Begun`), which octets come to
+//! a line (`Received`), why messages of TEI management come to wait (`Messages`), the laws, which say of which cards and
+//! lists (`Laws`), and worked values (`Worked`, `WorkedTimers`, `WorkedNotes`, `WorkedBegun`, `WorkedPlaces`,
+//! `WorkedReceived`, `WorkedReasons`). Each law is the contract of a call that does nothing, and the call of a card that
+//! runs a list of events cites the promises.
 //!
 //! - `laws`, `timers`, `notes`, `management`: the laws.
 #![tactic(auto)]

@@ -1,5 +1,10 @@
 use Rattle.lapd_card_laws.proofs.Hearing.{heard-all}
+use Rattle.lapd_card_laws.proofs.Receiving.{run-received, begins-unheard}
 use Rattle.lapd_card_laws.proofs.laws.heard_is_delivered.Goals as goal
 
 pub returns : goal.returns
-returns c = λ card events s all. heard-all card events s all
+returns c = record {
+  delivered = λ card events s all. heard-all card events s all;
+  received = λ card events s all. run-received card events s all;
+  begins = begins-unheard;
+}

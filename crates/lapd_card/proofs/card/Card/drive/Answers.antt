@@ -16,10 +16,11 @@ use Rattle.lapd_card_machine.proofs.Refusals.{refused_by_the_table}
 use Rattle.lapd_card_machine.proofs.ByEvent.{frames_by_event}
 use Rattle.lapd_card_machine.proofs.Drops.{drops_cost_nothing, drops_change_nothing}
 use Rattle.lapd_card_machine.specs.Promises.{IsWithinLimit, IsAmortised, IsAmortisedFromZero, HasSixOctetsAFrame, HasSevenOctetsAReject, IsLinear, IsIsolated, IsNeverFull, IsNumbered, IsNumberedFromZero, IsTextual}
-use Rattle.lapd_card_laws.specs.Promises.{IsKept, IsCountedIn, IsServedIn, UnitsWaitAll, TurnsStay, AreHeeded, TakeEffect, ExpiriesTakeEffectIn, AreSteady, IsDelivered, RunsWhatIsNeeded, NotesTell, TeisAreTold, TeisHaveOnePlace, BegunIsTold, MessagesHaveCauses, ToldTeisAreThere, NotesHaveReasons}
+use Rattle.lapd_card_laws.specs.Promises.{IsKept, IsCountedIn, IsServedIn, UnitsWaitAll, TurnsStay, AreHeeded, TakeEffect, ExpiriesTakeEffectIn, AreSteady, IsDelivered, AreReceived, RunsWhatIsNeeded, NotesTell, TeisAreTold, TeisHaveOnePlace, BegunIsTold, MessagesHaveCauses, ToldTeisAreThere, NotesHaveReasons}
 use Rattle.lapd_card_laws.proofs.Keeping.{kept, run-counted, begins-empty}
 use Rattle.lapd_card_laws.proofs.Serving.{served-in, units-all, turns-stay}
 use Rattle.lapd_card_laws.proofs.Hearing.{heard-all}
+use Rattle.lapd_card_laws.proofs.Receiving.{run-received, begins-unheard}
 use Rattle.lapd_card_laws.proofs.Heeding.{heeded-all}
 use Rattle.lapd_card_laws.proofs.Granting.{effect-all, expiries-all}
 use Rattle.lapd_card_laws.proofs.Happening.{steady-all}
@@ -299,3 +300,15 @@ returns-clause-notes_have_reasons g c = λ m. whole_list g.S.Shelf.store c.args.
 
 pub returns-then-is_err-clause-notes_have_reasons : goal.returns-then-is_err-clause-notes_have_reasons
 returns-then-is_err-clause-notes_have_reasons g c = λ m. whole_list g.S.Shelf.store c.args.self.now c.args.events.now c.requires NotesHaveReasons reasons-all m
+
+pub returns-clause-received : goal.returns-clause-received
+returns-clause-received g c = λ m count. each_front g.S.Shelf.store c.args.self.now c.args.events.now c.requires AreReceived run-received m count
+
+pub returns-clause-begins_unheard : goal.returns-clause-begins_unheard
+returns-clause-begins_unheard g c = begins-unheard c.args.self.now.config
+
+pub returns-then-is_err-clause-received : goal.returns-then-is_err-clause-received
+returns-then-is_err-clause-received g c = λ m count. each_front g.S.Shelf.store c.args.self.now c.args.events.now c.requires AreReceived run-received m count
+
+pub returns-then-is_err-clause-begins_unheard : goal.returns-then-is_err-clause-begins_unheard
+returns-then-is_err-clause-begins_unheard g c = begins-unheard c.args.self.now.config

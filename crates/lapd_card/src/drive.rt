@@ -64,8 +64,9 @@ impl<S: Shelf> Card<S> {
     ///   N(R) = V(R)), SABME or DISC (UA or DM, as the state has it, with F = P), or the answer counts it as lost, since as
     ///   many waited as may; no other frame puts a response with F=1 there. A delivery leaves its acknowledgement owed, or
     ///   waiting, or counted as lost, but where the I-frame's N(R) was invalid. Where the terminal rejects I-frames from
-    ///   number n on, contents number n are the next to be sent. And what the frame leaves follows, as `links_are_steady` says
-    ///   (clauses 5.5.1.2, 5.5.3.2, 5.6.2 to 5.6.7 and 5.8.1).
+    ///   number n on, contents number n are the next to be sent. And what the frame leaves follows, as `links_are_steady` says,
+    ///   also of one that the grammar does not have, or that is too long: in states 7 and 8 this side then establishes the
+    ///   link anew, and in others it stays as it is (clauses 5.5.1.2, 5.5.3.2, 5.6.2 to 5.6.7, 5.7.1, 5.8.1 and 5.8.5).
     /// - `requests_take_effect`: in every moment a request that is granted takes effect: for an establishment SABME with P=1
     ///   waits, and for a release DISC with P=1, and the link awaits UA with T200 running, or the release of a link that is
     ///   down is confirmed at once; contents are kept behind what the link keeps, and nothing is told; own busy is on, or

@@ -14,7 +14,8 @@ use Rattle.lapd_line_machine.specs.Line.{Line, fresh_line, link_in, terms}
 use Rattle.lapd_line_machine.specs.Machine as lines
 use Rattle.lapd_line_machine.specs.Sound as sound_line
 use Rattle.lapd_line_laws.specs.Heard.{Ends, EndsOverlong, EndsNothing, IsFor, IsTo, IsMalformed, IsTooLong, IsOneEvent, IsNoEvent, contents_in, due, IsNotedOnce, IsHeard}
-use Rattle.lapd_line_laws.proofs.Hearing.{one-event, malformed-event, overlong-event, no-event, due-is, contents-heard}
+use Rattle.lapd_line_laws.proofs.Hearing.{one-event, malformed-event, overlong-event, no-event}
+use Rattle.lapd_line_laws.proofs.HandedOn.{due-is, contents-heard}
 use Rattle.lapd_line_laws.proofs.ToldOnce.{told-once}
 use Rattle.lapd_card_machine.specs.Event.{Event}
 use Rattle.lapd_card_machine.specs.Card.{Card, line_at, is_full}

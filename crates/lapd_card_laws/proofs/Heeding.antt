@@ -1,19 +1,23 @@
 -- What a frame that is heard makes of its link, in a moment of a run.
-use Rattle.std.proofs.Common.{◌≡◌, ℕ, true, List, get_or, refl, sym, ap, ◌∙◌, subst, arith, true≢false}
+use Rattle.std.proofs.Common.{◌≡◌, ℕ, true, List, get_or, Some, refl, sym, ap, ◌∙◌, subst, arith, true≢false}
 use Rattle.std.proofs.lemmas.Bool.{and_parts}
 use Rattle.std.proofs.lemmas.List.{get_or-set_same}
 use Rattle.lapd_frame.specs.declared.services.Service.{Service}
 use Rattle.lapd_frame.specs.Grammar.{Parts}
+use Rattle.lapd_link_machine.specs.Events.{Received}
 use Rattle.lapd_line_machine.specs.declared.config.Config.{Config}
 use Rattle.lapd_line_machine.specs.Answer as happening
 use Rattle.lapd_line_machine.specs.Answer.{Answer, octet}
-use Rattle.lapd_line_machine.specs.Line.{Line, fresh_line, link_in, terms}
+use Rattle.lapd_line_machine.specs.Line.{Line, fresh_line, place_in, link_in, terms}
 use Rattle.lapd_line_machine.specs.Machine as lines
-use Rattle.lapd_line_laws.specs.Frames.{IsHeeded}
+use Rattle.lapd_line_machine.specs.Sound as sound_line
+use Rattle.lapd_line_laws.specs.Frames.{IsFollowed, IsHeeded}
 use Rattle.lapd_line_laws.specs.Heard.{Ends, IsFor}
-use Rattle.lapd_line_laws.proofs.Heeding.{frame-heeded}
+use Rattle.lapd_line_laws.specs.Steady.{BringsMalformed}
+use Rattle.lapd_line_laws.proofs.Heeding.{frame-heeded, malformed-followed}
 use Rattle.lapd_card_machine.specs.Event.{Event}
 use Rattle.lapd_card_machine.specs.Card.{Card, line_at, is_full}
+use Rattle.lapd_card_machine.specs.Machine.{after, answer}
 use Rattle.lapd_card_machine.specs.Run.{IsAtLine, AreAtLines}
 use Rattle.lapd_card_machine.specs.Sound.{IsSound}
 use Rattle.lapd_card_machine.proofs.EachMoment.{moment_of, each_moment}
@@ -23,24 +27,38 @@ use Rattle.lapd_card_laws.specs.Promises.{AreHeeded}
 use Rattle.lapd_card_laws.proofs.Hearing.{no-octet}
 
 -- What a frame makes of its link, of an event that may be its octet.
-abbrev Heeds : Config → happening.Event → Line → Line → Answer → Type 0
-Heeds c e before after a =
-    (value : ℕ) (service : Service) (tei place : ℕ) (parts : Parts) (octets : List ℕ) → e ≡ octet value
-    → Ends c before value octets → IsFor before service tei place parts octets
-    → IsHeeded (terms c service tei) parts (link_in before service place) (link_in after service place) a
+record Heeds (c : Config) (e : happening.Event) (before after : Line) (a : Answer) : Type 0 where
+  frames : (value : ℕ) (service : Service) (tei place : ℕ) (parts : Parts) (octets : List ℕ) → e ≡ octet value
+      → Ends c before value octets → IsFor before service tei place parts octets
+      → IsHeeded (terms c service tei) parts (link_in before service place) (link_in after service place) a
+  malformed : (service : Service) (tei place : ℕ) (what : Received) → BringsMalformed c before e service tei what → place_in before tei ≡ Some place
+      → IsFollowed (terms c service tei) what (link_in before service place) (link_in after service place) a
 
-heeded-in : (card : Card) (e : Event) → IsSound card → IsAtLine card e → IsHeededIn (moment_of card e)
-heeded-in card e s here =
+at-its-line : (c : Config) (e : happening.Event) (l : Line) → sound_line.IsSound c l → Heeds c e l (lines.after c e l) (lines.answer c e l)
+at-its-line c e l s = record {
+  frames = λ value service tei place parts octets is ends f.
+      subst (λ e. IsHeeded (terms c service tei) parts (link_in l service place) (link_in (lines.after c e l) service place) (lines.answer c e l)) (sym is)
+      (frame-heeded c l s value service tei place parts octets ends f);
+  malformed = λ service tei place what brings on. malformed-followed c l s e service tei place what brings on;
+}
+
+heeds-in : (card : Card) (e : Event) → IsSound card → IsAtLine card e → Heeds card.config e.what (line_at e.line card) (line_at e.line (after e card)) (answer e card)
+heeds-in card e s here =
     by_room (λ ls a. Heeds card.config e.what (line_at e.line card) (get_or ls e.line (fresh_line card.config)) a) e card
-    (λ full value service tei place parts octets is ends f.
-    absurd (no-octet card e s here (and_parts (lines.takes_slot card.config e.what (line_at e.line card)) (is_full card) full).0 value is))
+    (λ full.
+    let takes = (and_parts (lines.takes_slot card.config e.what (line_at e.line card)) (is_full card) full).0 in
+    record {
+      frames = λ value service tei place parts octets is ends f. absurd (no-octet card e s here takes value is);
+      malformed = λ service tei place what brings on. absurd (no-octet card e s here takes brings.value brings.by);
+    })
     (λ room.
     let own = lines.after card.config e.what (line_at e.line card) in
     subst (λ (x : Line). Heeds card.config e.what (line_at e.line card) x (lines.answer card.config e.what (line_at e.line card)))
     (sym (get_or-set_same card.lines e.line own (fresh_line card.config) (omega (arith, s.count, here))))
-    (λ value service tei place parts octets is ends f.
-    subst (λ what. IsHeeded (terms card.config service tei) parts (link_in (line_at e.line card) service place) (link_in (lines.after card.config what (line_at e.line card)) service place) (lines.answer card.config what (line_at e.line card))) (sym is)
-    (frame-heeded card.config (line_at e.line card) (line_sound card e.line (has_lines card s) here) value service tei place parts octets ends f)))
+    (at-its-line card.config e.what (line_at e.line card) (line_sound card e.line (has_lines card s) here)))
+
+heeded-in : (card : Card) (e : Event) → IsSound card → IsAtLine card e → IsHeededIn (moment_of card e)
+heeded-in card e s here = record { frames = (heeds-in card e s here).frames; malformed = (heeds-in card e s here).malformed }
 
 pub heeded-all : (card : Card) (events : List Event) → IsSound card → AreAtLines card events → AreHeeded card events
 heeded-all card events s all = each_moment IsHeededIn heeded-in card events s all

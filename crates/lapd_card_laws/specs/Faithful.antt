@@ -1,16 +1,17 @@
 -- What holds in a moment of a run, of what layer 3 gave and of what its links do.
-use Rattle.std.specs.Prelude.{◌≡◌, ◌≢◌, ℕ, true, List, [], if◌then◌else◌}
+use Rattle.std.specs.Prelude.{◌≡◌, ◌≢◌, ℕ, true, List, [], Some, if◌then◌else◌}
 use Rattle.lapd_frame.specs.declared.services.Service.{Service}
 use Rattle.lapd_frame.specs.Grammar.{Parts}
 use Rattle.lapd_link_laws.specs.History as links
+use Rattle.lapd_link_machine.specs.Events.{Received}
 use Rattle.lapd_line_machine.specs.Answer.{octet}
-use Rattle.lapd_line_machine.specs.Line.{link_in, terms}
-use Rattle.lapd_line_laws.specs.Frames.{IsHeeded}
+use Rattle.lapd_line_machine.specs.Line.{place_in, link_in, terms}
+use Rattle.lapd_line_laws.specs.Frames.{IsFollowed, IsHeeded}
 use Rattle.lapd_line_laws.specs.Share.{asked_by}
 use Rattle.lapd_line_laws.specs.Loss.{IsTold}
 use Rattle.lapd_line_laws.specs.Pulls.{UnitsWait, TurnStays}
 use Rattle.lapd_line_laws.specs.Requests.{LinkTakesEffect, ManagementTakesEffect}
-use Rattle.lapd_line_laws.specs.Steady.{Happens}
+use Rattle.lapd_line_laws.specs.Steady.{BringsMalformed, Happens}
 use Rattle.lapd_line_laws.specs.Expiries.{ExpiryTakesEffect}
 use Rattle.lapd_line_laws.specs.Heard.{Ends, IsFor}
 use Rattle.lapd_card_machine.specs.Card.{line_at}
@@ -41,12 +42,14 @@ abbrev pub TurnStaysIn : Moment → Type 0
 TurnStaysIn m = TurnStays m.event.what (line_before m) (line_after m)
 
 -- A frame for a link that an octet ends is heeded: polls are answered, deliveries acknowledged, and what was rejected is
--- sent again.
-abbrev pub IsHeededIn : Moment → Type 0
-IsHeededIn m =
-    (value : ℕ) (service : Service) (tei place : ℕ) (parts : Parts) (octets : List ℕ) → m.event.what ≡ octet value
-    → Ends m.card.config (line_before m) value octets → IsFor (line_before m) service tei place parts octets
-    → IsHeeded (terms m.card.config service tei) parts (link_in (line_before m) service place) (link_in (line_after m) service place) m.answer
+-- sent again; and of one that the grammar does not have, or that is too long, follows what the tables say.
+pub record IsHeededIn (m : Moment) : Type 0 where
+  pub frames : (value : ℕ) (service : Service) (tei place : ℕ) (parts : Parts) (octets : List ℕ) → m.event.what ≡ octet value
+      → Ends m.card.config (line_before m) value octets → IsFor (line_before m) service tei place parts octets
+      → IsHeeded (terms m.card.config service tei) parts (link_in (line_before m) service place) (link_in (line_after m) service place) m.answer
+  pub malformed : (service : Service) (tei place : ℕ) (what : Received)
+      → BringsMalformed m.card.config (line_before m) m.event.what service tei what → place_in (line_before m) tei ≡ Some place
+      → IsFollowed (terms m.card.config service tei) what (link_in (line_before m) service place) (link_in (line_after m) service place) m.answer
 
 -- A request that is granted takes effect, at its link or in TEI management.
 pub record TakesEffectIn (m : Moment) : Type 0 where

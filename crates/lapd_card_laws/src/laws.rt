@@ -28,7 +28,8 @@ pub fn pulls_serve()
 /// Frames are heeded. In every moment of a run a frame for a link on the line is answered where it is a poll with a valid
 /// N(R) in state 7 or 8, SABME or DISC: by exactly one frame, the last that waits, or one that is told as lost, since as
 /// many waited as may. A delivery leaves its acknowledgement owed, or waiting, or told as lost, but where the I-frame's
-/// N(R) was invalid. And what the terminal rejects is sent again, from the number that it names on.
+/// N(R) was invalid. And what the terminal rejects is sent again, from the number that it names on. Of a frame that the
+/// grammar does not have, or that is too long, follows what the tables say: in states 7 and 8 a new establishment.
 pub fn frames_are_heeded()
     ensures { FramesAreHeeded }
 {}

@@ -1,5 +1,5 @@
--- What a frame that is heard makes of its link.
-use Rattle.std.proofs.Common.{◌≡◌, ℕ, ◌≤◌, ◌<◌, Bool, true, false, List, length, get_or, set, Option, Some, None, is_some, refl, sym, ap, ◌∙◌, subst, arith, true≢false, ◌⊎◌, inl, inr, ⊎_elim}
+-- What a frame that is heard makes of its link, also one that the grammar does not have.
+use Rattle.std.proofs.Common.{◌≡◌, ℕ, ◌≤◌, ◌<◌, true, List, length, Option, Some, None, is_some, refl, sym, ap, ◌∙◌, subst, arith, true≢false, ◌⊎◌, inl, inr, ⊎_elim}
 use Rattle.std.proofs.lemmas.Bool.{cases_lt}
 use Rattle.std.proofs.lemmas.List.{get_or-set_same}
 use Rattle.std.specs.List.{list_any}
@@ -10,7 +10,6 @@ use Rattle.lapd_link_machine.specs.declared.terms.Terms.{Terms}
 use Rattle.lapd_link_machine.specs.Events as link
 use Rattle.lapd_link_machine.specs.Link.{Link, fresh}
 use Rattle.lapd_link_machine.specs.Machine as links
-use Rattle.lapd_link_machine.specs.Notes.{is_data}
 use Rattle.lapd_link_machine.proofs.OwnNotes.{notes-own}
 use Rattle.lapd_link_machine.proofs.TellRows.{event-tells}
 use Rattle.lapd_link_laws.specs.Following.{Follows}
@@ -24,15 +23,16 @@ use Rattle.lapd_link_progress.proofs.FinalRows.{event-finals}
 use Rattle.lapd_link_progress.proofs.Unanswered.{poll-lost, unnumbered-lost}
 use Rattle.lapd_tei.proofs.Tables.{place_of-is}
 use Rattle.lapd_line_machine.specs.declared.config.Config.{Config}
-use Rattle.lapd_line_machine.specs.Answer.{Answer, octet, told}
-use Rattle.lapd_line_machine.specs.Effect.{told_of_link}
-use Rattle.lapd_line_machine.specs.Line.{Line, link_number, link_in, terms}
+use Rattle.lapd_line_machine.specs.Answer.{Event, Answer, octet}
+use Rattle.lapd_line_machine.specs.Line.{Line, link_number, place_in, link_in, terms}
 use Rattle.lapd_line_machine.specs.Machine.{after, answer}
 use Rattle.lapd_line_machine.specs.Sound.{IsSound}
 use Rattle.lapd_line_machine.proofs.Numbers.{number_within}
-use Rattle.lapd_line_laws.specs.Frames.{lost_in, IsLost, IsHeeded}
-use Rattle.lapd_line_laws.specs.Heard.{Ends, IsFor, is_data_of, notes_of, Says}
-use Rattle.lapd_line_laws.proofs.Hearing.{own-all, one-event}
+use Rattle.lapd_line_laws.specs.Frames.{lost_in, IsFollowed, IsHeeded}
+use Rattle.lapd_line_laws.specs.Heard.{Ends, IsFor, IsTo, IsOneEvent, is_data_of, notes_of}
+use Rattle.lapd_line_laws.specs.Steady.{BringsMalformed}
+use Rattle.lapd_line_laws.proofs.HandedOn.{own-all}
+use Rattle.lapd_line_laws.proofs.Hearing.{sapi-is, one-event, malformed-event, overlong-event}
 
 -- some contents are there
 is-there : (o : Option (List ℕ)) → is_some o ≡ true → (contents : List ℕ) × (o ≡ Some contents)
@@ -82,17 +82,48 @@ module _ (t : Terms) (f : Parts) (l : Link) where
       }
 
 -- at its line
+its-link : (c : Config) (l : Line) → IsSound c l → (value : ℕ) (service : Service) (tei place : ℕ) (event : link.Event) → place_in l tei ≡ Some place
+    → IsOneEvent c l (after c (octet value) l) (answer c (octet value) l) value service tei place event
+    → link_in (after c (octet value) l) service place ≡ links.after (terms c service tei) event (link_in l service place)
+its-link c l s value service tei place event on one =
+    let next = links.after (terms c service tei) event (link_in l service place) in
+    let within : place < length l.management.places = (place_of-is l.management.places tei place on).0 in
+    let few = number_within place c.terminals service (omega (arith, within, s.places)) in
+    ap (λ (x : Line). link_in x service place) one.line ∙ get_or-set_same l.links (link_number place service) next fresh (omega (arith, few, s.count))
+
 pub frame-heeded : (c : Config) (l : Line) → IsSound c l → (value : ℕ) (service : Service) (tei place : ℕ) (parts : Parts) (octets : List ℕ)
     → Ends c l value octets → IsFor l service tei place parts octets
     → IsHeeded (terms c service tei) parts (link_in l service place) (link_in (after c (octet value) l) service place) (answer c (octet value) l)
 frame-heeded c l s value service tei place parts octets ends f =
     let one = one-event c l value service tei place parts octets ends f in
     let t = terms c service tei in
-    let next = links.after t (link.received (link.frame parts)) (link_in l service place) in
-    let within : place < length l.management.places = (place_of-is l.management.places tei place f.on_line).0 in
-    let few = number_within place c.terminals service (omega (arith, within, s.places)) in
-    let there : link_in (after c (octet value) l) service place ≡ next =
-    ap (λ (x : Line). link_in x service place) one.line ∙ get_or-set_same l.links (link_number place service) next fresh (omega (arith, few, s.count)) in
+    let there = its-link c l s value service tei place (link.received (link.frame parts)) f.on_line one in
     subst (λ (x : Link). IsHeeded t parts (link_in l service place) x (answer c (octet value) l)) (sym there)
     (heeded t parts (link_in l service place) (answer c (octet value) l)
     (ap notes_of one.answer_is.is ∙ one.answer_is.notes) (ap lost_in one.answer_is.is ∙ one.answer_is.lost))
+
+-- What follows what is heard, also what the grammar does not have.
+followed : (c : Config) (l : Line) → IsSound c l → (value : ℕ) (service : Service) (tei place : ℕ) (what : link.Received) → place_in l tei ≡ Some place
+    → IsOneEvent c l (after c (octet value) l) (answer c (octet value) l) value service tei place (link.received what)
+    → IsFollowed (terms c service tei) what (link_in l service place) (link_in (after c (octet value) l) service place) (answer c (octet value) l)
+followed c l s value service tei place what on one =
+    let t = terms c service tei in
+    let e = link.received what in
+    let x = link_in l service place in
+    let there = its-link c l s value service tei place e on one in
+    let lost : lost_in (answer c (octet value) l) ≡ (links.told t e x).lost = ap lost_in one.answer_is.is ∙ one.answer_is.lost in
+    subst (λ (y : Link). Follows t e x y (lost_in (answer c (octet value) l))) (sym there)
+    (subst (λ n. Follows t e x (links.after t e x) n) (sym lost) (event-follows t e x))
+
+pub malformed-followed : (c : Config) (l : Line) → IsSound c l → (e : Event) (service : Service) (tei place : ℕ) (what : link.Received)
+    → BringsMalformed c l e service tei what → place_in l tei ≡ Some place
+    → IsFollowed (terms c service tei) what (link_in l service place) (link_in (after c e l) service place) (answer c e l)
+malformed-followed c l s e service tei place what brings on =
+    subst (λ e. IsFollowed (terms c service tei) what (link_in l service place) (link_in (after c e l) service place) (answer c e l)) (sym brings.by)
+    (followed c l s brings.value service tei place what on
+    (⊎_elim
+    (λ x. malformed-event c l brings.value service tei place brings.address brings.octets what x.0 whose x.1)
+    (λ x. overlong-event c l brings.value service tei place brings.address brings.octets what x.0 whose x.1) brings.ends))
+  where
+    whose : IsTo l service tei place brings.address
+    whose = record { sapi = sapi-is brings.address.sapi service brings.sapi; tei_is = brings.tei_is; on_line = on }

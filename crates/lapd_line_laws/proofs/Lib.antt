@@ -6,6 +6,7 @@ pub mod Silence
 pub mod Serving
 pub mod Ending
 pub mod Hearing
+pub mod HandedOn
 pub mod ToldOnce
 pub mod Heeding
 pub mod Places

@@ -1,11 +1,11 @@
 -- What a frame that is heard makes of its link.
-use Rattle.std.specs.Prelude.{◌≡◌, ◌⊎◌, ℕ, ◌+◌, ◌≤◌, true, List, length, Some}
+use Rattle.std.specs.Prelude.{◌≡◌, ◌⊎◌, ℕ, ◌+◌, ◌≤◌, true, length, Some}
 use Rattle.std.specs.List.{list_any}
 use Rattle.lapd_seq.specs.declared.numbers.Seq.{Seq}
 use Rattle.lapd_seq.specs.Circle.{named}
 use Rattle.lapd_frame.specs.Grammar.{Parts}
 use Rattle.lapd_link_machine.specs.declared.terms.Terms.{Terms}
-use Rattle.lapd_link_machine.specs.Events.{received, frame}
+use Rattle.lapd_link_machine.specs.Events.{Received, received, frame}
 use Rattle.lapd_link_machine.specs.Link.{Link}
 use Rattle.lapd_link_laws.specs.Following.{Follows}
 use Rattle.lapd_link_laws.specs.Owing.{Owes, IsBegunAgain}
@@ -23,6 +23,12 @@ lost_in (pulled value begun orders) = 0
 pub record IsLost (t : Terms) (before : Link) (answer : Answer) : Type 0 where
   pub full : t.control ≤ length before.waiting
   pub counted : 1 ≤ lost_in answer
+
+-- What is heard leaves of a link's state, its flags and what waits what the tables say, and as many frames are lost. So a
+-- frame that the grammar does not have, or that is too long, has a link in state 7 or 8 established anew by this side, and
+-- moves none in another state (clauses 5.7.1 and 5.8.5).
+abbrev pub IsFollowed : Terms → Received → Link → Link → Answer → Type 0
+IsFollowed t what before after answer = Follows t (received what) before after (lost_in answer)
 
 pub record IsHeeded (t : Terms) (f : Parts) (before after : Link) (answer : Answer) : Type 0 where
   -- In states 7 and 8 a supervisory command or an I-frame with P=1 and a valid N(R) is answered: exactly one frame more
@@ -42,4 +48,4 @@ pub record IsHeeded (t : Terms) (f : Parts) (before after : Link) (answer : Answ
       → named before.a before.s nr ≡ Some n → GoesBackTo n before after
   -- And what it leaves of the link's state, its flags and what waits, and how many frames are lost, is what follows: so which
   -- of RR, RNR and REJ answers a poll, that a gap is told by REJ, and that what waits stays (clauses 5.5 to 5.8).
-  pub follows : Follows t (received (frame f)) before after (lost_in answer)
+  pub follows : IsFollowed t (frame f) before after answer

@@ -7,15 +7,15 @@ use Rattle.lapd_frame.specs.Grammar.{Parts}
 use Rattle.lapd_link_machine.specs.Events as link
 use Rattle.lapd_line_machine.specs.declared.config.Config.{Config}
 use Rattle.lapd_line_machine.specs.Answer.{Event, octet}
-use Rattle.lapd_line_machine.specs.Line.{Line, fresh_line, link_count, link_in, terms, has_tei}
+use Rattle.lapd_line_machine.specs.Line.{Line, fresh_line, link_count, place_in, link_in, terms, has_tei}
 use Rattle.lapd_line_machine.specs.Machine.{after, answer}
 use Rattle.lapd_line_machine.specs.Sound.{IsInRange, IsSound}
 use Rattle.lapd_line_laws.specs.Share.{share_of, IsKept, asked_by}
 use Rattle.lapd_line_laws.specs.Loss.{IsTold}
 use Rattle.lapd_line_laws.specs.Pulls.{contents_of, IsServed, UnitsWait, TurnStays}
-use Rattle.lapd_line_laws.specs.Frames.{IsHeeded}
+use Rattle.lapd_line_laws.specs.Frames.{IsFollowed, IsHeeded}
 use Rattle.lapd_line_laws.specs.Requests.{LinkTakesEffect, ManagementTakesEffect}
-use Rattle.lapd_line_laws.specs.Steady.{Happens}
+use Rattle.lapd_line_laws.specs.Steady.{BringsMalformed, Happens}
 use Rattle.lapd_line_laws.specs.Expiries.{ExpiryTakesEffect}
 use Rattle.lapd_line_laws.specs.Heard.{Ends, EndsOverlong, EndsNothing, IsFor, IsTo, IsMalformed, IsTooLong, IsOneEvent, IsNoEvent, contents_in, due, IsNotedOnce, IsHeard}
 use Rattle.lapd_line_laws.specs.Begun.{says_begun, BeginsAs}
@@ -60,12 +60,15 @@ pub record HeardIsDelivered : Type 0 where
   pub heard : (c : Config) (e : Event) (l : Line) (contents : List ℕ) → IsInRange c → IsSound c l
       → contents_in (answer c e l) ≡ Some contents → IsHeard c l e (answer c e l) contents
 
--- A frame for a link is heeded: polls are answered, deliveries acknowledged, and what was rejected is sent again.
-abbrev pub FramesAreHeeded : Type 0
-FramesAreHeeded =
-    (c : Config) (l : Line) (value : ℕ) (service : Service) (tei place : ℕ) (parts : Parts) (octets : List ℕ) → IsSound c l
-    → Ends c l value octets → IsFor l service tei place parts octets
-    → IsHeeded (terms c service tei) parts (link_in l service place) (link_in (after c (octet value) l) service place) (answer c (octet value) l)
+-- A frame for a link is heeded: polls are answered, deliveries acknowledged, and what was rejected is sent again; and of one
+-- that the grammar does not have, or that is too long, follows what the tables say.
+pub record FramesAreHeeded : Type 0 where
+  pub frames : (c : Config) (l : Line) (value : ℕ) (service : Service) (tei place : ℕ) (parts : Parts) (octets : List ℕ) → IsSound c l
+      → Ends c l value octets → IsFor l service tei place parts octets
+      → IsHeeded (terms c service tei) parts (link_in l service place) (link_in (after c (octet value) l) service place) (answer c (octet value) l)
+  pub malformed : (c : Config) (e : Event) (l : Line) (service : Service) (tei place : ℕ) (what : link.Received) → IsSound c l
+      → BringsMalformed c l e service tei what → place_in l tei ≡ Some place
+      → IsFollowed (terms c service tei) what (link_in l service place) (link_in (after c e l) service place) (answer c e l)
 
 -- What a caller has to run is what it runs by obeying: so it is as a line begins, where it runs no timer, and each event
 -- keeps it so.

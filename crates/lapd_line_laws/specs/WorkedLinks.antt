@@ -4,13 +4,16 @@ use Rattle.lapd_bits.specs.Bits.{low_bits}
 use Rattle.lapd_frame.specs.declared.controls.Control.TheVariants.{ReceiveReady, ReceiveNotReady, Sabme, Ua}
 use Rattle.lapd_frame.specs.declared.services.Service.TheVariants.{Call}
 use Rattle.lapd_frame.specs.Reading.{reading, header_of, control_of, unnumbered_of, supervisory_of}
-use Rattle.lapd_link_machine.specs.declared.states.State.TheVariants.{AwaitingEstablishment}
+use Rattle.lapd_link_laws.specs.States.{state_after}
+use Rattle.lapd_link_laws.specs.Waiting.{waiting_left}
+use Rattle.lapd_link_machine.specs.declared.states.State.TheVariants.{TeiAssigned, AwaitingEstablishment}
 use Rattle.lapd_link_machine.specs.declared.timers.LinkTimer.TheVariants.{T200}
+use Rattle.lapd_link_machine.specs.Events.{received, undefined, overlong}
 use Rattle.lapd_link_machine.specs.Words.{command, response}
 use Rattle.lapd_seq.specs.Circle.{distance_of, named}
 use Rattle.lapd_seq.specs.Numbers.{seq}
 use Rattle.lapd_tei.specs.Events as teis
-use Rattle.lapd_line_machine.specs.Line.{Line, fresh_line, link_at}
+use Rattle.lapd_line_machine.specs.Line.{Line, fresh_line, link_at, terms}
 use Rattle.lapd_line_machine.specs.Machine.{after}
 use Rattle.lapd_line_machine.specs.Request.{Establish, Data, Assign, SetBusy}
 use Rattle.lapd_line_laws.specs.Worked.{usual, both_up, hears}
@@ -54,3 +57,22 @@ sent_counted = refl
 sent_again : (link_at 0 (hears (0x02 ∷ 0x81 ∷ 0x09 ∷ 0x00 ∷ []) one_sent)).s ≡ 0
 unfolding after seq distance_of named reading header_of control_of unnumbered_of supervisory_of teis.course teis.refusal low_bits pulled
 sent_again = refl
+
+-- A frame with an undefined control field comes for the call control link of TEI 64: by the tables, and on the line, SABME
+-- waits behind UA, and UA is awaited. An I-frame that is too long moves no link in state 4.
+undefined_waits : waiting_left (terms usual Call 64) (received undefined) (link_at 0 both_up) AwaitingEstablishment
+    ≡ response (Ua true) ∷ command (Sabme true) ∷ []
+unfolding seq distance_of named reading header_of control_of unnumbered_of supervisory_of teis.course teis.refusal
+undefined_waits = refl
+
+undefined_moves : state_after (terms usual Call 64) (received undefined) (link_at 0 both_up) ≡ AwaitingEstablishment
+unfolding seq distance_of named reading header_of control_of unnumbered_of supervisory_of teis.course teis.refusal
+undefined_moves = refl
+
+undefined_heard : (link_at 0 (hears (0x00 ∷ 0x81 ∷ 0x2F ∷ []) both_up)).waiting ≡ response (Ua true) ∷ command (Sabme true) ∷ []
+unfolding seq distance_of named reading header_of control_of unnumbered_of supervisory_of teis.course teis.refusal
+undefined_heard = refl
+
+none_moved : state_after (terms usual Call 64) (received overlong) (link_at 0 (asked (Assign 64) (fresh_line usual))) ≡ TeiAssigned
+unfolding teis.course teis.refusal
+none_moved = refl

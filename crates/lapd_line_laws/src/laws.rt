@@ -37,7 +37,8 @@ pub fn heard_is_delivered()
 /// the frame is told as lost, and no other frame puts a response with F=1 there. A delivery leaves its acknowledgement
 /// owed, or waiting, or told as lost, but where the I-frame's N(R) was invalid. And where the terminal rejects I-frames
 /// from number n on, contents number n are the next to be sent. And the state, the flags and what waits are what follows the
-/// frame (Q.921 clauses 5.5.1.2, 5.5.3.2, 5.6.2 to 5.6.7 and 5.8.1).
+/// frame, also one that the grammar does not have, or that is too long: in states 7 and 8 this side then establishes the link
+/// anew (Q.921 clauses 5.5.1.2, 5.5.3.2, 5.6.2 to 5.6.7, 5.7.1, 5.8.1 and 5.8.5).
 pub fn frames_are_heeded()
     ensures { FramesAreHeeded }
 {}

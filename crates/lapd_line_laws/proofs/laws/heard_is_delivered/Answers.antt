@@ -1,4 +1,5 @@
-use Rattle.lapd_line_laws.proofs.Hearing.{one-event, malformed-event, overlong-event, no-event, due-is, contents-heard}
+use Rattle.lapd_line_laws.proofs.Hearing.{one-event, malformed-event, overlong-event, no-event}
+use Rattle.lapd_line_laws.proofs.HandedOn.{due-is, contents-heard}
 use Rattle.lapd_line_laws.proofs.ToldOnce.{told-once}
 use Rattle.lapd_line_laws.proofs.laws.heard_is_delivered.Goals as goal
 

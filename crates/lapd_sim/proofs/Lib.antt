@@ -9,6 +9,7 @@ pub mod Eachs
 pub mod Ending
 pub mod Wholes
 pub mod Playing
+pub mod Paging
 pub mod Exchanges
 pub mod Refusing
 pub mod Waits

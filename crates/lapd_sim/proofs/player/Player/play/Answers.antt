@@ -5,7 +5,8 @@ use Rattle.lapd_sim.specs.Obeyed.{Does, said}
 use Rattle.lapd_sim.specs.Pages.{PutsSome}
 use Rattle.lapd_sim.specs.Plays.{PlaysOn}
 use Rattle.lapd_sim.specs.Stands.{Has}
-use Rattle.lapd_sim.proofs.Playing.{begins, ends, stops, stops_before, put_before, played_on, does_fail, does_ok, goes_on, over, next}
+use Rattle.lapd_sim.proofs.Paging.{played_on, put_before, stops_before}
+use Rattle.lapd_sim.proofs.Playing.{begins, ends, stops, does_fail, does_ok, goes_on, over, next}
 use Rattle.lapd_transcript.proofs.Known.{puts_nothing, puts_then}
 use Rattle.lapd_transcript.specs.Streams.{output}
 use Rattle.lapd_sim.proofs.player.Player.play.Goals as goal

@@ -1,0 +1,60 @@
+-- The page on its way, while a script is played.
+use Rattle.std.proofs.Common.{◌≡◌, ◌++◌, ◌∙◌, ℕ, List, [], fold, Bool, Option, Ok, Err, sym, ap, subst}
+use Rattle.std.proofs.lemmas.List.{append-nil}
+use Rattle.std.proofs.lemmas.Grind.{fold-append}
+use Rattle.lapd_transcript.specs.Streams.{Output, IsPut, IsStuck}
+use Rattle.lapd_transcript.proofs.Known.{puts_then, stuck_more}
+use Rattle.lapd_sim_machine.specs.Pieces.{pieces_of}
+use Rattle.lapd_sim_machine.specs.Script.{Played, played, one_more, not_begun, transcript}
+use Rattle.lapd_sim.specs.declared.bench.Bench.{Bench}
+use Rattle.lapd_sim.specs.declared.faults.PlayFault.{PlayFault}
+use Rattle.lapd_sim.specs.declared.faults.PlayFault.TheVariants.{Read, Write, Script, OutOfMemory}
+use Rattle.lapd_sim.specs.declared.lines.ScriptLines.{ScriptLines}
+use Rattle.lapd_sim.specs.Pages.{PutsNone, PutsSome, Reaches}
+use Rattle.lapd_sim.specs.ScriptLines.{AreLeft}
+use Rattle.lapd_sim.specs.Plays.{PlaysOn}
+use Rattle.lapd_sim.proofs.Playing.{IsPlayed, grows, stops_reading}
+
+-- the page has gone out
+abbrev pub played_on : (lines : ScriptLines) (bench : Option Bench) (remaining : Option (List ℕ)) (text : List ℕ) (a b c : Output) → IsPlayed lines bench remaining text a b → IsPut b c []
+    → IsPlayed lines bench remaining text a c
+played_on lines bench remaining text a b c p put = record {
+  done = p.done;
+  left = p.left;
+  is = p.is;
+  unread = p.unread;
+  number = p.number;
+  octets = p.octets;
+  sound = p.sound;
+  has = p.has;
+  written = subst (IsPut a c) (append-nil (played p.done).written) (puts_then (Ok tt) a b c (played p.done).written [] p.written put);
+  front = p.front;
+  joined = p.joined;
+  while_open = p.while_open;
+  before_more = p.before_more;
+}
+
+-- it could not
+stops_sending : (lines : ScriptLines) (bench : Option Bench) (remaining : Option (List ℕ)) (text : List ℕ) (a b c : Output) → IsPlayed lines bench remaining text a b → IsStuck b c [] → IsStuck a c (transcript text)
+stops_sending lines bench remaining text a b c p stuck =
+    let rest = grows (pieces_of p.left) (played p.done) in
+    let whole : transcript text ≡ (played p.done).written ++ rest.0 =
+    ap (λ pieces. (played pieces).written) p.is ∙ ap (λ q. Played.written q) (fold-append one_more not_begun p.done (pieces_of p.left)) ∙ rest.1 in
+    subst (IsStuck a c) (sym whole)
+    (stuck_more a c (played p.done).written rest.0
+    (subst (IsStuck a c) (append-nil (played p.done).written) (puts_then (Err (record {})) a b c (played p.done).written [] p.written stuck)))
+
+-- where there is no next line
+pub put_before : (fault : PlayFault) (a b c : Output) (text : List ℕ) → IsPut a b text → PutsNone {A = Bool} (Err fault) b c → PutsSome {A = Unit} (Err fault) a c
+put_before Read a b c text put h = (h.0, (text ++ [], puts_then (Ok tt) a b c text [] put h.1))
+put_before Write a b c text put h = (text ++ [], puts_then (Err (record {})) a b c text [] put h)
+put_before (Script number kind) a b c text put h = (text ++ [], puts_then (Ok tt) a b c text [] put h)
+put_before OutOfMemory a b c text put h = (text ++ [], puts_then (Ok tt) a b c text [] put h)
+
+pub stops_before : (fault : PlayFault) (lines new : ScriptLines) (bench : Option Bench) (remaining left : Option (List ℕ)) (text : List ℕ) (a b c : Output) (p : IsPlayed lines bench remaining text a b)
+    → PutsNone {A = Bool} (Err fault) b c → Reaches (Err fault) lines new left p.left → PlaysOn (Err fault) text left a c
+stops_before Read lines new bench remaining left text a b c p put h = stops_reading Read lines new bench remaining left text a c (played_on lines bench remaining text a b c p put.1) h
+stops_before Write lines new bench remaining left text a b c p put h = stops_sending lines bench remaining text a b c p put
+stops_before (Script number kind) lines new bench remaining left text a b c p put h =
+    stops_reading (Script number kind) lines new bench remaining left text a c (played_on lines bench remaining text a b c p put) h
+stops_before OutOfMemory lines new bench remaining left text a b c p put h = absurd h

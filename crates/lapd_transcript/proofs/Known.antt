@@ -67,6 +67,10 @@ pub puts_out : (r : Result Unit WriteFailed) (a b c : Taken) (page piece : List 
 puts_out (Ok u) a b c page piece h k = record { follows = λ later end more w. writes_then later a b end page (piece ++ more) h (writes_then later b c end piece more k w) }
 puts_out (Err e) a b c page piece h k = record { broken = λ more. writes_then (Err e) a b c page (piece ++ more) h (broken_more b c piece more k) }
 
+-- ... and the piece stands on the page after it
+pub puts_behind : (a b : Taken) (page piece : List ℕ) → IsWritten a b page → IsPut (output a page) (output b piece) piece
+puts_behind a b page piece h = record { follows = λ later end more w. writes_then later a b end page (piece ++ more) h w }
+
 pub puts_stuck : (a b : Taken) (page last piece : List ℕ) → IsBroken a b page → IsStuck (output a page) (output b last) piece
 puts_stuck a b page last piece h = record { broken = λ more. broken_more a b page (piece ++ more) h }
 

@@ -32,7 +32,8 @@ pub(crate) fn decimal(number: u64) -> Digits
     digits
 }
 
-/// Puts one piece.
+/// Puts one piece: behind what stands on the page, or on the page that is empty once that has gone out, so that no piece
+/// goes to the target alone that a page has room for.
 pub(crate) fn put<T: Target>(
     target: &mut T,
     page: &mut Page,
@@ -47,6 +48,9 @@ pub(crate) fn put<T: Target>(
         return Err(WriteFailed);
     }
     page.clear();
+    if page.try_extend_from_slice(piece).is_ok() {
+        return Ok(());
+    }
     target.write(piece)
 }
 

@@ -1,6 +1,6 @@
-use Rattle.std.proofs.Common.{ℕ, List, ap, sym, subst, ◌∙◌}
-use Rattle.lapd_transcript.specs.Streams.{IsWritten, IsBroken, Puts, output}
-use Rattle.lapd_transcript.proofs.Known.{puts_out, puts_stuck, err_gives}
+use Rattle.std.proofs.Common.{◌++◌, ℕ, List, ap, sym, subst, ◌∙◌}
+use Rattle.lapd_transcript.specs.Streams.{IsWritten, IsBroken, IsPut, Puts, output}
+use Rattle.lapd_transcript.proofs.Known.{puts_out, puts_behind, puts_stuck, ok_gives, err_gives}
 use Rattle.lapd_transcript.proofs.output.put.Goals as goal
 
 pub returns-in-Err : goal.returns-in-Err
@@ -9,9 +9,19 @@ returns-in-Err g c =
     puts_stuck (g.T.Target.taken c.args.target.now) (g.T.Target.taken c.write.new.self) c.args.page.now.items c.try_extend_from_slice.new.self.items c.args.piece.now
     (subst (λ (text : List ℕ). IsBroken (g.T.Target.taken c.args.target.now) (g.T.Target.taken c.write.new.self) text) same c.in-Err.ensures)
 
+-- the piece stands alone on the page
+pub returns-then-is_ok-2 : goal.returns-then-is_ok-2
+returns-then-is_ok-2 g c =
+    let same = c.as_slice.ensures.value ∙ ap (λ page. page.items) (err_gives c.try_extend_from_slice.result c.if-is_ok.ensures.value c.try_extend_from_slice.ensures.err) in
+    let alone = ok_gives c.try_extend_from_slice-2.result (sym c.if-is_ok-2.ensures.value) c.try_extend_from_slice-2.ensures.ok ∙ ap (λ page. page ++ c.args.piece.now) c.clear.ensures in
+    subst (λ (next : List ℕ). IsPut (output (g.T.Target.taken c.args.target.now) c.args.page.now.items) (output (g.T.Target.taken c.write.new.self) next) c.args.piece.now) (sym alone)
+    (puts_behind (g.T.Target.taken c.args.target.now) (g.T.Target.taken c.write.new.self) c.args.page.now.items c.args.piece.now
+    (subst (λ (text : List ℕ). IsWritten (g.T.Target.taken c.args.target.now) (g.T.Target.taken c.write.new.self) text) same c.in_default.ensures))
+
 pub returns : goal.returns
 returns g c =
     let same = c.as_slice.ensures.value ∙ ap (λ page. page.items) (err_gives c.try_extend_from_slice.result c.if-is_ok.ensures.value c.try_extend_from_slice.ensures.err) in
-    subst (λ (next : List ℕ). Puts c.write-2.result (output (g.T.Target.taken c.args.target.now) c.args.page.now.items) (output (g.T.Target.taken c.write-2.new.self) next) c.args.piece.now) (sym c.clear.ensures)
+    let empty = ap (λ page. page.items) (err_gives c.try_extend_from_slice-2.result c.if-is_ok-2.ensures.value c.try_extend_from_slice-2.ensures.err) ∙ c.clear.ensures in
+    subst (λ (next : List ℕ). Puts c.write-2.result (output (g.T.Target.taken c.args.target.now) c.args.page.now.items) (output (g.T.Target.taken c.write-2.new.self) next) c.args.piece.now) (sym empty)
     (puts_out c.write-2.result (g.T.Target.taken c.args.target.now) (g.T.Target.taken c.write.new.self) (g.T.Target.taken c.write-2.new.self) c.args.page.now.items c.args.piece.now
     (subst (λ (text : List ℕ). IsWritten (g.T.Target.taken c.args.target.now) (g.T.Target.taken c.write.new.self) text) same c.in_default.ensures) c.write-2.ensures)

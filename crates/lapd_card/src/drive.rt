@@ -13,7 +13,7 @@ ghost use Rattle.lapd_card_machine.specs.ByEvent.{ArePriced};
 ghost use Rattle.lapd_card_machine.specs.Drops.{AreDropsWithoutCost, AreDropsWithoutEffect};
 ghost use Rattle.lapd_card_machine.specs.Laws.{RefusedByTheTable, RunIsMoments};
 ghost use Rattle.lapd_card_machine.specs.Promises.{IsWithinLimit, IsAmortised, IsAmortisedFromZero, HasSixOctetsAFrame, HasSevenOctetsAReject, IsLinear, IsIsolated, IsNeverFull, IsNumbered, IsNumberedFromZero, IsTextual};
-ghost use Rattle.lapd_card_laws.specs.Promises.{IsKept, IsCountedIn, BeginsEmpty, IsServedIn, UnitsWaitAll, TurnsStay, AreHeeded, TakeEffect, ExpiriesTakeEffectIn, AreSteady, IsDelivered, RunsWhatIsNeeded, NeedsNone};
+ghost use Rattle.lapd_card_laws.specs.Promises.{IsKept, IsCountedIn, BeginsEmpty, IsServedIn, UnitsWaitAll, TurnsStay, AreHeeded, TakeEffect, ExpiriesTakeEffectIn, AreSteady, IsDelivered, RunsWhatIsNeeded, NeedsNone, TimersAreLeft};
 ghost use Rattle.lapd_card_laws.specs.Promises.{AreReceived, BeginsUnheard};
 ghost use Rattle.lapd_card_laws.specs.Promises.{NotesTell, TeisAreTold, BeginsDown, TeisHaveOnePlace, BegunIsTold};
 ghost use Rattle.lapd_card_laws.specs.Promises.{MessagesHaveCauses, ToldTeisAreThere, NotesHaveReasons};
@@ -112,6 +112,9 @@ impl<S: Shelf> Card<S> {
     ///   of an I-frame in sequence, in state 7 or 8 with own busy off, and of a UI, of at most N201 octets, that an octet
     ///   ends: its information, with one note of data, or of unit data, of the service and the TEI that it spells; and no
     ///   such note else (clauses 2.2 to 2.7, 3.6.1, 5.2.3, 5.6.2, 5.6.6 and 5.8.5).
+    /// - `pulls_leave_timers`: in every moment a pull orders nothing, or it begins an I-frame of a link on its line whose
+    ///   T200 does not run: then it starts this T200, and stops the link's T203 where it runs. So no pull starts a timer
+    ///   anew that runs, and puts off its expiry (clause 5.6.1).
     ///
     /// The rest holds after every front of the list, so after each event, and also where the sink failed on the way:
     ///
@@ -221,6 +224,8 @@ impl<S: Shelf> Card<S> {
             → ToldTeisAreThere m (events_of events.now) }
         ensures notes_have_reasons { (m : machine.Card) → Stands S.store self.old m
             → NotesHaveReasons m (events_of events.now) }
+        ensures pulls_leave_timers { (m : machine.Card) → Stands S.store self.old m
+            → TimersAreLeft m (events_of events.now) }
         ensures heard_is_delivered { (m : machine.Card) → Stands S.store self.old m → IsDelivered m (events_of events.now) }
 
         // After every front of the list, from every card or, where it says `fresh`, from one that has just begun.

@@ -5,6 +5,7 @@ pub mod Hearing
 pub mod Receiving
 pub mod Heeding
 pub mod TimersRun
+pub mod Restarting
 pub mod Granting
 pub mod Happening
 pub mod Watching

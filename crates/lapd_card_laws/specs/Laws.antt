@@ -6,7 +6,7 @@ use Rattle.lapd_card_machine.specs.Event.{Event}
 use Rattle.lapd_card_machine.specs.Machine.{after}
 use Rattle.lapd_card_machine.specs.Run.{IsAtLine, AreAtLines}
 use Rattle.lapd_card_machine.specs.Sound.{IsSound}
-use Rattle.lapd_card_laws.specs.Promises.{IsKept, IsCountedIn, BeginsEmpty, IsServedIn, UnitsWaitAll, TurnsStay, AreHeeded, TakeEffect, ExpiriesTakeEffectIn, AreSteady, IsDelivered, AreReceived, BeginsUnheard, RunsWhatIsNeeded, NeedsNone, NotesTell, TeisAreTold, BeginsDown, TeisHaveOnePlace, BegunIsTold, MessagesHaveCauses, ToldTeisAreThere, NotesHaveReasons}
+use Rattle.lapd_card_laws.specs.Promises.{IsKept, IsCountedIn, BeginsEmpty, IsServedIn, UnitsWaitAll, TurnsStay, AreHeeded, TakeEffect, ExpiriesTakeEffectIn, AreSteady, IsDelivered, AreReceived, BeginsUnheard, RunsWhatIsNeeded, NeedsNone, TimersAreLeft, NotesTell, TeisAreTold, BeginsDown, TeisHaveOnePlace, BegunIsTold, MessagesHaveCauses, ToldTeisAreThere, NotesHaveReasons}
 use Rattle.lapd_card_laws.specs.Timers.{AllHaveTheirTimers}
 
 pub record NothingIsLost : Type 0 where
@@ -32,6 +32,9 @@ pub record TimersFollow : Type 0 where
   pub none : (c : Config) → NeedsNone c
   pub begins : (c : Config) → AllHaveTheirTimers (fresh c)
   pub stays : (card : Card) (e : Event) → IsSound card → AllHaveTheirTimers card → IsAtLine card e → AllHaveTheirTimers (after e card)
+
+abbrev pub PullsLeaveTimers : Type 0
+PullsLeaveTimers = (card : Card) (events : List Event) → IsSound card → AreAtLines card events → TimersAreLeft card events
 
 abbrev pub RequestsTakeEffect : Type 0
 RequestsTakeEffect = (card : Card) (events : List Event) → IsSound card → AreAtLines card events → TakeEffect card events

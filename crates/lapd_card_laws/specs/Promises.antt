@@ -20,7 +20,7 @@ use Rattle.lapd_card_laws.specs.Begun.{IsBegunIn}
 use Rattle.lapd_card_laws.specs.Knowledge.{up_by_notes, on_by_notes}
 use Rattle.lapd_card_laws.specs.Messages.{HaveCausesIn, AreThereIn, HaveReasonsIn}
 use Rattle.lapd_card_laws.specs.Received.{octets_at}
-use Rattle.lapd_card_laws.specs.Timers.{runs_at_callers}
+use Rattle.lapd_card_laws.specs.Timers.{runs_at_callers, LeavesTimersIn}
 
 -- In every moment nothing that was accepted is lost silently.
 abbrev pub IsKept : Card → List Event → Type 0
@@ -131,3 +131,7 @@ ToldTeisAreThere m events = All AreThereIn (moments m events)
 -- In every moment what is noted of TEIs has its reason.
 abbrev pub NotesHaveReasons : Card → List Event → Type 0
 NotesHaveReasons m events = All HaveReasonsIn (moments m events)
+
+-- In every moment a pull starts no timer anew that runs.
+abbrev pub TimersAreLeft : Card → List Event → Type 0
+TimersAreLeft m events = All LeavesTimersIn (moments m events)

@@ -1,9 +1,10 @@
 -- The timers that run at a caller's that obeys the orders, over whole runs.
 use Rattle.std.specs.Prelude.{◌<◌, ℕ, ◌==◌, Bool, List, fold, if◌then◌else◌}
 use Rattle.lapd_frame.specs.declared.timers.Timer.{Timer}
-use Rattle.lapd_line_laws.specs.Timers.{runs_then, HaveTheirTimers}
+use Rattle.lapd_line_laws.specs.Timers.{runs_then, HaveTheirTimers, LeavesTimers}
 use Rattle.lapd_card_machine.specs.Card.{Card, line_at}
 use Rattle.lapd_card_machine.specs.Run.{Moment}
+use Rattle.lapd_card_laws.specs.Contents.{line_before, line_after}
 
 -- Whether a timer of a line runs at a caller's, from moment to moment: by the events at that line and the answers to them,
 -- and by nothing else.
@@ -16,3 +17,7 @@ runs_at_callers line timer running ms = fold (one_more line timer) running ms
 -- Each link of the card runs the timer that it needs.
 pub record AllHaveTheirTimers (card : Card) : Type 0 where
   pub lines : (line : ℕ) → line < card.config.lines → HaveTheirTimers (line_at line card)
+
+-- A pull leaves the timers that run.
+abbrev pub LeavesTimersIn : Moment → Type 0
+LeavesTimersIn m = LeavesTimers m.card.config m.event.what (line_before m) (line_after m) m.answer

@@ -24,4 +24,4 @@ pub use laws::{
 };
 pub use management::messages_have_causes;
 pub use notes::{begun_is_true, notes_tell};
-pub use timers::timers_follow;
+pub use timers::{pulls_leave_timers, timers_follow};

@@ -14,6 +14,7 @@ pub mod LinkMoves
 pub mod Obeyed
 pub mod Following
 pub mod TimersFollow
+pub mod Restarting
 pub mod Granting
 pub mod Managing
 pub mod Tied

@@ -22,7 +22,7 @@ use Rattle.lapd_line_laws.specs.Begun.{says_begun, BeginsAs}
 use Rattle.lapd_line_laws.specs.Causes.{HaveCauses, AreThere}
 use Rattle.lapd_line_laws.specs.Reasons.{HaveReasons}
 use Rattle.lapd_line_laws.specs.Knowledge.{is_up_of, taken_for_up, taken_for_on}
-use Rattle.lapd_line_laws.specs.Timers.{is_needed, runs_then, HaveTheirTimers}
+use Rattle.lapd_line_laws.specs.Timers.{is_needed, runs_then, HaveTheirTimers, LeavesTimers}
 
 -- What each link keeps after an event is what the event leaves of what it kept; the event accepts exactly the contents
 -- of a data request for this link that was granted; and where all that was kept goes, layer 3 learns it.
@@ -78,6 +78,10 @@ pub record TimersFollow : Type 0 where
   pub timely : (c : Config) (e : Event) (l : Line) → IsInRange c → IsSound c l → HaveTheirTimers l → HaveTheirTimers (after c e l)
   pub followed : (c : Config) (e : Event) (l : Line) (timer : Timer) → IsInRange c → IsSound c l → HaveTheirTimers l
       → runs_then timer (is_needed timer l) e (answer c e l) ≡ is_needed timer (after c e l)
+
+-- A pull leaves the timers that run.
+abbrev pub PullsLeaveTimers : Type 0
+PullsLeaveTimers = (c : Config) (e : Event) (l : Line) → IsSound c l → LeavesTimers c e l (after c e l) (answer c e l)
 
 -- A request that is granted takes effect, at its link or in TEI management.
 pub record RequestsTakeEffect : Type 0 where

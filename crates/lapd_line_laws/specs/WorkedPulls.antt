@@ -2,12 +2,16 @@
 use Rattle.std.specs.Prelude.{◌≡◌, ℕ, zero, suc, List, [], ◌∷◌, Option, Some, None, option_map, refl}
 use Rattle.lapd_bits.specs.Bits.{low_bits}
 use Rattle.lapd_frame.specs.declared.services.Service.TheVariants.{Call, Packet}
+use Rattle.lapd_frame.specs.declared.timers.Order.{Order}
+use Rattle.lapd_frame.specs.declared.timers.Order.TheVariants.{Start, Stop}
+use Rattle.lapd_frame.specs.declared.timers.Timer.TheVariants.{T200, T203}
 use Rattle.lapd_frame.specs.Reading.{reading, header_of, control_of, unnumbered_of}
 use Rattle.lapd_seq.specs.Numbers.{seq}
 use Rattle.lapd_tei.specs.Events as teis
 use Rattle.lapd_line_machine.specs.Answer.{pull}
+use Rattle.lapd_line_machine.specs.Laws.{orders_in}
 use Rattle.lapd_line_machine.specs.Line.{Line, fresh_line}
-use Rattle.lapd_line_machine.specs.Machine.{of_request, after}
+use Rattle.lapd_line_machine.specs.Machine.{of_request, after, answer}
 use Rattle.lapd_line_machine.specs.Pull.{Taken, begun}
 use Rattle.lapd_line_machine.specs.Request.{Request, Assign, Data, Unit, Check}
 use Rattle.lapd_line_laws.specs.Worked.{usual, both_up, hears}
@@ -62,3 +66,18 @@ packet_follows = refl
 contents_follow : frame_begun (asked (Data Call 64 (0x41 ∷ [])) (pulled 13 both_up)) ≡ Some (0x02 ∷ 0x81 ∷ 0x00 ∷ 0x00 ∷ 0x41 ∷ [])
 unfolding after seq reading header_of control_of unnumbered_of teis.course teis.refusal low_bits pulled
 contents_follow = refl
+
+-- The pull that begins it starts T200 of this link, and stops its T203; the next octet of it leaves T200 as it runs.
+abbrev ordered : Line → List Order
+ordered l = orders_in (answer usual pull l)
+
+abbrev with_contents : Line
+with_contents = asked (Data Call 64 (0x41 ∷ [])) (pulled 13 both_up)
+
+t200_started : ordered with_contents ≡ Start (T200 Call 64) ∷ Stop (T203 Call 64) ∷ []
+unfolding after answer seq reading header_of control_of unnumbered_of teis.course teis.refusal low_bits pulled
+t200_started = refl
+
+t200_left : ordered (pulled 1 with_contents) ≡ []
+unfolding after answer seq reading header_of control_of unnumbered_of teis.course teis.refusal low_bits pulled
+t200_left = refl

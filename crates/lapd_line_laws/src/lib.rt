@@ -4,7 +4,7 @@
 //! The machine itself, and the laws that say what a line never does, stand in `lapd_line_machine`; the laws of a single
 //! link in `lapd_link_laws`. `specs/` has the words of these laws: what an event is to the contents of one link
 //! (`Share`), how layer 3 learns that a link keeps nothing (`Loss`), what a pull begins (`Pulls`), what an octet brings
-//! (`Heard`), what a frame makes of its link (`Frames`), which timers are needed and which a caller runs (`Timers`),
+//! (`Heard`), what a frame makes of its link (`Frames`), which timers are needed, run and started (`Timers`),
 //! what comes of a request that is granted (`Requests`), what an event may change of a link (`Steady`), what notes tell
 //! (`Knowledge`), which frames pulls begin (`Begun`), what TEI management does, row by row (`Messages`), and which event is
 //! the cause (`Causes`) and the reason of a note (`Reasons`), the laws (`Laws`), and worked values (`Worked`, `WorkedPulls`, `WorkedHeard`, `WorkedLinks`,
@@ -24,4 +24,4 @@ pub use laws::{
 };
 pub use management::messages_have_causes;
 pub use notes::{begun_is_true, notes_tell};
-pub use timers::timers_follow;
+pub use timers::{pulls_leave_timers, timers_follow};

@@ -14,6 +14,7 @@ pub mod GoingBack
 pub mod Owing
 pub mod Beginning
 pub mod InOrder
+pub mod Starting
 pub mod Ordinary
 pub mod Steady
 pub mod Effects

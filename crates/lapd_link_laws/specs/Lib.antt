@@ -7,6 +7,7 @@ pub mod Ends
 pub mod Sending
 pub mod Owing
 pub mod InOrder
+pub mod Starting
 pub mod Steady
 pub mod Effects
 pub mod Expiries

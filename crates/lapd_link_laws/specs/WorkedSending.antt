@@ -1,12 +1,16 @@
 -- Worked values: a terminal that is busy, one that rejects, and deliveries.
-use Rattle.std.specs.Prelude.{◌≡◌, true, false, [], ◌∷◌, refl}
+use Rattle.std.specs.Prelude.{◌≡◌, true, false, List, [], ◌∷◌, refl}
 use Rattle.lapd_seq.specs.Numbers.{seq}
 use Rattle.lapd_seq.specs.Circle.{distance_of, named}
+use Rattle.lapd_frame.specs.declared.services.Service.TheVariants.{Call}
+use Rattle.lapd_frame.specs.declared.timers.Order.{Order}
+use Rattle.lapd_frame.specs.declared.timers.Order.TheVariants.{Start, Stop}
+use Rattle.lapd_frame.specs.declared.timers.Timer.TheVariants.{T200, T203}
 use Rattle.lapd_frame.specs.Reading.{supervisory_of, unnumbered_of, control_of, header_of, reading}
 use Rattle.lapd_link_machine.specs.declared.states.State.TheVariants.{AwaitingEstablishment}
 use Rattle.lapd_link_machine.specs.Link.{Link}
 use Rattle.lapd_link_machine.specs.Events.{Data, offer}
-use Rattle.lapd_link_machine.specs.Machine.{after, after_all}
+use Rattle.lapd_link_machine.specs.Machine.{after, after_all, told}
 use Rattle.lapd_link_machine.specs.Worked.{usual, comes, ask, up}
 use Rattle.lapd_link_laws.specs.Sending.{i_frames_offered}
 
@@ -46,3 +50,20 @@ delivered_last_state : (after usual (comes (0x00 ∷ 0x81 ∷ 0x00 ∷ 0x02 ∷ 
     ≡ AwaitingEstablishment
 unfolding seq distance_of named reading header_of control_of unnumbered_of supervisory_of after_all
 delivered_last_state = refl
+
+-- Two contents are accepted: the first I-frame starts T200, and stops T203; the second leaves T200 as it runs.
+abbrev ordered : Link → List Order
+ordered l = (told usual offer l).orders
+
+abbrev two_given : Link
+two_given = after_all usual (ask (Data (1 ∷ [])) ∷ ask (Data (2 ∷ [])) ∷ []) up
+
+first_starts : ordered two_given
+    ≡ Start (T200 Call 64) ∷ Stop (T203 Call 64) ∷ []
+unfolding seq distance_of named reading header_of control_of unnumbered_of supervisory_of after_all
+first_starts = refl
+
+second_leaves : ordered (after usual offer two_given)
+    ≡ []
+unfolding seq distance_of named reading header_of control_of unnumbered_of supervisory_of after_all
+second_leaves = refl

@@ -3,7 +3,7 @@
 //!
 //! The machine itself, and the laws that say what a link never does, stand in `lapd_link_machine`. `specs/` has the words
 //! of these laws: what an event accepts, acknowledges and empties (`Accepted`), what was accepted since the numbers
-//! began (`History`), what an offer gives (`Offered`), what a frame that is heard brings (`Heard`), what two links that
+//! began (`History`), what an offer gives (`Offered`) and which timers it starts (`Starting`), what a frame that is heard brings (`Heard`), what two links that
 //! face each other have accepted (`Ends`), when an I-frame goes and from where it goes again (`Sending`), what follows a
 //! delivery (`Owing`), what is told where the numbers begin anew (`Beginning`), to which state an event leads (`States`),
 //! which frames it puts behind those that wait (`Waiting`), what it leaves of the flags (`Flags`), all of these together
@@ -24,5 +24,6 @@ pub use laws::{
 };
 pub use sending::{
     beginnings_are_told, busy_is_left_alone, deliveries_are_acknowledged, expiries_take_effect,
-    rejected_is_sent_again, requests_take_effect, sent_in_order, steady_unless_seen,
+    offers_leave_timers, rejected_is_sent_again, requests_take_effect, sent_in_order,
+    steady_unless_seen,
 };

@@ -15,6 +15,7 @@ ghost use Rattle.lapd_link_laws.specs.Sending.{MayGo, asked_from, GoesBackTo, of
 ghost use Rattle.lapd_link_laws.specs.Beginning.{IsSeen};
 ghost use Rattle.lapd_link_laws.specs.Owing.{Owes, IsBegunAgain};
 ghost use Rattle.lapd_link_laws.specs.InOrder.{IsInOrder};
+ghost use Rattle.lapd_link_laws.specs.Starting.{LeavesTimers};
 ghost use Rattle.lapd_link_laws.specs.Steady.{MovesSent, MovesBusy, MayLose};
 ghost use Rattle.lapd_link_laws.specs.Effects.{TakesEffect};
 ghost use Rattle.lapd_link_laws.specs.Expiries.{Expires};
@@ -35,6 +36,13 @@ pub fn busy_is_left_alone()
 /// 5.6.2 and 5.6.3.1, and the profile).
 pub fn sent_in_order()
     ensures in_order { (t : Terms) (l : Link) → IsSound t l → IfSome (given t l) (λ g. IsInOrder t l (after t offer l) g.frame) }
+{}
+
+/// Offers leave the timers that run. An offer orders a timer only where it gives an I-frame while T200 does not run: then
+/// T200 is started, and T203 stopped where it runs. So no offer starts a timer anew that runs, and puts off its expiry (Q.921
+/// clause 5.6.1).
+pub fn offers_leave_timers()
+    ensures left { (t : Terms) (l : Link) → IfSome (given t l) (λ g. LeavesTimers t l (after t offer l) g.orders) }
 {}
 
 /// What a terminal rejects is sent again. After REJ in state 7, and after a response with F=1 in state 8, whose valid

@@ -16,7 +16,7 @@ use Rattle.lapd_card_machine.proofs.Refusals.{refused_by_the_table}
 use Rattle.lapd_card_machine.proofs.ByEvent.{frames_by_event}
 use Rattle.lapd_card_machine.proofs.Drops.{drops_cost_nothing, drops_change_nothing}
 use Rattle.lapd_card_machine.specs.Promises.{IsWithinLimit, IsAmortised, IsAmortisedFromZero, HasSixOctetsAFrame, HasSevenOctetsAReject, IsLinear, IsIsolated, IsNeverFull, IsNumbered, IsNumberedFromZero, IsTextual}
-use Rattle.lapd_card_laws.specs.Promises.{IsKept, IsCountedIn, IsServedIn, UnitsWaitAll, TurnsStay, AreHeeded, TakeEffect, ExpiriesTakeEffectIn, AreSteady, IsDelivered, AreReceived, RunsWhatIsNeeded, NotesTell, TeisAreTold, TeisHaveOnePlace, BegunIsTold, MessagesHaveCauses, ToldTeisAreThere, NotesHaveReasons}
+use Rattle.lapd_card_laws.specs.Promises.{IsKept, IsCountedIn, IsServedIn, UnitsWaitAll, TurnsStay, AreHeeded, TakeEffect, ExpiriesTakeEffectIn, AreSteady, IsDelivered, AreReceived, RunsWhatIsNeeded, TimersAreLeft, NotesTell, TeisAreTold, TeisHaveOnePlace, BegunIsTold, MessagesHaveCauses, ToldTeisAreThere, NotesHaveReasons}
 use Rattle.lapd_card_laws.proofs.Keeping.{kept, run-counted, begins-empty}
 use Rattle.lapd_card_laws.proofs.Serving.{served-in, units-all, turns-stay}
 use Rattle.lapd_card_laws.proofs.Hearing.{heard-all}
@@ -28,6 +28,7 @@ use Rattle.lapd_card_laws.proofs.Beginning.{begun-told}
 use Rattle.lapd_card_laws.proofs.Causing.{caused-all, there-all, reasons-all}
 use Rattle.lapd_card_laws.proofs.Knowing.{up-known, on-known, down-at-first, one-place}
 use Rattle.lapd_card_laws.proofs.TimersRun.{needed-run, needs-none}
+use Rattle.lapd_card_laws.proofs.Restarting.{leaves-all}
 use Rattle.lapd_card_progress.specs.Promises.{AnswersAreBegun, PullsComeToAnEnd, FewAreToGo}
 use Rattle.lapd_card_progress.proofs.Wherever.{answers-begun, come-to-an-end, few-to-go, begins-with-few}
 use Rattle.lapd_card.proofs.Headline.{whole_list, each_front, timely_front, fresh_front}
@@ -312,3 +313,9 @@ returns-then-is_err-clause-received g c = λ m count. each_front g.S.Shelf.store
 
 pub returns-then-is_err-clause-begins_unheard : goal.returns-then-is_err-clause-begins_unheard
 returns-then-is_err-clause-begins_unheard g c = begins-unheard c.args.self.now.config
+
+pub returns-clause-pulls_leave_timers : goal.returns-clause-pulls_leave_timers
+returns-clause-pulls_leave_timers g c = λ m. whole_list g.S.Shelf.store c.args.self.now c.args.events.now c.requires TimersAreLeft leaves-all m
+
+pub returns-then-is_err-clause-pulls_leave_timers : goal.returns-then-is_err-clause-pulls_leave_timers
+returns-then-is_err-clause-pulls_leave_timers g c = λ m. whole_list g.S.Shelf.store c.args.self.now c.args.events.now c.requires TimersAreLeft leaves-all m

@@ -11,6 +11,8 @@ WORKED = re.compile(
     r"^(?:pub )?(\S+) :(?:.*\n)(?:[ \t].*\n)*(?:unfolding .*\n)?\1 = (?:refl|record \{\n(?:[ \t].*\n)*\})\n",
     re.MULTILINE,
 )
+# What a file of worked values has beside them: imports and definitions.
+DEFINES = re.compile(r"(?:--.*\n)*(?:use|abbrev|unfoldable) ")
 # A plain type, and what it is named.
 TYPE = re.compile(r"^#\[derive\(Clone, Copy.*\npub(?:\(crate\))? (?:struct|enum) .*\{\n(?:.+\n|\n)*?\}\n", re.MULTILINE)
 NAME = re.compile(r"^pub (?:struct|enum) (\w+)", re.MULTILINE)
@@ -48,7 +50,10 @@ def strip(folder, crate):
             os.remove(f"{folder}/specs/{file}")
             lib = lib.replace(f"pub mod {file.removesuffix('.antt')}\n", "")
         else:
-            write(f"{folder}/specs/{file}", WORKED.sub("", text))
+            parts = WORKED.sub("", text).split("\n\n")
+            is_worked = file.startswith("Worked")
+            kept = [it for it in parts if not is_worked or DEFINES.match(it.lstrip("\n"))]
+            write(f"{folder}/specs/{file}", "\n\n".join(kept).rstrip("\n") + "\n")
             named |= set(re.findall(rf"{crate}\.specs\.declared\.(\w+)", text))
     write(f"{folder}/specs/Lib.antt", lib)
     texts = {it: types_of(read(f"{folder}/src/{it}.rt")) for it in sorted(named)}

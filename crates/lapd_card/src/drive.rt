@@ -16,7 +16,7 @@ ghost use Rattle.lapd_card_machine.specs.Promises.{IsWithinLimit, IsAmortised, I
 ghost use Rattle.lapd_card_laws.specs.Promises.{IsKept, IsCountedIn, BeginsEmpty, IsServedIn, UnitsWaitAll, TurnsStay, AreHeeded, TakeEffect, ExpiriesTakeEffectIn, AreSteady, IsDelivered, RunsWhatIsNeeded, NeedsNone, TimersAreLeft};
 ghost use Rattle.lapd_card_laws.specs.Promises.{AreReceived, BeginsUnheard};
 ghost use Rattle.lapd_card_laws.specs.Promises.{NotesTell, TeisAreTold, BeginsDown, TeisHaveOnePlace, BegunIsTold};
-ghost use Rattle.lapd_card_laws.specs.Promises.{MessagesHaveCauses, ToldTeisAreThere, NotesHaveReasons};
+ghost use Rattle.lapd_card_laws.specs.Promises.{MessagesHaveCauses, ToldTeisAreThere, NotesHaveReasons, NothingElseIsNoted};
 ghost use Rattle.lapd_card_progress.specs.Promises.{AnswersAreBegun, PullsComeToAnEnd, FewAreToGo, BeginsWithFew};
 ghost use Rattle.lapd_card.specs.Sink.{one_failure_more};
 ghost use Rattle.lapd_card.specs.Stands.{Stands, Leads};
@@ -64,9 +64,10 @@ impl<S: Shelf> Card<S> {
     ///   N(R) = V(R)), SABME or DISC (UA or DM, as the state has it, with F = P), or the answer counts it as lost, since as
     ///   many waited as may; no other frame puts a response with F=1 there. A delivery leaves its acknowledgement owed, or
     ///   waiting, or counted as lost, but where the I-frame's N(R) was invalid. Where the terminal rejects I-frames from
-    ///   number n on, contents number n are the next to be sent. And what the frame leaves follows, as `links_are_steady` says,
-    ///   also of one that the grammar does not have, or that is too long: in states 7 and 8 this side then establishes the
-    ///   link anew, and in others it stays as it is (clauses 5.5.1.2, 5.5.3.2, 5.6.2 to 5.6.7, 5.7.1, 5.8.1 and 5.8.5).
+    ///   number n on, contents number n are the next to be sent. And what the frame leaves, and what it tells, follows, as
+    ///   `links_are_steady` says, also of one that the grammar does not have, or that is too long: in states 7 and 8 this
+    ///   side then establishes the link anew, and in others it stays as it is (clauses 5.2.3, 5.5.1.2, 5.5.3.2, 5.6.2 to
+    ///   5.6.7, 5.7.1, 5.8.1, 5.8.5 and 5.8.7).
     /// - `requests_take_effect`: in every moment a request that is granted takes effect: for an establishment SABME with P=1
     ///   waits, and for a release DISC with P=1, and the link awaits UA with T200 running, or the release of a link that is
     ///   down is confirmed at once; contents are kept behind what the link keeps, and nothing is told; own busy is on, or
@@ -88,7 +89,9 @@ impl<S: Shelf> Card<S> {
     ///   or an enquiry where the link comes to await its answer, and at each expiry of T200), as far as there is room, and
     ///   what finds none is counted as lost; the terminal is taken for busy by RNR, and for free by RR and REJ; an
     ///   acknowledgement is owed until a frame with N(R) is put, or begun, or the link leaves states 7 and 8; and the numbers
-    ///   begin anew by SABME that leads to state 7, by UA with F=1 in state 5, and by nothing else (clauses 5.5 to 5.8).
+    ///   begin anew by SABME that leads to state 7, by UA with F=1 in state 5, and by nothing else; and the answer tells
+    ///   exactly what the table of notes has for the event: establishments and releases, each by an indication or a confirm,
+    ///   data, unit data and XID, and errors by their codes (clauses 5.2.3 and 5.5 to 5.8, appendix II).
     /// - `begun_is_told`: in every moment the reply says that a pull began a frame exactly where it did: the frame stands
     ///   behind what was on the line, and the octet pulled has its first bit (clause 2.2).
     /// - `messages_have_causes`: in every moment a message of TEI management comes to wait, behind those that wait, exactly
@@ -105,6 +108,11 @@ impl<S: Shelf> Card<S> {
     /// - `notes_have_reasons`: in every moment a note that a TEI was assigned is told only of an identity request, one that
     ///   it was removed only of the expiry of T201, and one that two terminals have it only of an answer to its check
     ///   (clauses 5.3.2, 5.3.3.2 and 5.3.4).
+    /// - `nothing_else_is_noted`: in every moment all notes of the answer are those of one event of a link of a TEI on the
+    ///   line, as the table of notes has them; or a TEI comes to the line, and they say so, if a terminal asked for it; or
+    ///   one leaves it, and they say that two terminals have it, or that none answered, unless management took it off, and
+    ///   behind that what its two links tell as they end; or no TEI comes or leaves, and there are none (clauses 5.2.3,
+    ///   5.3.2 to 5.3.4 and 5.5 to 5.8).
     /// - `heard_is_delivered`: in every moment an octet that ends a frame with the SAPI of a service and a TEI on the line
     ///   is an event of that link and of no other, also where the grammar does not have the frame, or it is too long; one
     ///   that ends nothing changes nothing but what was received. An octet ends a frame where, in the bits of all octets
@@ -226,6 +234,8 @@ impl<S: Shelf> Card<S> {
             → NotesHaveReasons m (events_of events.now) }
         ensures pulls_leave_timers { (m : machine.Card) → Stands S.store self.old m
             → TimersAreLeft m (events_of events.now) }
+        ensures nothing_else_is_noted { (m : machine.Card) → Stands S.store self.old m
+            → NothingElseIsNoted m (events_of events.now) }
         ensures heard_is_delivered { (m : machine.Card) → Stands S.store self.old m → IsDelivered m (events_of events.now) }
 
         // After every front of the list, from every card or, where it says `fresh`, from one that has just begun.

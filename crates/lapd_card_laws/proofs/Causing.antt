@@ -1,5 +1,5 @@
--- Why messages of TEI management come to wait: over runs of a card.
-use Rattle.std.proofs.Common.{◌≡◌, List, true, get_or, sym, ap, ◌∙◌, subst, arith, true≢false, refl, inl}
+-- Why messages of TEI management come to wait, and what is noted: over runs of a card.
+use Rattle.std.proofs.Common.{◌≡◌, List, true, get_or, sym, ap, ◌∙◌, subst, arith, true≢false, refl, inl, inr}
 use Rattle.std.proofs.lemmas.Bool.{and_parts}
 use Rattle.std.proofs.lemmas.List.{get_or-set_same}
 use Rattle.std.proofs.lemmas.List.Elements.{All-nil}
@@ -12,6 +12,8 @@ use Rattle.lapd_line_laws.specs.Causes.{HaveCauses}
 use Rattle.lapd_line_laws.proofs.Causing.{have-causes}
 use Rattle.lapd_line_laws.specs.Reasons.{HasReason, HaveReasons}
 use Rattle.lapd_line_laws.proofs.Reasoning.{have-reasons}
+use Rattle.lapd_line_laws.specs.Noted.{NotesItsOwn}
+use Rattle.lapd_line_laws.proofs.Noted.{notes-its-own}
 use Rattle.lapd_line_laws.proofs.Telling.{told-there}
 use Rattle.lapd_card_machine.specs.Event.{Event}
 use Rattle.lapd_card_machine.specs.Card.{Card, line_at, is_full}
@@ -20,8 +22,8 @@ use Rattle.lapd_card_machine.specs.Run.{IsAtLine, AreAtLines}
 use Rattle.lapd_card_machine.specs.Sound.{IsSound}
 use Rattle.lapd_card_machine.proofs.EachMoment.{moment_of, each_moment}
 use Rattle.lapd_card_machine.proofs.Steps.{has_lines, by_room, line_sound}
-use Rattle.lapd_card_laws.specs.Messages.{HaveCausesIn, AreThereIn, HaveReasonsIn}
-use Rattle.lapd_card_laws.specs.Promises.{MessagesHaveCauses, ToldTeisAreThere, NotesHaveReasons}
+use Rattle.lapd_card_laws.specs.Messages.{HaveCausesIn, AreThereIn, HaveReasonsIn, NotesItsOwnIn}
+use Rattle.lapd_card_laws.specs.Promises.{MessagesHaveCauses, ToldTeisAreThere, NotesHaveReasons, NothingElseIsNoted}
 use Rattle.lapd_card_laws.proofs.Hearing.{no-octet}
 
 -- an expiry takes no slot
@@ -64,3 +66,16 @@ reasons-in card e s here =
 
 pub reasons-all : (card : Card) (events : List Event) → IsSound card → AreAtLines card events → NotesHaveReasons card events
 reasons-all card events s all = each_moment HaveReasonsIn reasons-in card events s all
+
+noted-in : (card : Card) (e : Event) → IsSound card → IsAtLine card e → NotesItsOwnIn (moment_of card e)
+noted-in card e s here =
+    by_room (λ ls a. NotesItsOwn card.config e.what (line_at e.line card) (get_or ls e.line (fresh_line card.config)) a) e card
+    (λ full. inr (inr (inr (record { stays = refl; notes = refl }))))
+    (λ room.
+    let own = lines.after card.config e.what (line_at e.line card) in
+    subst (λ (x : Line). NotesItsOwn card.config e.what (line_at e.line card) x (lines.answer card.config e.what (line_at e.line card)))
+    (sym (get_or-set_same card.lines e.line own (fresh_line card.config) (omega (arith, s.count, here))))
+    (notes-its-own card.config e.what (line_at e.line card) (line_sound card e.line (has_lines card s) here)))
+
+pub noted-all : (card : Card) (events : List Event) → IsSound card → AreAtLines card events → NothingElseIsNoted card events
+noted-all card events s all = each_moment NotesItsOwnIn noted-in card events s all

@@ -6,7 +6,7 @@ use Rattle.lapd_card_machine.specs.Event.{Event}
 use Rattle.lapd_card_machine.specs.Machine.{after}
 use Rattle.lapd_card_machine.specs.Run.{IsAtLine, AreAtLines}
 use Rattle.lapd_card_machine.specs.Sound.{IsSound}
-use Rattle.lapd_card_laws.specs.Promises.{IsKept, IsCountedIn, BeginsEmpty, IsServedIn, UnitsWaitAll, TurnsStay, AreHeeded, TakeEffect, ExpiriesTakeEffectIn, AreSteady, IsDelivered, AreReceived, BeginsUnheard, RunsWhatIsNeeded, NeedsNone, TimersAreLeft, NotesTell, TeisAreTold, BeginsDown, TeisHaveOnePlace, BegunIsTold, MessagesHaveCauses, ToldTeisAreThere, NotesHaveReasons}
+use Rattle.lapd_card_laws.specs.Promises.{IsKept, IsCountedIn, BeginsEmpty, IsServedIn, UnitsWaitAll, TurnsStay, AreHeeded, TakeEffect, ExpiriesTakeEffectIn, AreSteady, IsDelivered, AreReceived, BeginsUnheard, RunsWhatIsNeeded, NeedsNone, TimersAreLeft, NotesTell, TeisAreTold, BeginsDown, TeisHaveOnePlace, BegunIsTold, MessagesHaveCauses, ToldTeisAreThere, NotesHaveReasons, NothingElseIsNoted}
 use Rattle.lapd_card_laws.specs.Timers.{AllHaveTheirTimers}
 
 pub record NothingIsLost : Type 0 where
@@ -47,6 +47,9 @@ pub record Known : Type 0 where
   pub on : (card : Card) (events : List Event) → IsSound card → AreAtLines card events → TeisAreTold card events
   pub begins : (c : Config) → BeginsDown c
   pub places : (card : Card) (events : List Event) → IsSound card → AreAtLines card events → TeisHaveOnePlace card events
+
+abbrev pub NotesAreOwn : Type 0
+NotesAreOwn = (card : Card) (events : List Event) → IsSound card → AreAtLines card events → NothingElseIsNoted card events
 
 abbrev pub BegunIsTrue : Type 0
 BegunIsTrue = (card : Card) (events : List Event) → IsSound card → AreAtLines card events → BegunIsTold card events

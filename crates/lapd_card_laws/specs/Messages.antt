@@ -1,5 +1,6 @@
 -- Why messages of TEI management come to wait, and notes tell of TEIs, in a moment of a run.
 use Rattle.lapd_line_laws.specs.Causes.{HaveCauses, AreThere}
+use Rattle.lapd_line_laws.specs.Noted.{NotesItsOwn}
 use Rattle.lapd_line_laws.specs.Reasons.{HaveReasons}
 use Rattle.lapd_card_machine.specs.Run.{Moment}
 use Rattle.lapd_card_laws.specs.Contents.{line_before, line_after}
@@ -15,3 +16,7 @@ AreThereIn m = AreThere (line_before m) (line_after m)
 -- What is noted there of TEIs has its reason.
 abbrev pub HaveReasonsIn : Moment → Type 0
 HaveReasonsIn m = HaveReasons m.card.config (line_before m) m.event.what m.answer
+
+-- And all that is noted there is of one event of a link, or of a TEI that comes to the line or leaves it.
+abbrev pub NotesItsOwnIn : Moment → Type 0
+NotesItsOwnIn m = NotesItsOwn m.card.config m.event.what (line_before m) (line_after m) m.answer

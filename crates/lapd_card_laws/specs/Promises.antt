@@ -18,7 +18,7 @@ use Rattle.lapd_card_laws.specs.Faithful.{IsFaithful, UnitsWaitIn, TurnStaysIn, 
 use Rattle.lapd_card_laws.specs.Heard.{IsHeardIn}
 use Rattle.lapd_card_laws.specs.Begun.{IsBegunIn}
 use Rattle.lapd_card_laws.specs.Knowledge.{up_by_notes, on_by_notes}
-use Rattle.lapd_card_laws.specs.Messages.{HaveCausesIn, AreThereIn, HaveReasonsIn}
+use Rattle.lapd_card_laws.specs.Messages.{HaveCausesIn, AreThereIn, HaveReasonsIn, NotesItsOwnIn}
 use Rattle.lapd_card_laws.specs.Received.{octets_at}
 use Rattle.lapd_card_laws.specs.Timers.{runs_at_callers, LeavesTimersIn}
 
@@ -135,3 +135,7 @@ NotesHaveReasons m events = All HaveReasonsIn (moments m events)
 -- In every moment a pull starts no timer anew that runs.
 abbrev pub TimersAreLeft : Card → List Event → Type 0
 TimersAreLeft m events = All LeavesTimersIn (moments m events)
+
+-- And in every moment nothing else is noted than what the event has noted.
+abbrev pub NothingElseIsNoted : Card → List Event → Type 0
+NothingElseIsNoted m events = All NotesItsOwnIn (moments m events)

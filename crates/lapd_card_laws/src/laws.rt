@@ -28,8 +28,9 @@ pub fn pulls_serve()
 /// Frames are heeded. In every moment of a run a frame for a link on the line is answered where it is a poll with a valid
 /// N(R) in state 7 or 8, SABME or DISC: by exactly one frame, the last that waits, or one that is told as lost, since as
 /// many waited as may. A delivery leaves its acknowledgement owed, or waiting, or told as lost, but where the I-frame's
-/// N(R) was invalid. And what the terminal rejects is sent again, from the number that it names on. Of a frame that the
-/// grammar does not have, or that is too long, follows what the tables say: in states 7 and 8 a new establishment.
+/// N(R) was invalid. And what the terminal rejects is sent again, from the number that it names on. What a frame leaves of
+/// its link, and what it tells, follows, as `links_are_steady` has it, also of one that the grammar does not have, or that is
+/// too long: in states 7 and 8 a new establishment.
 pub fn frames_are_heeded()
     ensures { FramesAreHeeded }
 {}
@@ -53,7 +54,7 @@ pub fn expiries_take_effect()
 /// SetBusy, ClearBusy and a new establishment; only a poll puts a response with F=1 behind what waits; a loss is told only
 /// of SABME, DISC, UA or DM, of the expiry of T200 and of a release; and the numbers begin anew only where it is told, or
 /// at the end of an establishment that this side began itself. And the state, the flags and what waits are what follows the
-/// event by the tables of moves, of frames that are put, and of flags.
+/// event by the tables of moves, of frames that are put, and of flags, and what is told by the table of notes.
 pub fn links_are_steady()
     ensures { LinksAreSteady }
 {}

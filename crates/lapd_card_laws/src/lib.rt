@@ -23,5 +23,5 @@ pub use laws::{
     pulls_serve, requests_take_effect,
 };
 pub use management::messages_have_causes;
-pub use notes::{begun_is_true, notes_tell};
+pub use notes::{begun_is_true, notes_tell, nothing_else_is_noted};
 pub use timers::{pulls_leave_timers, timers_follow};

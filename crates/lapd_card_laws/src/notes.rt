@@ -1,6 +1,6 @@
 //! What the notes of a card tell. The law is the contract of a call that does nothing.
 
-ghost use Rattle.lapd_card_laws.specs.Laws.{Known, BegunIsTrue};
+ghost use Rattle.lapd_card_laws.specs.Laws.{Known, NotesAreOwn, BegunIsTrue};
 
 /// By the notes in the answers alone layer 3 knows of each link whether it is up, after every list of events: an indication
 /// or a confirm of an establishment says that it is, one of a release that it is not (Q.921 clauses 4.1.1.1, 4.1.1.2, 5.5
@@ -9,6 +9,15 @@ ghost use Rattle.lapd_card_laws.specs.Laws.{Known, BegunIsTrue};
 /// granted; so no TEI comes or leaves otherwise (clauses 4.1.1.5 and 5.3.2 to 5.3.4). No TEI has two places of a line.
 pub fn notes_tell()
     ensures { Known }
+{}
+
+/// In every moment of a run an answer notes what its event has noted, and nothing else: of one event of a link of a TEI on the
+/// line, what the table has; of a TEI that comes to the line, that it was assigned, if a terminal asked for it; of one that
+/// leaves it, that two terminals have it, or that none answered, unless management took it off, and behind that what its two
+/// links tell as they end. In every other case no TEI comes or leaves, and nothing is noted (Q.921 clauses 5.2.3, 5.3.2 to
+/// 5.3.4 and 5.5 to 5.8).
+pub fn nothing_else_is_noted()
+    ensures { NotesAreOwn }
 {}
 
 /// In every moment of a run the answer to a pull says that a frame was begun exactly where one was: it stands behind what

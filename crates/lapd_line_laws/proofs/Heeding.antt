@@ -78,7 +78,8 @@ module _ (t : Terms) (f : Parts) (l : Link) where
             (subst (λ n. Owes l.waiting (links.after t e l) n ⊎ IsBegunAgain t (links.after t e l) (links.told t e l).notes) (sym lost)
             (owed (ap (list_any (is_data_of t.service t.tei)) (sym notes) ∙ noted)));
         again = λ nr n is valid. goes-back t l nr n valid f.address.command f.info f.control is;
-        follows = subst (λ n. Follows t e l (links.after t e l) n) (sym lost) (event-follows t e l);
+        follows = subst (λ n. Follows t e l (links.after t e l) (notes_of a) n) (sym lost)
+            (subst (λ ns. Follows t e l (links.after t e l) ns (links.told t e l).lost) (sym notes) (event-follows t e l));
       }
 
 -- at its line
@@ -112,8 +113,10 @@ followed c l s value service tei place what on one =
     let x = link_in l service place in
     let there = its-link c l s value service tei place e on one in
     let lost : lost_in (answer c (octet value) l) ≡ (links.told t e x).lost = ap lost_in one.answer_is.is ∙ one.answer_is.lost in
-    subst (λ (y : Link). Follows t e x y (lost_in (answer c (octet value) l))) (sym there)
-    (subst (λ n. Follows t e x (links.after t e x) n) (sym lost) (event-follows t e x))
+    let notes : notes_of (answer c (octet value) l) ≡ (links.told t e x).notes = ap notes_of one.answer_is.is ∙ one.answer_is.notes in
+    subst (λ (y : Link). Follows t e x y (notes_of (answer c (octet value) l)) (lost_in (answer c (octet value) l))) (sym there)
+    (subst (λ n. Follows t e x (links.after t e x) (notes_of (answer c (octet value) l)) n) (sym lost)
+    (subst (λ ns. Follows t e x (links.after t e x) ns (links.told t e x).lost) (sym notes) (event-follows t e x)))
 
 pub malformed-followed : (c : Config) (l : Line) → IsSound c l → (e : Event) (service : Service) (tei place : ℕ) (what : link.Received)
     → BringsMalformed c l e service tei what → place_in l tei ≡ Some place

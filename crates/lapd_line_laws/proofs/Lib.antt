@@ -31,3 +31,4 @@ pub mod GroupAims
 pub mod Causing
 pub mod Telling
 pub mod Reasoning
+pub mod Noted

@@ -24,11 +24,11 @@ pub record IsLost (t : Terms) (before : Link) (answer : Answer) : Type 0 where
   pub full : t.control ≤ length before.waiting
   pub counted : 1 ≤ lost_in answer
 
--- What is heard leaves of a link's state, its flags and what waits what the tables say, and as many frames are lost. So a
--- frame that the grammar does not have, or that is too long, has a link in state 7 or 8 established anew by this side, and
--- moves none in another state (clauses 5.7.1 and 5.8.5).
+-- What is heard leaves of a link's state, its flags and what waits what the tables say, tells what they say, and as many
+-- frames are lost. So a frame that the grammar does not have, or that is too long, has a link in state 7 or 8 established
+-- anew by this side, with error L, N or O, and moves none in another state (clauses 5.7.1 and 5.8.5).
 abbrev pub IsFollowed : Terms → Received → Link → Link → Answer → Type 0
-IsFollowed t what before after answer = Follows t (received what) before after (lost_in answer)
+IsFollowed t what before after answer = Follows t (received what) before after (notes_of answer) (lost_in answer)
 
 pub record IsHeeded (t : Terms) (f : Parts) (before after : Link) (answer : Answer) : Type 0 where
   -- In states 7 and 8 a supervisory command or an I-frame with P=1 and a valid N(R) is answered: exactly one frame more
@@ -46,6 +46,7 @@ pub record IsHeeded (t : Terms) (f : Parts) (before after : Link) (answer : Answ
   -- response with F=1, names n by its N(R) (clauses 5.6.4 and 5.6.7).
   pub again : (nr : Seq) (n : ℕ) → asked_from before.state f.address.command f.control ≡ Some nr
       → named before.a before.s nr ≡ Some n → GoesBackTo n before after
-  -- And what it leaves of the link's state, its flags and what waits, and how many frames are lost, is what follows: so which
-  -- of RR, RNR and REJ answers a poll, that a gap is told by REJ, and that what waits stays (clauses 5.5 to 5.8).
+  -- And what it leaves of the link's state, its flags and what waits, what it tells, and how many frames are lost, is what
+  -- follows: so which of RR, RNR and REJ answers a poll, that a gap is told by REJ, that what waits stays, and which errors
+  -- are told (clauses 5.5 to 5.8).
   pub follows : IsFollowed t (frame f) before after answer

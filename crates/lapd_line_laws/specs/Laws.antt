@@ -21,6 +21,7 @@ use Rattle.lapd_line_laws.specs.Heard.{Ends, EndsOverlong, EndsNothing, IsFor, I
 use Rattle.lapd_line_laws.specs.Begun.{says_begun, BeginsAs}
 use Rattle.lapd_line_laws.specs.Causes.{HaveCauses, AreThere}
 use Rattle.lapd_line_laws.specs.Reasons.{HaveReasons}
+use Rattle.lapd_line_laws.specs.Noted.{NotesItsOwn}
 use Rattle.lapd_line_laws.specs.Knowledge.{is_up_of, taken_for_up, taken_for_on}
 use Rattle.lapd_line_laws.specs.Timers.{is_needed, runs_then, HaveTheirTimers, LeavesTimers}
 
@@ -102,6 +103,10 @@ pub record NotesTell : Type 0 where
   pub off : (c : Config) (tei : ℕ) → has_tei tei (fresh_line c) ≡ false
   pub on : (c : Config) (e : Event) (l : Line) (tei : ℕ) → IsSound c l
       → taken_for_on tei (has_tei tei l) e (answer c e l) ≡ has_tei tei (after c e l)
+
+-- All that an answer notes is of one event of a link, or of a TEI that comes to the line or leaves it.
+abbrev pub NothingElseIsNoted : Type 0
+NothingElseIsNoted = (c : Config) (e : Event) (l : Line) → IsSound c l → NotesItsOwn c e l (after c e l) (answer c e l)
 
 -- What an answer says of a frame that was begun is what became of the line's text.
 abbrev pub BegunIsTrue : Type 0

@@ -13,9 +13,11 @@ pub mod Expiries
 pub mod Messages
 pub mod Causes
 pub mod Reasons
+pub mod Noted
 pub mod Laws
 pub mod Worked
 pub mod WorkedPulls
 pub mod WorkedHeard
 pub mod WorkedLinks
 pub mod WorkedMessages
+pub mod WorkedNoted

@@ -64,15 +64,15 @@ IsBy c l e answer service tei link.offer = e ≡ pull
 IsBy c l e answer service tei link.cleared = ⊥
 
 -- What an event may change of a link: V(S), own busy, the responses with F=1 that wait, and what it keeps; and its
--- numbers begin anew only where it is seen. And what it leaves of the link's state, its flags and what waits, and how many
--- frames are lost, is what follows.
+-- numbers begin anew only where it is seen. And what it leaves of the link's state, its flags and what waits, what it tells,
+-- and how many frames are lost, is what follows.
 pub record IsSteady (t : Terms) (e : link.Event) (before after : Link) (ns : List Note) (lost : ℕ) : Type 0 where
   pub sent : MovesSent t e before after
   pub busy : MovesBusy e before after ns
   pub final : finals after.waiting ≤ finals before.waiting + polls e
   pub loss : tells_loss ns ≡ true → MayLose e
   pub begins : links.restarts t e before ≡ true → IsSeen e before ns
-  pub follows : Follows t e before after lost
+  pub follows : Follows t e before after ns lost
 
 -- One event of the link,
 pub record HasOne (c : Config) (service : Service) (number : ℕ) (e : Event) (before after : Line) (answer : Answer) : Type 0 where

@@ -83,7 +83,7 @@ unit_noted = refl
 
 -- A frame of TEI 64 and SAPI 0 with an undefined control field came likewise: its link is established anew, and no other
 -- feels it.
-abbrev before_undefined : Line
+abbrev pub before_undefined : Line
 before_undefined = record both_up { received = 0x7E ∷ 0x00 ∷ 0x81 ∷ 0x4F ∷ 0x5A ∷ 0x14 ∷ 0xFD ∷ [] }
 
 undefined_ends : Ends usual before_undefined 0xFC (0x00 ∷ 0x81 ∷ 0x2F ∷ [])

@@ -19,7 +19,7 @@ use Rattle.lapd_line_laws.specs.Worked.{usual, hears}
 use Rattle.lapd_line_laws.specs.WorkedPulls.{asked}
 
 -- The identity request by Ri 1234 came between two flags, stuffed and with its check, but for the last octet.
-abbrev asking : Line
+abbrev pub asking : Line
 asking = record (fresh_line usual) {
   received = 0x7E ∷ 0x7C ∷ 0xDF ∷ 0x17 ∷ 0x78 ∷ 0x90 ∷ 0xA0 ∷ 0x09 ∷ 0xF8 ∷ 0x6E ∷ 0xA1 ∷ 0xE1 ∷ [];
 }

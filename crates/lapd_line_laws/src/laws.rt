@@ -36,9 +36,9 @@ pub fn heard_is_delivered()
 /// V(R) behind what waits; SABME and DISC put UA or DM there, as the state has it, with F = P; where no place was left,
 /// the frame is told as lost, and no other frame puts a response with F=1 there. A delivery leaves its acknowledgement
 /// owed, or waiting, or told as lost, but where the I-frame's N(R) was invalid. And where the terminal rejects I-frames
-/// from number n on, contents number n are the next to be sent. And the state, the flags and what waits are what follows the
-/// frame, also one that the grammar does not have, or that is too long: in states 7 and 8 this side then establishes the link
-/// anew (Q.921 clauses 5.5.1.2, 5.5.3.2, 5.6.2 to 5.6.7, 5.7.1, 5.8.1 and 5.8.5).
+/// from number n on, contents number n are the next to be sent. And the state, the flags, what waits and what is told are
+/// what follows the frame, also one that the grammar does not have, or that is too long: in states 7 and 8 this side then
+/// establishes the link anew (Q.921 clauses 5.2.3, 5.5.1.2, 5.5.3.2, 5.6.2 to 5.6.7, 5.7.1, 5.8.1, 5.8.5 and 5.8.7).
 pub fn frames_are_heeded()
     ensures { FramesAreHeeded }
 {}
@@ -59,7 +59,7 @@ pub fn requests_take_effect()
 /// link is established anew; only a poll puts a response with F=1 behind what waits; a loss is told only of SABME, DISC, UA
 /// or DM, the expiry of T200 and a release; and the numbers begin anew only where it is told, or at the end of an
 /// establishment that this side began itself. And what it leaves follows: the state by the table of moves, what waits and
-/// what is put behind it, what is lost, and the flags (Q.921 clauses 3.5.2.3, 5.5 to 5.8 and 5.10.3).
+/// what is put behind it, what is lost, the flags, and what is told (Q.921 clauses 3.5.2.3, 5.5 to 5.8 and 5.10.3).
 pub fn links_are_steady()
     ensures { LinksAreSteady }
 {}

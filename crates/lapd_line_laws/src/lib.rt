@@ -7,8 +7,9 @@
 //! (`Heard`), what a frame makes of its link (`Frames`), which timers are needed, run and started (`Timers`),
 //! what comes of a request that is granted (`Requests`), what an event may change of a link (`Steady`), what notes tell
 //! (`Knowledge`), which frames pulls begin (`Begun`), what TEI management does, row by row (`Messages`), and which event is
-//! the cause (`Causes`) and the reason of a note (`Reasons`), the laws (`Laws`), and worked values (`Worked`, `WorkedPulls`, `WorkedHeard`, `WorkedLinks`,
-//! `WorkedMessages`). Each law is the contract of a call that does nothing.
+//! the cause (`Causes`) and the reason of a note (`Reasons`), all that an answer notes (`Noted`), the laws (`Laws`), and
+//! worked values (`Worked`, `WorkedPulls`, `WorkedHeard`, `WorkedLinks`, `WorkedMessages`, `WorkedNoted`). Each law is the
+//! contract of a call that does nothing.
 //!
 //! - `laws`, `timers`, `notes`, `management`: the laws.
 #![tactic(auto)]
@@ -23,5 +24,5 @@ pub use laws::{
     pulls_serve, requests_take_effect,
 };
 pub use management::messages_have_causes;
-pub use notes::{begun_is_true, notes_tell};
+pub use notes::{begun_is_true, notes_tell, nothing_else_is_noted};
 pub use timers::{pulls_leave_timers, timers_follow};

@@ -1,6 +1,6 @@
 //! What the notes of a line tell, and the answers to its pulls.
 
-ghost use Rattle.lapd_line_laws.specs.Laws.{NotesTell, BegunIsTrue};
+ghost use Rattle.lapd_line_laws.specs.Laws.{NotesTell, NothingElseIsNoted, BegunIsTrue};
 
 /// By the notes in the answers alone layer 3 knows of each link whether it is up: an indication or a confirm of an
 /// establishment says that it is, one of a release that it is not, and no event changes it without such a note of its
@@ -9,6 +9,15 @@ ghost use Rattle.lapd_line_laws.specs.Laws.{NotesTell, BegunIsTrue};
 /// requests to assign and to remove a TEI that were granted (clauses 4.1.1.5 and 5.3.2 to 5.3.4).
 pub fn notes_tell()
     ensures { NotesTell }
+{}
+
+/// An answer notes what its event has noted, and nothing else. Where the event is one of a link of a TEI on the line, the notes
+/// are those of the table. Where a TEI comes to the line, that is noted if a terminal asked for it. Where one leaves the line,
+/// it is noted that two terminals have it, or that none answered, unless management took it off; and behind that what its
+/// two links tell as they end, that of call control first. In every other case no TEI comes or leaves, and nothing is noted
+/// (Q.921 clauses 5.2.3, 5.3.2 to 5.3.4 and 5.5 to 5.8).
+pub fn nothing_else_is_noted()
+    ensures { NothingElseIsNoted }
 {}
 
 /// The answer to a pull says that a frame was begun exactly where one was: it stands behind what was on the line before,

@@ -2,6 +2,8 @@
 use Rattle.std.proofs.Common.{◌≡◌, ℕ, ◌+◌, Bool, true, false, cond, not, ◌||◌, List, [], ◌∷◌, ◌++◌, length, drop, Option, None, Some, is_some, refl}
 use Rattle.std.specs.Prelude.{nat_lt}
 use Rattle.lapd_frame.specs.declared.controls.Control.{Control}
+use Rattle.lapd_frame.specs.declared.notes.Note.{Note}
+use Rattle.lapd_frame.specs.declared.notes.Note.TheVariants as said
 use Rattle.lapd_frame.specs.declared.notes.ErrorCode.TheVariants as code
 use Rattle.lapd_frame.specs.Grammar.{Parts}
 use Rattle.lapd_link_machine.specs.declared.states.State.{State}
@@ -11,17 +13,19 @@ use Rattle.lapd_link_machine.specs.declared.frames.ControlFrame.{ControlFrame}
 use Rattle.lapd_link_machine.specs.declared.terms.Terms.{Terms}
 use Rattle.lapd_link_machine.specs.Link.{Link}
 use Rattle.lapd_link_machine.specs.Events
-use Rattle.lapd_link_machine.specs.Steps.{Course, Step, ◌then◌}
+use Rattle.lapd_link_machine.specs.Steps.{Course, begun, Step, ◌then◌}
 use Rattle.lapd_link_machine.specs.Words
 use Rattle.lapd_link_machine.specs.Machine
 use Rattle.lapd_link_laws.specs.States.{as_heard, state_after, numbers_begin}
 use Rattle.lapd_link_laws.specs.Waiting.{answers, commands}
 use Rattle.lapd_link_laws.specs.Flags.{peer_busy_left, own_busy_left, flag_left, rejecting_heard, takes, unless_put, owed_in, owed_behind, asked_left, repeats_left}
+use Rattle.lapd_link_laws.specs.Telling.{told_with}
 
 -- What a course leaves: fields of its link, how many frames were lost, and whether the numbers begin.
 pub record Left : Type 0 where
   pub state : State
   pub waiting : List ControlFrame
+  pub notes : List Note
   pub lost : ℕ
   pub peer_busy : Bool
   pub own_busy : Bool
@@ -35,6 +39,7 @@ abbrev pub left : Course → Left
 left c = record {
   state = c.link.state;
   waiting = c.link.waiting;
+  notes = c.notes;
   lost = c.lost;
   peer_busy = c.link.peer_busy;
   own_busy = c.link.own_busy;
@@ -69,6 +74,7 @@ abbrev pub due_by : Terms → Events.Event → Link → List ControlFrame → Bo
 due_by t e l answers rejecting takes to = record {
   state = to;
   waiting = queued_by t e l (answers ++ commands e l to);
+  notes = told_with t e takes l to;
   lost = unplaced t.control l.waiting 0 (answers ++ commands e l to);
   peer_busy = peer_busy_left e l to;
   own_busy = own_busy_left e l to;
@@ -106,8 +112,14 @@ module _ (t : Terms) where
   chosen true u v c x y = x
   chosen false u v c x y = y
 
-  pub unit-left : (octets : List ℕ) (c : Course) → left (Words.unit_data t octets c) ≡ left c
-  unit-left octets c = chosen (nat_lt t.n201 (length octets)) _ _ c refl refl
+  pub unit-left : (octets : List ℕ) (l : Link)
+      → left (Words.unit_data t octets (begun l)) ≡ record (left (begun l)) { notes = cond (nat_lt t.n201 (length octets)) [] (said.Unit t.service t.tei ∷ []) }
+  unit-left octets l = go (nat_lt t.n201 (length octets))
+    where
+      go : (over : Bool) → left (cond over (Words.leave_unserved (begun l)) (Words.deliver_unit t octets (begun l)))
+          ≡ record (left (begun l)) { notes = cond over [] (said.Unit t.service t.tei ∷ []) }
+      go true = refl
+      go false = refl
 
   -- An N(R) that is valid, or not.
   pub by-named : (D : State → Left) (c : Course) (f : ℕ → Step) (o : Option ℕ) (to : State)

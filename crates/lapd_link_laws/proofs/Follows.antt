@@ -1,5 +1,6 @@
 -- What follows an event, from what it leaves.
 use Rattle.std.proofs.Common.{◌≡◌, ℕ, Bool, List, refl, ap, sym, ◌∙◌, subst}
+use Rattle.lapd_frame.specs.declared.notes.Note.{Note}
 use Rattle.lapd_link_machine.specs.declared.states.State.{State}
 use Rattle.lapd_link_machine.specs.declared.frames.ControlFrame.{ControlFrame}
 use Rattle.lapd_link_machine.specs.declared.terms.Terms.{Terms}
@@ -11,6 +12,7 @@ use Rattle.lapd_link_laws.specs.Following.{Follows}
 use Rattle.lapd_link_laws.specs.States.{as_heard, state_after, numbers_begin}
 use Rattle.lapd_link_laws.specs.Waiting.{put, waiting_left, lost_by}
 use Rattle.lapd_link_laws.specs.Flags.{peer_busy_left, own_busy_left, rejecting_left, takes, pending_left, asked_left, repeats_left}
+use Rattle.lapd_link_laws.specs.Telling.{told_by}
 use Rattle.lapd_link_laws.proofs.Columns.{Left, queued_by, owed_by}
 use Rattle.lapd_link_laws.proofs.Placing.{placed}
 use Rattle.lapd_link_laws.proofs.EachRow.{each-row}
@@ -39,7 +41,7 @@ module _ (t : Terms) (e : Events.Event) (l : Link) where
   by-its-state : (A : Type 0) (x : A) (column : State → A) → x ≡ column (state_after t heard l) → x ≡ column (after t e l).state
   by-its-state A x column h = subst (λ s. x ≡ column s) (sym leads) h
 
-  pub event-follows : Follows t e l (after t e l) (told t e l).lost
+  pub event-follows : Follows t e l (after t e l) (told t e l).notes (told t e l).lost
   event-follows =
       let row = each-row t e l in
       record {
@@ -47,6 +49,7 @@ module _ (t : Terms) (e : Events.Event) (l : Link) where
           state = leads;
           waiting = by-its-state (List ControlFrame) (after t e l).waiting (λ s. waiting_left t heard l s)
               (ap (λ (x : Left). x.waiting) row ∙ waiting-is t heard l (state_after t heard l));
+          tells = by-its-state (List Note) (told t e l).notes (λ s. told_by t heard l s) (ap (λ (x : Left). x.notes) row);
           lost_is = by-its-state ℕ (told t e l).lost (λ s. lost_by t heard l s)
               (ap (λ (x : Left). x.lost) row ∙ (placed t.control (put heard l (state_after t heard l)) l.waiting).1);
           peer_busy = by-its-state Bool (after t e l).peer_busy (λ s. peer_busy_left heard l s) (ap (λ (x : Left). x.peer_busy) row);

@@ -1,13 +1,14 @@
 -- What frames leave of a link in states 4, 5 and 6.
-use Rattle.std.proofs.Common.{◌≡◌, Bool, true, false, cond, length, refl}
+use Rattle.std.proofs.Common.{◌≡◌, Bool, true, false, cond, length, refl, ◌==◌, not, [], ◌∷◌, List, ℕ}
 use Rattle.std.specs.Prelude.{nat_lt}
 use Rattle.lapd_frame.specs.declared.controls.Control.{Control}
 use Rattle.lapd_frame.specs.declared.controls.Control.TheVariants.{Information, ReceiveReady, ReceiveNotReady, Reject, Sabme, Disc, Ui, Ua, Dm, Frmr, Xid}
+use Rattle.lapd_frame.specs.declared.notes.Note.TheVariants as said
 use Rattle.lapd_frame.specs.Grammar.{Parts}
 use Rattle.lapd_link_machine.specs.declared.states.State.TheVariants.{TeiAssigned, AwaitingEstablishment, AwaitingRelease, Established}
 use Rattle.lapd_link_machine.specs.declared.timers.LinkTimer.TheVariants.{T203}
 use Rattle.lapd_link_machine.specs.declared.terms.Terms.{Terms}
-use Rattle.lapd_link_machine.specs.Link.{Link, has_outstanding}
+use Rattle.lapd_link_machine.specs.Link.{Link}
 use Rattle.lapd_link_machine.specs.Events
 use Rattle.lapd_link_machine.specs.Steps.{begun, ◌then◌}
 use Rattle.lapd_link_machine.specs.Words
@@ -21,7 +22,7 @@ module _ (t : Terms) where
   in-4 l f b (Disc p) = refl
   in-4 l f b (Ua true) = refl
   in-4 l f b (Ua false) = refl
-  in-4 l f b (Ui p) = unit-left t f.info (begun (at TeiAssigned l))
+  in-4 l f b (Ui p) = unit-left t f.info (at TeiAssigned l)
   in-4 l f b (Xid pf) = refl
   in-4 l f b (Information ns nr p) = go (nat_lt t.n201 (length f.info))
     where
@@ -39,17 +40,19 @@ module _ (t : Terms) where
   pub in-5 : (l : Link) (f : Parts) (b : Bool) (control : Control) → Row t (hears f b control) (at AwaitingEstablishment l)
   in-5 l f b (Sabme p) = refl
   in-5 l f b (Disc p) = refl
-  in-5 l f b (Ua true) = go l.asked (has_outstanding l)
+  in-5 l f b (Ua true) = go l.asked (l.s == l.a)
     where
-      go : (asked out : Bool) → let c = begun (at AwaitingEstablishment l) in
+      go : (asked same : Bool) → let c = begun (at AwaitingEstablishment l) in
           left ((Words.zero_numbers then Words.start T203 then Words.enter Established)
-          (cond asked (Words.establish_confirm t c) (cond out ((Words.discard then Words.establish_indication t) c) c)))
-          ≡ due t (hears f b (Ua true)) (at AwaitingEstablishment l) Established
-      go true out = refl
+          (cond asked (Words.establish_confirm t c) (cond (not same) ((Words.discard then Words.establish_indication t) c) c)))
+          ≡ record (due t (hears f b (Ua true)) (at AwaitingEstablishment l) Established) {
+            notes = cond asked (said.EstablishConfirm t.service t.tei ∷ []) (cond same [] (said.EstablishIndication t.service t.tei ∷ []));
+          }
+      go true same = refl
       go false true = refl
       go false false = refl
   in-5 l f b (Ua false) = refl
-  in-5 l f b (Ui p) = unit-left t f.info (begun (at AwaitingEstablishment l))
+  in-5 l f b (Ui p) = unit-left t f.info (at AwaitingEstablishment l)
   in-5 l f b (Xid pf) = refl
   in-5 l f b (Information ns nr p) = go (nat_lt t.n201 (length f.info))
     where
@@ -70,7 +73,7 @@ module _ (t : Terms) where
   in-6 l f b (Disc p) = refl
   in-6 l f b (Ua true) = refl
   in-6 l f b (Ua false) = refl
-  in-6 l f b (Ui p) = unit-left t f.info (begun (at AwaitingRelease l))
+  in-6 l f b (Ui p) = unit-left t f.info (at AwaitingRelease l)
   in-6 l f b (Xid pf) = refl
   in-6 l f b (Information ns nr p) = go (nat_lt t.n201 (length f.info))
     where

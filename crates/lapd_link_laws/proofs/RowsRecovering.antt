@@ -1,16 +1,17 @@
 -- What frames leave of a link in state 8.
-use Rattle.std.proofs.Common.{◌≡◌, ℕ, Bool, true, false, cond, not, List, length, is_some, refl}
+use Rattle.std.proofs.Common.{◌≡◌, ℕ, Bool, true, false, cond, not, List, length, is_some, refl, ◌==◌, [], ◌∷◌}
 use Rattle.std.specs.Prelude.{nat_lt}
 use Rattle.lapd_seq.specs.declared.numbers.Seq.{Seq}
 use Rattle.lapd_seq.specs.Circle.{named}
 use Rattle.lapd_frame.specs.declared.controls.Control.{Control}
 use Rattle.lapd_frame.specs.declared.controls.Control.TheVariants.{Information, ReceiveReady, ReceiveNotReady, Reject, Sabme, Disc, Ui, Ua, Dm, Frmr, Xid}
 use Rattle.lapd_frame.specs.declared.notes.ErrorCode.TheVariants as code
+use Rattle.lapd_frame.specs.declared.notes.Note.TheVariants as said
 use Rattle.lapd_frame.specs.Grammar.{Parts}
 use Rattle.lapd_link_machine.specs.declared.states.State.TheVariants.{AwaitingEstablishment, Established, TimerRecovery}
 use Rattle.lapd_link_machine.specs.declared.timers.LinkTimer.TheVariants.{T200, T203}
 use Rattle.lapd_link_machine.specs.declared.terms.Terms.{Terms}
-use Rattle.lapd_link_machine.specs.Link.{Link, has_outstanding}
+use Rattle.lapd_link_machine.specs.Link.{Link}
 use Rattle.lapd_link_machine.specs.Events
 use Rattle.lapd_link_machine.specs.Steps.{Course, begun, ◌then◌}
 use Rattle.lapd_link_machine.specs.Words
@@ -109,18 +110,18 @@ module _ (t : Terms) where
 
   -- Frames in state 8.
   pub in-8 : (l : Link) (f : Parts) (b : Bool) (control : Control) → Row t (hears f b control) (at TimerRecovery l)
-  in-8 l f b (Sabme p) = go (has_outstanding l)
+  in-8 l f b (Sabme p) = go (l.s == l.a)
     where
-      go : (out : Bool) → let c = (Words.send t (Words.response (Ua p)) then Words.clear_flags then Words.error t code.F) (begun (at TimerRecovery l)) in
+      go : (same : Bool) → let c = (Words.send t (Words.response (Ua p)) then Words.clear_flags then Words.error t code.F) (begun (at TimerRecovery l)) in
           left ((Words.zero_numbers then Words.start T203 then Words.enter Established)
-          (cond out ((Words.discard then Words.establish_indication t) c) c))
-          ≡ due t (hears f b (Sabme p)) (at TimerRecovery l) Established
+          (cond (not same) ((Words.discard then Words.establish_indication t) c) c))
+          ≡ record (due t (hears f b (Sabme p)) (at TimerRecovery l) Established) { notes = said.Error t.service t.tei code.F ∷ cond same [] (said.EstablishIndication t.service t.tei ∷ []) }
       go true = refl
       go false = refl
   in-8 l f b (Disc p) = refl
   in-8 l f b (Ua true) = refl
   in-8 l f b (Ua false) = refl
-  in-8 l f b (Ui p) = unit-left t f.info (begun (at TimerRecovery l))
+  in-8 l f b (Ui p) = unit-left t f.info (at TimerRecovery l)
   in-8 l f b (Xid pf) = refl
   in-8 l f b (Information ns nr p) = go (nat_lt t.n201 (length f.info))
     where

@@ -15,6 +15,7 @@ pub mod Beginning
 pub mod States
 pub mod Waiting
 pub mod Flags
+pub mod Telling
 pub mod Following
 pub mod Worked
 pub mod WorkedSending

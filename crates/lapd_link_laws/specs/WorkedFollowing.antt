@@ -4,6 +4,9 @@ use Rattle.lapd_seq.specs.Numbers.{seq}
 use Rattle.lapd_seq.specs.Circle.{distance_of, named}
 use Rattle.lapd_frame.specs.Reading.{supervisory_of, unnumbered_of, control_of, header_of, reading}
 use Rattle.lapd_frame.specs.declared.controls.Control.TheVariants.{ReceiveReady, ReceiveNotReady, Reject, Sabme}
+use Rattle.lapd_frame.specs.declared.notes.ErrorCode.TheVariants as code
+use Rattle.lapd_frame.specs.declared.notes.Note.TheVariants as notes
+use Rattle.lapd_frame.specs.declared.services.Service.TheVariants.{Call}
 use Rattle.lapd_link_machine.specs.declared.states.State.{State}
 use Rattle.lapd_link_machine.specs.declared.states.State.TheVariants.{AwaitingEstablishment, Established, TimerRecovery}
 use Rattle.lapd_link_machine.specs.declared.timers.LinkTimer.TheVariants.{T203}
@@ -15,6 +18,7 @@ use Rattle.lapd_link_machine.specs.Worked.{usual, comes, ask, sabme, up}
 use Rattle.lapd_link_laws.specs.States.{as_heard, state_after, numbers_begin}
 use Rattle.lapd_link_laws.specs.Waiting.{put}
 use Rattle.lapd_link_laws.specs.Flags.{peer_busy_left, pending_left}
+use Rattle.lapd_link_laws.specs.Telling.{told_by}
 
 -- by the tables
 abbrev led : Event → Link → State
@@ -72,3 +76,8 @@ owed = refl
 ua_begins_none : numbers_begin (comes (0x02 ∷ 0x81 ∷ 0x73 ∷ [])) Established Established ≡ false
 unfolding seq distance_of named reading header_of control_of unnumbered_of supervisory_of after_all
 ua_begins_none = refl
+
+-- That UA is told as error C.
+ua_told : told_by usual (comes (0x02 ∷ 0x81 ∷ 0x73 ∷ [])) up Established ≡ notes.Error Call 64 code.C ∷ []
+unfolding seq distance_of named reading header_of control_of unnumbered_of supervisory_of after_all
+ua_told = refl

@@ -9,6 +9,7 @@ ghost use Rattle.lapd_link_machine.specs.Deliveries.{restarts};
 ghost use Rattle.lapd_link_laws.specs.States.{as_heard, state_after, numbers_begin};
 ghost use Rattle.lapd_link_laws.specs.Waiting.{waiting_left, lost_by};
 ghost use Rattle.lapd_link_laws.specs.Flags.{peer_busy_left, own_busy_left, rejecting_left, pending_left, asked_left, repeats_left};
+ghost use Rattle.lapd_link_laws.specs.Telling.{told_by};
 
 /// States follow a table. The state that an event leaves a link in is the one to which the table of moves leads, from its
 /// state, by what is heard, asked or expired; no other event moves it. And its numbers begin anew by SABME that leads to
@@ -41,4 +42,12 @@ pub fn flags_follow()
     ensures pending { (t : Terms) (e : Event) (l : Link) → (after t e l).pending ≡ pending_left (as_heard t e) l (after t e l).state }
     ensures asked { (t : Terms) (e : Event) (l : Link) → (after t e l).asked ≡ asked_left (as_heard t e) l (after t e l).state }
     ensures repeats { (t : Terms) (e : Event) (l : Link) → (after t e l).repeats ≡ repeats_left (as_heard t e) l (after t e l).state }
+{}
+
+/// Layer 3 and layer management are told exactly what the table of notes has, in its order: of a frame by the state that it
+/// meets, which errors A to F and J to O are, the establishments and releases, data of each I-frame that is taken and unit
+/// data of each UI; of the last expiry of T200; of the release of a link that is down; and of the end of the TEI (Q.921
+/// clauses 5.2.3, 5.3.4, 5.5.1 to 5.5.4, 5.6.2, 5.6.7, 5.7 and 5.8, appendix II).
+pub fn notes_follow()
+    ensures notes { (t : Terms) (e : Event) (l : Link) → (told t e l).notes ≡ told_by t (as_heard t e) l (after t e l).state }
 {}

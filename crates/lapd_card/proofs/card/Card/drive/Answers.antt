@@ -16,7 +16,7 @@ use Rattle.lapd_card_machine.proofs.Refusals.{refused_by_the_table}
 use Rattle.lapd_card_machine.proofs.ByEvent.{frames_by_event}
 use Rattle.lapd_card_machine.proofs.Drops.{drops_cost_nothing, drops_change_nothing}
 use Rattle.lapd_card_machine.specs.Promises.{IsWithinLimit, IsAmortised, IsAmortisedFromZero, HasSixOctetsAFrame, HasSevenOctetsAReject, IsLinear, IsIsolated, IsNeverFull, IsNumbered, IsNumberedFromZero, IsTextual}
-use Rattle.lapd_card_laws.specs.Promises.{IsKept, IsCountedIn, IsServedIn, UnitsWaitAll, TurnsStay, AreHeeded, TakeEffect, ExpiriesTakeEffectIn, AreSteady, IsDelivered, AreReceived, RunsWhatIsNeeded, TimersAreLeft, NotesTell, TeisAreTold, TeisHaveOnePlace, BegunIsTold, MessagesHaveCauses, ToldTeisAreThere, NotesHaveReasons}
+use Rattle.lapd_card_laws.specs.Promises.{IsKept, IsCountedIn, IsServedIn, UnitsWaitAll, TurnsStay, AreHeeded, TakeEffect, ExpiriesTakeEffectIn, AreSteady, IsDelivered, AreReceived, RunsWhatIsNeeded, TimersAreLeft, NotesTell, TeisAreTold, TeisHaveOnePlace, BegunIsTold, MessagesHaveCauses, ToldTeisAreThere, NotesHaveReasons, NothingElseIsNoted}
 use Rattle.lapd_card_laws.proofs.Keeping.{kept, run-counted, begins-empty}
 use Rattle.lapd_card_laws.proofs.Serving.{served-in, units-all, turns-stay}
 use Rattle.lapd_card_laws.proofs.Hearing.{heard-all}
@@ -25,7 +25,7 @@ use Rattle.lapd_card_laws.proofs.Heeding.{heeded-all}
 use Rattle.lapd_card_laws.proofs.Granting.{effect-all, expiries-all}
 use Rattle.lapd_card_laws.proofs.Happening.{steady-all}
 use Rattle.lapd_card_laws.proofs.Beginning.{begun-told}
-use Rattle.lapd_card_laws.proofs.Causing.{caused-all, there-all, reasons-all}
+use Rattle.lapd_card_laws.proofs.Causing.{caused-all, there-all, reasons-all, noted-all}
 use Rattle.lapd_card_laws.proofs.Knowing.{up-known, on-known, down-at-first, one-place}
 use Rattle.lapd_card_laws.proofs.TimersRun.{needed-run, needs-none}
 use Rattle.lapd_card_laws.proofs.Restarting.{leaves-all}
@@ -319,3 +319,9 @@ returns-clause-pulls_leave_timers g c = λ m. whole_list g.S.Shelf.store c.args.
 
 pub returns-then-is_err-clause-pulls_leave_timers : goal.returns-then-is_err-clause-pulls_leave_timers
 returns-then-is_err-clause-pulls_leave_timers g c = λ m. whole_list g.S.Shelf.store c.args.self.now c.args.events.now c.requires TimersAreLeft leaves-all m
+
+pub returns-clause-nothing_else_is_noted : goal.returns-clause-nothing_else_is_noted
+returns-clause-nothing_else_is_noted g c = λ m. whole_list g.S.Shelf.store c.args.self.now c.args.events.now c.requires NothingElseIsNoted noted-all m
+
+pub returns-then-is_err-clause-nothing_else_is_noted : goal.returns-then-is_err-clause-nothing_else_is_noted
+returns-then-is_err-clause-nothing_else_is_noted g c = λ m. whole_list g.S.Shelf.store c.args.self.now c.args.events.now c.requires NothingElseIsNoted noted-all m

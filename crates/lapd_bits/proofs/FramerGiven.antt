@@ -79,41 +79,48 @@ refill-idle octets next ones waits waits' empty low more =
     let all : waits ++ frame_from (drop next octets) ones ≡ waits = ap (λ l. waits ++ l) nothing ∙ append-nil waits in
     ap (λ l. waits' ++ l) nothing ∙ append-nil waits' ∙ more ∙ refilled-low waits low ∙ ap refilled (sym all)
 
--- an octet of the frame in hand
-module _ (octets : List ℕ) (next ones content count run : ℕ) (waits waits' : List Bool) (within : next < length octets) (few : ones ≤ 4) (after_few : run ≤ 4) (s : IsStuffedOctet ones (get_or octets next 0) content count run) (more : waits' ≡ waits ++ low_bits count content) where
-  octet_given : waits' ++ (text_from (drop (next + 1) octets) run ++ flag) ≡ refilled (waits ++ frame_from (drop next octets) ones)
-  octet_given =
-      let octet = get_or octets next 0 in
-      let rest = drop (next + 1) octets in
-      let after : suc next ≡ next + 1 = omega arith in
-      let given : frame_from (drop next octets) ones ≡ low_bits count content ++ (text_from rest run ++ flag) =
-      ap (λ l. frame_from l ones) (drop-cons octets next 0 within)
-      ∙ ap (λ n. frame_from (octet ∷ drop n octets) ones) after
-      ∙ ap (λ l. l ++ flag) (text_from-octet octet rest ones content count run few after_few s)
-      ∙ append_assoc (low_bits count content) (text_from rest run) flag in
+-- the stuffed bits of one octet more wait
+pub stuffed_more :
+    (octets : List ℕ) (next next' ones content count run : ℕ) (waits waits' : List Bool) → next < length octets → ones ≤ 4 → run ≤ 4
+    → IsStuffedOctet ones (get_or octets next 0) content count run → waits' ≡ waits ++ low_bits count content → next' ≡ next + 1
+    → waits' ++ text_from (drop next' octets) run ≡ waits ++ text_from (drop next octets) ones
+stuffed_more octets next next' ones content count run waits waits' within few after_few s more e =
+    let octet = get_or octets next 0 in
+    let after : next' ≡ suc next = omega arith in
+    let rest = text_from (drop (suc next) octets) run in
+    ap (λ n. waits' ++ text_from (drop n octets) run) after
+    ∙ ap (λ l. l ++ rest) more
+    ∙ append_assoc waits (low_bits count content) rest
+    ∙ ap (λ l. waits ++ l) (sym (text_from-octet octet (drop (suc next) octets) ones content count run few after_few s))
+    ∙ ap (λ l. waits ++ text_from l ones) (sym (drop-cons octets next 0 within))
+
+-- more of the frame in hand waits, stuffed
+module _ (octets : List ℕ) (next next' ones run : ℕ) (waits waits' : List Bool) (within : next < length octets) (given : waits' ++ text_from (drop next' octets) run ≡ waits ++ text_from (drop next octets) ones) where
+  stuffed_given : waits' ++ (text_from (drop next' octets) run ++ flag) ≡ refilled (waits ++ frame_from (drop next octets) ones)
+  stuffed_given =
       let many = length-frame_from octets next ones within in
-      ap (λ l. l ++ (text_from rest run ++ flag)) more
-      ∙ append_assoc waits (low_bits count content) (text_from rest run ++ flag)
-      ∙ ap (λ l. waits ++ l) (sym given)
+      sym (append_assoc waits' (text_from (drop next' octets) run) flag)
+      ∙ ap (λ l. l ++ flag) given
+      ∙ append_assoc waits (text_from (drop next octets) ones) flag
+      ∙ ap (λ l. waits ++ l) (sym (frame_from-some (drop next octets) ones (omega (arith, length-drop next octets))))
       ∙ refilled-enough (waits ++ frame_from (drop next octets) ones)
       (omega (arith, length-append waits (frame_from (drop next octets) ones)))
 
-  -- with others after it
-  pub refill-more : (next' : ℕ) → next' ≡ next + 1 → next' < length octets → waits' ++ frame_from (drop next' octets) run ≡ refilled (waits ++ frame_from (drop next octets) ones)
-  refill-more next' e others =
-      ap (λ n. waits' ++ frame_from (drop n octets) run) e
-      ∙ ap (λ l. waits' ++ l) (frame_from-some (drop (next + 1) octets) run (omega (arith, length-drop (next + 1) octets)))
-      ∙ octet_given
+  -- with octets after it
+  pub refill-more : next' < length octets → waits' ++ frame_from (drop next' octets) run ≡ refilled (waits ++ frame_from (drop next octets) ones)
+  refill-more others =
+      ap (λ l. waits' ++ l) (frame_from-some (drop next' octets) run (omega (arith, length-drop next' octets)))
+      ∙ stuffed_given
 
   -- with none: the closing flag waits too
-  pub refill-last : (next' : ℕ) (octets' : List ℕ) (waits'' : List Bool) → next' ≡ next + 1 → length octets ≤ next' → octets' ≡ [] → waits'' ≡ waits' ++ flag → waits'' ++ frame_from (drop next' octets') run ≡ refilled (waits ++ frame_from (drop next octets) ones)
-  refill-last next' octets' waits'' e last empty closed =
-      let none : text_from (drop (next + 1) octets) run ≡ [] =
-      ap (λ l. text_from l run) (drop_all (next + 1) octets (omega arith)) ∙ text_from-none run after_few in
+  pub refill-last : (octets' : List ℕ) (waits'' : List Bool) → run ≤ 4 → length octets ≤ next' → octets' ≡ [] → waits'' ≡ waits' ++ flag → waits'' ++ frame_from (drop next' octets') run ≡ refilled (waits ++ frame_from (drop next octets) ones)
+  refill-last octets' waits'' few last empty closed =
+      let none : text_from (drop next' octets) run ≡ [] =
+      ap (λ l. text_from l run) (drop_all next' octets last) ∙ text_from-none run few in
       ap (λ l. waits'' ++ l) (frame_from-past octets' next' run (omega (arith, ap length empty)))
       ∙ append-nil waits'' ∙ closed
       ∙ ap (λ l. waits' ++ (l ++ flag)) (sym none)
-      ∙ octet_given
+      ∙ stuffed_given
 
 -- ---- an octet is given
 

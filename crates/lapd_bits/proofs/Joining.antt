@@ -36,14 +36,14 @@ pub above_below : (number place more n : ℕ) → number < 2 ^ place → more < 
 above_below number place more n below few =
     omega (arith, pow-add 2 place n, mul-add-lt more (2 ^ place) number (2 ^ n) few below)
 
--- the same in 32 bits
-pub above_fits_word : (number place more n : ℕ) → number < 2 ^ place → more < 2 ^ n → place + n < 32 → number + more * 2 ^ place < 4294967296
+-- the same in 64 bits
+pub above_fits_word : (number place more n : ℕ) → number < 2 ^ place → more < 2 ^ n → place + n < 64 → number + more * 2 ^ place < 18446744073709551616
 above_fits_word number place more n below few small =
-    omega (arith, above_below number place more n below few, pow_below (place + n) 32 small)
+    omega (arith, above_below number place more n below few, pow_below (place + n) 64 small)
 
-pub above_is_word : (number place more n : ℕ) → number < 2 ^ place → more < 2 ^ n → place + n < 32 → number + more * 2 ^ place % 4294967296 ≡ number + more * 2 ^ place
+pub above_is_word : (number place more n : ℕ) → number < 2 ^ place → more < 2 ^ n → place + n < 64 → number + more * 2 ^ place % 18446744073709551616 ≡ number + more * 2 ^ place
 above_is_word number place more n below few small =
-    let fits : more * 2 ^ place < 4294967296 = omega (arith, above_fits_word number place more n below few small) in
+    let fits : more * 2 ^ place < 18446744073709551616 = omega (arith, above_fits_word number place more n below few small) in
     ap (λ x. number + x) (mod-eq_of_lt fits)
 
 -- ---- the octets of the gap

@@ -14,6 +14,6 @@ pub record IsSound (a : Inside) : Type 0 where
   pub fits : vec_len a.frame ≤ a.n201 + 6
   pub space : a.n201 + 6 ≤ vec_capacity a.frame
   pub latest : a.latest ≤ a.n201 + 4
-  pub waiting : a.waiting.count ≤ 24
+  pub waiting : a.waiting.count < 56
   pub ones : a.text.ones ≤ 4
   pub more : 0 < vec_len a.frame → a.text.next < vec_len a.frame

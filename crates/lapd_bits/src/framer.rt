@@ -1,9 +1,9 @@
 //! What goes out on a line (clauses 2.2, 2.6 and 2.7): frames, and idle flags between them.
-ghost use Rattle.std.specs.Prelude.{◌≡◌, ℕ, ◌+◌, ◌<◌, ◌≤◌, ◌↔◌, List, [], ◌∷◌, ◌++◌, length, take, min, vec_len, vec_capacity, IsTrue, IfOk};
+ghost use Rattle.std.specs.Prelude.{◌≡◌, ℕ, ◌+◌, ◌<◌, ◌≤◌, ◌↔◌, List, [], ◌∷◌, ◌++◌, length, take, drop, min, vec_len, vec_capacity, IsTrue, IfOk};
 ghost use Rattle.lapd_bits.specs.Bits.{low_bits, flag, number_of};
 ghost use Rattle.lapd_bits.specs.Sent.{Item, frame, item_text};
 ghost use Rattle.lapd_bits.specs.Framer.{Framing, Stands, refilled, with_idle, still_held};
-ghost use Rattle.lapd_bits.specs.FramerText.{to_give};
+ghost use Rattle.lapd_bits.specs.FramerText.{text_from, to_give, waits};
 
 use crate::check::fcs;
 use crate::start_fault::StartFault;
@@ -13,7 +13,10 @@ use std::alloc::Global;
 use std::marker::Model;
 
 /// The bits of an octet.
-const OCTET_BITS: u8 = 8;
+const OCTET_BITS: u64 = 8;
+
+/// How many octets are stuffed at once.
+const AT_ONCE: u8 = 4;
 
 /// Gives the octets of a line: one opening flag, then each frame that is loaded, stuffed, with its check and a
 /// closing flag, and idle flags where no frame waits (Q.921 clauses 2.2, 2.6 and 2.7).
@@ -77,9 +80,9 @@ impl Framer {
         ensures { result ≡ min 8 (length self.now.left) }
     {
         if self.busy() {
-            OCTET_BITS
+            OCTET_BITS as u8
         } else {
-            self.waiting.count()
+            self.waiting.count() as u8
         }
     }
 
@@ -122,6 +125,7 @@ impl Framer {
 
     /// The next octet of the line, low bit first. Where fewer than eight bits are left, an idle flag goes on
     /// after them first, and else nothing.
+    #[inline(always)]
     pub fn octet(&mut self) -> u8
         ensures octet { result ≡ number_of (take 8 (refilled self.old.left)) }
         ensures bits { low_bits 8 result ++ self.new.left ≡ refilled self.old.left }
@@ -136,12 +140,14 @@ impl Framer {
 }
 
 // Has eight bits wait at least: of the frame in hand, or of an idle flag.
+#[inline(always)]
 fn refill(waiting: &mut Waiting, frame: &mut Vec<u8>, text: &mut Stuffer)
-    requires room { waiting.old.count ≤ 24 }
+    requires room { waiting.old.count < 56 }
     requires few { text.old.ones ≤ 4 }
     requires more { 0 < vec_len frame.old → text.old.next < vec_len frame.old }
     ensures left { to_give waiting.new frame.new.items text.new ≡ refilled (to_give waiting.old frame.old.items text.old) }
     ensures eight { 8 ≤ waiting.new.count }
+    ensures room { waiting.new.count < 64 }
     ensures few { text.new.ones ≤ 4 }
     ensures more { 0 < vec_len frame.new → text.new.next < vec_len frame.new }
     ensures fits { vec_len frame.new ≤ vec_len frame.old }
@@ -150,14 +156,57 @@ fn refill(waiting: &mut Waiting, frame: &mut Vec<u8>, text: &mut Stuffer)
     if OCTET_BITS <= waiting.count() {
         return;
     }
+    refill_low(waiting, frame, text);
+}
+
+// The same where fewer than eight bits wait: four octets of the frame in hand at once, with the closing flag after the
+// last, or an idle flag.
+#[inline(always)]
+fn refill_low(waiting: &mut Waiting, frame: &mut Vec<u8>, text: &mut Stuffer)
+    requires low { waiting.old.count < 8 }
+    requires few { text.old.ones ≤ 4 }
+    requires more { 0 < vec_len frame.old → text.old.next < vec_len frame.old }
+    ensures left { to_give waiting.new frame.new.items text.new ≡ refilled (to_give waiting.old frame.old.items text.old) }
+    ensures eight { 8 ≤ waiting.new.count }
+    ensures room { waiting.new.count < 64 }
+    ensures few { text.new.ones ≤ 4 }
+    ensures more { 0 < vec_len frame.new → text.new.next < vec_len frame.new }
+    ensures fits { vec_len frame.new ≤ vec_len frame.old }
+    ensures space { vec_capacity frame.new ≡ vec_capacity frame.old }
+{
     if frame.is_empty() {
         waiting.push_flag();
         return;
     }
-    let octet = text.octet(frame);
-    waiting.push(octet.bits as u32, octet.count);
+    stuff(waiting, frame, text);
     if text.is_done(frame) {
         frame.clear();
         waiting.push_flag();
     }
+}
+
+// Has the stuffed bits of the next four octets wait, or of those that there are.
+fn stuff(waiting: &mut Waiting, frame: &[u8], text: &mut Stuffer)
+    requires low { waiting.old.count < 8 }
+    requires few { text.old.ones ≤ 4 }
+    requires more { text.old.next < length frame.now }
+    ensures given { waits waiting.new ++ text_from (drop text.new.next frame.now) text.new.ones
+        ≡ waits waiting.old ++ text_from (drop text.old.next frame.now) text.old.ones }
+    ensures some { 8 ≤ waiting.new.count }
+    ensures room { waiting.new.count < 48 }
+    ensures few { text.new.ones ≤ 4 }
+    ensures within { text.new.next ≤ length frame.now }
+{
+    // in locals, so that they stay in registers
+    let mut bits = *waiting;
+    let mut place = *text;
+    for _ in 0..AT_ONCE {
+        if place.is_done(frame) {
+            break;
+        }
+        let octet = place.octet(frame);
+        bits.push(octet.bits as u64, octet.count as u64);
+    }
+    *waiting = bits;
+    *text = place;
 }

@@ -214,7 +214,7 @@ pub(crate) struct Stuffer {
     /// The next of the octets.
     next: usize,
     /// The contiguous 1s given up to now.
-    ones: u8,
+    ones: usize,
 }
 
 impl Stuffer {
@@ -241,9 +241,9 @@ impl Stuffer {
         ensures few { self.new.ones ≤ 4 }
         ensures stuffed { IsStuffedOctet self.old.ones (slice_index octets.now self.old.next) result.bits result.count self.new.ones }
     {
-        let at = self.ones as usize * 256 + octets[self.next] as usize;
+        let at = self.ones * 256 + octets[self.next] as usize;
         self.next += 1;
-        self.ones = RUNS[at];
+        self.ones = RUNS[at] as usize;
         StuffedOctet {
             bits: BITS[at],
             count: COUNTS[at],

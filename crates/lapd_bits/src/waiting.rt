@@ -3,19 +3,19 @@ ghost use Rattle.std.specs.Prelude.{◌≡◌, ◌≤◌, ◌<◌, ◌+◌, ◌^
 ghost use Rattle.lapd_bits.specs.Bits.{low_bits, flag};
 
 /// A flag, its first bit lowest.
-const FLAG: u32 = 0b0111_1110;
+const FLAG: u64 = 0b0111_1110;
 
 /// How many bits a flag has.
-const FLAG_BITS: u8 = 8;
+const FLAG_BITS: u64 = 8;
 
 /// Bits that wait to go out.
 #[derive(Clone, Copy, Debug)]
 pub(crate) struct Waiting {
     /// The first to go is the lowest.
-    bits: u32,
-    count: u8,
+    bits: u64,
+    count: u64,
     ghost below: { bits < 2 ^ count },
-    ghost at_most: { count < 32 },
+    ghost at_most: { count < 64 },
 }
 
 impl Waiting {
@@ -33,15 +33,15 @@ impl Waiting {
     }
 
     /// How many bits wait.
-    pub(crate) fn count(&self) -> u8
+    pub(crate) fn count(&self) -> u64
         ensures { result ≡ self.now.count }
     {
         self.count
     }
 
     /// Has more bits wait, after the others.
-    pub(crate) fn push(&mut self, bits: u32, count: u8)
-        requires room { self.old.count + count < 32 }
+    pub(crate) fn push(&mut self, bits: u64, count: u64)
+        requires room { self.old.count + count < 64 }
         requires below { bits < 2 ^ count }
         ensures bits { waits self.new ≡ waits self.old ++ low_bits count bits }
         ensures count { self.new.count ≡ self.old.count + count }
@@ -55,7 +55,7 @@ impl Waiting {
 
     /// Has a flag wait, after the others.
     pub(crate) fn push_flag(&mut self)
-        requires room { self.old.count < 24 }
+        requires room { self.old.count < 56 }
         ensures bits { waits self.new ≡ waits self.old ++ flag }
         ensures count { self.new.count ≡ self.old.count + 8 }
     {

@@ -1,52 +1,11 @@
--- Eight bits wait already, an idle flag goes on, or an octet of the frame in hand, with the closing flag after the
--- last.
-use Rattle.std.proofs.Common.{◌≡◌, ◌≤◌, ◌<◌, length, get_or, sym, ap, subst, ◌∙◌, vec_len, arith}
-use Rattle.std.proofs.lemmas.Bool.{eqb-true, eqb-false, leb-true, leb-false}
+-- Eight bits wait already, or are had.
+use Rattle.std.proofs.Common.{arith}
 use Rattle.lapd_bits.specs.FramerText.{waits}
-use Rattle.lapd_bits.specs.Stuffer.{IsStuffedOctet}
 use Rattle.lapd_bits.proofs.BitLemmas.{length-low_bits}
-use Rattle.lapd_bits.proofs.FramerGiven.{refill-none, refill-idle, refill-more, refill-last}
+use Rattle.lapd_bits.proofs.FramerGiven.{refill-none}
 use Rattle.lapd_bits.proofs.framer.refill.Goals as goal
 
 pub returns-then-count-ge-OCTET_BITS-clause-left : goal.returns-then-count-ge-OCTET_BITS-clause-left
 returns-then-count-ge-OCTET_BITS-clause-left c =
     let w = c.args.waiting.now in
     refill-none (waits w) _ (omega (arith, length-low_bits w.count w.bits, c.count.ensures, c.if-count-ge-OCTET_BITS.true))
-
-pub returns-then-is_empty-clause-left : goal.returns-then-is_empty-clause-left
-returns-then-is_empty-clause-left c =
-    let w = c.args.waiting.now in
-    let frame = c.args.frame.now in
-    let text = c.args.text.now in
-    let none : vec_len frame ≡ 0 = eqb-true (vec_len frame) 0 (sym c.is_empty.ensures ∙ c.if-is_empty.true) in
-    refill-idle frame.items text.next text.ones (waits w) (waits c.push_flag.new.self) (omega (arith, none, frame.ok.0))
-    (omega (arith, length-low_bits w.count w.bits, c.count.ensures, c.if-count-ge-OCTET_BITS.false)) c.push_flag.ensures.bits
-
-pub returns-then-is_done-clause-left : goal.returns-then-is_done-clause-left
-returns-then-is_done-clause-left c =
-    let w = c.args.waiting.now in
-    let frame = c.args.frame.now in
-    let text = c.args.text.now in
-    let next = c.octet-octet.new.self in
-    let octet = c.octet-octet.result in
-    let some = eqb-false (vec_len frame) 0 (sym c.is_empty.ensures ∙ c.if-is_empty.false) in
-    let within : text.next < length frame.items = omega (arith, frame.ok.0, c.requires.more (omega (arith, some))) in
-    let s = subst (λ l. IsStuffedOctet text.ones (get_or l text.next 0) octet.bits octet.count next.ones) c.deref.ensures.value c.octet-octet.ensures.stuffed in
-    let last : length c.deref-2.result.now ≤ next.next = leb-true (length c.deref-2.result.now) next.next (sym c.is_done.ensures ∙ c.if-is_done.true) in
-    refill-last frame.items text.next text.ones octet.bits octet.count next.ones (waits w) (waits c.push.new.self) within c.requires.few c.octet-octet.ensures.few s c.push.ensures.bits
-    next.next c.clear.new.self.items (waits c.push_flag-then-is_done.new.self) c.octet-octet.ensures.next
-    (omega (arith, last, ap length c.deref-2.ensures.value)) c.clear.ensures.items c.push_flag-then-is_done.ensures.bits
-
-pub returns-else-is_done-clause-left : goal.returns-else-is_done-clause-left
-returns-else-is_done-clause-left c =
-    let w = c.args.waiting.now in
-    let frame = c.args.frame.now in
-    let text = c.args.text.now in
-    let next = c.octet-octet.new.self in
-    let octet = c.octet-octet.result in
-    let some = eqb-false (vec_len frame) 0 (sym c.is_empty.ensures ∙ c.if-is_empty.false) in
-    let within : text.next < length frame.items = omega (arith, frame.ok.0, c.requires.more (omega (arith, some))) in
-    let s = subst (λ l. IsStuffedOctet text.ones (get_or l text.next 0) octet.bits octet.count next.ones) c.deref.ensures.value c.octet-octet.ensures.stuffed in
-    let others : next.next < length c.deref-2.result.now = leb-false (length c.deref-2.result.now) next.next (sym c.is_done.ensures ∙ c.if-is_done.false) in
-    refill-more frame.items text.next text.ones octet.bits octet.count next.ones (waits w) (waits c.push.new.self) within c.requires.few c.octet-octet.ensures.few s c.push.ensures.bits
-    next.next c.octet-octet.ensures.next (omega (arith, others, ap length c.deref-2.ensures.value))

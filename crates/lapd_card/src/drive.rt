@@ -17,7 +17,7 @@ ghost use Rattle.lapd_card_laws.specs.Promises.{IsKept, IsCountedIn, BeginsEmpty
 ghost use Rattle.lapd_card_laws.specs.Promises.{AreReceived, BeginsUnheard};
 ghost use Rattle.lapd_card_laws.specs.Promises.{NotesTell, TeisAreTold, BeginsDown, TeisHaveOnePlace, BegunIsTold};
 ghost use Rattle.lapd_card_laws.specs.Promises.{MessagesHaveCauses, ToldTeisAreThere, NotesHaveReasons, NothingElseIsNoted};
-ghost use Rattle.lapd_card_progress.specs.Promises.{AnswersAreBegun, PullsComeToAnEnd, FewAreToGo, BeginsWithFew};
+ghost use Rattle.lapd_card_progress.specs.Promises.{AnswersAreBegun, PullsComeToAnEnd, FewAreToGo, BeginsWithFew, EnoughPullsServe};
 ghost use Rattle.lapd_card.specs.Sink.{one_failure_more};
 ghost use Rattle.lapd_card.specs.Stands.{Stands, Leads};
 
@@ -176,12 +176,15 @@ impl<S: Shelf> Card<S> {
     ///   finds room, and then the line is only pulled, whatever happens at the others: one of the pulls begins the answer to
     ///   a poll of states 7 and 8 with a valid N(R), which is RR, RNR or REJ with F=1 and N(R) = V(R), and to SABME or DISC,
     ///   which is UA or DM with F = P, once the pulls give more than the bits to go, or than those that go before it
-    ///   (clauses 5.5.1.2, 5.5.3.2, 5.6.2 to 5.6.7 and 5.8.1).
+    ///   (clauses 5.5.1.2, 5.5.3.2, 5.6.2 to 5.6.7 and 5.8.1). And so one of them begins any control frame that waits.
     /// - `pulls_come_to_an_end`: wherever a line is only pulled, once the pulls give more than the bits to go there, nothing
     ///   waits on it but I-frames behind a closed window, behind a terminal that is busy, or of a link that is not in state
     ///   7; and idle flags go on, and nothing else (clauses 5.6.1 and 5.6.5).
     /// - `few_to_go`: on a card that has just begun, `begins_with_few`, and after whatever happens to it, the bits to go of a
     ///   line are at most what the configuration allows.
+    /// - `enough_pulls`: so the pulls that are enough for those answers, and for any control frame that waits, are a number
+    ///   that the configuration gives, whatever else waits, and so are those after which idle flags alone go on: 23,050 and
+    ///   64,346 octets of the line with eight terminals, N201 of 260, windows of 7, 4 unit data and 4 control frames.
     ///
     /// # Errors
     ///
@@ -286,6 +289,8 @@ impl<S: Shelf> Card<S> {
         ensures few_to_go { (m : machine.Card) (count : ℕ) → Stands S.store self.old m
             → FewAreToGo m (take count (events_of events.now)) }
         ensures begins_with_few { BeginsWithFew self.old.config }
+        ensures enough_pulls { (m : machine.Card) (count : ℕ) → Stands S.store self.old m
+            → EnoughPullsServe m (take count (events_of events.now)) }
     {
         for (at, event) in events.iter().enumerate() {
             if self.answer(*event, sink).is_err() {

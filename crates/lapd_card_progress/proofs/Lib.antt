@@ -1,4 +1,5 @@
 -- Lemmas.
 pub mod Meanwhile
 pub mod Wherever
+pub mod Enough
 pub mod Premises

@@ -6,6 +6,7 @@ use Rattle.std.proofs.lemmas.List.Elements.{All-nil, All-cons, All-head, All-tai
 use Rattle.lapd_frame.specs.declared.controls.Control.{Control}
 use Rattle.lapd_frame.specs.declared.services.Service.{Service}
 use Rattle.lapd_frame.specs.Grammar.{Parts}
+use Rattle.lapd_link_machine.specs.declared.frames.ControlFrame.{ControlFrame}
 use Rattle.lapd_link_progress.specs.Polls.{IsPollWhileUp, asked_of}
 use Rattle.lapd_line_machine.specs.declared.config.Config.{Config}
 use Rattle.lapd_line_machine.specs.Answer.{octet, pull}
@@ -17,6 +18,7 @@ use Rattle.lapd_line_laws.specs.Heard.{Ends, IsFor}
 use Rattle.lapd_line_laws.specs.Pulls.{HasNothing}
 use Rattle.lapd_line_progress.specs.Drains.{after_pulls, bits_to_go, IsEnough, control_text, IsBegunWithin}
 use Rattle.lapd_line_progress.proofs.Draining.{drains, idles}
+use Rattle.lapd_line_progress.proofs.Ordered.{enough-goes}
 use Rattle.lapd_line_progress.proofs.Polled.{poll-goes, unnumbered-goes}
 use Rattle.lapd_card_machine.specs.Card.{Card, line_at}
 use Rattle.lapd_card_machine.specs.Event.{Event, at}
@@ -25,6 +27,7 @@ use Rattle.lapd_card_machine.specs.Run.{IsAtLine, AreAtLines, after_all}
 use Rattle.lapd_card_machine.specs.Sound.{IsSound}
 use Rattle.lapd_card_machine.proofs.CardSound.{after_is_sound}
 use Rattle.lapd_card_progress.specs.Among.{ArePullsAt, pulls_at, IsBegunAmong, IsAnsweredAmong, IsIdleAmong}
+use Rattle.lapd_card_progress.specs.Promises.{IsWaiting}
 
 -- One event, by whether it finds room.
 elsewhere : (card : Card) (number : ℕ) (e : Event) (x : Line) (b : Bool) → number ≢ e.line
@@ -140,6 +143,20 @@ card-idles card number events s few lines pulls nothing =
       items = ap (λ (l : Line). l.items) there ∙ x.items;
     }
 
+module _ (card : Card) (number : ℕ) (s : IsSound card) (few : number < card.config.lines) (events : List Event) (all : AreAtLines card events) (pulls : ArePullsAt number events) where
+  pub begun-from : (frame : List ℕ) → IsBegunWithin card.config (pulls_at number events) (line_at number card) frame → IsBegunAmong card number events frame
+  begun-from frame h =
+      let x = found number card events h.pulls all pulls h.few in
+      let there : line_at number (after_all card x.front) ≡ after_pulls card.config h.pulls (line_at number card) =
+      line-after number x.front card s few x.lines x.pulls ∙ ap (λ k. after_pulls card.config k (line_at number card)) x.count in
+      record { front = x.front; back = x.back; split = x.split; taken = h.taken; begins = ap (begun card.config) there ∙ h.begins; is = h.is }
+
+  pub card-waits : (link tei : ℕ) (before : List ControlFrame) (f : ControlFrame) (behind : List ControlFrame) → IsWaiting card.config (line_at number card) link tei before f behind
+      → IsEnough card.config (pulls_at number events) (line_at number card) link (length before) → IsBegunAmong card number events (control_text card.config link tei f)
+  card-waits link tei before f behind h enough =
+      begun-from (control_text card.config link tei f)
+      (enough-goes card.config s.config link tei h.few (pulls_at number events) (line_at number card) (line-sound card number s few) h.on_line before f behind h.waits enough)
+
 module _ (card : Card) (number : ℕ) (s : IsSound card) (few : number < card.config.lines) (value : ℕ) (events : List Event) (all : AreAtLines card events) (pulls : ArePullsAt number events) where
   abbrev heard : Card
   heard = after (at number (octet value)) card
@@ -151,17 +168,15 @@ module _ (card : Card) (number : ℕ) (s : IsSound card) (few : number < card.co
       → IsBegunAmong card number (at number (octet value) ∷ events) frame
   unfolding after_all
   begun-among frame h =
-      let x = found number card events h.pulls all pulls h.few in
-      let there : line_at number (after_all heard x.front) ≡ after_pulls card.config h.pulls (lines.after card.config (octet value) (line_at number card)) =
-      line-after number x.front heard (after_is_sound card (at number (octet value)) s few) few x.lines x.pulls
-      ∙ ap (λ k. after_pulls card.config k (line_at number heard)) x.count ∙ ap (after_pulls card.config h.pulls) heard-is in
+      let x = begun-from heard number (after_is_sound card (at number (octet value)) s few) few events all pulls frame
+      (subst (λ l. IsBegunWithin card.config (pulls_at number events) l frame) (sym heard-is) h) in
       record {
         front = at number (octet value) ∷ x.front;
         back = x.back;
         split = ap (λ es. at number (octet value) ∷ es) x.split;
-        taken = h.taken;
-        begins = ap (begun card.config) there ∙ h.begins;
-        is = h.is;
+        taken = x.taken;
+        begins = x.begins;
+        is = x.is;
       }
 
   pub card-polled : (service : Service) (tei place : ℕ) (parts : Parts) (octets : List ℕ) → Ends card.config (line_at number card) value octets

@@ -18,7 +18,7 @@ use Rattle.lapd_card_machine.specs.Event.{Event, at}
 use Rattle.lapd_card_machine.specs.Run.{AreAtLines}
 use Rattle.lapd_card_machine.proofs.CardSound.{fresh_is_sound}
 use Rattle.lapd_card_progress.specs.Among.{ArePullsAt, pulls_at, IsAnsweredAmong}
-use Rattle.lapd_card_progress.specs.Promises.{IsHeardAndPulled}
+use Rattle.lapd_card_progress.specs.Promises.{IsHeardThere, IsHeardAndPulled}
 use Rattle.lapd_card_progress.specs.Worked.{at_line_0, events_before, card_before, line_is, served}
 use Rattle.lapd_card_progress.proofs.Wherever.{config-stays, answers-begun}
 
@@ -58,12 +58,17 @@ there P p = subst (λ c. P c (line_at 0 card_before)) (sym config-is) (subst (P 
 abbrev spelled : List ℕ
 spelled = 0x00 ∷ 0x81 ∷ 0x01 ∷ 0x01 ∷ []
 
-heard : IsHeardAndPulled card_before 0 last_octet (served 37) Call 64 0 poll
-heard = record {
+heard-there : IsHeardThere card_before 0 last_octet Call 64 0 poll
+heard-there = record {
   octets = spelled;
   ends = there (λ c l. Ends c l last_octet spelled) poll_ends;
   is_for = there (λ c l. IsFor l Call 64 0 poll spelled) poll-is-for;
   room = there (λ c l. length (link_in l Call 0).waiting + 1 ≤ c.control) room;
+}
+
+heard : IsHeardAndPulled card_before 0 last_octet (served 37) Call 64 0 poll
+heard = record {
+  heard = heard-there;
   only = only-pulls 37;
   enough = there (λ c l. IsEnough c (pulls_at 0 (served 37)) (lines.after c (octet last_octet) l) (link_number 0 Call) (length (link_in l Call 0).waiting)) enough;
 }

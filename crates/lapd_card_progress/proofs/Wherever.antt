@@ -19,15 +19,15 @@ use Rattle.lapd_card_machine.specs.Sound.{IsSound}
 use Rattle.lapd_card_machine.proofs.CardSound.{after_is_sound, always_sound}
 use Rattle.lapd_card_machine.proofs.Steps.{by_room}
 use Rattle.lapd_card_progress.specs.Among.{ArePullsAt, IsBegunAmong, IsAnsweredAmong}
-use Rattle.lapd_card_progress.specs.Promises.{Wherever, PollIsAnswered, UnnumberedIsAnswered, AnswersAreBegun, EndsInFlags, PullsComeToAnEnd, FewAreToGo, BeginsWithFew}
-use Rattle.lapd_card_progress.proofs.Meanwhile.{IsServed, at-another, few-lines, line-sound, card-drains, card-idles, card-polled, card-unnumbered}
+use Rattle.lapd_card_progress.specs.Promises.{Wherever, PollIsAnswered, UnnumberedIsAnswered, WaitingIsBegun, AnswersAreBegun, EndsInFlags, PullsComeToAnEnd, FewAreToGo, BeginsWithFew}
+use Rattle.lapd_card_progress.proofs.Meanwhile.{IsServed, at-another, few-lines, line-sound, card-drains, card-idles, card-polled, card-unnumbered, card-waits}
 
 -- What holds of all of a list holds of its parts.
-all-left : {X : Type 0} (P : X → Type 0) (xs ys : List X) → All P (xs ++ ys) → All P xs
+pub all-left : {X : Type 0} (P : X → Type 0) (xs ys : List X) → All P (xs ++ ys) → All P xs
 all-left P [] ys h = All-nil P
 all-left P (x ∷ xs) ys h = All-cons P x xs (All-head P x (xs ++ ys) h) (all-left P xs ys (All-tail P x (xs ++ ys) h))
 
-all-right : {X : Type 0} (P : X → Type 0) (xs ys : List X) → All P (xs ++ ys) → All P ys
+pub all-right : {X : Type 0} (P : X → Type 0) (xs ys : List X) → All P (xs ++ ys) → All P ys
 all-right P [] ys h = h
 all-right P (x ∷ xs) ys h = all-right P xs ys (All-tail P x (xs ++ ys) h)
 
@@ -50,31 +50,37 @@ config-stays card [] = refl
 config-stays card (e ∷ events) = config-stays (after e card) events
 
 -- Answers are begun.
-polls : Law PollIsAnswered
-unfolding Law
+pub polls : (card : Card) (events : List Event) → IsSound card → AreAtLines card events → PollIsAnswered card events
 polls card events s all number value pulls service tei place parts split h p =
     let these : AreAtLines card (at number (octet value) ∷ pulls) = subst (AreAtLines card) split all in
     subst
     (λ es. IsAnsweredAmong card number es service tei place (link_in (lines.after card.config (octet value) (line_at number card)) service place).r) (sym split)
     (card-polled card number s (All-head (IsAtLine card) (at number (octet value)) pulls these) value pulls
-    (All-tail (IsAtLine card) (at number (octet value)) pulls these) h.only service tei place parts h.octets h.ends h.is_for p h.room h.enough)
+    (All-tail (IsAtLine card) (at number (octet value)) pulls these) h.only service tei place parts h.heard.octets h.heard.ends h.heard.is_for p h.heard.room h.enough)
 
-unnumbered : Law UnnumberedIsAnswered
-unfolding Law
+pub unnumbered : (card : Card) (events : List Event) → IsSound card → AreAtLines card events → UnnumberedIsAnswered card events
 unnumbered card events s all number value pulls service tei place parts answer split h asked =
     let these : AreAtLines card (at number (octet value) ∷ pulls) = subst (AreAtLines card) split all in
     let text = control_text card.config (link_number place service) tei (record { command = false; control = answer }) in
     subst (λ es. IsBegunAmong card number es text) (sym split)
     (card-unnumbered card number s (All-head (IsAtLine card) (at number (octet value)) pulls these) value pulls
-    (All-tail (IsAtLine card) (at number (octet value)) pulls these) h.only service tei place parts h.octets answer h.ends h.is_for asked h.room h.enough)
+    (All-tail (IsAtLine card) (at number (octet value)) pulls these) h.only service tei place parts h.heard.octets answer h.heard.ends h.heard.is_for asked h.heard.room h.enough)
+
+waiting : Law WaitingIsBegun
+unfolding Law
+waiting card events s all number link tei before f behind few h only enough = card-waits card number s few events all only link tei before f behind h enough
 
 pub answers-begun : (m : Card) (events : List Event) → IsSound m → AreAtLines m events → AnswersAreBegun m events
+unfolding Law
 answers-begun m events s all =
-    record { polls = wherever PollIsAnswered polls m events s all; unnumbered = wherever UnnumberedIsAnswered unnumbered m events s all }
+    record {
+      polls = wherever PollIsAnswered polls m events s all;
+      unnumbered = wherever UnnumberedIsAnswered unnumbered m events s all;
+      waiting = wherever WaitingIsBegun waiting m events s all;
+    }
 
 -- Pulls come to an end.
-ends : Law EndsInFlags
-unfolding Law
+pub ends : (card : Card) (events : List Event) → IsSound card → AreAtLines card events → EndsInFlags card events
 ends card events s all number pulls more few split only less =
     let lines : AreAtLines card (pulls ++ more) = subst (AreAtLines card) split all in
     let served : ArePullsAt number (pulls ++ more) = subst (ArePullsAt number) split only in
@@ -86,6 +92,7 @@ ends card events s all number pulls more few split only less =
     (subst (λ c. HasNothing c (line_at number (after_all card pulls))) (sym kept) nothing)
 
 pub come-to-an-end : (m : Card) (events : List Event) → IsSound m → AreAtLines m events → PullsComeToAnEnd m events
+unfolding Law
 come-to-an-end m events s all = wherever EndsInFlags ends m events s all
 
 -- Few bits are to go.

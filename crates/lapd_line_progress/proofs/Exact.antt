@@ -1,21 +1,19 @@
 -- No frame is to go exactly where nothing waits that may go.
-use Rattle.std.proofs.Common.{◌≡◌, ℕ, zero, suc, ◌+◌, ◌-◌, ◌≤◌, ◌<◌, ◌↔◌, min, Bool, true, false, cond, not, ◌&&◌, List, [], ◌∷◌, length, Option, Some, None, refl, sym, ap, subst, ◌∙◌, ⊎_elim, arith}
+use Rattle.std.proofs.Common.{◌≡◌, ℕ, zero, suc, ◌+◌, ◌-◌, ◌≤◌, ◌<◌, ◌↔◌, min, Bool, true, false, cond, not, ◌&&◌, List, [], ◌∷◌, length, Option, Some, None, refl, sym, ap, subst, ⊎_elim, arith}
 use Rattle.std.specs.Prelude.{nat_lt, sum_by}
 use Rattle.std.specs.List.{range_with_len}
-use Rattle.std.specs.Option.{unwrap_or}
 use Rattle.std.proofs.lemmas.Bool.{ltb-true, ltb-false, cases_eq}
 use Rattle.std.proofs.lemmas.List.Sums.{sum_by-cons}
 use Rattle.lapd_link_machine.specs.declared.terms.Terms.{Terms}
-use Rattle.lapd_link_machine.specs.Link.{Link, outstanding, unsent}
-use Rattle.lapd_link_machine.specs.Offers.{is_established, may_send_information}
+use Rattle.lapd_link_machine.specs.Link.{Link, outstanding}
+use Rattle.lapd_link_machine.specs.Offers.{is_established}
 use Rattle.lapd_link_progress.specs.Waits.{HasNothingToSend}
 use Rattle.lapd_line_machine.specs.declared.config.Config.{Config}
-use Rattle.lapd_line_machine.specs.Line.{Line, link_count, service_at, place_at, tei_at, terms, terms_at, link_at}
+use Rattle.lapd_line_machine.specs.Line.{Line, link_count, service_at, place_at, tei_at, terms, link_at}
 use Rattle.lapd_line_machine.specs.Sound.{IsSoundAt, IsSound}
-use Rattle.lapd_line_machine.specs.Stored.{sum_of_links}
 use Rattle.lapd_line_laws.specs.Pulls.{HasNothing}
 use Rattle.lapd_line_laws.proofs.Silence.{silent, sends-none}
-use Rattle.lapd_line_progress.specs.Drains.{information_to_go, link_to_go, to_go_at_link, frames_to_go}
+use Rattle.lapd_line_progress.specs.Drains.{link_to_go, to_go_at_link, frames_to_go}
 
 -- Of a link.
 none-may : (b x y : Bool) (k o n s : ℕ) → nat_lt o k ≡ x → nat_lt s n ≡ y → cond b (min (k - o) (n - s)) 0 ≡ 0 → (b && x && y) ≡ false

@@ -8,4 +8,5 @@ pub mod Leaving
 pub mod InRounds
 pub mod Ordered
 pub mod Polled
+pub mod Soon
 pub mod Premises

@@ -31,7 +31,7 @@ module _ (c : Config) (ranged : IsInRange c) (l : Line) (s : IsSound c l) (value
   abbrev next : Link
   next = links.after (terms c service tei) (link.received (link.frame parts)) (link_in l service place)
 
-  few : number < link_count c
+  pub few : number < link_count c
   few =
       let within = (place_of-is l.management.places tei place h.on_line).0 in
       number_within place c.terminals service (omega (arith, within, s.places))

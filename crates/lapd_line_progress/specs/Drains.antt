@@ -106,3 +106,20 @@ most_frames c = 4 + c.unit_queue + link_count c * (c.control + max c.k c.k16 + 1
 
 abbrev pub most_bits : Config → ℕ
 most_bits c = (1 + most_frames c) * longest_text c
+
+-- So many pulls, which are octets of the line, are enough for all that may go.
+abbrev pub most_pulls : Config → ℕ
+most_pulls c = most_bits c / 8 + 1
+
+-- The most frames that a configuration lets go before a control frame that waits: four messages of TEI management, unit data,
+-- one frame of every link for each other control frame that its link has room for, and one of each other link.
+abbrev pub most_frames_before : Config → ℕ
+most_frames_before c = 4 + c.unit_queue + (c.control - 1) * link_count c + (link_count c - 1)
+
+-- The rest of one frame goes before them.
+abbrev pub most_bits_before : Config → ℕ
+most_bits_before c = (1 + most_frames_before c) * longest_text c
+
+-- So many pulls are enough for a control frame that waits, and so for the answer to a poll.
+abbrev pub most_pulls_before : Config → ℕ
+most_pulls_before c = most_bits_before c / 8 + 1

@@ -11,7 +11,7 @@ use Rattle.lapd_line_machine.specs.Line.{Line, fresh_line, link_at}
 use Rattle.lapd_line_machine.specs.Machine.{of_request}
 use Rattle.lapd_line_machine.specs.Octet.{aim_of_heard}
 use Rattle.lapd_line_machine.specs.Request.{Assign}
-use Rattle.lapd_line_progress.specs.Drains.{longest_text, bits_to_go, way_round, frames_before, most_frames, most_bits}
+use Rattle.lapd_line_progress.specs.Drains.{longest_text, bits_to_go, way_round, frames_before, most_frames, most_bits, most_pulls, most_frames_before, most_bits_before, most_pulls_before}
 
 abbrev usual : Config
 usual = record { lines = 1; terminals = 8; k = 7; k16 = 7; queue = 8; unit_queue = 4; control = 4; slots = 64; n201 = 260; n200 = 3 }
@@ -20,12 +20,26 @@ usual = record { lines = 1; terminals = 8; k = 7; k16 = 7; queue = 8; unit_queue
 longest : longest_text usual ≡ 2561
 longest = refl
 
--- At most 200 frames are to go on a line, and the rest of one: 514,761 bits, which 64,346 octets are more than.
+-- At most 200 frames are to go on a line, and the rest of one: 514,761 bits, for which 64,346 pulls are enough.
 most_wait : most_frames usual ≡ 200
 most_wait = refl
 
 most_go : most_bits usual ≡ 514761
 most_go = refl
+
+most_pulled : most_pulls usual ≡ 64346
+most_pulled = refl
+
+-- At most 71 frames go before a control frame that waits, and the rest of one: 184,392 bits. So 23,050 pulls are enough for the
+-- answer to a poll.
+most_first : most_frames_before usual ≡ 71
+most_first = refl
+
+most_bits_first : most_bits_before usual ≡ 184392
+most_bits_first = refl
+
+most_pulled_first : most_pulls_before usual ≡ 23050
+most_pulled_first = refl
 
 -- Link 3 of 16, where the turn is at link 3, at link 5, and behind the last.
 at_turn : way_round 16 3 3 ∷ way_round 16 5 3 ∷ way_round 16 16 3 ∷ [] ≡ 0 ∷ 14 ∷ 3 ∷ []

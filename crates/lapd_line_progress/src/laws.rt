@@ -13,7 +13,7 @@ ghost use Rattle.lapd_line_machine.specs.Machine.{after};
 ghost use Rattle.lapd_line_machine.specs.Sound.{IsInRange, IsSound};
 ghost use Rattle.lapd_line_laws.specs.Heard.{Ends, IsFor};
 ghost use Rattle.lapd_line_laws.specs.Pulls.{HasNothing};
-ghost use Rattle.lapd_line_progress.specs.Drains.{after_pulls, frames_to_go, bits_to_go, IsEnough, control_text, IsBegunWithin, IsAnsweredWithin, IsIdling, HasFewLeft, most_bits};
+ghost use Rattle.lapd_line_progress.specs.Drains.{after_pulls, frames_to_go, bits_to_go, IsEnough, control_text, IsBegunWithin, IsAnsweredWithin, IsIdling, HasFewLeft, most_bits, bits_before, most_bits_before, most_pulls_before};
 
 /// Pulls come to an end of what waits. The frames to go are the messages of TEI management and the unit data that wait,
 /// and of each link its control frames, the acknowledgement that it owes, and, in state 7 while the terminal is not taken
@@ -41,6 +41,11 @@ pub fn pulls_come_to_an_end()
 /// that ends a poll for such a link in state 7 or 8, with a valid N(R), contents within N201 and room for a control frame,
 /// the response with F=1 and N(R) = V(R) is (`polled`; Q.921 clauses 5.6.2 to 5.6.7 and 5.8.1); and after one that ends
 /// SABME or DISC its UA or DM with F = P, in whatever state (`unnumbered`; clauses 5.5.1.2, 5.5.3.2, 5.5.4 and 5.5.5).
+/// A configuration gives a number that the bits before a control frame are never above, where it finds room and at most
+/// the longest frame is left (`few_before`): four messages of TEI management, its unit data, one frame of every link for each
+/// other control frame that a link has room for, one of each other link, and the rest of one. So a number of pulls is
+/// enough for whatever control frame waits (`soon`): 23,050 with eight terminals, N201 of 260, 4 unit data and 4 control
+/// frames (`specs/Worked`).
 pub fn what_waits_is_begun()
     ensures waiting { (c : Config) (n : ℕ) (l : Line) (number tei : ℕ) (before : List ControlFrame) (f : ControlFrame) (behind : List ControlFrame) →
         IsInRange c → IsSound c l → number < link_count c → tei_at (place_at number) l ≡ Some tei →
@@ -55,4 +60,9 @@ pub fn what_waits_is_begun()
         asked_of (link_in l service place).state parts.control ≡ Some answer → length (link_in l service place).waiting + 1 ≤ c.control →
         IsEnough c n (after c (octet value) l) (link_number place service) (length (link_in l service place).waiting) →
         IsBegunWithin c n (after c (octet value) l) (control_text c (link_number place service) tei (record { command = false; control = answer })) }
+    ensures few_before { (c : Config) (l : Line) (number others : ℕ) → IsSound c l → HasFewLeft c l → number < link_count c → others + 1 ≤ c.control →
+        bits_before c l number others ≤ most_bits_before c }
+    ensures soon { (c : Config) (l : Line) (number tei : ℕ) (before : List ControlFrame) (f : ControlFrame) (behind : List ControlFrame) →
+        IsInRange c → IsSound c l → HasFewLeft c l → number < link_count c → tei_at (place_at number) l ≡ Some tei →
+        (link_at number l).waiting ≡ before ++ f ∷ behind → IsBegunWithin c (most_pulls_before c) l (control_text c number tei f) }
 {}

@@ -2,7 +2,7 @@ use Rattle.std.proofs.Common.{sym, ap, subst}
 use Rattle.lapd_line_laws.specs.Pulls.{HasNothing}
 use Rattle.lapd_card_machine.specs.Card.{line_at}
 use Rattle.lapd_card_machine.proofs.Fold.{run_is_moments}
-use Rattle.lapd_card_progress.proofs.Meanwhile.{card-drains, card-idles, card-polled, card-unnumbered}
+use Rattle.lapd_card_progress.proofs.Meanwhile.{card-drains, card-idles, card-polled, card-unnumbered, card-waits}
 use Rattle.lapd_card_progress.proofs.laws.pulls_serve_a_line.Goals as goal
 
 pub returns-clause-drained : goal.returns-clause-drained
@@ -22,3 +22,8 @@ pub returns-clause-unnumbered : goal.returns-clause-unnumbered
 returns-clause-unnumbered c =
     λ card number events value service tei place parts octets answer s few lines pulls ends h asked room enough.
     card-unnumbered card number s few value events lines pulls service tei place parts octets answer ends h asked room enough
+
+pub returns-clause-waiting : goal.returns-clause-waiting
+returns-clause-waiting c =
+    λ card number events link tei before f behind s few lines pulls h enough.
+    card-waits card number s few events lines pulls link tei before f behind h enough

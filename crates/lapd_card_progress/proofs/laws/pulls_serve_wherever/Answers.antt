@@ -1,3 +1,4 @@
+use Rattle.lapd_card_progress.proofs.Enough.{enough-pulls}
 use Rattle.lapd_card_progress.proofs.Wherever.{answers-begun, come-to-an-end, few-to-go, begins-with-few}
 use Rattle.lapd_card_progress.proofs.laws.pulls_serve_wherever.Goals as goal
 
@@ -12,3 +13,6 @@ returns-clause-few c = few-to-go
 
 pub returns-clause-begins : goal.returns-clause-begins
 returns-clause-begins c = begins-with-few
+
+pub returns-clause-enough : goal.returns-clause-enough
+returns-clause-enough c = enough-pulls

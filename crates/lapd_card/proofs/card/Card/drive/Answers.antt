@@ -29,7 +29,8 @@ use Rattle.lapd_card_laws.proofs.Causing.{caused-all, there-all, reasons-all, no
 use Rattle.lapd_card_laws.proofs.Knowing.{up-known, on-known, down-at-first, one-place}
 use Rattle.lapd_card_laws.proofs.TimersRun.{needed-run, needs-none}
 use Rattle.lapd_card_laws.proofs.Restarting.{leaves-all}
-use Rattle.lapd_card_progress.specs.Promises.{AnswersAreBegun, PullsComeToAnEnd, FewAreToGo}
+use Rattle.lapd_card_progress.specs.Promises.{AnswersAreBegun, PullsComeToAnEnd, FewAreToGo, EnoughPullsServe}
+use Rattle.lapd_card_progress.proofs.Enough.{enough-pulls}
 use Rattle.lapd_card_progress.proofs.Wherever.{answers-begun, come-to-an-end, few-to-go, begins-with-few}
 use Rattle.lapd_card.proofs.Headline.{whole_list, each_front, timely_front, fresh_front}
 use Rattle.lapd_card.proofs.card.Card.drive.Goals as goal
@@ -283,6 +284,12 @@ returns-clause-few_to_go g c = λ m count. each_front g.S.Shelf.store c.args.sel
 
 pub returns-clause-begins_with_few : goal.returns-clause-begins_with_few
 returns-clause-begins_with_few g c = begins-with-few c.args.self.now.config
+
+pub returns-clause-enough_pulls : goal.returns-clause-enough_pulls
+returns-clause-enough_pulls g c = λ m count. each_front g.S.Shelf.store c.args.self.now c.args.events.now c.requires EnoughPullsServe enough-pulls m count
+
+pub returns-then-is_err-clause-enough_pulls : goal.returns-then-is_err-clause-enough_pulls
+returns-then-is_err-clause-enough_pulls g c = λ m count. each_front g.S.Shelf.store c.args.self.now c.args.events.now c.requires EnoughPullsServe enough-pulls m count
 
 pub returns-then-is_err-clause-answers_are_begun : goal.returns-then-is_err-clause-answers_are_begun
 returns-then-is_err-clause-answers_are_begun g c = λ m count. each_front g.S.Shelf.store c.args.self.now c.args.events.now c.requires AnswersAreBegun answers-begun m count

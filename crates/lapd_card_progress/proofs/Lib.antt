@@ -3,3 +3,4 @@ pub mod Meanwhile
 pub mod Wherever
 pub mod Enough
 pub mod Premises
+pub mod EventsMet

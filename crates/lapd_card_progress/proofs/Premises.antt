@@ -22,20 +22,20 @@ use Rattle.lapd_card_progress.specs.Promises.{IsHeardThere, IsHeardAndPulled}
 use Rattle.lapd_card_progress.specs.Worked.{at_line_0, events_before, card_before, line_is, served}
 use Rattle.lapd_card_progress.proofs.Wherever.{config-stays, answers-begun}
 
-only-pulls : (n : ℕ) → ArePullsAt 0 (served n)
+pub only-pulls : (n : ℕ) → ArePullsAt 0 (served n)
 only-pulls zero = All-nil (λ (e : Event). e.line ≡ 0 → e.what ≡ pull)
 only-pulls (suc n) =
     All-cons (λ (e : Event). e.line ≡ 0 → e.what ≡ pull) (at 1 (octet 0x7E)) (at 0 pull ∷ served n) (λ same. absurd (omega (arith, same)))
     (All-cons (λ (e : Event). e.line ≡ 0 → e.what ≡ pull) (at 0 pull) (served n) (λ same. refl) (only-pulls n))
 
-abbrev IsAtSmall : Event → Type 0
+abbrev pub IsAtSmall : Event → Type 0
 IsAtSmall e = e.line < 2
 
-served-at : (n : ℕ) → All IsAtSmall (served n)
+pub served-at : (n : ℕ) → All IsAtSmall (served n)
 served-at zero = All-nil IsAtSmall
 served-at (suc n) = All-cons IsAtSmall (at 1 (octet 0x7E)) (at 0 pull ∷ served n) (omega arith) (All-cons IsAtSmall (at 0 pull) (served n) (omega arith) (served-at n))
 
-octets-at : (octets : List ℕ) → All IsAtSmall (map at_line_0 octets)
+pub octets-at : (octets : List ℕ) → All IsAtSmall (map at_line_0 octets)
 octets-at [] = All-nil IsAtSmall
 octets-at (value ∷ octets) = All-cons IsAtSmall (at_line_0 value) (map at_line_0 octets) (omega arith) (octets-at octets)
 
@@ -49,16 +49,16 @@ all-at =
     (All-cons IsAtSmall (at 0 (octet last_octet)) (served 37) (omega arith) (served-at 37))
 
 -- What holds of the worked line holds of line 0 of the card.
-config-is : card_before.config ≡ small
+pub config-is : card_before.config ≡ small
 config-is = config-stays (fresh small) events_before
 
-there : (P : Config → Line → Type 0) → P small before_poll → P card_before.config (line_at 0 card_before)
+pub there : (P : Config → Line → Type 0) → P small before_poll → P card_before.config (line_at 0 card_before)
 there P p = subst (λ c. P c (line_at 0 card_before)) (sym config-is) (subst (P small) (sym line_is) p)
 
 abbrev spelled : List ℕ
 spelled = 0x00 ∷ 0x81 ∷ 0x01 ∷ 0x01 ∷ []
 
-heard-there : IsHeardThere card_before 0 last_octet Call 64 0 poll
+pub heard-there : IsHeardThere card_before 0 last_octet Call 64 0 poll
 heard-there = record {
   octets = spelled;
   ends = there (λ c l. Ends c l last_octet spelled) poll_ends;

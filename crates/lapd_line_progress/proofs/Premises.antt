@@ -1,10 +1,12 @@
--- A line that meets what the law of a poll asks, and the answer that the law gives.
-use Rattle.std.proofs.Common.{ℕ, ◌+◌, ◌≤◌, List, [], ◌∷◌, length, refl, inl, arith}
+-- Lines that meet what the laws of a line's pulls ask, and what those give.
+use Rattle.std.proofs.Common.{ℕ, true, ◌+◌, ◌≤◌, List, [], ◌∷◌, length, refl, inl, arith}
 use Rattle.std.specs.Prelude.{fold}
 use Rattle.lapd_frame.specs.declared.addresses.Side.TheVariants.{User}
+use Rattle.lapd_frame.specs.declared.controls.Control.TheVariants.{ReceiveReady, Ua}
 use Rattle.lapd_frame.specs.declared.services.Service.TheVariants.{Call}
 use Rattle.lapd_frame.specs.Grammar.{Spells}
 use Rattle.lapd_seq.specs.Numbers.{seq}
+use Rattle.lapd_link_machine.specs.Words.{response}
 use Rattle.lapd_link_progress.specs.Polls.{IsPollWhileUp}
 use Rattle.lapd_line_machine.specs.Answer.{octet, request}
 use Rattle.lapd_line_machine.specs.Line.{Line, fresh_line, terms}
@@ -13,9 +15,14 @@ use Rattle.lapd_line_machine.specs.Request.{Assign}
 use Rattle.lapd_line_machine.specs.Sound.{IsSound}
 use Rattle.lapd_line_machine.proofs.LineSound.{after_sound, fresh_sound}
 use Rattle.lapd_line_laws.specs.Heard.{IsFor}
-use Rattle.lapd_line_progress.specs.Drains.{IsEnough, IsAnsweredWithin}
-use Rattle.lapd_line_progress.specs.WorkedPolled.{small, octets_before, last_octet, poll, one_octet, before_poll, call_link, poll_ends, on_line, is_up, is_valid, one_waits, bits_are}
-use Rattle.lapd_line_progress.proofs.Polled.{poll-goes}
+use Rattle.lapd_line_laws.specs.Pulls.{HasNothing}
+use Rattle.lapd_line_progress.specs.Drains.{after_pulls, IsEnough, control_text, IsBegunWithin, IsAnsweredWithin, IsIdling, HasFewLeft, most_pulls_before}
+use Rattle.lapd_line_progress.specs.WorkedPolled.{small, octets_before, last_octet, poll, one_octet, before_poll, call_link, poll_ends, on_line, is_up, is_valid, one_waits, bits_are, asked, both_wait, still_on_line, flag_left}
+use Rattle.lapd_line_progress.specs.WorkedSabme as worked
+use Rattle.lapd_line_progress.specs.WorkedSabme.{sabme, before_sabme}
+use Rattle.lapd_line_progress.proofs.Draining.{drains, sound-after_pulls, idles}
+use Rattle.lapd_line_progress.proofs.Polled.{poll-goes, unnumbered-goes}
+use Rattle.lapd_line_progress.proofs.Soon.{goes-soon}
 
 sound-after : (octets : List ℕ) (l : Line) → IsSound small l → IsSound small (fold one_octet l octets)
 sound-after [] l s = s
@@ -43,3 +50,42 @@ enough = inl (omega (arith, bits_are))
 
 pub is-answered : IsAnsweredWithin small 37 Call 64 0 (after small (octet last_octet) before_poll)
 is-answered = poll-goes small refl before_poll before-sound last_octet Call 64 0 poll (0x00 ∷ 0x81 ∷ 0x01 ∷ 0x01 ∷ []) poll_ends poll-is-for 37 poll-is-one room enough
+
+-- the same of SABME
+pub sabme-sound : IsSound small before_sabme
+sabme-sound =
+    sound-after worked.octets_before (after small (request (Assign 64)) (fresh_line small)) (after_sound small refl (request (Assign 64)) (fresh_line small) (fresh_sound small refl))
+
+pub sabme-spelled : Spells User sabme (0x00 ∷ 0x81 ∷ 0x7F ∷ [])
+sabme-spelled = record { is_frame = record { sapi = omega arith; tei = omega arith; kind = refl; size = refl }; octets_are = refl }
+
+pub sabme-is-for : IsFor before_sabme Call 64 0 sabme (0x00 ∷ 0x81 ∷ 0x7F ∷ [])
+sabme-is-for = record { spelled = sabme-spelled; sapi = refl; tei_is = refl; on_line = worked.on_line }
+
+pub sabme-room : length (call_link before_sabme).waiting + 1 ≤ 2
+sabme-room = omega (arith, worked.none_waits)
+
+pub sabme-enough : IsEnough small 19 (after small (octet worked.last_octet) before_sabme) 0 (length (call_link before_sabme).waiting)
+sabme-enough = inl (omega (arith, worked.bits_are))
+
+pub ua-is-begun : IsBegunWithin small 19 (after small (octet worked.last_octet) before_sabme) (control_text small 0 64 (response (Ua true)))
+ua-is-begun =
+    unnumbered-goes small refl before_sabme sabme-sound worked.last_octet Call 64 0 sabme (0x00 ∷ 0x81 ∷ 0x7F ∷ []) worked.sabme_ends sabme-is-for 19 (Ua true) worked.asked sabme-room sabme-enough
+
+-- Behind the poll two frames wait: the second is begun within the pulls that are enough for whatever waits,
+pub asked-sound : IsSound small asked
+asked-sound = after_sound small refl (octet last_octet) before_poll before-sound
+
+pub few-left : HasFewLeft small asked
+few-left = omega (arith, flag_left)
+
+pub is-begun-soon : IsBegunWithin small (most_pulls_before small) asked (control_text small 0 64 (response (ReceiveReady (seq 0) true)))
+is-begun-soon =
+    goes-soon small refl asked asked-sound few-left 0 64 (omega arith) still_on_line (response (Ua true) ∷ []) (response (ReceiveReady (seq 0) true)) [] both_wait (most_pulls_before small) (omega arith)
+
+-- after 37 pulls nothing waits, and three idle flags follow.
+pub is-drained : HasNothing small (after_pulls small 37 asked)
+is-drained = drains small refl 37 asked asked-sound (omega (arith, bits_are))
+
+pub is-idling : IsIdling small 3 (after_pulls small 37 asked)
+is-idling = idles small refl 3 (after_pulls small 37 asked) (sound-after_pulls small refl 37 asked asked-sound) is-drained

@@ -2,3 +2,4 @@
 pub mod Drains
 pub mod Worked
 pub mod WorkedPolled
+pub mod WorkedSabme

@@ -2,7 +2,7 @@
 -- what those ask of a line.
 use Rattle.std.specs.Prelude.{◌≡◌, ℕ, true, List, [], ◌∷◌, length, fold, Some, None, refl}
 use Rattle.lapd_bits.specs.Bits.{low_bits}
-use Rattle.lapd_frame.specs.declared.controls.Control.TheVariants.{ReceiveReady}
+use Rattle.lapd_frame.specs.declared.controls.Control.TheVariants.{ReceiveReady, Ua}
 use Rattle.lapd_frame.specs.declared.services.Service.TheVariants.{Call}
 use Rattle.lapd_frame.specs.Grammar.{Parts}
 use Rattle.lapd_frame.specs.Reading.{reading, header_of, control_of, unnumbered_of, supervisory_of}
@@ -10,14 +10,16 @@ use Rattle.lapd_seq.specs.Numbers.{seq}
 use Rattle.lapd_seq.specs.Circle.{distance_of, named}
 use Rattle.lapd_tei.specs.Events as teis
 use Rattle.lapd_link_machine.specs.Link.{Link, is_multiple_frame}
+use Rattle.lapd_link_machine.specs.Words.{response}
 use Rattle.lapd_line_machine.specs.declared.config.Config.{Config}
 use Rattle.lapd_line_machine.specs.Answer.{octet, request}
 use Rattle.lapd_line_machine.specs.Config.{first_fault}
-use Rattle.lapd_line_machine.specs.Line.{Line, fresh_line, place_in, link_in}
+use Rattle.lapd_line_machine.specs.Line.{Line, fresh_line, place_in, tei_at, link_in}
 use Rattle.lapd_line_machine.specs.Machine.{after}
+use Rattle.lapd_line_machine.specs.Pull.{left_of}
 use Rattle.lapd_line_laws.specs.Heard.{Ends}
 use Rattle.lapd_line_machine.specs.Request.{Assign}
-use Rattle.lapd_line_progress.specs.Drains.{longest_text, frames_to_go, bits_to_go}
+use Rattle.lapd_line_progress.specs.Drains.{longest_text, frames_to_go, bits_to_go, most_pulls, most_pulls_before}
 
 -- One terminal, and frames of at most eight octets of information, so of at most 142 bits.
 abbrev pub small : Config
@@ -79,3 +81,26 @@ two_to_go = refl
 pub bits_are : bits_to_go small (after small (octet last_octet) before_poll) ≡ 292
 unfolding after reading header_of control_of unnumbered_of supervisory_of teis.course teis.refusal seq distance_of named low_bits
 bits_are = refl
+
+-- They wait in that order, and the flag is all that is left of what has begun.
+abbrev pub asked : Line
+asked = after small (octet last_octet) before_poll
+
+pub both_wait : (call_link asked).waiting ≡ response (Ua true) ∷ response (ReceiveReady (seq 0) true) ∷ []
+unfolding after reading header_of control_of unnumbered_of supervisory_of teis.course teis.refusal seq distance_of named low_bits
+both_wait = refl
+
+pub still_on_line : tei_at 0 asked ≡ Some 64
+unfolding after reading header_of control_of unnumbered_of supervisory_of teis.course teis.refusal seq distance_of named low_bits
+still_on_line = refl
+
+pub flag_left : length (left_of asked) ≡ 8
+unfolding after reading header_of control_of unnumbered_of supervisory_of teis.course teis.refusal seq distance_of named low_bits
+flag_left = refl
+
+-- Whatever waits, 160 pulls are enough for a control frame, and 249 for all that may go.
+enough_for_one : most_pulls_before small ≡ 160
+enough_for_one = refl
+
+enough_for_all : most_pulls small ≡ 249
+enough_for_all = refl

@@ -17,9 +17,9 @@ use Rattle.lapd_link_machine.specs.WorkedEnds.{both}
 use Rattle.lapd_link_machine.proofs.Premises.{begins}
 use Rattle.lapd_link_machine.proofs.SoundEvents.{sound-all}
 use Rattle.lapd_link_progress.specs.Ahead.{StayAhead}
-use Rattle.lapd_link_progress.specs.Rounds.{rounds, IsTaken, HasUnsent}
+use Rattle.lapd_link_progress.specs.Rounds.{IsTaken, HasUnsent}
 use Rattle.lapd_link_progress.specs.CutOff.{IsSilent, IsSilentWith, HasMissing}
-use Rattle.lapd_link_progress.specs.OwnBusy.{IsBusyItself, IsOpenItself, IsDropped, GetsThrough}
+use Rattle.lapd_link_progress.specs.OwnBusy.{IsBusyItself, IsOpenItself, IsDropped}
 use Rattle.lapd_link_progress.specs.WorkedOwnBusy.{busy_losing, busy_cut_off, near_dropped, far_dropped}
 use Rattle.lapd_link_progress.proofs.PremisesMet.{by-test, stay_ahead, mild, mild_act, mild_request}
 use Rattle.lapd_link_progress.proofs.Together.{all-stay_up}

@@ -3,6 +3,7 @@ pub mod Waiting
 pub mod Answering
 pub mod Unanswered
 pub mod Gapping
+pub mod GapsMet
 pub mod Finals
 pub mod FinalRows
 pub mod Heeding
@@ -26,6 +27,8 @@ pub mod Recovery
 pub mod Staying
 pub mod Together
 pub mod Reached
+pub mod Ending
+pub mod Ended
 pub mod Trains
 pub mod Flow
 pub mod Flowing
@@ -38,6 +41,7 @@ pub mod TimelyRuns
 pub mod PremisesMet
 pub mod TimelyMet
 pub mod BusyMet
+pub mod EndedMet
 pub mod AnyOrder
 pub mod AnyOrderRuns
 pub mod AnyOrderMet

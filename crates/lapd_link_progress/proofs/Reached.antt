@@ -18,10 +18,10 @@ use Rattle.lapd_link_progress.proofs.Together.{same-after}
 
 -- of one link
 pub record Sane (l : Link) : Type 0 where
-  timed : IsTimed l
-  heeds : Heeds l
+  pub timed : IsTimed l
+  pub heeds : Heeds l
 
-abbrev BothSane : Ends → Type 0
+abbrev pub BothSane : Ends → Type 0
 BothSane e = Sane e.near.link × Sane e.far.link
 
 sane-first : (way : List Parts) (n : End) → Sane n.link → Sane (with_first_of way n).link
@@ -38,7 +38,7 @@ sane-acting sends e h =
 sane-acting receives e h = (sane-first e.far.way e.near h.0, h.1)
 sane-acting loses e h = h
 
-sane-doing : (d : Doing) (e : Ends) → BothSane e → BothSane (doing d e)
+pub sane-doing : (d : Doing) (e : Ends) → BothSane e → BothSane (doing d e)
 sane-doing (at_near act) e h = sane-acting act e h
 sane-doing (at_far act) e h = let x = sane-acting act (turned e) (h.1, h.0) in (x.1, x.0)
 

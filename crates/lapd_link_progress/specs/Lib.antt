@@ -9,8 +9,10 @@ pub mod Needed
 pub mod Rounds
 pub mod CutOff
 pub mod OwnBusy
+pub mod BusyOver
 pub mod WorkedRounds
 pub mod WorkedOwnBusy
+pub mod WorkedBusyOver
 pub mod AnyOrder
 pub mod WorkedAnyOrder
 pub mod WorkedUntimely

@@ -100,7 +100,7 @@ unfolding seq distance_of named reading header_of control_of unnumbered_of super
 far_aware = refl
 
 -- A content lost each way, and the busy end is far: with four rounds its own is acknowledged, and with three it is not.
-abbrev far_busy_lost : Ends
+abbrev pub far_busy_lost : Ends
 far_busy_lost =
     doing_all (at_far (asks SetBusy false) ∷ at_far sends ∷ at_far loses ∷ near_asked 1 ∷ far_asked 4 ∷ at_near sends ∷ at_near loses ∷ at_far sends ∷ at_far loses ∷ []) both
 

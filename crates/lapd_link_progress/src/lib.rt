@@ -3,7 +3,8 @@
 //!
 //! `specs/` has the statements: what waits and what goes (`Waits`), polls and their answers (`Polls`), I-frames out of
 //! sequence (`Gaps`), a busy terminal (`Heeds`), the timer that a link needs (`Needed`), two ends in rounds (`Rounds`) and
-//! in turns of any order (`AnyOrder`), two ends whose frames were lost (`CutOff`), an end that is busy itself (`OwnBusy`),
+//! in turns of any order (`AnyOrder`), two ends whose frames were lost (`CutOff`), an end that is busy itself (`OwnBusy`) and
+//! is no more (`BusyOver`),
 //! what keeps two links up (`Ahead`, `Timely`); and worked values that compute (`WorkedPolls`, `WorkedGaps`,
 //! `WorkedRounds`, `WorkedAnyOrder`, `WorkedOwnBusy`, `WorkedTimely`, and `WorkedUntimely`, a run in which T200 is too
 //! short). `docs/PROGRESS.md` says it in words.
@@ -27,5 +28,5 @@ pub use laws::{
     busy_is_heeded, contents_arrive, links_stay_up, losses_are_recovered, nothing_is_held_back,
     polls_are_answered, stay_up_while_ahead,
 };
-pub use own_busy::{busy_ends_are_heard, busy_ends_recover};
+pub use own_busy::{busy_ends_are_heard, busy_ends_recover, kept_contents_arrive};
 pub use timers::runs_what_it_needs;

@@ -6,6 +6,7 @@ ghost use Rattle.lapd_link_machine.specs.Timed.{IsTimed};
 ghost use Rattle.lapd_link_machine.specs.TwoEnds.{Ends, Doing, doing_all, Begins, StayUp};
 ghost use Rattle.lapd_link_progress.specs.CutOff.{IsCutOff, IsCutOffWith, IsSilent, IsSilentWith, HasMissing, with_t200_expired};
 ghost use Rattle.lapd_link_progress.specs.OwnBusy.{IsBusyItself, IsOpenItself, IsDropped, GetsThrough, with_near_busy, with_far_busy};
+ghost use Rattle.lapd_link_progress.specs.BusyOver.{with_near_told, with_near_untold, with_far_told, with_far_untold, HasDroppedNothing, BothHaveArrived};
 ghost use Rattle.lapd_link_progress.specs.Rounds.{rounds, IsReady, IsTaken, HasUnsent};
 
 /// An end that is busy itself is heard, on ways that lose nothing. Two links face each other in state 7, one of them with
@@ -60,4 +61,38 @@ pub fn busy_ends_recover()
         IsSilentWith true (doing_all ds e).far (doing_all ds e).near → IsSilent (doing_all ds e).near (doing_all ds e).far →
         HasMissing u (doing_all ds e).far (doing_all ds e).near →
         GetsThrough (doing_all ds e).far (doing_all ds e).near (rounds (u + 3) (with_t200_expired (doing_all ds e))).far (rounds (u + 3) (with_t200_expired (doing_all ds e))).near }
+{}
+
+/// What was kept while an end was busy itself arrives once own busy is over. Layer 3 asks for it at that end, whose next
+/// frame is RR (Q.921 clause 5.6.6). In state 7, where the busy end has dropped nothing, and the other has delivered what it
+/// sent, and owes an acknowledgement for what is outstanding: once RR has come, and nothing is lost, u + 1 rounds suffice,
+/// where neither has more than u contents unsent; all contents that layer 3 gave on either side are delivered at the other, in
+/// order, and acknowledged, and neither has anything more to say (`near`, `far`). In states 7 and 8, where all frames in flight
+/// were lost, or dropped by the busy end, and each can repeat an enquiry: once RR has come (`near_told`, `far_told`), or is
+/// lost too (`near_untold`, `far_untold`), and T200 expires where it runs, u + 3 rounds suffice, where neither has more than
+/// u contents that the other has not received (clauses 5.6.5 and 5.6.7). So it is with any two links that came from an
+/// establishment by whatever was done to them, as long as both stayed in states 7 and 8 (`reached_near`, `reached_far`).
+pub fn kept_contents_arrive()
+    ensures near { (u : ℕ) (e : Ends) → IsBusyItself e.near → IsOpenItself e.far → IsTaken e.near e.far → HasDroppedNothing e.near e.far →
+        HasUnsent u e.near → HasUnsent u e.far → BothHaveArrived e (rounds (u + 1) (with_near_told e)) }
+    ensures far { (u : ℕ) (e : Ends) → IsBusyItself e.far → IsOpenItself e.near → IsTaken e.far e.near → HasDroppedNothing e.far e.near →
+        HasUnsent u e.far → HasUnsent u e.near → BothHaveArrived e (rounds (u + 1) (with_far_told e)) }
+    ensures near_told { (u : ℕ) (e : Ends) → IsCutOffWith true e.near e.far → IsCutOff e.far e.near → HasMissing u e.near e.far → HasMissing u e.far e.near →
+        BothHaveArrived e (rounds (u + 3) (with_t200_expired (with_near_told e))) }
+    ensures far_told { (u : ℕ) (e : Ends) → IsCutOffWith true e.far e.near → IsCutOff e.near e.far → HasMissing u e.far e.near → HasMissing u e.near e.far →
+        BothHaveArrived e (rounds (u + 3) (with_t200_expired (with_far_told e))) }
+    ensures near_untold { (u : ℕ) (e : Ends) → IsCutOffWith true e.near e.far → IsCutOff e.far e.near → HasMissing u e.near e.far → HasMissing u e.far e.near →
+        BothHaveArrived e (rounds (u + 3) (with_t200_expired (with_near_untold e))) }
+    ensures far_untold { (u : ℕ) (e : Ends) → IsCutOffWith true e.far e.near → IsCutOff e.near e.far → HasMissing u e.far e.near → HasMissing u e.near e.far →
+        BothHaveArrived e (rounds (u + 3) (with_t200_expired (with_far_untold e))) }
+    ensures reached_near { (ds : List Doing) (u : ℕ) (e : Ends) → Begins e.near → Begins e.far → IsTimed e.near.link → IsTimed e.far.link →
+        e.near.terms.n201 ≡ e.far.terms.n201 → StayUp ds e →
+        IsSilentWith true (doing_all ds e).near (doing_all ds e).far → IsSilent (doing_all ds e).far (doing_all ds e).near →
+        HasMissing u (doing_all ds e).near (doing_all ds e).far → HasMissing u (doing_all ds e).far (doing_all ds e).near →
+        BothHaveArrived (doing_all ds e) (rounds (u + 3) (with_t200_expired (with_near_told (doing_all ds e)))) }
+    ensures reached_far { (ds : List Doing) (u : ℕ) (e : Ends) → Begins e.near → Begins e.far → IsTimed e.near.link → IsTimed e.far.link →
+        e.near.terms.n201 ≡ e.far.terms.n201 → StayUp ds e →
+        IsSilentWith true (doing_all ds e).far (doing_all ds e).near → IsSilent (doing_all ds e).near (doing_all ds e).far →
+        HasMissing u (doing_all ds e).far (doing_all ds e).near → HasMissing u (doing_all ds e).near (doing_all ds e).far →
+        BothHaveArrived (doing_all ds e) (rounds (u + 3) (with_t200_expired (with_far_told (doing_all ds e)))) }
 {}

@@ -9,4 +9,6 @@ pub mod InRounds
 pub mod Ordered
 pub mod Polled
 pub mod Soon
+pub mod Among
 pub mod Premises
+pub mod AmongMet

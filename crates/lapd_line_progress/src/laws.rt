@@ -11,9 +11,10 @@ ghost use Rattle.lapd_line_machine.specs.Answer.{Event, octet};
 ghost use Rattle.lapd_line_machine.specs.Line.{Line, fresh_line, link_number, link_count, place_at, tei_at, link_at, link_in, terms};
 ghost use Rattle.lapd_line_machine.specs.Machine.{after};
 ghost use Rattle.lapd_line_machine.specs.Sound.{IsInRange, IsSound};
-ghost use Rattle.lapd_line_laws.specs.Heard.{Ends, IsFor};
+ghost use Rattle.lapd_line_laws.specs.Heard.{Ends, EndsNothing, IsFor};
 ghost use Rattle.lapd_line_laws.specs.Pulls.{HasNothing};
-ghost use Rattle.lapd_line_progress.specs.Drains.{after_pulls, frames_to_go, bits_to_go, IsEnough, control_text, IsBegunWithin, IsAnsweredWithin, IsIdling, HasFewLeft, most_bits, bits_before, most_bits_before, most_pulls_before};
+ghost use Rattle.lapd_line_progress.specs.Among.{StaysOnLine, pulls_in, comes_first, come_first, IsBegunIn};
+ghost use Rattle.lapd_line_progress.specs.Drains.{longest_text, after_pulls, frames_to_go, bits_to_go, IsEnough, control_text, IsBegunWithin, IsAnsweredWithin, IsIdling, HasFewLeft, most_bits, bits_before, most_bits_before, most_pulls_before};
 
 /// Pulls come to an end of what waits. The frames to go are the messages of TEI management and the unit data that wait,
 /// and of each link its control frames, the acknowledgement that it owes, and, in state 7 while the terminal is not taken
@@ -65,4 +66,20 @@ pub fn what_waits_is_begun()
     ensures soon { (c : Config) (l : Line) (number tei : ℕ) (before : List ControlFrame) (f : ControlFrame) (behind : List ControlFrame) →
         IsInRange c → IsSound c l → HasFewLeft c l → number < link_count c → tei_at (place_at number) l ≡ Some tei →
         (link_at number l).waiting ≡ before ++ f ∷ behind → IsBegunWithin c (most_pulls_before c) l (control_text c number tei f) }
+{}
+
+/// What waits is begun in its turn also where other events of the line are between its pulls: octets that come in, expiries
+/// of timers, and requests. Of what they bring only messages of TEI management and unit data go before a control frame that
+/// waits (`specs/Pulls` of `lapd_line_laws` has the order). As long as its TEI stays at its place, it is begun, whole and with
+/// the SAPI of the service and the TEI, by one of the pulls, once these give more than the bits before it and those of the
+/// longest frame for each message and each unit data that comes meanwhile (`begun`). An event brings one of them at most
+/// (`one_at_most`), and an octet that ends no frame none (`none`).
+pub fn what_waits_is_begun_meanwhile()
+    ensures begun { (c : Config) (events : List Event) (l : Line) (number tei : ℕ) (before : List ControlFrame) (f : ControlFrame) (behind : List ControlFrame) →
+        IsInRange c → IsSound c l → number < link_count c → StaysOnLine c number tei events l →
+        (link_at number l).waiting ≡ before ++ f ∷ behind →
+        bits_before c l number (length before) + come_first c events l * longest_text c < 8 * pulls_in events →
+        IsBegunIn c events l (control_text c number tei f) }
+    ensures one_at_most { (c : Config) (e : Event) (l : Line) → comes_first c e l ≤ 1 }
+    ensures none { (c : Config) (l : Line) (value : ℕ) → EndsNothing c l value → comes_first c (octet value) l ≡ 0 }
 {}

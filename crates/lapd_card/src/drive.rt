@@ -176,7 +176,9 @@ impl<S: Shelf> Card<S> {
     ///   finds room, and then the line is only pulled, whatever happens at the others: one of the pulls begins the answer to
     ///   a poll of states 7 and 8 with a valid N(R), which is RR, RNR or REJ with F=1 and N(R) = V(R), and to SABME or DISC,
     ///   which is UA or DM with F = P, once the pulls give more than the bits to go, or than those that go before it
-    ///   (clauses 5.5.1.2, 5.5.3.2, 5.6.2 to 5.6.7 and 5.8.1). And so one of them begins any control frame that waits.
+    ///   (clauses 5.5.1.2, 5.5.3.2, 5.6.2 to 5.6.7 and 5.8.1). And so one of them begins any control frame that waits; also
+    ///   where octets, expiries and requests of the line come between its pulls, as long as the TEI stays: then the bits of
+    ///   the longest frame count besides for each message of TEI management and each unit data that comes meanwhile.
     /// - `pulls_come_to_an_end`: wherever a line is only pulled, once the pulls give more than the bits to go there, nothing
     ///   waits on it but I-frames behind a closed window, behind a terminal that is busy, or of a link that is not in state
     ///   7; and idle flags go on, and nothing else (clauses 5.6.1 and 5.6.5).

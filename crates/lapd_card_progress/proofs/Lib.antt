@@ -1,5 +1,6 @@
 -- Lemmas.
 pub mod Meanwhile
+pub mod Amid
 pub mod Wherever
 pub mod Enough
 pub mod Premises

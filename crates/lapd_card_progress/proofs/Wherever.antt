@@ -19,7 +19,8 @@ use Rattle.lapd_card_machine.specs.Sound.{IsSound}
 use Rattle.lapd_card_machine.proofs.CardSound.{after_is_sound, always_sound}
 use Rattle.lapd_card_machine.proofs.Steps.{by_room}
 use Rattle.lapd_card_progress.specs.Among.{ArePullsAt, IsBegunAmong, IsAnsweredAmong}
-use Rattle.lapd_card_progress.specs.Promises.{Wherever, PollIsAnswered, UnnumberedIsAnswered, WaitingIsBegun, AnswersAreBegun, EndsInFlags, PullsComeToAnEnd, FewAreToGo, BeginsWithFew}
+use Rattle.lapd_card_progress.specs.Promises.{Wherever, PollIsAnswered, UnnumberedIsAnswered, WaitingIsBegun, WaitingIsBegunMeanwhile, AnswersAreBegun, EndsInFlags, PullsComeToAnEnd, FewAreToGo, BeginsWithFew}
+use Rattle.lapd_card_progress.proofs.Amid.{begun-amid}
 use Rattle.lapd_card_progress.proofs.Meanwhile.{IsServed, at-another, few-lines, line-sound, card-drains, card-idles, card-polled, card-unnumbered, card-waits}
 
 -- What holds of all of a list holds of its parts.
@@ -70,6 +71,10 @@ waiting : Law WaitingIsBegun
 unfolding Law
 waiting card events s all number link tei before f behind few h only enough = card-waits card number s few events all only link tei before f behind h enough
 
+meanwhile : Law WaitingIsBegunMeanwhile
+unfolding Law
+meanwhile card events s all number link tei before f behind few h on less = begun-amid number link tei f events card s few h.few all on before behind h.waits less
+
 pub answers-begun : (m : Card) (events : List Event) → IsSound m → AreAtLines m events → AnswersAreBegun m events
 unfolding Law
 answers-begun m events s all =
@@ -77,6 +82,7 @@ answers-begun m events s all =
       polls = wherever PollIsAnswered polls m events s all;
       unnumbered = wherever UnnumberedIsAnswered unnumbered m events s all;
       waiting = wherever WaitingIsBegun waiting m events s all;
+      meanwhile = wherever WaitingIsBegunMeanwhile meanwhile m events s all;
     }
 
 -- Pulls come to an end.

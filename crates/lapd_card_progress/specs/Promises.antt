@@ -1,5 +1,5 @@
 -- What is promised of the pulls in a list of events, from a card on.
-use Rattle.std.specs.Prelude.{◌≡◌, ℕ, ◌+◌, ◌*◌, ◌<◌, ◌≤◌, false, List, ◌∷◌, ◌++◌, length, Some}
+use Rattle.std.specs.Prelude.{◌≡◌, ℕ, ◌+◌, ◌-◌, ◌*◌, ◌<◌, ◌≤◌, ◌==◌, ◌&&◌, if◌then◌else◌, false, List, [], ◌∷◌, ◌++◌, length, Some}
 use Rattle.lapd_frame.specs.declared.controls.Control.{Control}
 use Rattle.lapd_frame.specs.declared.services.Service.{Service}
 use Rattle.lapd_frame.specs.Grammar.{Parts}
@@ -10,9 +10,11 @@ use Rattle.lapd_line_machine.specs.Answer.{octet}
 use Rattle.lapd_line_machine.specs.Line.{Line, link_number, link_count, place_at, tei_at, link_at, link_in, terms}
 use Rattle.lapd_line_machine.specs.Machine as lines
 use Rattle.lapd_line_laws.specs.Heard.{Ends, IsFor}
-use Rattle.lapd_line_progress.specs.Drains.{bits_to_go, IsEnough, control_text, HasFewLeft, most_bits, most_pulls, most_pulls_before}
+use Rattle.lapd_line_progress.specs.Drains.{longest_text, bits_to_go, bits_before, IsEnough, control_text, HasFewLeft, most_bits, most_pulls, most_pulls_before}
+use Rattle.lapd_line_progress.specs.Among.{is_pull, go_first}
 use Rattle.lapd_card_machine.specs.Card.{Card, fresh, line_at}
 use Rattle.lapd_card_machine.specs.Event.{Event, at}
+use Rattle.lapd_card_machine.specs.Machine.{after}
 use Rattle.lapd_card_machine.specs.Run.{after_all}
 use Rattle.lapd_card_progress.specs.Among.{ArePullsAt, pulls_at, IsBegunAmong, IsAnsweredAmong, IsIdleAmong}
 
@@ -65,10 +67,37 @@ WaitingIsBegun card events =
     IsEnough card.config (pulls_at number events) (line_at number card) link (length before) →
     IsBegunAmong card number events (control_text card.config link tei f)
 
+-- How many messages of TEI management and unit data come at a line by other events than its pulls; and how many these are.
+unfoldable pub come_first_at : ℕ → Card → List Event → ℕ
+come_first_at number card [] = 0
+come_first_at number card (e ∷ events) =
+    (if e.line == number && is_pull e.what then 0 else go_first (line_at number (after e card)) - go_first (line_at number card))
+    + come_first_at number (after e card) events
+
+abbrev pub pulls_of : ℕ → List Event → ℕ
+pulls_of number [] = 0
+pulls_of number (e ∷ events) = (if e.line == number && is_pull e.what then 1 else 0) + pulls_of number events
+
+-- At the place of a link of a line stays this TEI.
+unfoldable pub StaysAt : ℕ → ℕ → ℕ → Card → List Event → Type 0
+StaysAt number link tei card [] = tei_at (place_at link) (line_at number card) ≡ Some tei
+StaysAt number link tei card (e ∷ events) = (tei_at (place_at link) (line_at number card) ≡ Some tei) × StaysAt number link tei (after e card) events
+
+-- Whatever happens at the line beside its pulls: as long as the TEI stays, one of the pulls begins a control frame that
+-- waits, once they give more than the bits before it, and those of the longest frame for each message and unit data that
+-- comes meanwhile.
+abbrev pub WaitingIsBegunMeanwhile : Card → List Event → Type 0
+WaitingIsBegunMeanwhile card events =
+    (number link tei : ℕ) (before : List ControlFrame) (f : ControlFrame) (behind : List ControlFrame) → number < card.config.lines →
+    IsWaiting card.config (line_at number card) link tei before f behind → StaysAt number link tei card events →
+    bits_before card.config (line_at number card) link (length before) + come_first_at number card events * longest_text card.config < 8 * pulls_of number events →
+    IsBegunAmong card number events (control_text card.config link tei f)
+
 pub record AnswersAreBegun (m : Card) (events : List Event) : Type 0 where
   pub polls : Wherever PollIsAnswered m events
   pub unnumbered : Wherever UnnumberedIsAnswered m events
   pub waiting : Wherever WaitingIsBegun m events
+  pub meanwhile : Wherever WaitingIsBegunMeanwhile m events
 
 -- Where a line is only pulled, once the pulls give more than the bits to go there, nothing waits on it that may go, and
 -- the pulls after those bring idle flags and nothing else.

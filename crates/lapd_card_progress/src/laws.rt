@@ -61,7 +61,8 @@ pub fn pulls_serve_a_line()
 
 /// So it is wherever in a list of events a line is only pulled, from any card on. After an octet that ends a poll of states 7
 /// and 8 for a link on the line, or SABME or DISC, one of the pulls begins the answer, once they are enough, and so any
-/// control frame that waits (`answered`).
+/// control frame that waits; that also where other events of the line are between its pulls, by the messages and the unit
+/// data that come meanwhile (`answered`).
 /// Once they give more than the bits to go, nothing waits but I-frames that may not go, and idle flags go on (`ended`).
 /// And on a card as it begins, and after whatever happens to it, the bits to go of a line are at most what the
 /// configuration allows (`few`, `begins`). So the numbers of pulls that are enough for a control frame that waits, and for

@@ -137,6 +137,15 @@ module _ (c : Config) (ranged : IsInRange c) (number tei : ℕ) (few : number < 
       let sum : (frames_before c l number others + comes_first c e l) * longest_text c ≡ frames_before c l number others * longest_text c + comes_first c e l * longest_text c = omega arith in
       omega (arith, text, most, sum)
 
+  pub no-farther-off : (e : Event) (l : Line) (others : ℕ) → is_pull e ≡ false
+      → bits_before c (after c e l) number others ≤ bits_before c l number others + (go_first (after c e l) - go_first l) * longest_text c
+  no-farther-off e l others apart =
+      subst (λ i. bits_before c (after c e l) number others ≤ bits_before c l number others + i * longest_text c) (ap (λ b. cond b 0 (go_first (after c e l) - go_first l)) apart) (no-farther e l others apart)
+
+  pub other-waits : (e : Event) (l : Line) → is_pull e ≡ false → IsSound c l → tei_at (place_at number) l ≡ Some tei → tei_at (place_at number) (after c e l) ≡ Some tei
+      → (before : List ControlFrame) (f : ControlFrame) (behind : List ControlFrame) → Waiting l before f behind → (behind' : List ControlFrame) × Waiting (after c e l) before f behind'
+  other-waits e l apart s at at' before f behind waits = still-waits e l (stays e l apart at at' (event-happens c e l number s few)) before f behind waits
+
   sooner : (e : Event) (es : List Event) (l : Line) (frame : List ℕ) → IsBegunIn c es (after c e l) frame → IsBegunIn c (e ∷ es) l frame
   unfolding after_events
   sooner e es l frame x = record { front = e ∷ x.front; back = x.back; split = ap (λ es. e ∷ es) x.split; taken = x.taken; begins = x.begins; is = x.is }
@@ -174,7 +183,7 @@ module _ (c : Config) (ranged : IsInRange c) (number tei : ℕ) (few : number < 
       → bits_before c l number (length before) + come_first c (e ∷ es) l * longest_text c < 8 * pulls_in (e ∷ es) → Rest f e es l → IsBegunIn c (e ∷ es) l (control_text c number tei f)
   unfolding come_first Rest
   by-other f e es l apart s at at' before behind waits less more =
-      let w = still-waits e l (stays e l apart at at' (event-happens c e l number s few)) before f behind waits in
+      let w = other-waits e l apart s at at' before f behind waits in
       let farther = no-farther e l (length before) apart in
       let count : pulls_in (e ∷ es) ≡ 0 + pulls_in es = ap (λ b. cond b 1 0 + pulls_in es) apart in
       let sum : (comes_first c e l + come_first c es (after c e l)) * longest_text c ≡ comes_first c e l * longest_text c + come_first c es (after c e l) * longest_text c = omega arith in

@@ -23,9 +23,9 @@ const ANSWER: Address = Address {
     tei: 64,
 };
 
-// Each kind of frame from a terminal with TEI 64, and its fields.
+// Frames from a terminal with TEI 64, and their fields.
 #[test]
-fn frames_of_each_kind(rt: HostRuntime) {
+fn i_frames(rt: HostRuntime) {
     let information = Control::Information {
         ns: Seq::new(1),
         nr: Seq::new(2),
@@ -44,6 +44,11 @@ fn frames_of_each_kind(rt: HostRuntime) {
         last,
         &[0x41, 0x42],
     );
+}
+
+// Unnumbered frames, with information and without.
+#[test]
+fn unnumbered_frames(rt: HostRuntime) {
     expect_command(&rt, &[0x00, 0x81, 0x7F], Control::Sabme { pf: true }, &[]);
     expect_command(&rt, &[0x00, 0x81, 0x6F], Control::Sabme { pf: false }, &[]);
     expect_command(&rt, &[0x00, 0x81, 0x53], Control::Disc { pf: true }, &[]);
@@ -86,47 +91,15 @@ fn supervisory_frames(rt: HostRuntime) {
 // The network's C/R bit is the other way round, and every SAPI and TEI is read.
 #[test]
 fn addresses_of_both_sides(rt: HostRuntime) {
-    let control = Control::Ui { pf: false };
-    expect(
-        &rt,
-        Side::Network,
-        &[0xFE, 0xFF, 0x03],
-        address(63, true, 127),
-        control,
-        &[],
-    );
-    expect(
-        &rt,
-        Side::User,
-        &[0xFC, 0xFF, 0x03],
-        address(63, true, 127),
-        control,
-        &[],
-    );
-    expect(
-        &rt,
-        Side::Network,
-        &[0x42, 0xFF, 0x03],
-        address(16, true, 127),
-        control,
-        &[],
-    );
-    expect(
-        &rt,
-        Side::User,
-        &[0x40, 0x01, 0x03],
-        address(16, true, 0),
-        control,
-        &[],
-    );
-    expect(
-        &rt,
-        Side::User,
-        &[0x80, 0xFD, 0x03],
-        address(32, true, 126),
-        control,
-        &[],
-    );
+    let group = address(63, true, 127);
+    expect_ui(&rt, Side::Network, &[0xFE, 0xFF, 0x03], group);
+    expect_ui(&rt, Side::User, &[0xFC, 0xFF, 0x03], group);
+    let packet_group = address(16, true, 127);
+    expect_ui(&rt, Side::Network, &[0x42, 0xFF, 0x03], packet_group);
+    let packet = address(16, true, 0);
+    expect_ui(&rt, Side::User, &[0x40, 0x01, 0x03], packet);
+    let other = address(32, true, 126);
+    expect_ui(&rt, Side::User, &[0x80, 0xFD, 0x03], other);
     let accepted = Control::Ua { pf: true };
     expect(
         &rt,
@@ -157,6 +130,10 @@ fn faults_in_their_order(rt: HostRuntime) {
         &[0x00, 0x81, 0x11, 0x00],
         ReadFault::Undefined(TERMINAL),
     );
+}
+
+#[test]
+fn frames_of_wrong_size(rt: HostRuntime) {
     // An undefined frame is not of wrong size, whatever its length.
     expect_fault(
         &rt,
@@ -284,6 +261,10 @@ fn expect_command(rt: &impl Abort, octets: &[u8], control: Control, info: &[u8])
 
 fn expect_response(rt: &impl Abort, octets: &[u8], control: Control, info: &[u8]) {
     expect(rt, Side::User, octets, ANSWER, control, info);
+}
+
+fn expect_ui(rt: &impl Abort, side: Side, octets: &[u8], address: Address) {
+    expect(rt, side, octets, address, Control::Ui { pf: false }, &[]);
 }
 
 // The octets are read as this frame, and the frame is written as the octets.

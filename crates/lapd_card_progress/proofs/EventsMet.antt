@@ -64,7 +64,7 @@ ua-is-begun =
     (sabme-there (λ c l. asked_of (link_in l Call 0).state sabme.sabme.control ≡ Some (Ua true)) sabme.asked)
 
 -- Behind the poll: what waits is begun, and then idle flags go on.
-abbrev card_asked : Card
+abbrev pub card_asked : Card
 card_asked = after (at 0 (octet last_octet)) card_before
 
 before-at : AreAtLines (fresh small) events_before
@@ -73,16 +73,16 @@ before-at = All-cons IsAtSmall (at 0 (request (Assign 64))) (map at_line_0 octet
 before-sound : IsSound card_before
 before-sound = always_sound (fresh small) events_before (fresh_is_sound small refl) before-at
 
-few : 0 < card_before.config.lines
+pub few : 0 < card_before.config.lines
 few = subst (λ (c : Config). 0 < c.lines) (sym config-is) (omega arith)
 
-asked-sound : IsSound card_asked
+pub asked-sound : IsSound card_asked
 asked-sound = after_is_sound card_before (at 0 (octet last_octet)) before-sound few
 
 asked-is : line_at 0 card_asked ≡ lines.after card_before.config (octet last_octet) (line_at 0 card_before)
 asked-is = at-octet card_before 0 last_octet (few-lines 0 card_before before-sound few)
 
-asked-there : (P : Config → Line → Type 0) → P small asked → P card_asked.config (line_at 0 card_asked)
+pub asked-there : (P : Config → Line → Type 0) → P small asked → P card_asked.config (line_at 0 card_asked)
 asked-there P p = subst (P card_before.config) (sym asked-is) (there (λ c l. P c (lines.after c (octet last_octet) l)) p)
 
 all-at : (n : ℕ) → AreAtLines card_asked (served n)

@@ -5,3 +5,4 @@ pub mod Wherever
 pub mod Enough
 pub mod Premises
 pub mod EventsMet
+pub mod AmidMet

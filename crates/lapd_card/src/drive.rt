@@ -72,10 +72,12 @@ impl<S: Shelf> Card<S> {
     ///   waits, and for a release DISC with P=1, and the link awaits UA with T200 running, or the release of a link that is
     ///   down is confirmed at once; contents are kept behind what the link keeps, and nothing is told; own busy is on, or
     ///   off, and RNR or RR with N(R) = V(R) says so where it was not; a TEI that is assigned is on the line; and for one
-    ///   that is removed or checked the message waits (clauses 5.3.2 to 5.3.4, 5.5.1.1, 5.5.3.2, 5.6.1 and 5.6.6).
+    ///   that is removed or checked the message waits. A frame of the link that finds no room to wait is told as lost instead
+    ///   (profile; clauses 5.3.2 to 5.3.4, 5.5.1.1, 5.5.3.2, 5.6.1 and 5.6.6).
     /// - `expiries_take_effect`: in every moment the expiry of a timer that runs, of a link on the line, sends SABME or DISC
     ///   again, or gives the link up and tells it, after N200 of them; or it asks for the terminal's state, in state 7 first
     ///   and in state 8 again, or establishes the link anew, after N200 of them (clauses 5.5.1.3, 5.5.3.3, 5.6.7, 5.10.3).
+    ///   A frame that finds no room to wait is told as lost here, too, and T200 runs all the same (profile).
     /// - `links_are_steady`: in every moment a link is left as it is; or its TEI leaves the line, or one comes to its place,
     ///   and it is as one that begins; or the event is one of the link. Then V(S) stays but for an I-frame that is begun,
     ///   which it counts, where the terminal asks for I-frames again, to the number that a valid N(R) names, where all that
@@ -115,11 +117,12 @@ impl<S: Shelf> Card<S> {
     ///   5.3.2 to 5.3.4 and 5.5 to 5.8).
     /// - `heard_is_delivered`: in every moment an octet that ends a frame with the SAPI of a service and a TEI on the line
     ///   is an event of that link and of no other, also where the grammar does not have the frame, or it is too long; one
-    ///   that ends nothing changes nothing but what was received. An octet ends a frame where, in the bits of all octets
-    ///   that the line received, it is heard with this one, behind what was heard before. Contents are handed on exactly
-    ///   of an I-frame in sequence, in state 7 or 8 with own busy off, and of a UI, of at most N201 octets, that an octet
-    ///   ends: its information, with one note of data, or of unit data, of the service and the TEI that it spells; and no
-    ///   such note else (clauses 2.2 to 2.7, 3.6.1, 5.2.3, 5.6.2, 5.6.6 and 5.8.5).
+    ///   that ends nothing, or a stretch that is no frame, changes nothing but what was received, and why it is none is all
+    ///   that is answered then. An octet ends a frame where, in the bits of all octets that the line received, it is
+    ///   heard with this one, behind what was heard before. Contents are handed on exactly of an I-frame in sequence, in
+    ///   state 7 or 8 with own busy off, and of a UI, of at most N201 octets, that an octet ends: its information, with one
+    ///   note of data, or of unit data, of the service and the TEI that it spells; and no such note else (clauses 2.2 to
+    ///   2.7, 2.9, 2.10, 3.6.1, 5.2.3, 5.6.2, 5.6.6 and 5.8.5).
     /// - `pulls_leave_timers`: in every moment a pull orders nothing, or it begins an I-frame of a link on its line whose
     ///   T200 does not run: then it starts this T200, and stops the link's T203 where it runs. So no pull starts a timer
     ///   anew that runs, and puts off its expiry (clause 5.6.1).

@@ -3,6 +3,7 @@ use Rattle.std.proofs.Common.{◌≡◌, ◌≢◌, ℕ, true, false, List, get_
 use Rattle.std.proofs.lemmas.Bool.{and_parts}
 use Rattle.std.proofs.lemmas.List.{get_or-set_same, get_or-set_other}
 use Rattle.std.proofs.lemmas.Option.{none-some}
+use Rattle.lapd_bits.specs.declared.heard.Cause.{Cause}
 use Rattle.lapd_frame.specs.declared.addresses.Address.{Address}
 use Rattle.lapd_frame.specs.declared.services.Service.{Service}
 use Rattle.lapd_frame.specs.Grammar.{Parts}
@@ -13,8 +14,8 @@ use Rattle.lapd_line_machine.specs.Answer.{Answer, refused, octet}
 use Rattle.lapd_line_machine.specs.Line.{Line, fresh_line, link_in, terms}
 use Rattle.lapd_line_machine.specs.Machine as lines
 use Rattle.lapd_line_machine.specs.Sound as sound_line
-use Rattle.lapd_line_laws.specs.Heard.{Ends, EndsOverlong, EndsNothing, IsFor, IsTo, IsMalformed, IsTooLong, IsOneEvent, IsNoEvent, contents_in, due, IsNotedOnce, IsHeard}
-use Rattle.lapd_line_laws.proofs.Hearing.{one-event, malformed-event, overlong-event, no-event}
+use Rattle.lapd_line_laws.specs.Heard.{Ends, EndsOverlong, EndsDropped, EndsNothing, IsFor, IsTo, IsMalformed, IsTooLong, IsOneEvent, IsNoEvent, IsDroppedFor, contents_in, due, IsNotedOnce, IsHeard}
+use Rattle.lapd_line_laws.proofs.Hearing.{one-event, malformed-event, overlong-event, no-event, dropped-stretch}
 use Rattle.lapd_line_laws.proofs.HandedOn.{due-is, contents-heard}
 use Rattle.lapd_line_laws.proofs.ToldOnce.{told-once}
 use Rattle.lapd_card_machine.specs.Event.{Event}
@@ -39,6 +40,7 @@ record OctetServed (c : Config) (before after : Line) (a : Answer) (value : ℕ)
       → EndsOverlong c before value head → IsTo before service tei place address → IsTooLong address head what
       → IsOneEvent c before after a value service tei place (link.received what)
   none : EndsNothing c before value → IsNoEvent before after a value
+  dropped : (cause : Cause) → EndsDropped c before value cause → IsDroppedFor cause before after a value
   due_is : (service : Service) (tei place : ℕ) (parts : Parts) (octets : List ℕ)
       → Ends c before value octets → IsFor before service tei place parts octets
       → contents_in a ≡ due (terms c service tei) parts (link_in before service place)
@@ -50,6 +52,7 @@ octet-served c l value ranged s = record {
   malformed = λ service tei place address octets what ends f is. malformed-event c l value service tei place address octets what ends f is;
   overlong = λ service tei place address head what ends f is. overlong-event c l value service tei place address head what ends f is;
   none = λ ends. no-event c l value ends;
+  dropped = λ cause ends. dropped-stretch c l value cause ends;
   due_is = λ service tei place parts octets ends f. due-is c l value service tei place parts octets ranged s ends f;
 }
 
@@ -103,6 +106,7 @@ module _ (card : Card) (e : Event) (s : IsSound card) (here : IsAtLine card e) w
     malformed = λ value service tei place address octets what is ends f malformed. (served-in.by_octet value is).malformed service tei place address octets what ends f malformed;
     overlong = λ value service tei place address head what is ends f long. (served-in.by_octet value is).overlong service tei place address head what ends f long;
     none = λ value is ends. (served-in.by_octet value is).none ends;
+    dropped = λ value cause is ends. (served-in.by_octet value is).dropped cause ends;
     due = λ value service tei place parts octets is ends f. (served-in.by_octet value is).due_is service tei place parts octets ends f;
     once = served-in.once;
     heard = served-in.heard;

@@ -1,20 +1,21 @@
 -- What holds in a moment of a run, of what was heard.
 use Rattle.std.specs.Prelude.{◌≡◌, ◌≢◌, ℕ, List, Some}
+use Rattle.lapd_bits.specs.declared.heard.Cause.{Cause}
 use Rattle.lapd_frame.specs.declared.addresses.Address.{Address}
 use Rattle.lapd_frame.specs.declared.services.Service.{Service}
 use Rattle.lapd_frame.specs.Grammar.{Parts}
 use Rattle.lapd_link_machine.specs.Events as link
 use Rattle.lapd_line_machine.specs.Answer.{octet}
 use Rattle.lapd_line_machine.specs.Line.{link_in, terms}
-use Rattle.lapd_line_laws.specs.Heard.{Ends, EndsOverlong, EndsNothing, IsFor, IsTo, IsMalformed, IsTooLong, IsOneEvent, IsNoEvent, contents_in, due, IsNotedOnce, IsHeard}
+use Rattle.lapd_line_laws.specs.Heard.{Ends, EndsOverlong, EndsDropped, EndsNothing, IsFor, IsTo, IsMalformed, IsTooLong, IsOneEvent, IsNoEvent, IsDroppedFor, contents_in, due, IsNotedOnce, IsHeard}
 use Rattle.lapd_card_machine.specs.Card.{line_at}
 use Rattle.lapd_card_machine.specs.Machine.{after}
 use Rattle.lapd_card_machine.specs.Run.{Moment}
 use Rattle.lapd_card_laws.specs.Contents.{line_before, line_after}
 
 -- A frame for a link that an octet ends is an event of this link alone, also one that the grammar does not have, or that is
--- too long; an octet that ends nothing is no event of any. What is due to layer 3 is handed on, and noted once; nothing is
--- handed on that was not heard; and no other line feels an event.
+-- too long; an octet that ends nothing, or a stretch that is no frame, is no event of any. What is due to layer 3 is handed
+-- on, and noted once; nothing is handed on that was not heard; and no other line feels an event.
 pub record IsHeardIn (m : Moment) : Type 0 where
   pub event : (value : ℕ) (service : Service) (tei place : ℕ) (parts : Parts) (octets : List ℕ) → m.event.what ≡ octet value
       → Ends m.card.config (line_before m) value octets → IsFor (line_before m) service tei place parts octets
@@ -29,6 +30,8 @@ pub record IsHeardIn (m : Moment) : Type 0 where
       → IsOneEvent m.card.config (line_before m) (line_after m) m.answer value service tei place (link.received what)
   pub none : (value : ℕ) → m.event.what ≡ octet value → EndsNothing m.card.config (line_before m) value
       → IsNoEvent (line_before m) (line_after m) m.answer value
+  pub dropped : (value : ℕ) (cause : Cause) → m.event.what ≡ octet value → EndsDropped m.card.config (line_before m) value cause
+      → IsDroppedFor cause (line_before m) (line_after m) m.answer value
   pub due : (value : ℕ) (service : Service) (tei place : ℕ) (parts : Parts) (octets : List ℕ) → m.event.what ≡ octet value
       → Ends m.card.config (line_before m) value octets → IsFor (line_before m) service tei place parts octets
       → contents_in m.answer ≡ due (terms m.card.config service tei) parts (link_in (line_before m) service place)

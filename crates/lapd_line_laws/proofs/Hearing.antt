@@ -3,6 +3,7 @@ use Rattle.std.proofs.Common.{◌≡◌, ℕ, Bool, true, false, cond, ◌==◌,
 use Rattle.std.specs.Option.{option_map_or}
 use Rattle.std.proofs.lemmas.Option.{none-some}
 use Rattle.lapd_bits.specs.Stream as stream
+use Rattle.lapd_bits.specs.declared.heard.Cause.{Cause}
 use Rattle.lapd_bits.specs.declared.heard.Cause.TheVariants.{Tei, Unserved}
 use Rattle.lapd_frame.specs.declared.addresses.Address.{Address}
 use Rattle.lapd_frame.specs.declared.addresses.Side.TheVariants.{User}
@@ -16,12 +17,12 @@ use Rattle.lapd_frame.proofs.Spelling.{reading-again, fault-again}
 use Rattle.lapd_link_machine.specs.Events as link
 use Rattle.lapd_link_machine.specs.Machine as links
 use Rattle.lapd_line_machine.specs.declared.config.Config.{Config}
-use Rattle.lapd_line_machine.specs.Answer.{octet, told, nothing}
+use Rattle.lapd_line_machine.specs.Answer.{octet, told, nothing, dropped}
 use Rattle.lapd_line_machine.specs.Effect.{Aim, at_none, at_link, told_of_link, of_aim}
 use Rattle.lapd_line_machine.specs.Line.{Line, place_in, link_in, terms}
 use Rattle.lapd_line_machine.specs.Machine.{after, answer}
 use Rattle.lapd_line_machine.specs.Octet.{gained, drop_for, management_sapi, group_tei, at_place, to_service, addressed, message_of, aim_of_reading, aim_of_long, aim_of_heard, aim_of_octet, with_received}
-use Rattle.lapd_line_laws.specs.Heard.{Ends, EndsOverlong, EndsNothing, IsFor, IsTo, IsMalformed, IsTooLong, IsOneEvent, IsNoEvent}
+use Rattle.lapd_line_laws.specs.Heard.{Ends, EndsOverlong, EndsDropped, EndsNothing, IsFor, IsTo, IsMalformed, IsTooLong, IsOneEvent, IsNoEvent, IsDroppedFor}
 use Rattle.lapd_line_laws.proofs.Ending.{ended-octets, gained-is}
 
 -- The SAPI of a service.
@@ -111,6 +112,17 @@ pub no-event : (c : Config) (l : Line) (value : ℕ) → EndsNothing c l value �
 unfolding after answer
 no-event c l value ends =
     let aim : aim_of_octet c value l ≡ at_none nothing = heard-aim c l value None (gained-is c l value None ends) in
+    record {
+      line = ap (λ a. (of_aim c a (with_received value l)).line) aim;
+      answer_is = ap (λ a. told (of_aim c a (with_received value l)).told) aim;
+    }
+
+pub dropped-stretch : (c : Config) (l : Line) (value : ℕ) (cause : Cause) → EndsDropped c l value cause
+    → IsDroppedFor cause l (after c (octet value) l) (answer c (octet value) l) value
+unfolding after answer
+dropped-stretch c l value cause ends =
+    let gains = gained-is c l value (Some (stream.dropped cause)) ends in
+    let aim : aim_of_octet c value l ≡ at_none (dropped cause) = heard-aim c l value (Some (stream.dropped cause)) gains in
     record {
       line = ap (λ a. (of_aim c a (with_received value l)).line) aim;
       answer_is = ap (λ a. told (of_aim c a (with_received value l)).told) aim;

@@ -3,6 +3,7 @@ use Rattle.std.specs.Prelude.{◌≡◌, ◌⊎◌, ℕ, ◌==◌, ◌&&◌, ◌
 use Rattle.std.specs.List.{list_any}
 use Rattle.std.specs.Option.{option_or}
 use Rattle.lapd_bits.specs.Stream as stream
+use Rattle.lapd_bits.specs.declared.heard.Cause.{Cause}
 use Rattle.lapd_frame.specs.declared.addresses.Address.{Address}
 use Rattle.lapd_frame.specs.declared.addresses.Side.TheVariants.{User}
 use Rattle.lapd_frame.specs.declared.faults.ReadFault.TheVariants.{Undefined, WrongSize}
@@ -22,7 +23,7 @@ use Rattle.lapd_link_machine.specs.Notes.{is_data, is_unit}
 use Rattle.lapd_link_machine.specs.Told as link_told
 use Rattle.lapd_link_laws.specs.Heard.{in_i_frame, in_ui_frame, data_due, unit_due}
 use Rattle.lapd_line_machine.specs.declared.config.Config.{Config}
-use Rattle.lapd_line_machine.specs.Answer.{Event, octet, Told, Answer, told, refused, pulled, nothing}
+use Rattle.lapd_line_machine.specs.Answer.{Event, octet, Told, Answer, told, refused, pulled, nothing, dropped}
 use Rattle.lapd_line_machine.specs.Line.{Line, link_number, place_in, link_in, with_link, terms}
 use Rattle.lapd_line_machine.specs.Octet.{with_received}
 
@@ -33,12 +34,16 @@ abbrev pub Adds : Config → Line → ℕ → List stream.Event → Type 0
 Adds c l value more = stream.heard_in c.n201 (l.received ++ value ∷ []) ≡ stream.heard_in c.n201 l.received ++ more
 
 -- An octet ends a frame of these octets; or one that is longer than the receiver has room for, of which these are the first
--- four; or nothing.
+-- four; or a stretch that is no frame, for this cause: an abort, a frame of no whole octets or wrongly stuffed, a wrong check,
+-- or too few octets; or nothing.
 abbrev pub Ends : Config → Line → ℕ → List ℕ → Type 0
 Ends c l value octets = Adds c l value (stream.frame octets ∷ [])
 
 abbrev pub EndsOverlong : Config → Line → ℕ → List ℕ → Type 0
 EndsOverlong c l value head = Adds c l value (stream.overlong head ∷ [])
+
+abbrev pub EndsDropped : Config → Line → ℕ → Cause → Type 0
+EndsDropped c l value cause = Adds c l value (stream.dropped cause ∷ [])
 
 abbrev pub EndsNothing : Config → Line → ℕ → Type 0
 EndsNothing c l value = Adds c l value []
@@ -91,6 +96,11 @@ pub record IsOneEvent (c : Config) (before after : Line) (answer : Answer) (valu
 pub record IsNoEvent (before after : Line) (answer : Answer) (value : ℕ) : Type 0 where
   pub line : after ≡ with_received value before
   pub answer_is : answer ≡ told nothing
+
+-- Nor does an octet that ends a stretch which is no frame; and why it is none is all that is answered.
+pub record IsDroppedFor (cause : Cause) (before after : Line) (answer : Answer) (value : ℕ) : Type 0 where
+  pub line : after ≡ with_received value before
+  pub answer_is : answer ≡ told (dropped cause)
 
 -- The contents that an answer hands on.
 abbrev pub contents_in : Answer → Option (List ℕ)

@@ -1,5 +1,6 @@
 -- Laws of a line: what it does with what it is given, and with what it hears.
 use Rattle.std.specs.Prelude.{◌≡◌, ℕ, ◌<◌, true, false, List, Some}
+use Rattle.lapd_bits.specs.declared.heard.Cause.{Cause}
 use Rattle.lapd_frame.specs.declared.addresses.Address.{Address}
 use Rattle.lapd_frame.specs.declared.services.Service.{Service}
 use Rattle.lapd_frame.specs.declared.timers.Timer.{Timer}
@@ -17,7 +18,7 @@ use Rattle.lapd_line_laws.specs.Frames.{IsFollowed, IsHeeded}
 use Rattle.lapd_line_laws.specs.Requests.{LinkTakesEffect, ManagementTakesEffect}
 use Rattle.lapd_line_laws.specs.Steady.{BringsMalformed, Happens}
 use Rattle.lapd_line_laws.specs.Expiries.{ExpiryTakesEffect}
-use Rattle.lapd_line_laws.specs.Heard.{Ends, EndsOverlong, EndsNothing, IsFor, IsTo, IsMalformed, IsTooLong, IsOneEvent, IsNoEvent, contents_in, due, IsNotedOnce, IsHeard}
+use Rattle.lapd_line_laws.specs.Heard.{Ends, EndsOverlong, EndsDropped, EndsNothing, IsFor, IsTo, IsMalformed, IsTooLong, IsOneEvent, IsNoEvent, IsDroppedFor, contents_in, due, IsNotedOnce, IsHeard}
 use Rattle.lapd_line_laws.specs.Begun.{says_begun, BeginsAs}
 use Rattle.lapd_line_laws.specs.Causes.{HaveCauses, AreThere}
 use Rattle.lapd_line_laws.specs.Reasons.{HaveReasons}
@@ -41,7 +42,8 @@ pub record PullsServe : Type 0 where
   pub turns : (c : Config) (e : Event) (l : Line) → TurnStays e l (after c e l)
 
 -- A frame for a link is an event of this link alone, also one that the grammar does not have, or that is too long; an octet
--- that ends nothing is no event of any. What is due to layer 3 is handed on, once, and nothing that was not heard.
+-- that ends nothing, or a stretch that is no frame, is no event of any. What is due to layer 3 is handed on, once, and
+-- nothing that was not heard.
 pub record HeardIsDelivered : Type 0 where
   pub event : (c : Config) (l : Line) (value : ℕ) (service : Service) (tei place : ℕ) (parts : Parts) (octets : List ℕ)
       → Ends c l value octets → IsFor l service tei place parts octets
@@ -54,6 +56,8 @@ pub record HeardIsDelivered : Type 0 where
       → IsOneEvent c l (after c (octet value) l) (answer c (octet value) l) value service tei place (link.received what)
   pub none : (c : Config) (l : Line) (value : ℕ) → EndsNothing c l value
       → IsNoEvent l (after c (octet value) l) (answer c (octet value) l) value
+  pub dropped : (c : Config) (l : Line) (value : ℕ) (cause : Cause) → EndsDropped c l value cause
+      → IsDroppedFor cause l (after c (octet value) l) (answer c (octet value) l) value
   pub due : (c : Config) (l : Line) (value : ℕ) (service : Service) (tei place : ℕ) (parts : Parts) (octets : List ℕ)
       → IsInRange c → IsSound c l → Ends c l value octets → IsFor l service tei place parts octets
       → contents_in (answer c (octet value) l) ≡ due (terms c service tei) parts (link_in l service place)

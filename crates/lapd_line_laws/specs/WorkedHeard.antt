@@ -2,6 +2,7 @@
 use Rattle.std.specs.Prelude.{◌≡◌, true, false, [], ◌∷◌, Some, None, refl}
 use Rattle.std.specs.List.{list_any}
 use Rattle.lapd_bits.specs.Bits.{low_bits}
+use Rattle.lapd_bits.specs.declared.heard.Cause.TheVariants.{Fcs}
 use Rattle.lapd_frame.specs.declared.controls.Control.TheVariants.{Information}
 use Rattle.lapd_frame.specs.declared.services.Service.TheVariants.{Call, Packet}
 use Rattle.lapd_frame.specs.Grammar.{Parts}
@@ -9,10 +10,10 @@ use Rattle.lapd_frame.specs.Reading.{reading, header_of, control_of, unnumbered_
 use Rattle.lapd_seq.specs.Numbers.{seq}
 use Rattle.lapd_seq.specs.Circle.{distance_of, named}
 use Rattle.lapd_tei.specs.Events as teis
-use Rattle.lapd_line_machine.specs.Answer.{Answer, octet}
+use Rattle.lapd_line_machine.specs.Answer.{Answer, octet, told, dropped}
 use Rattle.lapd_line_machine.specs.Line.{Line, link_in, state_in, terms}
 use Rattle.lapd_line_machine.specs.Machine.{after, answer}
-use Rattle.lapd_line_laws.specs.Heard.{Ends, EndsNothing, contents_in, due, is_data_of, is_unit_of, notes_of, IsNotedOnce}
+use Rattle.lapd_line_laws.specs.Heard.{Ends, EndsDropped, EndsNothing, contents_in, due, is_data_of, is_unit_of, notes_of, IsNotedOnce}
 use Rattle.lapd_line_laws.specs.Worked.{usual, both_up}
 
 -- TEI 64 is on the line, its links are up, and an I-frame of its call control link came, with its check, behind a flag.
@@ -64,6 +65,19 @@ nothing_ends = refl
 nothing_heard : contents_in (answer usual (octet 0x00) before_flag) ≡ None
 unfolding answer seq distance_of named reading header_of control_of unnumbered_of teis.course teis.refusal low_bits
 nothing_heard = refl
+
+-- Where the check's last octet is another, the flag ends a stretch that is no frame, and that its check is wrong is all that
+-- is answered.
+abbrev before_wrong_check : Line
+before_wrong_check = record both_up { received = 0x7E ∷ 0x00 ∷ 0x81 ∷ 0x00 ∷ 0x00 ∷ 0x41 ∷ 0x2F ∷ 0xAC ∷ [] }
+
+wrong_check_ends : EndsDropped usual before_wrong_check 0x7E Fcs
+unfolding low_bits
+wrong_check_ends = refl
+
+wrong_check_told : answer usual (octet 0x7E) before_wrong_check ≡ told (dropped Fcs)
+unfolding answer seq distance_of named reading header_of control_of unnumbered_of teis.course teis.refusal low_bits
+wrong_check_told = refl
 
 -- A UI of TEI 64 came, up to the octet that has the last bit of its closing flag. It is handed on, as unit data.
 abbrev before_unit : Line

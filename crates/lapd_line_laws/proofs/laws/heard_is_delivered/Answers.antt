@@ -1,4 +1,4 @@
-use Rattle.lapd_line_laws.proofs.Hearing.{one-event, malformed-event, overlong-event, no-event}
+use Rattle.lapd_line_laws.proofs.Hearing.{one-event, malformed-event, overlong-event, no-event, dropped-stretch}
 use Rattle.lapd_line_laws.proofs.HandedOn.{due-is, contents-heard}
 use Rattle.lapd_line_laws.proofs.ToldOnce.{told-once}
 use Rattle.lapd_line_laws.proofs.laws.heard_is_delivered.Goals as goal
@@ -9,6 +9,7 @@ returns c = record {
   malformed = λ c l value service tei place address octets what ends f is. malformed-event c l value service tei place address octets what ends f is;
   overlong = λ c l value service tei place address head what ends f is. overlong-event c l value service tei place address head what ends f is;
   none = λ c l value ends. no-event c l value ends;
+  dropped = λ c l value cause ends. dropped-stretch c l value cause ends;
   due = λ c l value service tei place parts octets ranged s ends f. due-is c l value service tei place parts octets ranged s ends f;
   once = λ c e l ranged s. told-once c e l ranged s;
   heard = λ c e l contents ranged s h. contents-heard c e l contents ranged s h;

@@ -1,6 +1,6 @@
--- How a deframer's fields follow the bits of an open gap: octets are put together, kept and divided.
-use Rattle.std.proofs.Common.{◌≡◌, ◌≢◌, ℕ, ◌+◌, ◌-◌, ◌*◌, ◌/◌, ◌%◌, ◌^◌, ◌<◌, ◌≤◌, Bool, true, false, List, [], ◌∷◌, ◌++◌, length, take, set, nat_eq, nat_lt, refl, ap, sym, ◌∙◌, subst, arith, length-append, append_assoc}
-use Rattle.std.proofs.lemmas.Bool.{lt-ltb, le-ltb, ltb-true, ne_eqb, false_from_ne_true}
+-- How a deframer's fields follow the bits of an open gap: octets are put together and kept.
+use Rattle.std.proofs.Common.{◌≡◌, ◌≢◌, ℕ, ◌+◌, ◌-◌, ◌*◌, ◌/◌, ◌%◌, ◌^◌, ◌<◌, ◌≤◌, Bool, true, false, List, [], ◌∷◌, ◌++◌, length, take, set, Option, Some, None, IfSome, is_some, nat_eq, nat_lt, refl, ap, sym, ◌∙◌, subst, arith, length-append, append_assoc}
+use Rattle.std.proofs.lemmas.Bool.{lt-ltb, le-ltb, ltb-true, ltb-false, ne_eqb, false_from_ne_true}
 use Rattle.std.proofs.lemmas.List.{take-append-le, take-take, take_more_set, append-nil}
 use Rattle.std.proofs.lemmas.List.Elements.{All-nil, All-cons, All-append}
 use Rattle.std.proofs.lemmas.Nat.{pow_pos, pow_below}
@@ -12,10 +12,9 @@ use Rattle.lapd_bits.specs.Check.{is_good}
 use Rattle.lapd_bits.specs.Register.{HoldsDivision}
 use Rattle.lapd_bits.specs.Stream.{frame, overlong, dropped, is_short, judged}
 use Rattle.lapd_bits.specs.Heard.{flag_front, closing_event}
-use Rattle.lapd_bits.specs.Deframer.{Keeps, Assembles}
+use Rattle.lapd_bits.specs.Deframer.{Keeps, Assembles, kept_count}
 use Rattle.lapd_bits.specs.declared.heard.Cause.TheVariants.{Ragged, Short, Fcs}
 use Rattle.lapd_bits.proofs.BitLemmas.{low_bits-add, low_bits-mod, length-low_bits, bits-push, same_from_low_bits}
-use Rattle.lapd_bits.proofs.Division.Holds.{HoldsDivision-preset}
 use Rattle.lapd_bits.proofs.BitLemmas.{same_from_test}
 
 -- ---- one bit more above the low bits of a number
@@ -50,72 +49,85 @@ bit_weight place h =
 -- ---- octets that are kept
 
 -- of no octets none are kept
-pub Keeps-none : (octets : List ℕ) (register : ℕ) → HoldsDivision register [] → Keeps octets 0 false register []
-Keeps-none octets register d =
+pub Keeps-none : (octets : List ℕ) → Keeps octets 0 None []
+Keeps-none octets =
     record {
-      counted = rw (le-ltb (length octets) 0 (omega arith)) refl;
-      too_many = sym (le-ltb (length octets) 0 (omega arith));
+      counted = omega arith;
       kept = refl;
-      divided = d;
+      too_many = sym (le-ltb (length octets) 0 (omega arith));
+      divided = tt;
     }
 
 -- and no bits make no octets
-pub Assembles-none : (octets : List ℕ) → Assembles octets 0 false 65535 0 0 []
+pub Assembles-none : (octets : List ℕ) → Assembles octets 0 None 0 0 []
 unfolding low_bits
 Assembles-none octets =
     record {
       whole = [];
       are_octets = All-nil (λ x. x < 256);
-      keeps = Keeps-none octets 65535 HoldsDivision-preset;
+      keeps = Keeps-none octets;
       assembled = refl;
     }
 
--- an octet more than there is room for: the first four stay
-pub Keeps-more_overlong : (octets whole : List ℕ) (count register later o : ℕ) → 6 ≤ length octets → Keeps octets count true register whole → HoldsDivision later (bits (whole ++ o ∷ [])) → Keeps octets count true later (whole ++ o ∷ [])
-Keeps-more_overlong octets whole count register later o room k d =
-    let many : length octets < length whole = ltb-true (length octets) (length whole) (sym k.too_many) in
-    let longer : nat_lt (length octets) (length (whole ++ o ∷ [])) ≡ true =
-    lt-ltb (length octets) (length (whole ++ o ∷ [])) (omega (arith, length-append whole (o ∷ []))) in
-    let four : count ≡ 4 = k.counted ∙ (rw (← k.too_many) refl) in
-    record {
-      counted = four ∙ sym (rw longer refl);
-      too_many = sym longer;
-      kept = k.kept ∙ sym (take-append-le count whole (o ∷ []) (omega arith));
-      divided = d;
-    }
-
--- the first octet that there is no room for
-pub Keeps-first_overlong : (octets whole : List ℕ) (count register later o : ℕ) → 6 ≤ length octets → count ≡ length octets → Keeps octets count false register whole → HoldsDivision later (bits (whole ++ o ∷ [])) → Keeps octets 4 true later (whole ++ o ∷ [])
-Keeps-first_overlong octets whole count register later o room full k d =
-    let all : count ≡ length whole = k.counted ∙ (rw (← k.too_many) refl) in
-    let longer : nat_lt (length octets) (length (whole ++ o ∷ [])) ≡ true =
-    lt-ltb (length octets) (length (whole ++ o ∷ [])) (omega (arith, length-append whole (o ∷ []))) in
-    record {
-      counted = sym (rw longer refl);
-      too_many = sym longer;
-      kept =
-          sym (take-take 4 count octets (omega arith)) ∙ ap (take 4) k.kept ∙ take-take 4 count whole (omega arith)
-          ∙ sym (take-append-le 4 whole (o ∷ []) (omega arith));
-      divided = d;
-    }
+-- of what is not there anything holds
+of_none : (o : Option ℕ) (P : ℕ → Type 0) → is_some o ≡ false → IfSome o P
+of_none None P none = tt
+of_none (Some n) P none = cc
 
 -- an octet more that there is room for
-pub Keeps-more : (octets whole : List ℕ) (count register later o : ℕ) → count < length octets → Keeps octets count false register whole → HoldsDivision later (bits (whole ++ o ∷ [])) → Keeps (set octets count o) (count + 1) false later (whole ++ o ∷ [])
-Keeps-more octets whole count register later o room k d =
-    let all : count ≡ length whole = k.counted ∙ (rw (← k.too_many) refl) in
+pub Keeps-more : (octets whole : List ℕ) (count o : ℕ) (beyond : Option ℕ) → count < length octets → Keeps octets count beyond whole → Keeps (set octets count o) (count + 1) beyond (whole ++ o ∷ [])
+Keeps-more octets whole count o beyond room k =
+    let min_is = k.counted in
+    let all : count ≡ length whole = omega arith in
     let one : length (whole ++ o ∷ []) ≡ count + 1 = length-append whole (o ∷ []) ∙ omega arith in
     let same : length (set octets count o) ≡ length octets = length-set octets count o in
+    let fitted : nat_lt (length octets) (length whole) ≡ false = le-ltb (length octets) (length whole) (omega arith) in
     let fits : nat_lt (length (set octets count o)) (length (whole ++ o ∷ [])) ≡ false =
     le-ltb (length (set octets count o)) (length (whole ++ o ∷ [])) (omega arith) in
     let before : take count octets ≡ whole = k.kept ∙ ap (λ n. take n whole) all ∙ take-length whole in
     record {
-      counted = sym one ∙ sym (rw fits refl);
-      too_many = sym fits;
+      counted = omega arith;
       kept =
           take_more_set octets count o room ∙ ap (λ l. l ++ o ∷ []) before
           ∙ sym (ap (λ n. take n (whole ++ o ∷ [])) (sym one) ∙ take-length (whole ++ o ∷ []));
-      divided = d;
+      too_many = k.too_many ∙ fitted ∙ sym fits;
+      divided = of_none beyond (λ register. HoldsDivision register (bits (whole ++ o ∷ []))) (k.too_many ∙ fitted);
     }
+
+-- an octet more that there is no room for
+pub Keeps-beyond : (octets whole : List ℕ) (count register o : ℕ) (beyond : Option ℕ) → count ≡ length octets → Keeps octets count beyond whole → HoldsDivision register (bits whole ++ low_bits 8 o) → Keeps octets count (Some register) (whole ++ o ∷ [])
+Keeps-beyond octets whole count register o beyond full k d =
+    let min_is = k.counted in
+    let one : length (whole ++ o ∷ []) ≡ length whole + 1 = length-append whole (o ∷ []) in
+    record {
+      counted = omega arith;
+      kept = k.kept ∙ sym (take-append-le count whole (o ∷ []) (omega arith));
+      too_many = sym (lt-ltb (length octets) (length (whole ++ o ∷ [])) (omega arith));
+      divided = subst (HoldsDivision register) (sym (bits-push whole o)) d;
+    }
+
+-- while none are beyond, all are kept
+pub Keeps-all : (octets whole : List ℕ) (count : ℕ) (beyond : Option ℕ) → is_some beyond ≡ false → Keeps octets count beyond whole → (take count octets ≡ whole) × (count ≡ length whole)
+Keeps-all octets whole count beyond none k =
+    let min_is = k.counted in
+    let fits : length whole ≤ length octets = ltb-false (length octets) (length whole) (sym k.too_many ∙ none) in
+    let all : count ≡ length whole = omega arith in
+    (k.kept ∙ ap (λ n. take n whole) all ∙ take-length whole, all)
+
+-- once some are, as many as there is room for
+pub Keeps-full : (octets whole : List ℕ) (count : ℕ) (beyond : Option ℕ) → is_some beyond ≡ true → Keeps octets count beyond whole → (count ≡ length octets) × (count < length whole)
+Keeps-full octets whole count beyond some k =
+    let min_is = k.counted in
+    let many : length octets < length whole = ltb-true (length octets) (length whole) (sym k.too_many ∙ some) in
+    (omega arith, omega arith)
+
+-- how many are held
+pub held-all : (octets whole : List ℕ) (count : ℕ) (beyond : Option ℕ) → is_some beyond ≡ false → Keeps octets count beyond whole → count ≡ kept_count (length octets) (length whole)
+held-all octets whole count beyond none k =
+    (Keeps-all octets whole count beyond none k).1 ∙ sym (rw (sym k.too_many ∙ none) refl)
+
+pub held-four : (octets whole : List ℕ) (count : ℕ) (beyond : Option ℕ) → is_some beyond ≡ true → Keeps octets count beyond whole → 4 ≡ kept_count (length octets) (length whole)
+held-four octets whole count beyond some k = sym (rw (sym k.too_many ∙ some) refl)
 
 -- room by the length of a `Vec` is room by its elements
 pub room_of : (octets : List ℕ) (len : ℕ) → len ≡ length octets → 6 ≤ len → 6 ≤ length octets
@@ -167,96 +179,53 @@ judged-overlong room whole h g l = rw (h, g, l) refl
 pub judged-frame : (room : ℕ) (whole : List ℕ) → is_short whole ≡ false → is_good (bits whole) ≡ true → nat_lt room (length whole) ≡ false → judged room whole ≡ frame (take (length whole - 2) whole)
 judged-frame room whole h g l = rw (h, g, l) refl
 
--- all that is kept of octets that are not too many are these octets
-pub Keeps-all : (octets whole : List ℕ) (count register : ℕ) → Keeps octets count false register whole → (take count octets ≡ whole) × (count ≡ length whole)
-Keeps-all octets whole count register k =
-    let all : count ≡ length whole = k.counted ∙ (rw (← k.too_many) refl) in
-    (k.kept ∙ ap (λ n. take n whole) all ∙ take-length whole, all)
+-- what is kept is short where the whole is: neither is, once there are too many
+pub short_is : (octets whole : List ℕ) (count : ℕ) (beyond : Option ℕ) → 6 ≤ length octets → Keeps octets count beyond whole → is_short (take count octets) ≡ is_short whole
+short_is octets whole count beyond room k = go (is_some beyond) refl
+  where
+    go : (some : Bool) → is_some beyond ≡ some → is_short (take count octets) ≡ is_short whole
+    go false none = ap is_short ((Keeps-all octets whole count beyond none k).0)
+    go true some =
+        let full = Keeps-full octets whole count beyond some k in
+        let size : length (take count octets) ≡ length octets = ap (λ n. length (take n octets)) full.0 ∙ ap length (take-length octets) in
+        long_enough (take count octets) (omega arith) ∙ sym (long_enough whole (omega arith))
 
--- octets that are too many are not short, and their first four are kept
-pub Keeps-four : (octets whole : List ℕ) (count register : ℕ) → 6 ≤ length octets → Keeps octets count true register whole → (take 4 octets ≡ take 4 whole) × (is_short whole ≡ false)
-Keeps-four octets whole count register room k =
-    let many : length octets < length whole = ltb-true (length octets) (length whole) (sym k.too_many) in
-    let four : count ≡ 4 = k.counted ∙ (rw (← k.too_many) refl) in
-    (ap (λ n. take n octets) (sym four) ∙ k.kept ∙ ap (λ n. take n whole) four, long_enough whole (omega arith))
+-- what is told of a gap's octets that are not short and have a good check
+pub told-overlong : (octets whole : List ℕ) (count : ℕ) (beyond : Option ℕ) → is_some beyond ≡ true → 6 ≤ length octets → Keeps octets count beyond whole → is_short whole ≡ false → is_good (bits whole) ≡ true → judged (length octets) whole ≡ overlong (take 4 octets)
+told-overlong octets whole count beyond some room k h g =
+    let full = Keeps-full octets whole count beyond some k in
+    judged-overlong (length octets) whole h g (sym k.too_many ∙ some)
+    ∙ ap overlong (sym (take-take 4 count whole (omega arith)) ∙ ap (take 4) (sym k.kept) ∙ take-take 4 count octets (omega arith))
 
--- ---- the same for a flag that is known by an equation
-
--- an octet more, in each of the three cases
-pub KeepsMore-overlong : (octets whole : List ℕ) (count register later o : ℕ) (many : Bool) → many ≡ true → 6 ≤ length octets → Keeps octets count many register whole → HoldsDivision later (bits whole ++ low_bits 8 o) → Keeps octets count many later (whole ++ o ∷ [])
-KeepsMore-overlong octets whole count register later o many e room k d =
-    subst (λ b. Keeps octets count b later (whole ++ o ∷ [])) (sym e)
-    (Keeps-more_overlong octets whole count register later o room (subst (λ b. Keeps octets count b register whole) e k)
-    (subst (HoldsDivision later) (sym (bits-push whole o)) d))
-
-pub KeepsMore-first : (octets whole : List ℕ) (count register later o : ℕ) (many : Bool) → many ≡ false → 6 ≤ length octets → count ≡ length octets → Keeps octets count many register whole → HoldsDivision later (bits whole ++ low_bits 8 o) → Keeps octets 4 true later (whole ++ o ∷ [])
-KeepsMore-first octets whole count register later o many e room full k d =
-    Keeps-first_overlong octets whole count register later o room full (subst (λ b. Keeps octets count b register whole) e k)
-    (subst (HoldsDivision later) (sym (bits-push whole o)) d)
-
-pub KeepsMore : (octets whole : List ℕ) (count register later o : ℕ) (many : Bool) → many ≡ false → count < length octets → Keeps octets count many register whole → HoldsDivision later (bits whole ++ low_bits 8 o) → Keeps (set octets count o) (count + 1) many later (whole ++ o ∷ [])
-KeepsMore octets whole count register later o many e room k d =
-    subst (λ b. Keeps (set octets count o) (count + 1) b later (whole ++ o ∷ [])) (sym e)
-    (Keeps-more octets whole count register later o room (subst (λ b. Keeps octets count b register whole) e k)
-    (subst (HoldsDivision later) (sym (bits-push whole o)) d))
-
--- a frame that is kept whole: what is short, wrong or whole of it is told
-pub told-short : (octets whole : List ℕ) (count register : ℕ) (many : Bool) → many ≡ false → Keeps octets count many register whole → true ≡ is_short (take count octets) → judged (length octets) whole ≡ dropped Short
-told-short octets whole count register many e k h =
-    let all = Keeps-all octets whole count register (subst (λ b. Keeps octets count b register whole) e k) in
-    judged-short (length octets) whole (ap is_short (sym all.0) ∙ sym h)
-
--- one that is not short is not so by its octets either
-pub not_short : (octets whole : List ℕ) (count register : ℕ) (many : Bool) → many ≡ false → Keeps octets count many register whole → false ≡ is_short (take count octets) → is_short whole ≡ false
-not_short octets whole count register many e k h =
-    let all = Keeps-all octets whole count register (subst (λ b. Keeps octets count b register whole) e k) in
-    ap is_short (sym all.0) ∙ sym h
-
-pub not_short_overlong : (octets whole : List ℕ) (count register : ℕ) (many : Bool) → many ≡ true → 6 ≤ length octets → Keeps octets count many register whole → is_short whole ≡ false
-not_short_overlong octets whole count register many e room k =
-    (Keeps-four octets whole count register room (subst (λ b. Keeps octets count b register whole) e k)).1
-
-pub told-overlong : (octets whole : List ℕ) (count register : ℕ) (many : Bool) → many ≡ true → 6 ≤ length octets → Keeps octets count many register whole → is_good (bits whole) ≡ true → judged (length octets) whole ≡ overlong (take 4 octets)
-told-overlong octets whole count register many e room k g =
-    let here = subst (λ b. Keeps octets count b register whole) e k in
-    let four = Keeps-four octets whole count register room here in
-    judged-overlong (length octets) whole four.1 g (sym here.too_many) ∙ ap overlong (sym four.0)
-
-pub told-frame : (octets whole : List ℕ) (count register : ℕ) (many : Bool) → many ≡ false → Keeps octets count many register whole → is_short whole ≡ false → is_good (bits whole) ≡ true → judged (length octets) whole ≡ frame (take (count - 2) octets)
-told-frame octets whole count register many e k h g =
-    let here = subst (λ b. Keeps octets count b register whole) e k in
-    let all = Keeps-all octets whole count register here in
-    judged-frame (length octets) whole h g (sym here.too_many)
+pub told-frame : (octets whole : List ℕ) (count : ℕ) (beyond : Option ℕ) → is_some beyond ≡ false → Keeps octets count beyond whole → is_short whole ≡ false → is_good (bits whole) ≡ true → judged (length octets) whole ≡ frame (take (count - 2) octets)
+told-frame octets whole count beyond none k h g =
+    let all = Keeps-all octets whole count beyond none k in
+    judged-frame (length octets) whole h g (sym k.too_many ∙ none)
     ∙ ap frame (ap (λ n. take (n - 2) whole) (sym all.1) ∙ ap (take (count - 2)) (sym all.0) ∙ take-take (count - 2) count octets (omega arith))
 
 -- ---- one bit more of a gap
 
 -- what holds of fields holds of fields that equal them
-pub Keeps_same : (octets whole : List ℕ) (count count' : ℕ) (many many' : Bool) (register register' : ℕ) → count' ≡ count → many' ≡ many → register' ≡ register → Keeps octets count many register whole → Keeps octets count' many' register' whole
-Keeps_same octets whole count count' many many' register register' p q r k =
-    record {
-      counted = p ∙ k.counted;
-      too_many = q ∙ k.too_many;
-      kept = subst (λ n. take n octets ≡ take n whole) (sym p) k.kept;
-      divided = subst (λ n. HoldsDivision n (bits whole)) (sym r) k.divided;
-    }
+pub Keeps_same : (octets whole : List ℕ) (count count' : ℕ) (beyond beyond' : Option ℕ) → count' ≡ count → beyond' ≡ beyond → Keeps octets count beyond whole → Keeps octets count' beyond' whole
+Keeps_same octets whole count count' beyond beyond' p q k =
+    subst (λ n. Keeps octets n beyond' whole) (sym p) (subst (λ b. Keeps octets count b whole) (sym q) k)
 
 -- a bit that fills no octet
-pub Assembles-bit : (octets : List ℕ) (count count' : ℕ) (many many' : Bool) (register register' partial filled later : ℕ) (text : List Bool) (b : Bool) → count' ≡ count → many' ≡ many → register' ≡ register → Assembles octets count many register partial filled text → low_bits (filled + 1) later ≡ low_bits filled partial ++ b ∷ [] → Assembles octets count' many' register' later (filled + 1) (text ++ b ∷ [])
-Assembles-bit octets count count' many many' register register' partial filled later text b p q r a e =
+pub Assembles-bit : (octets : List ℕ) (count count' : ℕ) (beyond beyond' : Option ℕ) (partial filled later : ℕ) (text : List Bool) (b : Bool) → count' ≡ count → beyond' ≡ beyond → Assembles octets count beyond partial filled text → low_bits (filled + 1) later ≡ low_bits filled partial ++ b ∷ [] → Assembles octets count' beyond' later (filled + 1) (text ++ b ∷ [])
+Assembles-bit octets count count' beyond beyond' partial filled later text b p q a e =
     record {
       whole = a.whole;
       are_octets = a.are_octets;
-      keeps = Keeps_same octets a.whole count count' many many' register register' p q r a.keeps;
+      keeps = Keeps_same octets a.whole count count' beyond beyond' p q a.keeps;
       assembled =
           ap (λ t. t ++ b ∷ []) a.assembled ∙ append_assoc (bits a.whole) (low_bits filled partial) (b ∷ [])
           ∙ ap (λ t. bits a.whole ++ t) (sym e);
     }
 
 -- a bit that fills one, which is kept
-pub Assembles-octet : (octets later_octets : List ℕ) (count later_count : ℕ) (many later_many : Bool) (register later_register partial filled octet partial' filled' : ℕ) (text : List Bool) (b : Bool) → (a : Assembles octets count many register partial filled text) → filled ≡ 7 → low_bits (filled + 1) octet ≡ low_bits filled partial ++ b ∷ [] → octet < 2 ^ (filled + 1) → partial' ≡ 0 → filled' ≡ 0 → Keeps later_octets later_count later_many later_register (a.whole ++ octet ∷ []) → Assembles later_octets later_count later_many later_register partial' filled' (text ++ b ∷ [])
+pub Assembles-octet : (octets later_octets : List ℕ) (count later_count : ℕ) (beyond later_beyond : Option ℕ) (partial filled octet partial' filled' : ℕ) (text : List Bool) (b : Bool) → (a : Assembles octets count beyond partial filled text) → filled ≡ 7 → low_bits (filled + 1) octet ≡ low_bits filled partial ++ b ∷ [] → octet < 2 ^ (filled + 1) → partial' ≡ 0 → filled' ≡ 0 → Keeps later_octets later_count later_beyond (a.whole ++ octet ∷ []) → Assembles later_octets later_count later_beyond partial' filled' (text ++ b ∷ [])
 unfolding low_bits
-Assembles-octet octets later_octets count later_count many later_many register later_register partial filled octet partial' filled' text b a seven e small p q k =
+Assembles-octet octets later_octets count later_count beyond later_beyond partial filled octet partial' filled' text b a seven e small p q k =
     let eight : low_bits 8 octet ≡ low_bits filled partial ++ b ∷ [] = ap (λ n. low_bits (n + 1) octet) (sym seven) ∙ e in
     let below : octet < 256 = subst (λ n. octet < 2 ^ (n + 1)) seven small in
     record {

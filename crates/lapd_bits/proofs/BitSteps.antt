@@ -151,19 +151,19 @@ closed_told octets gap past event six h long told = go (open_gap past) refl h
 whole_octets : (n filled : ℕ) → filled < 8 → (8 * n + filled) / 8 ≡ n
 whole_octets n filled h = omega arith
 
-pub held_of_gap : (n201 : ℕ) (octets : List ℕ) (gap : Gap) (past : List ℕ) → length octets ≡ room_for n201 → HoldsGap octets (Some gap) (open_gap (reverse (bits past))) → gap.count ≡ octets_held n201 past
-held_of_gap n201 octets gap past room h = go (open_gap (reverse (bits past))) h
+pub held_of_gap : (n201 held : ℕ) (octets : List ℕ) (gap : Gap) (past : List ℕ) → length octets ≡ room_for n201 → HoldsGap octets (Some gap) (open_gap (reverse (bits past))) → ((octets whole : List ℕ) → KeepsIn octets gap whole → held ≡ kept_count (length octets) (length whole)) → held ≡ octets_held n201 past
+held_of_gap n201 held octets gap past room h are = go (open_gap (reverse (bits past))) h
   where
-    go : (o : Option (List Bool)) → HoldsGap octets (Some gap) o → gap.count ≡ option_map_or (λ g. kept_count (room_for n201) (length (unstuffed (reverse g)) / 8)) o 0
-    go None held = absurd held
-    go (Some g) held =
-        let a = held.assembles in
+    go : (o : Option (List Bool)) → HoldsGap octets (Some gap) o → held ≡ option_map_or (λ g. kept_count (room_for n201) (length (unstuffed (reverse g)) / 8)) o 0
+    go None h = absurd h
+    go (Some g) h =
+        let a = h.assembles in
         let size : length (unstuffed (reverse g)) ≡ 8 * length a.whole + gap.filled =
         ap length a.assembled ∙ length-append (bits a.whole) (low_bits gap.filled gap.partial)
         ∙ omega (arith, length-bits a.whole, length-low_bits gap.filled gap.partial) in
         let eighths : length (unstuffed (reverse g)) / 8 ≡ length a.whole =
         ap (λ n. n / 8) size ∙ whole_octets (length a.whole) gap.filled gap.no_octet in
-        a.keeps.counted ∙ ap (λ r. kept_count r (length a.whole)) room ∙ ap (kept_count (room_for n201)) (sym eighths)
+        are octets a.whole a.keeps ∙ ap (λ r. kept_count r (length a.whole)) room ∙ ap (kept_count (room_for n201)) (sym eighths)
 
 -- ---- the eight bits of an octet, one after the other
 

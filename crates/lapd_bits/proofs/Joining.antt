@@ -56,8 +56,8 @@ split_octet n x h =
     ∙ ap (λ l. l ++ low_bits (n - 8) (x / 256)) (sym (low_bits-mod 8 x))
 
 -- bits that fill an octet, which is kept
-pub Assembles-joined_octet : (octets later_octets : List ℕ) (count later_count : ℕ) (many later_many : Bool) (register later_register partial filled joined n content partial' filled' : ℕ) (text : List Bool) → (a : Assembles octets count many register partial filled text) → 8 ≤ filled + n → low_bits (filled + n) joined ≡ low_bits filled partial ++ low_bits n content → partial' ≡ joined / 256 → filled' ≡ filled + n - 8 → Keeps later_octets later_count later_many later_register (a.whole ++ joined % 256 ∷ []) → Assembles later_octets later_count later_many later_register partial' filled' (text ++ low_bits n content)
-Assembles-joined_octet octets later_octets count later_count many later_many register later_register partial filled joined n content partial' filled' text a long e p q k =
+pub Assembles-joined_octet : (octets later_octets : List ℕ) (count later_count : ℕ) (beyond later_beyond : Option ℕ) (partial filled joined n content partial' filled' : ℕ) (text : List Bool) → (a : Assembles octets count beyond partial filled text) → 8 ≤ filled + n → low_bits (filled + n) joined ≡ low_bits filled partial ++ low_bits n content → partial' ≡ joined / 256 → filled' ≡ filled + n - 8 → Keeps later_octets later_count later_beyond (a.whole ++ joined % 256 ∷ []) → Assembles later_octets later_count later_beyond partial' filled' (text ++ low_bits n content)
+Assembles-joined_octet octets later_octets count later_count beyond later_beyond partial filled joined n content partial' filled' text a long e p q k =
     let octet = joined % 256 in
     record {
       whole = a.whole ++ octet ∷ [];

@@ -1,5 +1,5 @@
 -- What a deframer holds of the octets that a line has brought so far.
-use Rattle.std.specs.Prelude.{◌≡◌, ℕ, ◌+◌, ◌<◌, ◌/◌, Bool, true, false, List, [], ◌∷◌, ◌++◌, length, take, reverse, min, All, Option, Some, None, option_and_then, option_to_list, nat_lt, if◌then◌else◌}
+use Rattle.std.specs.Prelude.{◌≡◌, ℕ, ◌+◌, ◌<◌, ◌/◌, Bool, true, false, List, [], ◌∷◌, ◌++◌, length, take, reverse, min, All, Option, Some, None, IfSome, is_some, option_and_then, option_to_list, nat_lt, if◌then◌else◌}
 use Rattle.std.specs.Option.{option_map_or}
 use Rattle.lapd_bits.specs.Bits.{low_bits, bits}
 use Rattle.lapd_bits.specs.Stuffing.{unstuffed}
@@ -20,40 +20,41 @@ run_of (true ∷ past) = min 7 (run_of past + 1)
 abbrev pub open_gap : List Bool → Option (List Bool)
 open_gap past = option_and_then (λ g. if has_abort g then None else Some g) (since_flag past)
 
--- How many of a gap's octets are kept: all, where there is room, and else the first four.
+-- How many of a gap's octets are held: all, where there is room, and else the first four.
 abbrev pub kept_count : ℕ → ℕ → ℕ
 kept_count room n = if nat_lt room n then 4 else n
 
--- A gap's whole octets are kept in `octets`, and divided by the generator as they come.
-pub record Keeps (octets : List ℕ) (count : ℕ) (overlong : Bool) (register : ℕ) (whole : List ℕ) : Type 0 where
-  pub counted : count ≡ kept_count (length octets) (length whole)
-  pub too_many : overlong ≡ nat_lt (length octets) (length whole)
+-- A gap's whole octets are kept in `octets` as far as there is room. Once more have come, a register holds the division
+-- over all of them.
+pub record Keeps (octets : List ℕ) (count : ℕ) (beyond : Option ℕ) (whole : List ℕ) : Type 0 where
+  pub counted : count ≡ min (length octets) (length whole)
   pub kept : take count octets ≡ take count whole
-  pub divided : HoldsDivision register (bits whole)
+  pub too_many : is_some beyond ≡ nat_lt (length octets) (length whole)
+  pub divided : IfSome beyond (λ register. HoldsDivision register (bits whole))
 
 abbrev pub KeepsIn : List ℕ → Gap → List ℕ → Type 0
-KeepsIn octets gap whole = Keeps octets gap.count gap.overlong gap.register whole
+KeepsIn octets gap whole = Keeps octets gap.count gap.beyond whole
 
 -- A gap's bits, stuffed 0s taken out, are its whole octets and fewer than eight bits more.
-pub record Assembles (octets : List ℕ) (count : ℕ) (overlong : Bool) (register partial filled : ℕ) (text : List Bool) : Type 0 where
+pub record Assembles (octets : List ℕ) (count : ℕ) (beyond : Option ℕ) (partial filled : ℕ) (text : List Bool) : Type 0 where
   pub whole : List ℕ
   pub are_octets : All (λ octet. octet < 256) whole
-  pub keeps : Keeps octets count overlong register whole
+  pub keeps : Keeps octets count beyond whole
   pub assembled : text ≡ bits whole ++ low_bits filled partial
 
 abbrev pub AssemblesIn : List ℕ → Gap → List Bool → Type 0
-AssemblesIn octets gap text = Assembles octets gap.count gap.overlong gap.register gap.partial gap.filled text
+AssemblesIn octets gap text = Assembles octets gap.count gap.beyond gap.partial gap.filled text
 
 -- A gap stands for bits, the latest first.
-pub record HoldsBits (octets : List ℕ) (since count : ℕ) (overlong : Bool) (register partial filled : ℕ) (g : List Bool) : Type 0 where
+pub record HoldsBits (octets : List ℕ) (since count : ℕ) (beyond : Option ℕ) (partial filled : ℕ) (g : List Bool) : Type 0 where
   pub counted : since ≡ min 8 (length g)
-  pub assembles : Assembles octets count overlong register partial filled (unstuffed (reverse g))
+  pub assembles : Assembles octets count beyond partial filled (unstuffed (reverse g))
 
 -- Open or not, what is held of the gap is that of the gap that is open.
 abbrev pub HoldsGap : List ℕ → Option Gap → Option (List Bool) → Type 0
 HoldsGap octets None None = Unit {0}
 HoldsGap octets (Some gap) (Some g) =
-    HoldsBits octets gap.since gap.count gap.overlong gap.register gap.partial gap.filled g
+    HoldsBits octets gap.since gap.count gap.beyond gap.partial gap.filled g
 HoldsGap octets None (Some g) = ⊥
 HoldsGap octets (Some gap) None = ⊥
 

@@ -10,7 +10,7 @@ ghost use Rattle.lapd_bits.specs.CheckLaws.{OnlyCheck};
 ghost use Rattle.lapd_bits.specs.Register.{HoldsDivision};
 
 /// The register before the first bit: the preset to ones.
-pub(crate) const PRESET: u16 = 0xFFFF;
+const PRESET: u16 = 0xFFFF;
 
 /// What the register holds over a frame and its check where there is no error, turned round.
 const NO_ERROR: u16 = 0xF0B8;
@@ -220,8 +220,8 @@ pub(crate) fn shows_no_error(register: u16) -> bool
     register == NO_ERROR
 }
 
-// The register after all octets.
-fn divided_all(octets: &[u8]) -> u16
+/// The register after all octets.
+pub(crate) fn divided_all(octets: &[u8]) -> u16
     ensures { HoldsDivision result (bits octets.now) }
 {
     let mut register = divided_eights(octets);

@@ -130,7 +130,7 @@ impl Deframer {
         ensures held { (n201 : ℕ) (past : List ℕ) → Stands n201 self.now past → result ≡ octets_held n201 past }
     {
         match self.gap {
-            Some(gap) => gap.count() as u32,
+            Some(gap) => gap.held() as u32,
             None => 0,
         }
     }

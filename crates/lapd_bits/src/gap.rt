@@ -1,9 +1,10 @@
 //! What a deframer keeps of the bits since the latest flag, and what the next flag makes of it.
-ghost use Rattle.std.specs.Prelude.{◌≡◌, ℕ, ◌<◌, ◌≤◌, ◌+◌, ◌^◌, Bool, List, [], ◌∷◌, ◌++◌, length, min, vec_len, IsFalse, Some, take};
-ghost use Rattle.lapd_bits.specs.Bits.{low_bits};
+ghost use Rattle.std.specs.Prelude.{◌≡◌, ℕ, ◌<◌, ◌≤◌, ◌+◌, ◌^◌, Bool, List, [], ◌∷◌, ◌++◌, length, min, max, vec_len, IsFalse, Some, take};
+ghost use Rattle.lapd_bits.specs.Bits.{low_bits, bits};
+ghost use Rattle.lapd_bits.specs.Register.{HoldsDivision};
 ghost use Rattle.lapd_bits.specs.Stream.{is_short};
 
-use crate::check::{PRESET, divided, shows_no_error};
+use crate::check::{divided, divided_all, shows_no_error};
 use crate::heard::{Cause, Ended};
 
 /// A closing flag without its last bit, as it lies in the octet that was being put together: a 0 and six 1s.
@@ -12,7 +13,7 @@ const FLAG_BEGUN: u8 = 0b111_1110;
 /// How many bits of a flag come before its last one.
 const FLAG_BEGUN_BITS: u8 = 7;
 
-/// How many octets of an overlong frame are kept (profile): its address and control fields.
+/// How many octets of an overlong frame are held (profile): its address and control fields.
 const OVERLONG_KEPT: usize = 4;
 
 /// What has come since the latest flag: the bits of an open gap, of which the whole octets lie in the
@@ -21,11 +22,10 @@ const OVERLONG_KEPT: usize = 4;
 pub(crate) struct Gap {
     /// The bits since the flag, stuffed 0s among them; 8 stands for 8 and more.
     since: u8,
-    /// The octets that are kept.
+    /// The octets that lie in the room: all that have come, or as many as it takes.
     count: usize,
-    /// More octets have come than there is room for.
-    overlong: bool,
-    register: u16,
+    /// Once more octets have come than there is room for, the frame check's register over all of them.
+    beyond: Option<u16>,
     /// The octet that is being put together, and how many bits of it have come.
     partial: u8,
     filled: u8,
@@ -36,7 +36,7 @@ pub(crate) struct Gap {
 }
 
 impl Gap {
-    ghost use Rattle.lapd_bits.specs.Deframer.{AssemblesIn, KeepsIn};
+    ghost use Rattle.lapd_bits.specs.Deframer.{AssemblesIn, KeepsIn, kept_count};
     ghost use Rattle.lapd_bits.specs.Ended.{FitsIn};
     ghost use Rattle.lapd_bits.specs.Heard.{event_in, closing_event};
 
@@ -49,18 +49,22 @@ impl Gap {
         Gap {
             since: 0,
             count: 0,
-            overlong: false,
-            register: PRESET,
+            beyond: None,
             partial: 0,
             filled: 0,
         }
     }
 
-    /// How many octets are kept.
-    pub(crate) fn count(&self) -> usize
-        ensures { result ≡ self.now.count }
+    /// How many octets are held, four once there are too many for the room.
+    pub(crate) fn held(&self) -> usize
+        ensures held { (octets whole : List ℕ) → KeepsIn octets self.now whole
+            → result ≡ kept_count (length octets) (length whole) }
+        ensures few { result ≤ max OVERLONG_KEPT self.now.count }
     {
-        self.count
+        match self.beyond {
+            Some(_) => OVERLONG_KEPT,
+            None => self.count,
+        }
     }
 
     /// How many bits have come since the flag; 8 stands for 8 and more.
@@ -74,8 +78,7 @@ impl Gap {
     pub(crate) fn skip(&mut self)
         ensures count { self.new.count ≡ self.old.count }
         ensures since { self.new.since ≡ min 8 (self.old.since + 1) }
-        ensures overlong { self.new.overlong ≡ self.old.overlong }
-        ensures register { self.new.register ≡ self.old.register }
+        ensures beyond { self.new.beyond ≡ self.old.beyond }
         ensures partial { self.new.partial ≡ self.old.partial }
         ensures filled { self.new.filled ≡ self.old.filled }
     {
@@ -86,7 +89,6 @@ impl Gap {
 
     /// Takes a bit of an octet.
     pub(crate) fn take(&mut self, octets: &mut Vec<u8>, bit: bool)
-        requires room { 6 ≤ vec_len octets.old }
         requires fits { self.old.count ≤ vec_len octets.old }
         ensures room { vec_len octets.new ≡ vec_len octets.old }
         ensures fits { self.new.count ≤ vec_len octets.new }
@@ -110,7 +112,6 @@ impl Gap {
 
     /// Takes the bits that an octet of the line brings, the first to come lowest, and counts all its eight.
     pub(crate) fn join(&mut self, octets: &mut Vec<u8>, bits: u8, count: u8)
-        requires room { 6 ≤ vec_len octets.old }
         requires fits { self.old.count ≤ vec_len octets.old }
         requires at_most { count ≤ 8 }
         requires below { bits < 2 ^ count }
@@ -135,7 +136,6 @@ impl Gap {
 
     /// Keeps a whole octet as far as there is room.
     fn keep(&mut self, octets: &mut Vec<u8>, octet: u8)
-        requires room { 6 ≤ vec_len octets.old }
         requires fits { self.old.count ≤ vec_len octets.old }
         ensures room { vec_len octets.new ≡ vec_len octets.old }
         ensures fits { self.new.count ≤ vec_len octets.new }
@@ -145,17 +145,38 @@ impl Gap {
         ensures kept { (whole : List ℕ) → KeepsIn octets.old.items self.old whole
             → KeepsIn octets.new.items self.new (whole ++ octet ∷ []) }
     {
-        self.register = divided(self.register, octet);
-        if self.overlong {
-            return;
+        if self.count < octets.len() {
+            octets[self.count] = octet;
+            self.count += 1;
+        } else {
+            self.pass_over(octets, octet);
         }
-        if self.count == octets.len() {
-            self.overlong = true;
-            self.count = OVERLONG_KEPT;
-            return;
+    }
+
+    /// Takes an octet that there is no room for.
+    #[inline(never)]
+    fn pass_over(&mut self, octets: &Vec<u8>, octet: u8)
+        requires full { self.old.count ≡ vec_len octets.now }
+        ensures count { self.new.count ≡ self.old.count }
+        ensures since { self.new.since ≡ self.old.since }
+        ensures partial { self.new.partial ≡ self.old.partial }
+        ensures filled { self.new.filled ≡ self.old.filled }
+        ensures kept { (whole : List ℕ) → KeepsIn octets.now.items self.old whole
+            → KeepsIn octets.now.items self.new (whole ++ octet ∷ []) }
+    {
+        let register = self.register(octets);
+        self.beyond = Some(divided(register, octet));
+    }
+
+    /// The frame check's register over all octets that have come.
+    fn register(&self, octets: &Vec<u8>) -> u16
+        requires fits { self.now.count ≤ vec_len octets.now }
+        ensures { (whole : List ℕ) → KeepsIn octets.now.items self.now whole → HoldsDivision result (bits whole) }
+    {
+        match self.beyond {
+            Some(register) => register,
+            None => divided_all(&octets[..self.count]),
         }
-        octets[self.count] = octet;
-        self.count += 1;
     }
 
     /// What a flag ends that closes this gap, its first seven bits among the gap's.
@@ -170,13 +191,13 @@ impl Gap {
         if self.filled != FLAG_BEGUN_BITS || self.partial != FLAG_BEGUN {
             return Ended::Dropped(Cause::Ragged);
         }
-        if !self.overlong && self.is_short(octets) {
+        if self.is_short(octets) {
             return Ended::Dropped(Cause::Short);
         }
-        if !shows_no_error(self.register) {
+        if !shows_no_error(self.register(octets)) {
             return Ended::Dropped(Cause::Fcs);
         }
-        if self.overlong {
+        if self.beyond.is_some() {
             return Ended::Overlong;
         }
         Ended::Frame(self.count - 2)

@@ -1,4 +1,4 @@
-use Rattle.std.proofs.Common.{subst, ◌∙◌}
+use Rattle.std.proofs.Common.{subst}
 use Rattle.std.proofs.Common.{reverse}
 use Rattle.lapd_bits.specs.Bits.{bits}
 use Rattle.lapd_bits.specs.Deframer.{HoldsGap, open_gap}
@@ -11,5 +11,5 @@ returns-in-Some c =
       held = λ n201 past h.
           let octets = c.args.self.now.octets.items in
           let here = subst (λ g. HoldsGap octets g (open_gap (reverse (bits past)))) c.in-Some.is h.holds.open_is in
-          c.count.ensures ∙ held_of_gap n201 octets c.in-Some.gap past h.room here;
+          held_of_gap n201 c.held.result octets c.in-Some.gap past h.room here c.held.ensures.held;
     }

@@ -15,5 +15,5 @@ pub returns-else-filled-lt8-clause-stands : goal.returns-else-filled-lt8-clause-
 returns-else-filled-lt8-clause-stands c text a =
     let old = c.args.self.now in
     let new = c.keep.new.self in
-    Assembles-joined_octet c.args.octets.now.items c.keep.new.octets.items old.count new.count old.overlong new.overlong old.register new.register old.partial old.filled c.above-joined.result c.args.count c.args.bits new.partial new.filled text
+    Assembles-joined_octet c.args.octets.now.items c.keep.new.octets.items old.count new.count old.beyond new.beyond old.partial old.filled c.above-joined.result c.args.count c.args.bits new.partial new.filled text
     a c.if-filled-lt8.false c.above-joined.ensures.bits c.keep.ensures.partial c.keep.ensures.filled (c.keep.ensures.kept a.whole a.keeps)

@@ -5,13 +5,13 @@ use Rattle.lapd_bits.proofs.gap.Gap.take.Goals as goal
 pub returns-then-filled-lt7-clause-stands : goal.returns-then-filled-lt7-clause-stands
 returns-then-filled-lt7-clause-stands c text a =
     let s = c.skip.ensures in
-    Assembles-bit c.args.octets.now.items c.args.self.now.count c.skip.new.self.count c.args.self.now.overlong c.skip.new.self.overlong c.args.self.now.register c.skip.new.self.register c.args.self.now.partial c.args.self.now.filled c.with_bit-partial.result text c.args.bit
-    s.count s.overlong s.register a c.with_bit-partial.ensures.bits
+    Assembles-bit c.args.octets.now.items c.args.self.now.count c.skip.new.self.count c.args.self.now.beyond c.skip.new.self.beyond c.args.self.now.partial c.args.self.now.filled c.with_bit-partial.result text c.args.bit
+    s.count s.beyond a c.with_bit-partial.ensures.bits
 
 pub returns-else-filled-lt7-clause-stands : goal.returns-else-filled-lt7-clause-stands
 returns-else-filled-lt7-clause-stands c text a =
     let s = c.skip.ensures in
-    let before = Keeps_same c.args.octets.now.items a.whole c.args.self.now.count c.skip.new.self.count c.args.self.now.overlong c.skip.new.self.overlong c.args.self.now.register c.skip.new.self.register s.count s.overlong s.register a.keeps in
+    let before = Keeps_same c.args.octets.now.items a.whole c.args.self.now.count c.skip.new.self.count c.args.self.now.beyond c.skip.new.self.beyond s.count s.beyond a.keeps in
     let seven : c.args.self.now.filled ≡ 7 = omega (arith, c.args.self.now.no_octet) in
-    Assembles-octet c.args.octets.now.items c.keep.new.octets.items c.args.self.now.count c.keep.new.self.count c.args.self.now.overlong c.keep.new.self.overlong c.args.self.now.register c.keep.new.self.register c.args.self.now.partial c.args.self.now.filled c.with_bit-partial.result c.keep.new.self.partial c.keep.new.self.filled text c.args.bit
+    Assembles-octet c.args.octets.now.items c.keep.new.octets.items c.args.self.now.count c.keep.new.self.count c.args.self.now.beyond c.keep.new.self.beyond c.args.self.now.partial c.args.self.now.filled c.with_bit-partial.result c.keep.new.self.partial c.keep.new.self.filled text c.args.bit
     a seven c.with_bit-partial.ensures.bits c.with_bit-partial.ensures.below c.keep.ensures.partial c.keep.ensures.filled (c.keep.ensures.kept a.whole before)

@@ -1,4 +1,4 @@
--- The table holds what stays of each octet after each number of 1s.
+-- The tables hold what stays of each octet after each number of 1s.
 use Rattle.std.proofs.Common.{◌≡◌, ℕ, ◌+◌, ◌*◌, ◌/◌, ◌%◌, ◌^◌, ◌<◌, ◌≤◌, Bool, true, false, List, [], ◌∷◌, ◌++◌, length, drop, get_or, map, replicate, nat_eq, nat_le, if◌then◌else◌, refl, sym, ap, subst, ◌∙◌, arith}
 use Rattle.std.specs.List.{range_with_len}
 use Rattle.std.proofs.lemmas.Bool.{leb-true}
@@ -9,7 +9,7 @@ use Rattle.lapd_bits.specs.Stuffing.{unstuffed}
 use Rattle.lapd_bits.specs.Deframer.{run_of}
 use Rattle.lapd_bits.specs.Steps.{with_bits}
 use Rattle.lapd_bits.specs.Unstuffer.{has_six, IsContent}
-use Rattle.lapd_bits.specs.declared.unstuffer.TheConstants.{PIECES, RUNS}
+use Rattle.lapd_bits.specs.declared.unstuffer.TheConstants.{TABLES}
 use Rattle.lapd_bits.proofs.BitLemmas.{low_bits-number_of, number_of-lt}
 use Rattle.lapd_bits.proofs.StuffingCounted.{unstuffed_after}
 use Rattle.lapd_bits.proofs.AtOnce.{unstuffed-ones}
@@ -32,20 +32,20 @@ run_alone octet = if has_six (low_bits 8 octet) then 0 else run_after 0 octet
 abbrev entry : (ℕ → ℕ → ℕ) → ℕ → ℕ
 entry f place = if has_six (text_of (place % 8) (place / 8)) then 0 else f (place % 8) (place / 8)
 
-bits_are : map (λ n. n % 256) PIECES ≡ map (entry (λ ones octet. number_of (content_of ones octet))) (range_with_len 0 2048)
+bits_are : TABLES.bits ≡ map (entry (λ ones octet. number_of (content_of ones octet))) (range_with_len 0 2048)
 unfolding low_bits
 bits_are = refl
 
-counts_are : map (λ n. n / 256) PIECES ≡ map (entry (λ ones octet. length (content_of ones octet))) (range_with_len 0 2048)
+counts_are : TABLES.counts ≡ map (entry (λ ones octet. length (content_of ones octet))) (range_with_len 0 2048)
 unfolding low_bits
 counts_are = refl
 
 -- 0 stands exactly where six 1s come
-marks_are : map (λ n. nat_eq n 0) PIECES ≡ map (λ place. has_six (text_of (place % 8) (place / 8))) (range_with_len 0 2048)
+marks_are : map (λ n. nat_eq n 0) TABLES.counts ≡ map (λ place. has_six (text_of (place % 8) (place / 8))) (range_with_len 0 2048)
 unfolding low_bits
 marks_are = refl
 
-runs_are : RUNS ≡ map run_alone (range_with_len 0 256)
+runs_are : TABLES.runs ≡ map run_alone (range_with_len 0 256)
 unfolding low_bits
 runs_are = refl
 
@@ -55,10 +55,10 @@ unfolding low_bits
 runs_alone = refl
 
 -- and no entry is too great
-counts_fit : map (λ n. nat_le (n / 256) 8) PIECES ≡ replicate 2048 true
+counts_fit : map (λ n. nat_le n 8) TABLES.counts ≡ replicate 2048 true
 counts_fit = refl
 
-runs_fit : map (λ n. nat_le n 5) RUNS ≡ replicate 256 true
+runs_fit : map (λ n. nat_le n 5) TABLES.runs ≡ replicate 256 true
 runs_fit = refl
 
 -- a test that all entries pass
@@ -67,11 +67,11 @@ passed test table n place all below size =
     sym (get_or-map test table place 0 false (omega arith))
     ∙ ap (λ t. get_or t place false) all ∙ get_or-replicate n place true false below
 
-pub counts-fit : (place : ℕ) → place < 2048 → get_or PIECES place 0 / 256 ≤ 8
-counts-fit place below = leb-true (get_or PIECES place 0 / 256) 8 (passed (λ n. nat_le (n / 256) 8) PIECES 2048 place counts_fit below refl)
+pub counts-fit : (place : ℕ) → place < 2048 → get_or TABLES.counts place 0 ≤ 8
+counts-fit place below = leb-true (get_or TABLES.counts place 0) 8 (passed (λ n. nat_le n 8) TABLES.counts 2048 place counts_fit below refl)
 
-pub runs-fit : (octet : ℕ) → octet < 256 → get_or RUNS octet 0 ≤ 5
-runs-fit octet below = leb-true (get_or RUNS octet 0) 5 (passed (λ n. nat_le n 5) RUNS 256 octet runs_fit below refl)
+pub runs-fit : (octet : ℕ) → octet < 256 → get_or TABLES.runs octet 0 ≤ 5
+runs-fit octet below = leb-true (get_or TABLES.runs octet 0) 5 (passed (λ n. nat_le n 5) TABLES.runs 256 octet runs_fit below refl)
 
 -- ---- the entry for some 1s and an octet
 
@@ -94,38 +94,29 @@ module _ (ones octet : ℕ) (few : ones ≤ 7) (small : octet < 256) where
       get_or-map-range_with_len (λ n. f (n % 8) (n / 8)) 0 2048 at at d within (omega arith)
       ∙ ap (λ n. f n (at / 8)) column ∙ ap (f ones) row
 
-  pub mark-at : nat_eq (get_or PIECES (octet * 8 + ones) 0) 0 ≡ has_six (text_of ones octet)
+  pub mark-at : nat_eq (get_or TABLES.counts (octet * 8 + ones) 0) 0 ≡ has_six (text_of ones octet)
   mark-at =
       let at = octet * 8 + ones in
-      let size : length PIECES ≡ 2048 = refl in
-      sym (get_or-map (λ n. nat_eq n 0) PIECES at 0 false (omega (arith, size, within)))
+      let size : length TABLES.counts ≡ 2048 = refl in
+      sym (get_or-map (λ n. nat_eq n 0) TABLES.counts at 0 false (omega (arith, size, within)))
       ∙ ap (λ t. get_or t at false) marks_are
       ∙ at-place (λ n o. has_six (text_of n o)) false
 
-  -- what an entry says of an octet in which no six come
+  -- what a table has at this place, where no six come
   entry-at :
-      (f : ℕ → ℕ → ℕ) → has_six (text_of ones octet) ≡ false
-      → get_or (map (entry f) (range_with_len 0 2048)) (octet * 8 + ones) 0 ≡ f ones octet
-  entry-at f none =
-      at-place (λ n o. if has_six (text_of n o) then 0 else f n o) 0
+      (table : List ℕ) (f : ℕ → ℕ → ℕ) → table ≡ map (entry f) (range_with_len 0 2048)
+      → has_six (text_of ones octet) ≡ false → get_or table (octet * 8 + ones) 0 ≡ f ones octet
+  entry-at table f is none =
+      ap (λ t. get_or t (octet * 8 + ones) 0) is
+      ∙ at-place (λ n o. if has_six (text_of n o) then 0 else f n o) 0
       ∙ ap (λ b. if b then 0 else f ones octet) none
 
-  part-at :
-      (part : ℕ → ℕ) (f : ℕ → ℕ → ℕ) → map part PIECES ≡ map (entry f) (range_with_len 0 2048)
-      → has_six (text_of ones octet) ≡ false → part (get_or PIECES (octet * 8 + ones) 0) ≡ f ones octet
-  part-at part f are none =
-      let at = octet * 8 + ones in
-      let size : length PIECES ≡ 2048 = refl in
-      sym (get_or-map part PIECES at 0 0 (omega (arith, size, within)))
-      ∙ ap (λ t. get_or t at 0) are ∙ entry-at f none
-
-  run-at : has_six (text_of ones octet) ≡ false → get_or RUNS octet 0 ≡ run_after ones octet
+  run-at : has_six (text_of ones octet) ≡ false → get_or TABLES.runs octet 0 ≡ run_after ones octet
   run-at none =
       ap (λ t. get_or t octet 0) runs_are
       ∙ get_or-map-range_with_len run_alone 0 256 octet octet 0 small (omega arith)
-      ∙ sym (entry-at (λ _ o. run_alone o) none)
-      ∙ ap (λ t. get_or t (octet * 8 + ones) 0) runs_alone
-      ∙ entry-at run_after none
+      ∙ sym (entry-at (map (entry (λ _ o. run_alone o)) (range_with_len 0 2048)) (λ _ o. run_alone o) refl none)
+      ∙ entry-at _ run_after runs_alone none
 
   -- what stays, by the count of 1s
   content_is : content_of ones octet ≡ unstuffed_after ones (low_bits 8 octet)
@@ -135,15 +126,14 @@ module _ (ones octet : ℕ) (few : ones ≤ 7) (small : octet < 256) where
 
   pub IsContent-at :
       has_six (text_of ones octet) ≡ false
-      → IsContent ones octet (get_or PIECES (octet * 8 + ones) 0 % 256) (get_or PIECES (octet * 8 + ones) 0 / 256) (get_or RUNS octet 0)
+      → IsContent ones octet (get_or TABLES.bits (octet * 8 + ones) 0) (get_or TABLES.counts (octet * 8 + ones) 0) (get_or TABLES.runs octet 0)
   IsContent-at none =
       let content = content_of ones octet in
-      let piece = get_or PIECES (octet * 8 + ones) 0 in
-      let bits = part-at (λ n. n % 256) (λ n o. number_of (content_of n o)) bits_are none in
-      let count = part-at (λ n. n / 256) (λ n o. length (content_of n o)) counts_are none in
-      let back : low_bits (piece / 256) (piece % 256) ≡ content =
-      ap (λ n. low_bits n (piece % 256)) count
-      ∙ ap (low_bits (length content)) bits ∙ low_bits-number_of content in
+      let found = get_or TABLES.bits (octet * 8 + ones) 0 in
+      let bits = entry-at TABLES.bits (λ n o. number_of (content_of n o)) bits_are none in
+      let count = entry-at TABLES.counts (λ n o. length (content_of n o)) counts_are none in
+      let back : low_bits (get_or TABLES.counts (octet * 8 + ones) 0) found ≡ content =
+      ap (λ n. low_bits n found) count ∙ ap (low_bits (length content)) bits ∙ low_bits-number_of content in
       record {
         stays =
             unstuffed-ones ones (low_bits 8 octet)
@@ -154,11 +144,10 @@ module _ (ones octet : ℕ) (few : ones ≤ 7) (small : octet < 256) where
   -- and its sizes
   pub below-at :
       has_six (text_of ones octet) ≡ false
-      → get_or PIECES (octet * 8 + ones) 0 % 256 < 2 ^ (get_or PIECES (octet * 8 + ones) 0 / 256)
+      → get_or TABLES.bits (octet * 8 + ones) 0 < 2 ^ get_or TABLES.counts (octet * 8 + ones) 0
   below-at none =
       let content = content_of ones octet in
-      let piece = get_or PIECES (octet * 8 + ones) 0 in
-      let bits = part-at (λ n. n % 256) (λ n o. number_of (content_of n o)) bits_are none in
-      let count = part-at (λ n. n / 256) (λ n o. length (content_of n o)) counts_are none in
-      subst (λ n. piece % 256 < 2 ^ n) (sym count)
+      let bits = entry-at TABLES.bits (λ n o. number_of (content_of n o)) bits_are none in
+      let count = entry-at TABLES.counts (λ n o. length (content_of n o)) counts_are none in
+      subst (λ n. get_or TABLES.bits (octet * 8 + ones) 0 < 2 ^ n) (sym count)
       (subst (λ n. n < 2 ^ length content) (sym bits) (number_of-lt content))

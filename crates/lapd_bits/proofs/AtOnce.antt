@@ -114,7 +114,7 @@ pub ones_after-ones : (m n : ℕ) → ones_after m (replicate n true) ≡ m + n
 ones_after-ones m zero = omega arith
 ones_after-ones m (suc n) = ones_after-ones (suc m) n ∙ omega arith
 
-unstuffed_after-ones : (m n : ℕ) → unstuffed_after m (replicate n true) ≡ replicate n true
+pub unstuffed_after-ones : (m n : ℕ) → unstuffed_after m (replicate n true) ≡ replicate n true
 unstuffed_after-ones m zero = refl
 unstuffed_after-ones m (suc n) = ap (λ t. true ∷ t) (unstuffed_after-ones (suc m) n)
 

@@ -17,16 +17,16 @@ use Rattle.lapd_bits.proofs.StuffingCounted.{ones_after}
 
 -- ---- bits that end nothing: up to six 1s, and no 0 after six
 
-abbrev Calm : ℕ → List Bool → Type 0
+abbrev pub Calm : ℕ → List Bool → Type 0
 Calm n [] = Unit {0}
 Calm n (true ∷ text) = (n < 6) × Calm (suc n) text
 Calm n (false ∷ text) = (n ≢ 6) × Calm 0 text
 
-Calm-ones : (n k : ℕ) → n + k ≤ 6 → Calm n (replicate k true)
+pub Calm-ones : (n k : ℕ) → n + k ≤ 6 → Calm n (replicate k true)
 Calm-ones n zero h = tt
 Calm-ones n (suc k) h = (omega arith, Calm-ones (suc n) k (omega arith))
 
-calm : (room n : ℕ) (text past : List Bool) → run_of past ≡ n → n ≤ 6 → Calm n text → IsQuiet room text past
+pub calm : (room n : ℕ) (text past : List Bool) → run_of past ≡ n → n ≤ 6 → Calm n text → IsQuiet room text past
 calm room n [] past e few p = record { heard = refl; run = refl; gap = option_map-none (open_gap past) }
 calm room n (true ∷ text) past e few p =
     let run : run_of (true ∷ past) ≡ suc (run_of past) = omega (arith, e, p.0) in
@@ -86,7 +86,7 @@ record IsNext (room : ℕ) (first second past : List Bool) : Type 0 where
   run : run_of (onto second (false ∷ onto first past)) ≡ ones_after 0 second
   gap : open_gap (onto second (false ∷ onto first past)) ≡ Some (onto second [])
 
-length-onto : (text past : List Bool) → length (onto text past) ≡ length text + length past
+pub length-onto : (text past : List Bool) → length (onto text past) ≡ length text + length past
 length-onto [] past = omega arith
 length-onto (b ∷ text) past = length-onto text (b ∷ past) ∙ omega arith
 
@@ -119,7 +119,7 @@ begun_is zero (true ∷ g) size ones = absurd (omega arith)
 begun_is (suc n) (false ∷ g) size ones = absurd (omega arith)
 begun_is (suc n) (true ∷ g) size ones = ap (λ l. true ∷ l) (begun_is n g (omega arith) (omega arith))
 
-onto-ones : (n : ℕ) (past : List Bool) → onto (replicate n true) past ≡ replicate n true ++ past
+pub onto-ones : (n : ℕ) (past : List Bool) → onto (replicate n true) past ≡ replicate n true ++ past
 onto-ones zero past = refl
 onto-ones (suc n) past = onto-ones n (true ∷ past) ∙ ones_push n past
   where

@@ -14,6 +14,8 @@ pub mod Joining
 pub mod AtOnce
 pub mod Idle
 pub mod UnstuffingTables
+pub mod FlagEndTables
+pub mod FlagEnd
 pub mod StuffingAtOnce
 pub mod StuffingTables
 pub mod FramerGiven

@@ -14,6 +14,7 @@ pub mod Heard
 pub mod Ended
 pub mod Steps
 pub mod Unstuffer
+pub mod FlagEnd
 pub mod Stuffer
 pub mod Framer
 pub mod FramerText

@@ -1,10 +1,11 @@
 //! What is heard on a line (clauses 2.2 to 2.10): octets go in one by one, and the frames in them come out.
-ghost use Rattle.std.specs.Prelude.{◌≡◌, ℕ, ◌≤◌, ◌+◌, Bool, true, false, List, [], ◌∷◌, ◌++◌, length, vec_len, IsTrue, IfOk, Option, Some, None, option_to_list, option_map};
+ghost use Rattle.std.specs.Prelude.{◌≡◌, ℕ, ◌≤◌, ◌+◌, Bool, true, false, List, [], ◌∷◌, ◌++◌, length, vec_len, IsTrue, IfOk, Option, Some, None, option_to_list, option_map, replicate};
 ghost use Rattle.std.specs.Option.{ForSome};
 ghost use Rattle.lapd_bits.specs.Bits.{low_bits};
 ghost use Rattle.lapd_bits.specs.Ended.{FitsIn};
 ghost use Rattle.lapd_bits.specs.Stream.{heard_in, heard_until};
 
+use crate::flag_end::{FlagEnd, flag_end, six_ones_of};
 use crate::gap::Gap;
 use crate::heard::{Cause, Ended, Heard};
 use crate::start_fault::StartFault;
@@ -38,6 +39,7 @@ impl Deframer {
     ghost use Rattle.std.specs.Io.BufRead.{Rests};
     ghost use Rattle.lapd_bits.specs.contracts.deframer.Deframer.{the_row};
     ghost use Rattle.lapd_bits.specs.Deframer.{Stands, HoldsPast, HoldsGap, run_of, open_gap, octets_held, latest_of};
+    ghost use Rattle.lapd_bits.specs.FlagEnd.{IsFlagEnd};
     ghost use Rattle.lapd_bits.specs.Heard.{heard_of, event_in, without_octets};
     ghost use Rattle.lapd_bits.specs.Steps.{Hears, Ages, one_more, IsKept, IsStuffed, IsYoung, given_up_event, closed_event, with_bits};
     ghost use Rattle.lapd_bits.specs.Unstuffer.{IsJoined, StaysIdle};
@@ -101,7 +103,7 @@ impl Deframer {
             self.ended = Ended::Nothing;
             return Ended::Nothing;
         }
-        let ended = self.bit_by_bit(octet);
+        let ended = self.ending(octet);
         self.ended = ended;
         ended
     }
@@ -172,6 +174,65 @@ impl Deframer {
     }
 
     /// Takes an octet that may end something.
+    #[inline(never)]
+    fn ending(&mut self, octet: u8) -> Ended
+        ensures fits { FitsIn (vec_len self.new.octets) result }
+        ensures room { length self.new.octets.items ≡ length self.old.octets.items }
+        ensures stands { (past : List Bool) → HoldsPast self.old.octets.items self.old.ones self.old.gap past
+            → HoldsPast self.new.octets.items self.new.ones self.new.gap (with_bits 8 octet past) }
+        ensures told { (past : List Bool) → HoldsPast self.old.octets.items self.old.ones self.old.gap past
+            → heard_until (length self.old.octets.items) (with_bits 8 octet past)
+            ≡ heard_until (length self.old.octets.items) past
+            ++ option_to_list (event_in self.new.octets.items result) }
+    {
+        // Mostly a flag ends. Taking its octet at once is there for speed alone: bit by bit it brings the same.
+        match flag_end(self.ones, octet) {
+            Some(flag) => self.take_flag_end(flag),
+            None => self.bit_by_bit(octet),
+        }
+    }
+
+    /// Takes an octet in which a flag ends and nothing else does.
+    fn take_flag_end(&mut self, flag: FlagEnd) -> Ended
+        ensures fits { FitsIn (vec_len self.new.octets) result }
+        ensures room { length self.new.octets.items ≡ length self.old.octets.items }
+        ensures stands { (octet : ℕ) → IsFlagEnd self.old.ones octet flag.before flag.bits flag.count flag.ones
+            → (past : List Bool) → HoldsPast self.old.octets.items self.old.ones self.old.gap past
+            → HoldsPast self.new.octets.items self.new.ones self.new.gap (with_bits 8 octet past) }
+        ensures told { (octet : ℕ) → IsFlagEnd self.old.ones octet flag.before flag.bits flag.count flag.ones
+            → (past : List Bool) → HoldsPast self.old.octets.items self.old.ones self.old.gap past
+            → heard_until (length self.old.octets.items) (with_bits 8 octet past)
+            ≡ heard_until (length self.old.octets.items) past
+            ++ option_to_list (event_in self.new.octets.items result) }
+    {
+        let ended = self.closed_after(flag.before);
+        self.gap = Some(Gap::begun(flag.bits, flag.count, 7 - flag.before));
+        self.ones = flag.ones;
+        ended
+    }
+
+    /// What a flag closes whose last bit comes after so many 1s more.
+    fn closed_after(&mut self, before: u8) -> Ended
+        requires few { before ≤ 6 }
+        ensures fits { FitsIn (vec_len self.new.octets) result }
+        ensures room { length self.new.octets.items ≡ length self.old.octets.items }
+        ensures told { (past : List Bool) → run_of past + before ≡ 6
+            → HoldsGap self.old.octets.items self.old.gap (open_gap past)
+            → event_in self.new.octets.items result
+            ≡ closed_event (length self.old.octets.items) (open_gap (replicate before true ++ past)) }
+    {
+        let Some(gap) = &mut self.gap else {
+            return Ended::Nothing;
+        };
+        // Nothing stands between two flags that follow one another or share their 0.
+        if gap.since() + before < 8 {
+            return Ended::Nothing;
+        }
+        gap.join(&mut self.octets, six_ones_of(before), before);
+        gap.closed(&self.octets)
+    }
+
+    /// Takes an octet bit by bit.
     #[inline(never)]
     fn bit_by_bit(&mut self, octet: u8) -> Ended
         ensures fits { FitsIn (vec_len self.new.octets) result }

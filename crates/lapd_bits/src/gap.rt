@@ -55,6 +55,23 @@ impl Gap {
         }
     }
 
+    /// The gap that a flag opens, with the bits behind it in its octet: `since` bits, of which `count` stay, the first
+    /// to come lowest.
+    pub(crate) fn begun(bits: u8, count: u8, since: u8) -> Gap
+        requires few { since ≤ 7 }
+        requires at_most { count ≤ since }
+        requires below { bits < 2 ^ count }
+        ensures count { result.count ≡ 0 }
+        ensures since { result.since ≡ since }
+        ensures stands { (octets : List ℕ) → AssemblesIn octets result (low_bits count bits) }
+    {
+        let mut gap = Gap::new();
+        gap.since = since;
+        gap.filled = count;
+        gap.partial = bits;
+        gap
+    }
+
     /// How many octets are held, four once there are too many for the room.
     pub(crate) fn held(&self) -> usize
         ensures held { (octets whole : List ℕ) → KeepsIn octets self.now whole

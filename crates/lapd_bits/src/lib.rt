@@ -7,7 +7,7 @@
 //! flag, as long as no seven 1s have given it up. An *item* is what is sent after a line's opening flag: an idle flag,
 //! or a stuffed frame with its check and its closing flag.
 //!
-//! - `deframer`, over `gap` and `unstuffer`: from octets to frames; `heard`: what it answers.
+//! - `deframer`, over `gap`, `unstuffer` and `flag_end`: from octets to frames; `heard`: what it answers.
 //! - `framer`, over `stuffer` and `waiting`: from frames to octets.
 //! - `start_fault`: why neither could be started.
 //! - `check`: the frame check sequence.
@@ -16,6 +16,7 @@
 
 mod check;
 mod deframer;
+mod flag_end;
 mod flag_places;
 mod framer;
 mod gap;

@@ -51,14 +51,14 @@ returns-then-is_idle-clause-after c n201 past h =
 
 pub returns-clause-heard : goal.returns-clause-heard
 returns-clause-heard c n201 past h =
-    let s = c.bit_by_bit-ended.ensures in
-    heard_more n201 past c.args.octet _ (event_in c.bit_by_bit-ended.new.self.octets.items c.bit_by_bit-ended.result) h.room (s.told (reverse (bits past)) h.holds)
+    let s = c.ending-ended.ensures in
+    heard_more n201 past c.args.octet _ (event_in c.ending-ended.new.self.octets.items c.ending-ended.result) h.room (s.told (reverse (bits past)) h.holds)
 
 pub returns-clause-after : goal.returns-clause-after
 returns-clause-after c n201 past h =
-    let s = c.bit_by_bit-ended.ensures in
-    let new = c.bit_by_bit-ended.new.self in
-    let brought = event_in new.octets.items c.bit_by_bit-ended.result in
+    let s = c.ending-ended.ensures in
+    let new = c.ending-ended.new.self in
+    let brought = event_in new.octets.items c.ending-ended.result in
     record {
       room = s.room ∙ h.room;
       holds = subst (HoldsPast new.octets.items new.ones new.gap) (sym (with_bits-octet past c.args.octet)) (s.stands (reverse (bits past)) h.holds);
@@ -67,5 +67,5 @@ returns-clause-after c n201 past h =
 
 pub returns-clause-told : goal.returns-clause-told
 returns-clause-told c =
-    let new = c.bit_by_bit-ended.new.self in
-    told_is new.octets.items c.bit_by_bit-ended.result (subst (λ n. FitsIn n c.bit_by_bit-ended.result) new.octets.ok.0 c.bit_by_bit-ended.ensures.fits)
+    let new = c.ending-ended.new.self in
+    told_is new.octets.items c.ending-ended.result (subst (λ n. FitsIn n c.ending-ended.result) new.octets.ok.0 c.ending-ended.ensures.fits)

@@ -1,0 +1,203 @@
+-- An octet in which a flag ends: its first 1s go on the open gap, which the flag closes, and the bits behind begin the next.
+use Rattle.std.proofs.Common.{◌≡◌, ℕ, suc, zero, ◌+◌, ◌-◌, ◌/◌, ◌^◌, ◌<◌, ◌≤◌, Bool, true, false, not, List, [], ◌∷◌, ◌++◌, length, reverse, replicate, Option, Some, None, option_map, option_to_list, nat_eq, nat_lt, refl, ap, sym, ◌∙◌, subst, arith, append-nil, length-append}
+use Rattle.std.proofs.lemmas.Bool.{and_parts, ltb-true, lt-ltb, eq-eqb, false≢true}
+use Rattle.std.proofs.lemmas.List.{reverse-append, reverse-reverse, length-replicate}
+use Rattle.lapd_bits.specs.Bits.{bits, low_bits}
+use Rattle.lapd_bits.specs.Stuffing.{unstuffed}
+use Rattle.lapd_bits.specs.Stream.{Event, heard_until, heard_at}
+use Rattle.lapd_bits.specs.Deframer.{run_of, open_gap, KeepsIn, Assembles, AssemblesIn, HoldsGap, HoldsPast}
+use Rattle.lapd_bits.specs.Heard.{closing_event}
+use Rattle.lapd_bits.specs.Steps.{closed_event, with_bits}
+use Rattle.lapd_bits.specs.FlagEnd.{behind_zero, ends_nothing, IsFlagEnd}
+use Rattle.lapd_bits.specs.declared.gap.Gap.{Gap}
+use Rattle.lapd_bits.proofs.BitLemmas.{length-low_bits}
+use Rattle.lapd_bits.proofs.BitSteps.{closed_told}
+use Rattle.lapd_bits.proofs.AtOnce.{onto, onto-reverse, onto-append, with_bits-onto, IsQuiet, ones_after-ones, unstuffed_after-ones}
+use Rattle.lapd_bits.proofs.Hearing.{heard_at-flag, open_gap-flag}
+use Rattle.lapd_bits.proofs.Idle.{Calm, Calm-ones, calm, length-onto, onto-ones}
+use Rattle.lapd_bits.proofs.StuffingCounted.{ones_after, unstuffed-counted, unstuffed_after, unstuffed_after-append}
+
+-- the test of bits that end nothing
+Calm-by_test : (n : ℕ) (text : List Bool) → ends_nothing n text ≡ true → Calm n text
+Calm-by_test n [] h = tt
+Calm-by_test n (true ∷ text) h =
+    let parts = and_parts (nat_lt n 6) (ends_nothing (suc n) text) h in
+    (ltb-true n 6 parts.0, Calm-by_test (suc n) text parts.1)
+Calm-by_test n (false ∷ text) h =
+    let parts = and_parts (not (nat_eq n 6)) (ends_nothing 0 text) h in
+    (λ six. false≢true (ap not (sym (eq-eqb n 6 six)) ∙ parts.0), Calm-by_test 0 text parts.1)
+
+-- so many 1s, of a flag's six
+pub six_ones_are : (count : ℕ) → count ≤ 6 → low_bits count (63 / 2 ^ (6 - count)) ≡ replicate count true
+unfolding low_bits
+six_ones_are zero h = refl
+six_ones_are (suc zero) h = refl
+six_ones_are (suc (suc zero)) h = refl
+six_ones_are (suc (suc (suc zero))) h = refl
+six_ones_are (suc (suc (suc (suc zero)))) h = refl
+six_ones_are (suc (suc (suc (suc (suc zero))))) h = refl
+six_ones_are (suc (suc (suc (suc (suc (suc zero)))))) h = refl
+six_ones_are (suc (suc (suc (suc (suc (suc (suc n))))))) h = absurd (omega arith)
+
+pub six_ones_fit : (count : ℕ) → count ≤ 6 → 63 / 2 ^ (6 - count) < 2 ^ count
+six_ones_fit zero h = omega arith
+six_ones_fit (suc zero) h = omega arith
+six_ones_fit (suc (suc zero)) h = omega arith
+six_ones_fit (suc (suc (suc zero))) h = omega arith
+six_ones_fit (suc (suc (suc (suc zero)))) h = omega arith
+six_ones_fit (suc (suc (suc (suc (suc zero))))) h = omega arith
+six_ones_fit (suc (suc (suc (suc (suc (suc zero)))))) h = omega arith
+six_ones_fit (suc (suc (suc (suc (suc (suc (suc n))))))) h = absurd (omega arith)
+
+-- ---- 1s more of a gap
+
+-- they all stay
+ones_kept : (n : ℕ) (g : List Bool) → unstuffed (reverse (onto (replicate n true) g)) ≡ unstuffed (reverse g) ++ replicate n true
+ones_kept n g =
+    let text = replicate n true in
+    ap (λ l. unstuffed (reverse l)) (onto-reverse text g)
+    ∙ ap unstuffed (reverse-append (reverse text) g ∙ ap (λ l. reverse g ++ l) (reverse-reverse text))
+    ∙ unstuffed-counted (reverse g ++ text)
+    ∙ unstuffed_after-append 0 (reverse g) text
+    ∙ ap (λ l. unstuffed_after 0 (reverse g) ++ l) (unstuffed_after-ones (ones_after 0 (reverse g)) n)
+    ∙ ap (λ l. l ++ text) (sym (unstuffed-counted (reverse g)))
+
+length-onto_ones : (n : ℕ) (g : List Bool) → length (onto (replicate n true) g) ≡ n + length g
+length-onto_ones n g = length-onto (replicate n true) g ∙ ap (λ k. k + length g) (length-replicate n true)
+
+-- a gap of eight bits or more then stands for them
+HoldsGap-ones :
+    (octets octets' : List ℕ) (gap gap' : Gap) (n : ℕ) (g : Option (List Bool)) → 8 ≤ gap.since + n → gap'.since ≡ 8
+    → ((text : List Bool) → AssemblesIn octets gap text → AssemblesIn octets' gap' (text ++ replicate n true))
+    → HoldsGap octets (Some gap) g → HoldsGap octets' (Some gap') (option_map (onto (replicate n true)) g)
+HoldsGap-ones octets octets' gap gap' n None long since taken h = absurd h
+HoldsGap-ones octets octets' gap gap' n (Some g) long since taken h =
+    record {
+      counted = omega (arith, since, h.counted, length-onto_ones n g);
+      assembles = subst (AssemblesIn octets' gap') (sym (ones_kept n g)) (taken _ h.assembles);
+    }
+
+-- and where no bits have come, those that are put in hold of the next gap
+pub Assembles-begun :
+    (octets : List ℕ) (count : ℕ) (beyond : Option ℕ) (partial filled content n : ℕ)
+    → Assembles octets count beyond partial filled [] → Assembles octets count beyond content n (low_bits n content)
+Assembles-begun octets count beyond partial filled content n a =
+    record {
+      whole = a.whole;
+      are_octets = a.are_octets;
+      keeps = a.keeps;
+      assembled = ap (λ l. l ++ low_bits n content) (sym (front_none (bits a.whole) (low_bits filled partial) a.assembled));
+    }
+  where
+    front_none : (front more : List Bool) → [] ≡ front ++ more → front ≡ []
+    front_none [] more e = refl
+    front_none (b ∷ front) more e = cc
+
+-- ---- what the flag closes after them
+
+module _ (room before : ℕ) (past : List Bool) (six : run_of past + before ≡ 6) where
+  -- the 1s end nothing
+  quiet_ones : IsQuiet room (replicate before true) past
+  quiet_ones =
+      calm room (run_of past) (replicate before true) past refl (omega arith) (Calm-ones (run_of past) before (omega arith))
+
+  grown : open_gap (replicate before true ++ past) ≡ option_map (onto (replicate before true)) (open_gap past)
+  grown = ap open_gap (sym (onto-ones before past)) ∙ quiet_ones.gap
+
+  run_is_six : run_of (replicate before true ++ past) ≡ 6
+  run_is_six = ap run_of (sym (onto-ones before past)) ∙ quiet_ones.run ∙ ones_after-ones (run_of past) before ∙ six
+
+  -- with no open gap it closes none
+  pub told-none : (octets : List ℕ) → HoldsGap octets None (open_gap past) → None ≡ closed_event room (open_gap (replicate before true ++ past))
+  told-none octets h = by_gap (open_gap past) h ∙ ap (closed_event room) (sym grown)
+    where
+      by_gap : (o : Option (List Bool)) → HoldsGap octets None o → None ≡ closed_event room (option_map (onto (replicate before true)) o)
+      by_gap None held = refl
+      by_gap (Some g) held = absurd held
+
+  -- nor one that has too few bits
+  pub told-young : (octets : List ℕ) (gap : Gap) → gap.since + before < 8 → HoldsGap octets (Some gap) (open_gap past) → None ≡ closed_event room (open_gap (replicate before true ++ past))
+  told-young octets gap few h = by_gap (open_gap past) h ∙ ap (closed_event room) (sym grown)
+    where
+      too_few : (l : List Bool) → length l < 8 → None ≡ closed_event room (Some l)
+      too_few l short = let e = lt-ltb (length l) 8 short in sym (rw e refl)
+
+      by_gap : (o : Option (List Bool)) → HoldsGap octets (Some gap) o → None ≡ closed_event room (option_map (onto (replicate before true)) o)
+      by_gap None held = absurd held
+      by_gap (Some g) held = too_few (onto (replicate before true) g) (omega (arith, held.counted, length-onto_ones before g))
+
+-- and any other as what its octets are
+pub told-closed :
+    (octets octets' : List ℕ) (gap gap' : Gap) (before ones : ℕ) (past : List Bool) (event : Option Event)
+    → run_of past + before ≡ 6 → 8 ≤ gap.since + before → gap'.since ≡ 8 → low_bits before ones ≡ replicate before true
+    → length octets' ≡ length octets
+    → ((text : List Bool) → AssemblesIn octets gap text → AssemblesIn octets' gap' (text ++ low_bits before ones))
+    → ((whole : List ℕ) → KeepsIn octets' gap' whole → event ≡ Some (closing_event (length octets') whole (low_bits gap'.filled gap'.partial)))
+    → HoldsGap octets (Some gap) (open_gap past)
+    → event ≡ closed_event (length octets) (open_gap (replicate before true ++ past))
+told-closed octets octets' gap gap' before ones past event six long since ones_are same taken told h =
+    let there = replicate before true ++ past in
+    let joined =
+    HoldsGap-ones octets octets' gap gap' before (open_gap past) long since
+    (subst (λ t. (text : List Bool) → AssemblesIn octets gap text → AssemblesIn octets' gap' (text ++ t)) ones_are taken) h in
+    let held : HoldsGap octets' (Some gap') (open_gap there) = subst (HoldsGap octets' (Some gap')) (sym (grown 0 before past six)) joined in
+    closed_told octets' gap' there event (run_is_six 0 before past six) held (omega arith) told
+    ∙ ap (λ n. closed_event n (open_gap there)) same
+
+-- ---- the whole octet
+
+module _ (ones octet before content count run : ℕ) (flag : IsFlagEnd ones octet before content count run) (past : List Bool) (is_run : ones ≡ run_of past) where
+  abbrev behind : List Bool
+  behind = behind_zero (low_bits 8 octet)
+
+  -- six 1s stand before the flag's last bit
+  pub flag_six : run_of past + before ≡ 6
+  flag_six = omega (arith, flag.six)
+
+  parted : with_bits 8 octet past ≡ onto behind (false ∷ (replicate before true ++ past))
+  parted =
+      with_bits-onto octet past ∙ ap (λ l. onto l past) flag.begins
+      ∙ onto-append (replicate before true) (false ∷ behind) past
+      ∙ ap (λ p. onto behind (false ∷ p)) (onto-ones before past)
+
+  quiet_behind : (room : ℕ) (front : List Bool) → IsQuiet room behind (false ∷ front)
+  quiet_behind room front = calm room 0 behind (false ∷ front) refl (omega arith) (Calm-by_test 0 behind flag.quiet)
+
+  length-behind : before + suc (length behind) ≡ 8
+  length-behind =
+      omega (arith, sym (ap length flag.begins) ∙ length-low_bits 8 octet, length-append (replicate before true) (false ∷ behind), length-replicate before true)
+
+  -- what is heard in it is what the flag closes
+  pub heard-flag_end :
+      (room : ℕ) (event : Option Event) → event ≡ closed_event room (open_gap (replicate before true ++ past))
+      → heard_until room (with_bits 8 octet past) ≡ heard_until room past ++ option_to_list event
+  heard-flag_end room event e =
+      let there = replicate before true ++ past in
+      let after = quiet_behind room there in
+      let ones_quiet = quiet_ones room before past flag_six in
+      ap (heard_until room) parted ∙ after.heard
+      ∙ ap (λ h. h ++ option_to_list (heard_at room (false ∷ there))) (ap (heard_until room) (sym (onto-ones before past)) ∙ ones_quiet.heard)
+      ∙ ap (λ o. heard_until room past ++ option_to_list o) (heard_at-flag room there (run_is_six room before past flag_six) ∙ sym e)
+
+  -- and the fields then stand for the bits behind the flag
+  pub HoldsPast-flag_end :
+      (octets' : List ℕ) (ones' : ℕ) (gap' : Gap) → ones' ≡ run → gap'.since ≡ 7 - before → AssemblesIn octets' gap' (low_bits count content)
+      → HoldsPast octets' ones' (Some gap') (with_bits 8 octet past)
+  HoldsPast-flag_end octets' ones' gap' e since a =
+      let there = replicate before true ++ past in
+      let after = quiet_behind 0 there in
+      let alone = quiet_behind 0 [] in
+      let new_gap : open_gap (with_bits 8 octet past) ≡ Some (onto behind []) =
+      ap open_gap parted ∙ after.gap ∙ ap (option_map (onto behind)) (open_gap-flag there (run_is_six 0 before past flag_six)) in
+      let text : unstuffed (reverse (onto behind [])) ≡ low_bits count content =
+      ap (λ l. unstuffed (reverse l)) (onto-reverse behind [] ∙ append-nil (reverse behind))
+      ∙ ap unstuffed (reverse-reverse behind) ∙ flag.stays in
+      record {
+        run =
+            e ∙ flag.run_is ∙ ap run_of (sym (onto-reverse behind (false ∷ []))) ∙ alone.run
+            ∙ sym after.run ∙ ap run_of (sym parted);
+        open_is = subst (HoldsGap octets' (Some gap')) (sym new_gap) (record {
+          counted = omega (arith, since, length-behind, length-onto behind []);
+          assembles = subst (AssemblesIn octets' gap') (sym text) a;
+        });
+      }

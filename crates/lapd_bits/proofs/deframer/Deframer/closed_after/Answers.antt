@@ -1,0 +1,32 @@
+-- No gap is open, or one of too few bits; or the 1s go on it, and it is closed.
+use Rattle.std.proofs.Common.{◌≡◌, Option, Some, None, length, refl, sym, subst, ◌∙◌, arith}
+use Rattle.lapd_bits.specs.Deframer.{HoldsGap, open_gap}
+use Rattle.lapd_bits.specs.Heard.{event_in}
+use Rattle.lapd_bits.specs.declared.gap.Gap.{Gap}
+use Rattle.lapd_bits.proofs.FlagEnd.{told-none, told-young, told-closed}
+use Rattle.lapd_bits.proofs.deframer.Deframer.closed_after.Goals as goal
+
+no_some : (o : Option Gap) → ((g : Gap) → o ≡ Some g → ⊥) → o ≡ None
+no_some None f = refl
+no_some (Some g) f = absurd (f g refl)
+
+pub returns-in_default-clause-told : goal.returns-in_default-clause-told
+returns-in_default-clause-told c past six h =
+    let s = c.args.self.now in
+    told-none (length s.octets.items) c.args.before past six s.octets.items
+    (subst (λ g. HoldsGap s.octets.items g (open_gap past)) (no_some s.gap c.in_default.not-Some) h)
+
+pub returns-then-since-before-lt8-clause-told : goal.returns-then-since-before-lt8-clause-told
+returns-then-since-before-lt8-clause-told c past six h =
+    let s = c.args.self.now in
+    told-young (length s.octets.items) c.args.before past six s.octets.items c.in-Some.gap (omega (arith, c.since.ensures, c.if-since-before-lt8.true))
+    (subst (λ g. HoldsGap s.octets.items g (open_gap past)) c.in-Some.is h)
+
+pub returns-clause-told : goal.returns-clause-told
+returns-clause-told c past six h =
+    let s = c.args.self.now in
+    let new = c.join.new.octets in
+    let same : length new.items ≡ length s.octets.items = sym new.ok.0 ∙ c.join.ensures.room ∙ s.octets.ok.0 in
+    told-closed s.octets.items new.items c.in-Some.gap c.join.new.self c.args.before c.six_ones_of.result past (event_in new.items c.closed.result)
+    six (omega (arith, c.since.ensures, c.if-since-before-lt8.false)) c.join.ensures.since c.six_ones_of.ensures.ones same c.join.ensures.stands c.closed.ensures.told
+    (subst (λ g. HoldsGap s.octets.items g (open_gap past)) c.in-Some.is h)

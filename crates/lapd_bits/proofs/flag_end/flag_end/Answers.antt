@@ -1,0 +1,34 @@
+-- The entries in the tables, or none where they give no six 1s.
+use Rattle.std.proofs.Common.{◌≡◌, ◌+◌, get_or, refl, sym, ◌∙◌, arith}
+use Rattle.std.proofs.lemmas.Bool.{false≢true, eq-eqb, ne_eqb}
+use Rattle.lapd_bits.specs.declared.flag_end.TheConstants.{ONES_BEFORE}
+use Rattle.lapd_bits.proofs.FlagEndTables.{mark-at, fits, entry}
+use Rattle.lapd_bits.proofs.flag_end.flag_end.Goals as goal
+
+pub overflow_add-ones : goal.overflow_add-ones
+overflow_add-ones c = omega (arith, (fits c.args.octet (omega arith)).0)
+
+pub returns-then-ones-before-ne-FLAG_ONES-clause-none : goal.returns-then-ones-before-ne-FLAG_ONES-clause-none
+returns-then-ones-before-ne-FLAG_ONES-clause-none c =
+    let mark = mark-at c.args.ones c.args.octet (omega arith) in
+    (λ _. sym mark ∙ ne_eqb (c.args.ones + get_or ONES_BEFORE c.args.octet 0) 6 c.if-ones-before-ne-FLAG_ONES.true, λ _. refl)
+
+pub invariant_of-result : goal.invariant_of-result
+invariant_of-result c =
+    let small = fits c.args.octet (omega arith) in
+    let six : c.args.ones + get_or ONES_BEFORE c.args.octet 0 ≡ 6 = c.if-ones-before-ne-FLAG_ONES.false in
+    record {
+      below = small.1;
+      few_before = omega (arith, six);
+      within = (entry c.args.octet (omega arith) c.args.ones six).1;
+      few = small.2;
+    }
+
+pub returns-clause-none : goal.returns-clause-none
+returns-clause-none c =
+    let mark = mark-at c.args.ones c.args.octet (omega arith) in
+    let six = eq-eqb (c.args.ones + get_or ONES_BEFORE c.args.octet 0) 6 c.if-ones-before-ne-FLAG_ONES.false in
+    (λ e. absurd (false≢true (sym e)), λ none. absurd (false≢true (sym none ∙ sym mark ∙ six)))
+
+pub returns-clause-some : goal.returns-clause-some
+returns-clause-some c = (entry c.args.octet (omega arith) c.args.ones c.if-ones-before-ne-FLAG_ONES.false).0

@@ -1,4 +1,4 @@
--- An octet in which a flag ends: its first 1s go on the open gap, which the flag closes, and the bits behind begin the next.
+-- An octet in which a flag ends: its first 1s go on the open gap, which the flag closes; the bits behind begin the next.
 use Rattle.std.proofs.Common.{◌≡◌, ℕ, suc, zero, ◌+◌, ◌-◌, ◌/◌, ◌^◌, ◌<◌, ◌≤◌, Bool, true, false, not, List, [], ◌∷◌, ◌++◌, length, reverse, replicate, Option, Some, None, option_map, option_to_list, nat_eq, nat_lt, refl, ap, sym, ◌∙◌, subst, arith, append-nil, length-append}
 use Rattle.std.proofs.lemmas.Bool.{and_parts, ltb-true, lt-ltb, eq-eqb, false≢true}
 use Rattle.std.proofs.lemmas.List.{reverse-append, reverse-reverse, length-replicate}
@@ -52,7 +52,8 @@ six_ones_fit (suc (suc (suc (suc (suc (suc (suc n))))))) h = absurd (omega arith
 -- ---- 1s more of a gap
 
 -- they all stay
-ones_kept : (n : ℕ) (g : List Bool) → unstuffed (reverse (onto (replicate n true) g)) ≡ unstuffed (reverse g) ++ replicate n true
+ones_kept : (n : ℕ) (g : List Bool)
+    → unstuffed (reverse (onto (replicate n true) g)) ≡ unstuffed (reverse g) ++ replicate n true
 ones_kept n g =
     let text = replicate n true in
     ap (λ l. unstuffed (reverse l)) (onto-reverse text g)
@@ -67,7 +68,8 @@ length-onto_ones n g = length-onto (replicate n true) g ∙ ap (λ k. k + length
 
 -- a gap of eight bits or more then stands for them
 HoldsGap-ones :
-    (octets octets' : List ℕ) (gap gap' : Gap) (n : ℕ) (g : Option (List Bool)) → 8 ≤ gap.since + n → gap'.since ≡ 8
+    (octets octets' : List ℕ) (gap gap' : Gap) (n : ℕ) (g : Option (List Bool))
+    → 8 ≤ gap.since + n → gap'.since ≡ 8
     → ((text : List Bool) → AssemblesIn octets gap text → AssemblesIn octets' gap' (text ++ replicate n true))
     → HoldsGap octets (Some gap) g → HoldsGap octets' (Some gap') (option_map (onto (replicate n true)) g)
 HoldsGap-ones octets octets' gap gap' n None long since taken h = absurd h
@@ -86,7 +88,8 @@ Assembles-begun octets count beyond partial filled content n a =
       whole = a.whole;
       are_octets = a.are_octets;
       keeps = a.keeps;
-      assembled = ap (λ l. l ++ low_bits n content) (sym (front_none (bits a.whole) (low_bits filled partial) a.assembled));
+      assembled =
+          ap (λ l. l ++ low_bits n content) (sym (front_none (bits a.whole) (low_bits filled partial) a.assembled));
     }
   where
     front_none : (front more : List Bool) → [] ≡ front ++ more → front ≡ []
@@ -99,7 +102,8 @@ module _ (room before : ℕ) (past : List Bool) (six : run_of past + before ≡ 
   -- the 1s end nothing
   quiet_ones : IsQuiet room (replicate before true) past
   quiet_ones =
-      calm room (run_of past) (replicate before true) past refl (omega arith) (Calm-ones (run_of past) before (omega arith))
+      calm room (run_of past) (replicate before true) past refl (omega arith)
+      (Calm-ones (run_of past) before (omega arith))
 
   grown : open_gap (replicate before true ++ past) ≡ option_map (onto (replicate before true)) (open_gap past)
   grown = ap open_gap (sym (onto-ones before past)) ∙ quiet_ones.gap
@@ -108,23 +112,28 @@ module _ (room before : ℕ) (past : List Bool) (six : run_of past + before ≡ 
   run_is_six = ap run_of (sym (onto-ones before past)) ∙ quiet_ones.run ∙ ones_after-ones (run_of past) before ∙ six
 
   -- with no open gap it closes none
-  pub told-none : (octets : List ℕ) → HoldsGap octets None (open_gap past) → None ≡ closed_event room (open_gap (replicate before true ++ past))
+  pub told-none : (octets : List ℕ) → HoldsGap octets None (open_gap past)
+      → None ≡ closed_event room (open_gap (replicate before true ++ past))
   told-none octets h = by_gap (open_gap past) h ∙ ap (closed_event room) (sym grown)
     where
-      by_gap : (o : Option (List Bool)) → HoldsGap octets None o → None ≡ closed_event room (option_map (onto (replicate before true)) o)
+      by_gap : (o : Option (List Bool)) → HoldsGap octets None o
+          → None ≡ closed_event room (option_map (onto (replicate before true)) o)
       by_gap None held = refl
       by_gap (Some g) held = absurd held
 
   -- nor one that has too few bits
-  pub told-young : (octets : List ℕ) (gap : Gap) → gap.since + before < 8 → HoldsGap octets (Some gap) (open_gap past) → None ≡ closed_event room (open_gap (replicate before true ++ past))
+  pub told-young : (octets : List ℕ) (gap : Gap) → gap.since + before < 8 → HoldsGap octets (Some gap) (open_gap past)
+      → None ≡ closed_event room (open_gap (replicate before true ++ past))
   told-young octets gap few h = by_gap (open_gap past) h ∙ ap (closed_event room) (sym grown)
     where
       too_few : (l : List Bool) → length l < 8 → None ≡ closed_event room (Some l)
       too_few l short = let e = lt-ltb (length l) 8 short in sym (rw e refl)
 
-      by_gap : (o : Option (List Bool)) → HoldsGap octets (Some gap) o → None ≡ closed_event room (option_map (onto (replicate before true)) o)
+      by_gap : (o : Option (List Bool)) → HoldsGap octets (Some gap) o
+          → None ≡ closed_event room (option_map (onto (replicate before true)) o)
       by_gap None held = absurd held
-      by_gap (Some g) held = too_few (onto (replicate before true) g) (omega (arith, held.counted, length-onto_ones before g))
+      by_gap (Some g) held =
+          too_few (onto (replicate before true) g) (omega (arith, held.counted, length-onto_ones before g))
 
 -- and any other as what its octets are
 pub told-closed :
@@ -132,21 +141,26 @@ pub told-closed :
     → run_of past + before ≡ 6 → 8 ≤ gap.since + before → gap'.since ≡ 8 → low_bits before ones ≡ replicate before true
     → length octets' ≡ length octets
     → ((text : List Bool) → AssemblesIn octets gap text → AssemblesIn octets' gap' (text ++ low_bits before ones))
-    → ((whole : List ℕ) → KeepsIn octets' gap' whole → event ≡ Some (closing_event (length octets') whole (low_bits gap'.filled gap'.partial)))
+    → ((whole : List ℕ) → KeepsIn octets' gap' whole
+    → event ≡ Some (closing_event (length octets') whole (low_bits gap'.filled gap'.partial)))
     → HoldsGap octets (Some gap) (open_gap past)
     → event ≡ closed_event (length octets) (open_gap (replicate before true ++ past))
 told-closed octets octets' gap gap' before ones past event six long since ones_are same taken told h =
     let there = replicate before true ++ past in
     let joined =
     HoldsGap-ones octets octets' gap gap' before (open_gap past) long since
-    (subst (λ t. (text : List Bool) → AssemblesIn octets gap text → AssemblesIn octets' gap' (text ++ t)) ones_are taken) h in
-    let held : HoldsGap octets' (Some gap') (open_gap there) = subst (HoldsGap octets' (Some gap')) (sym (grown 0 before past six)) joined in
+    (subst (λ t. (text : List Bool) → AssemblesIn octets gap text → AssemblesIn octets' gap' (text ++ t)) ones_are taken)
+    h in
+    let held : HoldsGap octets' (Some gap') (open_gap there) =
+    subst (HoldsGap octets' (Some gap')) (sym (grown 0 before past six)) joined in
     closed_told octets' gap' there event (run_is_six 0 before past six) held (omega arith) told
     ∙ ap (λ n. closed_event n (open_gap there)) same
 
 -- ---- the whole octet
 
-module _ (ones octet before content count run : ℕ) (flag : IsFlagEnd ones octet before content count run) (past : List Bool) (is_run : ones ≡ run_of past) where
+module _
+    (ones octet before content count run : ℕ) (flag : IsFlagEnd ones octet before content count run)
+    (past : List Bool) (is_run : ones ≡ run_of past) where
   abbrev behind : List Bool
   behind = behind_zero (low_bits 8 octet)
 
@@ -165,7 +179,12 @@ module _ (ones octet before content count run : ℕ) (flag : IsFlagEnd ones octe
 
   length-behind : before + suc (length behind) ≡ 8
   length-behind =
-      omega (arith, sym (ap length flag.begins) ∙ length-low_bits 8 octet, length-append (replicate before true) (false ∷ behind), length-replicate before true)
+      omega (
+        arith,
+        sym (ap length flag.begins) ∙ length-low_bits 8 octet,
+        length-append (replicate before true) (false ∷ behind),
+        length-replicate before true,
+      )
 
   -- what is heard in it is what the flag closes
   pub heard-flag_end :
@@ -176,19 +195,23 @@ module _ (ones octet before content count run : ℕ) (flag : IsFlagEnd ones octe
       let after = quiet_behind room there in
       let ones_quiet = quiet_ones room before past flag_six in
       ap (heard_until room) parted ∙ after.heard
-      ∙ ap (λ h. h ++ option_to_list (heard_at room (false ∷ there))) (ap (heard_until room) (sym (onto-ones before past)) ∙ ones_quiet.heard)
-      ∙ ap (λ o. heard_until room past ++ option_to_list o) (heard_at-flag room there (run_is_six room before past flag_six) ∙ sym e)
+      ∙ ap (λ h. h ++ option_to_list (heard_at room (false ∷ there)))
+      (ap (heard_until room) (sym (onto-ones before past)) ∙ ones_quiet.heard)
+      ∙ ap (λ o. heard_until room past ++ option_to_list o)
+      (heard_at-flag room there (run_is_six room before past flag_six) ∙ sym e)
 
   -- and the fields then stand for the bits behind the flag
   pub HoldsPast-flag_end :
-      (octets' : List ℕ) (ones' : ℕ) (gap' : Gap) → ones' ≡ run → gap'.since ≡ 7 - before → AssemblesIn octets' gap' (low_bits count content)
+      (octets' : List ℕ) (ones' : ℕ) (gap' : Gap) → ones' ≡ run → gap'.since ≡ 7 - before
+      → AssemblesIn octets' gap' (low_bits count content)
       → HoldsPast octets' ones' (Some gap') (with_bits 8 octet past)
   HoldsPast-flag_end octets' ones' gap' e since a =
       let there = replicate before true ++ past in
       let after = quiet_behind 0 there in
       let alone = quiet_behind 0 [] in
       let new_gap : open_gap (with_bits 8 octet past) ≡ Some (onto behind []) =
-      ap open_gap parted ∙ after.gap ∙ ap (option_map (onto behind)) (open_gap-flag there (run_is_six 0 before past flag_six)) in
+      ap open_gap parted ∙ after.gap
+      ∙ ap (option_map (onto behind)) (open_gap-flag there (run_is_six 0 before past flag_six)) in
       let text : unstuffed (reverse (onto behind [])) ≡ low_bits count content =
       ap (λ l. unstuffed (reverse l)) (onto-reverse behind [] ∙ append-nil (reverse behind))
       ∙ ap unstuffed (reverse-reverse behind) ∙ flag.stays in

@@ -18,21 +18,26 @@ behind octet = behind_zero (low_bits 8 octet)
 
 -- ---- the 1s before the first 0
 
-before_is : ONES_BEFORE ≡ map (λ octet. if ends_nothing 0 (behind octet) then ones_before (low_bits 8 octet) else 7) (range_with_len 0 256)
+-- as many, or 7 where more ends behind it
+abbrev entry_before : ℕ → ℕ
+entry_before octet = if ends_nothing 0 (behind octet) then ones_before (low_bits 8 octet) else 7
+
+before_is : ONES_BEFORE ≡ map entry_before (range_with_len 0 256)
 unfolding low_bits
 before_is = refl
 
 -- an entry gives six 1s exactly where a flag ends and nothing else
-pub mark-at : (ones octet : ℕ) → octet < 256 → nat_eq (ones + get_or ONES_BEFORE octet 0) 6 ≡ only_flag_ends ones (low_bits 8 octet)
+pub mark-at : (ones octet : ℕ) → octet < 256
+    → nat_eq (ones + get_or ONES_BEFORE octet 0) 6 ≡ only_flag_ends ones (low_bits 8 octet)
 mark-at ones octet small =
     ap (λ t. nat_eq (ones + get_or t octet 0) 6) before_is
-    ∙ ap (λ n. nat_eq (ones + n) 6)
-    (get_or-map-range_with_len (λ o. if ends_nothing 0 (behind o) then ones_before (low_bits 8 o) else 7) 0 256 octet octet 0 small (omega arith))
-    ∙ by_test (ends_nothing 0 (behind octet))
+    ∙ ap (λ n. nat_eq (ones + n) 6) (get_or-map-range_with_len entry_before 0 256 octet octet 0 small (omega arith))
+    ∙ by_test (ones_before (low_bits 8 octet)) (ends_nothing 0 (behind octet))
   where
-    by_test : (quiet : Bool) → nat_eq (ones + (if quiet then ones_before (low_bits 8 octet) else 7)) 6 ≡ (nat_eq (ones + ones_before (low_bits 8 octet)) 6 && quiet)
-    by_test true = sym (and-true (nat_eq (ones + ones_before (low_bits 8 octet)) 6))
-    by_test false = ne_eqb (ones + 7) 6 (λ e. absurd (omega arith)) ∙ sym (and-false (nat_eq (ones + ones_before (low_bits 8 octet)) 6))
+    by_test : (before : ℕ) (quiet : Bool)
+        → nat_eq (ones + (if quiet then before else 7)) 6 ≡ (nat_eq (ones + before) 6 && quiet)
+    by_test before true = sym (and-true (nat_eq (ones + before) 6))
+    by_test before false = ne_eqb (ones + 7) 6 (λ e. absurd (omega arith)) ∙ sym (and-false (nat_eq (ones + before) 6))
 
 -- ---- what is behind it
 
@@ -48,7 +53,8 @@ is_entry octet before content count run =
 abbrev is_entry_at : ℕ → Bool
 is_entry_at octet =
     nat_lt 6 (get_or ONES_BEFORE octet 0)
-    || is_entry octet (get_or ONES_BEFORE octet 0) (get_or BITS_BEHIND octet 0) (get_or COUNTS_BEHIND octet 0) (get_or RUNS_BEHIND octet 0)
+    || is_entry octet (get_or ONES_BEFORE octet 0) (get_or BITS_BEHIND octet 0) (get_or COUNTS_BEHIND octet 0)
+    (get_or RUNS_BEHIND octet 0)
 
 -- the sizes of all entries
 abbrev fits_at : ℕ → Bool
@@ -64,31 +70,41 @@ entries_fit : map fits_at (range_with_len 0 256) ≡ replicate 256 true
 entries_fit = refl
 
 -- a test that all octets pass
-passed : (test : ℕ → Bool) (octet : ℕ) → map test (range_with_len 0 256) ≡ replicate 256 true → octet < 256 → test octet ≡ true
+passed : (test : ℕ → Bool) (octet : ℕ)
+    → map test (range_with_len 0 256) ≡ replicate 256 true → octet < 256 → test octet ≡ true
 passed test octet all small =
     sym (get_or-map-range_with_len test 0 256 octet octet false small (omega arith))
     ∙ ap (λ t. get_or t octet false) all ∙ get_or-replicate 256 octet true false small
 
 module _ (octet : ℕ) (small : octet < 256) where
-  pub fits : (get_or ONES_BEFORE octet 0 ≤ 8) × (get_or BITS_BEHIND octet 0 < 2 ^ get_or COUNTS_BEHIND octet 0) × (get_or RUNS_BEHIND octet 0 ≤ 7)
+  abbrev before : ℕ
+  before = get_or ONES_BEFORE octet 0
+
+  abbrev content : ℕ
+  content = get_or BITS_BEHIND octet 0
+
+  abbrev count : ℕ
+  count = get_or COUNTS_BEHIND octet 0
+
+  abbrev run : ℕ
+  run = get_or RUNS_BEHIND octet 0
+
+  pub fits : (before ≤ 8) × (content < 2 ^ count) × (run ≤ 7)
   fits =
-      let parts = and_parts (nat_le (get_or ONES_BEFORE octet 0) 8) _ (passed fits_at octet entries_fit small) in
-      let more = and_parts (nat_lt (get_or BITS_BEHIND octet 0) (2 ^ get_or COUNTS_BEHIND octet 0)) _ parts.1 in
+      let parts = and_parts (nat_le before 8) _ (passed fits_at octet entries_fit small) in
+      let more = and_parts (nat_lt content (2 ^ count)) _ parts.1 in
       (leb-true _ _ parts.0, ltb-true _ _ more.0, leb-true _ _ more.1)
 
   -- the entries for an octet after as many 1s as make six
-  pub entry : (ones : ℕ) → ones + get_or ONES_BEFORE octet 0 ≡ 6
-      → IsFlagEnd ones octet (get_or ONES_BEFORE octet 0) (get_or BITS_BEHIND octet 0) (get_or COUNTS_BEHIND octet 0) (get_or RUNS_BEHIND octet 0)
-      × (get_or ONES_BEFORE octet 0 + get_or COUNTS_BEHIND octet 0 ≤ 7)
+  pub entry : (ones : ℕ) → ones + before ≡ 6 → IsFlagEnd ones octet before content count run × (before + count ≤ 7)
   entry ones six =
-      let before = get_or ONES_BEFORE octet 0 in
       let few : nat_lt 6 before ≡ false = le-ltb 6 before (omega arith) in
-      let all : is_entry octet before (get_or BITS_BEHIND octet 0) (get_or COUNTS_BEHIND octet 0) (get_or RUNS_BEHIND octet 0) ≡ true =
+      let all : is_entry octet before content count run ≡ true =
       unmarked (nat_lt 6 before) _ few (passed is_entry_at octet entries_are small) in
       let a = and_parts (same_bits (low_bits 8 octet) (replicate before true ++ (false ∷ behind octet))) _ all in
       let b = and_parts (ends_nothing 0 (behind octet)) _ a.1 in
-      let d = and_parts (same_bits (unstuffed (behind octet)) (low_bits (get_or COUNTS_BEHIND octet 0) (get_or BITS_BEHIND octet 0))) _ b.1 in
-      let e = and_parts (nat_eq (get_or RUNS_BEHIND octet 0) (run_of (reverse (behind octet) ++ (false ∷ [])))) _ d.1 in (
+      let d = and_parts (same_bits (unstuffed (behind octet)) (low_bits count content)) _ b.1 in
+      let e = and_parts (nat_eq run (run_of (reverse (behind octet) ++ (false ∷ [])))) _ d.1 in (
         record {
           six = six;
           begins = same_from_test _ _ a.0;

@@ -11,7 +11,8 @@ overflow_add-ones c = omega (arith, (fits c.args.octet (omega arith)).0)
 pub returns-then-ones-before-ne-FLAG_ONES-clause-none : goal.returns-then-ones-before-ne-FLAG_ONES-clause-none
 returns-then-ones-before-ne-FLAG_ONES-clause-none c =
     let mark = mark-at c.args.ones c.args.octet (omega arith) in
-    (λ _. sym mark ∙ ne_eqb (c.args.ones + get_or ONES_BEFORE c.args.octet 0) 6 c.if-ones-before-ne-FLAG_ONES.true, λ _. refl)
+    let other = ne_eqb (c.args.ones + get_or ONES_BEFORE c.args.octet 0) 6 c.if-ones-before-ne-FLAG_ONES.true in
+    (λ _. sym mark ∙ other, λ _. refl)
 
 pub invariant_of-result : goal.invariant_of-result
 invariant_of-result c =

@@ -19,7 +19,8 @@ returns-in_default-clause-told c past six h =
 pub returns-then-since-before-lt8-clause-told : goal.returns-then-since-before-lt8-clause-told
 returns-then-since-before-lt8-clause-told c past six h =
     let s = c.args.self.now in
-    told-young (length s.octets.items) c.args.before past six s.octets.items c.in-Some.gap (omega (arith, c.since.ensures, c.if-since-before-lt8.true))
+    told-young (length s.octets.items) c.args.before past six s.octets.items c.in-Some.gap
+    (omega (arith, c.since.ensures, c.if-since-before-lt8.true))
     (subst (λ g. HoldsGap s.octets.items g (open_gap past)) c.in-Some.is h)
 
 pub returns-clause-told : goal.returns-clause-told
@@ -27,6 +28,7 @@ returns-clause-told c past six h =
     let s = c.args.self.now in
     let new = c.join.new.octets in
     let same : length new.items ≡ length s.octets.items = sym new.ok.0 ∙ c.join.ensures.room ∙ s.octets.ok.0 in
-    told-closed s.octets.items new.items c.in-Some.gap c.join.new.self c.args.before c.six_ones_of.result past (event_in new.items c.closed.result)
-    six (omega (arith, c.since.ensures, c.if-since-before-lt8.false)) c.join.ensures.since c.six_ones_of.ensures.ones same c.join.ensures.stands c.closed.ensures.told
+    told-closed s.octets.items new.items c.in-Some.gap c.join.new.self c.args.before c.six_ones_of.result past
+    (event_in new.items c.closed.result) six (omega (arith, c.since.ensures, c.if-since-before-lt8.false))
+    c.join.ensures.since c.six_ones_of.ensures.ones same c.join.ensures.stands c.closed.ensures.told
     (subst (λ g. HoldsGap s.octets.items g (open_gap past)) c.in-Some.is h)

@@ -15,5 +15,6 @@ returns-clause-told c octet flag past h =
     let old = c.args.self.now in
     let f = c.args.flag in
     let closed = c.closed_after-ended in
-    heard-flag_end old.ones octet f.before f.bits f.count f.ones flag past h.run (length old.octets.items) (event_in closed.new.self.octets.items closed.result)
+    heard-flag_end old.ones octet f.before f.bits f.count f.ones flag past h.run (length old.octets.items)
+    (event_in closed.new.self.octets.items closed.result)
     (closed.ensures.told past (flag_six old.ones octet f.before f.bits f.count f.ones flag past h.run) h.open_is)

@@ -30,10 +30,12 @@ use Rattle.lapd_link_machine.specs.Steps.{begun}
 use Rattle.lapd_line_machine.specs.Line.{link_number, with_link}
 use Rattle.lapd_line_machine.specs.Effect.{at_link, of_aim, told_of_link}
 use Rattle.lapd_line_machine.specs.Requested.{at_requested}
+use Rattle.lapd_line.specs.declared.awake.Awake.{Awake}
 use Rattle.lapd_line.specs.declared.link_layer.LinkLayer.{LinkLayer}
 use Rattle.lapd_line.specs.declared.reports.BareReport.{BareReport}
 use Rattle.lapd_line.specs.LinkLayer as layer
 use Rattle.lapd_line.specs.LinkLayer.{Stands, Standing, Serves}
+use Rattle.lapd_line.specs.Awake.{Wakes}
 use Rattle.lapd_line.specs.Links as all
 use Rattle.lapd_line.specs.Links.{HasTerms, Refuses, machine_at}
 use Rattle.lapd_line.specs.Reports.{told_in}
@@ -137,21 +139,21 @@ same_step : (t : Terms) (l : machine.Link) (full : Bool) (request : link.Request
 same_step t l full request granted =
     ap (λ o. elim o [ None ↦ links.granted t request (begun l) | Some _ ↦ begun l ]) (granted ∙ sym (granted_same t l full request granted))
 
-pub asked_serves : (e : LinkLayer) (s t : Store) (new : List Link) (service : Service) (tei place number : ℕ) (full : Bool) (request : link.Request) (answer : Answer) (outcome : BareReport)
+pub asked_serves : (e : LinkLayer) (s t : Store) (new : List Link) (awake : Awake) (service : Service) (tei place number : ℕ) (full : Bool) (request : link.Request) (answer : Answer) (outcome : BareReport)
     → Standing e s → place_of tei e.teis.places ≡ Some place → (place ≤ 8 → number ≡ link_number place service)
-    → Refuses number full request e.links s None
+    → Wakes number e.awake awake → Refuses number full request e.links s None
     → all.Serves number (link.requested request full) [] e.links s new t answer
     → told_in [] outcome ≡ told_of_link (told_with [] answer)
-    → Serves (λ m. at_requested service tei request (place_in m tei)) [] e s (record e { links = new }) t outcome
-asked_serves e s t new service tei place number full request answer outcome standing here exact refuses served told =
+    → Serves (λ m. at_requested service tei request (place_in m tei)) [] e s (record e { links = new; awake = awake }) t outcome
+asked_serves e s t new awake service tei place number full request answer outcome standing here exact wakes refuses served told =
     let at = (place_of-is e.teis.places tei place here).1 in
     let same : number ≡ link_number place service = numbered e s tei place standing at exact in
-    let whole = at_link_serves e s t new service tei place (link.requested request full) [] [] answer outcome at
+    let whole = at_link_serves e s t new awake service tei place (link.requested request full) [] [] answer outcome at (subst (λ x. Wakes x e.awake awake) same wakes)
     (subst (λ x. all.Serves x (link.requested request full) [] e.links s new t answer) same served) told in
     record {
       config = refl;
       limits = whole.limits;
-      stands = λ others m st. subst (λ o. layer.Stands (record e { links = new }) t others o.line) (one others m st at same) (whole.stands others m st);
+      stands = λ others m st. subst (λ o. layer.Stands (record e { links = new; awake = awake }) t others o.line) (one others m st at same) (whole.stands others m st);
       told = λ others m st. whole.told others m st ∙ ap (λ o. o.told) (one others m st at same);
     }
   where

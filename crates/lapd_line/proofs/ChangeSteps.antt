@@ -31,10 +31,12 @@ use Rattle.lapd_line.specs.declared.link_layer.LinkLayer.{LinkLayer}
 use Rattle.lapd_line.specs.declared.reports.BareReport as reports
 use Rattle.lapd_line.specs.Reports.{told_in}
 use Rattle.lapd_line.specs.Units.{unit_pairs}
+use Rattle.lapd_line.specs.Awake.{NoneMissed}
 use Rattle.lapd_line.specs.Links.{LinksStand, HasTerms, links_pairs, terms_in, machine_at}
 use Rattle.lapd_line.specs.LinkLayer.{Stands, Serves, always}
 use Rattle.lapd_line.specs.Changes.{IsAnswerTo, with_management}
 use Rattle.lapd_line.specs.Links as links
+use Rattle.lapd_line.proofs.AwakeSteps.{none_missed_fresh}
 use Rattle.lapd_line.proofs.LayerSteps.{links_part, named, few_places}
 
 -- The entities after an event of TEI management: the table is another one, and so may the links be.
@@ -61,9 +63,10 @@ module _ (e : LinkLayer) (before : Management) (what : teis.Event) (outcome : Te
       → LinksStand e.config new t (unit_pairs e.units.waiting m.units ++ others) ms
       → length new ≡ length e.links
       → ((number tei : ℕ) → number < link_count e.config → get_or e.teis.places (place_at number) None ≡ Some tei → HasTerms new number (terms e.config (service_at number) tei))
+      → NoneMissed e.awake new ms
       → (of_management e.config what m).line ≡ record m { management = e.teis; links = ms }
       → Stands (record e { links = new }) t others (record m { management = e.teis; links = ms })
-  rebuilt s t others m new ms st stand count has_terms line = record {
+  rebuilt s t others m new ms st stand count has_terms asleep line = record {
     range = st.range;
     wide = stand.wide;
     sound = subst (IsSound e.config) line (management_event_sound e.config st.range m what st.sound is.range);
@@ -74,6 +77,7 @@ module _ (e : LinkLayer) (before : Management) (what : teis.Event) (outcome : Te
     addressed = st.addressed;
     capacity = st.capacity;
     turn = st.turn;
+    asleep = asleep;
     held = subst (Holds t) (sym (append_assoc (links_pairs new ms) (unit_pairs e.units.waiting m.units) others)) stand.held;
   }
 
@@ -90,7 +94,7 @@ module _ (e : LinkLayer) (before : Management) (what : teis.Event) (outcome : Te
         subst (λ l. Stands e s others l) (sym (ap (λ x. x.line) all))
         (rebuilt s s others m e.links m.links st (links_part (with_management before e) s others m st) refl
         (λ number tei few at. st.terms number tei few (ap (λ b. get_or b.places (place_at number) None) st.management ∙ ap (λ p. get_or p (place_at number) None) (sym same) ∙ at))
-        (ap (λ x. x.line) all));
+        st.asleep (ap (λ x. x.line) all));
     told = λ others m st. told ∙ ap (λ x. x.told) (sym (followed s others m st ∙ ap (λ c. of_change e.config c (told_of_management (told_of outcome)) (record m { management = e.teis })) none));
   }
 
@@ -110,7 +114,7 @@ module _ (e : LinkLayer) (before : Management) (what : teis.Event) (outcome : Te
         let all : of_management e.config what m ≡ record { line = with_opened place (record m { management = e.teis }); told = told_of_management (told_of outcome) } =
         followed s others m st ∙ ap (λ c. of_change e.config c (told_of_management (told_of outcome)) (record m { management = e.teis })) gained in
         subst (λ l. Stands (record e { links = two }) s others l) (sym (ap (λ x. x.line) all))
-        (rebuilt s s others m two _ st (second _ _ (first _ _ (links_part (with_management before e) s others m st))) count (has_terms s others m st there) (ap (λ x. x.line) all));
+        (rebuilt s s others m two _ st (second _ _ (first _ _ (links_part (with_management before e) s others m st))) count (has_terms s others m st there) (asleep m st.asleep) (ap (λ x. x.line) all));
     told = λ others m st. told ∙ ap (λ x. x.told) (sym (followed s others m st ∙ ap (λ c. of_change e.config c (told_of_management (told_of outcome)) (record m { management = e.teis })) gained));
   }
     where
@@ -125,6 +129,12 @@ module _ (e : LinkLayer) (before : Management) (what : teis.Event) (outcome : Te
 
       count : length two ≡ length e.links
       count = sym (length-map two terms_of) ∙ ap (λ l. length l) all_terms ∙ length-set _ packet _ ∙ length-set _ call _ ∙ length-map e.links terms_of
+
+      -- they begin, and have nothing to give
+      asleep : (m : Line) → NoneMissed e.awake e.links m.links → NoneMissed e.awake two (set (set m.links call machine.fresh) packet machine.fresh)
+      asleep m h =
+          none_missed_fresh e.awake one two (set m.links call machine.fresh) packet (λ other apart. ap (λ l. slice_get l other) second_terms ∙ slice_get-set_other (terms_in one) packet other _ apart)
+          (none_missed_fresh e.awake e.links one m.links call (λ other apart. ap (λ l. slice_get l other) first_terms ∙ slice_get-set_other (terms_in e.links) call other _ apart) h)
 
       has_terms : (s' : Store) (others : List Owned) (m : Line) → Stands (with_management before e) s' others m → HasJoined before.places e.teis.places tei place
           → (number tei' : ℕ) → number < link_count e.config → get_or e.teis.places (place_at number) None ≡ Some tei' → HasTerms two number (terms e.config (service_at number) tei')
@@ -172,7 +182,7 @@ module _ (e : LinkLayer) (before : Management) (what : teis.Event) (outcome : Te
     stands = λ others m st.
         let all = followed s others m st ∙ ap (λ c. of_change e.config c (told_of_management (told_of outcome)) (record m { management = e.teis })) gone in
         subst (λ l. Stands (record e { links = two }) t others l) (sym (ap (λ x. x.line) all))
-        (rebuilt s t others m two _ st (both s others m st).1 count (has_terms s others m st) (ap (λ x. x.line) all));
+        (rebuilt s t others m two _ st (both s others m st).1 count (has_terms s others m st) (asleep m st.asleep) (ap (λ x. x.line) all));
     told = λ others m st.
         let all = followed s others m st ∙ ap (λ c. of_change e.config c (told_of_management (told_of outcome)) (record m { management = e.teis })) gone in
         told
@@ -208,6 +218,13 @@ module _ (e : LinkLayer) (before : Management) (what : teis.Event) (outcome : Te
 
       count : length two ≡ length e.links
       count = sym (length-map two terms_of) ∙ ap (λ l. length l) same_terms ∙ length-map e.links terms_of
+
+      -- they begin anew, and have nothing to give
+      asleep : (m : Line) → NoneMissed e.awake e.links m.links
+          → NoneMissed e.awake two (set (one_of m.links) (link_number place Packet) (answers.after (terms e.config Packet tei) event.cleared (machine_at (one_of m.links) (link_number place Packet))))
+      asleep m h =
+          none_missed_fresh e.awake one two (one_of m.links) (link_number place Packet) (λ other apart. ap (λ l. slice_get l other) second.terms)
+          (none_missed_fresh e.awake e.links one m.links (link_number place Call) (λ other apart. ap (λ l. slice_get l other) first.terms) h)
 
       has_terms : (s' : Store) (others : List Owned) (m : Line) → Stands (with_management before e) s' others m
           → (number tei' : ℕ) → number < link_count e.config → get_or e.teis.places (place_at number) None ≡ Some tei' → HasTerms two number (terms e.config (service_at number) tei')

@@ -25,9 +25,12 @@ use Rattle.lapd_line.specs.declared.link_layer.LinkLayer.{LinkLayer}
 use Rattle.lapd_line.specs.declared.reports.BareReport.{BareReport}
 use Rattle.lapd_line.specs.Reports.{told_in}
 use Rattle.lapd_line.specs.Units.{unit_pairs}
+use Rattle.lapd_line.specs.declared.awake.Awake.{Awake}
+use Rattle.lapd_line.specs.Awake.{Wakes, NoneMissed}
 use Rattle.lapd_line.specs.Links as links
 use Rattle.lapd_line.specs.Links.{LinksStand, HasTerms, links_pairs, terms_in, machine_at}
 use Rattle.lapd_line.specs.LinkLayer.{Stands, Standing, Serves, always}
+use Rattle.lapd_line.proofs.AwakeSteps.{none_missed_woken}
 
 -- the links of a line stand beside its units and what others own
 abbrev pub beside_links : LinkLayer → Line → List Owned → List Owned
@@ -42,12 +45,12 @@ links_part e s others m st = record {
 }
 
 -- the way back: where the links and their machines have changed, and nothing else
-pub links_back : (e : LinkLayer) (s t : Store) (others : List Owned) (m : Line) (new : List Link) (ms : List machine.Link)
+pub links_back : (e : LinkLayer) (s t : Store) (others : List Owned) (m : Line) (new : List Link) (ms : List machine.Link) (awake : Awake)
     → Stands e s others m → terms_in new ≡ terms_in e.links → SameLimits s t
     → IsSound e.config (record m { links = ms })
-    → LinksStand e.config new t (beside_links e m others) ms
-    → Stands (record e { links = new }) t others (record m { links = ms })
-links_back e s t others m new ms st same limits sound stand = record {
+    → LinksStand e.config new t (beside_links e m others) ms → NoneMissed awake new ms
+    → Stands (record e { links = new; awake = awake }) t others (record m { links = ms })
+links_back e s t others m new ms awake st same limits sound stand asleep = record {
   range = st.range;
   wide = stand.wide;
   sound = sound;
@@ -58,6 +61,7 @@ links_back e s t others m new ms st same limits sound stand = record {
   addressed = st.addressed;
   capacity = st.capacity;
   turn = st.turn;
+  asleep = asleep;
   held = subst (Holds t) (sym (append_assoc (links_pairs new ms) (unit_pairs e.units.waiting m.units) others)) stand.held;
 }
 
@@ -81,20 +85,21 @@ named e s others m service tei place st at =
     }
 
 -- an event of a link
-pub at_link_serves : (e : LinkLayer) (s t : Store) (new : List Link) (service : Service) (tei place : ℕ) (what : event.Event) (info octets : List ℕ) (answer : Answer) (outcome : BareReport)
-    → IsAt e.teis.places place tei
+pub at_link_serves : (e : LinkLayer) (s t : Store) (new : List Link) (awake : Awake) (service : Service) (tei place : ℕ) (what : event.Event) (info octets : List ℕ) (answer : Answer) (outcome : BareReport)
+    → IsAt e.teis.places place tei → Wakes (link_number place service) e.awake awake
     → links.Serves (link_number place service) what info e.links s new t answer
     → told_in octets outcome ≡ told_of_link (told_with info answer)
-    → Serves (always (at_link service tei place what)) octets e s (record e { links = new }) t outcome
-at_link_serves e s t new service tei place what info octets answer outcome at served is_told = record {
+    → Serves (always (at_link service tei place what)) octets e s (record e { links = new; awake = awake }) t outcome
+at_link_serves e s t new awake service tei place what info octets answer outcome at wakes served is_told = record {
   config = refl;
   limits = served.limits;
   stands = λ others m st.
       let n = named e s others m service tei place st at in
       let at' : IsAt m.management.places place tei = subst (λ x. IsAt x.places place tei) (sym st.management) at in
       let sound = aim_sound e.config st.range m (at_link service tei place what) st.sound at' in
-      links_back e s t others m new _ st served.terms served.limits sound
-      (served.goes_on e.config (terms e.config service tei) (beside_links e m others) m.links n.has_terms (links_part e s others m st));
+      links_back e s t others m new _ awake st served.terms served.limits sound
+      (served.goes_on e.config (terms e.config service tei) (beside_links e m others) m.links n.has_terms (links_part e s others m st))
+      (none_missed_woken e.awake awake e.links new m.links (link_number place service) _ wakes served.terms st.asleep);
   told = λ others m st.
       let n = named e s others m service tei place st at in
       is_told ∙ ap told_of_link (served.told e.config (terms e.config service tei) (beside_links e m others) m.links n.has_terms (links_part e s others m st));
@@ -112,6 +117,11 @@ few_places e s others m st = omega (arith, ap (λ t. length t.places) st.managem
 -- so the number of a link is exact
 pub numbered : (e : LinkLayer) (s : Store) (tei place : ℕ) {result number : ℕ} → Standing e s → IsAt e.teis.places place tei → (place ≤ 8 → result ≡ number) → result ≡ number
 numbered e s tei place (others, m, st) at h = h (omega (arith, at-within e.teis.places place tei at, few_places e s others m st))
+
+-- and has its bit among those that are awake
+pub low_number : (e : LinkLayer) (s : Store) (service : Service) (tei place : ℕ) {number : ℕ} → Standing e s → IsAt e.teis.places place tei → (place ≤ 8 → number ≡ link_number place service) → number < 32
+low_number e s service tei place (others, m, st) at h =
+    omega (arith, numbered e s tei place (others, m, st) at h, (named e s others m service tei place st at).few, (ranges_of e.config st.range).terminals.most)
 
 -- the state of a link of a TEI on the line
 pub state_is : (e : LinkLayer) (s : Store) (others : List Owned) (m : Line) (service : Service) (tei place number : ℕ) (result : Option ℕ) → Stands e s others m → place_of tei e.teis.places ≡ Some place

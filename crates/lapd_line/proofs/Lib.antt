@@ -1,4 +1,6 @@
 pub mod LinkSteps
+pub mod AwakeBits
+pub mod AwakeSteps
 pub mod LayerSteps
 pub mod AimSteps
 pub mod ChangeSteps

@@ -92,6 +92,7 @@ with_octet e s others m value st = record {
   addressed = st.addressed;
   capacity = st.capacity;
   turn = st.turn;
+  asleep = st.asleep;
   held = st.held;
 }
 

@@ -51,6 +51,7 @@ with_bits e s others m items given st sound = record {
   addressed = st.addressed;
   capacity = st.capacity;
   turn = st.turn;
+  asleep = st.asleep;
   held = st.held;
 }
 

@@ -12,15 +12,17 @@ use Rattle.lapd_link.specs.Stands as link
 use Rattle.lapd_link.specs.Stands.{slots_of, terms_of}
 use Rattle.lapd_link_machine.specs.Link.{fresh, queue_of}
 use Rattle.lapd_line_machine.specs.declared.config.Config.{Config}
-use Rattle.lapd_line_machine.specs.Line.{place_at, fresh_line}
+use Rattle.lapd_line_machine.specs.Line.{place_at, link_count, fresh_line}
 use Rattle.lapd_line_machine.specs.Sound.{IsInRange}
 use Rattle.lapd_line_machine.proofs.LineSound.{fresh_sound}
 use Rattle.lapd_line_machine.proofs.Numbers.{place_within}
 use Rattle.lapd_line_machine.proofs.Ranges.{ranges_of}
+use Rattle.lapd_line.specs.declared.awake.Awake.{Awake}
 use Rattle.lapd_line.specs.LinkLayer.{Stands}
 use Rattle.lapd_line.specs.Links.{LinkFits, links_pairs}
 use Rattle.lapd_line.specs.Starts.{IsBegun, AreBegun}
 use Rattle.lapd_line.specs.Units.{UnitRing, AreFor, empty_ring, unit_pairs}
+use Rattle.lapd_line.proofs.AwakeSteps.{none_missed_first}
 
 -- a link that was just started
 pub begun : (c : Config) (x : Link) → IsInRange c
@@ -51,10 +53,10 @@ absurd_none : {A : Type 0} {x : ℕ} → None ≡ Some x → A
 absurd_none h = cc
 
 -- the entities, of parts that were just started
-pub layer_fresh : (c : Config) (teis : Management) (links : List Link) (units : UnitRing) → IsInRange c → teis ≡ empty c.terminals → AreBegun c links → units ≡ empty_ring c.unit_queue
+pub layer_fresh : (c : Config) (teis : Management) (links : List Link) (units : UnitRing) (awake : Awake) → IsInRange c → teis ≡ empty c.terminals → AreBegun c links → units ≡ empty_ring c.unit_queue
     → (store : Store) (others : List Owned) → c.n201 ≤ store.width → Holds store others
-    → Stands (record { config = c; teis = teis; links = links; units = units; turn = 0 }) store others (fresh_line c)
-layer_fresh c teis links units ranged is_teis b is_units store others wide held = record {
+    → Stands (record { config = c; teis = teis; links = links; units = units; turn = 0; awake = awake }) store others (fresh_line c)
+layer_fresh c teis links units awake ranged is_teis b is_units store others wide held = record {
   range = ranged;
   wide = wide;
   sound = fresh_sound c ranged;
@@ -67,6 +69,7 @@ layer_fresh c teis links units ranged is_teis b is_units store others wide held 
   addressed = subst (λ u. AreFor u.waiting []) (sym is_units) tt;
   capacity = ap (λ u. u.capacity) is_units;
   turn = refl;
+  asleep = none_missed_first awake links (link_count c);
   held = subst (λ ps. Holds store ((ps ++ unit_pairs units.waiting []) ++ others)) (sym (subst (λ n. links_pairs links (replicate n fresh) ≡ []) b.count (no_pairs c links b.begun)))
       (subst (λ u. Holds store (unit_pairs u.waiting [] ++ others)) (sym is_units) held);
 }

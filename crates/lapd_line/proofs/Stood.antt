@@ -51,6 +51,7 @@ stands_on x s others m st t rest wide held = record {
     addressed = st.layer.addressed;
     capacity = st.layer.capacity;
     turn = st.layer.turn;
+    asleep = st.layer.asleep;
     held = held;
   };
   quiet = st.quiet;

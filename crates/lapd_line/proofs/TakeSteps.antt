@@ -93,6 +93,7 @@ without_message e s others m st = record {
   addressed = st.addressed;
   capacity = st.capacity;
   turn = st.turn;
+  asleep = st.asleep;
   held = st.held;
 }
 

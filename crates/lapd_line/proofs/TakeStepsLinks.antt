@@ -35,11 +35,15 @@ use Rattle.lapd_line_machine.specs.Pull.{Taken, with_given_frame, link_taken, fi
 use Rattle.lapd_line_machine.specs.Sound.{IsSound, IsSoundAt}
 use Rattle.lapd_line_machine.proofs.Offered.{fresh_gives_nothing}
 use Rattle.lapd_line_machine.proofs.PullSound.{TakesSoundly, link_sound}
+use Rattle.lapd_line_machine.proofs.Ranges.{ranges_of}
+use Rattle.lapd_line.specs.declared.awake.Awake.{Awake}
 use Rattle.lapd_line.specs.declared.link_layer.LinkLayer.{LinkLayer}
 use Rattle.lapd_line.specs.LinkLayer.{Stands, Standing}
+use Rattle.lapd_line.specs.Awake.{IsAwake, IsAsleep, FallsAsleep, NoneMissed}
 use Rattle.lapd_line.specs.Links.{LinksStand, HasTerms, IsGiven, Offers, links_pairs, terms_in}
 use Rattle.lapd_line.specs.Units.{unit_pairs}
 use Rattle.lapd_line.specs.Takes.{HasTaken, Took, Takes}
+use Rattle.lapd_line.proofs.AwakeSteps.{none_missed_at, none_missed_asleep}
 use Rattle.lapd_line.proofs.LayerSteps.{beside_links, links_part, links_back}
 use Rattle.lapd_line.proofs.TakeSteps.{takes_or, takes_first, takes_as}
 
@@ -105,9 +109,9 @@ known e s others m number few st = go (tei_at (place_at number) m) refl (st.soun
     go None at fresh (inr (past, none)) = absurd (omega (arith, past, few, st.count))
 
 -- a link that has nothing to give is passed over
-pub no_link : (e : LinkLayer) (s : Store) (f : Framing) (number : ℕ) (new : List Link) → number < link_count e.config → Offers number e.links new None
-    → Takes (λ c m. link_taken c m number) e s f (record e { links = new }) s f None
-no_link e s f number new few o = record {
+pub no_link : (e : LinkLayer) (s : Store) (f : Framing) (number : ℕ) (new : List Link) (awake : Awake) → number < link_count e.config → Offers number e.links new None
+    → FallsAsleep number e.awake awake → Takes (λ c m. link_taken c m number) e s f (record e { links = new; awake = awake }) s f None
+no_link e s f number new awake few o falls = record {
   config = refl;
   limits = record { slots = refl; width = refl };
   room = refl;
@@ -120,9 +124,10 @@ no_link e s f number new few o = record {
       ap (λ l. set m.links number l) (nothing_given k.t (link_at number m) none) ∙ set-get_or m.links number machine.fresh in
       let stand : LinksStand e.config new s (beside_links e m others) m.links =
       subst (LinksStand e.config new s (beside_links e m others)) stay (o.goes_on s e.config k.t (beside_links e m others) m.links k.has part) in
-      let stays : Stands (record e { links = new }) s others m =
-      links_back e s s others m new m.links st o.terms (record { slots = refl; width = refl }) st.sound stand in
-      subst (λ g. Took g None m (record e { links = new }) s others f f) (sym same) (stays, refl);
+      let asleep = none_missed_asleep e.awake awake e.links new m.links number falls o.terms (λ t has. sym (o.given e.config t s (beside_links e m others) m.links has part).given) st.asleep in
+      let stays : Stands (record e { links = new; awake = awake }) s others m =
+      links_back e s s others m new m.links awake st o.terms (record { slots = refl; width = refl }) st.sound stand asleep in
+      subst (λ g. Took g None m (record e { links = new; awake = awake }) s others f f) (sym same) (stays, refl);
 }
 
 -- as many links as before
@@ -174,9 +179,9 @@ loads e s number new o address info few (others, m, st) offers named is =
 
 -- the entities when a link has given something: the round goes on after it
 turned : (e : LinkLayer) (s : Store) (others : List Owned) (m : Line) (number : ℕ) (new : List Link) (ms : List machine.Link) → Stands e s others m → terms_in new ≡ terms_in e.links
-    → IsSound e.config (record m { links = ms; turn = number + 1 }) → LinksStand e.config new s (beside_links e m others) ms
+    → IsSound e.config (record m { links = ms; turn = number + 1 }) → LinksStand e.config new s (beside_links e m others) ms → NoneMissed e.awake new ms
     → Stands (record e { links = new; turn = number + 1 }) s others (record m { links = ms; turn = number + 1 })
-turned e s others m number new ms st same sound stand = record {
+turned e s others m number new ms st same sound stand asleep = record {
   range = st.range;
   wide = stand.wide;
   sound = sound;
@@ -187,18 +192,19 @@ turned e s others m number new ms st same sound stand = record {
   addressed = st.addressed;
   capacity = st.capacity;
   turn = refl;
+  asleep = asleep;
   held = subst (Holds s) (sym (append_assoc (links_pairs new ms) (unit_pairs e.units.waiting m.units) others)) stand.held;
 }
 
 -- what a link gives is loaded
 pub link_loaded : (e : LinkLayer) (s : Store) (f g : Framing) (number : ℕ) (new : List Link) (o : Offer) (address : Address) (info : List ℕ) → number < link_count e.config
-    → Offers number e.links new (Some o)
+    → IsAwake e.awake number → Offers number e.links new (Some o)
     → ((t : Terms) → HasTerms new number t → address ≡ address_at t o.frame.command)
     → info ≡ unwrap_or (contents_in s o.contents) [] → g.room ≡ f.room
     → ((items : List Item) (given : List ℕ) → framer.Stands f items given
     → framer.Stands g (items ++ frame (spelling Network (record { address = address; control = o.frame.control; info = info })) ∷ []) given)
     → Takes (λ c m. link_taken c m number) e s f (record e { links = new; turn = number + 1 }) s g (Some (listed o.orders))
-link_loaded e s f g number new o address info few offers named is room loaded = record {
+link_loaded e s f g number new o address info few awake offers named is room loaded = record {
   config = refl;
   limits = record { slots = refl; width = refl };
   room = room;
@@ -212,7 +218,7 @@ link_loaded e s f g number new o address info few offers named is room loaded = 
       let stand = offers.goes_on s e.config t (beside_links e m others) m.links gave.has (links_part e s others m st) in
       let has : HasTaken (with_given_frame m number t what) (listed o.orders) (record e { links = new; turn = number + 1 }) s others f g = record {
         orders = refl;
-        stands = turned e s others m number new _ st offers.terms sound.line stand;
+        stands = turned e s others m number new _ st offers.terms sound.line stand (none_missed_at e.awake e.links new m.links number _ awake offers.terms st.asleep);
         loaded = λ items given h.
             subst (λ a. framer.Stands g (items ++ frame (spelling Network (record { address = a; control = o.frame.control; info = unwrap_or (contents_in s o.contents) [] })) ∷ []) given) (named t (still e number new t offers.terms gave.has))
             (subst (λ x. framer.Stands g (items ++ frame (spelling Network (record { address = address; control = o.frame.control; info = x })) ∷ []) given) is
@@ -288,8 +294,43 @@ found from number to {a} {b} {c} {s} {t} {u} {f} {g} {h} {orders} order within b
     (takes_or {first = among from (number - from)} {second = λ config m. option_or (link_taken config m number) (among (number + 1) (to - (number + 1)) config m)} before
     (takes_first (among (number + 1) (to - (number + 1))) {first = λ c m. link_taken c m number} now))
 
-pub all_passed : (from number to : ℕ) {a b : LinkLayer} {s t : Store} {f g : Framing} → number ≡ to → Takes (among from (number - from)) a s f b t g None → Takes (among from (to - from)) a s f b t g None
-all_passed from number to {a} {b} {s} {t} {f} {g} same h = subst (λ n. Takes (among from (n - from)) a s f b t g None) same h
+-- every link has its bit among those that are awake
+pub low_link : (e : LinkLayer) (s : Store) (number : ℕ) → Standing e s → number < link_count e.config → number < 32
+low_link e s number (others, m, st) few = omega (arith, few, (ranges_of e.config st.range).terminals.most)
+
+-- links that are asleep have nothing to give
+asleep_gives_nothing : (e : LinkLayer) (s : Store) (others : List Owned) (m : Line) (number : ℕ) → number < link_count e.config → Stands e s others m → IsAsleep e.awake number → link_taken e.config m number ≡ None
+asleep_gives_nothing e s others m number few st asleep =
+    let k = known e s others m number few st in
+    let low = low_link e s number (others, m, st) few in
+    ap (λ g. option_map (with_given_frame m number (terms_at e.config number m)) g) (k.none (st.asleep number k.t low asleep k.has))
+
+none_of : (c : Config) (m : Line) (from n : ℕ) → ((number : ℕ) → from ≤ number → number < from + n → link_taken c m number ≡ None) → among from n c m ≡ None
+none_of c m from zero none = refl
+none_of c m from (suc n) none =
+    ap (λ o. option_or o (among (from + 1) n c m)) (none from (omega arith) (omega arith))
+    ∙ none_of c m (from + 1) n (λ number low high. none number (omega (arith, low)) (omega (arith, high)))
+
+-- so they are passed over
+pub passed : (from next number : ℕ) {a b : LinkLayer} {s t : Store} {f g : Framing} → from ≤ next → next ≤ number → number ≤ link_count a.config
+    → ((n : ℕ) → next ≤ n → n < number → IsAsleep b.awake n)
+    → Takes (among from (next - from)) a s f b t g None → Takes (among from (number - from)) a s f b t g None
+passed from next number {a} {b} {s} {t} {f} {g} order more within asleep h =
+    let few : number ≤ link_count b.config = subst (λ c. number ≤ link_count c) (sym h.config) within in
+    let over : Takes (among next (number - next)) b t g b t g None = record {
+      config = refl;
+      limits = record { slots = refl; width = refl };
+      room = refl;
+      took = λ others m st.
+          let none = none_of b.config m next (number - next) (λ n low high. asleep_gives_nothing b t others m n (omega (arith, high, more, few)) st (asleep n low (omega (arith, high, more)))) in
+          subst (λ o. Took o None m b t others g g) (sym none) (st, refl);
+    } in
+    takes_as {first = λ config m. option_or (among from (next - from) config m) (among next (number - next) config m)} {second = among from (number - from)}
+    (λ others m st.
+    ap (λ x. option_or (among from (next - from) a.config m) (among x (number - next) a.config m)) (omega (arith, order))
+    ∙ among_append a.config m from (next - from) (number - next)
+    ∙ ap (λ n. among from n a.config m) (omega (arith, order, more)))
+    (takes_or {first = among from (next - from)} {second = among next (number - next)} h over)
 
 -- where nothing was taken, a past stands still, and the framer is as it was
 pub none_stands : {source : Config → Line → Option Taken} {a b : LinkLayer} {s t : Store} {f g : Framing} → Takes source a s f b t g None → Standing a s → Standing b t × (g ≡ f)

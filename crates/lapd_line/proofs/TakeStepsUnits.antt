@@ -109,6 +109,7 @@ without_unit e s t others m u st is free =
       addressed = o.addressed;
       capacity = st.capacity;
       turn = st.turn;
+      asleep = st.asleep;
       held = (beside_units e s others m st).back t (unit_pairs (drop 1 e.units.waiting) (drop 1 m.units)) (o.released t free);
     }
 

@@ -134,6 +134,7 @@ with_unit e s t others m u d st service tei free stored proper = record {
   addressed = for_newest e.units.waiting m.units u d st.addressed service tei;
   capacity = st.capacity;
   turn = st.turn;
+  asleep = st.asleep;
   held = (beside_units e s others m st).back t (unit_pairs (e.units.waiting ++ u ∷ []) (m.units ++ d ∷ []))
       (newest_held s t e.units.waiting m.units u d (beside_units e s others m st).rest st.addressed free stored (beside_units e s others m st).held);
 }

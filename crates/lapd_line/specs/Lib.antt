@@ -2,6 +2,7 @@
 pub mod Reports
 pub mod Units
 pub mod Links
+pub mod Awake
 pub mod Starts
 pub mod LinkLayer
 pub mod Aims

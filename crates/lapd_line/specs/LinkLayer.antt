@@ -12,6 +12,7 @@ use Rattle.lapd_line_machine.specs.Effect.{Aim, at_none, of_aim}
 use Rattle.lapd_line_machine.specs.Sound.{IsInRange, IsSound}
 use Rattle.lapd_line.specs.declared.link_layer.LinkLayer.{LinkLayer}
 use Rattle.lapd_line.specs.declared.reports.BareReport.{BareReport}
+use Rattle.lapd_line.specs.Awake.{NoneMissed}
 use Rattle.lapd_line.specs.Links.{LinkFits, HasTerms, links_pairs}
 use Rattle.lapd_line.specs.Units.{AreFor, unit_pairs}
 use Rattle.lapd_line.specs.Reports.{told_in}
@@ -30,6 +31,8 @@ pub record Stands (e : LinkLayer) (store : Store) (others : List Owned) (m : Lin
   pub addressed : AreFor e.units.waiting m.units
   pub capacity : e.units.capacity ≡ e.config.unit_queue
   pub turn : m.turn ≡ e.turn
+  -- so a pull need not ask the others
+  pub asleep : NoneMissed e.awake e.links m.links
   pub held : Holds store ((links_pairs e.links m.links ++ unit_pairs e.units.waiting m.units) ++ others)
 
 -- There is a past that they stand for.

@@ -120,11 +120,12 @@ impl LinkLayer {
         let Some(place) = self.teis.place(tei) else {
             return Err(Refusal::NoLink);
         };
-        match self
-            .links
-            .request(link_number(place, service), request, shelf, slots)
-        {
-            Ok(answer) => Ok(BareReport::of_link(answer, 0)),
+        let number = link_number(place, service);
+        match self.links.request(number, request, shelf, slots) {
+            Ok(answer) => {
+                self.awake.wake(number);
+                Ok(BareReport::of_link(answer, 0))
+            }
             Err(why) => Err(why),
         }
     }

@@ -9,12 +9,14 @@
 //! - `link_layer`: what the calls change beside the bits: TEI management, links and units; `starts`, how they begin;
 //!   `aims`, what is heard; `expiries`, timers; `changes`, links that open and are cleared; `asks`, what is requested
 //!   of a link, of TEI management and as unit data; `takes`, what goes out; `held`, what they store.
-//! - `links`, `units`: the links of all places of the TEI table, and the unit data that waits.
+//! - `links`, `units`: the links of all places of the TEI table, and the unit data that waits; `awake`, which links may
+//!   have something to give.
 //! - `reports`, `pulled`: the answers; `fault`: why a line can't be started.
 #![tactic(auto)]
 
 mod aims;
 mod asks;
+mod awake;
 mod changes;
 mod expiries;
 mod fault;

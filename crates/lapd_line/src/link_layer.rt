@@ -8,6 +8,7 @@ ghost use Rattle.lapd_line_machine.specs.Line as machine;
 ghost use Rattle.lapd_line_machine.specs.Effect.{at_link, told_of_link};
 ghost use Rattle.lapd_link.specs.Outcome.{told_with};
 
+use crate::awake::Awake;
 use crate::links::Links;
 use crate::reports::BareReport;
 use crate::units::Units;
@@ -27,6 +28,8 @@ pub(crate) struct LinkLayer {
     pub(crate) units: Units,
     /// The link at which the next round of pulls begins.
     pub(crate) turn: usize,
+    /// The links that may have something to give. All others were asked, and nothing has happened to them since.
+    pub(crate) awake: Awake,
 }
 
 /// A link by its number: two links a place, that of call control first. No table has more than eight places.
@@ -79,6 +82,7 @@ impl LinkLayer {
             → Serves (always (at_link service tei place (event.received (received_of received.entry)))) octets self.old (S.store shelf.old) self.new (S.store shelf.new) result }
     {
         let number = link_number(place, service);
+        self.awake.wake(number);
         BareReport::of_link(self.links.receive(number, received, shelf), start)
     }
 
@@ -96,6 +100,7 @@ impl LinkLayer {
         ensures { Serves (always (at_link service tei place (event.expired timer))) [] self.old (S.store shelf.old) self.new (S.store shelf.new) result }
     {
         let number = link_number(place, service);
+        self.awake.wake(number);
         BareReport::of_link(self.links.expire(number, timer, shelf), 0)
     }
 

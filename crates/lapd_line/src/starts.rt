@@ -6,6 +6,7 @@ ghost use Rattle.lapd_store.specs.Store.{Store};
 ghost use Rattle.lapd_line_machine.specs.Line as machine;
 ghost use Rattle.lapd_line_machine.specs.Sound.{IsInRange};
 
+use crate::awake::Awake;
 use crate::fault::StartFault;
 use crate::link_layer::LinkLayer;
 use crate::links::Links;
@@ -33,6 +34,7 @@ impl LinkLayer {
             links,
             units,
             turn: 0,
+            awake: Awake::none(),
         })
     }
 }

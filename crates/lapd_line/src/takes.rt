@@ -11,6 +11,7 @@ ghost use Rattle.lapd_store.specs.Store.{Store, IsUsed};
 ghost use Rattle.lapd_link.specs.Outcome.{contents_in};
 ghost use Rattle.lapd_line_machine.specs.Line.{link_count};
 ghost use Rattle.lapd_line_machine.specs.Pull.{message_taken, unit_taken, link_taken, first_taken, taken};
+ghost use Rattle.lapd_line.specs.Awake.{IsAwake};
 ghost use Rattle.lapd_line.specs.Takes.{Takes, orders_taken};
 
 use crate::link_layer::LinkLayer;
@@ -77,7 +78,7 @@ impl LinkLayer {
         self.take_first(0, turn, framer, shelf)
     }
 
-    /// What the first of these links has to give.
+    /// What the first of these links has to give. Only those that are awake are asked.
     fn take_first<S: Shelf>(
         &mut self,
         from: usize,
@@ -92,15 +93,17 @@ impl LinkLayer {
         requires within { to ≤ link_count self.old.config }
         ensures { Takes (λ c m. first_taken c m (range_with_len from (to - from))) self.old (S.store shelf.now) framer.old self.new (S.store shelf.now) framer.new (orders_taken result) }
     {
-        for number in from..to {
+        let mut next = from;
+        while let Some(number) = self.awake.first(next, to) {
             if let Some(orders) = self.take_link(number, framer, shelf) {
                 return Some(orders);
             }
+            next = number + 1;
         }
         None
     }
 
-    /// What a link has to give.
+    /// What a link that is awake has to give. It falls asleep where it has nothing.
     fn take_link<S: Shelf>(
         &mut self,
         number: usize,
@@ -111,9 +114,13 @@ impl LinkLayer {
         requires not_busy { length framer.old.left < 8 }
         requires room { framer.old.room ≡ self.old.config.n201 }
         requires within { number < link_count self.old.config }
+        requires awake { IsAwake self.old.awake number }
         ensures { Takes (λ c m. link_taken c m number) self.old (S.store shelf.now) framer.old self.new (S.store shelf.now) framer.new (orders_taken result) }
     {
-        let offer = self.links.offer(number)?;
+        let Some(offer) = self.links.offer(number) else {
+            self.awake.sleep(number);
+            return None;
+        };
         let address = self.links.address(number, offer.frame.command);
         load(
             framer,

@@ -1,4 +1,4 @@
-use Rattle.std.proofs.Common.{[], None, refl, sym, ◌∙◌}
+use Rattle.std.proofs.Common.{None, refl, ◌∙◌}
 use Rattle.lapd_frame.specs.declared.short_lists.ShortList.TheVariants as short
 use Rattle.lapd_line.proofs.PullSteps.{Gives, pulls, pull_told}
 use Rattle.lapd_line.proofs.line.Line.pull.Goals as goal

@@ -1,7 +1,8 @@
 use Rattle.std.proofs.Common.{[], nat_le, sym, arith}
 use Rattle.lapd_store.specs.Store.{used_slots}
 use Rattle.lapd_link.specs.Events as link
-use Rattle.lapd_line.proofs.LayerSteps.{beside_links, links_part}
+use Rattle.lapd_tei.proofs.Tables.{place_of-is}
+use Rattle.lapd_line.proofs.LayerSteps.{beside_links, links_part, low_number}
 use Rattle.lapd_line.proofs.AskSteps.{no_link, asked, asked_serves}
 use Rattle.lapd_line.proofs.link_layer.LinkLayer.ask.Goals as goal
 
@@ -14,15 +15,19 @@ request-requires-clause-stands g c =
     let (others, m, stands) = c.requires.stands in
     (c.args.self.now.config, beside_links c.args.self.now m others, m.links, links_part c.args.self.now (g.S.Shelf.store c.args.shelf.now) others m stands)
 
+pub wake-requires : goal.wake-requires
+wake-requires g c =
+    low_number c.args.self.now (g.S.Shelf.store c.args.shelf.now) c.args.service c.args.tei c.in-Some.place c.requires.stands (place_of-is c.args.self.now.teis.places c.args.tei c.in-Some.place (sym c.in-Some.ensures.place)).1 c.link_number-number.ensures
+
 pub returns-in-Ok-clause-granted : goal.returns-in-Ok-clause-granted
 returns-in-Ok-clause-granted g c = λ others m st.
-    asked c.args.self.now (g.S.Shelf.store c.args.shelf.now) others m st c.args.service c.args.tei (nat_le c.args.slots (used_slots (g.S.Shelf.store c.args.shelf.now))) (link.request_of c.args.request) c.in-Some.place c.link_number.result _ (grind arith) (sym c.in-Some.ensures.place) c.link_number.ensures c.in-Ok.ensures.granted
+    asked c.args.self.now (g.S.Shelf.store c.args.shelf.now) others m st c.args.service c.args.tei (nat_le c.args.slots (used_slots (g.S.Shelf.store c.args.shelf.now))) (link.request_of c.args.request) c.in-Some.place c.link_number-number.result _ (grind arith) (sym c.in-Some.ensures.place) c.link_number-number.ensures c.in-Ok.ensures.granted
 
 pub returns-in-Ok-clause-served : goal.returns-in-Ok-clause-served
 returns-in-Ok-clause-served g c =
-    asked_serves c.args.self.now (g.S.Shelf.store c.args.shelf.now) (g.S.Shelf.store c.request.new.shelf) c.request.new.self c.args.service c.args.tei c.in-Some.place c.link_number.result (nat_le c.args.slots (used_slots (g.S.Shelf.store c.args.shelf.now))) (link.request_of c.args.request) c.in-Ok.answer c.of_link.result
-    c.requires.stands (sym c.in-Some.ensures.place) c.link_number.ensures c.in-Ok.ensures.granted c.in-Ok.ensures.served (c.of_link.ensures [])
+    asked_serves c.args.self.now (g.S.Shelf.store c.args.shelf.now) (g.S.Shelf.store c.request.new.shelf) c.request.new.self c.wake.new.self c.args.service c.args.tei c.in-Some.place c.link_number-number.result (nat_le c.args.slots (used_slots (g.S.Shelf.store c.args.shelf.now))) (link.request_of c.args.request) c.in-Ok.answer c.of_link.result
+    c.requires.stands (sym c.in-Some.ensures.place) c.link_number-number.ensures c.wake.ensures c.in-Ok.ensures.granted c.in-Ok.ensures.served (c.of_link.ensures [])
 
 pub returns-in-Err-clause-refused : goal.returns-in-Err-clause-refused
 returns-in-Err-clause-refused g c = λ others m st.
-    asked c.args.self.now (g.S.Shelf.store c.args.shelf.now) others m st c.args.service c.args.tei (nat_le c.args.slots (used_slots (g.S.Shelf.store c.args.shelf.now))) (link.request_of c.args.request) c.in-Some.place c.link_number.result _ (grind arith) (sym c.in-Some.ensures.place) c.link_number.ensures c.in-Err.ensures.refused
+    asked c.args.self.now (g.S.Shelf.store c.args.shelf.now) others m st c.args.service c.args.tei (nat_le c.args.slots (used_slots (g.S.Shelf.store c.args.shelf.now))) (link.request_of c.args.request) c.in-Some.place c.link_number-number.result _ (grind arith) (sym c.in-Some.ensures.place) c.link_number-number.ensures c.in-Err.ensures.refused

@@ -1,13 +1,39 @@
 use Rattle.std.proofs.Common.{◌<◌, length, ap, sym, subst, ◌∙◌, arith}
 use Rattle.lapd_line_machine.specs.Line.{link_count}
-use Rattle.lapd_line.proofs.TakeStepsLinks.{none_among, one_more, found, all_passed, none_stands}
+use Rattle.lapd_line.proofs.TakeStepsLinks.{none_among, one_more, found, passed, none_stands}
 use Rattle.lapd_line.proofs.link_layer.LinkLayer.take_first.Goals as goal
 
 pub loop-number-init : goal.loop-number-init
 loop-number-init g c = record {
   order = omega arith;
+  within = c.requires.order;
   so_far = none_among c.args.self.now (g.S.Shelf.store c.args.shelf.now) c.args.framer.now c.args.from;
 }
+
+pub returns-in-Some-take_link : goal.returns-in-Some-take_link
+returns-in-Some-take_link g c =
+    let before = c.loop-number.invariant in
+    let (low, below, awake) = c.in-Some.ensures.awake in
+    found c.args.from c.in-Some.number c.args.to (omega (arith, before.order, low)) below
+    (passed c.args.from c.loop-number.next c.in-Some.number before.order low (omega (arith, below, c.requires.within)) c.in-Some.ensures.asleep before.so_far)
+    c.in-Some-take_link.ensures
+
+pub loop-number-preserved : goal.loop-number-preserved
+loop-number-preserved g c =
+    let before = c.loop-number.invariant in
+    let (low, below, awake) = c.in-Some.ensures.awake in
+    record {
+      order = omega (arith, before.order, low);
+      within = omega (arith, below);
+      so_far = one_more c.args.from c.in-Some.number (omega (arith, before.order, low))
+          (passed c.args.from c.loop-number.next c.in-Some.number before.order low (omega (arith, below, c.requires.within)) c.in-Some.ensures.asleep before.so_far)
+          c.in_default-take_link.ensures;
+    }
+
+pub returns : goal.returns
+returns g c =
+    let before = c.loop-number.invariant in
+    passed c.args.from c.loop-number.next c.args.to before.order before.within c.requires.within c.in_default.ensures.asleep before.so_far
 
 pub take_link-requires-clause-stands : goal.take_link-requires-clause-stands
 take_link-requires-clause-stands g c = (none_stands c.loop-number.invariant.so_far c.requires.stands).0
@@ -23,17 +49,4 @@ take_link-requires-clause-room g c =
 
 pub take_link-requires-clause-within : goal.take_link-requires-clause-within
 take_link-requires-clause-within g c =
-    subst (λ x. c.loop-number.number < link_count x) (sym c.loop-number.invariant.so_far.config) (omega (arith, c.loop-number-test.true, c.requires.within))
-
-pub returns-in-Some : goal.returns-in-Some
-returns-in-Some g c =
-    found c.args.from c.loop-number.number c.args.to c.loop-number.invariant.order c.loop-number-test.true c.loop-number.invariant.so_far c.in-Some.ensures
-
-pub loop-number-preserved : goal.loop-number-preserved
-loop-number-preserved g c = record {
-  order = omega (arith, c.loop-number.invariant.order);
-  so_far = one_more c.args.from c.loop-number.number c.loop-number.invariant.order c.loop-number.invariant.so_far c.in_default.ensures;
-}
-
-pub returns : goal.returns
-returns g c = all_passed c.args.from c.loop-number.number c.args.to (omega (arith, c.loop-number-test.false, c.requires.order)) c.loop-number.invariant.so_far
+    subst (λ x. c.in-Some.number < link_count x) (sym c.loop-number.invariant.so_far.config) (omega (arith, c.in-Some.ensures.awake.1, c.requires.within))

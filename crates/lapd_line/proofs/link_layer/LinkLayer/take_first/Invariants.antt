@@ -3,9 +3,13 @@ use Rattle.lapd_line.specs.Takes.{Takes}
 use Rattle.lapd_line.proofs.TakeStepsLinks.{among}
 use Rattle.lapd_line.proofs.link_layer.LinkLayer.take_first.Given as goal
 
--- the links so far had nothing to give
+-- the links so far have nothing to give
 abbrev pub invariant-loop-number : goal.invariant-loop-number
 invariant-loop-number g l = record {
-  order : l.fn.from ≤ l.number;
-  so_far : Takes (among l.fn.from (l.number - l.fn.from)) l.fn.self (g.S.Shelf.store l.fn.shelf) l.fn.framer l.self (g.S.Shelf.store l.fn.shelf) l.framer None;
+  order : l.fn.from ≤ l.next;
+  within : l.next ≤ l.fn.to;
+  so_far : Takes (among l.fn.from (l.next - l.fn.from)) l.fn.self (g.S.Shelf.store l.fn.shelf) l.fn.framer l.self (g.S.Shelf.store l.fn.shelf) l.framer None;
 }
+
+abbrev pub decreases-loop-number : goal.decreases-loop-number
+decreases-loop-number g l = l.fn.to - l.next

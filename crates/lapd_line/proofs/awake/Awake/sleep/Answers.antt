@@ -1,0 +1,6 @@
+use Rattle.std.proofs.Common.{w32}
+use Rattle.std.proofs.lemmas.Nat.Bits.{bit_at_clear_same, bit_at_clear_other}
+use Rattle.lapd_line.proofs.awake.Awake.sleep.Goals as goal
+
+pub returns : goal.returns
+returns c = (bit_at_clear_same w32 c.args.self.now.links c.args.number c.requires, bit_at_clear_other w32 c.args.self.now.links c.args.number c.requires)

@@ -224,11 +224,33 @@ pub(crate) fn shows_no_error(register: u16) -> bool
 pub(crate) fn divided_all(octets: &[u8]) -> u16
     ensures { HoldsDivision result (bits octets.now) }
 {
+    let register = divided_twos(octets);
+    if octets.len() % 2 == 0 {
+        return register;
+    }
+    divided(register, octets[octets.len() - 1])
+}
+
+// The register after all octets but the last of an odd number. What is left of eights is most of a short frame.
+fn divided_twos(octets: &[u8]) -> u16
+    ensures { HoldsDivision result (bits (take (2 * (length octets.now / 2)) octets.now)) }
+{
     let mut register = divided_eights(octets);
-    for place in octets.len() / 8 * 8..octets.len() {
-        register = divided(register, octets[place]);
+    for two in octets.len() / 8 * 4..octets.len() / 2 {
+        register = divided_two(register, octets, 2 * two);
     }
     register
+}
+
+// The register after two octets more.
+fn divided_two(register: u16, octets: &[u8], at: usize) -> u16
+    requires two { at + 2 ≤ length octets.now }
+    ensures { (d : List Bool) → HoldsDivision register d
+        → HoldsDivision result (d ++ bits (take 2 (drop at octets.now))) }
+{
+    let first = left_of((register % 256) as u8 ^ octets[at], 1);
+    let second = left_of((register >> 8) as u8 ^ octets[at + 1], 0);
+    first ^ second
 }
 
 // The register after all octets but those at the end that are fewer than eight. Eight at a time, since a step waits for

@@ -1,5 +1,5 @@
 -- The tables of the frame check hold what the long division leaves of each octet, and how a register goes by them.
-use Rattle.std.proofs.Common.{◌≡◌, ℕ, suc, zero, ◌≤◌, ◌+◌, ◌*◌, ◌/◌, ◌%◌, ◌^◌, ◌<◌, Bool, false, List, [], ◌∷◌, ◌++◌, length, take, drop, get_or, map, replicate, refl, sym, ap, subst, ◌∙◌, append-nil, append_assoc, length-append, arith}
+use Rattle.std.proofs.Common.{◌≡◌, ℕ, suc, zero, ◌≤◌, ◌+◌, ◌*◌, ◌/◌, ◌%◌, ◌^◌, ◌<◌, Bool, false, List, [], ◌∷◌, ◌++◌, length, take, drop, get_or, map, replicate, refl, sym, ap, subst, ◌∙◌, append-nil, append_assoc, length-append, mul-add, mul-one, arith}
 use Rattle.std.specs.Prelude.{bit_xor}
 use Rattle.std.specs.List.{fold, range_with_len}
 use Rattle.std.proofs.lemmas.List.{length-take-le, length-drop}
@@ -179,14 +179,37 @@ HoldsDivision-eight register first second others at octets d within first_is sec
     ∙ sym (take-drop-next 7 at octets (omega arith) ∙ ap (λ os. a ∷ os) (take-drop-next 6 (at + 1) octets (omega arith))))
     (HoldsDivision-octets register a b (bit_xor first (bit_xor second others)) six d all holds)
 
--- and the first so many and eight of a text
-pub HoldsDivision-more_eight :
-    (register eight : ℕ) (octets : List ℕ)
-    → HoldsDivision register (bits (take (8 * eight) octets) ++ bits (take 8 (drop (8 * eight) octets)))
-    → HoldsDivision register (bits (take (8 * (eight + 1)) octets))
-HoldsDivision-more_eight register eight octets holds =
+-- two octets more of a text
+pub HoldsDivision-two :
+    (register first second at : ℕ) (octets : List ℕ) (d : List Bool) → at + 2 ≤ length octets
+    → low_bits 16 first ≡ remainder (low_bits 8 (bit_xor (register % 256) (get_or octets at 0)) ++ replicate 24 false)
+    → low_bits 16 second ≡ remainder (low_bits 8 (bit_xor (register / 256) (get_or octets (at + 1) 0)) ++ replicate 16 false)
+    → HoldsDivision register d
+    → HoldsDivision (bit_xor first second) (d ++ bits (take 2 (drop at octets)))
+HoldsDivision-two register first second at octets d within first_is second_is holds =
+    let a = get_or octets at 0 in
+    let b = get_or octets (at + 1) 0 in
+    let met_a = bit_xor (register % 256) a in
+    let met_b = bit_xor (register / 256) b in
+    let one : low_bits 16 second ≡ remainder (bits (met_b ∷ []) ++ replicate 16 false) =
+    second_is ∙ ap (λ l. remainder (l ++ replicate 16 false)) (sym (append-nil (low_bits 8 met_b))) in
+    let both : low_bits 16 (bit_xor first second) ≡ remainder (bits (met_a ∷ met_b ∷ []) ++ replicate 16 false) =
+    low_bits-xor 16 first second
+    ∙ ap (λ l. plus l (low_bits 16 second)) first_is
+    ∙ ap (λ l. plus (remainder (low_bits 8 met_a ++ replicate 24 false)) l) one
+    ∙ sym (remainder-octet met_a (met_b ∷ [])) in
+    subst (λ os. HoldsDivision (bit_xor first second) (d ++ bits os))
+    (sym (take-drop-next 1 at octets (omega arith) ∙ ap (λ os. a ∷ os) (take-drop-next 0 (at + 1) octets (omega arith))))
+    (HoldsDivision-octets register a b (bit_xor first second) [] d both holds)
+
+-- and the first so many steps and one more of a text
+pub HoldsDivision-more :
+    (size register steps : ℕ) (octets : List ℕ)
+    → HoldsDivision register (bits (take (size * steps) octets) ++ bits (take size (drop (size * steps) octets)))
+    → HoldsDivision register (bits (take (size * (steps + 1)) octets))
+HoldsDivision-more size register steps octets holds =
     subst (HoldsDivision register)
-    (sym (bits-append (take (8 * eight) octets) (take 8 (drop (8 * eight) octets)))
-    ∙ ap bits (sym (take-add (8 * eight) 8 octets))
-    ∙ ap (λ n. bits (take n octets)) (omega arith))
+    (sym (bits-append (take (size * steps) octets) (take size (drop (size * steps) octets)))
+    ∙ ap bits (sym (take-add (size * steps) size octets))
+    ∙ ap (λ n. bits (take n octets)) (sym (mul-add size steps 1 ∙ ap (λ n. size * steps + n) (mul-one size))))
     holds

@@ -3,7 +3,7 @@ use Rattle.std.proofs.Common.{◌*◌, take, subst, arith}
 use Rattle.lapd_bits.specs.Bits.{bits}
 use Rattle.lapd_bits.specs.Register.{HoldsDivision}
 use Rattle.lapd_bits.proofs.Division.Holds.{HoldsDivision-preset}
-use Rattle.lapd_bits.proofs.Division.Tables.{HoldsDivision-more_eight}
+use Rattle.lapd_bits.proofs.Division.Tables.{HoldsDivision-more}
 use Rattle.lapd_bits.proofs.check.divided_eights.Goals as goal
 
 pub loop-eight-init : goal.loop-eight-init
@@ -13,7 +13,7 @@ pub loop-eight-preserved : goal.loop-eight-preserved
 loop-eight-preserved c =
     let octets = c.args.octets.now in
     let eight = c.loop-eight.eight in
-    HoldsDivision-more_eight c.divided_eight-register.result eight octets
+    HoldsDivision-more 8 c.divided_eight-register.result eight octets
     (c.divided_eight-register.ensures (bits (take (8 * eight) octets)) c.loop-eight.invariant)
 
 pub returns : goal.returns

@@ -148,12 +148,11 @@ content_after ones octet content count run none c =
       c.run_is ∙ ap run_of (with_bits-onto octet before) ∙ here.run ∙ ap (λ n. ones_after n text) is_run,
     )
 
--- its content joins the open gap
-pub joined :
-    (past : List Bool) (ones octet content count run : ℕ) → ones ≡ run_of past
-    → has_six (replicate ones true ++ low_bits 8 octet) ≡ false → IsContent ones octet content count run
-    → IsJoined octet (low_bits count content) (open_gap past)
-joined past ones octet content count run e none c =
+-- what stays of it joins the open gap
+pub joined_after :
+    (past : List Bool) (ones octet content count : ℕ) → ones ≡ run_of past
+    → unstuffed_after ones (low_bits 8 octet) ≡ low_bits count content → IsJoined octet (low_bits count content) (open_gap past)
+joined_after past ones octet content count e stays =
     let text = low_bits 8 octet in
     for_open past (λ g. unstuffed (reverse (with_bits 8 octet g)) ≡ unstuffed (reverse g) ++ low_bits count content)
     (λ g open_here.
@@ -165,7 +164,18 @@ joined past ones octet content count run e none c =
     ∙ unstuffed_after-append 0 (reverse g) text
     ∙ ap (λ n. unstuffed_after 0 (reverse g) ++ unstuffed_after n text) at
     ∙ ap (λ l. l ++ unstuffed_after ones text) (sym (unstuffed-counted (reverse g)))
-    ∙ ap (λ l. unstuffed (reverse g) ++ l) (content_after ones octet content count run none c).0)
+    ∙ ap (λ l. unstuffed (reverse g) ++ l) stays)
+
+pub joined :
+    (past : List Bool) (ones octet content count run : ℕ) → ones ≡ run_of past
+    → has_six (replicate ones true ++ low_bits 8 octet) ≡ false → IsContent ones octet content count run
+    → IsJoined octet (low_bits count content) (open_gap past)
+joined past ones octet content count run e none c =
+    joined_after past ones octet content count e (content_after ones octet content count run none c).0
+
+pub same_map : (octet : ℕ) (g : Option (List Bool)) → option_map (with_bits 8 octet) g ≡ option_map (onto (low_bits 8 octet)) g
+same_map octet None = refl
+same_map octet (Some g) = ap Some (with_bits-onto octet g)
 
 -- what the fields stand for after it
 pub HoldsPast-octet :
@@ -183,13 +193,9 @@ HoldsPast-octet octets octets' ones ones' gap gap' past octet content count run 
           ∙ ap (λ n. ones_after n text) h.run ∙ sym here.run ∙ ap run_of (sym (with_bits-onto octet past));
       open_is =
           subst (HoldsGap octets' gap')
-          (same_map (open_gap past) ∙ sym here.gap ∙ ap open_gap (sym (with_bits-onto octet past)))
+          (same_map octet (open_gap past) ∙ sym here.gap ∙ ap open_gap (sym (with_bits-onto octet past)))
           (taken (open_gap past) (joined past ones octet content count run h.run none c) h.open_is);
     }
-  where
-    same_map : (g : Option (List Bool)) → option_map (with_bits 8 octet) g ≡ option_map (onto (low_bits 8 octet)) g
-    same_map None = refl
-    same_map (Some g) = ap Some (with_bits-onto octet g)
 
 -- and nothing is heard
 pub heard-octet :

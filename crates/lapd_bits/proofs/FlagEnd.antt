@@ -1,18 +1,19 @@
 -- An octet in which a flag ends: its first 1s go on the open gap, which the flag closes; the bits behind begin the next.
-use Rattle.std.proofs.Common.{◌≡◌, ℕ, suc, zero, ◌+◌, ◌-◌, ◌/◌, ◌^◌, ◌<◌, ◌≤◌, Bool, true, false, not, List, [], ◌∷◌, ◌++◌, length, reverse, replicate, Option, Some, None, option_map, option_to_list, nat_eq, nat_lt, refl, ap, sym, ◌∙◌, subst, arith, append-nil, length-append}
-use Rattle.std.proofs.lemmas.Bool.{and_parts, ltb-true, lt-ltb, eq-eqb, false≢true}
-use Rattle.std.proofs.lemmas.List.{reverse-append, reverse-reverse, length-replicate}
-use Rattle.lapd_bits.specs.Bits.{bits, low_bits}
+use Rattle.std.proofs.Common.{◌≡◌, ℕ, suc, zero, ◌+◌, ◌-◌, ◌/◌, ◌^◌, ◌<◌, ◌≤◌, Bool, true, false, not, ◌&&◌, List, [], ◌∷◌, ◌++◌, length, reverse, replicate, Option, Some, None, option_map, option_to_list, nat_eq, nat_lt, refl, ap, sym, ◌∙◌, subst, arith, append-nil, length-append}
+use Rattle.std.proofs.lemmas.Bool.{eqb-true, and_parts, ltb-true, lt-ltb, eq-eqb, false≢true}
+use Rattle.std.proofs.lemmas.List.{reverse-append, reverse-reverse, length-replicate, append_cancel_left}
+use Rattle.lapd_bits.specs.Bits.{bits, low_bits, same_bits}
 use Rattle.lapd_bits.specs.Stuffing.{unstuffed}
 use Rattle.lapd_bits.specs.Stream.{Event, heard_until, heard_at}
 use Rattle.lapd_bits.specs.Deframer.{run_of, open_gap, KeepsIn, Assembles, AssemblesIn, HoldsGap, HoldsPast}
 use Rattle.lapd_bits.specs.Heard.{closing_event}
 use Rattle.lapd_bits.specs.Steps.{closed_event, with_bits}
-use Rattle.lapd_bits.specs.FlagEnd.{behind_zero, ends_nothing, IsFlagEnd}
+use Rattle.lapd_bits.specs.FlagEnd.{behind_zero, ends_nothing, IsFlagEnd, IsFlagBegun}
+use Rattle.lapd_bits.specs.Unstuffer.{IsJoined}
 use Rattle.lapd_bits.specs.declared.gap.Gap.{Gap}
-use Rattle.lapd_bits.proofs.BitLemmas.{length-low_bits}
+use Rattle.lapd_bits.proofs.BitLemmas.{length-low_bits, same_from_test}
 use Rattle.lapd_bits.proofs.BitSteps.{closed_told}
-use Rattle.lapd_bits.proofs.AtOnce.{onto, onto-reverse, onto-append, with_bits-onto, IsQuiet, ones_after-ones, unstuffed_after-ones}
+use Rattle.lapd_bits.proofs.AtOnce.{joined_after, same_map, run_of-ones, unstuffed-ones, onto, onto-reverse, onto-append, with_bits-onto, IsQuiet, ones_after-ones, unstuffed_after-ones}
 use Rattle.lapd_bits.proofs.Hearing.{heard_at-flag, open_gap-flag}
 use Rattle.lapd_bits.proofs.Idle.{Calm, Calm-ones, calm, length-onto, onto-ones}
 use Rattle.lapd_bits.proofs.StuffingCounted.{ones_after, unstuffed-counted, unstuffed_after, unstuffed_after-append}
@@ -224,3 +225,102 @@ module _
           assembles = subst (AssemblesIn octets' gap') (sym text) a;
         });
       }
+
+-- ---- an octet that brings all of a flag but its last bit
+
+module _
+    (ones octet content count run : ℕ) (begun : IsFlagBegun ones octet content count run)
+    (past : List Bool) (is_run : ones ≡ run_of past) where
+  abbrev text : List Bool
+  text = low_bits 8 octet
+
+  calm_here : (room : ℕ) (front : List Bool) → run_of front ≡ ones → IsQuiet room text front
+  calm_here room front e = calm room ones text front e (omega (arith, begun.few)) (Calm-by_test ones text begun.quiet)
+
+  -- it brings nothing
+  pub heard-flag_begun : (room : ℕ) → heard_until room (with_bits 8 octet past) ≡ heard_until room past ++ []
+  heard-flag_begun room =
+      let here = calm_here room past (sym is_run) in
+      ap (heard_until room) (with_bits-onto octet past) ∙ here.heard ∙ sym (append-nil (heard_until room past))
+
+  -- and goes on the open gap
+  pub HoldsPast-flag_begun :
+      (octets octets' : List ℕ) (ones' : ℕ) (gap gap' : Option Gap) → ones' ≡ run
+      → ((g : Option (List Bool)) → IsJoined octet (low_bits count content) g → HoldsGap octets gap g
+      → HoldsGap octets' gap' (option_map (with_bits 8 octet) g))
+      → HoldsGap octets gap (open_gap past) → HoldsPast octets' ones' gap' (with_bits 8 octet past)
+  HoldsPast-flag_begun octets octets' ones' gap gap' e taken h =
+      let before = replicate ones true ++ (false ∷ []) in
+      let here = calm_here 0 past (sym is_run) in
+      let there = calm_here 0 before (run_of-ones ones begun.few) in
+      let stays : unstuffed_after ones text ≡ low_bits count content =
+      append_cancel_left (replicate ones true) (unstuffed_after ones text) (low_bits count content)
+      (sym (unstuffed-ones ones text) ∙ begun.stays) in
+      record {
+        run =
+            e ∙ begun.run_is ∙ ap run_of (with_bits-onto octet before) ∙ there.run
+            ∙ ap (λ n. ones_after n text) (run_of-ones ones begun.few ∙ is_run)
+            ∙ sym here.run ∙ ap run_of (sym (with_bits-onto octet past));
+        open_is =
+            subst (HoldsGap octets' gap')
+            (same_map octet (open_gap past) ∙ sym here.gap ∙ ap open_gap (sym (with_bits-onto octet past)))
+            (taken (open_gap past) (joined_after past ones octet content count is_run stays) h);
+      }
+
+-- ---- what stays of such an octet
+
+abbrev is_begun : ℕ → ℕ → ℕ → ℕ → Bool
+is_begun ones octet content count =
+    ends_nothing ones (low_bits 8 octet)
+    && (same_bits (unstuffed (replicate ones true ++ low_bits 8 octet)) (replicate ones true ++ low_bits count content)
+    && nat_eq 6 (run_of (with_bits 8 octet (replicate ones true ++ (false ∷ [])))))
+
+IsFlagBegun-by_test : (ones octet content count : ℕ) → ones ≤ 5 → is_begun ones octet content count ≡ true
+    → IsFlagBegun ones octet content count 6
+IsFlagBegun-by_test ones octet content count few h =
+    let a = and_parts (ends_nothing ones (low_bits 8 octet)) _ h in
+    let b =
+    and_parts (same_bits (unstuffed (replicate ones true ++ low_bits 8 octet)) (replicate ones true ++ low_bits count content)) _ a.1 in
+    record { few = few; quiet = a.0; stays = same_from_test _ _ b.0; run_is = eqb-true _ _ b.1 }
+
+-- after fewer than five 1s its first 0 stays
+begun_whole : (ones first : ℕ) → first ≤ 1 → ones + first ≤ 4 → is_begun ones (252 + first) (252 + first) 8 ≡ true
+unfolding low_bits
+begun_whole zero zero h few = refl
+begun_whole (suc zero) zero h few = refl
+begun_whole (suc (suc zero)) zero h few = refl
+begun_whole (suc (suc (suc zero))) zero h few = refl
+begun_whole (suc (suc (suc (suc zero)))) zero h few = refl
+begun_whole zero (suc zero) h few = refl
+begun_whole (suc zero) (suc zero) h few = refl
+begun_whole (suc (suc zero)) (suc zero) h few = refl
+begun_whole (suc (suc (suc zero))) (suc zero) h few = refl
+begun_whole (suc (suc (suc (suc (suc n))))) zero h few = absurd (omega arith)
+begun_whole (suc (suc (suc (suc n)))) (suc zero) h few = absurd (omega arith)
+begun_whole ones (suc (suc n)) h few = absurd (omega arith)
+
+-- after five it is a stuffed one
+begun_stuffed : (ones first : ℕ) → first ≤ 1 → ones + first ≡ 5 → is_begun ones (252 + first) (126 + first) 7 ≡ true
+unfolding low_bits
+begun_stuffed ones zero h five =
+    let is : 5 ≡ ones = omega arith in
+    subst (λ n. is_begun n 252 126 7 ≡ true) is refl
+begun_stuffed ones (suc zero) h five =
+    let is : 4 ≡ ones = omega arith in
+    subst (λ n. is_begun n 253 127 7 ≡ true) is refl
+begun_stuffed ones (suc (suc n)) h five = absurd (omega arith)
+
+pub begun-whole : (ones octet : ℕ) → 252 ≤ octet → octet ≤ 253 → ones + (octet - 252) < 5 → IsFlagBegun ones octet octet 8 6
+begun-whole ones octet low high few =
+    let is : 252 + (octet - 252) ≡ octet = omega arith in
+    subst (λ o. IsFlagBegun ones o o 8 6) is
+    (IsFlagBegun-by_test ones (252 + (octet - 252)) (252 + (octet - 252)) 8 (omega arith)
+    (begun_whole ones (octet - 252) (omega arith) (omega arith)))
+
+pub begun-stuffed : (ones octet : ℕ) → 252 ≤ octet → octet ≤ 253 → ones + (octet - 252) ≡ 5
+    → IsFlagBegun ones octet (126 + (octet - 252)) 7 6
+begun-stuffed ones octet low high five =
+    let is : 252 + (octet - 252) ≡ octet = omega arith in
+    subst (λ o. IsFlagBegun ones o (126 + (octet - 252)) 7 6) is
+    (IsFlagBegun-by_test ones (252 + (octet - 252)) (126 + (octet - 252)) 7 (omega arith)
+    (begun_stuffed ones (octet - 252) (omega arith) five))

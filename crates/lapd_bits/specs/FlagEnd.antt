@@ -1,8 +1,9 @@
 -- What an octet brings in which a flag ends (Q.921 clause 2.2) and nothing else does. No public call names this.
-use Rattle.std.specs.Prelude.{◌≡◌, ℕ, suc, ◌+◌, nat_eq, nat_lt, Bool, true, false, not, ◌&&◌, List, [], ◌∷◌, ◌++◌, replicate, reverse}
+use Rattle.std.specs.Prelude.{◌≡◌, ℕ, suc, ◌+◌, ◌≤◌, nat_eq, nat_lt, Bool, true, false, not, ◌&&◌, List, [], ◌∷◌, ◌++◌, replicate, reverse}
 use Rattle.lapd_bits.specs.Bits.{low_bits}
 use Rattle.lapd_bits.specs.Stuffing.{unstuffed}
 use Rattle.lapd_bits.specs.Deframer.{run_of}
+use Rattle.lapd_bits.specs.Steps.{with_bits}
 
 -- the 1s with which a text begins
 abbrev pub ones_before : List Bool → ℕ
@@ -34,3 +35,10 @@ pub record IsFlagEnd (ones octet before content count run : ℕ) : Type 0 where
   pub quiet : ends_nothing 0 (behind_zero (low_bits 8 octet)) ≡ true
   pub stays : unstuffed (behind_zero (low_bits 8 octet)) ≡ low_bits count content
   pub run_is : run ≡ run_of (reverse (behind_zero (low_bits 8 octet)) ++ (false ∷ []))
+
+-- after `ones` 1s and an octet that ends nothing and brings six 1s at its end: what stays of it, and the 1s at its end
+pub record IsFlagBegun (ones octet content count run : ℕ) : Type 0 where
+  pub few : ones ≤ 5
+  pub quiet : ends_nothing ones (low_bits 8 octet) ≡ true
+  pub stays : unstuffed (replicate ones true ++ low_bits 8 octet) ≡ replicate ones true ++ low_bits count content
+  pub run_is : run ≡ run_of (with_bits 8 octet (replicate ones true ++ (false ∷ [])))

@@ -5,7 +5,7 @@ ghost use Rattle.lapd_bits.specs.Bits.{low_bits};
 ghost use Rattle.lapd_bits.specs.Ended.{FitsIn};
 ghost use Rattle.lapd_bits.specs.Stream.{heard_in, heard_until};
 
-use crate::flag_end::{FlagEnd, flag_end, six_ones_of};
+use crate::flag_end::{FlagEnd, flag_begun, flag_end, six_ones_of};
 use crate::gap::Gap;
 use crate::heard::{Cause, Ended, Heard};
 use crate::start_fault::StartFault;
@@ -185,11 +185,16 @@ impl Deframer {
             ≡ heard_until (length self.old.octets.items) past
             ++ option_to_list (event_in self.new.octets.items result) }
     {
-        // Mostly a flag ends. Taking its octet at once is there for speed alone: bit by bit it brings the same.
-        match flag_end(self.ones, octet) {
-            Some(flag) => self.take_flag_end(flag),
-            None => self.bit_by_bit(octet),
+        // Mostly a flag ends, or all of it but its last bit has come. Taking such an octet at once is there for speed
+        // alone: bit by bit it brings the same.
+        if let Some(flag) = flag_end(self.ones, octet) {
+            return self.take_flag_end(flag);
         }
+        if let Some(content) = flag_begun(self.ones, octet) {
+            self.take_content(content);
+            return Ended::Nothing;
+        }
+        self.bit_by_bit(octet)
     }
 
     /// Takes an octet in which a flag ends and nothing else does.

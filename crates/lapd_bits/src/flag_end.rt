@@ -1,10 +1,12 @@
-//! Takes an octet in which a flag ends at once (clause 2.2), by tables.
+//! Takes an octet in which a flag ends at once (clause 2.2), by tables; and one that brings all of a flag but its last bit.
 //!
 //! The six 1s of a flag are those that came right before the octet and those with which it begins. So the flag's last
 //! bit is the octet's first 0, and what stands behind it depends on the octet alone.
 ghost use Rattle.std.specs.Prelude.{◌≤◌, ◌<◌, ◌+◌, ◌^◌, ◌↔◌, true, replicate, ◌≡◌, IsNone, IsFalse, IfSome};
 ghost use Rattle.lapd_bits.specs.Bits.{low_bits};
-ghost use Rattle.lapd_bits.specs.FlagEnd.{only_flag_ends, IsFlagEnd};
+ghost use Rattle.lapd_bits.specs.FlagEnd.{only_flag_ends, IsFlagEnd, IsFlagBegun};
+
+use crate::unstuffer::Content;
 
 /// The 1s with which an octet begins; 7 too where the bits behind its first 0 end a flag or hold seven 1s.
 static ONES_BEFORE: [u8; 256] = [
@@ -98,6 +100,35 @@ pub(crate) fn flag_end(ones: u8, octet: u8) -> Option<FlagEnd>
         count: COUNTS_BEHIND[at],
         ones: RUNS_BEHIND[at],
     })
+}
+
+/// What an octet brings after so many contiguous 1s whose last seven bits are a flag's first; none where it is another
+/// octet, or something ends in it.
+pub(crate) fn flag_begun(ones: u8, octet: u8) -> Option<Content>
+    requires counted { ones ≤ 7 }
+    ensures some { IfSome result (λ content. IsFlagBegun ones octet content.bits content.count content.ones) }
+{
+    if octet < 0xFC || 0xFD < octet {
+        return None;
+    }
+    let first = octet - 0xFC;
+    // The 1s before the octet's first 0, which after five is a stuffed one.
+    let run = ones + first;
+    if run < 5 {
+        return Some(Content {
+            bits: octet,
+            count: 8,
+            ones: FLAG_ONES,
+        });
+    }
+    if run == 5 {
+        return Some(Content {
+            bits: 0x7E + first,
+            count: 7,
+            ones: FLAG_ONES,
+        });
+    }
+    None
 }
 
 /// So many 1s, of the six of a flag.

@@ -229,7 +229,7 @@ const RUNS: [u8; 256] = [
     3, 3, 3, 3, 3, 3, 3, 3, 3, 3, 3, 3, 3, 3, 3, 3, 4, 4, 4, 4, 4, 4, 4, 4, 5, 5, 5, 5, 0, 0, 0, 0,
 ];
 
-/// What an octet brings in which no six 1s in a row come.
+/// What an octet brings that ends nothing.
 #[derive(Clone, Copy, Debug)]
 pub(crate) struct Content {
     /// The bits that stay, the first to come lowest, and how many they are.
@@ -239,7 +239,7 @@ pub(crate) struct Content {
     pub(crate) ones: u8,
     ghost below: { bits < 2 ^ count },
     ghost at_most: { count ≤ 8 },
-    ghost few: { ones ≤ 5 },
+    ghost few: { ones ≤ 6 },
 }
 
 /// What an octet brings after so many contiguous 1s, or none where six 1s in a row come.

@@ -16,7 +16,7 @@ invariant_of-result c =
     record {
       below = below-at c.args.ones c.args.octet (omega arith) (omega arith) (sym mark ∙ ne_eqb (get_or TABLES.counts at 0) 0 c.if-count-eq0.false);
       at_most = counts-fit at (omega arith);
-      few = runs-fit c.args.octet (omega arith);
+      few = omega (arith, runs-fit c.args.octet (omega arith));
     }
 
 pub returns-clause-none : goal.returns-clause-none

@@ -101,7 +101,7 @@ Assembles-begun octets count beyond partial filled content n a =
 
 module _ (room before : ℕ) (past : List Bool) (six : run_of past + before ≡ 6) where
   -- the 1s end nothing
-  quiet_ones : IsQuiet room (replicate before true) past
+  pub quiet_ones : IsQuiet room (replicate before true) past
   quiet_ones =
       calm room (run_of past) (replicate before true) past refl (omega arith)
       (Calm-ones (run_of past) before (omega arith))
@@ -109,7 +109,7 @@ module _ (room before : ℕ) (past : List Bool) (six : run_of past + before ≡ 
   grown : open_gap (replicate before true ++ past) ≡ option_map (onto (replicate before true)) (open_gap past)
   grown = ap open_gap (sym (onto-ones before past)) ∙ quiet_ones.gap
 
-  run_is_six : run_of (replicate before true ++ past) ≡ 6
+  pub run_is_six : run_of (replicate before true ++ past) ≡ 6
   run_is_six = ap run_of (sym (onto-ones before past)) ∙ quiet_ones.run ∙ ones_after-ones (run_of past) before ∙ six
 
   -- with no open gap it closes none

@@ -15,6 +15,7 @@ pub mod AtOnce
 pub mod Idle
 pub mod UnstuffingTables
 pub mod FlagEndTables
+pub mod FlagOctet
 pub mod FlagEnd
 pub mod StuffingAtOnce
 pub mod StuffingTables

@@ -1,11 +1,11 @@
 //! What is heard on a line (clauses 2.2 to 2.10): octets go in one by one, and the frames in them come out.
-ghost use Rattle.std.specs.Prelude.{◌≡◌, ℕ, ◌≤◌, ◌+◌, Bool, true, false, List, [], ◌∷◌, ◌++◌, length, vec_len, IsTrue, IfOk, Option, Some, None, option_to_list, option_map, replicate};
+ghost use Rattle.std.specs.Prelude.{◌≡◌, ℕ, ◌≤◌, ◌+◌, Bool, true, false, List, [], ◌∷◌, ◌++◌, length, vec_len, IsTrue, IfOk, Option, Some, None, option_to_list, option_map};
 ghost use Rattle.std.specs.Option.{ForSome};
 ghost use Rattle.lapd_bits.specs.Bits.{low_bits};
 ghost use Rattle.lapd_bits.specs.Ended.{FitsIn};
 ghost use Rattle.lapd_bits.specs.Stream.{heard_in, heard_until};
 
-use crate::flag_end::{FlagEnd, flag_begun, flag_end, six_ones_of};
+use crate::flag_end::{FLAG, flag_begun, flag_end};
 use crate::gap::Gap;
 use crate::heard::{Cause, Ended, Heard};
 use crate::start_fault::StartFault;
@@ -21,10 +21,10 @@ static IDLE: [u8; 8] = [0x7E, 0x3F, 0x9F, 0xCF, 0xE7, 0xF3, 0xF9, 0xFC];
 /// All its memory is taken by [`Deframer::start`].
 #[derive(Drop, Debug)]
 pub struct Deframer {
-    octets: Vec<u8>,
+    pub(crate) octets: Vec<u8>,
     /// The contiguous 1s up to now; 7 stands for 7 and more, and for no bit at all.
-    ones: u8,
-    gap: Option<Gap>,
+    pub(crate) ones: u8,
+    pub(crate) gap: Option<Gap>,
     /// What the latest octet ended. It lies in `octets` until the next.
     ended: Ended,
     ghost room: { 6 ≤ vec_len octets },
@@ -39,7 +39,6 @@ impl Deframer {
     ghost use Rattle.std.specs.Io.BufRead.{Rests};
     ghost use Rattle.lapd_bits.specs.contracts.deframer.Deframer.{the_row};
     ghost use Rattle.lapd_bits.specs.Deframer.{Stands, HoldsPast, HoldsGap, run_of, open_gap, octets_held, latest_of};
-    ghost use Rattle.lapd_bits.specs.FlagEnd.{IsFlagEnd};
     ghost use Rattle.lapd_bits.specs.Heard.{heard_of, event_in, without_octets};
     ghost use Rattle.lapd_bits.specs.Steps.{Hears, Ages, one_more, IsKept, IsStuffed, IsYoung, given_up_event, closed_event, with_bits};
     ghost use Rattle.lapd_bits.specs.Unstuffer.{IsJoined, StaysIdle};
@@ -187,6 +186,9 @@ impl Deframer {
     {
         // Mostly a flag ends, or all of it but its last bit has come. Taking such an octet at once is there for speed
         // alone: bit by bit it brings the same.
+        if octet == FLAG && self.ones < 5 {
+            return self.take_flag();
+        }
         if let Some(flag) = flag_end(self.ones, octet) {
             return self.take_flag_end(flag);
         }
@@ -195,46 +197,6 @@ impl Deframer {
             return Ended::Nothing;
         }
         self.bit_by_bit(octet)
-    }
-
-    /// Takes an octet in which a flag ends and nothing else does.
-    fn take_flag_end(&mut self, flag: FlagEnd) -> Ended
-        ensures fits { FitsIn (vec_len self.new.octets) result }
-        ensures room { length self.new.octets.items ≡ length self.old.octets.items }
-        ensures stands { (octet : ℕ) → IsFlagEnd self.old.ones octet flag.before flag.bits flag.count flag.ones
-            → (past : List Bool) → HoldsPast self.old.octets.items self.old.ones self.old.gap past
-            → HoldsPast self.new.octets.items self.new.ones self.new.gap (with_bits 8 octet past) }
-        ensures told { (octet : ℕ) → IsFlagEnd self.old.ones octet flag.before flag.bits flag.count flag.ones
-            → (past : List Bool) → HoldsPast self.old.octets.items self.old.ones self.old.gap past
-            → heard_until (length self.old.octets.items) (with_bits 8 octet past)
-            ≡ heard_until (length self.old.octets.items) past
-            ++ option_to_list (event_in self.new.octets.items result) }
-    {
-        let ended = self.closed_after(flag.before);
-        self.gap = Some(Gap::begun(flag.bits, flag.count, 7 - flag.before));
-        self.ones = flag.ones;
-        ended
-    }
-
-    /// What a flag closes whose last bit comes after so many 1s more.
-    fn closed_after(&mut self, before: u8) -> Ended
-        requires few { before ≤ 6 }
-        ensures fits { FitsIn (vec_len self.new.octets) result }
-        ensures room { length self.new.octets.items ≡ length self.old.octets.items }
-        ensures told { (past : List Bool) → run_of past + before ≡ 6
-            → HoldsGap self.old.octets.items self.old.gap (open_gap past)
-            → event_in self.new.octets.items result
-            ≡ closed_event (length self.old.octets.items) (open_gap (replicate before true ++ past)) }
-    {
-        let Some(gap) = &mut self.gap else {
-            return Ended::Nothing;
-        };
-        // Nothing stands between two flags that follow one another or share their 0.
-        if gap.since() + before < 8 {
-            return Ended::Nothing;
-        }
-        gap.join(&mut self.octets, six_ones_of(before), before);
-        gap.closed(&self.octets)
     }
 
     /// Takes an octet bit by bit.
@@ -305,7 +267,7 @@ impl Deframer {
     }
 
     /// Takes a bit of the open gap's octets, if a gap is open.
-    fn take(&mut self, bit: bool)
+    pub(crate) fn take(&mut self, bit: bool)
         ensures room { vec_len self.new.octets ≡ vec_len self.old.octets }
         ensures ones { self.new.ones ≡ self.old.ones }
         ensures untouched { IsYoung 7 self.old.gap → self.new.octets.items ≡ self.old.octets.items }

@@ -12,7 +12,7 @@ use Rattle.lapd_bits.specs.Check.{is_good}
 use Rattle.lapd_bits.specs.Register.{HoldsDivision}
 use Rattle.lapd_bits.specs.Stream.{frame, overlong, dropped, is_short, judged}
 use Rattle.lapd_bits.specs.Heard.{flag_front, closing_event}
-use Rattle.lapd_bits.specs.Deframer.{Keeps, Assembles, kept_count}
+use Rattle.lapd_bits.specs.Deframer.{Keeps, Assembles}
 use Rattle.lapd_bits.specs.declared.heard.Cause.TheVariants.{Ragged, Short, Fcs}
 use Rattle.lapd_bits.proofs.BitLemmas.{low_bits-add, low_bits-mod, length-low_bits, bits-push, same_from_low_bits}
 use Rattle.lapd_bits.proofs.BitLemmas.{same_from_test}
@@ -120,14 +120,6 @@ Keeps-full octets whole count beyond some k =
     let min_is = k.counted in
     let many : length octets < length whole = ltb-true (length octets) (length whole) (sym k.too_many ∙ some) in
     (omega arith, omega arith)
-
--- how many are held
-pub held-all : (octets whole : List ℕ) (count : ℕ) (beyond : Option ℕ) → is_some beyond ≡ false → Keeps octets count beyond whole → count ≡ kept_count (length octets) (length whole)
-held-all octets whole count beyond none k =
-    (Keeps-all octets whole count beyond none k).1 ∙ sym (rw (sym k.too_many ∙ none) refl)
-
-pub held-four : (octets whole : List ℕ) (count : ℕ) (beyond : Option ℕ) → is_some beyond ≡ true → Keeps octets count beyond whole → 4 ≡ kept_count (length octets) (length whole)
-held-four octets whole count beyond some k = sym (rw (sym k.too_many ∙ some) refl)
 
 -- room by the length of a `Vec` is room by its elements
 pub room_of : (octets : List ℕ) (len : ℕ) → len ≡ length octets → 6 ≤ len → 6 ≤ length octets

@@ -19,6 +19,8 @@ pub mod FlagOctet
 pub mod FlagEnd
 pub mod StuffingAtOnce
 pub mod StuffingTables
+pub mod Calm
+pub mod StuffedText
 pub mod FramerGiven
 pub mod FramerStands
 pub mod FramerLoad

@@ -1,19 +1,18 @@
 -- A framer's fields as what it holds, and what is true of them. No clause of its surface names these.
-use Rattle.std.specs.Prelude.{◌+◌, ◌<◌, ◌≤◌, vec_len, vec_capacity}
+use Rattle.std.specs.Prelude.{◌+◌, ◌*◌, ◌<◌, ◌≤◌, vec_len}
 use Rattle.lapd_bits.specs.Framer.{Framing, still_held}
 use Rattle.lapd_bits.specs.FramerText.{to_give}
 use Rattle.lapd_bits.specs.declared.framer.Framer.TheInside.{Inside}
 
 abbrev pub framing_of : Inside → Framing
 framing_of a =
-    let left = to_give a.waiting a.frame.items a.text in
+    let left = to_give a.octets.items a.next a.end a.after in
     record { left = left; held = still_held left a.latest; room = a.n201 }
 
 pub record IsSound (a : Inside) : Type 0 where
   pub room : a.n201 ≤ 1024
-  pub fits : vec_len a.frame ≤ a.n201 + 6
-  pub space : a.n201 + 6 ≤ vec_capacity a.frame
+  pub space : 48 * a.n201 + 324 ≤ 40 * vec_len a.octets
+  pub end : a.end ≤ vec_len a.octets
+  pub next : a.next ≤ a.end
   pub latest : a.latest ≤ a.n201 + 4
-  pub waiting : a.waiting.count < 56
-  pub ones : a.text.ones ≤ 4
-  pub more : 0 < vec_len a.frame → a.text.next < vec_len a.frame
+  pub after : a.after.count < 8

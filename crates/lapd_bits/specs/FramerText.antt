@@ -1,23 +1,30 @@
--- What a framer's fields say is left to give. No clause of its surface names these.
-use Rattle.std.specs.Prelude.{ℕ, Bool, true, List, [], ◌∷◌, ◌++◌, drop, replicate}
-use Rattle.lapd_bits.specs.Bits.{low_bits, bits, flag}
+-- What a framer's fields say is left to give, and a stuffed text as it is made. No clause of its surface names these.
+use Rattle.std.specs.Prelude.{◌≡◌, ℕ, ◌+◌, ◌*◌, Bool, true, List, ◌++◌, take, drop, replicate}
+use Rattle.lapd_bits.specs.Bits.{low_bits, bits}
 use Rattle.lapd_bits.specs.Stuffing.{stuffed}
-use Rattle.lapd_bits.specs.declared.stuffer.Stuffer.{Stuffer}
+use Rattle.lapd_bits.specs.declared.stuffed_text.StuffedText.{StuffedText}
 use Rattle.lapd_bits.specs.declared.waiting.Waiting.{Waiting}
 
 -- The bits that wait.
 abbrev pub waits : Waiting → List Bool
 waits waiting = low_bits waiting.count waiting.bits
 
+-- What is left of octets in a buffer, from one place up to another, and of the bits after them.
+abbrev pub to_give : List ℕ → ℕ → ℕ → Waiting → List Bool
+to_give octets next end waiting = bits (drop next (take end octets)) ++ waits waiting
+
+-- The text in a buffer up to now, and the bits after it.
+abbrev pub made : StuffedText → List ℕ → List Bool
+made text octets = bits (take text.end octets) ++ waits text.waiting
+
+-- Five times the bits of it, and its last 1s. An octet adds at most 48: its eight bits, and a 0 for each five 1s.
+abbrev pub fifths : StuffedText → ℕ
+fifths text = 5 * (8 * text.end + text.waiting.count) + text.ones
+
 -- The stuffed text of octets, where the latest `ones` bits given are 1s.
 abbrev pub text_from : List ℕ → ℕ → List Bool
 text_from octets ones = drop ones (stuffed (replicate ones true ++ bits octets))
 
--- The same and the closing flag, where a frame is in hand.
-abbrev pub frame_from : List ℕ → ℕ → List Bool
-frame_from [] ones = []
-frame_from (octet ∷ octets) ones = text_from (octet ∷ octets) ones ++ flag
-
--- What waits, and what is to come of the octets in hand.
-abbrev pub to_give : Waiting → List ℕ → Stuffer → List Bool
-to_give waiting octets text = waits waiting ++ frame_from (drop text.next octets) text.ones
+-- A text with so many 1s at its end goes on with the stuffed bits of octets, whatever comes after them.
+abbrev pub Goes : List Bool → ℕ → List ℕ → List Bool → ℕ → Type 0
+Goes before ones octets after run = (rest : List ℕ) → after ++ text_from rest run ≡ before ++ text_from (octets ++ rest) ones

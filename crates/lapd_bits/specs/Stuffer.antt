@@ -1,9 +1,15 @@
--- What an octet makes of itself on a line, all at once. No public call names this.
-use Rattle.std.specs.Prelude.{◌≡◌, ℕ, true, false, [], ◌∷◌, ◌++◌, replicate}
+-- What octets make of themselves on a line, all at once. No public call names this.
+use Rattle.std.specs.Prelude.{◌≡◌, ℕ, Bool, true, false, List, [], ◌∷◌, ◌++◌, replicate}
 use Rattle.lapd_bits.specs.Bits.{low_bits}
 use Rattle.lapd_bits.specs.Stuffing.{stuffed}
 use Rattle.lapd_bits.specs.Deframer.{run_of}
 use Rattle.lapd_bits.specs.Steps.{with_bits}
+
+-- five contiguous 1s stand somewhere in a text
+abbrev pub has_five : List Bool → Bool
+has_five (true ∷ true ∷ true ∷ true ∷ true ∷ text) = true
+has_five (b ∷ text) = has_five text
+has_five [] = false
 
 -- after `ones` 1s: the stuffed bits of the octet, and the 1s at their end
 pub record IsStuffedOctet (ones octet bits count run : ℕ) : Type 0 where

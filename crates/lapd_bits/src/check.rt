@@ -200,6 +200,13 @@ pub fn fcs(octets: &[u8]) -> u16
     !divided_all(octets)
 }
 
+/// The frame check sequence of a frame's octets where they lie in two places.
+pub(crate) fn fcs_of_both(head: &[u8], info: &[u8]) -> u16
+    ensures is_check { low_bits 16 result ≡ check (bits (head.now ++ info.now)) }
+{
+    !divided_more(divided_all(head), info)
+}
+
 /// The law that a frame has one check: no other 16 bits after the frame's bits are taken for good.
 pub fn only_check()
     ensures only { OnlyCheck }
@@ -224,22 +231,30 @@ pub(crate) fn shows_no_error(register: u16) -> bool
 pub(crate) fn divided_all(octets: &[u8]) -> u16
     ensures { HoldsDivision result (bits octets.now) }
 {
-    let register = divided_twos(octets);
-    if octets.len() % 2 == 0 {
-        return register;
-    }
-    divided(register, octets[octets.len() - 1])
+    divided_more(PRESET, octets)
 }
 
-// The register after all octets but the last of an odd number. What is left of eights is most of a short frame.
-fn divided_twos(octets: &[u8]) -> u16
-    ensures { HoldsDivision result (bits (take (2 * (length octets.now / 2)) octets.now)) }
+// The register after octets more.
+fn divided_more(register: u16, octets: &[u8]) -> u16
+    ensures { (d : List Bool) → HoldsDivision register d → HoldsDivision result (d ++ bits octets.now) }
 {
-    let mut register = divided_eights(octets);
-    for two in octets.len() / 8 * 4..octets.len() / 2 {
-        register = divided_two(register, octets, 2 * two);
+    let after = divided_twos(register, octets);
+    if octets.len() % 2 == 0 {
+        return after;
     }
-    register
+    divided(after, octets[octets.len() - 1])
+}
+
+// The register after octets more, but for the last of an odd number. What is left of eights is most of a short frame.
+fn divided_twos(register: u16, octets: &[u8]) -> u16
+    ensures { (d : List Bool) → HoldsDivision register d
+        → HoldsDivision result (d ++ bits (take (2 * (length octets.now / 2)) octets.now)) }
+{
+    let mut after = divided_eights(register, octets);
+    for two in octets.len() / 8 * 4..octets.len() / 2 {
+        after = divided_two(after, octets, 2 * two);
+    }
+    after
 }
 
 // The register after two octets more.
@@ -253,16 +268,17 @@ fn divided_two(register: u16, octets: &[u8], at: usize) -> u16
     first ^ second
 }
 
-// The register after all octets but those at the end that are fewer than eight. Eight at a time, since a step waits for
-// the one before it.
-fn divided_eights(octets: &[u8]) -> u16
-    ensures { HoldsDivision result (bits (take (8 * (length octets.now / 8)) octets.now)) }
+// The register after octets more, but for those at the end that are fewer than eight. Eight at a time, since a step waits
+// for the one before it.
+fn divided_eights(register: u16, octets: &[u8]) -> u16
+    ensures { (d : List Bool) → HoldsDivision register d
+        → HoldsDivision result (d ++ bits (take (8 * (length octets.now / 8)) octets.now)) }
 {
-    let mut register = PRESET;
+    let mut after = register;
     for eight in 0..octets.len() / 8 {
-        register = divided_eight(register, octets, 8 * eight);
+        after = divided_eight(after, octets, 8 * eight);
     }
-    register
+    after
 }
 
 // The register after eight octets more: no part of it stays, since it has as many bits as the first two.

@@ -1,22 +1,18 @@
 //! What goes out on a line (clauses 2.2, 2.6 and 2.7): frames, and idle flags between them.
-ghost use Rattle.std.specs.Prelude.{◌≡◌, ℕ, ◌+◌, ◌<◌, ◌≤◌, ◌↔◌, List, [], ◌∷◌, ◌++◌, length, take, drop, min, vec_len, vec_capacity, IsTrue, IfOk};
+ghost use Rattle.std.specs.Prelude.{◌≡◌, ℕ, ◌+◌, ◌<◌, ◌≤◌, ◌↔◌, List, [], ◌∷◌, ◌++◌, length, take, min, IsTrue, IfOk};
 ghost use Rattle.lapd_bits.specs.Bits.{low_bits, flag, number_of};
 ghost use Rattle.lapd_bits.specs.Sent.{Item, frame, item_text};
 ghost use Rattle.lapd_bits.specs.Framer.{Framing, Stands, refilled, with_idle, still_held};
-ghost use Rattle.lapd_bits.specs.FramerText.{text_from, to_give, waits};
 
-use crate::check::fcs;
+use crate::check::fcs_of_both;
 use crate::start_fault::StartFault;
-use crate::stuffer::Stuffer;
-use crate::waiting::Waiting;
+use crate::stuffed_text::StuffedText;
+use crate::waiting::{FLAG, Waiting};
 use std::alloc::Global;
 use std::marker::Model;
 
 /// The bits of an octet.
-const OCTET_BITS: u64 = 8;
-
-/// How many octets are stuffed at once.
-const AT_ONCE: u8 = 4;
+const OCTET_BITS: u8 = 8;
 
 /// Gives the octets of a line: one opening flag, then each frame that is loaded, stuffed, with its check and a
 /// closing flag, and idle flags where no frame waits (Q.921 clauses 2.2, 2.6 and 2.7).
@@ -24,11 +20,14 @@ const AT_ONCE: u8 = 4;
 /// All its memory is taken by [`Framer::start`].
 #[derive(Drop, Debug)]
 pub struct Framer {
-    /// The bits that go next: the end of a flag or a frame, or what has been stuffed of the frame in hand.
-    waiting: Waiting,
-    /// The frame in hand with its check; empty where none is, or all of it waits.
-    frame: Vec<u8>,
-    text: Stuffer,
+    /// Room for the longest frame, stuffed and with its check and flag.
+    octets: Vec<u8>,
+    /// Which of the octets goes next.
+    next: usize,
+    /// Before which they end.
+    end: usize,
+    /// The bits after them, fewer than eight.
+    after: Waiting,
     /// The octets, without check, of the latest frame.
     latest: u16,
     n201: u16,
@@ -56,12 +55,15 @@ impl Framer {
         ensures begins { IfOk result (λ framer. framer ≡ record { left = flag; held = 0; room = n201 }) }
         ensures stands { IfOk result (λ framer. Stands framer [] []) }
     {
-        let room = usize::from(n201) + 6;
-        let frame = Vec::with_capacity(alloc, room).map_err(|_| StartFault::OutOfMemory)?;
+        // A 0 more for five 1s at most, the bits that were left, and a flag.
+        let room = (usize::from(n201) + 6) * 6 / 5 + 2;
+        let mut octets = vec![in alloc; 0u8; room].map_err(|_| StartFault::OutOfMemory)?;
+        octets[0] = FLAG;
         Ok(Framer {
-            waiting: Waiting::flag(),
-            frame,
-            text: Stuffer::new(),
+            octets,
+            next: 0,
+            end: 1,
+            after: Waiting::none(),
             latest: 0,
             n201,
         })
@@ -71,8 +73,7 @@ impl Framer {
     pub fn busy(&self) -> bool
         ensures { IsTrue result ↔ (8 ≤ length self.now.left) }
     {
-        // A frame in hand has its closing flag after it, so eight bits are left at least.
-        OCTET_BITS <= self.waiting.count() || !self.frame.is_empty()
+        self.next < self.end
     }
 
     /// The number of bits that are left, where it is below 8; else 8.
@@ -80,9 +81,9 @@ impl Framer {
         ensures { result ≡ min 8 (length self.now.left) }
     {
         if self.busy() {
-            OCTET_BITS as u8
+            OCTET_BITS
         } else {
-            self.waiting.count() as u8
+            self.after.count() as u8
         }
     }
 
@@ -114,13 +115,16 @@ impl Framer {
         ensures stands { (items : List Item) (given : List ℕ) → Stands self.old items given
             → Stands self.new (items ++ frame (head.now ++ info.now) ∷ []) given }
     {
-        self.frame.clear();
-        self.frame.extend_from_slice(head).unwrap();
-        self.frame.extend_from_slice(info).unwrap();
-        self.latest = self.frame.len() as u16;
-        let check = fcs(&self.frame);
-        self.frame.extend_from_slice(&check.to_le_bytes()).unwrap();
-        self.text = Stuffer::new();
+        let check = fcs_of_both(head, info);
+        let mut text = StuffedText::after(self.after);
+        text.stuff(&mut self.octets, head);
+        text.stuff(&mut self.octets, info);
+        text.stuff(&mut self.octets, &check.to_le_bytes());
+        text.close(&mut self.octets);
+        self.next = 0;
+        self.end = text.end();
+        self.after = text.waiting();
+        self.latest = (head.len() + info.len()) as u16;
     }
 
     /// The next octet of the line, low bit first. Where fewer than eight bits are left, an idle flag goes on
@@ -134,79 +138,13 @@ impl Framer {
         ensures stands { (items : List Item) (given : List ℕ) → Stands self.old items given
             → Stands self.new (with_idle self.old.left items) (given ++ result ∷ []) }
     {
-        refill(&mut self.waiting, &mut self.frame, &mut self.text);
-        self.waiting.octet()
-    }
-}
-
-// Has eight bits wait at least: of the frame in hand, or of an idle flag.
-#[inline(always)]
-fn refill(waiting: &mut Waiting, frame: &mut Vec<u8>, text: &mut Stuffer)
-    requires room { waiting.old.count < 56 }
-    requires few { text.old.ones ≤ 4 }
-    requires more { 0 < vec_len frame.old → text.old.next < vec_len frame.old }
-    ensures left { to_give waiting.new frame.new.items text.new ≡ refilled (to_give waiting.old frame.old.items text.old) }
-    ensures eight { 8 ≤ waiting.new.count }
-    ensures room { waiting.new.count < 64 }
-    ensures few { text.new.ones ≤ 4 }
-    ensures more { 0 < vec_len frame.new → text.new.next < vec_len frame.new }
-    ensures fits { vec_len frame.new ≤ vec_len frame.old }
-    ensures space { vec_capacity frame.new ≡ vec_capacity frame.old }
-{
-    if OCTET_BITS <= waiting.count() {
-        return;
-    }
-    refill_low(waiting, frame, text);
-}
-
-// The same where fewer than eight bits wait: four octets of the frame in hand at once, with the closing flag after the
-// last, or an idle flag.
-#[inline(always)]
-fn refill_low(waiting: &mut Waiting, frame: &mut Vec<u8>, text: &mut Stuffer)
-    requires low { waiting.old.count < 8 }
-    requires few { text.old.ones ≤ 4 }
-    requires more { 0 < vec_len frame.old → text.old.next < vec_len frame.old }
-    ensures left { to_give waiting.new frame.new.items text.new ≡ refilled (to_give waiting.old frame.old.items text.old) }
-    ensures eight { 8 ≤ waiting.new.count }
-    ensures room { waiting.new.count < 64 }
-    ensures few { text.new.ones ≤ 4 }
-    ensures more { 0 < vec_len frame.new → text.new.next < vec_len frame.new }
-    ensures fits { vec_len frame.new ≤ vec_len frame.old }
-    ensures space { vec_capacity frame.new ≡ vec_capacity frame.old }
-{
-    if frame.is_empty() {
-        waiting.push_flag();
-        return;
-    }
-    stuff(waiting, frame, text);
-    if text.is_done(frame) {
-        frame.clear();
-        waiting.push_flag();
-    }
-}
-
-// Has the stuffed bits of the next four octets wait, or of those that there are.
-fn stuff(waiting: &mut Waiting, frame: &[u8], text: &mut Stuffer)
-    requires low { waiting.old.count < 8 }
-    requires few { text.old.ones ≤ 4 }
-    requires more { text.old.next < length frame.now }
-    ensures given { waits waiting.new ++ text_from (drop text.new.next frame.now) text.new.ones
-        ≡ waits waiting.old ++ text_from (drop text.old.next frame.now) text.old.ones }
-    ensures some { 8 ≤ waiting.new.count }
-    ensures room { waiting.new.count < 48 }
-    ensures few { text.new.ones ≤ 4 }
-    ensures within { text.new.next ≤ length frame.now }
-{
-    // in locals, so that they stay in registers
-    let mut bits = *waiting;
-    let mut place = *text;
-    for _ in 0..AT_ONCE {
-        if place.is_done(frame) {
-            break;
+        if self.busy() {
+            let octet = self.octets[self.next];
+            self.next += 1;
+            octet
+        } else {
+            self.after.push_flag();
+            self.after.octet()
         }
-        let octet = place.octet(frame);
-        bits.push(octet.bits as u64, octet.count as u64);
     }
-    *waiting = bits;
-    *text = place;
 }

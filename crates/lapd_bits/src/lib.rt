@@ -8,7 +8,7 @@
 //! or a stuffed frame with its check and its closing flag.
 //!
 //! - `deframer`, over `gap`, `unstuffer` and `flag_end`: from octets to frames; `heard`: what it answers.
-//! - `framer`, over `stuffer` and `waiting`: from frames to octets.
+//! - `framer`, over `stuffed_text`, `stuffer` and `waiting`: from frames to octets.
 //! - `start_fault`: why neither could be started.
 //! - `check`: the frame check sequence.
 //! - `stuffing`, `one_event`, `heard_within`, `flag_places`, `round_trip`: laws, as functions with no effect.
@@ -25,6 +25,7 @@ mod heard_within;
 mod one_event;
 mod round_trip;
 mod start_fault;
+mod stuffed_text;
 mod stuffer;
 mod stuffing;
 mod unstuffer;

@@ -2,8 +2,9 @@
 //!
 //! The tables have 256 entries for each number of 1s that went right before an octet, 0 to 4, in this order. The 0
 //! after a fifth 1 goes with it, so no fifth 1 is ever the last bit.
-ghost use Rattle.std.specs.Prelude.{◌≡◌, ◌<◌, ◌≤◌, ◌+◌, ◌^◌, length, slice_index, nat_le};
-ghost use Rattle.lapd_bits.specs.Stuffer.{IsStuffedOctet};
+ghost use Rattle.std.specs.Prelude.{◌≡◌, ◌<◌, ◌≤◌, ◌+◌, ◌*◌, ◌^◌, ◌++◌, true, false, IsTrue, replicate};
+ghost use Rattle.lapd_bits.specs.Bits.{low_bits};
+ghost use Rattle.lapd_bits.specs.Stuffer.{IsStuffedOctet, has_five};
 
 /// The bits that an octet makes, the first to go lowest.
 static BITS: [u16; 1280] = [
@@ -197,56 +198,44 @@ static RUNS: [u8; 1280] = [
     3, 3, 3, 3, 3, 3, 3, 3, 3, 3, 3, 3, 3, 3, 3, 3, 4, 4, 4, 4, 4, 4, 4, 4, 0, 0, 0, 0, 1, 1, 2, 2,
 ];
 
+/// The 1s that went right before, as the high ones of four bits.
+static BEFORE: [u8; 5] = [0b0000, 0b1000, 0b1100, 0b1110, 0b1111];
+
 /// What an octet makes of itself on a line.
 #[derive(Clone, Copy, Debug)]
 pub(crate) struct StuffedOctet {
     /// The bits, the first to go lowest, and how many they are.
     pub(crate) bits: u16,
     pub(crate) count: u8,
+    /// The 1s at their end.
+    pub(crate) ones: u8,
     ghost below: { bits < 2 ^ count },
     ghost at_least: { 8 ≤ count },
     ghost at_most: { count ≤ 10 },
+    ghost few: { ones ≤ 4 },
 }
 
-/// A place in the stuffed text of octets.
-#[derive(Clone, Copy, Debug)]
-pub(crate) struct Stuffer {
-    /// The next of the octets.
-    next: usize,
-    /// The contiguous 1s given up to now.
-    ones: usize,
+/// What an octet makes of itself after so many 1s. A 0 more takes five 1s, so fewer are left for the next.
+pub(crate) fn stuffed_octet(ones: usize, octet: u8) -> StuffedOctet
+    requires few { ones ≤ 4 }
+    ensures stuffed { IsStuffedOctet ones octet result.bits result.count result.ones }
+    ensures pays { 5 * result.count + result.ones ≤ ones + 48 }
+{
+    let at = ones * 256 + octet as usize;
+    StuffedOctet {
+        bits: BITS[at],
+        count: COUNTS[at],
+        ones: RUNS[at],
+    }
 }
 
-impl Stuffer {
-    /// Before the first octet.
-    pub(crate) fn new() -> Stuffer
-        ensures next { result.next ≡ 0 }
-        ensures ones { result.ones ≡ 0 }
-    {
-        Stuffer { next: 0, ones: 0 }
-    }
-
-    /// Whether the whole text is given.
-    pub(crate) fn is_done(&self, octets: &[u8]) -> bool
-        ensures { result ≡ nat_le (length octets.now) self.now.next }
-    {
-        octets.len() <= self.next
-    }
-
-    /// What the next octet makes of itself.
-    pub(crate) fn octet(&mut self, octets: &[u8]) -> StuffedOctet
-        requires more { self.old.next < length octets.now }
-        requires few { self.old.ones ≤ 4 }
-        ensures next { self.new.next ≡ self.old.next + 1 }
-        ensures few { self.new.ones ≤ 4 }
-        ensures stuffed { IsStuffedOctet self.old.ones (slice_index octets.now self.old.next) result.bits result.count self.new.ones }
-    {
-        let at = self.ones * 256 + octets[self.next] as usize;
-        self.next += 1;
-        self.ones = RUNS[at] as usize;
-        StuffedOctet {
-            bits: BITS[at],
-            count: COUNTS[at],
-        }
-    }
+/// Whether four octets, the first lowest, go as they are after so many 1s: nowhere do five 1s come together.
+pub(crate) fn go_as_they_are(ones: usize, four: u32) -> bool
+    requires few { ones ≤ 4 }
+    ensures { IsTrue result → has_five (replicate ones true ++ low_bits 32 four) ≡ false }
+{
+    let bits = u64::from(BEFORE[ones]) + (u64::from(four) << 4);
+    let twos = bits & (bits >> 1);
+    let fours = twos & (twos >> 2);
+    fours & (bits >> 4) == 0
 }

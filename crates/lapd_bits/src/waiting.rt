@@ -1,9 +1,9 @@
 //! The bits that wait to go out on a line.
-ghost use Rattle.std.specs.Prelude.{◌≡◌, ◌≤◌, ◌<◌, ◌+◌, ◌^◌, ◌++◌};
+ghost use Rattle.std.specs.Prelude.{◌≡◌, ◌≤◌, ◌<◌, ◌+◌, ◌^◌, [], ◌++◌};
 ghost use Rattle.lapd_bits.specs.Bits.{low_bits, flag};
 
 /// A flag, its first bit lowest.
-const FLAG: u64 = 0b0111_1110;
+pub(crate) const FLAG: u8 = 0b0111_1110;
 
 /// How many bits a flag has.
 const FLAG_BITS: u64 = 8;
@@ -21,15 +21,12 @@ pub(crate) struct Waiting {
 impl Waiting {
     ghost use Rattle.lapd_bits.specs.FramerText.{waits};
 
-    /// The bits of a flag.
-    pub(crate) fn flag() -> Waiting
-        ensures bits { waits result ≡ flag }
-        ensures count { result.count ≡ 8 }
+    /// No bits.
+    pub(crate) fn none() -> Waiting
+        ensures bits { waits result ≡ [] }
+        ensures count { result.count ≡ 0 }
     {
-        Waiting {
-            bits: FLAG,
-            count: FLAG_BITS,
-        }
+        Waiting { bits: 0, count: 0 }
     }
 
     /// How many bits wait.
@@ -59,7 +56,7 @@ impl Waiting {
         ensures bits { waits self.new ≡ waits self.old ++ flag }
         ensures count { self.new.count ≡ self.old.count + 8 }
     {
-        self.push(FLAG, FLAG_BITS);
+        self.push(u64::from(FLAG), FLAG_BITS);
     }
 
     /// The first eight of them as an octet.

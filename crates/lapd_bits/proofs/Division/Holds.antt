@@ -1,5 +1,5 @@
 -- What a register holds, as bits are fed to it.
-use Rattle.std.proofs.Common.{◌≡◌, ℕ, ◌+◌, ◌-◌, ◌/◌, ◌^◌, ◌<◌, Bool, not, nat_eq, List, [], ◌∷◌, ◌++◌, length, take, get_or, map, refl, sym, ap, subst, ◌∙◌, arith}
+use Rattle.std.proofs.Common.{◌≡◌, ℕ, ◌+◌, ◌-◌, ◌/◌, ◌^◌, ◌<◌, Bool, not, nat_eq, List, [], ◌∷◌, ◌++◌, length, take, get_or, map, refl, sym, ap, subst, ◌∙◌, append_assoc, arith}
 use Rattle.std.specs.Prelude.{bit_and}
 use Rattle.std.proofs.lemmas.List.{take_more}
 use Rattle.std.proofs.lemmas.Nat.{and_mask}
@@ -25,15 +25,14 @@ low_bits-next place x =
     (low_bits-one (x / 2 ^ place)
     ∙ ap (λ y. nat_eq y 1 ∷ []) (sym (and_mask (x / 2 ^ place) 1)))
 
--- one octet more of a text
-pub HoldsDivision-octet :
-    (register i : ℕ) (octets : List ℕ) → i < length octets
-    → HoldsDivision register (bits (take i octets) ++ low_bits 8 (get_or octets i 0))
-    → HoldsDivision register (bits (take (i + 1) octets))
-HoldsDivision-octet register i octets within holds =
-    subst (λ l. HoldsDivision register l)
-    (sym (bits-push (take i octets) (get_or octets i 0)) ∙ ap bits (sym (take_more octets i 0 within)))
-    holds
+-- more bits of a text that stands behind others
+pub HoldsDivision-behind : (register : ℕ) (d a b c : List Bool) → a ++ b ≡ c → HoldsDivision register ((d ++ a) ++ b) → HoldsDivision register (d ++ c)
+HoldsDivision-behind register d a b c is holds = subst (HoldsDivision register) (append_assoc d a b ∙ ap (λ l. d ++ l) is) holds
+
+-- one octet more
+pub bits-take_more : (i : ℕ) (octets : List ℕ) → i < length octets → bits (take i octets) ++ low_bits 8 (get_or octets i 0) ≡ bits (take (i + 1) octets)
+bits-take_more i octets within =
+    sym (bits-push (take i octets) (get_or octets i 0)) ∙ ap bits (sym (take_more octets i 0 within))
 
 -- ---- the answers
 

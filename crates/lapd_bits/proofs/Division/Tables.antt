@@ -202,14 +202,11 @@ HoldsDivision-two register first second at octets d within first_is second_is ho
     (sym (take-drop-next 1 at octets (omega arith) ∙ ap (λ os. a ∷ os) (take-drop-next 0 (at + 1) octets (omega arith))))
     (HoldsDivision-octets register a b (bit_xor first second) [] d both holds)
 
--- and the first so many steps and one more of a text
-pub HoldsDivision-more :
-    (size register steps : ℕ) (octets : List ℕ)
-    → HoldsDivision register (bits (take (size * steps) octets) ++ bits (take size (drop (size * steps) octets)))
-    → HoldsDivision register (bits (take (size * (steps + 1)) octets))
-HoldsDivision-more size register steps octets holds =
-    subst (HoldsDivision register)
-    (sym (bits-append (take (size * steps) octets) (take size (drop (size * steps) octets)))
+-- one step of a text more
+pub bits-take_step :
+    (size steps : ℕ) (octets : List ℕ)
+    → bits (take (size * steps) octets) ++ bits (take size (drop (size * steps) octets)) ≡ bits (take (size * (steps + 1)) octets)
+bits-take_step size steps octets =
+    sym (bits-append (take (size * steps) octets) (take size (drop (size * steps) octets)))
     ∙ ap bits (sym (take-add (size * steps) size octets))
-    ∙ ap (λ n. bits (take n octets)) (sym (mul-add size steps 1 ∙ ap (λ n. size * steps + n) (mul-one size))))
-    holds
+    ∙ ap (λ n. bits (take n octets)) (sym (mul-add size steps 1 ∙ ap (λ n. size * steps + n) (mul-one size)))

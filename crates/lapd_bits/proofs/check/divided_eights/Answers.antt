@@ -1,22 +1,23 @@
 -- No octets, and eight more.
-use Rattle.std.proofs.Common.{◌*◌, take, subst, arith}
+use Rattle.std.proofs.Common.{◌*◌, ◌+◌, ◌++◌, take, drop, subst, sym, append-nil, arith}
 use Rattle.lapd_bits.specs.Bits.{bits}
 use Rattle.lapd_bits.specs.Register.{HoldsDivision}
-use Rattle.lapd_bits.proofs.Division.Holds.{HoldsDivision-preset}
-use Rattle.lapd_bits.proofs.Division.Tables.{HoldsDivision-more}
+use Rattle.lapd_bits.proofs.Division.Holds.{HoldsDivision-behind}
+use Rattle.lapd_bits.proofs.Division.Tables.{bits-take_step}
 use Rattle.lapd_bits.proofs.check.divided_eights.Goals as goal
 
 pub loop-eight-init : goal.loop-eight-init
-loop-eight-init c = HoldsDivision-preset
+loop-eight-init c d holds = subst (HoldsDivision c.args.register) (sym (append-nil d)) holds
 
 pub loop-eight-preserved : goal.loop-eight-preserved
-loop-eight-preserved c =
+loop-eight-preserved c d holds =
     let octets = c.args.octets.now in
     let eight = c.loop-eight.eight in
-    HoldsDivision-more 8 c.divided_eight-register.result eight octets
-    (c.divided_eight-register.ensures (bits (take (8 * eight) octets)) c.loop-eight.invariant)
+    let before = bits (take (8 * eight) octets) in
+    HoldsDivision-behind c.divided_eight-after.result d before (bits (take 8 (drop (8 * eight) octets))) (bits (take (8 * (eight + 1)) octets)) (bits-take_step 8 eight octets)
+    (c.divided_eight-after.ensures (d ++ before) (c.loop-eight.invariant d holds))
 
 pub returns : goal.returns
-returns c =
-    subst (λ n. HoldsDivision c.loop-eight.register (bits (take (8 * n) c.args.octets.now))) (omega arith)
-    c.loop-eight.invariant
+returns c d holds =
+    subst (λ n. HoldsDivision c.loop-eight.after (d ++ bits (take (8 * n) c.args.octets.now))) (omega arith)
+    (c.loop-eight.invariant d holds)

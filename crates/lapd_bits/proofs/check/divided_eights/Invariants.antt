@@ -1,8 +1,9 @@
--- The register stands for the octets so far.
-use Rattle.std.proofs.Common.{◌*◌, take}
+-- The register stands for the octets so far, behind what it stood for.
+use Rattle.std.proofs.Common.{◌*◌, ◌++◌, List, Bool, take}
 use Rattle.lapd_bits.specs.Bits.{bits}
 use Rattle.lapd_bits.specs.Register.{HoldsDivision}
 use Rattle.lapd_bits.proofs.check.divided_eights.Given as goal
 
 abbrev pub invariant-loop-eight : goal.invariant-loop-eight
-invariant-loop-eight l = HoldsDivision l.register (bits (take (8 * l.eight) l.octets))
+invariant-loop-eight l =
+    (d : List Bool) → HoldsDivision l.register d → HoldsDivision l.after (d ++ bits (take (8 * l.eight) l.octets))

@@ -1,7 +1,7 @@
--- Where fewer than eight bits are left, they all wait.
+-- Where fewer than eight bits are left, they are those after the octets.
 use Rattle.std.proofs.Common.{◌<◌, length, ap, arith, ⊎_elim}
 use Rattle.std.proofs.lemmas.Bool.{cases_lt, false≢true}
-use Rattle.lapd_bits.proofs.FramerGiven.{left_is}
+use Rattle.lapd_bits.proofs.FramerGiven.{length-to_give}
 use Rattle.lapd_bits.proofs.framer.Framer.left.Goals as goal
 
 pub returns-else-busy : goal.returns-else-busy
@@ -10,5 +10,4 @@ returns-else-busy c =
     let size = ap (λ f. length f.left) c.self.view_is in
     let few : length c.args.self.now.left < 8 =
     ⊎_elim (λ low. low) (λ many. absurd (false≢true (c.if-busy.ensures.1 many))) (cases_lt (length c.args.self.now.left) 8) in
-    let all = left_is a.waiting _ a.frame.items a.text a.frame.ok.0 c.self.invariant.more (omega (arith, size, few)) in
-    omega (arith, size, few, all, c.count.ensures)
+    omega (arith, size, few, length-to_give a.octets.items a.next a.end a.after (omega (arith, a.octets.ok.0, c.self.invariant.end)), c.count.ensures)

@@ -1,80 +1,46 @@
--- The buffer holds the frame and its check, and nothing was left of a frame before it.
-use Rattle.std.proofs.Common.{◌≡◌, ◌+◌, ◌<◌, ◌++◌, length, drop, vec_len, refl, ap, sym, ◌∙◌, subst, length-append, arith}
-use Rattle.std.proofs.lemmas.List.{append-nil}
-use Rattle.std.specs.Int.{to_le_bytes, w16}
-use Rattle.lapd_bits.specs.Bits.{bits, flag, low_bits}
-use Rattle.lapd_bits.specs.Check.{check}
+-- The text of the frame has been made after the bits that were left.
+use Rattle.std.proofs.Common.{◌≡◌, ◌+◌, ◌≤◌, ◌++◌, length, take, sym, ap, ◌∙◌, subst, length-append, append_assoc, refl, arith}
+use Rattle.lapd_bits.specs.Bits.{bits, flag}
 use Rattle.lapd_bits.specs.Sent.{frame_text}
-use Rattle.lapd_bits.specs.FramerText.{waits, frame_from}
-use Rattle.lapd_bits.proofs.FramerLoad.{extended, frame_from-loaded, no_frame}
+use Rattle.lapd_bits.specs.FramerText.{waits, made, Goes}
+use Rattle.lapd_bits.proofs.FramerGiven.{length-to_give, to_give-none}
+use Rattle.lapd_bits.proofs.FramerLoad.{frame_made}
 use Rattle.lapd_bits.proofs.FramerStands.{Stands-load}
+use Rattle.lapd_bits.proofs.StuffedText.{Goes-then}
 use Rattle.lapd_bits.proofs.framer.Framer.load.Goals as goal
-
--- the frame without its check, in the buffer
-head_is : (c : goal.After-self-2-1) → c.extend_from_slice.new.self.items ≡ c.args.head.now
-head_is c =
-    extended c.extend_from_slice.result c.unwrap.result c.clear.new.self.items c.args.head.now c.extend_from_slice.new.self.items c.unwrap.ensures c.extend_from_slice.ensures.items
-    ∙ ap (λ l. l ++ c.args.head.now) c.clear.ensures.items
-
-bare_is : (c : goal.After-self-2-1) → c.extend_from_slice-2.new.self.items ≡ c.args.head.now ++ c.args.info.now
-bare_is c =
-    extended c.extend_from_slice-2.result c.unwrap-2.result c.extend_from_slice.new.self.items c.args.info.now c.extend_from_slice-2.new.self.items c.unwrap-2.ensures c.extend_from_slice-2.ensures.items
-    ∙ ap (λ l. l ++ c.args.info.now) (head_is c)
-
--- and with it
-whole_is : (c : goal.After-self-2-1) → c.extend_from_slice-3.new.self.items ≡ (c.args.head.now ++ c.args.info.now) ++ to_le_bytes w16 c.fcs-check.result
-whole_is c =
-    extended c.extend_from_slice-3.result c.unwrap-3.result c.extend_from_slice-2.new.self.items c.to_le_bytes.result c.extend_from_slice-3.new.self.items c.unwrap-3.ensures c.extend_from_slice-3.ensures.items
-    ∙ ap (λ l. l ++ c.to_le_bytes.result) (bare_is c)
-    ∙ ap (λ l. (c.args.head.now ++ c.args.info.now) ++ l) c.to_le_bytes.ensures
-
--- its sizes
-bare_size : (c : goal.After-self-2-1) → vec_len c.extend_from_slice-2.new.self ≡ length c.args.head.now + length c.args.info.now
-bare_size c =
-    omega (arith, c.extend_from_slice-2.new.self.ok.0, ap length (bare_is c), length-append c.args.head.now c.args.info.now)
-
-whole_size : (c : goal.After-self-2-1) → vec_len c.extend_from_slice-3.new.self ≡ length c.args.head.now + length c.args.info.now + 2
-whole_size c =
-    let bare = c.args.head.now ++ c.args.info.now in
-    omega (arith, c.extend_from_slice-3.new.self.ok.0, ap length (whole_is c), length-append bare (to_le_bytes w16 c.fcs-check.result), length-append c.args.head.now c.args.info.now)
-
-pub invariant_of-self : goal.invariant_of-self
-invariant_of-self c =
-    let room = ap (λ f. f.room) c.self.view_is in
-    record {
-      room = c.self.invariant.room;
-      fits = omega (arith, whole_size c);
-      space = omega (arith, c.self.invariant.space, c.clear.ensures.capacity, c.extend_from_slice.ensures.capacity, c.extend_from_slice-2.ensures.capacity, c.extend_from_slice-3.ensures.capacity);
-      latest = omega (arith, bare_size c, c.len.ensures);
-      waiting = c.self.invariant.waiting;
-      ones = omega (arith, c.new-self-inside.ensures.ones);
-      more = λ some. omega (arith, some, c.new-self-inside.ensures.next);
-    }
 
 pub returns-clause-left : goal.returns-clause-left
 returns-clause-left c =
     let a = c.self.inside in
-    let bare = c.args.head.now ++ c.args.info.now in
-    let items = c.extend_from_slice-3.new.self.items in
-    let text = c.new-self-inside.result in
-    let kept = ap (λ f. f.left) c.self.view_is in
-    let short = subst (λ l. length l < 8) (sym kept) c.requires.not_busy in
-    let wait = waits a.waiting in
-    let before : wait ≡ c.args.self.now.left =
-    sym (append-nil wait)
-    ∙ ap (λ l. wait ++ l) (sym (no_frame (drop a.text.next a.frame.items) a.text.ones wait short))
-    ∙ kept in
-    let checked : low_bits 16 c.fcs-check.result ≡ check (bits bare) =
-    c.fcs-check.ensures.is_check ∙ ap (λ l. check (bits l)) (c.deref.ensures.value ∙ bare_is c) in
-    let loaded : frame_from (drop text.next items) text.ones ≡ frame_text bare ++ flag =
-    ap (λ n. frame_from (drop n items) text.ones) c.new-self-inside.ensures.next
-    ∙ ap (λ n. frame_from items n) c.new-self-inside.ensures.ones
-    ∙ ap (λ l. frame_from l 0) (whole_is c)
-    ∙ frame_from-loaded bare c.fcs-check.result (omega (arith, length-append c.args.head.now c.args.info.now)) checked in
-    ap (λ l. wait ++ l) loaded ∙ ap (λ l. l ++ (frame_text bare ++ flag)) before
+    let head = c.args.head.now in
+    let info = c.args.info.now in
+    let check = c.to_le_bytes.result in
+    let begun = c.after-text.result in
+    let start = made begun a.octets.items in
+    let one = made c.stuff.new.self c.stuff.new.buffer.items in
+    let two = made c.stuff-2.new.self c.stuff-2.new.buffer.items in
+    let all = made c.stuff-3.new.self c.stuff-3.new.buffer.items in
+    let run = c.stuff-3.new.self.ones in
+    let within : a.end ≤ length a.octets.items = omega (arith, a.octets.ok.0, c.self.invariant.end) in
+    let size = ap (λ f. length f.left) c.self.view_is in
+    let none : a.end ≤ a.next = omega (arith, size, c.requires.not_busy, length-to_give a.octets.items a.next a.end a.after within) in
+    let before : start ≡ c.args.self.now.left =
+    (λ i. bits (take (c.after-text.ensures.end i) a.octets.items) ++ waits (c.after-text.ensures.waiting i))
+    ∙ sym (to_give-none a.octets.items a.next a.end a.after none within)
+    ∙ ap (λ f. f.left) c.self.view_is in
+    let goes = Goes-then start two all begun.ones c.stuff-2.new.self.ones run (head ++ info) check
+    (Goes-then start one two begun.ones c.stuff.new.self.ones c.stuff-2.new.self.ones head info c.stuff.ensures.goes c.stuff-2.ensures.goes)
+    c.stuff-3.ensures.goes in
+    let from_none = subst (λ n. Goes start n ((head ++ info) ++ check) all run) c.after-text.ensures.ones goes in
+    let with_check = subst (λ l. Goes start 0 ((head ++ info) ++ l) all run) c.to_le_bytes.ensures from_none in
+    (λ i. bits (take (c.end-self-inside.ensures i) c.close.new.buffer.items) ++ waits (c.waiting-self-inside.ensures i))
+    ∙ c.close.ensures.made
+    ∙ ap (λ l. l ++ flag) (frame_made start all (head ++ info) c.fcs_of_both-check.result run c.stuff-3.ensures.few c.fcs_of_both-check.ensures.is_check with_check)
+    ∙ append_assoc start (frame_text (head ++ info)) flag
+    ∙ ap (λ l. l ++ (frame_text (head ++ info) ++ flag)) before
 
 pub returns-clause-stands : goal.returns-clause-stands
 returns-clause-stands c = λ items given s.
-    let bare = c.args.head.now ++ c.args.info.now in
-    Stands-load c.args.self.now _ bare c.len.result items given (returns-clause-left c) refl
-    (omega (arith, c.len.ensures, bare_size c, length-append c.args.head.now c.args.info.now)) s
+    let octets = c.args.head.now ++ c.args.info.now in
+    Stands-load c.args.self.now _ octets (length c.args.head.now + length c.args.info.now) items given (returns-clause-left c) refl
+    (sym (length-append c.args.head.now c.args.info.now)) s

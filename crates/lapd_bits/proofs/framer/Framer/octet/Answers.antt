@@ -1,39 +1,92 @@
--- Eight bits wait, and go.
-use Rattle.std.proofs.Common.{◌≡◌, ◌∙◌, ◌++◌, drop, sym, ap, take, append_assoc, arith}
-use Rattle.lapd_bits.specs.Bits.{low_bits, number_of}
+-- The next octet goes, or the bits after them and the beginning of a flag.
+use Rattle.std.proofs.Common.{◌≡◌, ◌+◌, ◌<◌, ◌≤◌, ◌++◌, length, take, sym, ap, ◌∙◌, arith, ⊎_elim}
+use Rattle.std.proofs.lemmas.Bool.{cases_lt, false≢true}
+use Rattle.lapd_bits.specs.Bits.{low_bits, flag, number_of}
 use Rattle.lapd_bits.specs.Framer.{refilled, still_held}
-use Rattle.lapd_bits.specs.FramerText.{waits, frame_from, to_give}
+use Rattle.lapd_bits.specs.FramerText.{to_give}
 use Rattle.lapd_bits.proofs.BitLemmas.{number_of-octet}
-use Rattle.lapd_bits.proofs.FramerGiven.{held_after}
+use Rattle.lapd_bits.proofs.FramerGiven.{length-to_give, to_give-octet, to_give-none, refilled-enough, refilled-low, held_after}
 use Rattle.lapd_bits.proofs.FramerStands.{Stands-octet}
 use Rattle.lapd_bits.proofs.framer.Framer.octet.Goals as goal
 
--- the octet and what is left are the bits that it was taken from
-given : (c : goal.After-octet) → low_bits 8 c.octet.result ++ to_give c.octet.new.self c.refill.new.frame.items c.refill.new.text ≡ refilled (to_give c.self.inside.waiting c.self.inside.frame.items c.self.inside.text)
-given c =
-    let text = c.refill.new.text in
-    let rest = frame_from (drop text.next c.refill.new.frame.items) text.ones in
-    sym (append_assoc (low_bits 8 c.octet.result) (waits c.octet.new.self) rest)
-    ∙ ap (λ l. l ++ rest) (sym c.octet.ensures.bits)
-    ∙ c.refill.ensures.left
+-- ---- octets are left
 
-pub returns-clause-octet : goal.returns-clause-octet
-returns-clause-octet c =
-    let left = to_give c.octet.new.self c.refill.new.frame.items c.refill.new.text in
-    sym (number_of-octet c.octet.result left (omega arith))
-    ∙ ap (λ l. number_of (take 8 l)) (given c)
-    ∙ ap (λ f. number_of (take 8 (refilled f.left))) c.self.view_is
-
-pub returns-clause-bits : goal.returns-clause-bits
-returns-clause-bits c = given c ∙ ap (λ f. refilled f.left) c.self.view_is
-
-pub returns-clause-held : goal.returns-clause-held
-returns-clause-held c =
+pub index-octet-requires : goal.index-octet-requires
+index-octet-requires c =
     let a = c.self.inside in
-    let left = to_give c.octet.new.self c.refill.new.frame.items c.refill.new.text in
-    held_after (to_give a.waiting a.frame.items a.text) left c.octet.result a.latest (given c)
-    ∙ ap (λ f. still_held left f.held) c.self.view_is
+    let size = ap (λ f. length f.left) c.self.view_is in
+    omega (arith, size, c.busy.ensures.0 c.if-busy.true, length-to_give a.octets.items a.next a.end a.after (omega (arith, a.octets.ok.0, c.self.invariant.end)), c.self.invariant.end, c.self.invariant.after)
 
-pub returns-clause-stands : goal.returns-clause-stands
-returns-clause-stands c = λ items given s.
-    Stands-octet c.args.self.now _ c.octet.result items given (returns-clause-bits c) (returns-clause-held c) s
+more : (c : goal.After-self-1) → c.self.inside.next < c.self.inside.end
+more c =
+    let a = c.self.inside in
+    let size = ap (λ f. length f.left) c.self.view_is in
+    omega (arith, size, c.busy.ensures.0 c.if-busy.true, length-to_give a.octets.items a.next a.end a.after (omega (arith, a.octets.ok.0, c.self.invariant.end)), c.self.invariant.after)
+
+pub invariant_of-self : goal.invariant_of-self
+invariant_of-self c =
+    let i = c.self.invariant in
+    record { room = i.room; space = i.space; end = i.end; next = omega (arith, more c); latest = i.latest; after = i.after }
+
+given : (c : goal.After-self-1) → low_bits 8 c.index-octet.result.now ++ to_give c.self.inside.octets.items (c.self.inside.next + 1) c.self.inside.end c.self.inside.after ≡ refilled (to_give c.self.inside.octets.items c.self.inside.next c.self.inside.end c.self.inside.after)
+given c =
+    let a = c.self.inside in
+    let octet = c.index-octet.result.now in
+    let left = to_give a.octets.items a.next a.end a.after in
+    let size = ap (λ f. length f.left) c.self.view_is in
+    ap (λ o. low_bits 8 o ++ to_give a.octets.items (a.next + 1) a.end a.after) c.index-octet.ensures
+    ∙ sym (to_give-octet a.octets.items a.next a.end octet a.after (more c) (omega (arith, a.octets.ok.0, c.self.invariant.end)))
+    ∙ refilled-enough left (omega (arith, size, c.busy.ensures.0 c.if-busy.true))
+
+pub returns-then-busy-clause-bits : goal.returns-then-busy-clause-bits
+returns-then-busy-clause-bits c = given c ∙ ap (λ f. refilled f.left) c.self.view_is
+
+pub returns-then-busy-clause-octet : goal.returns-then-busy-clause-octet
+returns-then-busy-clause-octet c =
+    let a = c.self.inside in
+    sym (number_of-octet c.index-octet.result.now (to_give a.octets.items (a.next + 1) a.end a.after) (omega arith))
+    ∙ ap (λ l. number_of (take 8 l)) (returns-then-busy-clause-bits c)
+
+pub returns-then-busy-clause-stands : goal.returns-then-busy-clause-stands
+returns-then-busy-clause-stands c = λ items given_up s.
+    let a = c.self.inside in
+    let left = to_give a.octets.items (a.next + 1) a.end a.after in
+    let held = held_after (to_give a.octets.items a.next a.end a.after) left c.index-octet.result.now a.latest (given c) ∙ ap (λ f. still_held left f.held) c.self.view_is in
+    Stands-octet c.args.self.now _ c.index-octet.result.now items given_up (returns-then-busy-clause-bits c) held s
+
+-- ---- none is
+
+few : (c : goal.After-octet) → length c.args.self.now.left < 8
+few c =
+    ⊎_elim (λ low. low) (λ many. absurd (false≢true (c.if-busy.ensures.1 many))) (cases_lt (length c.args.self.now.left) 8)
+
+filled : (c : goal.After-octet) → low_bits 8 c.octet.result ++ to_give c.self.inside.octets.items c.self.inside.next c.self.inside.end c.octet.new.self ≡ refilled (to_give c.self.inside.octets.items c.self.inside.next c.self.inside.end c.self.inside.after)
+filled c =
+    let a = c.self.inside in
+    let size = ap (λ f. length f.left) c.self.view_is in
+    let within : a.end ≤ length a.octets.items = omega (arith, a.octets.ok.0, c.self.invariant.end) in
+    let none : a.end ≤ a.next = omega (arith, size, few c, length-to_give a.octets.items a.next a.end a.after within) in
+    ap (λ l. low_bits 8 c.octet.result ++ l) (to_give-none a.octets.items a.next a.end c.octet.new.self none within)
+    ∙ sym c.octet.ensures.bits
+    ∙ c.push_flag.ensures.bits
+    ∙ ap (λ l. l ++ flag) (sym (to_give-none a.octets.items a.next a.end a.after none within))
+    ∙ refilled-low (to_give a.octets.items a.next a.end a.after) (omega (arith, size, few c))
+
+pub returns-else-busy-clause-bits : goal.returns-else-busy-clause-bits
+returns-else-busy-clause-bits c = filled c ∙ ap (λ f. refilled f.left) c.self.view_is
+
+pub returns-else-busy-clause-octet : goal.returns-else-busy-clause-octet
+returns-else-busy-clause-octet c =
+    let a = c.self.inside in
+    sym (number_of-octet c.octet.result (to_give a.octets.items a.next a.end c.octet.new.self) (omega arith))
+    ∙ ap (λ l. number_of (take 8 l)) (returns-else-busy-clause-bits c)
+
+pub returns-else-busy-clause-held : goal.returns-else-busy-clause-held
+returns-else-busy-clause-held c =
+    let a = c.self.inside in
+    let left = to_give a.octets.items a.next a.end c.octet.new.self in
+    held_after (to_give a.octets.items a.next a.end a.after) left c.octet.result a.latest (filled c) ∙ ap (λ f. still_held left f.held) c.self.view_is
+
+pub returns-else-busy-clause-stands : goal.returns-else-busy-clause-stands
+returns-else-busy-clause-stands c = λ items given_up s.
+    Stands-octet c.args.self.now _ c.octet.result items given_up (returns-else-busy-clause-bits c) (returns-else-busy-clause-held c) s

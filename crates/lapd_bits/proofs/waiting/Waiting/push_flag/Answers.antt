@@ -9,4 +9,5 @@ unfolding low_bits
 bits_of_flag = refl
 
 pub returns-clause-bits : goal.returns-clause-bits
-returns-clause-bits c = c.push.ensures.bits ∙ ap (λ l. waits c.args.self.now ++ l) bits_of_flag
+returns-clause-bits c =
+    c.push.ensures.bits ∙ ap (λ n. waits c.args.self.now ++ low_bits 8 n) c.from.ensures ∙ ap (λ l. waits c.args.self.now ++ l) bits_of_flag

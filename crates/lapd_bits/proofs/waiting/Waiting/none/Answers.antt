@@ -1,7 +1,7 @@
--- The number of a flag's bits.
+-- No bits.
 use Rattle.std.proofs.Common.{refl}
 use Rattle.lapd_bits.specs.Bits.{low_bits}
-use Rattle.lapd_bits.proofs.waiting.Waiting.flag.Goals as goal
+use Rattle.lapd_bits.proofs.waiting.Waiting.none.Goals as goal
 
 pub returns-clause-bits : goal.returns-clause-bits
 unfolding low_bits

@@ -10,7 +10,7 @@ use Rattle.lapd_bits.specs.Deframer.{run_of}
 use Rattle.lapd_bits.specs.Steps.{with_bits}
 use Rattle.lapd_bits.specs.Unstuffer.{has_six, IsContent}
 use Rattle.lapd_bits.specs.declared.unstuffer.TheConstants.{TABLES}
-use Rattle.lapd_bits.proofs.BitLemmas.{low_bits-number_of, number_of-lt}
+use Rattle.lapd_bits.proofs.BitLemmas.{low_bits-number_of}
 use Rattle.lapd_bits.proofs.StuffingCounted.{unstuffed_after}
 use Rattle.lapd_bits.proofs.AtOnce.{unstuffed-ones}
 

@@ -1,6 +1,6 @@
 -- An octet in which no six 1s come ends nothing, and goes on the open gap all at once; one of an idle line brings nothing.
 use Rattle.std.proofs.Common.{◌++◌, ◌-◌, None, true, replicate, refl, sym, ◌∙◌, subst, reverse, length, append-nil}
-use Rattle.std.proofs.lemmas.Bool.{false≢true, false_from_ne_true}
+use Rattle.std.proofs.lemmas.Bool.{false_from_ne_true}
 use Rattle.lapd_bits.specs.Bits.{bits, low_bits}
 use Rattle.lapd_bits.specs.Deframer.{HoldsPast}
 use Rattle.lapd_bits.specs.Ended.{FitsIn}

@@ -1,5 +1,5 @@
 //! What is heard on a line (clauses 2.2 to 2.10): octets go in one by one, and the frames in them come out.
-ghost use Rattle.std.specs.Prelude.{◌≡◌, ◌≢◌, ℕ, ◌≤◌, ◌+◌, ◌-◌, Bool, true, false, List, [], ◌∷◌, ◌++◌, length, vec_len, IsTrue, IfOk, Option, Some, None, option_to_list, option_map};
+ghost use Rattle.std.specs.Prelude.{◌≡◌, ℕ, ◌≤◌, ◌+◌, Bool, true, false, List, [], ◌∷◌, ◌++◌, length, vec_len, IsTrue, IfOk, Option, Some, None, option_to_list, option_map};
 ghost use Rattle.std.specs.Option.{ForSome};
 ghost use Rattle.lapd_bits.specs.Bits.{low_bits};
 ghost use Rattle.lapd_bits.specs.Ended.{FitsIn};
@@ -9,7 +9,7 @@ use crate::flag_end::{FLAG, flag_begun, flag_end};
 use crate::gap::Gap;
 use crate::heard::{Cause, Ended, Heard};
 use crate::start_fault::StartFault;
-use crate::unstuffer::{Content, at_once, content_after};
+use crate::unstuffer::{Content, at_once};
 use std::alloc::Global;
 
 /// The octets of a line of flags, by the number of bits of each flag that the octet before has.
@@ -92,10 +92,8 @@ impl Deframer {
         // The answer tells what it is, and how long where it is a frame.
         ensures told { result ≡ without_octets (latest_of self.new) }
     {
-        // Most octets end nothing and fill another of the open gap. They are taken here, and all others apart, so that a
-        // caller has little to do for them.
-        let content = content_after(self.ones, octet);
-        if self.is_filled_by(content) {
+        // Most octets end nothing. They are taken here, and all others apart, so that a caller has little to do for them.
+        if let Some(content) = at_once(self.ones, octet) {
             self.take_content(content);
             self.ended = Ended::Nothing;
             return Ended::Nothing;
@@ -104,8 +102,9 @@ impl Deframer {
             self.ended = Ended::Nothing;
             return Ended::Nothing;
         }
-        self.take_other(octet);
-        self.ended
+        let ended = self.ending(octet);
+        self.ended = ended;
+        ended
     }
 
     /// Lends again what the latest octet ended, until the next octet; nothing where no octet has come.
@@ -163,49 +162,18 @@ impl Deframer {
     fn take_content(&mut self, content: Content)
         ensures room { length self.new.octets.items ≡ length self.old.octets.items }
         ensures ones { self.new.ones ≡ content.ones }
-        ensures stands { (octet : ℕ) (gap : Option (List Bool)) → IsJoined octet (low_bits (8 - content.missing) content.bits) gap
+        ensures stands { (octet : ℕ) (gap : Option (List Bool)) → IsJoined octet (low_bits content.count content.bits) gap
             → HoldsGap self.old.octets.items self.old.gap gap
             → HoldsGap self.new.octets.items self.new.gap (option_map (with_bits 8 octet) gap) }
     {
         self.ones = content.ones;
         if let Some(gap) = &mut self.gap {
-            gap.join(&mut self.octets, content.bits, 8 - content.missing);
+            gap.join(&mut self.octets, content.bits, content.count);
         }
-    }
-
-    /// Whether an octet ends nothing, and what it brings fills the octet that the open gap puts together, if one is open.
-    #[inline(always)]
-    fn is_filled_by(&self, content: Content) -> bool
-        ensures some { IsTrue result → content.missing ≢ 8 }
-    {
-        match &self.gap {
-            Some(gap) => gap.fills(content.missing),
-            None => content.missing < 8,
-        }
-    }
-
-    /// Takes an octet of any kind.
-    #[inline(never)]
-    fn take_other(&mut self, octet: u8)
-        ensures fits { FitsIn (vec_len self.new.octets) self.new.ended }
-        ensures room { length self.new.octets.items ≡ length self.old.octets.items }
-        ensures stands { (past : List Bool) → HoldsPast self.old.octets.items self.old.ones self.old.gap past
-            → HoldsPast self.new.octets.items self.new.ones self.new.gap (with_bits 8 octet past) }
-        ensures told { (past : List Bool) → HoldsPast self.old.octets.items self.old.ones self.old.gap past
-            → heard_until (length self.old.octets.items) (with_bits 8 octet past)
-            ≡ heard_until (length self.old.octets.items) past
-            ++ option_to_list (event_in self.new.octets.items self.new.ended) }
-    {
-        if let Some(content) = at_once(self.ones, octet) {
-            self.take_content(content);
-            self.ended = Ended::Nothing;
-            return;
-        }
-        let ended = self.ending(octet);
-        self.ended = ended;
     }
 
     /// Takes an octet that may end something.
+    #[inline(never)]
     fn ending(&mut self, octet: u8) -> Ended
         ensures fits { FitsIn (vec_len self.new.octets) result }
         ensures room { length self.new.octets.items ≡ length self.old.octets.items }

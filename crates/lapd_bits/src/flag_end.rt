@@ -2,7 +2,7 @@
 //!
 //! Where an octet is no flag itself, the six 1s of the flag are those that came right before the octet and those with
 //! which it begins. So the flag's last bit is the octet's first 0, and what stands behind it depends on the octet alone.
-ghost use Rattle.std.specs.Prelude.{◌-◌, ◌≡◌, ℕ, ◌≤◌, ◌<◌, ◌+◌, ◌^◌, ◌↔◌, ◌++◌, Bool, true, List, replicate, length, vec_len, IsNone, IsFalse, IfSome, option_to_list};
+ghost use Rattle.std.specs.Prelude.{◌≡◌, ℕ, ◌≤◌, ◌<◌, ◌+◌, ◌^◌, ◌↔◌, ◌++◌, Bool, true, List, replicate, length, vec_len, IsNone, IsFalse, IfSome, option_to_list};
 ghost use Rattle.lapd_bits.specs.Bits.{low_bits};
 ghost use Rattle.lapd_bits.specs.Ended.{FitsIn};
 ghost use Rattle.lapd_bits.specs.FlagEnd.{only_flag_ends, IsFlagEnd, IsFlagBegun};
@@ -114,7 +114,7 @@ pub(crate) fn flag_end(ones: u8, octet: u8) -> Option<FlagEnd>
 /// octet, or something ends in it.
 pub(crate) fn flag_begun(ones: u8, octet: u8) -> Option<Content>
     requires counted { ones ≤ 7 }
-    ensures some { IfSome result (λ content. IsFlagBegun ones octet content.bits (8 - content.missing) content.ones) }
+    ensures some { IfSome result (λ content. IsFlagBegun ones octet content.bits content.count content.ones) }
 {
     if octet < 0xFC || 0xFD < octet {
         return None;
@@ -125,14 +125,14 @@ pub(crate) fn flag_begun(ones: u8, octet: u8) -> Option<Content>
     if run < 5 {
         return Some(Content {
             bits: octet,
-            missing: 0,
+            count: 8,
             ones: FLAG_ONES,
         });
     }
     if run == 5 {
         return Some(Content {
             bits: 0x7E + first,
-            missing: 1,
+            count: 7,
             ones: FLAG_ONES,
         });
     }

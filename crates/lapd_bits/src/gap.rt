@@ -1,5 +1,5 @@
 //! What a deframer keeps of the bits since the latest flag, and what the next flag makes of it.
-ghost use Rattle.std.specs.Prelude.{◌≡◌, ℕ, ◌<◌, ◌≤◌, ◌+◌, ◌^◌, ◌↔◌, Bool, true, List, [], ◌∷◌, ◌++◌, length, min, max, vec_len, IsFalse, Some, take};
+ghost use Rattle.std.specs.Prelude.{◌≡◌, ℕ, ◌<◌, ◌≤◌, ◌+◌, ◌^◌, Bool, List, [], ◌∷◌, ◌++◌, length, min, max, vec_len, IsFalse, Some, take};
 ghost use Rattle.lapd_bits.specs.Bits.{low_bits, bits};
 ghost use Rattle.lapd_bits.specs.Register.{HoldsDivision};
 ghost use Rattle.lapd_bits.specs.Stream.{is_short};
@@ -127,14 +127,6 @@ impl Gap {
         }
     }
 
-    /// Whether eight bits but for so many fill the octet that is being put together.
-    #[inline(always)]
-    pub(crate) fn fills(&self, missing: u8) -> bool
-        ensures { result ≡ true ↔ missing ≤ self.now.filled }
-    {
-        missing <= self.filled
-    }
-
     /// Takes the bits that an octet of the line brings, the first to come lowest, and counts all its eight.
     pub(crate) fn join(&mut self, octets: &mut Vec<u8>, bits: u8, count: u8)
         requires fits { self.old.count ≤ vec_len octets.old }
@@ -147,16 +139,15 @@ impl Gap {
             → AssemblesIn octets.new.items self.new (text ++ low_bits count bits) }
     {
         let joined = above(self.partial, self.filled, bits, count);
-        let filled = self.filled;
-        let missing = 8 - count;
+        let filled = self.filled + count;
         self.since = 8;
-        if missing <= filled {
-            self.filled = filled - missing;
+        if filled < 8 {
+            self.filled = filled;
+            self.partial = joined as u8;
+        } else {
+            self.filled = filled - 8;
             self.partial = (joined / 256) as u8;
             self.keep(octets, (joined % 256) as u8);
-        } else {
-            self.filled = filled + count;
-            self.partial = joined as u8;
         }
     }
 
@@ -249,7 +240,7 @@ fn with_bit(number: u8, place: u8, bit: bool) -> u8
 }
 
 /// The number with `more` above its `place` low bits.
-fn above(number: u8, place: u8, more: u8, count: u8) -> u32
+fn above(number: u8, place: u8, more: u8, count: u8) -> u16
     requires place { place < 8 }
     requires below { number < 2 ^ place }
     requires more { more < 2 ^ count }
@@ -257,5 +248,5 @@ fn above(number: u8, place: u8, more: u8, count: u8) -> u32
     ensures bits { low_bits (place + count) result ≡ low_bits place number ++ low_bits count more }
     ensures below { result < 2 ^ (place + count) }
 {
-    number as u32 + ((more as u32) << place)
+    number as u16 + ((more as u16) << place)
 }

@@ -1,5 +1,5 @@
 -- All of a flag but its last bit ends nothing, and goes on the open gap all at once.
-use Rattle.std.proofs.Common.{◌-◌, length}
+use Rattle.std.proofs.Common.{length}
 use Rattle.lapd_bits.proofs.FlagEnd.{heard-flag_begun, HoldsPast-flag_begun}
 use Rattle.lapd_bits.proofs.deframer.Deframer.ending.Goals as goal
 
@@ -8,7 +8,7 @@ returns-in-Some-flag_begun-clause-stands c past h =
     let old = c.args.self.now in
     let new = c.take_content.new.self in
     let content = c.in-Some-flag_begun.content in
-    HoldsPast-flag_begun old.ones c.args.octet content.bits (8 - content.missing) content.ones c.in-Some-flag_begun.ensures.some past h.run
+    HoldsPast-flag_begun old.ones c.args.octet content.bits content.count content.ones c.in-Some-flag_begun.ensures.some past h.run
     old.octets.items new.octets.items new.ones old.gap new.gap c.take_content.ensures.ones
     (c.take_content.ensures.stands c.args.octet) h.open_is
 
@@ -16,5 +16,5 @@ pub returns-in-Some-flag_begun-clause-told : goal.returns-in-Some-flag_begun-cla
 returns-in-Some-flag_begun-clause-told c past h =
     let old = c.args.self.now in
     let content = c.in-Some-flag_begun.content in
-    heard-flag_begun old.ones c.args.octet content.bits (8 - content.missing) content.ones c.in-Some-flag_begun.ensures.some past h.run
+    heard-flag_begun old.ones c.args.octet content.bits content.count content.ones c.in-Some-flag_begun.ensures.some past h.run
     (length old.octets.items)

@@ -1,6 +1,6 @@
 -- An octet in which no six 1s come ends nothing, and goes on the open gap all at once; one of an idle line brings nothing.
-use Rattle.std.proofs.Common.{◌++◌, ◌-◌, None, true, replicate, refl, sym, ◌∙◌, subst, reverse, length, append-nil}
-use Rattle.std.proofs.lemmas.Bool.{false_from_ne_true}
+use Rattle.std.proofs.Common.{◌++◌, None, true, replicate, refl, sym, ◌∙◌, subst, reverse, length, append-nil}
+use Rattle.std.proofs.lemmas.Bool.{false≢true, false_from_ne_true}
 use Rattle.lapd_bits.specs.Bits.{bits, low_bits}
 use Rattle.lapd_bits.specs.Deframer.{HoldsPast}
 use Rattle.lapd_bits.specs.Ended.{FitsIn}
@@ -11,23 +11,22 @@ use Rattle.lapd_bits.proofs.BitSteps.{with_bits-octet}
 use Rattle.lapd_bits.proofs.Latest.{heard_more, latest_more, told_is}
 use Rattle.lapd_bits.proofs.deframer.Deframer.step.Goals as goal
 
-pub returns-then-is_filled_by-clause-heard : goal.returns-then-is_filled_by-clause-heard
-returns-then-is_filled_by-clause-heard c n201 past h =
+pub returns-in-Some-clause-heard : goal.returns-in-Some-clause-heard
+returns-in-Some-clause-heard c n201 past h =
     let old = c.args.self.now in
-    let none = false_from_ne_true (has_six (replicate old.ones true ++ low_bits 8 c.args.octet)) (λ six. absurd (c.if-is_filled_by.ensures.some refl (c.content_after-content.ensures.none.1 six))) in
+    let none = false_from_ne_true (has_six (replicate old.ones true ++ low_bits 8 c.args.octet)) (λ six. false≢true (sym (c.in-Some.ensures.none.1 six))) in
     heard_more n201 past c.args.octet _ None h.room
     (heard-octet (length old.octets.items) old.ones (reverse (bits past)) c.args.octet none h.holds.run)
 
-pub returns-then-is_filled_by-clause-after : goal.returns-then-is_filled_by-clause-after
-returns-then-is_filled_by-clause-after c n201 past h =
+pub returns-in-Some-clause-after : goal.returns-in-Some-clause-after
+returns-in-Some-clause-after c n201 past h =
     let old = c.args.self.now in
     let new = c.take_content.new.self in
-    let content = c.content_after-content.result in
-    let some = c.if-is_filled_by.ensures.some refl in
-    let none = false_from_ne_true (has_six (replicate old.ones true ++ low_bits 8 c.args.octet)) (λ six. absurd (some (c.content_after-content.ensures.none.1 six))) in
+    let content = c.in-Some.content in
+    let none = false_from_ne_true (has_six (replicate old.ones true ++ low_bits 8 c.args.octet)) (λ six. false≢true (sym (c.in-Some.ensures.none.1 six))) in
     let holds =
-    HoldsPast-octet old.octets.items new.octets.items old.ones new.ones old.gap new.gap (reverse (bits past)) c.args.octet content.bits (8 - content.missing) content.ones
-    none (c.content_after-content.ensures.some some) c.take_content.ensures.ones (c.take_content.ensures.stands c.args.octet) h.holds in
+    HoldsPast-octet old.octets.items new.octets.items old.ones new.ones old.gap new.gap (reverse (bits past)) c.args.octet content.bits content.count content.ones
+    none c.in-Some.ensures.some c.take_content.ensures.ones (c.take_content.ensures.stands c.args.octet) h.holds in
     record {
       room = c.take_content.ensures.room ∙ h.room;
       holds = subst (HoldsPast new.octets.items new.ones new.gap) (sym (with_bits-octet past c.args.octet)) holds;
@@ -52,15 +51,14 @@ returns-then-is_idle-clause-after c n201 past h =
 
 pub returns-clause-heard : goal.returns-clause-heard
 returns-clause-heard c n201 past h =
-    let s = c.take_other.ensures in
-    let new = c.take_other.new.self in
-    heard_more n201 past c.args.octet _ (event_in new.octets.items new.ended) h.room (s.told (reverse (bits past)) h.holds)
+    let s = c.ending-ended.ensures in
+    heard_more n201 past c.args.octet _ (event_in c.ending-ended.new.self.octets.items c.ending-ended.result) h.room (s.told (reverse (bits past)) h.holds)
 
 pub returns-clause-after : goal.returns-clause-after
 returns-clause-after c n201 past h =
-    let s = c.take_other.ensures in
-    let new = c.take_other.new.self in
-    let brought = event_in new.octets.items new.ended in
+    let s = c.ending-ended.ensures in
+    let new = c.ending-ended.new.self in
+    let brought = event_in new.octets.items c.ending-ended.result in
     record {
       room = s.room ∙ h.room;
       holds = subst (HoldsPast new.octets.items new.ones new.gap) (sym (with_bits-octet past c.args.octet)) (s.stands (reverse (bits past)) h.holds);
@@ -69,5 +67,5 @@ returns-clause-after c n201 past h =
 
 pub returns-clause-told : goal.returns-clause-told
 returns-clause-told c =
-    let new = c.take_other.new.self in
-    told_is new.octets.items new.ended (subst (λ n. FitsIn n new.ended) new.octets.ok.0 c.take_other.ensures.fits)
+    let new = c.ending-ended.new.self in
+    told_is new.octets.items c.ending-ended.result (subst (λ n. FitsIn n c.ending-ended.result) new.octets.ok.0 c.ending-ended.ensures.fits)

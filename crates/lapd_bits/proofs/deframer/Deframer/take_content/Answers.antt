@@ -1,4 +1,4 @@
-use Rattle.std.proofs.Common.{◌-◌, subst}
+use Rattle.std.proofs.Common.{subst}
 use Rattle.lapd_bits.specs.Bits.{low_bits}
 use Rattle.lapd_bits.specs.Deframer.{HoldsGap}
 use Rattle.lapd_bits.proofs.Joining.{HoldsGap-joined}
@@ -7,5 +7,5 @@ use Rattle.lapd_bits.proofs.deframer.Deframer.take_content.Goals as goal
 pub returns-in-Some-clause-stands : goal.returns-in-Some-clause-stands
 returns-in-Some-clause-stands c octet gap joined h =
     let octets = c.args.self.now.octets.items in
-    HoldsGap-joined octets c.join.new.octets.items c.in-Some.gap c.join.new.self octet (low_bits (8 - c.args.content.missing) c.args.content.bits) gap
+    HoldsGap-joined octets c.join.new.octets.items c.in-Some.gap c.join.new.self octet (low_bits c.args.content.count c.args.content.bits) gap
     c.join.ensures.since c.join.ensures.stands joined (subst (λ g. HoldsGap octets g gap) c.in-Some.is h)

@@ -204,6 +204,9 @@ pub fn fcs(octets: &[u8]) -> u16
 pub(crate) fn fcs_of_both(head: &[u8], info: &[u8]) -> u16
     ensures is_check { low_bits 16 result ≡ check (bits (head.now ++ info.now)) }
 {
+    if info.is_empty() {
+        return fcs(head);
+    }
     !divided_more(divided_all(head), info)
 }
 

@@ -61,6 +61,9 @@ impl StuffedText {
         ensures pays { fifths self.new ≤ fifths self.old + 48 * length octets.now }
         ensures room { vec_len buffer.new ≡ vec_len buffer.old }
     {
+        if octets.is_empty() {
+            return;
+        }
         self.stuff_fours(buffer, octets);
         // At most three are left, so all their bits can wait.
         for place in octets.len() / AT_ONCE * AT_ONCE..octets.len() {

@@ -23,6 +23,7 @@ pub(crate) fn is_short(octets: &[u8]) -> bool
 // The address and the control field of a frame that this side sent. The fourth octet counts where
 // the control field has two.
 #[tactic(auto, unfolding(crate::specs::Reading::header_of))]
+#[inline(always)]
 pub(crate) fn header(side: Side, octets: &[u8; 4]) -> Result<(Address, Control), ReadFault>
     ensures { result ≡ header_of side (slice_index octets.now 0) (slice_index octets.now 1)
         (slice_index octets.now 2) (slice_index octets.now 3) }

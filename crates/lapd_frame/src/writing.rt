@@ -13,6 +13,8 @@ use crate::frames::Frame;
 /// The frame has to be one (`IsFrame`): SAPI at most 63, TEI at most 127, a command or a response
 /// as its control field demands, as much information as it allows. It has to fit into `out`, which
 /// [`Frame::len`] tells.
+// Compiled into its caller, which often has no information to be written.
+#[inline(always)]
 pub fn write(side: Side, frame: &Frame<'_>, out: &mut [u8]) -> usize
     requires frame { IsFrame (parts_of frame.now) }
     requires room { length (spelling side (parts_of frame.now)) ≤ length out.old }

@@ -78,7 +78,8 @@ impl LinkLayer {
         self.take_first(0, turn, framer, shelf)
     }
 
-    /// What the first of these links has to give. Only those that are awake are asked.
+    /// What the first of these links has to give. Only those that are awake are asked. Where none is, that costs no call.
+    #[inline(always)]
     fn take_first<S: Shelf>(
         &mut self,
         from: usize,
@@ -104,6 +105,7 @@ impl LinkLayer {
     }
 
     /// What a link that is awake has to give. It falls asleep where it has nothing.
+    #[inline(never)]
     fn take_link<S: Shelf>(
         &mut self,
         number: usize,

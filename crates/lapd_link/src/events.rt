@@ -122,7 +122,9 @@ impl Link {
         self.settle(before, told, shelf)
     }
 
-    // Ends an event: what it released goes from the shelf, and what it told is answered.
+    // Ends an event: what it released goes from the shelf, and what it told is answered. It is compiled into its callers,
+    // so that an answer is not copied on its way.
+    #[inline(always)]
     pub(crate) fn settle<S: Shelf>(
         &mut self,
         before: Option<LinkTimer>,

@@ -102,9 +102,8 @@ impl Deframer {
             self.ended = Ended::Nothing;
             return Ended::Nothing;
         }
-        let ended = self.ending(octet);
-        self.ended = ended;
-        ended
+        self.take_ending(octet);
+        self.ended
     }
 
     /// Lends again what the latest octet ended, until the next octet; nothing where no octet has come.
@@ -172,8 +171,25 @@ impl Deframer {
         }
     }
 
-    /// Takes an octet that may end something.
+    /// Takes an octet that may end something, and keeps what it has ended: an answer would take the caller room and time at
+    /// each octet, also where this is not called.
     #[inline(never)]
+    fn take_ending(&mut self, octet: u8)
+        ensures fits { FitsIn (vec_len self.new.octets) self.new.ended }
+        ensures room { length self.new.octets.items ≡ length self.old.octets.items }
+        ensures stands { (past : List Bool) → HoldsPast self.old.octets.items self.old.ones self.old.gap past
+            → HoldsPast self.new.octets.items self.new.ones self.new.gap (with_bits 8 octet past) }
+        ensures told { (past : List Bool) → HoldsPast self.old.octets.items self.old.ones self.old.gap past
+            → heard_until (length self.old.octets.items) (with_bits 8 octet past)
+            ≡ heard_until (length self.old.octets.items) past
+            ++ option_to_list (event_in self.new.octets.items self.new.ended) }
+    {
+        let ended = self.ending(octet);
+        self.ended = ended;
+    }
+
+    /// What an octet ends that may end something.
+    #[inline(always)]
     fn ending(&mut self, octet: u8) -> Ended
         ensures fits { FitsIn (vec_len self.new.octets) result }
         ensures room { length self.new.octets.items ≡ length self.old.octets.items }

@@ -51,14 +51,15 @@ returns-then-is_idle-clause-after c n201 past h =
 
 pub returns-clause-heard : goal.returns-clause-heard
 returns-clause-heard c n201 past h =
-    let s = c.ending-ended.ensures in
-    heard_more n201 past c.args.octet _ (event_in c.ending-ended.new.self.octets.items c.ending-ended.result) h.room (s.told (reverse (bits past)) h.holds)
+    let s = c.take_ending.ensures in
+    let new = c.take_ending.new.self in
+    heard_more n201 past c.args.octet _ (event_in new.octets.items new.ended) h.room (s.told (reverse (bits past)) h.holds)
 
 pub returns-clause-after : goal.returns-clause-after
 returns-clause-after c n201 past h =
-    let s = c.ending-ended.ensures in
-    let new = c.ending-ended.new.self in
-    let brought = event_in new.octets.items c.ending-ended.result in
+    let s = c.take_ending.ensures in
+    let new = c.take_ending.new.self in
+    let brought = event_in new.octets.items new.ended in
     record {
       room = s.room ∙ h.room;
       holds = subst (HoldsPast new.octets.items new.ones new.gap) (sym (with_bits-octet past c.args.octet)) (s.stands (reverse (bits past)) h.holds);
@@ -67,5 +68,5 @@ returns-clause-after c n201 past h =
 
 pub returns-clause-told : goal.returns-clause-told
 returns-clause-told c =
-    let new = c.ending-ended.new.self in
-    told_is new.octets.items c.ending-ended.result (subst (λ n. FitsIn n c.ending-ended.result) new.octets.ok.0 c.ending-ended.ensures.fits)
+    let new = c.take_ending.new.self in
+    told_is new.octets.items new.ended (subst (λ n. FitsIn n new.ended) new.octets.ok.0 c.take_ending.ensures.fits)

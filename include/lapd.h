@@ -324,7 +324,8 @@ static inline uint64_t lapd_block_octets(uint64_t octets) {
 static inline uint64_t lapd_card_octets(const lapd_config *config) {
     uint64_t links = 2 * (uint64_t)config->terminals;
     uint64_t link = lapd_block_octets(16 * (uint64_t)config->control) + lapd_block_octets(8 * (uint64_t)config->queue);
-    uint64_t line = lapd_block_octets(config->n201 + 6u) + lapd_block_octets(config->n201 + 6u)
+    uint64_t stuffed = (config->n201 + 6u) * 6u / 5u + 2u;
+    uint64_t line = lapd_block_octets(config->n201 + 6u) + lapd_block_octets(stuffed)
                     + lapd_block_octets(192 * links) + links * link
                     + lapd_block_octets(16 * (uint64_t)config->unit_queue) + lapd_block_octets(128)
                     + lapd_block_octets(16 * (uint64_t)config->terminals);

@@ -17,7 +17,7 @@ behind_zero [] = []
 behind_zero (true ∷ text) = behind_zero text
 behind_zero (false ∷ text) = text
 
--- after so many contiguous 1s these bits end nothing: they bring no seventh 1, and no 0 after the sixth
+-- after at most six contiguous 1s these bits end nothing: no seventh 1 comes (clause 2.10), and no 0 after the sixth (2.2)
 abbrev pub ends_nothing : ℕ → List Bool → Bool
 ends_nothing ones [] = true
 ends_nothing ones (true ∷ text) = nat_lt ones 6 && ends_nothing (suc ones) text
@@ -28,7 +28,7 @@ abbrev pub only_flag_ends : ℕ → List Bool → Bool
 only_flag_ends ones text = nat_eq (ones + ones_before text) 6 && ends_nothing 0 (behind_zero text)
 
 -- after `ones` 1s and an octet in which a flag ends: the 1s before the flag's last bit, what stays of the bits behind
--- it where stuffed 0s are taken out, and the 1s at the octet's end
+-- it where stuffed 0s are taken out (clause 2.6), and the 1s at the octet's end
 pub record IsFlagEnd (ones octet before content count run : ℕ) : Type 0 where
   pub six : ones + before ≡ 6
   pub begins : low_bits 8 octet ≡ replicate before true ++ (false ∷ behind_zero (low_bits 8 octet))
@@ -36,7 +36,7 @@ pub record IsFlagEnd (ones octet before content count run : ℕ) : Type 0 where
   pub stays : unstuffed (behind_zero (low_bits 8 octet)) ≡ low_bits count content
   pub run_is : run ≡ run_of (reverse (behind_zero (low_bits 8 octet)) ++ (false ∷ []))
 
--- after `ones` 1s and an octet that ends nothing and brings six 1s at its end: what stays of it, and the 1s at its end
+-- after `ones` 1s and an octet that ends nothing: what stays of it (clause 2.6), and the 1s at its end
 pub record IsFlagBegun (ones octet content count run : ℕ) : Type 0 where
   pub few : ones ≤ 5
   pub quiet : ends_nothing ones (low_bits 8 octet) ≡ true

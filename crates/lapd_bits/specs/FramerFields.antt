@@ -11,6 +11,7 @@ framing_of a =
 
 pub record IsSound (a : Inside) : Type 0 where
   pub room : a.n201 ≤ 1024
+  -- in fortieths: 48 for each octet of the longest frame and its check, 35 for the bits that were left, 1 for the flag
   pub space : 48 * a.n201 + 324 ≤ 40 * vec_len a.octets
   pub end : a.end ≤ vec_len a.octets
   pub next : a.next ≤ a.end

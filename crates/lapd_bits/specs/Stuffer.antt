@@ -5,7 +5,7 @@ use Rattle.lapd_bits.specs.Stuffing.{stuffed}
 use Rattle.lapd_bits.specs.Deframer.{run_of}
 use Rattle.lapd_bits.specs.Steps.{with_bits}
 
--- five contiguous 1s stand somewhere in a text
+-- five contiguous 1s stand somewhere in a text, so that a 0 is stuffed (clause 2.6)
 abbrev pub has_five : List Bool → Bool
 has_five (true ∷ true ∷ true ∷ true ∷ true ∷ text) = true
 has_five (b ∷ text) = has_five text

@@ -110,8 +110,8 @@ pub(crate) fn flag_end(ones: u8, octet: u8) -> Option<FlagEnd>
     })
 }
 
-/// What an octet brings after so many contiguous 1s whose last seven bits are a flag's first; none where it is another
-/// octet, or something ends in it.
+/// What an octet brings after so many contiguous 1s whose last seven bits are a flag's first, and in which
+/// nothing ends. None is no more than slower, and no clause says where it is answered.
 pub(crate) fn flag_begun(ones: u8, octet: u8) -> Option<Content>
     requires counted { ones ≤ 7 }
     ensures some { IfSome result (λ content. IsFlagBegun ones octet content.bits content.count content.ones) }

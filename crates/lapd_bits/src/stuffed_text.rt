@@ -122,7 +122,7 @@ impl StuffedText {
         let four = u32::from_le_bytes([octets[at], octets[at + 1], octets[at + 2], last]);
         if go_as_they_are(self.ones, four) {
             self.waiting.push(u64::from(four), 4 * OCTET_BITS);
-            // Five 1s before it or more would have come together: so it has a 0, and nothing before it counts.
+            // With no five 1s together the last octet has a 0, so no 1 before it counts.
             self.ones = usize::from(stuffed_octet(0, last).ones);
         } else {
             self.push(octets[at]);

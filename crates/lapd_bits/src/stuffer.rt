@@ -1,6 +1,6 @@
-//! Stuffs an octet at once (clause 2.6), by tables.
+//! Stuffs an octet at once (clause 2.6), by tables, and tells of four octets whether they need it.
 //!
-//! The tables have 256 entries for each number of 1s that went right before an octet, 0 to 4, in this order. The 0
+//! The tables of octets have 256 entries for each number of 1s that went right before an octet, 0 to 4, in this order. The 0
 //! after a fifth 1 goes with it, so no fifth 1 is ever the last bit.
 ghost use Rattle.std.specs.Prelude.{◌≡◌, ◌<◌, ◌≤◌, ◌+◌, ◌*◌, ◌^◌, ◌++◌, true, false, IsTrue, replicate};
 ghost use Rattle.lapd_bits.specs.Bits.{low_bits};
@@ -229,7 +229,8 @@ pub(crate) fn stuffed_octet(ones: usize, octet: u8) -> StuffedOctet
     }
 }
 
-/// Whether four octets, the first lowest, go as they are after so many 1s: nowhere do five 1s come together.
+/// True only where four octets, the first lowest, go as they are after so many 1s: nowhere do five 1s come together. False
+/// is no more than slower.
 pub(crate) fn go_as_they_are(ones: usize, four: u32) -> bool
     requires few { ones ≤ 4 }
     ensures { IsTrue result → has_five (replicate ones true ++ low_bits 32 four) ≡ false }

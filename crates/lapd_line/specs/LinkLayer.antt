@@ -31,7 +31,7 @@ pub record Stands (e : LinkLayer) (store : Store) (others : List Owned) (m : Lin
   pub addressed : AreFor e.units.waiting m.units
   pub capacity : e.units.capacity ≡ e.config.unit_queue
   pub turn : m.turn ≡ e.turn
-  -- so a pull need not ask the others
+  -- no link that has something to give is taken to be asleep
   pub asleep : NoneMissed e.awake e.links m.links
   pub held : Holds store ((links_pairs e.links m.links ++ unit_pairs e.units.waiting m.units) ++ others)
 

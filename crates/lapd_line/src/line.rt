@@ -35,7 +35,7 @@ pub struct Line {
     framer: Framer,
     layer: LinkLayer,
     /// A pull found nothing to send, and nothing has happened since but octets that ended nothing and pulls. So the next
-    /// pull need not ask all links again.
+    /// pull need not look for messages, unit data and links that are awake again.
     quiet: bool,
 }
 

@@ -28,7 +28,7 @@ pub(crate) struct LinkLayer {
     pub(crate) units: Units,
     /// The link at which the next round of pulls begins.
     pub(crate) turn: usize,
-    /// The links that may have something to give. All others were asked, and nothing has happened to them since.
+    /// The links that may have something to give. No other has.
     pub(crate) awake: Awake,
 }
 

@@ -1,5 +1,6 @@
 -- What is left where a frame has been loaded.
-use Rattle.std.proofs.Common.{◌≡◌, ℕ, ◌/◌, ◌%◌, ◌≤◌, Bool, List, [], ◌++◌, ap, sym, ◌∙◌, append-nil}
+use Rattle.std.proofs.Common.{◌≡◌, ℕ, ◌/◌, ◌%◌, ◌≤◌, Bool, List, [], ◌++◌, length, take, drop, ap, sym, ◌∙◌, append-nil, arith}
+use Rattle.std.proofs.lemmas.List.{take_all, drop_all}
 use Rattle.std.specs.Int.{to_le_bytes, w16}
 use Rattle.lapd_bits.specs.Bits.{bits, low_bits}
 use Rattle.lapd_bits.specs.Stuffing.{stuffed}
@@ -24,3 +25,10 @@ frame_made before after octets fcs run few checked goes =
     ∙ goes []
     ∙ ap (λ l. before ++ stuffed (bits l)) (append-nil all)
     ∙ ap (λ l. before ++ stuffed l) (bits-append octets (to_le_bytes w16 fcs) ∙ ap (λ l. bits octets ++ l) (bits-to_le_bytes fcs ∙ checked))
+
+-- what is left of a list of octets that others of the same number have replaced
+pub written_back : (len : ℕ) (new old : List ℕ) → len ≡ length old → length new ≡ length old → take len (new ++ drop (length new) old) ≡ new
+written_back len new old size same =
+    ap (λ l. take len (new ++ l)) (drop_all (length new) old (omega (arith, same)))
+    ∙ ap (take len) (append-nil new)
+    ∙ take_all len new (omega (arith, size, same))

@@ -18,9 +18,9 @@ pub above_fits : (number place more : ℕ) → place < 8 → number < 2 ^ place 
 above_fits number place more small below few =
     omega (arith, mul-add-lt more (2 ^ place) number 256 few below, pow_below place 8 small)
 
-pub above_is : (number place more : ℕ) → place < 8 → number < 2 ^ place → more < 256 → number + more * 2 ^ place % 65536 ≡ number + more * 2 ^ place
+pub above_is : (number place more : ℕ) → place < 8 → number < 2 ^ place → more < 256 → number + more * 2 ^ place % 4294967296 ≡ number + more * 2 ^ place
 above_is number place more small below few =
-    let fits : more * 2 ^ place < 65536 = omega (arith, above_fits number place more small below few) in
+    let fits : more * 2 ^ place < 4294967296 = omega (arith, above_fits number place more small below few) in
     ap (λ n. number + n) (mod-eq_of_lt fits)
 
 pub above_bits : (number place more n : ℕ) → number < 2 ^ place → low_bits (place + n) (number + more * 2 ^ place) ≡ low_bits place number ++ low_bits n more

@@ -7,7 +7,7 @@ pub mod StuffingClosed
 pub mod Places
 pub mod Hearing
 pub mod FlagPlaces
-pub mod Latest
+pub mod Lent
 pub mod Assembly
 pub mod BitSteps
 pub mod Joining

@@ -1,7 +1,9 @@
 -- A stuffed text as it is made: octets are put after it, and its bits go into the buffer.
-use Rattle.std.proofs.Common.{◌≡◌, ℕ, suc, ◌+◌, ◌*◌, ◌^◌, ◌<◌, ◌≤◌, Bool, true, false, List, [], ◌∷◌, ◌++◌, length, take, drop, drop-cons, get_or, replicate, refl, ap, sym, ◌∙◌, subst, arith, ⊎_elim, append_assoc, append-nil}
+use Rattle.std.proofs.Common.{◌≡◌, ℕ, zero, suc, ◌+◌, ◌*◌, ◌^◌, ◌<◌, ◌≤◌, Bool, true, false, List, [], ◌∷◌, ◌++◌, length, take, drop, drop-cons, get_or, replicate, refl, ap, sym, ◌∙◌, subst, arith, ⊎_elim, append_assoc, append-nil}
 use Rattle.std.proofs.lemmas.Bool.{lt-ltb, le-ltb, cases_lt}
 use Rattle.std.proofs.lemmas.Grind.{take-set_at}
+use Rattle.std.proofs.lemmas.List.{drop_all, drop-drop}
+use Rattle.std.specs.Simd.{first_chunks}
 use Rattle.std.specs.Prelude.{slice_set}
 use Rattle.std.specs.Int.{from_le_bytes, w32}
 use Rattle.lapd_bits.specs.Bits.{low_bits, bits}
@@ -104,18 +106,24 @@ pub Goes-behind : (front a b : List Bool) (l m : ℕ) (octets : List ℕ) → Go
 Goes-behind front a b l m octets goes rest =
     append_assoc front b (text_from rest m) ∙ ap (λ t. front ++ t) (goes rest) ∙ sym (append_assoc front a (text_from (octets ++ rest) l))
 
--- ---- octets where they lie
+-- ---- four octets of a list
 
-pub four_at : (octets : List ℕ) (at : ℕ) → at + 4 ≤ length octets → take 4 (drop at octets) ≡ get_or octets at 0 ∷ get_or octets (at + 1) 0 ∷ get_or octets (at + 2) 0 ∷ get_or octets (at + 3) 0 ∷ []
-four_at octets at within =
-    let one : suc at ≡ at + 1 = omega arith in
-    let two : suc (suc at) ≡ at + 2 = omega arith in
-    let three : suc (suc (suc at)) ≡ at + 3 = omega arith in
-    ap (take 4) (drop-cons octets at 0 (omega arith))
-    ∙ ap (λ l. get_or octets at 0 ∷ take 3 l) (drop-cons octets (suc at) 0 (omega arith))
-    ∙ ap (λ l. get_or octets at 0 ∷ get_or octets (suc at) 0 ∷ take 2 l) (drop-cons octets (suc (suc at)) 0 (omega arith))
-    ∙ ap (λ l. get_or octets at 0 ∷ get_or octets (suc at) 0 ∷ get_or octets (suc (suc at)) 0 ∷ take 1 l) (drop-cons octets (suc (suc (suc at))) 0 (omega arith))
-    ∙ (λ i. get_or octets at 0 ∷ get_or octets (one i) 0 ∷ get_or octets (two i) 0 ∷ get_or octets (three i) 0 ∷ [])
+-- one by one
+pub are_four : (octets : List ℕ) → length octets ≡ 4 → octets ≡ get_or octets 0 0 ∷ get_or octets 1 0 ∷ get_or octets 2 0 ∷ get_or octets 3 0 ∷ []
+are_four octets four =
+    drop-cons octets 0 0 (omega arith)
+    ∙ ap (λ l. get_or octets 0 0 ∷ l) (drop-cons octets 1 0 (omega arith))
+    ∙ ap (λ l. get_or octets 0 0 ∷ get_or octets 1 0 ∷ l) (drop-cons octets 2 0 (omega arith))
+    ∙ ap (λ l. get_or octets 0 0 ∷ get_or octets 1 0 ∷ get_or octets 2 0 ∷ l)
+    (drop-cons octets 3 0 (omega arith) ∙ ap (λ l. get_or octets 3 0 ∷ l) (drop_all 4 octets (omega arith)))
+
+-- one of the fours, in their order
+pub four_at : (k i : ℕ) (octets : List ℕ) (d : List ℕ) → i < k → get_or (first_chunks 4 k octets) i d ≡ take 4 (drop (4 * i) octets)
+four_at zero i octets d none = absurd (omega (arith, none))
+four_at (suc k) zero octets d within = refl
+four_at (suc k) (suc i) octets d within =
+    four_at k i (drop 4 octets) d (omega (arith, within))
+    ∙ ap (take 4) (drop-drop (4 * i) 4 octets ∙ ap (λ n. drop n octets) (omega arith))
 
 -- ---- an octet goes into the buffer
 

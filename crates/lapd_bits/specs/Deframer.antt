@@ -5,6 +5,7 @@ use Rattle.lapd_bits.specs.Bits.{low_bits, bits}
 use Rattle.lapd_bits.specs.Stuffing.{unstuffed}
 use Rattle.lapd_bits.specs.Register.{HoldsDivision}
 use Rattle.lapd_bits.specs.Stream.{Event, heard_in, since_flag, has_abort, room_for}
+use Rattle.lapd_bits.specs.Ended.{ended_of}
 use Rattle.lapd_bits.specs.Heard.{event_in}
 use Rattle.lapd_bits.specs.declared.gap.Gap.{Gap}
 use Rattle.lapd_bits.specs.declared.deframer.Deframer.{Deframer}
@@ -65,7 +66,7 @@ pub record HoldsPast (octets : List ℕ) (ones : ℕ) (gap : Option Gap) (past :
 
 -- What a deframer lends until its next octet: what the latest octet ended.
 abbrev pub latest_of : Deframer → Option Event
-latest_of deframer = event_in deframer.octets.items deframer.ended
+latest_of deframer = event_in deframer.octets.items (ended_of deframer.ended)
 
 -- A deframer for information fields of `n201` octets stands for the octets that a line has brought so far, and
 -- still has what the latest of them brought.

@@ -2,12 +2,13 @@
 ghost use Rattle.std.specs.Prelude.{◌≡◌, ℕ, ◌≤◌, ◌+◌, Bool, true, false, List, [], ◌∷◌, ◌++◌, length, vec_len, IsTrue, IfOk, Option, Some, None, option_to_list, option_map};
 ghost use Rattle.std.specs.Option.{ForSome};
 ghost use Rattle.lapd_bits.specs.Bits.{low_bits};
-ghost use Rattle.lapd_bits.specs.Ended.{FitsIn};
+ghost use Rattle.lapd_bits.specs.Ended.{FitsIn, ended_of};
 ghost use Rattle.lapd_bits.specs.Stream.{heard_in, heard_until};
 
 use crate::flag_end::{FLAG, flag_begun, flag_end};
 use crate::gap::Gap;
 use crate::heard::{Cause, Ended, Heard};
+use crate::latest::Latest;
 use crate::start_fault::StartFault;
 use crate::unstuffer::{Content, at_once};
 use std::alloc::Global;
@@ -26,12 +27,12 @@ pub struct Deframer {
     pub(crate) ones: u8,
     pub(crate) gap: Option<Gap>,
     /// What the latest octet ended. It lies in `octets` until the next.
-    ended: Ended,
+    pub(crate) ended: Latest,
     ghost room: { 6 ≤ vec_len octets },
     ghost room_counts: { vec_len octets ≤ 1030 },
     ghost ones_counted: { ones ≤ 7 },
     ghost gap_fits: { ForSome gap (λ g. g.count ≤ vec_len octets) },
-    ghost ended_fits: { FitsIn (vec_len octets) ended },
+    ghost ended_fits: { FitsIn (vec_len octets) (ended_of ended) },
 }
 
 impl Deframer {
@@ -59,7 +60,7 @@ impl Deframer {
             octets,
             ones: 7,
             gap: None,
-            ended: Ended::Nothing,
+            ended: Latest::Nothing,
         })
     }
 
@@ -95,15 +96,15 @@ impl Deframer {
         // Most octets end nothing. They are taken here, and all others apart, so that a caller has little to do for them.
         if let Some(content) = at_once(self.ones, octet) {
             self.take_content(content);
-            self.ended = Ended::Nothing;
+            self.ended = Latest::Nothing;
             return Ended::Nothing;
         }
         if self.is_idle(octet) {
-            self.ended = Ended::Nothing;
+            self.ended = Latest::Nothing;
             return Ended::Nothing;
         }
         self.take_ending(octet);
-        self.ended
+        self.ended.ended()
     }
 
     /// Lends again what the latest octet ended, until the next octet; nothing where no octet has come.
@@ -115,10 +116,10 @@ impl Deframer {
             → heard_in n201 (past ++ octet ∷ []) ≡ heard_in n201 past ++ option_to_list (heard_of result) }
     {
         match self.ended {
-            Ended::Nothing => Heard::Nothing,
-            Ended::Dropped(cause) => Heard::Dropped(cause),
-            Ended::Frame(len) => Heard::Frame(&self.octets[..len]),
-            Ended::Overlong => {
+            Latest::Nothing => Heard::Nothing,
+            Latest::Dropped(cause) => Heard::Dropped(cause),
+            Latest::Frame(len) => Heard::Frame(&self.octets[..usize::from(len)]),
+            Latest::Overlong => {
                 let octets = &self.octets;
                 Heard::Overlong([octets[0], octets[1], octets[2], octets[3]])
             }
@@ -161,6 +162,7 @@ impl Deframer {
     fn take_content(&mut self, content: Content)
         ensures room { length self.new.octets.items ≡ length self.old.octets.items }
         ensures ones { self.new.ones ≡ content.ones }
+        ensures ended { self.new.ended ≡ self.old.ended }
         ensures stands { (octet : ℕ) (gap : Option (List Bool)) → IsJoined octet (low_bits content.count content.bits) gap
             → HoldsGap self.old.octets.items self.old.gap gap
             → HoldsGap self.new.octets.items self.new.gap (option_map (with_bits 8 octet) gap) }
@@ -172,47 +174,36 @@ impl Deframer {
     }
 
     /// Takes an octet that may end something, and keeps what it has ended: an answer would take the caller room and time at
-    /// each octet, also where this is not called.
+    /// each octet, also where this is not called. It is said to be rare, so that a caller's loop goes straight on for all
+    /// other octets.
     #[inline(never)]
+    #[cold]
     fn take_ending(&mut self, octet: u8)
-        ensures fits { FitsIn (vec_len self.new.octets) self.new.ended }
         ensures room { length self.new.octets.items ≡ length self.old.octets.items }
         ensures stands { (past : List Bool) → HoldsPast self.old.octets.items self.old.ones self.old.gap past
             → HoldsPast self.new.octets.items self.new.ones self.new.gap (with_bits 8 octet past) }
         ensures told { (past : List Bool) → HoldsPast self.old.octets.items self.old.ones self.old.gap past
             → heard_until (length self.old.octets.items) (with_bits 8 octet past)
             ≡ heard_until (length self.old.octets.items) past
-            ++ option_to_list (event_in self.new.octets.items self.new.ended) }
-    {
-        let ended = self.ending(octet);
-        self.ended = ended;
-    }
-
-    /// What an octet ends that may end something.
-    #[inline(always)]
-    fn ending(&mut self, octet: u8) -> Ended
-        ensures fits { FitsIn (vec_len self.new.octets) result }
-        ensures room { length self.new.octets.items ≡ length self.old.octets.items }
-        ensures stands { (past : List Bool) → HoldsPast self.old.octets.items self.old.ones self.old.gap past
-            → HoldsPast self.new.octets.items self.new.ones self.new.gap (with_bits 8 octet past) }
-        ensures told { (past : List Bool) → HoldsPast self.old.octets.items self.old.ones self.old.gap past
-            → heard_until (length self.old.octets.items) (with_bits 8 octet past)
-            ≡ heard_until (length self.old.octets.items) past
-            ++ option_to_list (event_in self.new.octets.items result) }
+            ++ option_to_list (event_in self.new.octets.items (ended_of self.new.ended)) }
     {
         // Mostly a flag ends, or all of it but its last bit has come. Taking such an octet at once is there for speed
         // alone: bit by bit it brings the same.
         if octet == FLAG && self.ones < 5 {
-            return self.take_flag();
+            self.take_flag();
+            return;
         }
         if let Some(flag) = flag_end(self.ones, octet) {
-            return self.take_flag_end(flag);
+            self.take_flag_end(flag);
+            return;
         }
         if let Some(content) = flag_begun(self.ones, octet) {
             self.take_content(content);
-            return Ended::Nothing;
+            self.ended = Latest::Nothing;
+            return;
         }
-        self.bit_by_bit(octet)
+        let ended = self.bit_by_bit(octet);
+        self.ended = Latest::of(ended);
     }
 
     /// Takes an octet bit by bit.

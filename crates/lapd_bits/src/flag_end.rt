@@ -4,13 +4,13 @@
 //! which it begins. So the flag's last bit is the octet's first 0, and what stands behind it depends on the octet alone.
 ghost use Rattle.std.specs.Prelude.{◌≡◌, ℕ, ◌≤◌, ◌<◌, ◌+◌, ◌^◌, ◌↔◌, ◌++◌, Bool, true, List, replicate, length, vec_len, IsNone, IsFalse, IfSome, option_to_list};
 ghost use Rattle.lapd_bits.specs.Bits.{low_bits};
-ghost use Rattle.lapd_bits.specs.Ended.{FitsIn};
+ghost use Rattle.lapd_bits.specs.Ended.{ended_of};
 ghost use Rattle.lapd_bits.specs.FlagEnd.{only_flag_ends, IsFlagEnd, IsFlagBegun};
 ghost use Rattle.lapd_bits.specs.Stream.{heard_until};
 
 use crate::deframer::Deframer;
 use crate::gap::Gap;
-use crate::heard::Ended;
+use crate::latest::Latest;
 use crate::unstuffer::Content;
 
 /// The 1s with which an octet begins; 7 too where the bits behind its first 0 end a flag or hold seven 1s.
@@ -145,8 +145,7 @@ impl Deframer {
     ghost use Rattle.lapd_bits.specs.Steps.{closed_event, with_bits};
 
     /// Takes an octet in which a flag ends and nothing else does.
-    pub(crate) fn take_flag_end(&mut self, flag: FlagEnd) -> Ended
-        ensures fits { FitsIn (vec_len self.new.octets) result }
+    pub(crate) fn take_flag_end(&mut self, flag: FlagEnd)
         ensures room { length self.new.octets.items ≡ length self.old.octets.items }
         ensures stands { (octet : ℕ) → IsFlagEnd self.old.ones octet flag.before flag.bits flag.count flag.ones
             → (past : List Bool) → HoldsPast self.old.octets.items self.old.ones self.old.gap past
@@ -155,52 +154,50 @@ impl Deframer {
             → (past : List Bool) → HoldsPast self.old.octets.items self.old.ones self.old.gap past
             → heard_until (length self.old.octets.items) (with_bits 8 octet past)
             ≡ heard_until (length self.old.octets.items) past
-            ++ option_to_list (event_in self.new.octets.items result) }
+            ++ option_to_list (event_in self.new.octets.items (ended_of self.new.ended)) }
     {
-        let ended = self.closed_after(flag.before);
+        self.close_after(flag.before);
         self.gap = Some(Gap::begun(flag.bits, flag.count, 7 - flag.before));
         self.ones = flag.ones;
-        ended
     }
 
     /// Takes an octet that is a flag, of which the first 0 is not stuffed.
-    pub(crate) fn take_flag(&mut self) -> Ended
+    pub(crate) fn take_flag(&mut self)
         requires few { self.old.ones < 5 }
-        ensures fits { FitsIn (vec_len self.new.octets) result }
         ensures room { length self.new.octets.items ≡ length self.old.octets.items }
         ensures stands { (past : List Bool) → HoldsPast self.old.octets.items self.old.ones self.old.gap past
             → HoldsPast self.new.octets.items self.new.ones self.new.gap (with_bits 8 FLAG past) }
         ensures told { (past : List Bool) → HoldsPast self.old.octets.items self.old.ones self.old.gap past
             → heard_until (length self.old.octets.items) (with_bits 8 FLAG past)
             ≡ heard_until (length self.old.octets.items) past
-            ++ option_to_list (event_in self.new.octets.items result) }
+            ++ option_to_list (event_in self.new.octets.items (ended_of self.new.ended)) }
     {
         self.take(false);
-        let ended = self.closed_after(6);
+        self.close_after(6);
         self.gap = Some(Gap::new());
         self.ones = 0;
-        ended
     }
 
-    /// What a flag closes whose last bit comes after so many 1s more.
-    fn closed_after(&mut self, before: u8) -> Ended
+    /// Closes the open gap, by a flag whose last bit comes after so many 1s more.
+    fn close_after(&mut self, before: u8)
         requires few { before ≤ 6 }
-        ensures fits { FitsIn (vec_len self.new.octets) result }
         ensures room { length self.new.octets.items ≡ length self.old.octets.items }
         ensures told { (past : List Bool) → run_of past + before ≡ 6
             → HoldsGap self.old.octets.items self.old.gap (open_gap past)
-            → event_in self.new.octets.items result
+            → event_in self.new.octets.items (ended_of self.new.ended)
             ≡ closed_event (length self.old.octets.items) (open_gap (replicate before true ++ past)) }
     {
         let Some(gap) = &mut self.gap else {
-            return Ended::Nothing;
+            self.ended = Latest::Nothing;
+            return;
         };
         // Nothing stands between two flags that follow one another or share their 0.
         if gap.since() + before < 8 {
-            return Ended::Nothing;
+            self.ended = Latest::Nothing;
+            return;
         }
         gap.join(&mut self.octets, six_ones_of(before), before);
-        gap.closed(&self.octets)
+        self.ended = Latest::of(gap.closed(&self.octets));
     }
 }
 

@@ -104,6 +104,8 @@ impl Framer {
     ///
     /// Fewer than eight bits may be left ([`Framer::busy`] is false). `head` has at most 4 octets, `info` at most the
     /// `n201` of the start, and both together at least 3.
+    // Apart, so that a caller's loop over octets keeps its registers.
+    #[inline(never)]
     pub fn load(&mut self, head: &[u8], info: &[u8])
         requires not_busy { length self.old.left < 8 }
         requires head { length head.now ≤ 4 }
@@ -117,10 +119,11 @@ impl Framer {
     {
         let check = fcs_of_both(head, info);
         let mut text = StuffedText::after(self.after);
-        text.stuff(&mut self.octets, head);
-        text.stuff(&mut self.octets, info);
-        text.stuff(&mut self.octets, &check.to_le_bytes());
-        text.close(&mut self.octets);
+        let octets = self.octets.as_mut_slice();
+        text.stuff(octets, head);
+        text.stuff(octets, info);
+        text.stuff(octets, &check.to_le_bytes());
+        text.close(octets);
         self.next = 0;
         self.end = text.end();
         self.after = text.waiting();

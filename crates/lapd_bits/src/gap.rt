@@ -172,6 +172,7 @@ impl Gap {
 
     /// Takes an octet that there is no room for.
     #[inline(never)]
+    #[cold]
     fn pass_over(&mut self, octets: &Vec<u8>, octet: u8)
         requires full { self.old.count ≡ vec_len octets.now }
         ensures count { self.new.count ≡ self.old.count }
@@ -240,7 +241,7 @@ fn with_bit(number: u8, place: u8, bit: bool) -> u8
 }
 
 /// The number with `more` above its `place` low bits.
-fn above(number: u8, place: u8, more: u8, count: u8) -> u16
+fn above(number: u8, place: u8, more: u8, count: u8) -> u32
     requires place { place < 8 }
     requires below { number < 2 ^ place }
     requires more { more < 2 ^ count }
@@ -248,5 +249,5 @@ fn above(number: u8, place: u8, more: u8, count: u8) -> u16
     ensures bits { low_bits (place + count) result ≡ low_bits place number ++ low_bits count more }
     ensures below { result < 2 ^ (place + count) }
 {
-    number as u16 + ((more as u16) << place)
+    number as u32 + ((more as u32) << place)
 }

@@ -7,7 +7,8 @@
 //! flag, as long as no seven 1s have given it up. An *item* is what is sent after a line's opening flag: an idle flag,
 //! or a stuffed frame with its check and its closing flag.
 //!
-//! - `deframer`, over `gap`, `unstuffer` and `flag_end`: from octets to frames; `heard`: what it answers.
+//! - `deframer`, over `gap`, `unstuffer` and `flag_end`: from octets to frames; `heard`: what it answers; `latest`: what
+//!   it keeps of that.
 //! - `framer`, over `stuffed_text`, `stuffer` and `waiting`: from frames to octets.
 //! - `start_fault`: why neither could be started.
 //! - `check`: the frame check sequence.
@@ -22,6 +23,7 @@ mod framer;
 mod gap;
 mod heard;
 mod heard_within;
+mod latest;
 mod one_event;
 mod round_trip;
 mod start_fault;

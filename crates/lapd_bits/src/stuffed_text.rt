@@ -1,5 +1,5 @@
 //! The stuffed text of octets (clause 2.6), as it is made.
-ghost use Rattle.std.specs.Prelude.{◌≡◌, ℕ, ◌+◌, ◌*◌, ◌/◌, ◌<◌, ◌≤◌, [], ◌∷◌, ◌++◌, length, take, drop, vec_len};
+ghost use Rattle.std.specs.Prelude.{◌≡◌, ℕ, ◌+◌, ◌*◌, ◌/◌, ◌<◌, ◌≤◌, [], ◌∷◌, ◌++◌, length, take, drop};
 ghost use Rattle.lapd_bits.specs.Bits.{flag};
 ghost use Rattle.lapd_bits.specs.FramerText.{waits, made, fifths, Goes};
 
@@ -51,15 +51,17 @@ impl StuffedText {
     }
 
     /// Goes on with octets.
-    pub(crate) fn stuff(&mut self, buffer: &mut Vec<u8>, octets: &[u8])
+    // Into the one function that makes a text, where its fields then stay in registers.
+    #[inline(always)]
+    pub(crate) fn stuff(&mut self, buffer: &mut [u8], octets: &[u8])
         requires few { self.old.ones ≤ 4 }
         requires low { self.old.waiting.count < 8 }
-        requires room { fifths self.old + 48 * length octets.now ≤ 40 * vec_len buffer.old }
-        ensures goes { Goes (made self.old buffer.old.items) self.old.ones octets.now (made self.new buffer.new.items) self.new.ones }
+        requires room { fifths self.old + 48 * length octets.now ≤ 40 * length buffer.old }
+        ensures goes { Goes (made self.old buffer.old) self.old.ones octets.now (made self.new buffer.new) self.new.ones }
         ensures few { self.new.ones ≤ 4 }
         ensures low { self.new.waiting.count < 8 }
         ensures pays { fifths self.new ≤ fifths self.old + 48 * length octets.now }
-        ensures room { vec_len buffer.new ≡ vec_len buffer.old }
+        ensures room { length buffer.new ≡ length buffer.old }
     {
         if octets.is_empty() {
             return;
@@ -73,33 +75,35 @@ impl StuffedText {
     }
 
     /// Ends the text with a flag.
-    pub(crate) fn close(&mut self, buffer: &mut Vec<u8>)
+    pub(crate) fn close(&mut self, buffer: &mut [u8])
         requires low { self.old.waiting.count < 8 }
-        requires room { self.old.end < vec_len buffer.old }
-        ensures made { made self.new buffer.new.items ≡ made self.old buffer.old.items ++ flag }
+        requires room { self.old.end < length buffer.old }
+        ensures made { made self.new buffer.new ≡ made self.old buffer.old ++ flag }
         ensures low { self.new.waiting.count < 8 }
         ensures end { self.new.end ≡ self.old.end + 1 }
-        ensures room { vec_len buffer.new ≡ vec_len buffer.old }
+        ensures room { length buffer.new ≡ length buffer.old }
     {
         self.waiting.push_flag();
         self.give(buffer);
     }
 
     // Goes on with octets, but for those at the end that are fewer than four.
-    fn stuff_fours(&mut self, buffer: &mut Vec<u8>, octets: &[u8])
+    #[inline(always)]
+    fn stuff_fours(&mut self, buffer: &mut [u8], octets: &[u8])
         requires few { self.old.ones ≤ 4 }
         requires low { self.old.waiting.count < 8 }
-        requires room { fifths self.old + 48 * length octets.now ≤ 40 * vec_len buffer.old }
-        ensures goes { Goes (made self.old buffer.old.items) self.old.ones (take (4 * (length octets.now / 4)) octets.now) (made self.new buffer.new.items) self.new.ones }
+        requires room { fifths self.old + 48 * length octets.now ≤ 40 * length buffer.old }
+        ensures goes { Goes (made self.old buffer.old) self.old.ones (take (4 * (length octets.now / 4)) octets.now) (made self.new buffer.new) self.new.ones }
         ensures few { self.new.ones ≤ 4 }
         ensures low { self.new.waiting.count < 8 }
         ensures pays { fifths self.new ≤ fifths self.old + 48 * (4 * (length octets.now / 4)) }
-        ensures room { vec_len buffer.new ≡ vec_len buffer.old }
+        ensures room { length buffer.new ≡ length buffer.old }
     {
+        let (fours, _) = octets.as_chunks::<AT_ONCE>();
         // in a local, so that it stays in registers
         let mut text = *self;
-        for four in 0..octets.len() / AT_ONCE {
-            text.push_four(octets, AT_ONCE * four);
+        for four in fours {
+            text.push_four(four);
             text.give_four(buffer);
         }
         *self = text;
@@ -107,27 +111,26 @@ impl StuffedText {
 
     // Has the stuffed bits of four octets wait, 32 to 39 and those that waited.
     #[inline(always)]
-    fn push_four(&mut self, octets: &[u8], at: usize)
+    fn push_four(&mut self, octets: &[u8; 4])
         requires few { self.old.ones ≤ 4 }
         requires low { self.old.waiting.count < 8 }
-        requires four { at + 4 ≤ length octets.now }
-        ensures goes { Goes (waits self.old.waiting) self.old.ones (take 4 (drop at octets.now)) (waits self.new.waiting) self.new.ones }
+        ensures goes { Goes (waits self.old.waiting) self.old.ones octets.now (waits self.new.waiting) self.new.ones }
         ensures few { self.new.ones ≤ 4 }
         ensures end { self.new.end ≡ self.old.end }
         ensures pays { fifths self.new ≤ fifths self.old + 48 * 4 }
         ensures many { 32 ≤ self.new.waiting.count }
         ensures room { self.new.waiting.count < 48 }
     {
-        let last = octets[at + 3];
-        let four = u32::from_le_bytes([octets[at], octets[at + 1], octets[at + 2], last]);
+        let [first, second, third, last] = *octets;
+        let four = u32::from_le_bytes(*octets);
         if go_as_they_are(self.ones, four) {
             self.waiting.push(u64::from(four), 4 * OCTET_BITS);
             // With no five 1s together the last octet has a 0, so no 1 before it counts.
             self.ones = usize::from(stuffed_octet(0, last).ones);
         } else {
-            self.push(octets[at]);
-            self.push(octets[at + 1]);
-            self.push(octets[at + 2]);
+            self.push(first);
+            self.push(second);
+            self.push(third);
             self.push(last);
         }
     }
@@ -152,15 +155,15 @@ impl StuffedText {
 
     // Puts four octets of the bits that wait into the buffer, and a fifth where there is one.
     #[inline(always)]
-    fn give_four(&mut self, buffer: &mut Vec<u8>)
+    fn give_four(&mut self, buffer: &mut [u8])
         requires many { 32 ≤ self.old.waiting.count }
         requires most { self.old.waiting.count < 48 }
-        requires room { fifths self.old ≤ 40 * vec_len buffer.old }
-        ensures made { made self.new buffer.new.items ≡ made self.old buffer.old.items }
+        requires room { fifths self.old ≤ 40 * length buffer.old }
+        ensures made { made self.new buffer.new ≡ made self.old buffer.old }
         ensures ones { self.new.ones ≡ self.old.ones }
         ensures low { self.new.waiting.count < 8 }
         ensures pays { fifths self.new ≡ fifths self.old }
-        ensures room { vec_len buffer.new ≡ vec_len buffer.old }
+        ensures room { length buffer.new ≡ length buffer.old }
     {
         self.give(buffer);
         self.give(buffer);
@@ -172,13 +175,14 @@ impl StuffedText {
     }
 
     // Puts all whole octets of the bits that wait into the buffer.
-    fn give_all(&mut self, buffer: &mut Vec<u8>)
-        requires room { fifths self.old ≤ 40 * vec_len buffer.old }
-        ensures made { made self.new buffer.new.items ≡ made self.old buffer.old.items }
+    #[inline(always)]
+    fn give_all(&mut self, buffer: &mut [u8])
+        requires room { fifths self.old ≤ 40 * length buffer.old }
+        ensures made { made self.new buffer.new ≡ made self.old buffer.old }
         ensures ones { self.new.ones ≡ self.old.ones }
         ensures low { self.new.waiting.count < 8 }
         ensures pays { fifths self.new ≡ fifths self.old }
-        ensures room { vec_len buffer.new ≡ vec_len buffer.old }
+        ensures room { length buffer.new ≡ length buffer.old }
     {
         for _ in 0..self.waiting.count() / OCTET_BITS {
             self.give(buffer);
@@ -187,14 +191,14 @@ impl StuffedText {
 
     // Puts the first octet of the bits that wait into the buffer.
     #[inline(always)]
-    fn give(&mut self, buffer: &mut Vec<u8>)
+    fn give(&mut self, buffer: &mut [u8])
         requires eight { 8 ≤ self.old.waiting.count }
-        requires room { self.old.end < vec_len buffer.old }
-        ensures made { made self.new buffer.new.items ≡ made self.old buffer.old.items }
+        requires room { self.old.end < length buffer.old }
+        ensures made { made self.new buffer.new ≡ made self.old buffer.old }
         ensures ones { self.new.ones ≡ self.old.ones }
         ensures end { self.new.end ≡ self.old.end + 1 }
         ensures count { self.new.waiting.count + 8 ≡ self.old.waiting.count }
-        ensures room { vec_len buffer.new ≡ vec_len buffer.old }
+        ensures room { length buffer.new ≡ length buffer.old }
     {
         buffer[self.end] = self.waiting.octet();
         self.end += 1;

@@ -3,12 +3,12 @@ use Rattle.std.proofs.Common.{◌++◌, None, true, replicate, refl, sym, ◌∙
 use Rattle.std.proofs.lemmas.Bool.{false≢true, false_from_ne_true}
 use Rattle.lapd_bits.specs.Bits.{bits, low_bits}
 use Rattle.lapd_bits.specs.Deframer.{HoldsPast}
-use Rattle.lapd_bits.specs.Ended.{FitsIn}
+use Rattle.lapd_bits.specs.Ended.{FitsIn, ended_of}
 use Rattle.lapd_bits.specs.Heard.{event_in}
 use Rattle.lapd_bits.specs.Unstuffer.{has_six}
 use Rattle.lapd_bits.proofs.AtOnce.{HoldsPast-octet, heard-octet}
 use Rattle.lapd_bits.proofs.BitSteps.{with_bits-octet}
-use Rattle.lapd_bits.proofs.Latest.{heard_more, latest_more, told_is}
+use Rattle.lapd_bits.proofs.Lent.{heard_more, latest_more, told_is}
 use Rattle.lapd_bits.proofs.deframer.Deframer.step.Goals as goal
 
 pub returns-in-Some-clause-heard : goal.returns-in-Some-clause-heard
@@ -53,13 +53,13 @@ pub returns-clause-heard : goal.returns-clause-heard
 returns-clause-heard c n201 past h =
     let s = c.take_ending.ensures in
     let new = c.take_ending.new.self in
-    heard_more n201 past c.args.octet _ (event_in new.octets.items new.ended) h.room (s.told (reverse (bits past)) h.holds)
+    heard_more n201 past c.args.octet _ (event_in new.octets.items (ended_of new.ended)) h.room (s.told (reverse (bits past)) h.holds)
 
 pub returns-clause-after : goal.returns-clause-after
 returns-clause-after c n201 past h =
     let s = c.take_ending.ensures in
     let new = c.take_ending.new.self in
-    let brought = event_in new.octets.items new.ended in
+    let brought = event_in new.octets.items (ended_of new.ended) in
     record {
       room = s.room ∙ h.room;
       holds = subst (HoldsPast new.octets.items new.ones new.gap) (sym (with_bits-octet past c.args.octet)) (s.stands (reverse (bits past)) h.holds);
@@ -69,4 +69,4 @@ returns-clause-after c n201 past h =
 pub returns-clause-told : goal.returns-clause-told
 returns-clause-told c =
     let new = c.take_ending.new.self in
-    told_is new.octets.items new.ended (subst (λ n. FitsIn n new.ended) new.octets.ok.0 c.take_ending.ensures.fits)
+    c.ended.ensures ∙ told_is new.octets.items (ended_of new.ended) (subst (λ n. FitsIn n (ended_of new.ended)) new.octets.ok.0 new.ended_fits)

@@ -3,6 +3,7 @@ use Rattle.std.proofs.Common.{◌≡◌, ◌≢◌, ◌∷◌, ◌++◌, false, 
 use Rattle.lapd_bits.specs.Stream.{heard_until}
 use Rattle.lapd_bits.specs.Deframer.{run_of, open_gap, HoldsGap}
 use Rattle.lapd_bits.specs.Steps.{with_bits}
+use Rattle.lapd_bits.specs.Ended.{ended_of}
 use Rattle.lapd_bits.specs.Heard.{event_in}
 use Rattle.lapd_bits.proofs.BitSteps.{kept_zero}
 use Rattle.lapd_bits.proofs.Hearing.{open_gap-zero}
@@ -11,14 +12,14 @@ use Rattle.lapd_bits.proofs.deframer.Deframer.take_flag.Goals as goal
 
 pub returns-clause-stands : goal.returns-clause-stands
 returns-clause-stands c past h =
-    HoldsPast-flag past c.closed_after-ended.new.self.octets.items c.new.result c.new.ensures.since
-    (c.new.ensures.stands c.closed_after-ended.new.self.octets.items)
+    HoldsPast-flag past c.close_after.new.self.octets.items c.new.result c.new.ensures.since
+    (c.new.ensures.stands c.close_after.new.self.octets.items)
 
 pub returns-clause-told : goal.returns-clause-told
 returns-clause-told c past h =
     let old = c.args.self.now in
     let taken = c.take.new.self in
-    let closed = c.closed_after-ended in
+    let closed = c.close_after in
     let same : length taken.octets.items ≡ length old.octets.items = sym taken.octets.ok.0 ∙ c.take.ensures.room ∙ old.octets.ok.0 in
     let run = h.run in
     let not_five : run_of past ≢ 5 = omega (arith, c.requires.few) in
@@ -26,6 +27,6 @@ returns-clause-told c past h =
     let held =
     subst (HoldsGap taken.octets.items taken.gap) (sym (open_gap-zero past other))
     (c.take.ensures.stands (open_gap past) (kept_zero past not_five other) h.open_is) in
-    subst (λ room. heard_until room (with_bits 8 126 past) ≡ heard_until room past ++ option_to_list (event_in closed.new.self.octets.items closed.result)) same
-    (heard-flag past (length taken.octets.items) (event_in closed.new.self.octets.items closed.result) other
+    subst (λ room. heard_until room (with_bits 8 126 past) ≡ heard_until room past ++ option_to_list (event_in closed.new.self.octets.items (ended_of closed.new.self.ended))) same
+    (heard-flag past (length taken.octets.items) (event_in closed.new.self.octets.items (ended_of closed.new.self.ended)) other
     (closed.ensures.told (false ∷ past) refl held))

@@ -1,5 +1,4 @@
 -- An octet more lies in the buffer.
-use Rattle.std.proofs.Common.{arith}
 use Rattle.lapd_bits.specs.FramerText.{waits}
 use Rattle.lapd_bits.proofs.StuffedText.{made-given}
 use Rattle.lapd_bits.proofs.stuffed_text.StuffedText.give.Goals as goal
@@ -8,4 +7,4 @@ pub returns-clause-made : goal.returns-clause-made
 returns-clause-made c =
     let buffer = c.args.buffer.now in
     let text = c.args.self.now in
-    made-given buffer.items text.end c.octet.result (waits text.waiting) (waits c.octet.new.self) (omega (arith, buffer.ok.0, c.requires.room)) c.octet.ensures.bits
+    made-given buffer text.end c.octet.result (waits text.waiting) (waits c.octet.new.self) c.requires.room c.octet.ensures.bits

@@ -1,5 +1,5 @@
 -- The text goes on with the fours so far.
-use Rattle.std.proofs.Common.{◌≡◌, ◌+◌, ◌*◌, ◌<◌, ◌≤◌, take, vec_len}
+use Rattle.std.proofs.Common.{◌≡◌, ◌+◌, ◌*◌, ◌<◌, ◌≤◌, take, length}
 use Rattle.lapd_bits.specs.FramerText.{made, fifths, Goes}
 use Rattle.lapd_bits.proofs.stuffed_text.StuffedText.stuff_fours.Given as goal
 
@@ -8,7 +8,7 @@ invariant-loop-four l =
     record {
       few : l.text.ones ≤ 4;
       low : l.text.waiting.count < 8;
-      goes : Goes (made l.fn.self l.fn.buffer.items) l.fn.self.ones (take (4 * l.four) l.octets) (made l.text l.buffer.items) l.text.ones;
-      pays : fifths l.text ≤ fifths l.fn.self + 48 * (4 * l.four);
-      room : vec_len l.buffer ≡ vec_len l.fn.buffer;
+      goes : Goes (made l.fn.self l.fn.buffer) l.fn.self.ones (take (4 * l.four-index) l.octets) (made l.text l.buffer) l.text.ones;
+      pays : fifths l.text ≤ fifths l.fn.self + 48 * (4 * l.four-index);
+      room : length l.buffer ≡ length l.fn.buffer;
     }

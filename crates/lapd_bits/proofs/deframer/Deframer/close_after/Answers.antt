@@ -1,10 +1,11 @@
 -- No gap is open, or one of too few bits; or the 1s go on it, and it is closed.
-use Rattle.std.proofs.Common.{◌≡◌, Option, Some, None, length, refl, sym, subst, ◌∙◌, arith}
+use Rattle.std.proofs.Common.{◌≡◌, Option, Some, None, length, refl, ap, sym, subst, ◌∙◌, arith}
 use Rattle.lapd_bits.specs.Deframer.{HoldsGap, open_gap}
+use Rattle.lapd_bits.specs.Ended.{ended_of}
 use Rattle.lapd_bits.specs.Heard.{event_in}
 use Rattle.lapd_bits.specs.declared.gap.Gap.{Gap}
 use Rattle.lapd_bits.proofs.FlagEnd.{told-none, told-young, told-closed}
-use Rattle.lapd_bits.proofs.deframer.Deframer.closed_after.Goals as goal
+use Rattle.lapd_bits.proofs.deframer.Deframer.close_after.Goals as goal
 
 no_some : (o : Option Gap) → ((g : Gap) → o ≡ Some g → ⊥) → o ≡ None
 no_some None f = refl
@@ -29,6 +30,7 @@ returns-clause-told c past six h =
     let new = c.join.new.octets in
     let same : length new.items ≡ length s.octets.items = sym new.ok.0 ∙ c.join.ensures.room ∙ s.octets.ok.0 in
     told-closed s.octets.items new.items c.in-Some.gap c.join.new.self c.args.before c.six_ones_of.result past
-    (event_in new.items c.closed.result) six (omega (arith, c.since.ensures, c.if-since-before-lt8.false))
-    c.join.ensures.since c.six_ones_of.ensures.ones same c.join.ensures.stands c.closed.ensures.told
+    (event_in new.items (ended_of c.of-self.result)) six (omega (arith, c.since.ensures, c.if-since-before-lt8.false))
+    c.join.ensures.since c.six_ones_of.ensures.ones same c.join.ensures.stands
+    (λ whole keeps. ap (event_in new.items) c.of-self.ensures ∙ c.closed.ensures.told whole keeps)
     (subst (λ g. HoldsGap s.octets.items g (open_gap past)) c.in-Some.is h)

@@ -1,4 +1,4 @@
--- What the deframer's private calls say has ended, against the octets that it holds.
+-- What has ended, as a deframer's private calls say it and as it is kept, against the octets that it holds.
 use Rattle.std.specs.Prelude.{ℕ, ◌≤◌}
 use Rattle.lapd_bits.specs.declared.heard.Ended.{Ended}
 use Rattle.lapd_bits.specs.declared.heard.Ended.TheVariants.{Nothing, Dropped, Frame, Overlong}

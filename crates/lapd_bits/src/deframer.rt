@@ -162,7 +162,6 @@ impl Deframer {
     fn take_content(&mut self, content: Content)
         ensures room { length self.new.octets.items ≡ length self.old.octets.items }
         ensures ones { self.new.ones ≡ content.ones }
-        ensures ended { self.new.ended ≡ self.old.ended }
         ensures stands { (octet : ℕ) (gap : Option (List Bool)) → IsJoined octet (low_bits content.count content.bits) gap
             → HoldsGap self.old.octets.items self.old.gap gap
             → HoldsGap self.new.octets.items self.new.gap (option_map (with_bits 8 octet) gap) }

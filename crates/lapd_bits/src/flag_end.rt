@@ -2,7 +2,7 @@
 //!
 //! Where an octet is no flag itself, the six 1s of the flag are those that came right before the octet and those with
 //! which it begins. So the flag's last bit is the octet's first 0, and what stands behind it depends on the octet alone.
-ghost use Rattle.std.specs.Prelude.{◌≡◌, ℕ, ◌≤◌, ◌<◌, ◌+◌, ◌^◌, ◌↔◌, ◌++◌, Bool, true, List, replicate, length, vec_len, IsNone, IsFalse, IfSome, option_to_list};
+ghost use Rattle.std.specs.Prelude.{◌≡◌, ℕ, ◌≤◌, ◌<◌, ◌+◌, ◌^◌, ◌↔◌, ◌++◌, Bool, true, List, replicate, length, IsNone, IsFalse, IfSome, option_to_list};
 ghost use Rattle.lapd_bits.specs.Bits.{low_bits};
 ghost use Rattle.lapd_bits.specs.Ended.{ended_of};
 ghost use Rattle.lapd_bits.specs.FlagEnd.{only_flag_ends, IsFlagEnd, IsFlagBegun};

@@ -104,7 +104,7 @@ impl Framer {
     ///
     /// Fewer than eight bits may be left ([`Framer::busy`] is false). `head` has at most 4 octets, `info` at most the
     /// `n201` of the start, and both together at least 3.
-    // Apart, so that a caller's loop over octets keeps its registers.
+    // Apart, so that a loop over the octets of a bare framer keeps its registers.
     #[inline(never)]
     pub fn load(&mut self, head: &[u8], info: &[u8])
         requires not_busy { length self.old.left < 8 }

@@ -241,6 +241,7 @@ fn with_bit(number: u8, place: u8, bit: bool) -> u8
 }
 
 /// The number with `more` above its `place` low bits.
+// A u16 would do, but then what is shifted is cut to 16 bits: an instruction more at each octet.
 fn above(number: u8, place: u8, more: u8, count: u8) -> u32
     requires place { place < 8 }
     requires below { number < 2 ^ place }

@@ -4,7 +4,7 @@ ghost use Rattle.lapd_bits.specs.Ended.{frame_len, ended_of};
 
 use crate::heard::{Cause, Ended};
 
-/// As [`Ended`], in four octets: at most octets nothing ends, and that is written at once.
+/// As [`Ended`], in four octets and not sixteen: it is written at each octet that comes, and most end nothing.
 #[derive(Clone, Copy, Debug)]
 pub(crate) enum Latest {
     Nothing,

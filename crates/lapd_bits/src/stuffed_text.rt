@@ -1,5 +1,5 @@
 //! The stuffed text of octets (clause 2.6), as it is made.
-ghost use Rattle.std.specs.Prelude.{◌≡◌, ℕ, ◌+◌, ◌*◌, ◌/◌, ◌<◌, ◌≤◌, [], ◌∷◌, ◌++◌, length, take, drop};
+ghost use Rattle.std.specs.Prelude.{◌≡◌, ◌+◌, ◌*◌, ◌/◌, ◌<◌, ◌≤◌, [], ◌∷◌, ◌++◌, length, take};
 ghost use Rattle.lapd_bits.specs.Bits.{flag};
 ghost use Rattle.lapd_bits.specs.FramerText.{waits, made, fifths, Goes};
 

@@ -104,7 +104,7 @@ impl Deframer {
             return Ended::Nothing;
         }
         self.take_ending(octet);
-        self.ended.ended()
+        self.ended.told()
     }
 
     /// Lends again what the latest octet ended, until the next octet; nothing where no octet has come.
@@ -173,7 +173,7 @@ impl Deframer {
     }
 
     /// Takes an octet that may end something, and keeps what it has ended: an answer would take the caller room and time at
-    /// each octet, also where this is not called. It is said to be rare, so that a caller's loop goes straight on for all
+    /// each octet, also where this is not called. It is marked as rare, so that a caller's loop goes straight on for all
     /// other octets.
     #[inline(never)]
     #[cold]

@@ -4,7 +4,7 @@ ghost use Rattle.lapd_bits.specs.Ended.{frame_len, ended_of};
 
 use crate::heard::{Cause, Ended};
 
-/// As [`Ended`], in four octets and not sixteen: it is written at each octet that comes, and most end nothing.
+/// As [`Ended`], in four octets in place of sixteen, since it is written at each octet that comes.
 #[derive(Clone, Copy, Debug)]
 pub(crate) enum Latest {
     Nothing,
@@ -30,7 +30,7 @@ impl Latest {
 
     /// What is kept, as it is told.
     #[inline(always)]
-    pub(crate) fn ended(self) -> Ended
+    pub(crate) fn told(self) -> Ended
         ensures { result ≡ ended_of self }
     {
         match self {

@@ -69,4 +69,4 @@ returns-clause-after c n201 past h =
 pub returns-clause-told : goal.returns-clause-told
 returns-clause-told c =
     let new = c.take_ending.new.self in
-    c.ended.ensures ∙ told_is new.octets.items (ended_of new.ended) (subst (λ n. FitsIn n (ended_of new.ended)) new.octets.ok.0 new.ended_fits)
+    c.told.ensures ∙ told_is new.octets.items (ended_of new.ended) (subst (λ n. FitsIn n (ended_of new.ended)) new.octets.ok.0 new.ended_fits)

@@ -1,30 +1,24 @@
 -- What is left where a frame has been loaded.
-use Rattle.std.proofs.Common.{◌≡◌, ℕ, ◌/◌, ◌%◌, ◌≤◌, Bool, List, [], ◌++◌, length, take, drop, ap, sym, ◌∙◌, append-nil, arith}
+use Rattle.std.proofs.Common.{◌≡◌, ℕ, Bool, List, ◌++◌, length, take, drop, ap, sym, ◌∙◌, append-nil, append_assoc, arith}
 use Rattle.std.proofs.lemmas.List.{take_all, drop_all}
-use Rattle.std.specs.Int.{to_le_bytes, w16}
-use Rattle.lapd_bits.specs.Bits.{bits, low_bits}
+use Rattle.lapd_bits.specs.Bits.{bits, low_bits, flag}
 use Rattle.lapd_bits.specs.Stuffing.{stuffed}
+use Rattle.lapd_bits.specs.Stuffer.{text_after, Goes}
 use Rattle.lapd_bits.specs.Check.{check}
 use Rattle.lapd_bits.specs.Sent.{frame_text}
-use Rattle.lapd_bits.specs.FramerText.{Goes}
-use Rattle.lapd_bits.proofs.BitLemmas.{bits-append, low_bits-two_octets, low_bits-mod}
-use Rattle.lapd_bits.proofs.StuffingAtOnce.{text_from-none}
+use Rattle.lapd_bits.proofs.BitLemmas.{bits-append}
 
--- the bits of the two octets of a check
-bits-to_le_bytes : (fcs : ℕ) → bits (to_le_bytes w16 fcs) ≡ low_bits 16 fcs
-bits-to_le_bytes fcs =
-    ap (λ l. low_bits 8 (fcs % 256) ++ l) (append-nil (low_bits 8 (fcs / 256 % 256)) ∙ low_bits-mod 8 (fcs / 256))
-    ∙ sym (low_bits-two_octets fcs)
-
--- a text that has gone on with a frame's octets and their check
-pub frame_made : (before after : List Bool) (octets : List ℕ) (fcs run : ℕ) → run ≤ 4 → low_bits 16 fcs ≡ check (bits octets) → Goes before 0 (octets ++ to_le_bytes w16 fcs) after run → after ≡ before ++ frame_text octets
-frame_made before after octets fcs run few checked goes =
-    let all = octets ++ to_le_bytes w16 fcs in
-    sym (append-nil after)
-    ∙ ap (λ l. after ++ l) (sym (text_from-none run few))
-    ∙ goes []
-    ∙ ap (λ l. before ++ stuffed (bits l)) (append-nil all)
-    ∙ ap (λ l. before ++ stuffed l) (bits-append octets (to_le_bytes w16 fcs) ∙ ap (λ l. bits octets ++ l) (bits-to_le_bytes fcs ∙ checked))
+-- a text that has gone on with a frame's first octets, and ends with its others, its check and a flag
+pub frame_made : (before middle : List Bool) (head info : List ℕ) (fcs run : ℕ) → low_bits 16 fcs ≡ check (bits (head ++ info)) → Goes before 0 (bits head) middle run → middle ++ (text_after run (bits info ++ low_bits 16 fcs) ++ flag) ≡ before ++ (frame_text (head ++ info) ++ flag)
+frame_made before middle head info fcs run checked goes =
+    let more = bits info ++ low_bits 16 fcs in
+    let all : bits head ++ more ≡ bits (head ++ info) ++ check (bits (head ++ info)) =
+    sym (append_assoc (bits head) (bits info) (low_bits 16 fcs))
+    ∙ ap (λ l. l ++ low_bits 16 fcs) (sym (bits-append head info))
+    ∙ ap (λ l. bits (head ++ info) ++ l) checked in
+    sym (append_assoc middle (text_after run more) flag)
+    ∙ ap (λ l. l ++ flag) (goes more ∙ ap (λ l. before ++ stuffed l) all)
+    ∙ append_assoc before (frame_text (head ++ info)) flag
 
 -- what is left of a list of octets that others of the same number have replaced
 pub written_back : (len : ℕ) (new old : List ℕ) → len ≡ length old → length new ≡ length old → take len (new ++ drop (length new) old) ≡ new

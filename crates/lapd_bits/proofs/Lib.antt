@@ -18,8 +18,8 @@ pub mod FlagEndTables
 pub mod FlagOctet
 pub mod FlagEnd
 pub mod StuffingAtOnce
-pub mod StuffingTables
-pub mod Calm
+pub mod Fives
+pub mod Underway
 pub mod StuffedText
 pub mod FramerGiven
 pub mod FramerStands

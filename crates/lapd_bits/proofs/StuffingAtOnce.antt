@@ -1,13 +1,9 @@
--- An octet is stuffed all at once, the 0 after a fifth 1 with it.
-use Rattle.std.proofs.Common.{◌≡◌, ℕ, suc, zero, ◌≤◌, Bool, true, false, List, [], ◌∷◌, ◌++◌, drop, replicate, refl, ap, sym, ◌∙◌, arith, ⊎_elim, append_assoc}
+-- Bits are stuffed all at once, the 0 after a fifth 1 with it.
+use Rattle.std.proofs.Common.{◌≡◌, ℕ, suc, zero, ◌+◌, ◌*◌, ◌≤◌, Bool, true, false, List, [], ◌∷◌, ◌++◌, length, drop, replicate, refl, ap, sym, ◌∙◌, arith, ⊎_elim, append_assoc, length-append}
 use Rattle.std.proofs.lemmas.Bool.{lt-ltb, le-ltb, cases_lt}
-use Rattle.std.proofs.lemmas.List.{drop_at, length-replicate}
-use Rattle.lapd_bits.specs.Bits.{low_bits, bits}
+use Rattle.lapd_bits.specs.Bits.{low_bits}
 use Rattle.lapd_bits.specs.Stuffing.{stuffed}
-use Rattle.lapd_bits.specs.Deframer.{run_of}
-use Rattle.lapd_bits.specs.Stuffer.{IsStuffedOctet}
-use Rattle.lapd_bits.specs.FramerText.{text_from}
-use Rattle.lapd_bits.proofs.AtOnce.{onto, onto-reverse, run_of-ones}
+use Rattle.lapd_bits.specs.Stuffer.{first_ones, last_ones, text_after, Goes}
 use Rattle.lapd_bits.proofs.StuffingCounted.{stuffed_after, stuffed_zero, ones_left, stuffed-counted, stuffed_after_fifth}
 
 -- the end of a stuffed text, by the count of 1s
@@ -54,53 +50,64 @@ stuffed_after-append ones (true ∷ s) t =
     ap (λ l. stuffed_zero ones ++ true ∷ l) (stuffed_after-append more s t)
     ∙ sym (append_assoc (stuffed_zero ones) (true ∷ stuffed_after more s) (stuffed_after (ones_sent more s) t))
 
--- the run of 1s at its end
-run_of-sent : (ones : ℕ) (b past : List Bool) → ones ≤ 5 → run_of past ≡ ones → run_of (onto (stuffed_after ones b) past) ≡ ones_sent ones b
-run_of-sent ones [] past few run =
+-- ---- how long it is
+
+-- each bit is one, and each 0 more takes five 1s
+pub stuffed_after-pays : (ones : ℕ) (text : List Bool) → ones ≤ 5 → 5 * length (stuffed_after ones text) + ones_sent ones text ≤ 6 * length text + ones
+stuffed_after-pays ones [] few =
     ⊎_elim
-    (λ below. simp (lt-ltb ones 5 below) run)
-    (λ at. simp (le-ltb ones 5 at) refl)
+    (λ below. simp (lt-ltb ones 5 below) (omega arith))
+    (λ at. simp (le-ltb ones 5 at) (omega arith))
     (cases_lt ones 5)
-run_of-sent ones (false ∷ b) past few run =
+stuffed_after-pays ones (false ∷ text) few =
     ⊎_elim
-    (λ below. simp (lt-ltb ones 5 below) (run_of-sent 0 b (false ∷ past) (omega arith) refl))
-    (λ at. simp (le-ltb ones 5 at) (run_of-sent 0 b (false ∷ false ∷ past) (omega arith) refl))
+    (λ below. simp (lt-ltb ones 5 below) (omega (arith, stuffed_after-pays 0 text (omega arith))))
+    (λ at. simp (le-ltb ones 5 at) (omega (arith, stuffed_after-pays 0 text (omega arith))))
     (cases_lt ones 5)
-run_of-sent ones (true ∷ b) past few run =
+stuffed_after-pays ones (true ∷ text) few =
     ⊎_elim
-    (λ below. simp (lt-ltb ones 5 below) (run_of-sent (suc ones) b (true ∷ past) (omega arith) (omega arith)))
-    (λ at. simp (le-ltb ones 5 at) (run_of-sent 1 b (true ∷ false ∷ past) (omega arith) refl))
+    (λ below. simp (lt-ltb ones 5 below) (omega (arith, stuffed_after-pays (suc ones) text (omega arith))))
+    (λ at. simp (le-ltb ones 5 at) (omega (arith, stuffed_after-pays 1 text (omega arith))))
     (cases_lt ones 5)
 
--- ---- what the lookup says, by the count of 1s
+-- and no bit is left out
+pub stuffed_after-at_least : (ones : ℕ) (text : List Bool) → length text ≤ length (stuffed_after ones text)
+stuffed_after-at_least ones [] = omega arith
+stuffed_after-at_least ones (false ∷ text) =
+    omega (arith, length-append (stuffed_zero ones) (false ∷ stuffed_after 0 text), stuffed_after-at_least 0 text)
+stuffed_after-at_least ones (true ∷ text) =
+    let more = suc (ones_left ones) in
+    omega (arith, length-append (stuffed_zero ones) (true ∷ stuffed_after more text), stuffed_after-at_least more text)
 
-pub octet_sent :
-    (ones octet content count run : ℕ) → ones ≤ 4 → IsStuffedOctet ones octet content count run
-    → (stuffed_after ones (low_bits 8 octet) ≡ low_bits count content) × (run ≡ ones_sent ones (low_bits 8 octet))
-octet_sent ones octet content count run few s =
-    let text = low_bits 8 octet in
-    let before = replicate ones true ++ false ∷ [] in
-    let is : stuffed_after ones text ≡ low_bits count content =
-    sym (stuffed_end ones text (omega arith)) ∙ ap (drop ones) s.goes
-    ∙ drop_at (replicate ones true) (low_bits count content) ones (length-replicate ones true) in (
-      is,
-      s.run_is ∙ ap run_of (sym (onto-reverse (low_bits count content) before))
-          ∙ ap (λ l. run_of (onto l before)) (sym is)
-          ∙ run_of-sent ones text before (omega arith) (run_of-ones ones (omega arith)),
-    )
+-- none is left where no bits are
+pub text_after-none : (ones : ℕ) → ones ≤ 4 → text_after ones [] ≡ []
+text_after-none ones few = stuffed_end ones [] (omega arith) ∙ simp (lt-ltb ones 5 (omega arith)) refl
 
--- the text of octets goes on with what the first makes of itself
-pub text_from-octet :
-    (octet : ℕ) (octets : List ℕ) (ones content count run : ℕ) → ones ≤ 4 → run ≤ 4 → IsStuffedOctet ones octet content count run
-    → text_from (octet ∷ octets) ones ≡ low_bits count content ++ text_from octets run
-text_from-octet octet octets ones content count run few after_few s =
-    let sent = octet_sent ones octet content count run few s in
-    stuffed_end ones (low_bits 8 octet ++ bits octets) (omega arith)
-    ∙ stuffed_after-append ones (low_bits 8 octet) (bits octets)
-    ∙ ap (λ l. l ++ stuffed_after (ones_sent ones (low_bits 8 octet)) (bits octets)) sent.0
-    ∙ ap (λ n. low_bits count content ++ stuffed_after n (bits octets)) (sym sent.1)
-    ∙ ap (λ l. low_bits count content ++ l) (sym (stuffed_end run (bits octets) (omega arith)))
+-- a text goes on with the stuffed bits, by the count of 1s
+pub Goes-sent : (before sent b : List Bool) (ones run : ℕ) → ones ≤ 4 → run ≤ 4 → stuffed_after ones b ≡ sent → run ≡ ones_sent ones b → Goes before ones b (before ++ sent) run
+Goes-sent before sent b ones run few after_few is run_is rest =
+    let more : text_after ones (b ++ rest) ≡ sent ++ text_after run rest =
+    stuffed_end ones (b ++ rest) (omega arith)
+    ∙ stuffed_after-append ones b rest
+    ∙ ap (λ n. stuffed_after ones b ++ stuffed_after n rest) (sym run_is)
+    ∙ ap (λ l. l ++ stuffed_after run rest) is
+    ∙ ap (λ l. sent ++ l) (sym (stuffed_end run rest (omega arith))) in
+    append_assoc before sent (text_after run rest) ∙ ap (λ l. before ++ l) (sym more)
 
--- and none is left after the last
-pub text_from-none : (ones : ℕ) → ones ≤ 4 → text_from [] ones ≡ []
-text_from-none ones few = stuffed_end ones [] (omega arith) ∙ simp (lt-ltb ones 5 (omega arith)) refl
+-- ---- the latest four bits
+
+-- of four bits at most four are 1s
+four_few : (a b c d : Bool) → first_ones (d ∷ c ∷ b ∷ a ∷ []) ≤ 4
+four_few a b c false = omega arith
+four_few a b false true = omega arith
+four_few a false true true = omega arith
+four_few false true true true = omega arith
+four_few true true true true = omega arith
+
+pub last_ones-few : (x : ℕ) → last_ones x ≤ 4
+unfolding low_bits
+last_ones-few x = four_few _ _ _ _
+
+pub last_ones-none : last_ones 0 ≡ 0
+unfolding low_bits
+last_ones-none = refl

@@ -1,7 +1,7 @@
 -- What a framer's fields say is left to give, and a stuffed text as it is made. No clause of its surface names these.
-use Rattle.std.specs.Prelude.{◌≡◌, ℕ, ◌+◌, ◌*◌, Bool, true, List, ◌++◌, take, drop, replicate}
+use Rattle.std.specs.Prelude.{ℕ, ◌+◌, ◌*◌, Bool, List, ◌++◌, take, drop}
 use Rattle.lapd_bits.specs.Bits.{low_bits, bits}
-use Rattle.lapd_bits.specs.Stuffing.{stuffed}
+use Rattle.lapd_bits.specs.Stuffer.{last_ones}
 use Rattle.lapd_bits.specs.declared.stuffed_text.StuffedText.{StuffedText}
 use Rattle.lapd_bits.specs.declared.waiting.Waiting.{Waiting}
 
@@ -17,14 +17,6 @@ to_give octets next end waiting = bits (drop next (take end octets)) ++ waits wa
 abbrev pub made : StuffedText → List ℕ → List Bool
 made text octets = bits (take text.end octets) ++ waits text.waiting
 
--- Five times the bits of it, and its last 1s. An octet adds at most 48: its eight bits, and a 0 for each five 1s.
+-- Five times the bits of it, and its last 1s. A bit adds at most six: itself, and a 0 for each five 1s.
 abbrev pub fifths : StuffedText → ℕ
-fifths text = 5 * (8 * text.end + text.waiting.count) + text.ones
-
--- The stuffed text of octets, where the latest `ones` bits given are 1s.
-abbrev pub text_from : List ℕ → ℕ → List Bool
-text_from octets ones = drop ones (stuffed (replicate ones true ++ bits octets))
-
--- A text with so many 1s at its end goes on with the stuffed bits of octets, whatever comes after them.
-abbrev pub Goes : List Bool → ℕ → List ℕ → List Bool → ℕ → Type 0
-Goes before ones octets after run = (rest : List ℕ) → after ++ text_from rest run ≡ before ++ text_from (octets ++ rest) ones
+fifths text = 5 * (8 * text.end + text.waiting.count) + last_ones text.latest

@@ -1,17 +1,28 @@
--- What octets make of themselves on a line, all at once. No public call names this.
-use Rattle.std.specs.Prelude.{◌≡◌, ℕ, Bool, true, false, List, [], ◌∷◌, ◌++◌, replicate}
+-- What bits make of themselves on a line, all at once (Q.921 clause 2.6). No public call names this.
+use Rattle.std.specs.Prelude.{◌≡◌, ℕ, suc, bit_and, ◌*◌, ◌/◌, Bool, true, false, List, [], ◌∷◌, ◌++◌, drop, replicate, reverse}
 use Rattle.lapd_bits.specs.Bits.{low_bits}
 use Rattle.lapd_bits.specs.Stuffing.{stuffed}
-use Rattle.lapd_bits.specs.Deframer.{run_of}
-use Rattle.lapd_bits.specs.Steps.{with_bits}
 
--- five contiguous 1s stand somewhere in a text, so that a 0 is stuffed (clause 2.6)
-abbrev pub has_five : List Bool → Bool
-has_five (true ∷ true ∷ true ∷ true ∷ true ∷ text) = true
-has_five (b ∷ text) = has_five text
-has_five [] = false
+-- the contiguous 1s that begin a list of bits
+abbrev pub first_ones : List Bool → ℕ
+first_ones (true ∷ b) = suc (first_ones b)
+first_ones _ = 0
 
--- after `ones` 1s: the stuffed bits of the octet, and the 1s at their end
-pub record IsStuffedOctet (ones octet bits count run : ℕ) : Type 0 where
-  pub goes : stuffed (replicate ones true ++ low_bits 8 octet) ≡ replicate ones true ++ low_bits count bits
-  pub run_is : run ≡ run_of (with_bits count bits (replicate ones true ++ false ∷ []))
+-- the contiguous 1s at the end of four bits, the first of them lowest
+abbrev pub last_ones : ℕ → ℕ
+last_ones latest = first_ones (reverse (low_bits 4 latest))
+
+-- what a sender makes of bits, where the latest `ones` bits given are 1s
+abbrev pub text_after : ℕ → List Bool → List Bool
+text_after ones b = drop ones (stuffed (replicate ones true ++ b))
+
+-- A text with so many 1s at its end goes on with what bits make of themselves, whatever comes after them.
+abbrev pub Goes : List Bool → ℕ → List Bool → List Bool → ℕ → Type 0
+Goes before ones b after run = (rest : List Bool) → after ++ text_after run rest ≡ before ++ text_after ones (b ++ rest)
+
+-- the places of a number where two 1s begin, and where five do
+abbrev pub twos : ℕ → ℕ
+twos x = bit_and x (x / 2)
+
+abbrev pub fives : ℕ → ℕ
+fives x = bit_and (bit_and (twos x) (twos x / 4)) (x / 16)

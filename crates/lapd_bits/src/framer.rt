@@ -121,9 +121,7 @@ impl Framer {
         let mut text = StuffedText::after(self.after);
         let octets = self.octets.as_mut_slice();
         text.stuff(octets, head);
-        text.stuff(octets, info);
-        text.stuff(octets, &check.to_le_bytes());
-        text.close(octets);
+        text.end_with(octets, info, check);
         self.next = 0;
         self.end = text.end();
         self.after = text.waiting();

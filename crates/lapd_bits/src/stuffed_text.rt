@@ -1,16 +1,22 @@
 //! The stuffed text of octets (clause 2.6), as it is made.
-ghost use Rattle.std.specs.Prelude.{◌≡◌, ◌+◌, ◌*◌, ◌/◌, ◌<◌, ◌≤◌, [], ◌∷◌, ◌++◌, length, take};
-ghost use Rattle.lapd_bits.specs.Bits.{flag};
-ghost use Rattle.lapd_bits.specs.FramerText.{waits, made, fifths, Goes};
+ghost use Rattle.std.specs.Prelude.{◌≡◌, ◌+◌, ◌*◌, ◌/◌, ◌%◌, ◌<◌, ◌≤◌, ◌^◌, [], ◌∷◌, ◌++◌, length, take, drop};
+ghost use Rattle.lapd_bits.specs.Bits.{flag, bits, low_bits};
+ghost use Rattle.lapd_bits.specs.Stuffer.{Goes, last_ones, text_after};
 
-use crate::stuffer::{go_as_they_are, stuffed_octet};
+use crate::stuffer::{Stuffed, go_as_they_are, latest_of};
 use crate::waiting::Waiting;
 
 /// How many octets are stuffed at once.
 const AT_ONCE: usize = 4;
 
+/// Their bits.
+const FOUR_OCTETS: u64 = 32;
+
 /// The bits of an octet.
 const OCTET_BITS: u64 = 8;
+
+/// The bits of a frame check.
+const CHECK_BITS: u64 = 16;
 
 /// A stuffed text, up to now: its whole octets lie in a buffer, the first in its first place, and the bits after them wait.
 #[derive(Clone, Copy, Debug)]
@@ -18,21 +24,24 @@ pub(crate) struct StuffedText {
     /// How many octets lie in the buffer.
     end: usize,
     waiting: Waiting,
-    /// The contiguous 1s at the end of the text.
-    ones: usize,
+    /// The latest four bits of the text, the last of them highest. 0s stand for bits that do not count.
+    latest: u64,
+    ghost four: { latest < 16 },
 }
 
 impl StuffedText {
+    ghost use Rattle.lapd_bits.specs.FramerText.{waits, made, fifths};
+
     /// A text that goes on after these bits. No 1 of them counts.
     pub(crate) fn after(waiting: Waiting) -> StuffedText
         ensures end { result.end ≡ 0 }
         ensures waiting { result.waiting ≡ waiting }
-        ensures ones { result.ones ≡ 0 }
+        ensures latest { result.latest ≡ 0 }
     {
         StuffedText {
             end: 0,
             waiting,
-            ones: 0,
+            latest: 0,
         }
     }
 
@@ -54,137 +63,134 @@ impl StuffedText {
     // Into the one function that makes a text, where its fields then stay in registers.
     #[inline(always)]
     pub(crate) fn stuff(&mut self, buffer: &mut [u8], octets: &[u8])
-        requires few { self.old.ones ≤ 4 }
         requires low { self.old.waiting.count < 8 }
         requires room { fifths self.old + 48 * length octets.now ≤ 40 * length buffer.old }
-        ensures goes { Goes (made self.old buffer.old) self.old.ones octets.now (made self.new buffer.new) self.new.ones }
-        ensures few { self.new.ones ≤ 4 }
+        ensures goes { Goes (made self.old buffer.old) (last_ones self.old.latest) (bits octets.now) (made self.new buffer.new) (last_ones self.new.latest) }
         ensures low { self.new.waiting.count < 8 }
         ensures pays { fifths self.new ≤ fifths self.old + 48 * length octets.now }
         ensures room { length buffer.new ≡ length buffer.old }
     {
-        if octets.is_empty() {
-            return;
-        }
         self.stuff_fours(buffer, octets);
-        // At most three are left, so all their bits can wait.
-        for place in octets.len() / AT_ONCE * AT_ONCE..octets.len() {
-            self.push(octets[place]);
+        let rest = rest_of(octets);
+        if !rest.is_empty() {
+            self.push(number_of(rest), OCTET_BITS * rest.len() as u64);
+            self.give_all(buffer);
         }
-        self.give_all(buffer);
     }
 
-    /// Ends the text with a flag.
-    pub(crate) fn close(&mut self, buffer: &mut [u8])
+    /// Ends the text with octets, their check and a flag.
+    #[inline(always)]
+    pub(crate) fn end_with(&mut self, buffer: &mut [u8], octets: &[u8], check: u16)
         requires low { self.old.waiting.count < 8 }
-        requires room { self.old.end < length buffer.old }
-        ensures made { made self.new buffer.new ≡ made self.old buffer.old ++ flag }
+        requires room { fifths self.old + 48 * length octets.now + 97 ≤ 40 * length buffer.old }
+        ensures made { made self.new buffer.new ≡ made self.old buffer.old ++ (text_after (last_ones self.old.latest) (bits octets.now ++ low_bits 16 check) ++ flag) }
         ensures low { self.new.waiting.count < 8 }
-        ensures end { self.new.end ≡ self.old.end + 1 }
+        ensures end { self.new.end ≤ length buffer.old }
         ensures room { length buffer.new ≡ length buffer.old }
     {
+        self.stuff_fours(buffer, octets);
+        // What is left, the check and the flag wait together: 63 bits at most.
+        let rest = rest_of(octets);
+        let count = OCTET_BITS * rest.len() as u64;
+        self.push(
+            number_of(rest) + (u64::from(check) << count),
+            count + CHECK_BITS,
+        );
         self.waiting.push_flag();
-        self.give(buffer);
+        self.give_all(buffer);
     }
 
     // Goes on with octets, but for those at the end that are fewer than four.
     #[inline(always)]
     fn stuff_fours(&mut self, buffer: &mut [u8], octets: &[u8])
-        requires few { self.old.ones ≤ 4 }
         requires low { self.old.waiting.count < 8 }
         requires room { fifths self.old + 48 * length octets.now ≤ 40 * length buffer.old }
-        ensures goes { Goes (made self.old buffer.old) self.old.ones (take (4 * (length octets.now / 4)) octets.now) (made self.new buffer.new) self.new.ones }
-        ensures few { self.new.ones ≤ 4 }
+        ensures goes { Goes (made self.old buffer.old) (last_ones self.old.latest) (bits (take (length octets.now / 4 * 4) octets.now)) (made self.new buffer.new) (last_ones self.new.latest) }
         ensures low { self.new.waiting.count < 8 }
-        ensures pays { fifths self.new ≤ fifths self.old + 48 * (4 * (length octets.now / 4)) }
+        ensures pays { fifths self.new ≤ fifths self.old + 48 * (length octets.now / 4 * 4) }
         ensures room { length buffer.new ≡ length buffer.old }
     {
         let (fours, _) = octets.as_chunks::<AT_ONCE>();
         // in a local, so that it stays in registers
         let mut text = *self;
         for four in fours {
-            text.push_four(four);
-            text.give_four(buffer);
+            text.stuff_four(buffer, u32::from_le_bytes(*four));
         }
         *self = text;
     }
 
-    // Has the stuffed bits of four octets wait, 32 to 39 and those that waited.
+    // Goes on with four octets, the first lowest.
     #[inline(always)]
-    fn push_four(&mut self, octets: &[u8; 4])
-        requires few { self.old.ones ≤ 4 }
+    fn stuff_four(&mut self, buffer: &mut [u8], four: u32)
         requires low { self.old.waiting.count < 8 }
-        ensures goes { Goes (waits self.old.waiting) self.old.ones octets.now (waits self.new.waiting) self.new.ones }
-        ensures few { self.new.ones ≤ 4 }
-        ensures end { self.new.end ≡ self.old.end }
+        requires room { fifths self.old + 48 * 4 ≤ 40 * length buffer.old }
+        ensures goes { Goes (made self.old buffer.old) (last_ones self.old.latest) (low_bits 32 four) (made self.new buffer.new) (last_ones self.new.latest) }
+        ensures low { self.new.waiting.count < 8 }
         ensures pays { fifths self.new ≤ fifths self.old + 48 * 4 }
-        ensures many { 32 ≤ self.new.waiting.count }
-        ensures room { self.new.waiting.count < 48 }
+        ensures room { length buffer.new ≡ length buffer.old }
     {
-        let [first, second, third, last] = *octets;
-        let four = u32::from_le_bytes(*octets);
-        if go_as_they_are(self.ones, four) {
-            self.waiting.push(u64::from(four), 4 * OCTET_BITS);
-            // With no five 1s together the last octet has a 0, so no 1 before it counts.
-            self.ones = usize::from(stuffed_octet(0, last).ones);
+        if go_as_they_are(self.latest, four) {
+            self.waiting.push(u64::from(four), FOUR_OCTETS);
+            self.latest = latest_of(four);
+            self.give_four(buffer);
         } else {
-            self.push(first);
-            self.push(second);
-            self.push(third);
-            self.push(last);
+            self.push(u64::from(four), FOUR_OCTETS);
+            self.give_four(buffer);
+            if OCTET_BITS <= self.waiting.count() {
+                self.give(buffer);
+            }
         }
     }
 
-    // Has the stuffed bits of an octet wait.
+    // Has what so many bits make of themselves wait.
     #[inline(always)]
-    fn push(&mut self, octet: u8)
-        requires few { self.old.ones ≤ 4 }
-        requires room { self.old.waiting.count < 54 }
-        ensures goes { Goes (waits self.old.waiting) self.old.ones (octet ∷ []) (waits self.new.waiting) self.new.ones }
-        ensures few { self.new.ones ≤ 4 }
+    fn push(&mut self, bits: u64, count: u64)
+        requires few { count ≤ 40 }
+        requires below { bits < 2 ^ count }
+        requires low { self.old.waiting.count < 8 }
+        ensures goes { Goes (waits self.old.waiting) (last_ones self.old.latest) (low_bits count bits) (waits self.new.waiting) (last_ones self.new.latest) }
         ensures end { self.new.end ≡ self.old.end }
-        ensures pays { fifths self.new ≤ fifths self.old + 48 }
-        ensures at_least { self.old.waiting.count + 8 ≤ self.new.waiting.count }
-        ensures at_most { self.new.waiting.count ≤ self.old.waiting.count + 10 }
+        ensures at_least { self.old.waiting.count + count ≤ self.new.waiting.count }
+        ensures pays { fifths self.new ≤ fifths self.old + 6 * count }
+        ensures room { self.new.waiting.count < 56 }
     {
-        let stuffed = stuffed_octet(self.ones, octet);
-        self.waiting
-            .push(u64::from(stuffed.bits), u64::from(stuffed.count));
-        self.ones = usize::from(stuffed.ones);
+        let stuffed = Stuffed::after(self.latest, bits, count);
+        self.waiting.push(stuffed.bits, stuffed.count);
+        self.latest = stuffed.latest;
     }
 
-    // Puts four octets of the bits that wait into the buffer, and a fifth where there is one.
+    // Puts four octets of the bits that wait into the buffer.
     #[inline(always)]
     fn give_four(&mut self, buffer: &mut [u8])
         requires many { 32 ≤ self.old.waiting.count }
-        requires most { self.old.waiting.count < 48 }
-        requires room { fifths self.old ≤ 40 * length buffer.old }
+        requires room { self.old.end + 4 ≤ length buffer.old }
         ensures made { made self.new buffer.new ≡ made self.old buffer.old }
-        ensures ones { self.new.ones ≡ self.old.ones }
-        ensures low { self.new.waiting.count < 8 }
-        ensures pays { fifths self.new ≡ fifths self.old }
+        ensures latest { self.new.latest ≡ self.old.latest }
+        ensures end { self.new.end ≡ self.old.end + 4 }
+        ensures count { self.new.waiting.count + 32 ≡ self.old.waiting.count }
         ensures room { length buffer.new ≡ length buffer.old }
     {
         self.give(buffer);
         self.give(buffer);
         self.give(buffer);
         self.give(buffer);
-        if OCTET_BITS <= self.waiting.count() {
-            self.give(buffer);
-        }
     }
 
     // Puts all whole octets of the bits that wait into the buffer.
     #[inline(always)]
     fn give_all(&mut self, buffer: &mut [u8])
-        requires room { fifths self.old ≤ 40 * length buffer.old }
+        requires room { 8 * self.old.end + self.old.waiting.count < 8 * length buffer.old + 8 }
         ensures made { made self.new buffer.new ≡ made self.old buffer.old }
-        ensures ones { self.new.ones ≡ self.old.ones }
+        ensures latest { self.new.latest ≡ self.old.latest }
         ensures low { self.new.waiting.count < 8 }
-        ensures pays { fifths self.new ≡ fifths self.old }
+        ensures bits { 8 * self.new.end + self.new.waiting.count ≡ 8 * self.old.end + self.old.waiting.count }
         ensures room { length buffer.new ≡ length buffer.old }
     {
-        for _ in 0..self.waiting.count() / OCTET_BITS {
+        // four at once, which one store writes
+        if FOUR_OCTETS <= self.waiting.count() {
+            self.give_four(buffer);
+        }
+        while OCTET_BITS <= self.waiting.count() {
             self.give(buffer);
         }
     }
@@ -195,7 +201,7 @@ impl StuffedText {
         requires eight { 8 ≤ self.old.waiting.count }
         requires room { self.old.end < length buffer.old }
         ensures made { made self.new buffer.new ≡ made self.old buffer.old }
-        ensures ones { self.new.ones ≡ self.old.ones }
+        ensures latest { self.new.latest ≡ self.old.latest }
         ensures end { self.new.end ≡ self.old.end + 1 }
         ensures count { self.new.waiting.count + 8 ≡ self.old.waiting.count }
         ensures room { length buffer.new ≡ length buffer.old }
@@ -203,4 +209,29 @@ impl StuffedText {
         buffer[self.end] = self.waiting.octet();
         self.end += 1;
     }
+}
+
+// The octets after all fours: fewer than four.
+#[inline(always)]
+fn rest_of(octets: &[u8]) -> &[u8]
+    ensures rest { result.now ≡ drop (length octets.now / 4 * 4) octets.now }
+    ensures few { length result.now ≡ length octets.now % 4 }
+{
+    &octets[octets.len() / AT_ONCE * AT_ONCE..]
+}
+
+// A few octets as one number, the first lowest.
+#[inline(always)]
+fn number_of(octets: &[u8]) -> u64
+    requires few { length octets.now < 4 }
+    ensures bits { low_bits (8 * length octets.now) result ≡ bits octets.now }
+    ensures below { result < 2 ^ (8 * length octets.now) }
+{
+    let mut number = 0u64;
+    let mut count = 0u64;
+    for octet in octets {
+        number += u64::from(*octet) << count;
+        count += OCTET_BITS;
+    }
+    number
 }

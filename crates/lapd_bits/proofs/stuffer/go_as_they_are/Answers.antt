@@ -1,10 +1,13 @@
--- No five 1s begin in the bits of the four octets and the 1s before them.
-use Rattle.std.proofs.Common.{◌+◌, ◌*◌, ◌%◌, arith}
+-- No five 1s begin in the latest four bits and those of the four octets.
+use Rattle.std.proofs.Common.{◌≡◌, ◌+◌, ◌*◌, ◌/◌, ◌^◌, [], ap, sym, ◌∙◌, subst, arith}
 use Rattle.std.proofs.lemmas.Bool.{eqb-true}
-use Rattle.lapd_bits.proofs.Calm.{none_in-four}
+use Rattle.lapd_bits.specs.Bits.{low_bits}
+use Rattle.lapd_bits.specs.Stuffer.{Goes, last_ones, fives}
+use Rattle.lapd_bits.proofs.Underway.{calm}
 use Rattle.lapd_bits.proofs.stuffer.go_as_they_are.Goals as goal
 
 pub returns : goal.returns
 returns c none =
-    let bits = c.from.result + c.from-2.result * 16 % 18446744073709551616 in
-    none_in-four c.args.ones c.args.four bits c.requires.few (omega (arith, c.from.ensures, c.from-2.ensures)) (eqb-true _ 0 none)
+    let four = c.args.four in
+    subst (λ y. Goes [] (last_ones c.args.latest) (low_bits 32 four) (low_bits 32 four) (last_ones y)) {x = (c.args.latest + four * 16) / 2 ^ 32} (omega (arith, c.requires))
+    (calm c.args.latest four 32 c.requires (ap (λ y. fives (c.args.latest + y * 16)) (sym c.from.ensures) ∙ sym c.five_ones.ensures ∙ eqb-true c.five_ones.result 0 none))

@@ -1,14 +1,16 @@
--- As many octets as the counter says have gone into the buffer, and the text is the same.
+-- The text is the same, with as many bits, and some of those that waited lie in the buffer.
 use Rattle.std.proofs.Common.{◌≡◌, ◌+◌, ◌*◌, length}
 use Rattle.lapd_bits.specs.FramerText.{made}
 use Rattle.lapd_bits.proofs.stuffed_text.StuffedText.give_all.Given as goal
 
-abbrev pub invariant-loop : goal.invariant-loop
-invariant-loop l =
+abbrev pub invariant-loop-self : goal.invariant-loop-self
+invariant-loop-self l =
     record {
       made : made l.self l.buffer ≡ made l.fn.self l.fn.buffer;
-      ones : l.self.ones ≡ l.fn.self.ones;
-      count : l.self.waiting.count + 8 * l.counter ≡ l.fn.self.waiting.count;
-      end : l.self.end ≡ l.fn.self.end + l.counter;
+      latest : l.self.latest ≡ l.fn.self.latest;
+      bits : 8 * l.self.end + l.self.waiting.count ≡ 8 * l.fn.self.end + l.fn.self.waiting.count;
       room : length l.buffer ≡ length l.fn.buffer;
     }
+
+abbrev pub decreases-loop-self : goal.decreases-loop-self
+decreases-loop-self l = l.self.waiting.count

@@ -1,14 +1,10 @@
--- The stuffed bits of an octet wait after the others.
-use Rattle.std.proofs.Common.{◌++◌, ◌∷◌, [], subst, sym, ◌∙◌}
-use Rattle.lapd_bits.specs.Bits.{low_bits}
-use Rattle.lapd_bits.specs.FramerText.{waits, Goes}
-use Rattle.lapd_bits.proofs.StuffedText.{Goes-octet}
+-- At most 48 bits more wait, after fewer than eight.
+use Rattle.std.proofs.Common.{arith}
+use Rattle.lapd_bits.proofs.StuffingAtOnce.{last_ones-few}
 use Rattle.lapd_bits.proofs.stuffed_text.StuffedText.push.Goals as goal
 
-pub returns-clause-goes : goal.returns-clause-goes
-returns-clause-goes c =
-    let before = waits c.args.self.now.waiting in
-    let octet = c.stuffed_octet-stuffed.result in
-    subst (λ n. Goes before c.args.self.now.ones (c.args.octet ∷ []) (waits c.push.new.self) n) (sym c.from-self.ensures)
-    (Goes-octet before (waits c.push.new.self) c.args.self.now.ones c.args.octet octet.bits octet.count octet.ones c.requires.few octet.few
-    c.stuffed_octet-stuffed.ensures.stuffed (c.push.ensures.bits ∙ (λ i. before ++ low_bits (c.from-2.ensures i) (c.from.ensures i))))
+pub push-requires-clause-room : goal.push-requires-clause-room
+push-requires-clause-room c = omega (arith, last_ones-few c.args.self.now.latest)
+
+pub returns-clause-room : goal.returns-clause-room
+returns-clause-room c = omega (arith, last_ones-few c.args.self.now.latest)

@@ -1,8 +1,9 @@
 -- Four octets more have gone into the buffer.
-use Rattle.std.proofs.Common.{◌≡◌, ◌+◌, ◌*◌, ◌/◌, ◌++◌, [], length, get_or, take, drop, take-add, subst, sym, ap, ◌∙◌, arith}
-use Rattle.lapd_bits.specs.Bits.{bits}
-use Rattle.lapd_bits.specs.FramerText.{waits, made, Goes}
-use Rattle.lapd_bits.proofs.StuffedText.{Goes-then, Goes-behind, four_at}
+use Rattle.std.proofs.Common.{◌≡◌, ◌+◌, ◌*◌, ◌/◌, ◌++◌, ◌≤◌, [], length, get_or, take, drop, subst, ap, ◌∙◌, arith}
+use Rattle.lapd_bits.specs.Bits.{bits, low_bits}
+use Rattle.lapd_bits.specs.Stuffer.{Goes, last_ones}
+use Rattle.lapd_bits.specs.FramerText.{made}
+use Rattle.lapd_bits.proofs.StuffedText.{Goes-then, four_at, four_bits_at}
 use Rattle.lapd_bits.proofs.stuffed_text.StuffedText.stuff_fours.Goals as goal
 
 pub loop-four-preserved : goal.loop-four-preserved
@@ -14,28 +15,22 @@ loop-four-preserved c =
     let begun = c.args.self.now in
     let start = made begun c.args.buffer.now in
     let text = c.loop-four.text in
-    let buffer = c.loop-four.buffer in
-    let pushed = c.push_four.new.self in
-    let given = c.give_four.new.self in
-    let front = bits (take text.end buffer) in
-    let four = take 4 (drop at octets) in
-    let same : front ++ waits pushed.waiting ≡ made given c.give_four.new.buffer =
-    ap (λ n. bits (take n buffer) ++ waits pushed.waiting) (sym c.push_four.ensures.end) ∙ sym c.give_four.ensures.made in
-    let chunk : get_or c.as_chunks.result.0.now index [] ≡ four =
+    let later = c.stuff_four.new.self in
+    let after = made later c.stuff_four.new.buffer in
+    let four = get_or c.as_chunks.result.0.now index [] in
+    let chunk : four ≡ take 4 (drop at octets) =
     ap (λ l. get_or l index []) c.as_chunks.ensures.front
     ∙ four_at (length octets / 4) index octets [] (omega (arith, c.loop-four-test.true, c.as_chunks.ensures.front_len)) in
-    let goes_on = subst (λ l. Goes (waits text.waiting) text.ones l (waits pushed.waiting) pushed.ones) chunk c.push_four.ensures.goes in
-    let more = Goes-behind front (waits text.waiting) (waits pushed.waiting) text.ones pushed.ones four goes_on in
-    let after = made given c.give_four.new.buffer in
-    let moved = subst (λ n. Goes (made text buffer) text.ones four after n) (sym c.give_four.ensures.ones)
-    (subst (λ t. Goes (made text buffer) text.ones four t pushed.ones) same more) in
-    let fours : take at octets ++ four ≡ take (4 * (index + 1)) octets =
-    sym (take-add at 4 octets) ∙ ap (λ n. take n octets) (omega arith) in
+    let within : at + 4 ≤ length octets = omega (arith, c.loop-four-test.true, c.as_chunks.ensures.front_len) in
+    let fours : bits (take at octets) ++ low_bits 32 c.from_le_bytes.result ≡ bits (take (4 * (index + 1)) octets) =
+    ap (λ n. bits (take at octets) ++ low_bits 32 n) c.from_le_bytes.ensures
+    ∙ four_bits_at octets four at chunk within (λ k. omega (arith, c.type_inv.octets k))
+    ∙ ap (λ n. bits (take n octets)) (omega arith) in
     record {
-      few = omega (arith, c.push_four.ensures.few, c.give_four.ensures.ones);
-      low = c.give_four.ensures.low;
-      goes = subst (λ l. Goes start begun.ones l after given.ones) fours
-          (Goes-then start (made text buffer) after begun.ones text.ones given.ones (take at octets) four i.goes moved);
-      pays = omega (arith, i.pays, c.push_four.ensures.pays, c.give_four.ensures.pays);
-      room = omega (arith, i.room, c.give_four.ensures.room);
+      low = c.stuff_four.ensures.low;
+      goes = subst (λ l. Goes start (last_ones begun.latest) l after (last_ones later.latest)) fours
+          (Goes-then start (made text c.loop-four.buffer) after (last_ones begun.latest) (last_ones text.latest) (last_ones later.latest)
+          (bits (take at octets)) (low_bits 32 c.from_le_bytes.result) i.goes c.stuff_four.ensures.goes);
+      pays = omega (arith, i.pays, c.stuff_four.ensures.pays);
+      room = omega (arith, i.room, c.stuff_four.ensures.room);
     }

@@ -1,0 +1,206 @@
+-- Where five 1s come together in a number's bits: they go as they are up to there, and then goes a 0.
+use Rattle.std.proofs.Common.{◌≡◌, ℕ, suc, zero, ◌+◌, ◌-◌, ◌*◌, ◌/◌, ◌%◌, ◌^◌, ◌<◌, ◌≤◌, min, Bool, true, false, if◌then◌else◌, nat_eq, bit_and, List, [], ◌∷◌, ◌++◌, refl, ap, sym, ◌∙◌, arith}
+use Rattle.std.proofs.lemmas.Bool.{eqb-true, eqb-false, lt-ltb}
+use Rattle.std.proofs.lemmas.Nat.{and_shr, and_le_r, shr-shr}
+use Rattle.std.proofs.lemmas.Nat.Bits.{bit_at-suc, bit_at_lowest}
+use Rattle.std.proofs.Math.Nat.{div-one}
+use Rattle.std.specs.Int.{bit_at}
+use lib.Bits.{and_step}
+use Rattle.lapd_bits.specs.Bits.{low_bits}
+use Rattle.lapd_bits.specs.Stuffer.{first_ones, last_ones, twos, fives}
+use Rattle.lapd_bits.proofs.StuffingCounted.{stuffed_after, stuffed_after_fifth}
+use Rattle.lapd_bits.proofs.StuffingAtOnce.{ones_sent, last_ones-few}
+
+-- ---- where five 1s begin
+
+-- some places up
+pub fives-shr : (k x : ℕ) → fives (x / 2 ^ k) ≡ fives x / 2 ^ k
+fives-shr k x =
+    let two : twos (x / 2 ^ k) ≡ twos x / 2 ^ k =
+    ap (λ y. bit_and (x / 2 ^ k) y) (shr-shr x k 1 ∙ ap (λ n. x / 2 ^ n) (omega arith) ∙ sym (shr-shr x 1 k)) ∙ sym (and_shr x (x / 2) k) in
+    let quarter : twos x / 2 ^ k / 4 ≡ twos x / 4 / 2 ^ k =
+    shr-shr (twos x) k 2 ∙ ap (λ n. twos x / 2 ^ n) (omega arith) ∙ sym (shr-shr (twos x) 2 k) in
+    let high : x / 2 ^ k / 16 ≡ x / 16 / 2 ^ k = shr-shr x k 4 ∙ ap (λ n. x / 2 ^ n) (omega arith) ∙ sym (shr-shr x 4 k) in
+    ap (λ t. bit_and (bit_and t (t / 4)) (x / 2 ^ k / 16)) two
+    ∙ ap (λ q. bit_and (bit_and (twos x / 2 ^ k) q) (x / 2 ^ k / 16)) quarter
+    ∙ ap (λ t. bit_and t (x / 2 ^ k / 16)) (sym (and_shr (twos x) (twos x / 4) k))
+    ∙ ap (λ h. bit_and (bit_and (twos x) (twos x / 4) / 2 ^ k) h) high
+    ∙ sym (and_shr (bit_and (twos x) (twos x / 4)) (x / 16) k)
+
+pub fives-half : (x : ℕ) → fives (x / 2) ≡ fives x / 2
+fives-half x = fives-shr 1 x
+
+pub fives-below : (x : ℕ) → fives x ≤ x / 16
+fives-below x = and_le_r (bit_and (twos x) (twos x / 4)) (x / 16)
+
+-- the lowest place has all of five bits
+pub fives-low : (x : ℕ) → fives x % 2 ≡ min (min (min (x % 2) (x / 2 % 2)) (min (x / 4 % 2) (x / 8 % 2))) (x / 16 % 2)
+fives-low x =
+    let high : twos x / 4 ≡ bit_and (x / 4) (x / 2 / 4) = and_shr x (x / 2) 2 in
+    omega (arith, high, and_step x (x / 2), and_step (x / 4) (x / 2 / 4), and_step (twos x) (twos x / 4), and_step (bit_and (twos x) (twos x / 4)) (x / 16))
+
+-- ---- the latest four bits and the next
+
+-- the next is a 1 after three at most
+one_more : (a b c d : Bool) → first_ones (d ∷ c ∷ b ∷ a ∷ []) ≤ 3 → first_ones (true ∷ d ∷ c ∷ b ∷ []) ≡ suc (first_ones (d ∷ c ∷ b ∷ a ∷ []))
+one_more a b c false h = refl
+one_more a b false true h = refl
+one_more a false true true h = refl
+one_more false true true true h = refl
+one_more true true true true h = absurd (omega (arith, h))
+
+-- three at most where they are not all 1s
+not_all : (a b c d : Bool) → (a ≡ true → b ≡ true → c ≡ true → d ≡ true → ⊥) → first_ones (d ∷ c ∷ b ∷ a ∷ []) ≤ 3
+not_all a b c false h = omega arith
+not_all a b false true h = omega arith
+not_all a false true true h = omega arith
+not_all false true true true h = omega arith
+not_all true true true true h = absurd (h refl refl refl refl)
+
+-- where no five begin, fewer than four are before a 1
+three_before : (x : ℕ) → fives x % 2 ≡ 0 → x / 16 % 2 ≡ 1 → last_ones x ≤ 3
+unfolding low_bits
+three_before x none fifth =
+    not_all (nat_eq (x % 2) 1) (nat_eq (x / 2 % 2) 1) (nat_eq (x / 2 / 2 % 2) 1) (nat_eq (x / 2 / 2 / 2 % 2) 1)
+    (λ a b c d. absurd (omega (arith, fives-low x, none, fifth, eqb-true (x % 2) 1 a, eqb-true (x / 2 % 2) 1 b, eqb-true (x / 2 / 2 % 2) 1 c, eqb-true (x / 2 / 2 / 2 % 2) 1 d)))
+
+is_one : (y : ℕ) → y ≡ 1 → nat_eq y 1 ≡ true
+is_one y is = ap (λ z. nat_eq z 1) is
+
+-- where five do, four are
+four_before : (x : ℕ) → fives x % 2 ≡ 1 → last_ones x ≡ 4
+unfolding low_bits
+four_before x five =
+    ap (λ b. first_ones (b ∷ nat_eq (x / 2 / 2 % 2) 1 ∷ nat_eq (x / 2 % 2) 1 ∷ nat_eq (x % 2) 1 ∷ [])) (is_one (x / 2 / 2 / 2 % 2) (omega (arith, fives-low x, five)))
+    ∙ ap (λ b. first_ones (true ∷ b ∷ nat_eq (x / 2 % 2) 1 ∷ nat_eq (x % 2) 1 ∷ [])) (is_one (x / 2 / 2 % 2) (omega (arith, fives-low x, five)))
+    ∙ ap (λ b. first_ones (true ∷ true ∷ b ∷ nat_eq (x % 2) 1 ∷ [])) (is_one (x / 2 % 2) (omega (arith, fives-low x, five)))
+    ∙ ap (λ b. first_ones (true ∷ true ∷ true ∷ b ∷ [])) (is_one (x % 2) (omega (arith, fives-low x, five)))
+
+-- one bit on
+last_ones-next : (x : ℕ) (b : Bool) → nat_eq (x / 16 % 2) 1 ≡ b → fives x % 2 ≡ 0 → last_ones (x / 2) ≡ (if b then suc (last_ones x) else 0)
+unfolding low_bits
+last_ones-next x false is none =
+    let same : x / 2 / 2 / 2 / 2 % 2 ≡ x / 16 % 2 = omega arith in
+    ap (λ b. first_ones (b ∷ nat_eq (x / 2 / 2 / 2 % 2) 1 ∷ nat_eq (x / 2 / 2 % 2) 1 ∷ nat_eq (x / 2 % 2) 1 ∷ [])) (ap (λ y. nat_eq y 1) same ∙ is)
+last_ones-next x true is none =
+    let same : x / 2 / 2 / 2 / 2 % 2 ≡ x / 16 % 2 = omega arith in
+    ap (λ b. first_ones (b ∷ nat_eq (x / 2 / 2 / 2 % 2) 1 ∷ nat_eq (x / 2 / 2 % 2) 1 ∷ nat_eq (x / 2 % 2) 1 ∷ [])) (ap (λ y. nat_eq y 1) same ∙ is)
+    ∙ one_more (nat_eq (x % 2) 1) _ _ _ (three_before x none (eqb-true (x / 16 % 2) 1 is))
+
+-- a bit goes after four 1s at most
+bit_goes : (n : ℕ) (b : Bool) (rest : List Bool) → n ≤ 4 → stuffed_after n (b ∷ rest) ≡ b ∷ stuffed_after (if b then suc n else 0) rest
+bit_goes n false rest few = simp (lt-ltb n 5 (omega arith)) refl
+bit_goes n true rest few = simp (lt-ltb n 5 (omega arith)) refl
+
+bit_leaves : (n : ℕ) (b : Bool) (rest : List Bool) → n ≤ 4 → ones_sent n (b ∷ rest) ≡ ones_sent (if b then suc n else 0) rest
+bit_leaves n false rest few = refl
+bit_leaves n true rest few = simp (lt-ltb n 5 (omega arith)) refl
+
+-- and so does one of a number where no five begin
+number_goes : (x m : ℕ) → fives x % 2 ≡ 0 → stuffed_after (last_ones x) (low_bits (suc m) (x / 16)) ≡ nat_eq (x / 16 % 2) 1 ∷ stuffed_after (last_ones (x / 2)) (low_bits m (x / 2 / 16))
+unfolding low_bits
+number_goes x m none =
+    let half : x / 16 / 2 ≡ x / 2 / 16 = omega arith in
+    bit_goes (last_ones x) (nat_eq (x / 16 % 2) 1) (low_bits m (x / 16 / 2)) (last_ones-few x)
+    ∙ ap (λ n. nat_eq (x / 16 % 2) 1 ∷ stuffed_after n (low_bits m (x / 16 / 2))) (sym (last_ones-next x (nat_eq (x / 16 % 2) 1) refl none))
+    ∙ ap (λ y. nat_eq (x / 16 % 2) 1 ∷ stuffed_after (last_ones (x / 2)) (low_bits m y)) half
+
+number_leaves : (x m : ℕ) → fives x % 2 ≡ 0 → ones_sent (last_ones x) (low_bits (suc m) (x / 16)) ≡ ones_sent (last_ones (x / 2)) (low_bits m (x / 2 / 16))
+unfolding low_bits
+number_leaves x m none =
+    let half : x / 16 / 2 ≡ x / 2 / 16 = omega arith in
+    bit_leaves (last_ones x) (nat_eq (x / 16 % 2) 1) (low_bits m (x / 16 / 2)) (last_ones-few x)
+    ∙ ap (λ n. ones_sent n (low_bits m (x / 16 / 2))) (sym (last_ones-next x (nat_eq (x / 16 % 2) 1) refl none))
+    ∙ ap (λ y. ones_sent (last_ones (x / 2)) (low_bits m y)) half
+
+-- ---- where none begin
+
+pub calm_goes : (m x : ℕ) → fives x ≡ 0 → stuffed_after (last_ones x) (low_bits m (x / 16)) ≡ low_bits m (x / 16)
+unfolding low_bits
+calm_goes zero x none = simp (lt-ltb (last_ones x) 5 (omega (arith, last_ones-few x))) refl
+calm_goes (suc m) x none =
+    let half : x / 2 / 16 ≡ x / 16 / 2 = omega arith in
+    number_goes x m (omega (arith, none))
+    ∙ ap (λ l. nat_eq (x / 16 % 2) 1 ∷ l) (calm_goes m (x / 2) (omega (arith, fives-half x, none)) ∙ ap (low_bits m) half)
+
+pub calm_leaves : (m x : ℕ) → fives x ≡ 0 → ones_sent (last_ones x) (low_bits m (x / 16)) ≡ last_ones (x / 2 ^ m)
+unfolding low_bits
+calm_leaves zero x none = simp (lt-ltb (last_ones x) 5 (omega (arith, last_ones-few x))) (ap last_ones (sym (div-one x)))
+calm_leaves (suc m) x none =
+    let half : suc m ≡ 1 + m = omega arith in
+    number_leaves x m (omega (arith, none))
+    ∙ calm_leaves m (x / 2) (omega (arith, fives-half x, none))
+    ∙ ap last_ones (shr-shr x 1 m ∙ ap (λ n. x / 2 ^ n) (sym half))
+
+-- ---- where the first begin
+
+-- at once, a 0 goes after the fifth
+five_goes : (m x : ℕ) → fives x % 2 ≡ 1 → stuffed_after (last_ones x) (low_bits (suc m) (x / 16)) ≡ true ∷ false ∷ stuffed_after 0 (low_bits m (x / 32))
+unfolding low_bits
+five_goes m x five =
+    let fifth : nat_eq (x / 16 % 2) 1 ≡ true = is_one (x / 16 % 2) (omega (arith, fives-low x, five)) in
+    let half : x / 16 / 2 ≡ x / 32 = omega arith in
+    ap (λ n. stuffed_after n (nat_eq (x / 16 % 2) 1 ∷ low_bits m (x / 16 / 2))) (four_before x five)
+    ∙ ap (λ b. stuffed_after 4 (b ∷ low_bits m (x / 16 / 2))) fifth
+    ∙ ap (λ l. true ∷ l) (stuffed_after_fifth 5 (low_bits m (x / 16 / 2)) (omega arith))
+    ∙ ap (λ y. true ∷ false ∷ stuffed_after 0 (low_bits m y)) half
+
+ones_sent_fifth : (b : List Bool) → ones_sent 5 b ≡ ones_sent 0 b
+ones_sent_fifth [] = refl
+ones_sent_fifth (false ∷ b) = refl
+ones_sent_fifth (true ∷ b) = refl
+
+five_leaves : (m x : ℕ) → fives x % 2 ≡ 1 → ones_sent (last_ones x) (low_bits (suc m) (x / 16)) ≡ ones_sent 0 (low_bits m (x / 32))
+unfolding low_bits
+five_leaves m x five =
+    let fifth : nat_eq (x / 16 % 2) 1 ≡ true = is_one (x / 16 % 2) (omega (arith, fives-low x, five)) in
+    let half : x / 16 / 2 ≡ x / 32 = omega arith in
+    ap (λ n. ones_sent n (nat_eq (x / 16 % 2) 1 ∷ low_bits m (x / 16 / 2))) (four_before x five)
+    ∙ ap (λ b. ones_sent 4 (b ∷ low_bits m (x / 16 / 2))) fifth
+    ∙ ones_sent_fifth (low_bits m (x / 16 / 2))
+    ∙ ap (λ y. ones_sent 0 (low_bits m y)) half
+
+-- Five 1s begin at this place of a number, and at no place below.
+abbrev pub IsFirst : ℕ → ℕ → Type 0
+IsFirst s x = (bit_at (fives x) s ≡ 1) × ((i : ℕ) → i < s → bit_at (fives x) i ≡ 0)
+
+-- one place up
+IsFirst-half : (s x : ℕ) → IsFirst (suc s) x → IsFirst s (x / 2)
+IsFirst-half s x first =
+    (ap (λ f. bit_at f s) (fives-half x) ∙ sym (bit_at-suc (fives x) s) ∙ first.0,
+    λ i below. ap (λ f. bit_at f i) (fives-half x) ∙ sym (bit_at-suc (fives x) i) ∙ first.1 (suc i) (omega (arith, below)))
+
+IsFirst-none : (s x : ℕ) → IsFirst (suc s) x → fives x % 2 ≡ 0
+IsFirst-none s x first = sym (bit_at_lowest (fives x)) ∙ first.1 0 (omega arith)
+
+pub first_goes : (s m n x : ℕ) → n ≡ suc s + m → IsFirst s x → stuffed_after (last_ones x) (low_bits n (x / 16)) ≡ low_bits (suc s) (x / 16) ++ false ∷ stuffed_after 0 (low_bits m (x / 2 ^ (s + 5)))
+unfolding low_bits
+first_goes zero m n x parts first =
+    let five : fives x % 2 ≡ 1 = sym (bit_at_lowest (fives x)) ∙ first.0 in
+    let fifth : nat_eq (x / 16 % 2) 1 ≡ true = is_one (x / 16 % 2) (omega (arith, fives-low x, five)) in
+    let more : n ≡ suc m = omega (arith, parts) in
+    ap (λ k. stuffed_after (last_ones x) (low_bits k (x / 16))) more
+    ∙ five_goes m x five
+    ∙ ap (λ b. b ∷ false ∷ stuffed_after 0 (low_bits m (x / 32))) (sym fifth)
+first_goes (suc s) m n x parts first =
+    let half : x / 2 / 16 ≡ x / 16 / 2 = omega arith in
+    let more : n ≡ suc (suc s + m) = omega (arith, parts) in
+    let places : 1 + (s + 5) ≡ suc s + 5 = omega arith in
+    ap (λ k. stuffed_after (last_ones x) (low_bits k (x / 16))) more
+    ∙ number_goes x (suc s + m) (IsFirst-none s x first)
+    ∙ ap (λ l. nat_eq (x / 16 % 2) 1 ∷ l)
+    (first_goes s m (suc s + m) (x / 2) refl (IsFirst-half s x first)
+    ∙ ap (λ y. low_bits (suc s) y ++ false ∷ stuffed_after 0 (low_bits m (x / 2 / 2 ^ (s + 5)))) half
+    ∙ ap (λ y. low_bits (suc s) (x / 16 / 2) ++ false ∷ stuffed_after 0 (low_bits m y)) (shr-shr x 1 (s + 5) ∙ ap (λ k. x / 2 ^ k) places))
+
+pub first_leaves : (s m n x : ℕ) → n ≡ suc s + m → IsFirst s x → ones_sent (last_ones x) (low_bits n (x / 16)) ≡ ones_sent 0 (low_bits m (x / 2 ^ (s + 5)))
+first_leaves zero m n x parts first =
+    let more : n ≡ suc m = omega (arith, parts) in
+    ap (λ k. ones_sent (last_ones x) (low_bits k (x / 16))) more ∙ five_leaves m x (sym (bit_at_lowest (fives x)) ∙ first.0)
+first_leaves (suc s) m n x parts first =
+    let more : n ≡ suc (suc s + m) = omega (arith, parts) in
+    let places : 1 + (s + 5) ≡ suc s + 5 = omega arith in
+    ap (λ k. ones_sent (last_ones x) (low_bits k (x / 16))) more
+    ∙ number_leaves x (suc s + m) (IsFirst-none s x first)
+    ∙ first_leaves s m (suc s + m) (x / 2) refl (IsFirst-half s x first)
+    ∙ ap (λ y. ones_sent 0 (low_bits m y)) (shr-shr x 1 (s + 5) ∙ ap (λ k. x / 2 ^ k) places)

@@ -1,6 +1,6 @@
 -- Where five 1s come together in a number's bits: they go as they are up to there, and then goes a 0.
-use Rattle.std.proofs.Common.{◌≡◌, ℕ, suc, zero, ◌+◌, ◌-◌, ◌*◌, ◌/◌, ◌%◌, ◌^◌, ◌<◌, ◌≤◌, min, Bool, true, false, if◌then◌else◌, nat_eq, bit_and, List, [], ◌∷◌, ◌++◌, refl, ap, sym, ◌∙◌, arith}
-use Rattle.std.proofs.lemmas.Bool.{eqb-true, eqb-false, lt-ltb}
+use Rattle.std.proofs.Common.{◌≡◌, ℕ, suc, zero, ◌+◌, ◌/◌, ◌%◌, ◌^◌, ◌<◌, ◌≤◌, min, Bool, true, false, if◌then◌else◌, nat_eq, bit_and, List, [], ◌∷◌, ◌++◌, refl, ap, sym, ◌∙◌, arith}
+use Rattle.std.proofs.lemmas.Bool.{eqb-true, lt-ltb}
 use Rattle.std.proofs.lemmas.Nat.{and_shr, and_le_r, shr-shr}
 use Rattle.std.proofs.lemmas.Nat.Bits.{bit_at-suc, bit_at_lowest}
 use Rattle.std.proofs.Math.Nat.{div-one}
@@ -166,9 +166,10 @@ IsFirst s x = (bit_at (fives x) s ≡ 1) × ((i : ℕ) → i < s → bit_at (fiv
 
 -- one place up
 IsFirst-half : (s x : ℕ) → IsFirst (suc s) x → IsFirst s (x / 2)
-IsFirst-half s x first =
-    (ap (λ f. bit_at f s) (fives-half x) ∙ sym (bit_at-suc (fives x) s) ∙ first.0,
-    λ i below. ap (λ f. bit_at f i) (fives-half x) ∙ sym (bit_at-suc (fives x) i) ∙ first.1 (suc i) (omega (arith, below)))
+IsFirst-half s x first = (
+  ap (λ f. bit_at f s) (fives-half x) ∙ sym (bit_at-suc (fives x) s) ∙ first.0,
+  λ i below. ap (λ f. bit_at f i) (fives-half x) ∙ sym (bit_at-suc (fives x) i) ∙ first.1 (suc i) (omega (arith, below)),
+)
 
 IsFirst-none : (s x : ℕ) → IsFirst (suc s) x → fives x % 2 ≡ 0
 IsFirst-none s x first = sym (bit_at_lowest (fives x)) ∙ first.1 0 (omega arith)

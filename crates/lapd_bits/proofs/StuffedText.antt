@@ -15,10 +15,6 @@ use Rattle.lapd_bits.proofs.StuffingAtOnce.{text_after-none, last_ones-few}
 
 -- ---- it goes on
 
--- by no bits
-pub Goes-none : (text : List Bool) (ones : ℕ) → Goes text ones [] text ones
-Goes-none text ones rest = refl
-
 -- by some bits and then others
 pub Goes-then : (a b c : List Bool) (l m n : ℕ) (first second : List Bool) → Goes a l first b m → Goes b m second c n → Goes a l (first ++ second) c n
 Goes-then a b c l m n first second one two rest =

@@ -1,5 +1,5 @@
 -- Bits are stuffed one 0 after the other: what lies below a place is done, and the places above where five 1s begin are known.
-use Rattle.std.proofs.Common.{◌≡◌, ℕ, suc, zero, ◌+◌, ◌-◌, ◌*◌, ◌/◌, ◌%◌, ◌^◌, ◌<◌, ◌≤◌, min, Bool, true, false, nat_eq, List, [], ◌∷◌, ◌++◌, length, reverse, refl, ap, sym, ◌∙◌, arith, append_assoc, length-append, subst, ⊎_elim}
+use Rattle.std.proofs.Common.{◌≡◌, ℕ, suc, zero, ◌+◌, ◌-◌, ◌*◌, ◌/◌, ◌%◌, ◌^◌, ◌<◌, ◌≤◌, min, Bool, false, nat_eq, List, [], ◌∷◌, ◌++◌, length, reverse, refl, ap, sym, ◌∙◌, arith, append_assoc, length-append, subst, ⊎_elim}
 use Rattle.std.proofs.lemmas.Nat.{shr-shr, div-mul-add, pow-add, pow_pos, pow_below}
 use Rattle.std.proofs.lemmas.Nat.Bits.{bit_at-suc, bit_at_lowest, bit_at-trailing_zeros}
 use Rattle.std.proofs.Math.Nat.{div-one, div-add-mod, mod-lt, mod-eq_of_lt, add-mul-mod_self_right, div-le_self, div-mul-le_self, mul-le-mul_left}
@@ -63,10 +63,16 @@ module _ (ones : ℕ) (b : List Bool) (text total due : ℕ) (u : Underway ones 
   pub total_few : ones ≤ 4 → length b ≤ 40 → total ≤ 48
   total_few few short =
       let rest = low_bits u.left (text / 2 ^ u.done / 16) in
-      omega (arith, u.all, stuffed_after-pays ones b (omega (arith, few)), ap length u.sent,
-      length-append (low_bits u.done (text / 16)) (stuffed_after (last_ones (text / 2 ^ u.done)) rest),
-      length-low_bits u.done (text / 16), length-low_bits u.left (text / 2 ^ u.done / 16),
-      stuffed_after-at_least (last_ones (text / 2 ^ u.done)) rest)
+      omega (
+        arith,
+        u.all,
+        stuffed_after-pays ones b (omega (arith, few)),
+        ap length u.sent,
+        length-append (low_bits u.done (text / 16)) (stuffed_after (last_ones (text / 2 ^ u.done)) rest),
+        length-low_bits u.done (text / 16),
+        length-low_bits u.left (text / 2 ^ u.done / 16),
+        stuffed_after-at_least (last_ones (text / 2 ^ u.done)) rest,
+      )
 
   -- ---- nothing is due
 
@@ -77,14 +83,14 @@ module _ (ones : ℕ) (b : List Bool) (text total due : ℕ) (u : Underway ones 
       let moved : text / 16 / 2 ^ u.done ≡ y / 16 =
       shr-shr text 4 u.done ∙ ap (λ n. text / 2 ^ n) (omega arith) ∙ sym (shr-shr text u.done 4) in (
         ap (λ n. low_bits n (text / 16)) u.all
-        ∙ low_bits-add u.done u.left (text / 16)
-        ∙ ap (λ z. low_bits u.done (text / 16) ++ low_bits u.left z) moved
-        ∙ ap (λ l. low_bits u.done (text / 16) ++ l) (sym (calm_goes u.left y calm))
-        ∙ sym u.sent,
+            ∙ low_bits-add u.done u.left (text / 16)
+            ∙ ap (λ z. low_bits u.done (text / 16) ++ low_bits u.left z) moved
+            ∙ ap (λ l. low_bits u.done (text / 16) ++ l) (sym (calm_goes u.left y calm))
+            ∙ sym u.sent,
         ap (λ n. last_ones (text / 2 ^ n)) u.all
-        ∙ ap last_ones (sym (shr-shr text u.done u.left))
-        ∙ sym (calm_leaves u.left y calm)
-        ∙ sym u.run,
+            ∙ ap last_ones (sym (shr-shr text u.done u.left))
+            ∙ sym (calm_leaves u.left y calm)
+            ∙ sym u.run,
       )
     where
       no_product : (f p : ℕ) → 0 < p → f * p ≡ 0 → f ≡ 0
@@ -194,8 +200,15 @@ module _ (ones : ℕ) (b : List Bool) (text total due : ℕ) (u : Underway ones 
   pub due_below : due < 2 ^ total
   due_below =
       let y = text / 2 ^ u.done in
-      omega (arith, u.due_is, mul-le-mul_left (2 ^ u.done) (fives-below y), ap (λ n. n * 2 ^ u.done) above,
-      div-mul-le_self (text / 16) (2 ^ u.done), u.below, pow-add 2 total 4)
+      omega (
+        arith,
+        u.due_is,
+        mul-le-mul_left (2 ^ u.done) (fives-below y),
+        ap (λ n. n * 2 ^ u.done) above,
+        div-mul-le_self (text / 16) (2 ^ u.done),
+        u.below,
+        pow-add 2 total 4,
+      )
 
   module _ (some : due ≡ 0 → ⊥) (fits : due < 2 ^ 64) where
     abbrev place : ℕ

@@ -1,5 +1,5 @@
 -- What bits make of themselves on a line, all at once (Q.921 clause 2.6). No public call names this.
-use Rattle.std.specs.Prelude.{◌≡◌, ℕ, suc, bit_and, ◌*◌, ◌/◌, Bool, true, false, List, [], ◌∷◌, ◌++◌, drop, replicate, reverse}
+use Rattle.std.specs.Prelude.{◌≡◌, ℕ, suc, bit_and, ◌/◌, Bool, true, List, ◌∷◌, ◌++◌, drop, replicate, reverse}
 use Rattle.lapd_bits.specs.Bits.{low_bits}
 use Rattle.lapd_bits.specs.Stuffing.{stuffed}
 

@@ -4,6 +4,7 @@ use Rattle.std.specs.Prelude.{◌≡◌, ◌∷◌, ◌++◌, [], true, false, m
 use Rattle.lapd_bits.specs.Bits.{bits, low_bits, number_of}
 use Rattle.lapd_bits.specs.Check.{check, remainder}
 use Rattle.lapd_bits.specs.Stuffing.{stuffed, unstuffed}
+use Rattle.lapd_bits.specs.Stuffer.{last_ones, text_after, fives}
 use Rattle.lapd_bits.specs.Unstuffer.{has_six}
 use Rattle.lapd_bits.specs.Deframer.{run_of}
 use Rattle.lapd_bits.specs.Steps.{with_bits}
@@ -182,3 +183,28 @@ FF_after_four :
     ≡ replicate 4 true ++ (true ∷ false ∷ replicate 5 true ++ false ∷ replicate 2 true)
 unfolding low_bits
 FF_after_four = refl
+
+-- and what goes on after those four
+FF_goes_on : text_after 4 (low_bits 8 0xFF) ≡ true ∷ false ∷ replicate 5 true ++ false ∷ replicate 2 true
+unfolding low_bits
+FF_goes_on = refl
+
+-- the 1s at the end of four bits: three in 0111, which is E with its first bit lowest; four in 1111; none in 1110
+three_at_the_end : last_ones 0xE ≡ 3
+unfolding low_bits
+three_at_the_end = refl
+
+four_at_the_end : last_ones 0xF ≡ 4
+unfolding low_bits
+four_at_the_end = refl
+
+none_at_the_end : last_ones 0x7 ≡ 0
+unfolding low_bits
+none_at_the_end = refl
+
+-- five 1s begin at the first two places of six 1s, and at none of four
+five_ones_in_six : fives 0x3F ≡ 0x3
+five_ones_in_six = refl
+
+five_ones_in_four : fives 0xF ≡ 0
+five_ones_in_four = refl

@@ -37,7 +37,7 @@ impl Stuffed {
         let mut due = five_ones(latest, bits);
         while due != 0 {
             let after = due.trailing_zeros() + 5;
-            // What stands after the fifth 1 moves up by one, and five 1s begin anew.
+            // What stands after the fifth 1 moves up by one, and the count of 1s begins anew.
             text += text >> after << after;
             due = due >> after << after << 1;
             total += 1;

@@ -1,10 +1,10 @@
 -- Nothing is due any more when all 0s have been put in.
-use Rattle.std.proofs.Common.{◌≡◌, ℕ, ◌<◌, ◌≤◌, ◌+◌, ◌*◌, ◌/◌, ◌%◌, ◌^◌, [], length, Fits, w64, ap, sym, ◌∙◌, subst, arith}
-use Rattle.std.proofs.lemmas.Nat.{pow_below, pow-add}
+use Rattle.std.proofs.Common.{◌<◌, ◌≤◌, ◌+◌, ◌*◌, ◌/◌, ◌^◌, [], length, ap, sym, subst, arith}
+use Rattle.std.proofs.lemmas.Nat.{pow-add}
 use Rattle.std.proofs.Math.Nat.{mod-eq_of_lt, mod-le, div-mul-le_self}
 use Rattle.std.proofs.Math.Pow.{shr_lt, pow_mono}
 use Rattle.lapd_bits.specs.Bits.{low_bits}
-use Rattle.lapd_bits.specs.Stuffer.{last_ones, fives}
+use Rattle.lapd_bits.specs.Stuffer.{last_ones}
 use Rattle.lapd_bits.proofs.BitLemmas.{length-low_bits}
 use Rattle.lapd_bits.proofs.StuffingAtOnce.{Goes-sent, last_ones-few, stuffed_after-pays}
 use Rattle.lapd_bits.proofs.Underway.{Underway, begin, total_few, none_due, place_fits, text_fits, next_word}
@@ -93,5 +93,11 @@ returns-clause-at_least c = c.loop-due.invariant.at_least
 pub returns-clause-pays : goal.returns-clause-pays
 returns-clause-pays c =
     let end = none_due _ _ _ _ _ c.loop-due.invariant.underway c.loop-due-test.false in
-    omega (arith, ap length end.0, end.1, length-low_bits c.loop-due.total (c.loop-due.text / 16), length-low_bits c.args.count c.args.bits,
-    stuffed_after-pays (last_ones c.args.latest) (low_bits c.args.count c.args.bits) (omega (arith, last_ones-few c.args.latest)))
+    omega (
+      arith,
+      ap length end.0,
+      end.1,
+      length-low_bits c.loop-due.total (c.loop-due.text / 16),
+      length-low_bits c.args.count c.args.bits,
+      stuffed_after-pays (last_ones c.args.latest) (low_bits c.args.count c.args.bits) (omega (arith, last_ones-few c.args.latest)),
+    )

@@ -21,7 +21,7 @@ Goes-then a b c l m n first second one two rest =
     two rest ∙ one (second ++ rest) ∙ ap (λ o. a ++ text_after l o) (sym (append_assoc first second rest))
 
 -- after other bits
-pub Goes-behind : (front a b : List Bool) (l m : ℕ) (more : List Bool) → Goes a l more b m → Goes (front ++ a) l more (front ++ b) m
+Goes-behind : (front a b : List Bool) (l m : ℕ) (more : List Bool) → Goes a l more b m → Goes (front ++ a) l more (front ++ b) m
 Goes-behind front a b l m more goes rest =
     append_assoc front b (text_after m rest) ∙ ap (λ t. front ++ t) (goes rest) ∙ sym (append_assoc front a (text_after l (more ++ rest)))
 
@@ -42,7 +42,7 @@ Goes-ended before after b ones latest goes =
 -- ---- four octets of a list
 
 -- one by one
-pub are_four : (octets : List ℕ) → length octets ≡ 4 → octets ≡ get_or octets 0 0 ∷ get_or octets 1 0 ∷ get_or octets 2 0 ∷ get_or octets 3 0 ∷ []
+are_four : (octets : List ℕ) → length octets ≡ 4 → octets ≡ get_or octets 0 0 ∷ get_or octets 1 0 ∷ get_or octets 2 0 ∷ get_or octets 3 0 ∷ []
 are_four octets four =
     drop-cons octets 0 0 (omega arith)
     ∙ ap (λ l. get_or octets 0 0 ∷ l) (drop-cons octets 1 0 (omega arith))
@@ -59,7 +59,7 @@ four_at (suc k) (suc i) octets d within =
     ∙ ap (take 4) (drop-drop (4 * i) 4 octets ∙ ap (λ n. drop n octets) (omega arith))
 
 -- four octets as a number, the first lowest
-pub four_bits : (a b c d : ℕ) → a < 256 → b < 256 → c < 256 → d < 256 → low_bits 32 (from_le_bytes w32 (a ∷ b ∷ c ∷ d ∷ [])) ≡ bits (a ∷ b ∷ c ∷ d ∷ [])
+four_bits : (a b c d : ℕ) → a < 256 → b < 256 → c < 256 → d < 256 → low_bits 32 (from_le_bytes w32 (a ∷ b ∷ c ∷ d ∷ [])) ≡ bits (a ∷ b ∷ c ∷ d ∷ [])
 four_bits a b c d first second third fourth =
     let is : from_le_bytes w32 (a ∷ b ∷ c ∷ d ∷ []) ≡ a + (b + (c + d * 2 ^ 8) * 2 ^ 8) * 2 ^ 8 = omega arith in
     ap (low_bits 32) is

@@ -7,7 +7,7 @@ use Rattle.lapd_bits.specs.Stuffer.{first_ones, last_ones, text_after, Goes}
 use Rattle.lapd_bits.proofs.StuffingCounted.{stuffed_after, stuffed_zero, ones_left, stuffed-counted, stuffed_after_fifth}
 
 -- the end of a stuffed text, by the count of 1s
-pub stuffed_end : (n : ℕ) (b : List Bool) → n ≤ 5 → drop n (stuffed (replicate n true ++ b)) ≡ stuffed_after n b
+stuffed_end : (n : ℕ) (b : List Bool) → n ≤ 5 → drop n (stuffed (replicate n true ++ b)) ≡ stuffed_after n b
 stuffed_end zero b h = stuffed-counted b
 stuffed_end (suc zero) b h = ap (drop 1) (stuffed-counted (true ∷ b))
 stuffed_end (suc (suc zero)) b h = ap (drop 2) (stuffed-counted (true ∷ true ∷ b))
@@ -15,15 +15,6 @@ stuffed_end (suc (suc (suc zero))) b h = ap (drop 3) (stuffed-counted (true ∷ 
 stuffed_end (suc (suc (suc (suc zero)))) b h = ap (drop 4) (stuffed-counted (true ∷ true ∷ true ∷ true ∷ b))
 stuffed_end (suc (suc (suc (suc (suc zero))))) b h = ap (drop 5) (stuffed-counted (true ∷ true ∷ true ∷ true ∷ true ∷ b))
 stuffed_end (suc (suc (suc (suc (suc (suc n)))))) b h = absurd (omega arith)
-
--- up to four 1s before a text stay before it
-pub stuffed-ones : (n : ℕ) (b : List Bool) → n ≤ 4 → stuffed (replicate n true ++ b) ≡ replicate n true ++ drop n (stuffed (replicate n true ++ b))
-stuffed-ones zero b h = refl
-stuffed-ones (suc zero) b h = stuffed-counted (true ∷ b) ∙ ap (λ l. true ∷ l) (sym (stuffed_end 1 b (omega arith)))
-stuffed-ones (suc (suc zero)) b h = stuffed-counted (true ∷ true ∷ b) ∙ ap (λ l. true ∷ true ∷ l) (sym (stuffed_end 2 b (omega arith)))
-stuffed-ones (suc (suc (suc zero))) b h = stuffed-counted (true ∷ true ∷ true ∷ b) ∙ ap (λ l. true ∷ true ∷ true ∷ l) (sym (stuffed_end 3 b (omega arith)))
-stuffed-ones (suc (suc (suc (suc zero)))) b h = stuffed-counted (true ∷ true ∷ true ∷ true ∷ b) ∙ ap (λ l. true ∷ true ∷ true ∷ true ∷ l) (sym (stuffed_end 4 b (omega arith)))
-stuffed-ones (suc (suc (suc (suc (suc n))))) b h = absurd (omega arith)
 
 -- the 1s at the end of what is sent of bits, with the 0 after a fifth
 abbrev pub ones_sent : ℕ → List Bool → ℕ
@@ -40,7 +31,7 @@ stuffed_after-due ones b =
     (cases_lt ones 5)
 
 -- a text in two parts
-pub stuffed_after-append : (ones : ℕ) (s t : List Bool) → stuffed_after ones (s ++ t) ≡ stuffed_after ones s ++ stuffed_after (ones_sent ones s) t
+stuffed_after-append : (ones : ℕ) (s t : List Bool) → stuffed_after ones (s ++ t) ≡ stuffed_after ones s ++ stuffed_after (ones_sent ones s) t
 stuffed_after-append ones [] t = stuffed_after-due ones t
 stuffed_after-append ones (false ∷ s) t =
     ap (λ l. stuffed_zero ones ++ false ∷ l) (stuffed_after-append 0 s t)

@@ -15,6 +15,8 @@ use Rattle.lapd_bits.proofs.StuffingCounted.{stuffed_after}
 use Rattle.lapd_bits.proofs.StuffingAtOnce.{ones_sent, Goes-sent, last_ones-few, stuffed_after-pays, stuffed_after-at_least}
 use Rattle.lapd_bits.proofs.Fives.{fives-shr, fives-half, fives-low, fives-below, calm_goes, calm_leaves, IsFirst, first_goes, first_leaves}
 
+-- of `total` bits above the latest four, `done` are as they go; `left` bits are still to be stuffed, and `due` marks where
+-- five 1s begin in them
 pub record Underway (ones : ℕ) (b : List Bool) (text total due : ℕ) : Type 0 where
   pub done : ℕ
   pub left : ℕ
@@ -26,7 +28,7 @@ pub record Underway (ones : ℕ) (b : List Bool) (text total due : ℕ) : Type 0
 
 -- ---- the latest four bits by the low ones of a number
 
-pub last_ones-low : (latest more : ℕ) → latest < 16 → last_ones (latest + more * 16) ≡ last_ones latest
+last_ones-low : (latest more : ℕ) → latest < 16 → last_ones (latest + more * 16) ≡ last_ones latest
 last_ones-low latest more four =
     let low : (latest + more * 16) % 2 ^ 4 ≡ latest = omega arith in
     ap (λ l. first_ones (reverse l)) (sym (low_bits-mod 4 (latest + more * 16)) ∙ ap (low_bits 4) low)
@@ -197,7 +199,7 @@ module _ (ones : ℕ) (b : List Bool) (text total due : ℕ) (u : Underway ones 
   above : text / 2 ^ u.done / 16 ≡ text / 16 / 2 ^ u.done
   above = up 4 ∙ ap (λ n. text / 2 ^ n) (omega arith) ∙ sym (shr-shr text 4 u.done)
 
-  pub due_below : due < 2 ^ total
+  due_below : due < 2 ^ total
   due_below =
       let y = text / 2 ^ u.done in
       omega (
@@ -316,10 +318,10 @@ module _ (ones : ℕ) (b : List Bool) (text total due : ℕ) (u : Underway ones 
       pub text_fits : text < 2 ^ 53
       text_fits = omega (arith, u.below, pow_below (total + 4) 53 (omega (arith, total_few ones b text total due u few short)))
 
-      pub text_moved : text / 2 ^ (place + 5) * 2 ^ (place + 5) % 18446744073709551616 ≡ text / 2 ^ (place + 5) * 2 ^ (place + 5)
+      text_moved : text / 2 ^ (place + 5) * 2 ^ (place + 5) % 18446744073709551616 ≡ text / 2 ^ (place + 5) * 2 ^ (place + 5)
       text_moved = mod-eq_of_lt (omega (arith, text_fits, div-mul-le_self text (2 ^ (place + 5))))
 
-      pub due_moved : due / 2 ^ (place + 5) * 2 ^ (place + 5) % 18446744073709551616 * 2 % 18446744073709551616 ≡ due / 2 ^ (place + 5) * 2 ^ (place + 5) * 2
+      due_moved : due / 2 ^ (place + 5) * 2 ^ (place + 5) % 18446744073709551616 * 2 % 18446744073709551616 ≡ due / 2 ^ (place + 5) * 2 ^ (place + 5) * 2
       due_moved =
           let small : due < 2 ^ 49 = omega (arith, due_below, pow_below total 49 (omega (arith, total_few ones b text total due u few short))) in
           let kept : due / 2 ^ (place + 5) * 2 ^ (place + 5) % 18446744073709551616 ≡ due / 2 ^ (place + 5) * 2 ^ (place + 5) =

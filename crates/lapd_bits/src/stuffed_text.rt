@@ -78,7 +78,7 @@ impl StuffedText {
         }
     }
 
-    /// Ends the text with octets, their check and a flag.
+    /// Ends the text with octets, a check and a flag.
     #[inline(always)]
     pub(crate) fn end_with(&mut self, buffer: &mut [u8], octets: &[u8], check: u16)
         requires low { self.old.waiting.count < 8 }

@@ -3,10 +3,10 @@ ghost use Rattle.std.specs.Prelude.{◌≡◌, ◌<◌, ◌≤◌, ◌+◌, ◌*
 ghost use Rattle.lapd_bits.specs.Bits.{low_bits};
 ghost use Rattle.lapd_bits.specs.Stuffer.{Goes, last_ones, fives};
 
-/// How many bits of a text are looked at to see its last 1s. More than four are none, since a 0 goes after a fifth.
+/// How many bits of a text are looked at to see its last 1s. There are never more than four, since a 0 goes after a fifth.
 const LATEST: u64 = 4;
 
-/// The bits of four octets, but for the latest four.
+/// How many of the bits of four octets go before the latest four.
 const FOUR_BUT_LATEST: u32 = 28;
 
 /// What bits make of themselves on a line.
@@ -22,7 +22,7 @@ pub(crate) struct Stuffed {
 }
 
 impl Stuffed {
-    /// What so many bits make of themselves after the latest four of a text.
+    /// What these bits, `count` of them, make of themselves after a text that ends in these four.
     #[inline(always)]
     pub(crate) fn after(latest: u64, bits: u64, count: u64) -> Stuffed
         requires four { latest < 16 }

@@ -7,37 +7,45 @@ use Rattle.std.proofs.Math.Nat.{div-one}
 use Rattle.std.specs.Int.{bit_at}
 use lib.Bits.{and_step}
 use Rattle.lapd_bits.specs.Bits.{low_bits}
-use Rattle.lapd_bits.specs.Stuffer.{first_ones, last_ones, twos, fives}
+use Rattle.lapd_bits.specs.Stuffer.{first_ones, last_ones, fives}
 use Rattle.lapd_bits.proofs.StuffingCounted.{stuffed_after, stuffed_after_fifth}
 use Rattle.lapd_bits.proofs.StuffingAtOnce.{ones_sent, last_ones-few}
 
 -- ---- where five 1s begin
 
+-- a number moved down twice
+swap : (k j x : ℕ) → x / 2 ^ k / 2 ^ j ≡ x / 2 ^ j / 2 ^ k
+swap k j x = shr-shr x k j ∙ ap (λ n. x / 2 ^ n) {x = k + j} {y = j + k} (omega arith) ∙ sym (shr-shr x j k)
+
 -- some places up
 pub fives-shr : (k x : ℕ) → fives (x / 2 ^ k) ≡ fives x / 2 ^ k
 fives-shr k x =
-    let two : twos (x / 2 ^ k) ≡ twos x / 2 ^ k =
-    ap (λ y. bit_and (x / 2 ^ k) y) (shr-shr x k 1 ∙ ap (λ n. x / 2 ^ n) (omega arith) ∙ sym (shr-shr x 1 k)) ∙ sym (and_shr x (x / 2) k) in
-    let quarter : twos x / 2 ^ k / 4 ≡ twos x / 4 / 2 ^ k =
-    shr-shr (twos x) k 2 ∙ ap (λ n. twos x / 2 ^ n) (omega arith) ∙ sym (shr-shr (twos x) 2 k) in
-    let high : x / 2 ^ k / 16 ≡ x / 16 / 2 ^ k = shr-shr x k 4 ∙ ap (λ n. x / 2 ^ n) (omega arith) ∙ sym (shr-shr x 4 k) in
-    ap (λ t. bit_and (bit_and t (t / 4)) (x / 2 ^ k / 16)) two
-    ∙ ap (λ q. bit_and (bit_and (twos x / 2 ^ k) q) (x / 2 ^ k / 16)) quarter
-    ∙ ap (λ t. bit_and t (x / 2 ^ k / 16)) (sym (and_shr (twos x) (twos x / 4) k))
-    ∙ ap (λ h. bit_and (bit_and (twos x) (twos x / 4) / 2 ^ k) h) high
-    ∙ sym (and_shr (bit_and (twos x) (twos x / 4)) (x / 16) k)
+    let y = x / 2 ^ k in
+    ap (λ a. bit_and (bit_and (bit_and y a) (bit_and (y / 4) (y / 8))) (y / 16)) (swap k 1 x)
+    ∙ ap (λ b. bit_and (bit_and (bit_and y (x / 2 / 2 ^ k)) (bit_and b (y / 8))) (y / 16)) (swap k 2 x)
+    ∙ ap (λ c. bit_and (bit_and (bit_and y (x / 2 / 2 ^ k)) (bit_and (x / 4 / 2 ^ k) c)) (y / 16)) (swap k 3 x)
+    ∙ ap (λ d. bit_and (bit_and (bit_and y (x / 2 / 2 ^ k)) (bit_and (x / 4 / 2 ^ k) (x / 8 / 2 ^ k))) d) (swap k 4 x)
+    ∙ ap (λ t. bit_and (bit_and t (bit_and (x / 4 / 2 ^ k) (x / 8 / 2 ^ k))) (x / 16 / 2 ^ k)) (sym (and_shr x (x / 2) k))
+    ∙ ap (λ t. bit_and (bit_and (bit_and x (x / 2) / 2 ^ k) t) (x / 16 / 2 ^ k)) (sym (and_shr (x / 4) (x / 8) k))
+    ∙ ap (λ t. bit_and t (x / 16 / 2 ^ k)) (sym (and_shr (bit_and x (x / 2)) (bit_and (x / 4) (x / 8)) k))
+    ∙ sym (and_shr (bit_and (bit_and x (x / 2)) (bit_and (x / 4) (x / 8))) (x / 16) k)
 
 pub fives-half : (x : ℕ) → fives (x / 2) ≡ fives x / 2
 fives-half x = fives-shr 1 x
 
 pub fives-below : (x : ℕ) → fives x ≤ x / 16
-fives-below x = and_le_r (bit_and (twos x) (twos x / 4)) (x / 16)
+fives-below x = and_le_r (bit_and (bit_and x (x / 2)) (bit_and (x / 4) (x / 8))) (x / 16)
 
 -- the lowest place has all of five bits
 pub fives-low : (x : ℕ) → fives x % 2 ≡ min (min (min (x % 2) (x / 2 % 2)) (min (x / 4 % 2) (x / 8 % 2))) (x / 16 % 2)
 fives-low x =
-    let high : twos x / 4 ≡ bit_and (x / 4) (x / 2 / 4) = and_shr x (x / 2) 2 in
-    omega (arith, high, and_step x (x / 2), and_step (x / 4) (x / 2 / 4), and_step (twos x) (twos x / 4), and_step (bit_and (twos x) (twos x / 4)) (x / 16))
+    omega (arith, and_step x (x / 2), and_step (x / 4) (x / 8), and_step (bit_and x (x / 2)) (bit_and (x / 4) (x / 8)), and_step (bit_and (bit_and x (x / 2)) (bit_and (x / 4) (x / 8))) (x / 16))
+
+-- by twos
+pub fives-twos : (x : ℕ) → bit_and (bit_and (bit_and x (x / 2)) (bit_and x (x / 2) / 4)) (x / 16) ≡ fives x
+fives-twos x =
+    let eight : x / 2 / 4 ≡ x / 8 = omega arith in
+    ap (λ t. bit_and (bit_and (bit_and x (x / 2)) t) (x / 16)) (and_shr x (x / 2) 2 ∙ ap (bit_and (x / 4)) eight)
 
 -- ---- the latest four bits and the next
 

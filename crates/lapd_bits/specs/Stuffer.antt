@@ -20,9 +20,6 @@ text_after ones b = drop ones (stuffed (replicate ones true ++ b))
 abbrev pub Goes : List Bool → ℕ → List Bool → List Bool → ℕ → Type 0
 Goes before ones b after run = (rest : List Bool) → after ++ text_after run rest ≡ before ++ text_after ones (b ++ rest)
 
--- the places of a number where two 1s begin, and where five do
-abbrev pub twos : ℕ → ℕ
-twos x = bit_and x (x / 2)
-
+-- the places of a number where five 1s begin: it has a 1 there, and one at each of the next four places
 abbrev pub fives : ℕ → ℕ
-fives x = bit_and (bit_and (twos x) (twos x / 4)) (x / 16)
+fives x = bit_and (bit_and (bit_and x (x / 2)) (bit_and (x / 4) (x / 8))) (x / 16)

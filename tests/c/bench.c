@@ -1,5 +1,5 @@
 /*
- * bench.c: has a card through the C library take and give octets in turn, call by call or by lapd_exchange, as lapd_bench
+ * bench.c: has a card through the C library take and give octets in turn, call by call or by lapd_exchange, as tool_bench
  * does with the card from Rattle: see tests/c/speed, which measures both. For tests alone.
  *
  *     bench calls|exchange idle|frames ROUNDS

@@ -10,40 +10,40 @@ use Rattle.lapd_frame.specs.declared.refusals.Refusal.{Refusal}
 use Rattle.lapd_frame.specs.declared.services.Service.{Service}
 use Rattle.lapd_frame.specs.declared.timers.Timer.{Timer}
 use Rattle.lapd_frame.specs.declared.timers.Timer.TheVariants.{T200, T203, T201}
-use Rattle.lapd_link_machine.specs.declared.states.State.{State}
-use Rattle.lapd_link_machine.specs.declared.states.State.TheVariants.{TeiAssigned, AwaitingEstablishment, AwaitingRelease, Established, TimerRecovery}
-use Rattle.lapd_link_machine.specs.declared.terms.Terms.{Terms}
-use Rattle.lapd_link_machine.specs.declared.timers.LinkTimer.{LinkTimer}
-use Rattle.lapd_link_machine.specs.declared.timers.LinkTimer.TheVariants as link_timer
-use Rattle.lapd_link_machine.specs.Deliveries.{Arrived, is_eligible, eligible_of, eligible, information_in}
-use Rattle.lapd_link_machine.specs.Events as link
-use Rattle.lapd_link_machine.specs.Link.{Link}
-use Rattle.lapd_link_machine.specs.Machine as links
-use Rattle.lapd_link_machine.specs.Requests
-use Rattle.lapd_link_machine.specs.Steps.{Course, Step, begun, by_bit}
-use Rattle.lapd_link_machine.specs.Words.{leave_unserved, deliver_unit}
-use Rattle.lapd_link_machine.proofs.Leads.{Leads}
-use Rattle.lapd_link_machine.proofs.Numbering.{delivered-at_once}
-use Rattle.lapd_link_machine.proofs.Telling.{no_more, another, how_many, Telling, HasTold}
-use Rattle.lapd_link_machine.proofs.TellRows.{frames_in_4, frames_in_5, frames_in_6, frames_in_7, frames_in_8, expired_tells, malformed_tells, granted_tells, cleared_tells}
+use Rattle.model_link.specs.declared.states.State.{State}
+use Rattle.model_link.specs.declared.states.State.TheVariants.{TeiAssigned, AwaitingEstablishment, AwaitingRelease, Established, TimerRecovery}
+use Rattle.model_link.specs.declared.terms.Terms.{Terms}
+use Rattle.model_link.specs.declared.timers.LinkTimer.{LinkTimer}
+use Rattle.model_link.specs.declared.timers.LinkTimer.TheVariants as link_timer
+use Rattle.model_link.specs.Deliveries.{Arrived, is_eligible, eligible_of, eligible, information_in}
+use Rattle.model_link.specs.Events as link
+use Rattle.model_link.specs.Link.{Link}
+use Rattle.model_link.specs.Machine as links
+use Rattle.model_link.specs.Requests
+use Rattle.model_link.specs.Steps.{Course, Step, begun, by_bit}
+use Rattle.model_link.specs.Words.{leave_unserved, deliver_unit}
+use Rattle.model_link.proofs.Leads.{Leads}
+use Rattle.model_link.proofs.Numbering.{delivered-at_once}
+use Rattle.model_link.proofs.Telling.{no_more, another, how_many, Telling, HasTold}
+use Rattle.model_link.proofs.TellRows.{frames_in_4, frames_in_5, frames_in_6, frames_in_7, frames_in_8, expired_tells, malformed_tells, granted_tells, cleared_tells}
 use Rattle.lapd_tei.specs.Events as teis
 use Rattle.lapd_tei.specs.declared.outcome.Change.{Change}
 use Rattle.lapd_tei.specs.declared.outcome.Change.TheVariants.{Gained, Left}
 use Rattle.lapd_tei.specs.Machine as tei
-use Rattle.lapd_line_machine.specs.declared.config.Config.{Config}
-use Rattle.lapd_line_machine.specs.Answer.{Event, octet, expiry, request, pull, Answer, Told, told, refused, pulled, nothing}
-use Rattle.lapd_line_machine.specs.Effect.{at_none, told_of_management, of_link, of_change, of_management, of_aim}
-use Rattle.lapd_line_machine.specs.Expiry.{at_timer, aim_of_expiry}
-use Rattle.lapd_line_machine.specs.Line.{Line, link_in, terms, place_in}
-use Rattle.lapd_line_machine.specs.Machine.{answer, unless_refused, unless_refused_told}
-use Rattle.lapd_line_machine.specs.Octet.{gained, aim_of_heard, with_received}
-use Rattle.lapd_line_machine.specs.Refusal.{refusal}
-use Rattle.lapd_line_machine.specs.Request.{Request, Establish, Release, Data, Unit, Assign, Remove, Check, SetBusy, ClearBusy}
-use Rattle.lapd_line_machine.specs.Requested.{at_requested, aim_of_request}
-use Rattle.lapd_line_machine.proofs.ProperAims.{heard_aims}
+use Rattle.model_line.specs.declared.config.Config.{Config}
+use Rattle.model_line.specs.Answer.{Event, octet, expiry, request, pull, Answer, Told, told, refused, pulled, nothing}
+use Rattle.model_line.specs.Effect.{at_none, told_of_management, of_link, of_change, of_management, of_aim}
+use Rattle.model_line.specs.Expiry.{at_timer, aim_of_expiry}
+use Rattle.model_line.specs.Line.{Line, link_in, terms, place_in}
+use Rattle.model_line.specs.Machine.{answer, unless_refused, unless_refused_told}
+use Rattle.model_line.specs.Octet.{gained, aim_of_heard, with_received}
+use Rattle.model_line.specs.Refusal.{refusal}
+use Rattle.model_line.specs.Request.{Request, Establish, Release, Data, Unit, Assign, Remove, Check, SetBusy, ClearBusy}
+use Rattle.model_line.specs.Requested.{at_requested, aim_of_request}
+use Rattle.model_line.proofs.ProperAims.{heard_aims}
 use Rattle.lapd_frame.specs.declared.refusals.Refusal.TheVariants.{PoolFull}
-use Rattle.lapd_card_machine.specs.Card.{line_at}
-use Rattle.lapd_card_machine.specs.Machine.{wants_room}
+use Rattle.model_card.specs.Card.{line_at}
+use Rattle.model_card.specs.Machine.{wants_room}
 use Rattle.lapd_plain.specs.Reports.{contents_of}
 use Rattle.lapd_c.specs.Laws.{contents_in, ContentsFit}
 

@@ -1,11 +1,11 @@
 -- One step more of an exchange.
 use Rattle.std.proofs.Common.{◌≡◌, ◌⊎◌, inl, inr, ℕ, suc, ◌+◌, ◌*◌, ◌%◌, ◌/◌, ◌==◌, Bool, true, false, not, cond, List, [], ◌∷◌, ◌++◌, length, get_or, refl, sym, ap, ◌∙◌, subst, arith}
 use Rattle.std.proofs.lemmas.List.Sums.{fold-append}
-use Rattle.lapd_line_machine.specs.Answer.{Answer, octet, pull, told, nothing}
-use Rattle.lapd_card_machine.specs.Card.{Card}
-use Rattle.lapd_card_machine.specs.Event.{Event, at}
-use Rattle.lapd_card_machine.specs.Machine.{after, answer}
-use Rattle.lapd_card_machine.specs.Run.{Run, run, one_more}
+use Rattle.model_line.specs.Answer.{Answer, octet, pull, told, nothing}
+use Rattle.model_card.specs.Card.{Card}
+use Rattle.model_card.specs.Event.{Event, at}
+use Rattle.model_card.specs.Machine.{after, answer}
+use Rattle.model_card.specs.Run.{Run, run, one_more}
 use Rattle.lapd_store.specs.Store.{Store}
 use Rattle.lapd_card.specs.Card.{Held}
 use Rattle.lapd_card.specs.Stands.{Leads}

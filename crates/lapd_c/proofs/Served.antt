@@ -5,12 +5,12 @@ use Rattle.lapd_frame.specs.declared.notes.Note.{Note}
 use Rattle.lapd_frame.specs.declared.timers.Order.{Order}
 use Rattle.lapd_line.specs.declared.reports.Report.{Report}
 use Rattle.lapd_line.specs.Reports.{report_told}
-use Rattle.lapd_line_machine.specs.Answer.{Told, told}
-use Rattle.lapd_line_machine.proofs.Ranges.{ranges_of}
-use Rattle.lapd_card_machine.specs.Card.{Card}
-use Rattle.lapd_card_machine.specs.Event.{Event}
-use Rattle.lapd_card_machine.specs.Machine.{answer}
-use Rattle.lapd_card_machine.specs.Sound.{IsSound}
+use Rattle.model_line.specs.Answer.{Told, told}
+use Rattle.model_line.proofs.Ranges.{ranges_of}
+use Rattle.model_card.specs.Card.{Card}
+use Rattle.model_card.specs.Event.{Event}
+use Rattle.model_card.specs.Machine.{answer}
+use Rattle.model_card.specs.Sound.{IsSound}
 use Rattle.lapd_plain.specs.declared.reports.PlainReport.{PlainReport}
 use Rattle.lapd_plain.specs.Reports.{Shows, told_by, contents_of}
 use Rattle.lapd_c.specs.Cards.{ShowsAnswer}

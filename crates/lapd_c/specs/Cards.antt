@@ -1,10 +1,10 @@
 -- A card as C holds it.
 use Rattle.std.specs.Prelude.{◌≡◌, ◌≤◌, ◌<◌, ℕ, is_some, None, Some}
-use Rattle.lapd_card_machine.specs.Card as machine
-use Rattle.lapd_card_machine.specs.Event.{at}
-use Rattle.lapd_card_machine.specs.Machine.{after, answer}
-use Rattle.lapd_line_machine.specs.Answer.{Answer, told, refused, pulled}
-use Rattle.lapd_line_machine.specs.Answer as happening
+use Rattle.model_card.specs.Card as machine
+use Rattle.model_card.specs.Event.{at}
+use Rattle.model_card.specs.Machine.{after, answer}
+use Rattle.model_line.specs.Answer.{Answer, told, refused, pulled}
+use Rattle.model_line.specs.Answer as happening
 use Rattle.lapd_store.specs.Store.{Store}
 use Rattle.lapd_card.specs.Card.{Held}
 use Rattle.lapd_card.specs.Stands as card

@@ -1,10 +1,10 @@
 -- Octets taken and given in turn.
 use Rattle.std.specs.Prelude.{◌≡◌, ◌⊎◌, ℕ, zero, suc, ◌+◌, ◌*◌, ◌/◌, ◌%◌, ◌==◌, nat_le, Bool, true, false, not, ◌&&◌, List, [], ◌∷◌, ◌++◌, length, get_or, set, is_none, None, Some, if◌then◌else◌}
-use Rattle.lapd_card_machine.specs.Card.{Card}
-use Rattle.lapd_card_machine.specs.Event.{Event, at}
-use Rattle.lapd_card_machine.specs.Machine.{after, answer}
-use Rattle.lapd_card_machine.specs.Run.{run}
-use Rattle.lapd_line_machine.specs.Answer.{Answer, octet, pull, told, refused, pulled, nothing}
+use Rattle.model_card.specs.Card.{Card}
+use Rattle.model_card.specs.Event.{Event, at}
+use Rattle.model_card.specs.Machine.{after, answer}
+use Rattle.model_card.specs.Run.{run}
+use Rattle.model_line.specs.Answer.{Answer, octet, pull, told, refused, pulled, nothing}
 use Rattle.lapd_store.specs.Store.{Store}
 use Rattle.lapd_card.specs.Card.{Held}
 use Rattle.lapd_plain.specs.declared.reports.PlainReport.{PlainReport}

@@ -1,9 +1,9 @@
 -- What a card's machine answers fits a report.
 use Rattle.std.specs.Prelude.{ℕ, ◌≤◌, List, length, Option, None}
-use Rattle.lapd_line_machine.specs.Answer.{Answer, told, refused, pulled}
-use Rattle.lapd_card_machine.specs.Card.{Card}
-use Rattle.lapd_card_machine.specs.Event.{Event}
-use Rattle.lapd_card_machine.specs.Machine.{answer}
+use Rattle.model_line.specs.Answer.{Answer, told, refused, pulled}
+use Rattle.model_card.specs.Card.{Card}
+use Rattle.model_card.specs.Event.{Event}
+use Rattle.model_card.specs.Machine.{answer}
 use Rattle.lapd_plain.specs.Reports.{contents_of}
 
 -- The contents that an answer delivers.

@@ -1,8 +1,8 @@
 //! A card in C: where it lies, how it begins and how it ends.
 
 ghost use Rattle.std.specs.Prelude.{◌≡◌, ◌⊎◌, Some, None, IfSome, IfNone, option_map};
-ghost use Rattle.lapd_card_machine.specs.Card as machine;
-ghost use Rattle.lapd_line_machine.specs.Config.{first_fault};
+ghost use Rattle.model_card.specs.Card as machine;
+ghost use Rattle.model_line.specs.Config.{first_fault};
 ghost use Rattle.lapd_plain.specs.Config.{config_in};
 ghost use Rattle.lapd_plain.specs.Statuses as status;
 ghost use Rattle.lapd_plain.specs.Statuses.{field_status};
@@ -10,7 +10,7 @@ ghost use Rattle.lapd_c.specs.Cards.{card_of, IsHandle, Stands, CardStands};
 
 use crate::card_slot::CardSlot;
 use lapd_card::Card;
-use lapd_line_machine::Config;
+use model_line::Config;
 use lapd_plain::{NO_CARD, NO_MEMORY, OK, PlainConfig, SECOND_START, field_status};
 use lapd_store::RawShelf;
 use std::alloc::Global;

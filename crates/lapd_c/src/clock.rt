@@ -2,7 +2,7 @@
 
 ghost use Rattle.std.specs.Prelude.{◌≡◌, ◌≤◌, ◌⊎◌, Some, None, IfSome, IfNone, option_map};
 ghost use Rattle.lapd_clock.specs.Timers.{Timers, due_at, after_due, next_moment, idle};
-ghost use Rattle.lapd_line_machine.specs.Config.{first_fault};
+ghost use Rattle.model_line.specs.Config.{first_fault};
 ghost use Rattle.lapd_plain.specs.Config.{config_in};
 ghost use Rattle.lapd_plain.specs.Statuses as status;
 ghost use Rattle.lapd_plain.specs.Statuses.{field_status};

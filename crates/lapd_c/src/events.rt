@@ -1,11 +1,11 @@
 //! What happens at a card: an octet that comes, one that goes, a timer that expires, and a request.
 
 ghost use Rattle.std.specs.Prelude.{◌≡◌, ◌≤◌, ◌<◌, Some, None, IfSome, IfOk, IfErr};
-ghost use Rattle.lapd_card_machine.specs.Card as machine;
-ghost use Rattle.lapd_card_machine.specs.Event.{at};
-ghost use Rattle.lapd_card_machine.specs.Machine.{after, answer};
-ghost use Rattle.lapd_line_machine.specs.Answer as happening;
-ghost use Rattle.lapd_line_machine.specs.Refusal.{refusal};
+ghost use Rattle.model_card.specs.Card as machine;
+ghost use Rattle.model_card.specs.Event.{at};
+ghost use Rattle.model_card.specs.Machine.{after, answer};
+ghost use Rattle.model_line.specs.Answer as happening;
+ghost use Rattle.model_line.specs.Refusal.{refusal};
 ghost use Rattle.lapd_plain.specs.Statuses as status;
 ghost use Rattle.lapd_plain.specs.Statuses.{refusal_status};
 ghost use Rattle.lapd_plain.specs.Requests.{request_in};

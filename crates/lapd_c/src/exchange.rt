@@ -1,10 +1,10 @@
 //! Octets taken and given in turn.
 
 ghost use Rattle.std.specs.Prelude.{◌≡◌, ◌≤◌, ◌<◌, ◌*◌, true, false, not, length, None};
-ghost use Rattle.lapd_card_machine.specs.Card as machine;
-ghost use Rattle.lapd_card_machine.specs.Event.{at};
-ghost use Rattle.lapd_card_machine.specs.Machine.{answer};
-ghost use Rattle.lapd_line_machine.specs.Answer as happening;
+ghost use Rattle.model_card.specs.Card as machine;
+ghost use Rattle.model_card.specs.Event.{at};
+ghost use Rattle.model_card.specs.Machine.{answer};
+ghost use Rattle.model_line.specs.Answer as happening;
 ghost use Rattle.lapd_card.specs.Card.{line_count};
 ghost use Rattle.lapd_card.specs.Lines.{told_at};
 ghost use Rattle.lapd_card.specs.Stands.{Leads};

@@ -2,7 +2,7 @@
 //!
 //! A card or a clock lies in memory of the library, at an address that stands in a struct of the caller's. A call takes it
 //! from there, serves, and puts it back; a ghost field says which card it is, so that the contracts speak of the card's
-//! machine (`lapd_card_machine`) and of the clock's timers (`lapd_clock`).
+//! machine (`model_card`) and of the clock's timers (`lapd_clock`).
 //!
 //! - `card`: a card in C, how it begins and ends; `card_slot`, where it lies; `events`, what happens at it; `exchange`,
 //!   octets taken and given in turn; `questions`, what it answers about itself.

@@ -2,8 +2,8 @@
 
 ghost use Rattle.std.specs.Prelude.{◌≡◌, ◌≤◌, ◌<◌, Some, None, IfOk, IfErr};
 ghost use Rattle.std.specs.Option.{unwrap_or};
-ghost use Rattle.lapd_card_machine.specs.Card as machine;
-ghost use Rattle.lapd_card_machine.specs.Stored.{stored, limit};
+ghost use Rattle.model_card.specs.Card as machine;
+ghost use Rattle.model_card.specs.Stored.{stored, limit};
 ghost use Rattle.lapd_plain.specs.Statuses as status;
 ghost use Rattle.lapd_plain.specs.Timers.{link_in};
 ghost use Rattle.lapd_c.specs.Cards.{card_of, IsHandle, Stands, CardStands};

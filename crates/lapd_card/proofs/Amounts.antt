@@ -4,15 +4,15 @@ use Rattle.std.proofs.Math.Nat.{mul-le-mul_left}
 use Rattle.std.proofs.Math.Seq.{take-suc}
 use Rattle.std.proofs.lemmas.List.Sums.{sum_by-append, sum_by-cons}
 use Rattle.std.specs.List.{sum_by}
-use Rattle.lapd_line_machine.specs.declared.config.Config.{Config}
-use Rattle.lapd_line_machine.specs.Line as line
-use Rattle.lapd_line_machine.specs.Sound.{IsInRange}
-use Rattle.lapd_line_machine.specs.Stored.{held_in, octets_of, stored_in}
-use Rattle.lapd_line_machine.proofs.Ranges.{ranges_of}
-use Rattle.lapd_card_machine.specs.Card.{Card}
-use Rattle.lapd_card_machine.specs.Sound.{IsSound}
-use Rattle.lapd_card_machine.specs.Stored.{stored, limit}
-use Rattle.lapd_card_machine.proofs.Stored.{stored_within_limit}
+use Rattle.model_line.specs.declared.config.Config.{Config}
+use Rattle.model_line.specs.Line as line
+use Rattle.model_line.specs.Sound.{IsInRange}
+use Rattle.model_line.specs.Stored.{held_in, octets_of, stored_in}
+use Rattle.model_line.proofs.Ranges.{ranges_of}
+use Rattle.model_card.specs.Card.{Card}
+use Rattle.model_card.specs.Sound.{IsSound}
+use Rattle.model_card.specs.Stored.{stored, limit}
+use Rattle.model_card.proofs.Stored.{stored_within_limit}
 use Rattle.lapd_store.specs.Store.{Store, stored_octets}
 use Rattle.lapd_card.specs.Card.{Held}
 use Rattle.lapd_card.specs.Lines.{Stand, line_in}

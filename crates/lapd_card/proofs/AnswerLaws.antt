@@ -1,15 +1,15 @@
 -- What the laws of a card's machine say of an answer that is the machine's.
 use Rattle.std.proofs.Common.{◌≡◌, ℕ, ◌≤◌, ◌<◌, IsSome, sym, subst}
 use Rattle.lapd_frame.specs.declared.timers.Timer.{Timer}
-use Rattle.lapd_line_machine.specs.Answer.{Told, told, octet, expiry}
-use Rattle.lapd_line_machine.specs.Laws.{orders_in, cause_in}
-use Rattle.lapd_link_machine.specs.Told.{starts}
-use Rattle.lapd_card_machine.specs.Card as machine
-use Rattle.lapd_card_machine.specs.Counts.{may_send}
-use Rattle.lapd_card_machine.specs.Event.{at}
-use Rattle.lapd_card_machine.specs.Machine.{after, answer}
-use Rattle.lapd_card_machine.proofs.Drops.{drop_costs_nothing}
-use Rattle.lapd_card_machine.proofs.Starts.{expiry_starts}
+use Rattle.model_line.specs.Answer.{Told, told, octet, expiry}
+use Rattle.model_line.specs.Laws.{orders_in, cause_in}
+use Rattle.model_link.specs.Told.{starts}
+use Rattle.model_card.specs.Card as machine
+use Rattle.model_card.specs.Counts.{may_send}
+use Rattle.model_card.specs.Event.{at}
+use Rattle.model_card.specs.Machine.{after, answer}
+use Rattle.model_card.proofs.Drops.{drop_costs_nothing}
+use Rattle.model_card.proofs.Starts.{expiry_starts}
 use Rattle.lapd_store.specs.Store.{Store}
 use Rattle.lapd_card.specs.Card.{Held, line_count}
 use Rattle.lapd_card.specs.Stands.{Stands, HasPast}

@@ -7,12 +7,12 @@ use Rattle.std.specs.List.{All, AllByRecursion, flat_map, zip}
 use Rattle.lapd_line.specs.declared.line.Line.{Line}
 use Rattle.lapd_line.specs.Stands.{pairs_of}
 use Rattle.lapd_line.proofs.Stood.{held_of}
-use Rattle.lapd_line_machine.specs.declared.config.Config.{Config}
-use Rattle.lapd_line_machine.specs.Config.{first_fault}
-use Rattle.lapd_line_machine.specs.Line.{fresh_line}
-use Rattle.lapd_card_laws.proofs.TimersRun.{begins-timely-card}
-use Rattle.lapd_card_machine.specs.Card.{fresh}
-use Rattle.lapd_card_machine.proofs.CardSound.{cards_stay_sound}
+use Rattle.model_line.specs.declared.config.Config.{Config}
+use Rattle.model_line.specs.Config.{first_fault}
+use Rattle.model_line.specs.Line.{fresh_line}
+use Rattle.laws_card.proofs.TimersRun.{begins-timely-card}
+use Rattle.model_card.specs.Card.{fresh}
+use Rattle.model_card.proofs.CardSound.{cards_stay_sound}
 use Rattle.lapd_store.specs.Ownership.{Holds}
 use Rattle.lapd_store.specs.Store.{Store, used_slots}
 use Rattle.lapd_store.proofs.Ownership.{Holds-unused, used_slots-held}

@@ -2,14 +2,14 @@
 use Rattle.std.proofs.Common.{ℕ, ◌<◌, List, take, sym, subst}
 use Rattle.std.proofs.lemmas.List.Elements.{All-map, All-take, All-weaker}
 use Rattle.std.specs.List.{All}
-use Rattle.lapd_line_machine.specs.declared.config.Config.{Config}
-use Rattle.lapd_line_machine.specs.Sound.{IsInRange}
-use Rattle.lapd_card_machine.specs.declared.events.Event as rust
-use Rattle.lapd_card_machine.specs.Card.{Card, fresh}
-use Rattle.lapd_card_machine.specs.Event.{Event, event_of}
-use Rattle.lapd_card_machine.specs.Run.{IsAtLine, AreAtLines}
-use Rattle.lapd_card_machine.specs.Sound.{IsSound}
-use Rattle.lapd_card_laws.specs.Timers.{AllHaveTheirTimers}
+use Rattle.model_line.specs.declared.config.Config.{Config}
+use Rattle.model_line.specs.Sound.{IsInRange}
+use Rattle.model_card.specs.declared.events.Event as rust
+use Rattle.model_card.specs.Card.{Card, fresh}
+use Rattle.model_card.specs.Event.{Event, event_of}
+use Rattle.model_card.specs.Run.{IsAtLine, AreAtLines}
+use Rattle.model_card.specs.Sound.{IsSound}
+use Rattle.laws_card.specs.Timers.{AllHaveTheirTimers}
 use Rattle.lapd_store.specs.Store.{Store}
 use Rattle.lapd_card.specs.Card.{Held, line_count}
 use Rattle.lapd_card.specs.Drive.{line_of, events_of}

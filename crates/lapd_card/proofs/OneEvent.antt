@@ -11,21 +11,21 @@ use Rattle.lapd_line.specs.declared.line.Line.{Line}
 use Rattle.lapd_line.specs.declared.reports.Report.{Report}
 use Rattle.lapd_line.specs.Reports.{report_told}
 use Rattle.lapd_line.proofs.Stood.{slots-pairs, octets-pairs}
-use Rattle.lapd_line_machine.specs.declared.config.Config.{Config}
-use Rattle.lapd_line_machine.specs.Answer as happening
-use Rattle.lapd_line_machine.specs.Line as line
-use Rattle.lapd_line_machine.specs.Machine as lines
-use Rattle.lapd_line_machine.specs.Refusal.{refusal}
-use Rattle.lapd_line_machine.specs.Request.{Request}
-use Rattle.lapd_line_machine.specs.Stored.{slots_of, octets_of}
-use Rattle.lapd_card_machine.specs.Card.{Card, line_at, used, is_full, state}
-use Rattle.lapd_card_machine.specs.Event.{Event, at}
-use Rattle.lapd_card_machine.specs.Machine.{wants_room, after, answer}
-use Rattle.lapd_card_machine.specs.Sound.{IsSound}
-use Rattle.lapd_card_laws.specs.Timers.{AllHaveTheirTimers}
-use Rattle.lapd_card_laws.proofs.TimersRun.{timely-after}
-use Rattle.lapd_card_machine.proofs.CardSound.{cards_stay_sound}
-use Rattle.lapd_card_machine.proofs.Refusals.{refused_by_the_table}
+use Rattle.model_line.specs.declared.config.Config.{Config}
+use Rattle.model_line.specs.Answer as happening
+use Rattle.model_line.specs.Line as line
+use Rattle.model_line.specs.Machine as lines
+use Rattle.model_line.specs.Refusal.{refusal}
+use Rattle.model_line.specs.Request.{Request}
+use Rattle.model_line.specs.Stored.{slots_of, octets_of}
+use Rattle.model_card.specs.Card.{Card, line_at, used, is_full, state}
+use Rattle.model_card.specs.Event.{Event, at}
+use Rattle.model_card.specs.Machine.{wants_room, after, answer}
+use Rattle.model_card.specs.Sound.{IsSound}
+use Rattle.laws_card.specs.Timers.{AllHaveTheirTimers}
+use Rattle.laws_card.proofs.TimersRun.{timely-after}
+use Rattle.model_card.proofs.CardSound.{cards_stay_sound}
+use Rattle.model_card.proofs.Refusals.{refused_by_the_table}
 use Rattle.lapd_store.specs.Ownership.{owned_octets}
 use Rattle.lapd_store.specs.Store.{Store, used_slots, stored_octets}
 use Rattle.lapd_store.proofs.Ownership.{used_slots-held, stored_octets-held}

@@ -9,10 +9,10 @@ use Rattle.lapd_line.specs.Stands as line
 use Rattle.lapd_line.specs.Reports.{told_if}
 use Rattle.lapd_line.specs.Stands.{config_of, latest_frame}
 use Rattle.lapd_line.proofs.Stood.{held_of, stands_on}
-use Rattle.lapd_line_machine.specs.declared.config.Config.{Config}
-use Rattle.lapd_line_machine.specs.Answer.{Event, nothing}
-use Rattle.lapd_line_machine.specs.Line as machine
-use Rattle.lapd_line_machine.specs.Machine.{after}
+use Rattle.model_line.specs.declared.config.Config.{Config}
+use Rattle.model_line.specs.Answer.{Event, nothing}
+use Rattle.model_line.specs.Line as machine
+use Rattle.model_line.specs.Machine.{after}
 use Rattle.lapd_store.specs.Ownership.{Owned}
 use Rattle.lapd_store.specs.Store.{Store, SameLimits}
 use Rattle.lapd_store.proofs.Focus.{FocusPair, focus_pair}

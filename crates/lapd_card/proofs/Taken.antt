@@ -4,12 +4,12 @@ use Rattle.std.proofs.lemmas.Bool.{false≢true}
 use Rattle.std.proofs.lemmas.Option.{none-some, same_Some}
 use Rattle.std.specs.Prelude.{Result, Ok, Err, is_err, OnOk, OnErr, true, false}
 use Rattle.std.proofs.lemmas.List.Sums.{fold-append}
-use Rattle.lapd_line_machine.specs.Answer.{Answer}
-use Rattle.lapd_card_machine.specs.declared.events.Event as rust
-use Rattle.lapd_card_machine.specs.Card.{Card}
-use Rattle.lapd_card_machine.specs.Event.{event_of}
-use Rattle.lapd_card_machine.specs.Machine.{answer}
-use Rattle.lapd_card_machine.specs.Run.{one_more, run}
+use Rattle.model_line.specs.Answer.{Answer}
+use Rattle.model_card.specs.declared.events.Event as rust
+use Rattle.model_card.specs.Card.{Card}
+use Rattle.model_card.specs.Event.{event_of}
+use Rattle.model_card.specs.Machine.{answer}
+use Rattle.model_card.specs.Run.{one_more, run}
 use Rattle.lapd_card.specs.Card.{Held}
 use Rattle.lapd_card.specs.Drive.{events_of, Taken, MissesReply, MissesAt}
 use Rattle.lapd_card.specs.Stands.{Stands, Leads}

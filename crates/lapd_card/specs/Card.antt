@@ -1,8 +1,8 @@
 -- What a card holds.
 use Rattle.std.specs.Prelude.{ℕ, List, refl}
 use Rattle.std.specs.Coded.{Coded, code_by, coded×, coded_list}
-use Rattle.lapd_line_machine.specs.declared.config.Config.{Config}
-use Rattle.lapd_line_machine.specs.contracts.config.Config as config
+use Rattle.model_line.specs.declared.config.Config.{Config}
+use Rattle.model_line.specs.contracts.config.Config as config
 use Rattle.lapd_line.specs.declared.line.Line.{Line}
 use Rattle.lapd_line.specs.contracts.line.Line as line
 

@@ -1,11 +1,11 @@
 -- Whole lists of events, and what a sink takes of them.
 use Rattle.std.specs.Prelude.{◌≡◌, ℕ, List, [], ◌∷◌, map, take, slice_get, Option, Some, None}
-use Rattle.lapd_line_machine.specs.Answer.{Answer}
-use Rattle.lapd_card_machine.specs.declared.events.Event as rust
-use Rattle.lapd_card_machine.specs.Card.{Card}
-use Rattle.lapd_card_machine.specs.Event.{Event, event_of}
-use Rattle.lapd_card_machine.specs.Machine.{answer}
-use Rattle.lapd_card_machine.specs.Run.{run}
+use Rattle.model_line.specs.Answer.{Answer}
+use Rattle.model_card.specs.declared.events.Event as rust
+use Rattle.model_card.specs.Card.{Card}
+use Rattle.model_card.specs.Event.{Event, event_of}
+use Rattle.model_card.specs.Machine.{answer}
+use Rattle.model_card.specs.Run.{run}
 
 abbrev pub line_of : rust.Event → ℕ
 line_of event = (event_of event).line

@@ -7,10 +7,10 @@ use Rattle.lapd_line.specs.declared.reports.BareReport.{BareReport}
 use Rattle.lapd_line.specs.Reports.{told_in}
 use Rattle.lapd_line.specs.Stands as line
 use Rattle.lapd_line.specs.Stands.{config_of, pairs_of, latest_frame}
-use Rattle.lapd_line_machine.specs.declared.config.Config.{Config}
-use Rattle.lapd_line_machine.specs.Answer.{Event, Told, nothing}
-use Rattle.lapd_line_machine.specs.Line as machine
-use Rattle.lapd_line_machine.specs.Machine.{after}
+use Rattle.model_line.specs.declared.config.Config.{Config}
+use Rattle.model_line.specs.Answer.{Event, Told, nothing}
+use Rattle.model_line.specs.Line as machine
+use Rattle.model_line.specs.Machine.{after}
 use Rattle.lapd_store.specs.Ownership.{Owned, Holds}
 use Rattle.lapd_store.specs.Store.{Store, SameLimits}
 

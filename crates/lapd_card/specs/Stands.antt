@@ -1,10 +1,10 @@
 -- What a card holds of its past.
 use Rattle.std.specs.Prelude.{◌≡◌, ◌≤◌}
-use Rattle.lapd_card_machine.specs.Card as machine
-use Rattle.lapd_card_machine.specs.Event.{Event}
-use Rattle.lapd_card_machine.specs.Machine.{after}
-use Rattle.lapd_card_machine.specs.Sound.{IsSound}
-use Rattle.lapd_card_laws.specs.Timers.{AllHaveTheirTimers}
+use Rattle.model_card.specs.Card as machine
+use Rattle.model_card.specs.Event.{Event}
+use Rattle.model_card.specs.Machine.{after}
+use Rattle.model_card.specs.Sound.{IsSound}
+use Rattle.laws_card.specs.Timers.{AllHaveTheirTimers}
 use Rattle.lapd_card.specs.Card.{Held}
 use Rattle.lapd_card.specs.Lines as lines
 use Rattle.lapd_store.specs.Store.{Store}

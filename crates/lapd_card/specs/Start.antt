@@ -1,8 +1,8 @@
 -- Why a card does not begin (profile).
 use Rattle.std.specs.Prelude.{nat_lt, Bool, ◌||◌, Option, Some, None, if◌then◌else◌}
-use Rattle.lapd_line_machine.specs.declared.config.Config.{Config}
-use Rattle.lapd_line_machine.specs.declared.config.Field.{Field}
-use Rattle.lapd_line_machine.specs.Config.{first_fault}
+use Rattle.model_line.specs.declared.config.Config.{Config}
+use Rattle.model_line.specs.declared.config.Field.{Field}
+use Rattle.model_line.specs.Config.{first_fault}
 use Rattle.lapd_store.specs.Store.{Store, used_slots}
 use Rattle.lapd_card.specs.declared.fault.CardFault.{CardFault}
 use Rattle.lapd_card.specs.declared.fault.CardFault.TheVariants.{BadConfig, ShelfTooSmall}

@@ -1,15 +1,15 @@
 //! The card: one call an event.
 
 ghost use Rattle.std.specs.Prelude.{◌≡◌, ◌≤◌, ◌<◌, Some, None, IsSome, IfOk, IfErr, OnErr};
-ghost use Rattle.lapd_card_machine.specs.ByEvent.{RisesByOctet, RisesByExpiry, RisesByRequest, FallsByPull};
-ghost use Rattle.lapd_card_machine.specs.Card as machine;
-ghost use Rattle.lapd_card_machine.specs.Event.{at};
-ghost use Rattle.lapd_card_machine.specs.Counts.{may_send};
-ghost use Rattle.lapd_card_machine.specs.Machine.{after, answer};
-ghost use Rattle.lapd_line_machine.specs.Answer as happening;
-ghost use Rattle.lapd_link_machine.specs.Told.{starts};
-ghost use Rattle.lapd_line_machine.specs.Refusal.{refusal};
-ghost use Rattle.lapd_line_machine.specs.Request.{request_of};
+ghost use Rattle.model_card.specs.ByEvent.{RisesByOctet, RisesByExpiry, RisesByRequest, FallsByPull};
+ghost use Rattle.model_card.specs.Card as machine;
+ghost use Rattle.model_card.specs.Event.{at};
+ghost use Rattle.model_card.specs.Counts.{may_send};
+ghost use Rattle.model_card.specs.Machine.{after, answer};
+ghost use Rattle.model_line.specs.Answer as happening;
+ghost use Rattle.model_link.specs.Told.{starts};
+ghost use Rattle.model_line.specs.Refusal.{refusal};
+ghost use Rattle.model_line.specs.Request.{request_of};
 
 use crate::lines::Lines;
 use lapd_frame::{Refusal, Service, Timer};

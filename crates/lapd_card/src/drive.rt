@@ -1,30 +1,30 @@
 //! A whole list of events, with the replies handed to a sink.
 
 ghost use Rattle.std.specs.Prelude.{◌≡◌, ◌<◌, ◌+◌, ℕ, length, take, All, IfOk, IfErr, OnOk, OnErr};
-ghost use Rattle.lapd_card_machine.specs.Card as machine;
-ghost use Rattle.lapd_card_machine.specs.Event.{at, event_of};
-ghost use Rattle.lapd_line_machine.specs.Answer as happening;
-ghost use Rattle.lapd_line_machine.specs.Request.{request_of};
-ghost use Rattle.lapd_card_machine.specs.Machine.{answer};
-ghost use Rattle.lapd_card_machine.specs.Run.{run};
+ghost use Rattle.model_card.specs.Card as machine;
+ghost use Rattle.model_card.specs.Event.{at, event_of};
+ghost use Rattle.model_line.specs.Answer as happening;
+ghost use Rattle.model_line.specs.Request.{request_of};
+ghost use Rattle.model_card.specs.Machine.{answer};
+ghost use Rattle.model_card.specs.Run.{run};
 ghost use Rattle.lapd_card.specs.Card.{line_count};
 ghost use Rattle.lapd_card.specs.Drive.{line_of, events_of, Taken, MissesAt};
-ghost use Rattle.lapd_card_machine.specs.ByEvent.{ArePriced};
-ghost use Rattle.lapd_card_machine.specs.Drops.{AreDropsWithoutCost, AreDropsWithoutEffect};
-ghost use Rattle.lapd_card_machine.specs.Laws.{RefusedByTheTable, RunIsMoments};
-ghost use Rattle.lapd_card_machine.specs.Promises.{IsWithinLimit, IsAmortised, IsAmortisedFromZero, HasSixOctetsAFrame, HasSevenOctetsAReject, IsLinear, IsIsolated, IsNeverFull, IsNumbered, IsNumberedFromZero, IsTextual};
-ghost use Rattle.lapd_card_laws.specs.Promises.{IsKept, IsCountedIn, BeginsEmpty, IsServedIn, UnitsWaitAll, TurnsStay, AreHeeded, TakeEffect, ExpiriesTakeEffectIn, AreSteady, IsDelivered, RunsWhatIsNeeded, NeedsNone, TimersAreLeft};
-ghost use Rattle.lapd_card_laws.specs.Promises.{AreReceived, BeginsUnheard};
-ghost use Rattle.lapd_card_laws.specs.Promises.{NotesTell, TeisAreTold, BeginsDown, TeisHaveOnePlace, BegunIsTold};
-ghost use Rattle.lapd_card_laws.specs.Promises.{MessagesHaveCauses, ToldTeisAreThere, NotesHaveReasons, NothingElseIsNoted};
-ghost use Rattle.lapd_card_progress.specs.Promises.{AnswersAreBegun, PullsComeToAnEnd, FewAreToGo, BeginsWithFew, EnoughPullsServe};
+ghost use Rattle.model_card.specs.ByEvent.{ArePriced};
+ghost use Rattle.model_card.specs.Drops.{AreDropsWithoutCost, AreDropsWithoutEffect};
+ghost use Rattle.model_card.specs.Laws.{RefusedByTheTable, RunIsMoments};
+ghost use Rattle.model_card.specs.Promises.{IsWithinLimit, IsAmortised, IsAmortisedFromZero, HasSixOctetsAFrame, HasSevenOctetsAReject, IsLinear, IsIsolated, IsNeverFull, IsNumbered, IsNumberedFromZero, IsTextual};
+ghost use Rattle.laws_card.specs.Promises.{IsKept, IsCountedIn, BeginsEmpty, IsServedIn, UnitsWaitAll, TurnsStay, AreHeeded, TakeEffect, ExpiriesTakeEffectIn, AreSteady, IsDelivered, RunsWhatIsNeeded, NeedsNone, TimersAreLeft};
+ghost use Rattle.laws_card.specs.Promises.{AreReceived, BeginsUnheard};
+ghost use Rattle.laws_card.specs.Promises.{NotesTell, TeisAreTold, BeginsDown, TeisHaveOnePlace, BegunIsTold};
+ghost use Rattle.laws_card.specs.Promises.{MessagesHaveCauses, ToldTeisAreThere, NotesHaveReasons, NothingElseIsNoted};
+ghost use Rattle.laws_card.specs.PromisesOfPulls.{AnswersAreBegun, PullsComeToAnEnd, FewAreToGo, BeginsWithFew, EnoughPullsServe};
 ghost use Rattle.lapd_card.specs.Sink.{one_failure_more};
 ghost use Rattle.lapd_card.specs.Stands.{Stands, Leads};
 
 use crate::card::Card;
 use crate::replies::Reply;
 use crate::sink::{Sink, SinkFailed, SinkFault};
-use lapd_card_machine::Event;
+use model_card::Event;
 use lapd_line::Request;
 use lapd_store::Shelf;
 

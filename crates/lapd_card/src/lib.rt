@@ -6,7 +6,7 @@
 //!
 //! A caller starts a card, and then hands it what happens. Each answer says what to tell layer 3 (`notes`, `delivered`)
 //! and which timers to start and to stop (`orders`); the caller keeps them, with `lapd_clock` or with timers of its own,
-//! and hands back each one that expires. `example` of `lapd_card_tests` is this in code that is run:
+//! and hands back each one that expires. `example` of `test_card` is this in code that is run:
 //!
 //! ```text
 //! let mut card = Card::start(alloc, config, SlabShelf::start(alloc, slots, n201)?)?;
@@ -29,8 +29,8 @@
 //! - `lines`: the lines as one part.
 //!
 //! What the card does is defined below: a row of a link's tables (by state, in `specs/`) and its notes in
-//! `lapd_link_machine`, those of TEI management in `lapd_tei`, the refusals of a line in `lapd_line_machine`
-//! (`specs/Refusal`) and of a link in `lapd_link_machine` (`specs/Requests`). The types of notes and refusals stand in
+//! `model_link`, those of TEI management in `lapd_tei`, the refusals of a line in `model_line`
+//! (`specs/Refusal`) and of a link in `model_link` (`specs/Requests`). The types of notes and refusals stand in
 //! `lapd_frame`, the words of a script in `lapd_script`.
 #![tactic(auto)]
 
@@ -47,7 +47,7 @@ mod stored;
 pub use card::Card;
 pub use fault::CardFault;
 pub use kept::{Kept, KeptReply};
-pub use lapd_card_machine::Event;
+pub use model_card::Event;
 pub use lapd_line::{BareReport, Config, Field, Pulled, Report, Request};
 pub use replies::Reply;
 pub use sink::{Sink, SinkFailed, SinkFault};

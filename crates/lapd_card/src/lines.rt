@@ -2,13 +2,13 @@
 
 ghost use Rattle.std.specs.Prelude.{◌≡◌, ◌≤◌, ◌<◌, List, length, nat_le, sum_by, Some, None, IfOk, IfErr, OnErr};
 ghost use Rattle.lapd_line.specs.Reports.{report_told, pulled_of};
-ghost use Rattle.lapd_line_machine.specs.Answer as happening;
-ghost use Rattle.lapd_line_machine.specs.Line as machine;
-ghost use Rattle.lapd_line_machine.specs.Machine.{answer};
-ghost use Rattle.lapd_line_machine.specs.Refusal.{refusal};
-ghost use Rattle.lapd_line_machine.specs.Request.{request_of};
-ghost use Rattle.lapd_line_machine.specs.Sound.{IsInRange};
-ghost use Rattle.lapd_line_machine.specs.Stored.{held_in};
+ghost use Rattle.model_line.specs.Answer as happening;
+ghost use Rattle.model_line.specs.Line as machine;
+ghost use Rattle.model_line.specs.Machine.{answer};
+ghost use Rattle.model_line.specs.Refusal.{refusal};
+ghost use Rattle.model_line.specs.Request.{request_of};
+ghost use Rattle.model_line.specs.Sound.{IsInRange};
+ghost use Rattle.model_line.specs.Stored.{held_in};
 ghost use Rattle.lapd_store.specs.Store.{Store, used_slots};
 ghost use Rattle.lapd_card.specs.Lines.{Stand, Serve, Lead, AreFresh, line_in, told_at, told_if_at};
 
@@ -34,7 +34,7 @@ impl Model for Lines {
 }
 
 impl Lines {
-    ghost use Rattle.lapd_line_machine.specs.declared.config.Config.{Config};
+    ghost use Rattle.model_line.specs.declared.config.Config.{Config};
 
     /// As many lines as the configuration says, each as it begins.
     pub(crate) fn start(alloc: Global, config: &Config) -> Result<Lines, StartFault>

@@ -1,7 +1,7 @@
 //! How a card begins.
 
 ghost use Rattle.std.specs.Prelude.{◌≡◌, IfOk, IfSome, IfNone, Err, IsOkUnless};
-ghost use Rattle.lapd_card_machine.specs.Card as machine;
+ghost use Rattle.model_card.specs.Card as machine;
 ghost use Rattle.lapd_card.specs.declared.fault.CardFault.TheVariants.{OutOfMemory};
 ghost use Rattle.lapd_card.specs.Start.{start_fault, is_too_small};
 ghost use Rattle.lapd_card.specs.Stands.{Stands};

@@ -1,9 +1,9 @@
 //! How many octets a card stores, and how many it may.
 
 ghost use Rattle.std.specs.Prelude.{◌≡◌};
-ghost use Rattle.lapd_card_machine.specs.Card as machine;
-ghost use Rattle.lapd_card_machine.specs.Stored.{stored, limit};
-ghost use Rattle.lapd_line_machine.specs.Sound.{IsInRange};
+ghost use Rattle.model_card.specs.Card as machine;
+ghost use Rattle.model_card.specs.Stored.{stored, limit};
+ghost use Rattle.model_line.specs.Sound.{IsInRange};
 ghost use Rattle.lapd_card.specs.Stands.{Stands};
 
 use crate::card::Card;

@@ -9,15 +9,15 @@ use Rattle.lapd_frame.specs.declared.controls.Control.{Control}
 use Rattle.lapd_frame.specs.declared.controls.Control.TheVariants as control
 use Rattle.lapd_frame.specs.declared.faults.ReadFault.{ReadFault}
 use Rattle.lapd_frame.specs.declared.faults.ReadFault.TheVariants.{BadExtension, Undefined, WrongSize, Short}
-use Rattle.lapd_link_machine.specs.Events as link
+use Rattle.model_link.specs.Events as link
 use Rattle.lapd_tei.specs.Events as teis
 use Rattle.std.proofs.lemmas.Bool.{false≢true}
 use Rattle.lapd_store.specs.Ownership.{Owned}
 use Rattle.lapd_store.specs.Store.{Store}
-use Rattle.lapd_line_machine.specs.Answer.{Told}
-use Rattle.lapd_line_machine.specs.Line.{Line, place_in}
-use Rattle.lapd_line_machine.specs.Octet.{addressed, at_place, to_service, management_sapi, group_tei, drop_for, message_of, aim_of_long, aim_of_reading}
-use Rattle.lapd_line_machine.specs.Effect.{Aim, at_none, at_management, of_aim}
+use Rattle.model_line.specs.Answer.{Told}
+use Rattle.model_line.specs.Line.{Line, place_in}
+use Rattle.model_line.specs.Octet.{addressed, at_place, to_service, management_sapi, group_tei, drop_for, message_of, aim_of_long, aim_of_reading}
+use Rattle.model_line.specs.Effect.{Aim, at_none, at_management, of_aim}
 use Rattle.lapd_line.specs.declared.aims.Addressee.{Addressee}
 use Rattle.lapd_line.specs.declared.aims.Addressee.TheVariants as to
 use Rattle.lapd_line.specs.declared.link_layer.LinkLayer.{LinkLayer}

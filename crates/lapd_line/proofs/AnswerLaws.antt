@@ -1,15 +1,15 @@
 -- What the laws of a line's machine say of an answer that is the machine's.
 use Rattle.std.proofs.Common.{◌≡◌, ℕ, ◌≤◌, IsSome, sym, subst}
 use Rattle.lapd_frame.specs.declared.timers.Timer.{Timer}
-use Rattle.lapd_line_machine.specs.declared.config.Config.{Config}
-use Rattle.lapd_line_machine.specs.Answer.{Told, told, octet, expiry}
-use Rattle.lapd_line_machine.specs.Counts.{may_send}
-use Rattle.lapd_line_machine.specs.Laws.{orders_in, cause_in}
-use Rattle.lapd_link_machine.specs.Told.{starts}
-use Rattle.lapd_line_machine.specs.Line.{Line}
-use Rattle.lapd_line_machine.specs.Machine.{after, answer}
-use Rattle.lapd_line_machine.proofs.Drops.{drop_costs_nothing}
-use Rattle.lapd_line_machine.proofs.Starts.{expiry_starts}
+use Rattle.model_line.specs.declared.config.Config.{Config}
+use Rattle.model_line.specs.Answer.{Told, told, octet, expiry}
+use Rattle.model_line.specs.Counts.{may_send}
+use Rattle.model_line.specs.Laws.{orders_in, cause_in}
+use Rattle.model_link.specs.Told.{starts}
+use Rattle.model_line.specs.Line.{Line}
+use Rattle.model_line.specs.Machine.{after, answer}
+use Rattle.model_line.proofs.Drops.{drop_costs_nothing}
+use Rattle.model_line.proofs.Starts.{expiry_starts}
 
 -- an expiry starts one timer at most
 pub starts_one : (c : Config) (timer : Timer) (m : Line) (t : Told) → told t ≡ answer c (expiry timer) m → starts t.orders ≤ 1

@@ -7,29 +7,29 @@ use Rattle.std.specs.List.{prefix_len, list_any}
 use Rattle.lapd_frame.specs.declared.refusals.Refusal.{Refusal}
 use Rattle.lapd_frame.specs.declared.refusals.Refusal.TheVariants.{BadTei, NoLink, WrongState, TooLong, QueueFull, PoolFull}
 use Rattle.lapd_frame.specs.declared.services.Service.{Service}
-use Rattle.lapd_link_machine.specs.Events as link
-use Rattle.lapd_link_machine.specs.Link as machine
-use Rattle.lapd_link_machine.specs.Machine as answers
-use Rattle.lapd_link_machine.specs.Requests.{serves, refusal_for_room}
-use Rattle.lapd_link_machine.specs.Requests as links
-use Rattle.lapd_link_machine.specs.declared.terms.Terms.{Terms}
+use Rattle.model_link.specs.Events as link
+use Rattle.model_link.specs.Link as machine
+use Rattle.model_link.specs.Machine as answers
+use Rattle.model_link.specs.Requests.{serves, refusal_for_room}
+use Rattle.model_link.specs.Requests as links
+use Rattle.model_link.specs.declared.terms.Terms.{Terms}
 use Rattle.lapd_tei.specs.Events as teis
 use Rattle.lapd_tei.specs.Table.{Places, has, is_on, place_of}
 use Rattle.lapd_tei.specs.Sound.{IsAt}
 use Rattle.lapd_tei.proofs.Tables.{is_on-at, place_of-is}
-use Rattle.lapd_line_machine.specs.declared.config.Config.{Config}
-use Rattle.lapd_line_machine.specs.Line.{Line, has_tei, link_of, link_in, place_in, terms}
-use Rattle.lapd_line_machine.specs.Refusal.{refusal}
-use Rattle.lapd_line_machine.specs.Request.{Establish, Release, Data, SetBusy, ClearBusy, Assign, Remove, Check}
+use Rattle.model_line.specs.declared.config.Config.{Config}
+use Rattle.model_line.specs.Line.{Line, has_tei, link_of, link_in, place_in, terms}
+use Rattle.model_line.specs.Refusal.{refusal}
+use Rattle.model_line.specs.Request.{Establish, Release, Data, SetBusy, ClearBusy, Assign, Remove, Check}
 use Rattle.lapd_store.specs.Ownership.{Owned}
 use Rattle.lapd_store.specs.Store.{Store}
 use Rattle.lapd_link.specs.declared.link.Link.{Link}
 use Rattle.lapd_link.specs.declared.outcome.Answer.{Answer}
 use Rattle.lapd_link.specs.Outcome.{told_with}
-use Rattle.lapd_link_machine.specs.Steps.{begun}
-use Rattle.lapd_line_machine.specs.Line.{link_number, with_link}
-use Rattle.lapd_line_machine.specs.Effect.{at_link, of_aim, told_of_link}
-use Rattle.lapd_line_machine.specs.Requested.{at_requested}
+use Rattle.model_link.specs.Steps.{begun}
+use Rattle.model_line.specs.Line.{link_number, with_link}
+use Rattle.model_line.specs.Effect.{at_link, of_aim, told_of_link}
+use Rattle.model_line.specs.Requested.{at_requested}
 use Rattle.lapd_line.specs.declared.awake.Awake.{Awake}
 use Rattle.lapd_line.specs.declared.link_layer.LinkLayer.{LinkLayer}
 use Rattle.lapd_line.specs.declared.reports.BareReport.{BareReport}

@@ -3,10 +3,10 @@ use Rattle.std.proofs.Common.{◌≡◌, ◌≢◌, ℕ, zero, suc, List, [], �
 use Rattle.std.proofs.lemmas.Bool.{cases_eq}
 use Rattle.std.proofs.lemmas.List.{get_or-set_other}
 use Rattle.lapd_link.specs.declared.link.Link.{Link}
-use Rattle.lapd_link_machine.specs.declared.terms.Terms.{Terms}
-use Rattle.lapd_link_machine.specs.Link as machine
-use Rattle.lapd_link_machine.specs.Machine.{given}
-use Rattle.lapd_line_machine.proofs.Offered.{fresh_gives_nothing}
+use Rattle.model_link.specs.declared.terms.Terms.{Terms}
+use Rattle.model_link.specs.Link as machine
+use Rattle.model_link.specs.Machine.{given}
+use Rattle.model_line.proofs.Offered.{fresh_gives_nothing}
 use Rattle.lapd_line.specs.declared.awake.Awake.{Awake}
 use Rattle.lapd_line.specs.Awake.{IsAwake, IsAsleep, Wakes, FallsAsleep, NoneMissed}
 use Rattle.lapd_line.specs.Links.{HasTerms, machine_at, terms_in}

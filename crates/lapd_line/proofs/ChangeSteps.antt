@@ -12,9 +12,9 @@ use Rattle.lapd_link.specs.declared.link.Link.{Link}
 use Rattle.lapd_link.specs.declared.outcome.Answer.{Answer}
 use Rattle.lapd_link.specs.Outcome.{told_with}
 use Rattle.lapd_link.specs.Stands.{terms_of}
-use Rattle.lapd_link_machine.specs.Events as event
-use Rattle.lapd_link_machine.specs.Link as machine
-use Rattle.lapd_link_machine.specs.Machine as answers
+use Rattle.model_link.specs.Events as event
+use Rattle.model_link.specs.Link as machine
+use Rattle.model_link.specs.Machine as answers
 use Rattle.lapd_tei.specs.declared.outcome.Change.TheVariants.{Gained, Left}
 use Rattle.lapd_tei.specs.declared.outcome.TeiOutcome.{TeiOutcome}
 use Rattle.lapd_tei.specs.Events as teis
@@ -22,11 +22,11 @@ use Rattle.lapd_tei.specs.Laws.{Moves, HasJoined, HasLeft}
 use Rattle.lapd_tei.specs.Machine.{Management}
 use Rattle.lapd_tei.specs.Outcome.{told_of}
 use Rattle.lapd_tei.proofs.LawLemmas.{changes_are_told}
-use Rattle.lapd_line_machine.specs.Line.{Line, link_number, link_count, service_at, place_at, tei_at, terms, link_at}
-use Rattle.lapd_line_machine.specs.Effect.{at_management, of_change, of_management, told_of_link, told_of_management, with_cleared, with_opened}
-use Rattle.lapd_line_machine.specs.Sound.{IsSound, IsSoundAt}
-use Rattle.lapd_line_machine.proofs.AimsSound.{management_event_sound}
-use Rattle.lapd_line_machine.proofs.Numbers.{place_at-number, service_at-number, number_within, other_place, at_place}
+use Rattle.model_line.specs.Line.{Line, link_number, link_count, service_at, place_at, tei_at, terms, link_at}
+use Rattle.model_line.specs.Effect.{at_management, of_change, of_management, told_of_link, told_of_management, with_cleared, with_opened}
+use Rattle.model_line.specs.Sound.{IsSound, IsSoundAt}
+use Rattle.model_line.proofs.AimsSound.{management_event_sound}
+use Rattle.model_line.proofs.Numbers.{place_at-number, service_at-number, number_within, other_place, at_place}
 use Rattle.lapd_line.specs.declared.link_layer.LinkLayer.{LinkLayer}
 use Rattle.lapd_line.specs.declared.reports.BareReport as reports
 use Rattle.lapd_line.specs.Reports.{told_in}

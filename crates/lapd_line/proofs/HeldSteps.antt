@@ -16,16 +16,16 @@ use Rattle.lapd_store.specs.Ownership.{Owned}
 use Rattle.lapd_store.specs.Store.{Store}
 use Rattle.lapd_link.specs.declared.link.Link.{Link}
 use Rattle.lapd_link.specs.Stands.{Fits, terms_of}
-use Rattle.lapd_link_machine.specs.declared.terms.Terms.{Terms}
-use Rattle.lapd_link_machine.specs.Link as machine
-use Rattle.lapd_link_machine.specs.Link.{frame_of}
-use Rattle.lapd_link_machine.specs.Rises.{held}
-use Rattle.lapd_link_machine.specs.Sound.{IsWaitingFrame}
-use Rattle.lapd_line_machine.specs.declared.config.Config.{Config}
-use Rattle.lapd_line_machine.specs.Line.{Line, link_count, service_at, place_at, tei_at, terms, link_at}
-use Rattle.lapd_line_machine.specs.Sound.{IsSoundAt}
-use Rattle.lapd_line_machine.specs.Stored.{held_by_link}
-use Rattle.lapd_line_machine.proofs.Ranges.{ranges_of}
+use Rattle.model_link.specs.declared.terms.Terms.{Terms}
+use Rattle.model_link.specs.Link as machine
+use Rattle.model_link.specs.Link.{frame_of}
+use Rattle.model_link.specs.Rises.{held}
+use Rattle.model_link.specs.Sound.{IsWaitingFrame}
+use Rattle.model_line.specs.declared.config.Config.{Config}
+use Rattle.model_line.specs.Line.{Line, link_count, service_at, place_at, tei_at, terms, link_at}
+use Rattle.model_line.specs.Sound.{IsSoundAt}
+use Rattle.model_line.specs.Stored.{held_by_link}
+use Rattle.model_line.proofs.Ranges.{ranges_of}
 use Rattle.lapd_line.specs.declared.link_layer.LinkLayer.{LinkLayer}
 use Rattle.lapd_line.specs.LinkLayer.{Stands, Standing}
 use Rattle.lapd_line.proofs.LayerSteps.{beside_links, links_part}

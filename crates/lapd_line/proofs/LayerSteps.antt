@@ -9,18 +9,18 @@ use Rattle.lapd_link.specs.declared.link.Link.{Link}
 use Rattle.lapd_link.specs.declared.outcome.Answer.{Answer}
 use Rattle.lapd_link.specs.Outcome.{told_with}
 use Rattle.lapd_link.specs.Stands.{terms_of}
-use Rattle.lapd_link_machine.specs.Events as event
-use Rattle.lapd_link_machine.specs.Link as machine
-use Rattle.lapd_link_machine.specs.Link.{state_number}
+use Rattle.model_link.specs.Events as event
+use Rattle.model_link.specs.Link as machine
+use Rattle.model_link.specs.Link.{state_number}
 use Rattle.lapd_tei.specs.Sound.{IsAt}
 use Rattle.lapd_tei.specs.Table.{place_of}
 use Rattle.lapd_tei.proofs.Tables.{at-within, place_of-is}
-use Rattle.lapd_line_machine.specs.Line.{Line, link_number, link_count, service_at, place_at, tei_at, terms, state_in, state_of}
-use Rattle.lapd_line_machine.specs.Effect.{at_link, told_of_link}
-use Rattle.lapd_line_machine.specs.Sound.{IsSound}
-use Rattle.lapd_line_machine.proofs.Numbers.{place_at-number, service_at-number, number_within}
-use Rattle.lapd_line_machine.proofs.AimsSound.{aim_sound}
-use Rattle.lapd_line_machine.proofs.Ranges.{ranges_of}
+use Rattle.model_line.specs.Line.{Line, link_number, link_count, service_at, place_at, tei_at, terms, state_in, state_of}
+use Rattle.model_line.specs.Effect.{at_link, told_of_link}
+use Rattle.model_line.specs.Sound.{IsSound}
+use Rattle.model_line.proofs.Numbers.{place_at-number, service_at-number, number_within}
+use Rattle.model_line.proofs.AimsSound.{aim_sound}
+use Rattle.model_line.proofs.Ranges.{ranges_of}
 use Rattle.lapd_line.specs.declared.link_layer.LinkLayer.{LinkLayer}
 use Rattle.lapd_line.specs.declared.reports.BareReport.{BareReport}
 use Rattle.lapd_line.specs.Reports.{told_in}

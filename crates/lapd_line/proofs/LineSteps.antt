@@ -13,16 +13,16 @@ use Rattle.lapd_store.specs.Ownership.{Owned}
 use Rattle.lapd_store.specs.Store.{Store}
 use Rattle.lapd_tei.specs.declared.outcome.Change.{Change}
 use Rattle.lapd_tei.specs.declared.outcome.Change.TheVariants.{Gained, Left}
-use Rattle.lapd_line_machine.specs.declared.config.Config.{Config}
-use Rattle.lapd_line_machine.specs.Answer as event
-use Rattle.lapd_line_machine.specs.Answer.{Told, told, nothing}
-use Rattle.lapd_line_machine.specs.Expiry.{aim_of_expiry}
-use Rattle.lapd_line_machine.specs.Line as machine
-use Rattle.lapd_line_machine.specs.Machine.{after, answer}
-use Rattle.lapd_line_machine.specs.Octet.{gained, aim_of_octet, with_received}
-use Rattle.lapd_line_machine.specs.Effect.{Aim, at_none, at_link, at_management, at_units, of_aim, of_change}
-use Rattle.lapd_line_machine.specs.Pull.{taken}
-use Rattle.lapd_line_machine.specs.Sound.{IsSound}
+use Rattle.model_line.specs.declared.config.Config.{Config}
+use Rattle.model_line.specs.Answer as event
+use Rattle.model_line.specs.Answer.{Told, told, nothing}
+use Rattle.model_line.specs.Expiry.{aim_of_expiry}
+use Rattle.model_line.specs.Line as machine
+use Rattle.model_line.specs.Machine.{after, answer}
+use Rattle.model_line.specs.Octet.{gained, aim_of_octet, with_received}
+use Rattle.model_line.specs.Effect.{Aim, at_none, at_link, at_management, at_units, of_aim, of_change}
+use Rattle.model_line.specs.Pull.{taken}
+use Rattle.model_line.specs.Sound.{IsSound}
 use Rattle.lapd_line.specs.declared.line.Line.{Line}
 use Rattle.lapd_line.specs.declared.link_layer.LinkLayer.{LinkLayer}
 use Rattle.lapd_line.specs.declared.reports.BareReport.{BareReport}

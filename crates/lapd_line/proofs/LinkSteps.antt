@@ -11,13 +11,13 @@ use Rattle.lapd_link.specs.declared.offers.Offer.{Offer}
 use Rattle.lapd_link.specs.declared.outcome.Answer.{Answer}
 use Rattle.lapd_link.specs.Stands.{Stands, terms_of}
 use Rattle.lapd_link.specs.Outcome.{told_with}
-use Rattle.lapd_link_machine.specs.declared.terms.Terms.{Terms}
-use Rattle.lapd_link_machine.specs.Events.{Event, offer}
-use Rattle.lapd_link_machine.specs.Link as machine
-use Rattle.lapd_link_machine.specs.Machine.{after, told}
+use Rattle.model_link.specs.declared.terms.Terms.{Terms}
+use Rattle.model_link.specs.Events.{Event, offer}
+use Rattle.model_link.specs.Link as machine
+use Rattle.model_link.specs.Machine.{after, told}
 use Rattle.lapd_frame.specs.declared.services.Service.{Service}
-use Rattle.lapd_line_machine.specs.declared.config.Config.{Config}
-use Rattle.lapd_line_machine.specs.Line.{terms, window}
+use Rattle.model_line.specs.declared.config.Config.{Config}
+use Rattle.model_line.specs.Line.{terms, window}
 use Rattle.lapd_line.specs.Links.{LinkFits, LinksStand, HasTerms, machine_at, link_pairs, terms_in, Serves, IsGiven, Offers}
 
 -- the link at a place, the machine for it, and what the shelf holds beside what it owns; and the way back

@@ -14,17 +14,17 @@ use Rattle.lapd_frame.specs.declared.short_lists.ShortList.{ShortList}
 use Rattle.lapd_frame.specs.declared.timers.Order.{Order}
 use Rattle.lapd_store.specs.Ownership.{Owned}
 use Rattle.lapd_store.specs.Store.{Store}
-use Rattle.lapd_line_machine.specs.declared.config.Config.{Config}
-use Rattle.lapd_line_machine.specs.Answer as event
-use Rattle.lapd_line_machine.specs.Answer.{pulled}
-use Rattle.lapd_line_machine.specs.Line as machine
-use Rattle.lapd_line_machine.specs.Machine.{after, answer}
-use Rattle.lapd_line_machine.specs.Pull as pull
-use Rattle.lapd_line_machine.specs.Pull.{Taken, taken, begun, is_due, next_octet, with_item, with_due, with_octet, orders_of}
-use Rattle.lapd_line_machine.specs.Sound.{IsSound, IsTextOf}
-use Rattle.lapd_line_machine.proofs.LineSound.{after_sound, with_due_given}
-use Rattle.lapd_line_machine.proofs.PullSound.{TakesSoundly, taken_sound}
-use Rattle.lapd_line_machine.proofs.TextGoesOn.{left_is, one_item}
+use Rattle.model_line.specs.declared.config.Config.{Config}
+use Rattle.model_line.specs.Answer as event
+use Rattle.model_line.specs.Answer.{pulled}
+use Rattle.model_line.specs.Line as machine
+use Rattle.model_line.specs.Machine.{after, answer}
+use Rattle.model_line.specs.Pull as pull
+use Rattle.model_line.specs.Pull.{Taken, taken, begun, is_due, next_octet, with_item, with_due, with_octet, orders_of}
+use Rattle.model_line.specs.Sound.{IsSound, IsTextOf}
+use Rattle.model_line.proofs.LineSound.{after_sound, with_due_given}
+use Rattle.model_line.proofs.PullSound.{TakesSoundly, taken_sound}
+use Rattle.model_line.proofs.TextGoesOn.{left_is, one_item}
 use Rattle.lapd_line.specs.declared.line.Line.{Line}
 use Rattle.lapd_line.specs.declared.link_layer.LinkLayer.{LinkLayer}
 use Rattle.lapd_line.specs.Begins.{Begins, with_frame}

@@ -4,17 +4,17 @@ use Rattle.lapd_frame.specs.declared.refusals.Refusal.{Refusal}
 use Rattle.lapd_frame.specs.declared.services.Service.{Service}
 use Rattle.lapd_store.specs.Ownership.{Owned}
 use Rattle.lapd_store.specs.Store.{Store}
-use Rattle.lapd_line_machine.specs.declared.config.Config.{Config}
-use Rattle.lapd_line_machine.specs.Answer as event
-use Rattle.lapd_line_machine.specs.Answer.{told}
-use Rattle.lapd_line_machine.specs.Line as machine
-use Rattle.lapd_line_machine.specs.Machine.{after, answer, unless_refused, unless_refused_told}
-use Rattle.lapd_line_machine.specs.Effect.{Aim, of_aim}
-use Rattle.lapd_line_machine.specs.Refusal.{Row, first_that_holds, bad_tei, bad_tei_or_group, no_link, no_link_nor_group, wrong_state, too_long, queue_full, unit_queue_full, pool_full, refusal}
-use Rattle.lapd_line_machine.specs.declared.requests.Request as asking
-use Rattle.lapd_line_machine.specs.Request.{Request, request_of, Establish, Release, Data, Unit, Assign, Remove, Check, SetBusy, ClearBusy}
-use Rattle.lapd_line_machine.specs.Requested.{aim_of_request, at_requested}
-use Rattle.lapd_link_machine.specs.Events as link
+use Rattle.model_line.specs.declared.config.Config.{Config}
+use Rattle.model_line.specs.Answer as event
+use Rattle.model_line.specs.Answer.{told}
+use Rattle.model_line.specs.Line as machine
+use Rattle.model_line.specs.Machine.{after, answer, unless_refused, unless_refused_told}
+use Rattle.model_line.specs.Effect.{Aim, of_aim}
+use Rattle.model_line.specs.Refusal.{Row, first_that_holds, bad_tei, bad_tei_or_group, no_link, no_link_nor_group, wrong_state, too_long, queue_full, unit_queue_full, pool_full, refusal}
+use Rattle.model_line.specs.declared.requests.Request as asking
+use Rattle.model_line.specs.Request.{Request, request_of, Establish, Release, Data, Unit, Assign, Remove, Check, SetBusy, ClearBusy}
+use Rattle.model_line.specs.Requested.{aim_of_request, at_requested}
+use Rattle.model_link.specs.Events as link
 use Rattle.lapd_link.specs.declared.requests.LinkRequest as links
 use Rattle.lapd_link.specs.declared.requests.LinkRequest.{LinkRequest}
 use Rattle.lapd_link.specs.Events.{request_of as link_request_of}

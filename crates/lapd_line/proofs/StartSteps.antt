@@ -10,13 +10,13 @@ use Rattle.lapd_tei.specs.Machine.{Management, empty}
 use Rattle.lapd_link.specs.declared.link.Link.{Link}
 use Rattle.lapd_link.specs.Stands as link
 use Rattle.lapd_link.specs.Stands.{slots_of, terms_of}
-use Rattle.lapd_link_machine.specs.Link.{fresh, queue_of}
-use Rattle.lapd_line_machine.specs.declared.config.Config.{Config}
-use Rattle.lapd_line_machine.specs.Line.{place_at, link_count, fresh_line}
-use Rattle.lapd_line_machine.specs.Sound.{IsInRange}
-use Rattle.lapd_line_machine.proofs.LineSound.{fresh_sound}
-use Rattle.lapd_line_machine.proofs.Numbers.{place_within}
-use Rattle.lapd_line_machine.proofs.Ranges.{ranges_of}
+use Rattle.model_link.specs.Link.{fresh, queue_of}
+use Rattle.model_line.specs.declared.config.Config.{Config}
+use Rattle.model_line.specs.Line.{place_at, link_count, fresh_line}
+use Rattle.model_line.specs.Sound.{IsInRange}
+use Rattle.model_line.proofs.LineSound.{fresh_sound}
+use Rattle.model_line.proofs.Numbers.{place_within}
+use Rattle.model_line.proofs.Ranges.{ranges_of}
 use Rattle.lapd_line.specs.declared.awake.Awake.{Awake}
 use Rattle.lapd_line.specs.LinkLayer.{Stands}
 use Rattle.lapd_line.specs.Links.{LinkFits, links_pairs}

@@ -12,12 +12,12 @@ use Rattle.lapd_store.proofs.Ownership.{owned_octets-append}
 use Rattle.lapd_store.proofs.Queues.{length-pairs_of, owned_octets-pairs_of}
 use Rattle.lapd_link.specs.declared.link.Link.{Link}
 use Rattle.lapd_link.specs.Stands as link
-use Rattle.lapd_link_machine.specs.Link as machine
-use Rattle.lapd_link_machine.specs.Link.{queue_of}
-use Rattle.lapd_line_machine.specs.declared.config.Config.{Config}
-use Rattle.lapd_line_machine.specs.Line as machine_line
-use Rattle.lapd_line_machine.specs.Line.{UnitData}
-use Rattle.lapd_line_machine.specs.Stored.{slots_of, octets_of, sum_of_links, slots_by_link, octets_by_link, total_length, contents_of, unit_length}
+use Rattle.model_link.specs.Link as machine
+use Rattle.model_link.specs.Link.{queue_of}
+use Rattle.model_line.specs.declared.config.Config.{Config}
+use Rattle.model_line.specs.Line as machine_line
+use Rattle.model_line.specs.Line.{UnitData}
+use Rattle.model_line.specs.Stored.{slots_of, octets_of, sum_of_links, slots_by_link, octets_by_link, total_length, contents_of, unit_length}
 use Rattle.lapd_line.specs.declared.link_layer.LinkLayer.{LinkLayer}
 use Rattle.lapd_line.specs.declared.line.Line.{Line}
 use Rattle.lapd_line.specs.declared.units.QueuedUnit.{QueuedUnit}

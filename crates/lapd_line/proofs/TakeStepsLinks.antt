@@ -18,24 +18,24 @@ use Rattle.lapd_link.specs.declared.link.Link.{Link}
 use Rattle.lapd_link.specs.declared.offers.Offer.{Offer}
 use Rattle.lapd_link.specs.Outcome.{contents_in, HasMessage}
 use Rattle.lapd_link.specs.Stands.{terms_of}
-use Rattle.lapd_link_machine.specs.declared.frames.ControlFrame.{ControlFrame}
-use Rattle.lapd_link_machine.specs.declared.terms.Terms.{Terms}
-use Rattle.lapd_link_machine.specs.Link as machine
-use Rattle.lapd_link_machine.specs.Link.{address_at}
-use Rattle.lapd_link_machine.specs.Machine.{after, given, given_of, course}
-use Rattle.lapd_link_machine.specs.Events.{offer}
-use Rattle.lapd_link_machine.specs.Told.{Given}
-use Rattle.lapd_link_machine.specs.Offers.{may_send_information, offer_among, send_information, send_acknowledgement, give_information, with_one_sent, next_information, first_unsent, is_awaiting_acknowledgement}
-use Rattle.lapd_link_machine.specs.Steps.{Course, Sent, begun, ◌then◌, changed}
-use Rattle.lapd_link_machine.specs.Words.{pending_is, start}
-use Rattle.lapd_link_machine.specs.declared.timers.LinkTimer.TheVariants.{T200}
-use Rattle.lapd_line_machine.specs.declared.config.Config.{Config}
-use Rattle.lapd_line_machine.specs.Line.{Line, link_at, link_count, place_at, service_at, tei_at, terms, terms_at}
-use Rattle.lapd_line_machine.specs.Pull.{Taken, with_given_frame, link_taken, first_taken, round}
-use Rattle.lapd_line_machine.specs.Sound.{IsSound, IsSoundAt}
-use Rattle.lapd_line_machine.proofs.Offered.{fresh_gives_nothing}
-use Rattle.lapd_line_machine.proofs.PullSound.{TakesSoundly, link_sound}
-use Rattle.lapd_line_machine.proofs.Ranges.{ranges_of}
+use Rattle.model_link.specs.declared.frames.ControlFrame.{ControlFrame}
+use Rattle.model_link.specs.declared.terms.Terms.{Terms}
+use Rattle.model_link.specs.Link as machine
+use Rattle.model_link.specs.Link.{address_at}
+use Rattle.model_link.specs.Machine.{after, given, given_of, course}
+use Rattle.model_link.specs.Events.{offer}
+use Rattle.model_link.specs.Told.{Given}
+use Rattle.model_link.specs.Offers.{may_send_information, offer_among, send_information, send_acknowledgement, give_information, with_one_sent, next_information, first_unsent, is_awaiting_acknowledgement}
+use Rattle.model_link.specs.Steps.{Course, Sent, begun, ◌then◌, changed}
+use Rattle.model_link.specs.Words.{pending_is, start}
+use Rattle.model_link.specs.declared.timers.LinkTimer.TheVariants.{T200}
+use Rattle.model_line.specs.declared.config.Config.{Config}
+use Rattle.model_line.specs.Line.{Line, link_at, link_count, place_at, service_at, tei_at, terms, terms_at}
+use Rattle.model_line.specs.Pull.{Taken, with_given_frame, link_taken, first_taken, round}
+use Rattle.model_line.specs.Sound.{IsSound, IsSoundAt}
+use Rattle.model_line.proofs.Offered.{fresh_gives_nothing}
+use Rattle.model_line.proofs.PullSound.{TakesSoundly, link_sound}
+use Rattle.model_line.proofs.Ranges.{ranges_of}
 use Rattle.lapd_line.specs.declared.awake.Awake.{Awake}
 use Rattle.lapd_line.specs.declared.link_layer.LinkLayer.{LinkLayer}
 use Rattle.lapd_line.specs.LinkLayer.{Stands, Standing}

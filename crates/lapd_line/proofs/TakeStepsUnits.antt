@@ -16,10 +16,10 @@ use Rattle.lapd_store.specs.Ownership.{Owned, Holds, Keeps}
 use Rattle.lapd_store.specs.Store.{Store, SameLimits, IsUsed, contents_of, without}
 use Rattle.lapd_store.proofs.Focus.{Part, second_part}
 use Rattle.lapd_store.proofs.Queues.{Keeps-used, Keeps-at, Keeps-release}
-use Rattle.lapd_line_machine.specs.declared.config.Config.{Config}
-use Rattle.lapd_line_machine.specs.Line.{Line, UnitData}
-use Rattle.lapd_line_machine.specs.Pull.{with_unit, unit_taken}
-use Rattle.lapd_line_machine.specs.Sound.{IsUnitData}
+use Rattle.model_line.specs.declared.config.Config.{Config}
+use Rattle.model_line.specs.Line.{Line, UnitData}
+use Rattle.model_line.specs.Pull.{with_unit, unit_taken}
+use Rattle.model_line.specs.Sound.{IsUnitData}
 use Rattle.lapd_line.specs.declared.link_layer.LinkLayer.{LinkLayer}
 use Rattle.lapd_line.specs.declared.units.QueuedUnit.{QueuedUnit}
 use Rattle.lapd_line.specs.LinkLayer.{Stands}

@@ -11,14 +11,14 @@ use Rattle.lapd_store.specs.Store.{Store, SameLimits, IsFree, with_contents, use
 use Rattle.lapd_store.proofs.Queues.{Keeps-put}
 use Rattle.lapd_tei.specs.Table.{Places, is_on, place_of}
 use Rattle.lapd_tei.proofs.Tables.{place_of-is, is_on-at}
-use Rattle.lapd_line_machine.specs.declared.config.Config.{Config}
-use Rattle.lapd_line_machine.specs.Answer.{nothing}
-use Rattle.lapd_line_machine.specs.Line.{Line, UnitData}
-use Rattle.lapd_line_machine.specs.Effect.{at_units, of_aim}
-use Rattle.lapd_line_machine.specs.Refusal.{refusal}
-use Rattle.lapd_line_machine.specs.Request as asked
-use Rattle.lapd_line_machine.specs.Stored.{contents_of}
-use Rattle.lapd_line_machine.proofs.AimsSound.{IsProper, aim_sound}
+use Rattle.model_line.specs.declared.config.Config.{Config}
+use Rattle.model_line.specs.Answer.{nothing}
+use Rattle.model_line.specs.Line.{Line, UnitData}
+use Rattle.model_line.specs.Effect.{at_units, of_aim}
+use Rattle.model_line.specs.Refusal.{refusal}
+use Rattle.model_line.specs.Request as asked
+use Rattle.model_line.specs.Stored.{contents_of}
+use Rattle.model_line.proofs.AimsSound.{IsProper, aim_sound}
 use Rattle.lapd_line.specs.declared.link_layer.LinkLayer.{LinkLayer}
 use Rattle.lapd_line.specs.declared.reports.BareReport.{BareReport}
 use Rattle.lapd_line.specs.declared.units.QueuedUnit.{QueuedUnit}

@@ -6,11 +6,11 @@ use Rattle.lapd_frame.specs.declared.controls.Control.{Control}
 use Rattle.lapd_frame.specs.declared.controls.Control.TheVariants as control
 use Rattle.lapd_frame.specs.declared.services.Service.{Service}
 use Rattle.lapd_frame.specs.Services.{service_of}
-use Rattle.lapd_link_machine.specs.Events as link
+use Rattle.model_link.specs.Events as link
 use Rattle.lapd_tei.specs.Machine.{Management, place}
 use Rattle.lapd_tei.specs.Sound.{IsAt}
-use Rattle.lapd_line_machine.specs.Octet.{management_sapi, group_tei, drop_for}
-use Rattle.lapd_line_machine.specs.Effect.{Aim, at_link}
+use Rattle.model_line.specs.Octet.{management_sapi, group_tei, drop_for}
+use Rattle.model_line.specs.Effect.{Aim, at_link}
 use Rattle.lapd_line.specs.declared.aims.Addressee.{Addressee}
 use Rattle.lapd_line.specs.declared.aims.Addressee.TheVariants as to
 

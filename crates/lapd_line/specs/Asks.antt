@@ -3,11 +3,11 @@ use Rattle.std.specs.Prelude.{ℕ, Bool, not, nat_lt, Option, Some, if◌then◌
 use Rattle.lapd_frame.specs.declared.refusals.Refusal.{Refusal}
 use Rattle.lapd_frame.specs.declared.refusals.Refusal.TheVariants.{BadTei, NoLink}
 use Rattle.lapd_frame.specs.declared.services.Service.{Service}
-use Rattle.lapd_link_machine.specs.Events as link
-use Rattle.lapd_link_machine.specs.Requests as links
+use Rattle.model_link.specs.Events as link
+use Rattle.model_link.specs.Requests as links
 use Rattle.lapd_tei.specs.Events as teis
-use Rattle.lapd_line_machine.specs.declared.config.Config.{Config}
-use Rattle.lapd_line_machine.specs.Line.{Line, has_tei, link_of, terms}
+use Rattle.model_line.specs.declared.config.Config.{Config}
+use Rattle.model_line.specs.Line.{Line, has_tei, link_of, terms}
 use Rattle.lapd_line.specs.declared.asks.TeiRequest.{TeiRequest}
 use Rattle.lapd_line.specs.declared.asks.TeiRequest.TheVariants as tei_request
 

@@ -2,9 +2,9 @@
 use Rattle.std.specs.Prelude.{◌≡◌, ◌≢◌, ℕ, ◌≤◌, ◌<◌, List, None}
 use Rattle.std.specs.Int.{bit_at}
 use Rattle.lapd_link.specs.declared.link.Link.{Link}
-use Rattle.lapd_link_machine.specs.declared.terms.Terms.{Terms}
-use Rattle.lapd_link_machine.specs.Link as machine
-use Rattle.lapd_link_machine.specs.Machine.{given}
+use Rattle.model_link.specs.declared.terms.Terms.{Terms}
+use Rattle.model_link.specs.Link as machine
+use Rattle.model_link.specs.Machine.{given}
 use Rattle.lapd_line.specs.declared.awake.Awake.{Awake}
 use Rattle.lapd_line.specs.Links.{HasTerms, machine_at}
 

@@ -4,8 +4,8 @@ use Rattle.lapd_bits.specs.Sent.{frame}
 use Rattle.lapd_frame.specs.declared.timers.Order.{Order}
 use Rattle.lapd_store.specs.Ownership.{Owned}
 use Rattle.lapd_store.specs.Store.{Store, SameLimits}
-use Rattle.lapd_line_machine.specs.Line as machine
-use Rattle.lapd_line_machine.specs.Pull.{Taken, begun, orders_of}
+use Rattle.model_line.specs.Line as machine
+use Rattle.model_line.specs.Pull.{Taken, begun, orders_of}
 use Rattle.lapd_line.specs.declared.line.Line.{Line}
 use Rattle.lapd_line.specs.Stands.{Stands, config_of}
 

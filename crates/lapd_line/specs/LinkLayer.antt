@@ -5,11 +5,11 @@ use Rattle.std.specs.Option.{option_map_or}
 use Rattle.lapd_bits.specs.Stream as stream
 use Rattle.lapd_store.specs.Ownership.{Owned, Holds}
 use Rattle.lapd_store.specs.Store.{Store, SameLimits}
-use Rattle.lapd_line_machine.specs.Answer.{nothing}
-use Rattle.lapd_line_machine.specs.Line.{Line, link_count, place_at, service_at, tei_at, terms}
-use Rattle.lapd_line_machine.specs.Octet.{aim_of_heard}
-use Rattle.lapd_line_machine.specs.Effect.{Aim, at_none, of_aim}
-use Rattle.lapd_line_machine.specs.Sound.{IsInRange, IsSound}
+use Rattle.model_line.specs.Answer.{nothing}
+use Rattle.model_line.specs.Line.{Line, link_count, place_at, service_at, tei_at, terms}
+use Rattle.model_line.specs.Octet.{aim_of_heard}
+use Rattle.model_line.specs.Effect.{Aim, at_none, of_aim}
+use Rattle.model_line.specs.Sound.{IsInRange, IsSound}
 use Rattle.lapd_line.specs.declared.link_layer.LinkLayer.{LinkLayer}
 use Rattle.lapd_line.specs.declared.reports.BareReport.{BareReport}
 use Rattle.lapd_line.specs.Awake.{NoneMissed}

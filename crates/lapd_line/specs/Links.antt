@@ -9,14 +9,14 @@ use Rattle.lapd_link.specs.declared.offers.Offer.{Offer}
 use Rattle.lapd_link.specs.declared.outcome.Answer.{Answer}
 use Rattle.lapd_link.specs.Stands.{Fits, slots_of, terms_of}
 use Rattle.lapd_link.specs.Outcome.{told_with, given_by, HasMessage}
-use Rattle.lapd_link_machine.specs.declared.terms.Terms.{Terms}
+use Rattle.model_link.specs.declared.terms.Terms.{Terms}
 use Rattle.lapd_frame.specs.declared.refusals.Refusal.{Refusal}
-use Rattle.lapd_link_machine.specs.Events.{Event, Request, offer}
-use Rattle.lapd_link_machine.specs.Requests.{refusal}
-use Rattle.lapd_link_machine.specs.Link as machine
-use Rattle.lapd_link_machine.specs.Link.{frame_of}
-use Rattle.lapd_link_machine.specs.Machine.{after, told, given}
-use Rattle.lapd_line_machine.specs.declared.config.Config.{Config}
+use Rattle.model_link.specs.Events.{Event, Request, offer}
+use Rattle.model_link.specs.Requests.{refusal}
+use Rattle.model_link.specs.Link as machine
+use Rattle.model_link.specs.Link.{frame_of}
+use Rattle.model_link.specs.Machine.{after, told, given}
+use Rattle.model_line.specs.declared.config.Config.{Config}
 
 -- The parameters of each link.
 abbrev pub terms_in : List Link → List Terms

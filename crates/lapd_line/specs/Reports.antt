@@ -3,7 +3,7 @@ use Rattle.std.specs.Prelude.{ℕ, List, [], drop, Option, Some, None, option_ma
 use Rattle.std.specs.Option.{option_copied}
 use Rattle.lapd_bits.specs.Stream as stream
 use Rattle.lapd_frame.specs.ShortLists.{listed}
-use Rattle.lapd_line_machine.specs.Answer.{Told, Answer, pulled, nothing}
+use Rattle.model_line.specs.Answer.{Told, Answer, pulled, nothing}
 use Rattle.lapd_line.specs.declared.reports.BareReport.{BareReport}
 use Rattle.lapd_line.specs.declared.reports.Report.{Report}
 use Rattle.lapd_line.specs.declared.pulled.Pulled.{Pulled}

@@ -4,11 +4,11 @@ use Rattle.lapd_bits.specs.Deframer as deframer
 use Rattle.lapd_bits.specs.Framer as framer
 use Rattle.lapd_store.specs.Ownership.{Owned}
 use Rattle.lapd_store.specs.Store.{Store, SameLimits}
-use Rattle.lapd_line_machine.specs.declared.config.Config.{Config}
-use Rattle.lapd_line_machine.specs.Answer.{Event}
-use Rattle.lapd_line_machine.specs.Line as machine
-use Rattle.lapd_line_machine.specs.Machine.{after}
-use Rattle.lapd_line_machine.specs.Pull.{taken}
+use Rattle.model_line.specs.declared.config.Config.{Config}
+use Rattle.model_line.specs.Answer.{Event}
+use Rattle.model_line.specs.Line as machine
+use Rattle.model_line.specs.Machine.{after}
+use Rattle.model_line.specs.Pull.{taken}
 use Rattle.lapd_line.specs.declared.line.Line.{Line}
 use Rattle.lapd_line.specs.declared.link_layer.LinkLayer.{LinkLayer}
 use Rattle.lapd_line.specs.LinkLayer as layer

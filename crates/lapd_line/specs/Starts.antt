@@ -2,9 +2,9 @@
 use Rattle.std.specs.Prelude.{◌≡◌, List, length}
 use Rattle.std.specs.List.{All}
 use Rattle.lapd_link.specs.declared.link.Link.{Link}
-use Rattle.lapd_link_machine.specs.Link.{fresh}
-use Rattle.lapd_line_machine.specs.declared.config.Config.{Config}
-use Rattle.lapd_line_machine.specs.Line.{link_count}
+use Rattle.model_link.specs.Link.{fresh}
+use Rattle.model_line.specs.declared.config.Config.{Config}
+use Rattle.model_line.specs.Line.{link_count}
 use Rattle.lapd_line.specs.Links.{LinkFits}
 
 -- A link stands for one that begins.

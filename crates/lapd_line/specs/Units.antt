@@ -1,8 +1,8 @@
 -- Unit data that waits, as the code holds it: whose it is, and the slot of its contents.
 use Rattle.std.specs.Prelude.{◌≡◌, ℕ, List, [], ◌∷◌, ◌++◌, map, drop}
 use Rattle.lapd_store.specs.Ownership.{Owned, pairs_of}
-use Rattle.lapd_line_machine.specs.Line.{UnitData}
-use Rattle.lapd_line_machine.specs.Stored.{contents_of}
+use Rattle.model_line.specs.Line.{UnitData}
+use Rattle.model_line.specs.Stored.{contents_of}
 use Rattle.lapd_line.specs.declared.units.QueuedUnit.{QueuedUnit}
 
 -- the oldest first, and how many there may be

@@ -6,8 +6,8 @@ ghost use Rattle.lapd_frame.specs.declared.addresses.Side.TheVariants.{User};
 ghost use Rattle.lapd_frame.specs.Grammar.{parts_of};
 ghost use Rattle.lapd_frame.specs.Reading.{reading, long_reading, start_of};
 ghost use Rattle.lapd_bits.specs.declared.heard.Cause.TheVariants.{Unserved};
-ghost use Rattle.lapd_link_machine.specs.Events as link;
-ghost use Rattle.lapd_line_machine.specs.Octet.{addressed, aim_of_long, aim_of_reading, drop_for, message_of, unless_at_link};
+ghost use Rattle.model_link.specs.Events as link;
+ghost use Rattle.model_line.specs.Octet.{addressed, aim_of_long, aim_of_reading, drop_for, message_of, unless_at_link};
 ghost use Rattle.lapd_line.specs.Aims.{is_ui};
 
 use crate::link_layer::LinkLayer;

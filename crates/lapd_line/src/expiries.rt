@@ -1,9 +1,9 @@
 //! Timers that expire.
 
 ghost use Rattle.std.specs.Prelude.{[]};
-ghost use Rattle.lapd_line_machine.specs.Expiry.{aim_of_expiry, at_timer};
-ghost use Rattle.lapd_line_machine.specs.Line as machine;
-ghost use Rattle.lapd_line_machine.specs.Effect.{at_management};
+ghost use Rattle.model_line.specs.Expiry.{aim_of_expiry, at_timer};
+ghost use Rattle.model_line.specs.Line as machine;
+ghost use Rattle.model_line.specs.Effect.{at_management};
 ghost use Rattle.lapd_tei.specs.Events as teis;
 
 use crate::link_layer::LinkLayer;

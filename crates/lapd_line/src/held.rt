@@ -3,8 +3,8 @@
 ghost use Rattle.std.specs.Prelude.{◌≡◌, ◌+◌, ◌≤◌, List};
 ghost use Rattle.lapd_store.specs.Ownership.{Owned};
 ghost use Rattle.lapd_store.specs.Store.{Store};
-ghost use Rattle.lapd_line_machine.specs.Line as machine;
-ghost use Rattle.lapd_line_machine.specs.Stored.{sum_of_links, held_by_link};
+ghost use Rattle.model_line.specs.Line as machine;
+ghost use Rattle.model_line.specs.Stored.{sum_of_links, held_by_link};
 ghost use Rattle.lapd_tei.specs.Machine.{held};
 
 use crate::link_layer::LinkLayer;

@@ -1,6 +1,6 @@
 //! A line of a card: what is heard in its octets, TEI management, the links of its TEIs, unit data, and what goes out.
 //!
-//! A [`Line`] takes what happens to it one event at a time, and answers as the machine of `lapd_line_machine` does, for
+//! A [`Line`] takes what happens to it one event at a time, and answers as the machine of `model_line` does, for
 //! every past (`specs/Stands.antt` says what a line stands for). Contents that wait lie on a shelf that other lines use
 //! too. After the start no call takes memory.
 //!
@@ -31,7 +31,7 @@ mod takes;
 mod units;
 
 pub use fault::StartFault;
-pub use lapd_line_machine::{Config, Field, Request};
+pub use model_line::{Config, Field, Request};
 pub use line::Line;
 pub use pulled::Pulled;
 pub use reports::{BareReport, Report};

@@ -4,16 +4,16 @@ ghost use Rattle.std.specs.Prelude.{◌≡◌, ◌<◌, ◌≤◌, List, length,
 ghost use Rattle.lapd_bits.specs.Deframer.{latest_of};
 ghost use Rattle.lapd_store.specs.Ownership.{Owned, Holds};
 ghost use Rattle.lapd_store.specs.Store.{Store, used_slots};
-ghost use Rattle.lapd_line_machine.specs.Answer as event;
-ghost use Rattle.lapd_line_machine.specs.Answer.{told};
-ghost use Rattle.lapd_line_machine.specs.Line as machine;
-ghost use Rattle.lapd_line_machine.specs.Counts.{may_send};
-ghost use Rattle.lapd_link_machine.specs.Told.{starts};
-ghost use Rattle.lapd_line_machine.specs.Machine.{after, answer};
-ghost use Rattle.lapd_line_machine.specs.Refusal.{refusal};
-ghost use Rattle.lapd_line_machine.specs.Request.{request_of};
-ghost use Rattle.lapd_line_machine.specs.Sound.{IsInRange};
-ghost use Rattle.lapd_line_machine.specs.Stored.{held_in};
+ghost use Rattle.model_line.specs.Answer as event;
+ghost use Rattle.model_line.specs.Answer.{told};
+ghost use Rattle.model_line.specs.Line as machine;
+ghost use Rattle.model_line.specs.Counts.{may_send};
+ghost use Rattle.model_link.specs.Told.{starts};
+ghost use Rattle.model_line.specs.Machine.{after, answer};
+ghost use Rattle.model_line.specs.Refusal.{refusal};
+ghost use Rattle.model_line.specs.Request.{request_of};
+ghost use Rattle.model_line.specs.Sound.{IsInRange};
+ghost use Rattle.model_line.specs.Stored.{held_in};
 
 use crate::fault::StartFault;
 use crate::link_layer::LinkLayer;
@@ -21,7 +21,7 @@ use crate::pulled::Pulled;
 use crate::reports::{BareReport, Report};
 use lapd_bits::{Deframer, Ended, Framer, Heard};
 use lapd_frame::{Order, Refusal, Service, ShortList, Timer};
-use lapd_line_machine::{Config, Request};
+use model_line::{Config, Request};
 use lapd_store::Shelf;
 use std::alloc::Global;
 

@@ -3,9 +3,9 @@
 ghost use Rattle.std.specs.Prelude.{◌≡◌, ℕ, ◌≤◌, List, [], drop};
 ghost use Rattle.lapd_store.specs.Ownership.{Owned};
 ghost use Rattle.lapd_store.specs.Store.{Store};
-ghost use Rattle.lapd_link_machine.specs.Events as event;
-ghost use Rattle.lapd_line_machine.specs.Line as machine;
-ghost use Rattle.lapd_line_machine.specs.Effect.{at_link, told_of_link};
+ghost use Rattle.model_link.specs.Events as event;
+ghost use Rattle.model_line.specs.Line as machine;
+ghost use Rattle.model_line.specs.Effect.{at_link, told_of_link};
 ghost use Rattle.lapd_link.specs.Outcome.{told_with};
 
 use crate::awake::Awake;
@@ -14,7 +14,7 @@ use crate::reports::BareReport;
 use crate::units::Units;
 use lapd_bits::Cause;
 use lapd_frame::Service;
-use lapd_line_machine::Config;
+use model_line::Config;
 use lapd_link::{Answer, LinkTimer, Received};
 use lapd_store::Shelf;
 use lapd_tei::Teis;

@@ -3,18 +3,18 @@
 ghost use Rattle.std.specs.Prelude.{◌≡◌, ◌<◌, ◌≤◌, List, [], length, set, nat_le, Some, None, IfOk, IfErr, OnOk, OnErr};
 ghost use Rattle.lapd_store.specs.Ownership.{Owned};
 ghost use Rattle.lapd_store.specs.Store.{Store, used_slots};
-ghost use Rattle.lapd_link_machine.specs.Events as event;
-ghost use Rattle.lapd_link_machine.specs.Link as machine;
-ghost use Rattle.lapd_link_machine.specs.Rises.{held};
-ghost use Rattle.lapd_link_machine.specs.Link.{address_at};
-ghost use Rattle.lapd_link_machine.specs.declared.terms.Terms.{Terms};
-ghost use Rattle.lapd_line_machine.specs.declared.config.Config.{Config};
-ghost use Rattle.lapd_line_machine.specs.Line.{terms, window};
-ghost use Rattle.lapd_line_machine.specs.Sound.{IsInRange};
+ghost use Rattle.model_link.specs.Events as event;
+ghost use Rattle.model_link.specs.Link as machine;
+ghost use Rattle.model_link.specs.Rises.{held};
+ghost use Rattle.model_link.specs.Link.{address_at};
+ghost use Rattle.model_link.specs.declared.terms.Terms.{Terms};
+ghost use Rattle.model_line.specs.declared.config.Config.{Config};
+ghost use Rattle.model_line.specs.Line.{terms, window};
+ghost use Rattle.model_line.specs.Sound.{IsInRange};
 
 use crate::fault::StartFault;
 use lapd_frame::{Address, Refusal, Service};
-use lapd_line_machine::Config;
+use model_line::Config;
 use lapd_link::{Answer, Link, LinkRequest, LinkTimer, Offer, Received};
 use lapd_store::Shelf;
 use std::alloc::Global;

@@ -1,7 +1,7 @@
 //! What a pull is answered with.
 
 ghost use Rattle.std.specs.Prelude.{◌≡◌, false, []};
-ghost use Rattle.lapd_line_machine.specs.Answer.{pulled};
+ghost use Rattle.model_line.specs.Answer.{pulled};
 
 use lapd_frame::{Order, ShortList};
 
@@ -31,7 +31,7 @@ impl Pulled {
     }
 
     /// What is to be done with timers of the link whose frame was taken, in order: at most two orders
-    /// (`answers_are_short` of `lapd_line_machine`).
+    /// (`answers_are_short` of `model_line`).
     pub fn orders(&self) -> &[Order]
         ensures { result.now ≡ listed self.now.orders }
     {

@@ -32,7 +32,7 @@ pub struct BareReport {
 }
 
 impl Report<'_> {
-    ghost use Rattle.lapd_line_machine.specs.Answer.{nothing};
+    ghost use Rattle.model_line.specs.Answer.{nothing};
     ghost use Rattle.lapd_line.specs.Reports.{report_told, without_contents};
 
     /// Of something that led to nothing.
@@ -49,7 +49,7 @@ impl Report<'_> {
     }
 
     /// What layer 3 and management are told, in order: at most four notes. The machine of a line never tells more
-    /// (`answers_are_short` of `lapd_line_machine`), so none is left out.
+    /// (`answers_are_short` of `model_line`), so none is left out.
     pub fn notes(&self) -> &[Note]
         ensures { result.now ≡ (report_told self.now).notes }
     {
@@ -79,7 +79,7 @@ impl Report<'_> {
 
 impl BareReport {
     ghost use Rattle.std.specs.Prelude.{ℕ, List};
-    ghost use Rattle.lapd_line_machine.specs.Answer.{nothing, dropped};
+    ghost use Rattle.model_line.specs.Answer.{nothing, dropped};
     ghost use Rattle.lapd_line.specs.Reports.{report_told, told_in};
 
     /// Nothing happened.

@@ -3,15 +3,15 @@
 ghost use Rattle.std.specs.Prelude.{◌≡◌, ◌≤◌, List, IfOk};
 ghost use Rattle.lapd_store.specs.Ownership.{Owned, Holds};
 ghost use Rattle.lapd_store.specs.Store.{Store};
-ghost use Rattle.lapd_line_machine.specs.Line as machine;
-ghost use Rattle.lapd_line_machine.specs.Sound.{IsInRange};
+ghost use Rattle.model_line.specs.Line as machine;
+ghost use Rattle.model_line.specs.Sound.{IsInRange};
 
 use crate::awake::Awake;
 use crate::fault::StartFault;
 use crate::link_layer::LinkLayer;
 use crate::links::Links;
 use crate::units::Units;
-use lapd_line_machine::Config;
+use model_line::Config;
 use lapd_tei::Teis;
 use std::alloc::Global;
 

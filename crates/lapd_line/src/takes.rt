@@ -9,8 +9,8 @@ ghost use Rattle.lapd_frame.specs.declared.addresses.Side.TheVariants.{Network};
 ghost use Rattle.lapd_frame.specs.Grammar.{IsFrame, spelling};
 ghost use Rattle.lapd_store.specs.Store.{Store, IsUsed};
 ghost use Rattle.lapd_link.specs.Outcome.{contents_in};
-ghost use Rattle.lapd_line_machine.specs.Line.{link_count};
-ghost use Rattle.lapd_line_machine.specs.Pull.{message_taken, unit_taken, link_taken, first_taken, taken};
+ghost use Rattle.model_line.specs.Line.{link_count};
+ghost use Rattle.model_line.specs.Pull.{message_taken, unit_taken, link_taken, first_taken, taken};
 ghost use Rattle.lapd_line.specs.Awake.{IsAwake};
 ghost use Rattle.lapd_line.specs.Takes.{Takes, orders_taken};
 

@@ -6,13 +6,13 @@ use Rattle.lapd_store.specs.Store.{Store}
 use Rattle.lapd_store.specs.Ownership.{Owned, Keeps}
 use Rattle.lapd_frame.specs.declared.refusals.Refusal.{Refusal}
 use Rattle.lapd_frame.specs.declared.refusals.Refusal.TheVariants.{WrongState}
-use Rattle.lapd_link_machine.specs.declared.terms.Terms.{Terms}
-use Rattle.lapd_link_machine.specs.Link as machine
-use Rattle.lapd_link_machine.specs.Events.{Request, requested}
-use Rattle.lapd_link_machine.specs.Steps.{Course, begun}
-use Rattle.lapd_link_machine.specs.MultipleFrame.{data_in_7_8}
-use Rattle.lapd_link_machine.specs.Requests.{serves, refusal, refusal_for_room, granted}
-use Rattle.lapd_link_machine.specs.Machine.{course}
+use Rattle.model_link.specs.declared.terms.Terms.{Terms}
+use Rattle.model_link.specs.Link as machine
+use Rattle.model_link.specs.Events.{Request, requested}
+use Rattle.model_link.specs.Steps.{Course, begun}
+use Rattle.model_link.specs.MultipleFrame.{data_in_7_8}
+use Rattle.model_link.specs.Requests.{serves, refusal, refusal_for_room, granted}
+use Rattle.model_link.specs.Machine.{course}
 use Rattle.lapd_link_steps.specs.declared.entity.Entity.{Entity}
 use Rattle.lapd_link_steps.specs.declared.told.Told.{Told}
 use Rattle.lapd_link_steps.specs.Does.{Agrees}

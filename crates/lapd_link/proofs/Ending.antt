@@ -2,13 +2,13 @@
 use Rattle.std.proofs.Common.{◌≡◌, ℕ, ◌≤◌, List, length, sym, ap, subst, ◌∙◌, arith}
 use Rattle.lapd_store.specs.Store.{Store, SameLimits}
 use Rattle.lapd_store.specs.Ownership.{Owned}
-use Rattle.lapd_link_machine.specs.declared.terms.Terms.{Terms}
-use Rattle.lapd_link_machine.specs.Link as machine
-use Rattle.lapd_link_machine.specs.Events.{Event}
-use Rattle.lapd_link_machine.specs.Steps.{begun, Step}
-use Rattle.lapd_link_machine.specs.Machine.{course, after, told, told_of}
-use Rattle.lapd_link_machine.specs.Sound.{IsInRange, IsSound}
-use Rattle.lapd_link_machine.proofs.SoundEvents.{sound-after}
+use Rattle.model_link.specs.declared.terms.Terms.{Terms}
+use Rattle.model_link.specs.Link as machine
+use Rattle.model_link.specs.Events.{Event}
+use Rattle.model_link.specs.Steps.{begun, Step}
+use Rattle.model_link.specs.Machine.{course, after, told, told_of}
+use Rattle.model_link.specs.Sound.{IsInRange, IsSound}
+use Rattle.model_link.proofs.SoundEvents.{sound-after}
 use Rattle.lapd_link_steps.specs.declared.entity.Entity.{Entity}
 use Rattle.lapd_link_steps.specs.declared.told.Told.{Told}
 use Rattle.lapd_link_steps.specs.Does.{Agrees}

@@ -10,23 +10,23 @@ use Rattle.lapd_frame.specs.Grammar.{IsFrame, allows, takes, row}
 use Rattle.lapd_frame.specs.Services.{sapi_of}
 use Rattle.lapd_frame.specs.declared.services.Service.{Service}
 use Rattle.lapd_frame.specs.declared.services.Service.TheVariants.{Call, Packet}
-use Rattle.lapd_link_machine.specs.Link.{frame_of}
-use Rattle.lapd_link_machine.specs.Sound.{IsInRange, IsWaitingFrame}
+use Rattle.model_link.specs.Link.{frame_of}
+use Rattle.model_link.specs.Sound.{IsInRange, IsWaitingFrame}
 use Rattle.lapd_store.specs.Store.{Store, IsUsed, contents_of}
 use Rattle.lapd_store.specs.Ownership.{Owned, Keeps}
 use Rattle.lapd_store.proofs.Queues.{Keeps-at, Keeps-used}
 use Rattle.lapd_frame.specs.declared.timers.Order.{Order}
-use Rattle.lapd_link_machine.specs.declared.frames.ControlFrame.{ControlFrame}
-use Rattle.lapd_link_machine.specs.declared.timers.LinkTimer.TheVariants.{T200}
-use Rattle.lapd_link_machine.specs.declared.terms.Terms.{Terms}
-use Rattle.lapd_link_machine.specs.Link as machine
-use Rattle.lapd_link_machine.specs.Events as event
-use Rattle.lapd_link_machine.specs.Told.{orders_for}
-use Rattle.lapd_link_machine.specs.Steps.{Sent, Course, begun, ◌then◌, changed}
-use Rattle.lapd_link_machine.specs.Words.{pending_is, response, start}
-use Rattle.lapd_link_machine.specs.Offers as offers
-use Rattle.lapd_link_machine.specs.Machine.{course, after, given, given_of}
-use Rattle.lapd_link_machine.proofs.SoundEvents.{sound-after}
+use Rattle.model_link.specs.declared.frames.ControlFrame.{ControlFrame}
+use Rattle.model_link.specs.declared.timers.LinkTimer.TheVariants.{T200}
+use Rattle.model_link.specs.declared.terms.Terms.{Terms}
+use Rattle.model_link.specs.Link as machine
+use Rattle.model_link.specs.Events as event
+use Rattle.model_link.specs.Told.{orders_for}
+use Rattle.model_link.specs.Steps.{Sent, Course, begun, ◌then◌, changed}
+use Rattle.model_link.specs.Words.{pending_is, response, start}
+use Rattle.model_link.specs.Offers as offers
+use Rattle.model_link.specs.Machine.{course, after, given, given_of}
+use Rattle.model_link.proofs.SoundEvents.{sound-after}
 use Rattle.lapd_link_steps.specs.declared.entity.Entity.{Entity}
 use Rattle.lapd_link_steps.specs.declared.offers.Given as rows
 use Rattle.lapd_link_steps.specs.declared.told.Told.{Told}

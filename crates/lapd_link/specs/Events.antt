@@ -1,7 +1,7 @@
 -- What is handed to a link, as events of the machine.
 use Rattle.std.specs.Prelude.{ℕ, List, []}
 use Rattle.lapd_frame.specs.Grammar.{parts_of}
-use Rattle.lapd_link_machine.specs.Events as machine
+use Rattle.model_link.specs.Events as machine
 use Rattle.lapd_link.specs.declared.events.Happening.{Happening}
 use Rattle.lapd_link.specs.declared.events.Happening.TheVariants.{Received, Expired, Cleared}
 use Rattle.lapd_link.specs.declared.received.Received as received

@@ -3,7 +3,7 @@ use Rattle.std.specs.Prelude.{◌≡◌, ℕ, ◌≤◌, List, length, Option, S
 use Rattle.std.specs.Borrow.{Bor}
 use Rattle.lapd_store.specs.Store.{Store, contents_of}
 use Rattle.lapd_frame.specs.ShortLists.{listed}
-use Rattle.lapd_link_machine.specs.Told.{Told, Given}
+use Rattle.model_link.specs.Told.{Told, Given}
 use Rattle.lapd_link.specs.declared.outcome.Answer.{Answer}
 use Rattle.lapd_link.specs.declared.outcome.Outcome.{Outcome}
 use Rattle.lapd_link.specs.declared.offers.Offer.{Offer}

@@ -2,12 +2,12 @@
 use Rattle.std.specs.Prelude.{◌≡◌, ℕ, ◌<◌, ◌≤◌, Bool, false, List, length}
 use Rattle.lapd_store.specs.Store.{Store, used_slots}
 use Rattle.lapd_store.specs.Ownership.{Owned, Keeps}
-use Rattle.lapd_link_machine.specs.declared.terms.Terms.{Terms}
-use Rattle.lapd_link_machine.specs.Link as machine
-use Rattle.lapd_link_machine.specs.Events.{Request, Establish, Release, Data, SetBusy, ClearBusy}
-use Rattle.lapd_link_machine.specs.Steps.{Course}
-use Rattle.lapd_link_machine.specs.Machine as answers
-use Rattle.lapd_link_machine.specs.Sound.{IsInRange, IsSound}
+use Rattle.model_link.specs.declared.terms.Terms.{Terms}
+use Rattle.model_link.specs.Link as machine
+use Rattle.model_link.specs.Events.{Request, Establish, Release, Data, SetBusy, ClearBusy}
+use Rattle.model_link.specs.Steps.{Course}
+use Rattle.model_link.specs.Machine as answers
+use Rattle.model_link.specs.Sound.{IsInRange, IsSound}
 use Rattle.lapd_link_steps.specs.Done.{Rests}
 use Rattle.lapd_link.specs.declared.link.Link.{Link}
 use Rattle.lapd_link.specs.declared.outcome.Answer.{Answer}

@@ -11,7 +11,7 @@
 //! - [`two_ends`]: a law of two links that face each other from an establishment on: while both stay in states 7 and 8,
 //!   what each has delivered are the first contents that the other accepted, in order.
 //!
-//! What it is proved to be is the machine of `lapd_link_machine`: `specs/Stands.antt` says what a link stands for. The
+//! What it is proved to be is the machine of `model_link`: `specs/Stands.antt` says what a link stands for. The
 //! contents that layer 3 gives lie in slots of a shelf that other links use too. They are copied there once, and freed
 //! when they are acknowledged or given up. After the start no call takes memory.
 #![tactic(auto)]
@@ -26,7 +26,7 @@ mod received;
 mod requests;
 
 pub use fault::StartFault;
-pub use lapd_link_machine::{LinkTimer, two_ends};
+pub use model_link::{LinkTimer, two_ends};
 pub use link::Link;
 pub use offers::Offer;
 pub use outcome::{Answer, Outcome};

@@ -3,14 +3,14 @@
 ghost use Rattle.std.specs.Prelude.{◌≡◌, List, ◌≤◌, IfOk};
 ghost use Rattle.lapd_store.specs.Store.{Store};
 ghost use Rattle.lapd_store.specs.Ownership.{Owned, Holds};
-ghost use Rattle.lapd_link_machine.specs.declared.states.State.TheVariants.{TeiAssigned};
-ghost use Rattle.lapd_link_machine.specs.Link as machine;
-ghost use Rattle.lapd_link_machine.specs.Link.{address_at};
-ghost use Rattle.lapd_link_machine.specs.Rises.{held};
+ghost use Rattle.model_link.specs.declared.states.State.TheVariants.{TeiAssigned};
+ghost use Rattle.model_link.specs.Link as machine;
+ghost use Rattle.model_link.specs.Link.{address_at};
+ghost use Rattle.model_link.specs.Rises.{held};
 
 use crate::fault::StartFault;
 use lapd_frame::{Address, Service};
-use lapd_link_machine::Terms;
+use model_link::Terms;
 use lapd_link_steps::Entity;
 use lapd_store::SlotQueue;
 use std::alloc::Global;

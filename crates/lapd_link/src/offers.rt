@@ -4,16 +4,16 @@ ghost use Rattle.std.specs.Prelude.{◌≡◌, ◌+◌, ◌*◌, ◌≤◌, List
 ghost use Rattle.lapd_store.specs.Store.{Store, IsUsed};
 ghost use Rattle.lapd_store.specs.Ownership.{Owned};
 ghost use Rattle.lapd_frame.specs.Grammar.{IsFrame};
-ghost use Rattle.lapd_link_machine.specs.Link as machine;
-ghost use Rattle.lapd_link_machine.specs.Link.{frame_of};
-ghost use Rattle.lapd_link_machine.specs.Events as event;
-ghost use Rattle.lapd_link_machine.specs.Machine.{after, given};
-ghost use Rattle.lapd_link_machine.specs.Rises.{RisesByEvent, sent, may_send};
+ghost use Rattle.model_link.specs.Link as machine;
+ghost use Rattle.model_link.specs.Link.{frame_of};
+ghost use Rattle.model_link.specs.Events as event;
+ghost use Rattle.model_link.specs.Machine.{after, given};
+ghost use Rattle.model_link.specs.Rises.{RisesByEvent, sent, may_send};
 
 use crate::link::Link;
 use crate::orders::orders;
 use lapd_frame::{Order, ShortList};
-use lapd_link_machine::ControlFrame;
+use model_link::ControlFrame;
 use lapd_link_steps::Told;
 use lapd_store::Slot;
 

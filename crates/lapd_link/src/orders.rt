@@ -2,10 +2,10 @@
 
 ghost use Rattle.std.specs.Prelude.{◌≡◌, ◌++◌, option_to_list};
 ghost use Rattle.lapd_frame.specs.ShortLists.{listed};
-ghost use Rattle.lapd_link_machine.specs.Told.{timer_at, order_for, orders_for};
+ghost use Rattle.model_link.specs.Told.{timer_at, order_for, orders_for};
 
 use lapd_frame::{Order, ShortList, Timer};
-use lapd_link_machine::{LinkTimer, Terms};
+use model_link::{LinkTimer, Terms};
 use lapd_link_steps::is_the;
 
 // Start where the event started a timer and left it running, Stop where it ran before and does not after; T200 first.

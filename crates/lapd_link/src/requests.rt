@@ -3,17 +3,17 @@
 ghost use Rattle.std.specs.Prelude.{◌≡◌, ℕ, ◌<◌, ◌≤◌, nat_le, false, List, [], length, None, Some, ◌++◌, ◌∷◌, IfOk, IfErr, IfNone, OnOk, OnErr};
 ghost use Rattle.lapd_store.specs.Store.{Store, used_slots, SameLimits};
 ghost use Rattle.lapd_store.specs.Ownership.{Owned, Keeps};
-ghost use Rattle.lapd_link_machine.specs.Link as machine;
-ghost use Rattle.lapd_link_machine.specs.Events as event;
-ghost use Rattle.lapd_link_machine.specs.Steps.{begun};
-ghost use Rattle.lapd_link_machine.specs.Requests as asked;
-ghost use Rattle.lapd_link_machine.specs.Machine.{after, told};
-ghost use Rattle.lapd_link_machine.specs.Rises.{RisesByEvent};
+ghost use Rattle.model_link.specs.Link as machine;
+ghost use Rattle.model_link.specs.Events as event;
+ghost use Rattle.model_link.specs.Steps.{begun};
+ghost use Rattle.model_link.specs.Requests as asked;
+ghost use Rattle.model_link.specs.Machine.{after, told};
+ghost use Rattle.model_link.specs.Rises.{RisesByEvent};
 
 use crate::link::Link;
 use crate::outcome::Answer;
 use lapd_frame::Refusal;
-use lapd_link_machine::State;
+use model_link::State;
 use lapd_link_steps::Told;
 use lapd_store::Shelf;
 

@@ -1,11 +1,11 @@
 -- How the steps of an offer are put together.
 use Rattle.std.proofs.Common.{◌≡◌, ℕ, Bool, true, cond, List, [], length, drop, Option, sym, ap, subst, ◌∙◌}
 use Rattle.circular_buffer.specs.Buffer.{Buffer, buffer}
-use Rattle.lapd_link_machine.specs.declared.frames.ControlFrame.{ControlFrame}
-use Rattle.lapd_link_machine.specs.declared.terms.Terms.{Terms}
-use Rattle.lapd_link_machine.specs.Link.{Link}
-use Rattle.lapd_link_machine.specs.Steps.{Course, Step, depending_on}
-use Rattle.lapd_link_machine.specs.Offers.{offer_among, offer_step}
+use Rattle.model_link.specs.declared.frames.ControlFrame.{ControlFrame}
+use Rattle.model_link.specs.declared.terms.Terms.{Terms}
+use Rattle.model_link.specs.Link.{Link}
+use Rattle.model_link.specs.Steps.{Course, Step, depending_on}
+use Rattle.model_link.specs.Offers.{offer_among, offer_step}
 use Rattle.lapd_link_steps.specs.declared.entity.Entity.{Entity}
 use Rattle.lapd_link_steps.specs.declared.offers.Given.{Given}
 use Rattle.lapd_link_steps.specs.declared.told.Told.{Told}

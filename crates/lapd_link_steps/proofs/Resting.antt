@@ -1,10 +1,10 @@
 -- From one event to the next: what an entity stands for as an event begins, and as it ends.
 use Rattle.std.proofs.Common.{◌≡◌, ℕ, ◌≤◌, Bool, List, [], length, drop, Option, ap, subst, ◌∙◌}
 use Rattle.lapd_frame.specs.declared.notes.Note.{Note}
-use Rattle.lapd_link_machine.specs.declared.timers.LinkTimer.{LinkTimer}
-use Rattle.lapd_link_machine.specs.declared.terms.Terms.{Terms}
-use Rattle.lapd_link_machine.specs.Link.{Link, queue_of}
-use Rattle.lapd_link_machine.specs.Steps.{Course, begun, Step}
+use Rattle.model_link.specs.declared.timers.LinkTimer.{LinkTimer}
+use Rattle.model_link.specs.declared.terms.Terms.{Terms}
+use Rattle.model_link.specs.Link.{Link, queue_of}
+use Rattle.model_link.specs.Steps.{Course, begun, Step}
 use Rattle.lapd_link_steps.specs.declared.entity.Entity.{Entity}
 use Rattle.lapd_link_steps.specs.declared.told.Told.{Told}
 use Rattle.lapd_link_steps.specs.Past.{link_of, if_told, course_of, Fits}

@@ -10,9 +10,9 @@ use Rattle.lapd_frame.specs.declared.controls.Control.{Control}
 use Rattle.lapd_frame.specs.declared.controls.Control.TheVariants as control
 use Rattle.lapd_frame.specs.Grammar.{spelling}
 use Rattle.lapd_frame.specs.Reading.{start_of}
-use Rattle.lapd_link_machine.specs.declared.frames.ControlFrame.{ControlFrame}
-use Rattle.lapd_link_machine.specs.declared.terms.Terms.{Terms}
-use Rattle.lapd_link_machine.specs.Link.{frame_of}
+use Rattle.model_link.specs.declared.frames.ControlFrame.{ControlFrame}
+use Rattle.model_link.specs.declared.terms.Terms.{Terms}
+use Rattle.model_link.specs.Link.{frame_of}
 
 -- a control frame has no information
 octets-of : (t : Terms) (command : Bool) (x : Control) → start_of x ≡ length (spelling Network (frame_of t (record { command = command; control = x })))

@@ -4,14 +4,14 @@ use Rattle.lapd_seq.specs.declared.numbers.Seq.{Seq}
 use Rattle.lapd_seq.specs.Circle.{IsNamed, named}
 use Rattle.lapd_seq.specs.Windows.{Stands}
 use Rattle.lapd_frame.specs.declared.notes.ErrorCode.TheVariants as code
-use Rattle.lapd_link_machine.specs.declared.states.State.{State}
-use Rattle.lapd_link_machine.specs.declared.terms.Terms.{Terms}
-use Rattle.lapd_link_machine.specs.Link.{Link}
-use Rattle.lapd_link_machine.specs.Steps.{Sent, Course, Step, ◌then◌, nothing, depending_on, by_bit, changed}
-use Rattle.lapd_link_machine.specs.Words.{acknowledge, by_number, pending_is, start}
-use Rattle.lapd_link_machine.specs.declared.timers.LinkTimer.TheVariants.{T200}
-use Rattle.lapd_link_machine.specs.Offers as offers
-use Rattle.lapd_link_machine.specs.MultipleFrame.{failed}
+use Rattle.model_link.specs.declared.states.State.{State}
+use Rattle.model_link.specs.declared.terms.Terms.{Terms}
+use Rattle.model_link.specs.Link.{Link}
+use Rattle.model_link.specs.Steps.{Sent, Course, Step, ◌then◌, nothing, depending_on, by_bit, changed}
+use Rattle.model_link.specs.Words.{acknowledge, by_number, pending_is, start}
+use Rattle.model_link.specs.declared.timers.LinkTimer.TheVariants.{T200}
+use Rattle.model_link.specs.Offers as offers
+use Rattle.model_link.specs.MultipleFrame.{failed}
 use Rattle.lapd_link_steps.specs.declared.entity.Entity.{Entity}
 use Rattle.lapd_link_steps.specs.declared.told.Told.{Told}
 use Rattle.lapd_link_steps.specs.Past.{Past, past_of, link_of, course_of, Fits}

@@ -3,9 +3,9 @@ use Rattle.std.specs.Prelude.{◌≡◌, ℕ, List, [], length, Option, Some, No
 use Rattle.lapd_seq.specs.Numbers.{seq}
 use Rattle.lapd_seq.specs.Windows as window
 use Rattle.lapd_frame.specs.ShortLists.{listed}
-use Rattle.lapd_link_machine.specs.declared.terms.Terms.{Terms}
-use Rattle.lapd_link_machine.specs.Link.{Link, fresh}
-use Rattle.lapd_link_machine.specs.Steps.{Sent, Step}
+use Rattle.model_link.specs.declared.terms.Terms.{Terms}
+use Rattle.model_link.specs.Link.{Link, fresh}
+use Rattle.model_link.specs.Steps.{Sent, Step}
 use Rattle.lapd_link_steps.specs.declared.entity.Entity.{Entity}
 use Rattle.lapd_link_steps.specs.Past.{Past, link_of, course_of, Fits}
 use Rattle.lapd_link_steps.specs.Does.{Agrees, Does}

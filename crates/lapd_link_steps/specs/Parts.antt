@@ -1,19 +1,19 @@
 -- Parts of rows that are a method each.
 use Rattle.std.specs.Prelude.{ℕ, Bool, true, false}
 use Rattle.lapd_frame.specs.declared.notes.ErrorCode.{ErrorCode}
-use Rattle.lapd_link_machine.specs.declared.states.State.TheVariants.{Established}
-use Rattle.lapd_link_machine.specs.declared.timers.LinkTimer.{LinkTimer}
-use Rattle.lapd_link_machine.specs.declared.terms.Terms.{Terms}
-use Rattle.lapd_link_machine.specs.Link.{is_asked, has_outstanding}
-use Rattle.lapd_link_machine.specs.Steps.{Step, ◌then◌, nothing, depending_on}
-use Rattle.lapd_link_machine.specs.Words.{peer_busy_is, establish_indication, establish_confirm, discard, send_again_from, start, enter}
-use Rattle.lapd_link_machine.specs.Machine.{malformed_in, told_of_clearing}
-use Rattle.lapd_link_machine.specs.MultipleFrame.{Particulars, answered, is_final}
-use Rattle.lapd_link_machine.specs.Established.{particulars_in_7}
-use Rattle.lapd_link_machine.specs.TimerRecovery.{particulars_in_8}
-use Rattle.lapd_link_machine.specs.Requests.{release_in}
-use Rattle.lapd_link_machine.specs.Offers.{is_awaiting_acknowledgement}
-use Rattle.lapd_link_machine.specs.declared.timers.LinkTimer.TheVariants.{T200}
+use Rattle.model_link.specs.declared.states.State.TheVariants.{Established}
+use Rattle.model_link.specs.declared.timers.LinkTimer.{LinkTimer}
+use Rattle.model_link.specs.declared.terms.Terms.{Terms}
+use Rattle.model_link.specs.Link.{is_asked, has_outstanding}
+use Rattle.model_link.specs.Steps.{Step, ◌then◌, nothing, depending_on}
+use Rattle.model_link.specs.Words.{peer_busy_is, establish_indication, establish_confirm, discard, send_again_from, start, enter}
+use Rattle.model_link.specs.Machine.{malformed_in, told_of_clearing}
+use Rattle.model_link.specs.MultipleFrame.{Particulars, answered, is_final}
+use Rattle.model_link.specs.Established.{particulars_in_7}
+use Rattle.model_link.specs.TimerRecovery.{particulars_in_8}
+use Rattle.model_link.specs.Requests.{release_in}
+use Rattle.model_link.specs.Offers.{is_awaiting_acknowledgement}
+use Rattle.model_link.specs.declared.timers.LinkTimer.TheVariants.{T200}
 use Rattle.lapd_link_steps.specs.declared.states.multiple_frame.Bearer.{Bearer}
 use Rattle.lapd_link_steps.specs.declared.states.multiple_frame.Bearer.TheVariants.{Information, Rr, Rnr, Rej}
 

@@ -1,7 +1,7 @@
 //! The state and the variables of a link.
 
 use circular_buffer::HeapCircularBuffer;
-use lapd_link_machine::{ControlFrame, LinkTimer, State};
+use model_link::{ControlFrame, LinkTimer, State};
 use lapd_seq::{Seq, Window};
 use std::alloc::{AllocError, Global};
 
@@ -80,9 +80,9 @@ impl Entity {
     ghost use Rattle.lapd_frame.specs.declared.addresses.Side.TheVariants.{Network};
     ghost use Rattle.lapd_frame.specs.Grammar.{spelling};
     ghost use Rattle.lapd_frame.specs.Reading.{start_of};
-    ghost use Rattle.lapd_link_machine.specs.declared.frames.ControlFrame.{ControlFrame};
-    ghost use Rattle.lapd_link_machine.specs.declared.terms.Terms.{Terms};
-    ghost use Rattle.lapd_link_machine.specs.Link.{frame_of};
+    ghost use Rattle.model_link.specs.declared.frames.ControlFrame.{ControlFrame};
+    ghost use Rattle.model_link.specs.declared.terms.Terms.{Terms};
+    ghost use Rattle.model_link.specs.Link.{frame_of};
 
     /// The octets of the control frames that wait, of which there are at most 16.
     pub fn held(&self) -> u32

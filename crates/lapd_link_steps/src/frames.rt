@@ -1,14 +1,14 @@
 //! What comes from the terminal.
 
 ghost use Rattle.std.specs.Prelude.{◌≡◌, ℕ, List, length};
-ghost use Rattle.lapd_link_machine.specs.Machine.{frame_step};
+ghost use Rattle.model_link.specs.Machine.{frame_step};
 ghost use Rattle.lapd_link_steps.specs.Does.{Does, HasRoom, Tells};
 ghost use Rattle.lapd_link_steps.specs.Parts.{malformed_by_state};
 
 use crate::entity::Entity;
 use crate::told::Told;
 use lapd_frame::{Control, ErrorCode};
-use lapd_link_machine::{State, Terms};
+use model_link::{State, Terms};
 
 impl Entity {
     /// A frame came with so many octets of information.

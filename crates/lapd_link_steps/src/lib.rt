@@ -7,7 +7,7 @@
 //! - `states`: the rows, by state; `multiple_frame` has those that states 7 and 8 have in common.
 //! - `frames`, `timers`, `requests`, `offers`: the kinds of events, each of which goes to the rows of the state.
 //!
-//! Each method is proved to do its word or row of the machine in `lapd_link_machine`. The contents themselves stay with
+//! Each method is proved to do its word or row of the machine in `model_link`. The contents themselves stay with
 //! the queue's owner: rows say by `Told::released` how many of the oldest are to go, and by `Told::delivered` that the
 //! information of the frame is delivered.
 #![tactic(auto)]

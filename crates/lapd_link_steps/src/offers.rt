@@ -2,10 +2,10 @@
 
 ghost use Rattle.std.specs.Prelude.{◌≡◌, [], ℕ, ◌<◌, ◌≤◌, List, length, Some, IsTrue};
 ghost use Rattle.lapd_seq.specs.Windows.{outstanding_of};
-ghost use Rattle.lapd_link_machine.specs.declared.terms.Terms.{Terms};
-ghost use Rattle.lapd_link_machine.specs.Offers as offers;
+ghost use Rattle.model_link.specs.declared.terms.Terms.{Terms};
+ghost use Rattle.model_link.specs.Offers as offers;
 ghost use Rattle.lapd_link_steps.specs.declared.told.Told.{Told};
-ghost use Rattle.lapd_link_machine.specs.Steps.{changed};
+ghost use Rattle.model_link.specs.Steps.{changed};
 ghost use Rattle.lapd_link_steps.specs.Parts.{awaiting};
 ghost use Rattle.lapd_link_steps.specs.Past.{Past, link_of, Fits};
 ghost use Rattle.lapd_link_steps.specs.Does.{Does, Changes};
@@ -13,7 +13,7 @@ ghost use Rattle.lapd_link_steps.specs.Does.{Does, Changes};
 use crate::entity::Entity;
 use crate::told::Told;
 use lapd_frame::Control;
-use lapd_link_machine::{ControlFrame, LinkTimer, State, Terms};
+use model_link::{ControlFrame, LinkTimer, State, Terms};
 
 /// A frame that is sent.
 #[derive(Clone, Copy, PartialEq, Eq, Debug)]

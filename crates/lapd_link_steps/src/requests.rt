@@ -1,16 +1,16 @@
 //! What layer 3 asks for, and the end of a TEI.
 
 ghost use Rattle.std.specs.Prelude.{ℕ, List};
-ghost use Rattle.lapd_link_machine.specs.Machine.{cleared_step};
-ghost use Rattle.lapd_link_machine.specs.Words.{begin_anew};
-ghost use Rattle.lapd_link_machine.specs.declared.terms.Terms.{Terms};
+ghost use Rattle.model_link.specs.Machine.{cleared_step};
+ghost use Rattle.model_link.specs.Words.{begin_anew};
+ghost use Rattle.model_link.specs.declared.terms.Terms.{Terms};
 ghost use Rattle.lapd_link_steps.specs.Done.{IsFresh};
 ghost use Rattle.lapd_link_steps.specs.Does.{Does, HasRoom, Tells};
 ghost use Rattle.lapd_link_steps.specs.Parts.{released_by_state, told_of_clearing_by_state};
 
 use crate::entity::Entity;
 use crate::told::{ALL, Told};
-use lapd_link_machine::{State, Terms};
+use model_link::{State, Terms};
 use lapd_seq::{Seq, Window};
 
 impl Entity {

@@ -1,13 +1,13 @@
 //! Timers that expire.
 
 ghost use Rattle.std.specs.Prelude.{◌≡◌, ℕ, List};
-ghost use Rattle.lapd_link_machine.specs.Told.{runs};
-ghost use Rattle.lapd_link_machine.specs.Machine.{expired_step, expire_running};
+ghost use Rattle.model_link.specs.Told.{runs};
+ghost use Rattle.model_link.specs.Machine.{expired_step, expire_running};
 ghost use Rattle.lapd_link_steps.specs.Does.{Does, HasRoom, Tells};
 
 use crate::entity::Entity;
 use crate::told::Told;
-use lapd_link_machine::{LinkTimer, State, Terms};
+use model_link::{LinkTimer, State, Terms};
 
 /// Whether the one that runs, or the one that was started, is this timer.
 pub fn is_the(timer: LinkTimer, other: Option<LinkTimer>) -> bool

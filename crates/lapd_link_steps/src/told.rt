@@ -3,7 +3,7 @@
 ghost use Rattle.std.specs.Prelude.{◌≤◌};
 
 use lapd_frame::{Note, ShortList};
-use lapd_link_machine::LinkTimer;
+use model_link::LinkTimer;
 
 // All contents of a queue, as a number of those that are to be released.
 pub(crate) const ALL: u8 = 127;

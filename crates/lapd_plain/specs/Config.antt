@@ -1,5 +1,5 @@
 -- The configuration that C gives.
-use Rattle.lapd_line_machine.specs.declared.config.Config.{Config}
+use Rattle.model_line.specs.declared.config.Config.{Config}
 use Rattle.lapd_plain.specs.declared.config.PlainConfig.{PlainConfig}
 
 abbrev pub config_in : PlainConfig → Config

@@ -3,7 +3,7 @@ use Rattle.std.specs.Prelude.{◌≡◌, ℕ, ◌==◌, Bool, List, [], length, 
 use Rattle.lapd_bits.specs.declared.heard.Cause.{Cause}
 use Rattle.lapd_frame.specs.declared.notes.Note.{Note}
 use Rattle.lapd_frame.specs.declared.timers.Order.{Order}
-use Rattle.lapd_line_machine.specs.Answer.{Told}
+use Rattle.model_line.specs.Answer.{Told}
 use Rattle.lapd_plain.specs.declared.notes.PlainNote.{PlainNote}
 use Rattle.lapd_plain.specs.declared.reports.PlainReport.{PlainReport}
 use Rattle.lapd_plain.specs.declared.timers.PlainOrder.{PlainOrder}

@@ -1,8 +1,8 @@
 -- Requests as numbers.
 use Rattle.std.specs.Prelude.{ℕ, ◌==◌, nat_le, Bool, ◌&&◌, List, [], ◌∷◌, Result, Ok, Err, if◌then◌else◌}
 use Rattle.lapd_frame.specs.declared.services.Service.{Service}
-use Rattle.lapd_line_machine.specs.declared.requests.Request as rust
-use Rattle.lapd_line_machine.specs.Request.{Request, request_of, Establish, Release, Data, Unit, Assign, Remove, Check, SetBusy, ClearBusy}
+use Rattle.model_line.specs.declared.requests.Request as rust
+use Rattle.model_line.specs.Request.{Request, request_of, Establish, Release, Data, Unit, Assign, Remove, Check, SetBusy, ClearBusy}
 use Rattle.lapd_plain.specs.Services.{service_in}
 use Rattle.lapd_plain.specs.Statuses.{wrong_request, wrong_length}
 

@@ -2,8 +2,8 @@
 use Rattle.std.specs.Prelude.{ℕ}
 use Rattle.lapd_frame.specs.declared.refusals.Refusal.{Refusal}
 use Rattle.lapd_frame.specs.declared.refusals.Refusal.TheVariants.{BadTei, NoLink, WrongState, TooLong, QueueFull, PoolFull, TeiTaken, TableFull, CheckRunning, ControlFull}
-use Rattle.lapd_line_machine.specs.declared.config.Field.{Field}
-use Rattle.lapd_line_machine.specs.declared.config.Field.TheVariants.{Lines, Terminals, K, K16, Queue, UnitQueue, Control, Slots, N201, N200}
+use Rattle.model_line.specs.declared.config.Field.{Field}
+use Rattle.model_line.specs.declared.config.Field.TheVariants.{Lines, Terminals, K, K16, Queue, UnitQueue, Control, Slots, N201, N200}
 
 abbrev pub ok : ℕ
 ok = 0

@@ -3,7 +3,7 @@
 ghost use Rattle.std.specs.Prelude.{◌≡◌};
 ghost use Rattle.lapd_plain.specs.Config.{config_in};
 
-use lapd_line_machine::Config;
+use model_line::Config;
 
 /// How large a card is, and the limits of its lines and links: [`Config`] in C.
 #[repr(C)]

@@ -4,7 +4,7 @@ ghost use Rattle.std.specs.Prelude.{◌≡◌};
 ghost use Rattle.lapd_plain.specs.Requests.{request_in, read_of};
 
 use crate::statuses::{WRONG_LENGTH, WRONG_REQUEST, service_in};
-use lapd_line_machine::Request;
+use model_line::Request;
 
 /// The request of a number, with the service by its SAPI.
 ///

@@ -5,7 +5,7 @@ ghost use Rattle.lapd_plain.specs.Statuses.{refusal_status, field_status};
 ghost use Rattle.lapd_plain.specs.Services.{service_in};
 
 use lapd_frame::{Refusal, Service};
-use lapd_line_machine::Field;
+use model_line::Field;
 
 /// The call did what it says.
 pub const OK: u32 = 0;

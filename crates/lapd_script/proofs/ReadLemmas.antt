@@ -4,7 +4,7 @@ use Rattle.std.specs.Prelude.{IsErr, IsErrAnd}
 use Rattle.std.proofs.lemmas.Bool.{false≢true}
 use Rattle.lapd_script.specs.declared.kind.FaultKind.{FaultKind}
 use Rattle.lapd_script.specs.declared.kind.FaultKind.TheVariants.{BadNumberOfWords}
-use Rattle.lapd_line_machine.specs.declared.config.Config.{Config}
+use Rattle.model_line.specs.declared.config.Config.{Config}
 use Rattle.lapd_script.specs.declared.word.Word.{Word}
 use Rattle.lapd_script.specs.declared.word.Word.TheVariants.{Card, Rx, In, Pull, Wait, Stored, Ask}
 use Rattle.lapd_script.specs.Words.{texts}

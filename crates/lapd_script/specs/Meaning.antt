@@ -2,7 +2,7 @@
 use Rattle.std.specs.Prelude.{ℕ, ◌≤◌, List, take, Result, Ok, Err}
 use Rattle.lapd_script.specs.declared.kind.FaultKind.{FaultKind}
 use Rattle.lapd_script.specs.declared.command.Asked.{Asked}
-use Rattle.lapd_line_machine.specs.declared.config.Config.{Config}
+use Rattle.model_line.specs.declared.config.Config.{Config}
 use Rattle.lapd_script.specs.declared.command.Command.{Command}
 use Rattle.lapd_script.specs.declared.command.Command.TheVariants.{Skip, Card, Rx, In, Pull, Wait, Stored, Ask}
 

@@ -2,7 +2,7 @@
 use Rattle.std.specs.Prelude.{ℕ, ◌==◌, if◌then◌else◌, List, [], ◌∷◌, take, drop, Option, Some, None, Result, Ok, Err}
 use Rattle.lapd_script.specs.declared.kind.FaultKind.{FaultKind}
 use Rattle.lapd_script.specs.declared.kind.FaultKind.TheVariants.{UnknownWord, BadNumberOfWords}
-use Rattle.lapd_line_machine.specs.declared.config.Config.{Config}
+use Rattle.model_line.specs.declared.config.Config.{Config}
 use Rattle.lapd_script.specs.declared.word.Word.{Word}
 use Rattle.lapd_script.specs.declared.word.Word.TheVariants.{Card, Rx, In, Pull, Wait, Stored, Ask}
 use Rattle.lapd_script.specs.Words.{words_of, no_words, one_word, two_words, three_words}

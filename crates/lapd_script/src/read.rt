@@ -12,7 +12,7 @@ use crate::kind::FaultKind;
 use crate::number::{number, octet, short};
 use crate::word::Word;
 use crate::words::{none, one, three, two, words_of};
-use lapd_line_machine::Config;
+use model_line::Config;
 
 /// What a line of a script says, without its line feed.
 ///

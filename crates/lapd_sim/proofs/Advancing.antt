@@ -8,7 +8,7 @@ use Rattle.lapd_sim.specs.declared.faults.PlayFault.{PlayFault}
 use Rattle.lapd_sim.specs.declared.faults.PlayFault.TheVariants.{Read}
 use Rattle.lapd_sim.specs.declared.lines.ScriptLines.{ScriptLines}
 use Rattle.lapd_sim.specs.ScriptLines.{held, too_long_after, AreLeft, Takes, Advances, IsReady}
-use Rattle.lapd_sim_machine.specs.Pieces.{pieces_of, line_in}
+use Rattle.model_sim.specs.Pieces.{pieces_of, line_in}
 use Rattle.lapd_sim.proofs.Pieces.{IsOpen, HasPiece, piece_ended, line_ended, piece_last, line_last, piece_long}
 use Rattle.lapd_sim.proofs.Reading.{open_part}
 

@@ -5,7 +5,7 @@ use Rattle.std.specs.Prelude.{IfOk, IfErr, IsTrue, ◌<◌}
 use Rattle.lapd_transcript.specs.Streams.{Taken, IsWritten, IsBroken, Writes, Output, output, IsPut, one_failure_more}
 use Rattle.lapd_transcript.specs.declared.streams.WriteFailed.{WriteFailed}
 use Rattle.lapd_transcript.proofs.Known.{appends_nothing, writes_then, broken_more, puts_nothing, puts_written, puts_unwritten}
-use Rattle.lapd_sim_machine.specs.Script.{transcript}
+use Rattle.model_sim.specs.Script.{transcript}
 use Rattle.lapd_sim.specs.declared.faults.PlayFault.{PlayFault}
 use Rattle.lapd_sim.specs.declared.faults.PlayFault.TheVariants.{Read, Write, Script, OutOfMemory}
 use Rattle.lapd_sim.specs.declared.lines.ScriptLines.{ScriptLines}

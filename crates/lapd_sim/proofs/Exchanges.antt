@@ -2,9 +2,9 @@
 use Rattle.std.proofs.Math.Logic.{∥∥₁_map}
 use Rattle.lapd_card.specs.Card.{Held}
 use Rattle.lapd_card.specs.Stands.{Leads}
-use Rattle.lapd_card_machine.specs.Event.{Event}
-use Rattle.lapd_card_machine.specs.Machine.{after}
-use Rattle.lapd_line_machine.specs.declared.config.Config.{Config}
+use Rattle.model_card.specs.Event.{Event}
+use Rattle.model_card.specs.Machine.{after}
+use Rattle.model_line.specs.declared.config.Config.{Config}
 use Rattle.lapd_sim.specs.Past.{HasPast}
 use Rattle.lapd_store.specs.Store.{Store}
 

@@ -2,14 +2,14 @@
 use Rattle.std.proofs.Common.{◌≡◌, ℕ, List, [], ◌∷◌, ◌++◌, map, Result, Ok, Err, refl, ap, sym, ◌∙◌, subst, append_assoc}
 use Rattle.std.proofs.lemmas.List.{append-nil, map-append}
 use Rattle.std.proofs.lemmas.List.Sums.{fold-append}
-use Rattle.lapd_line_machine.specs.Answer as happening
-use Rattle.lapd_card_machine.specs.Event.{Event, at}
-use Rattle.lapd_card_machine.specs.Machine.{answer}
+use Rattle.model_line.specs.Answer as happening
+use Rattle.model_card.specs.Event.{Event, at}
+use Rattle.model_card.specs.Machine.{answer}
 use Rattle.lapd_transcript.specs.declared.streams.WriteFailed.{WriteFailed}
 use Rattle.lapd_transcript.specs.Streams.{Output, IsPut, IsStuck}
 use Rattle.lapd_transcript.proofs.Known.{puts_then, stuck_more, puts_nothing}
-use Rattle.lapd_sim_machine.specs.Bench.{Bench, happened}
-use Rattle.lapd_sim_machine.specs.Steps.{Scene, with_event, with_events, answer_text, octets_at, after_rx}
+use Rattle.model_sim.specs.Bench.{Bench, happened}
+use Rattle.model_sim.specs.Steps.{Scene, with_event, with_events, answer_text, octets_at, after_rx}
 use Rattle.lapd_sim.specs.Obeyed.{scene, Tells}
 
 -- ---- what is said after what was said before

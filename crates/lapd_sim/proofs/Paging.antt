@@ -4,8 +4,8 @@ use Rattle.std.proofs.lemmas.List.{append-nil}
 use Rattle.std.proofs.lemmas.Grind.{fold-append}
 use Rattle.lapd_transcript.specs.Streams.{Output, IsPut, IsStuck}
 use Rattle.lapd_transcript.proofs.Known.{puts_then, stuck_more}
-use Rattle.lapd_sim_machine.specs.Pieces.{pieces_of}
-use Rattle.lapd_sim_machine.specs.Script.{Played, played, one_more, not_begun, transcript}
+use Rattle.model_sim.specs.Pieces.{pieces_of}
+use Rattle.model_sim.specs.Script.{Played, played, one_more, not_begun, transcript}
 use Rattle.lapd_sim.specs.declared.bench.Bench.{Bench}
 use Rattle.lapd_sim.specs.declared.faults.PlayFault.{PlayFault}
 use Rattle.lapd_sim.specs.declared.faults.PlayFault.TheVariants.{Read, Write, Script, OutOfMemory}

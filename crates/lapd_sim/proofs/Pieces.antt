@@ -3,7 +3,7 @@ use Rattle.std.proofs.Common.{◌≡◌, ◌≢◌, ℕ, ◌+◌, ◌<◌, ◌�
 use Rattle.std.specs.List.{All}
 use Rattle.std.proofs.lemmas.Bool.{ne_eqb}
 use Rattle.std.proofs.lemmas.Bool.Decides.{eqb_tells}
-use Rattle.lapd_sim_machine.specs.Pieces.{pieces_of, with_octet, line_in}
+use Rattle.model_sim.specs.Pieces.{pieces_of, with_octet, line_in}
 
 -- No octet is a line feed.
 abbrev pub IsOpen : List ℕ → Type 0

@@ -11,10 +11,10 @@ use Rattle.lapd_script.specs.Meaning.{Meaning}
 use Rattle.lapd_script.specs.Read.{read}
 use Rattle.lapd_transcript.specs.Streams.{Output, IsPut, IsStuck}
 use Rattle.lapd_transcript.proofs.Known.{puts_then, stuck_more, puts_nothing}
-use Rattle.lapd_sim_machine.specs.Bench as machine
-use Rattle.lapd_sim_machine.specs.Pieces.{pieces_of, line_in}
-use Rattle.lapd_sim_machine.specs.Script.{Played, Fault, played, one_more, not_begun, counted, faulty, is_too_long, after_reading, after_meaning, after_bench, after_scene, after_piece, unless_faulty, transcript, first_fault}
-use Rattle.lapd_sim_machine.specs.Steps.{Scene, with_card, without_card}
+use Rattle.model_sim.specs.Bench as machine
+use Rattle.model_sim.specs.Pieces.{pieces_of, line_in}
+use Rattle.model_sim.specs.Script.{Played, Fault, played, one_more, not_begun, counted, faulty, is_too_long, after_reading, after_meaning, after_bench, after_scene, after_piece, unless_faulty, transcript, first_fault}
+use Rattle.model_sim.specs.Steps.{Scene, with_card, without_card}
 use Rattle.lapd_sim.specs.declared.bench.Bench.{Bench}
 use Rattle.lapd_sim.specs.declared.faults.LineFault.{LineFault}
 use Rattle.lapd_sim.specs.declared.faults.LineFault.TheVariants as line

@@ -1,13 +1,13 @@
 -- What a line has taken, octet by octet.
 use Rattle.std.proofs.Common.{◌≡◌, ℕ, zero, suc, ◌+◌, List, [], ◌∷◌, ◌++◌, refl, sym, ap, ◌∙◌, subst}
 use Rattle.std.proofs.Math.Numerals.{suc-eq-add-one}
-use Rattle.lapd_card_machine.specs.Event.{at}
-use Rattle.lapd_card_machine.specs.Machine.{answer}
-use Rattle.lapd_line_machine.specs.Answer.{pull}
+use Rattle.model_card.specs.Event.{at}
+use Rattle.model_card.specs.Machine.{answer}
+use Rattle.model_line.specs.Answer.{pull}
 use Rattle.lapd_sim.specs.Stands.{Holds}
 use Rattle.lapd_sim.specs.declared.exchange.Exchange.{Exchange}
-use Rattle.lapd_sim_machine.specs.Bench.{Bench, happened}
-use Rattle.lapd_sim_machine.specs.Steps.{Pulls, octet_in, one_pull, pulls}
+use Rattle.model_sim.specs.Bench.{Bench, happened}
+use Rattle.model_sim.specs.Steps.{Pulls, octet_in, one_pull, pulls}
 
 -- one more is the last
 pulls_more : (n line : ℕ) (p : Pulls) → pulls (suc n) line p ≡ one_pull line (pulls n line p)

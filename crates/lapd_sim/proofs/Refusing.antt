@@ -2,14 +2,14 @@
 use Rattle.std.specs.Prelude.{◌≡◌, Result, Ok, Err, fold}
 use Rattle.std.proofs.Common.{subst, ap, ◌∙◌}
 use Rattle.lapd_frame.specs.declared.refusals.Refusal.{Refusal}
-use Rattle.lapd_line_machine.specs.Answer.{refused}
-use Rattle.lapd_line_machine.specs.Laws.{orders_in}
-use Rattle.lapd_card_machine.specs.Event.{Event}
-use Rattle.lapd_card_machine.specs.Machine.{answer}
+use Rattle.model_line.specs.Answer.{refused}
+use Rattle.model_line.specs.Laws.{orders_in}
+use Rattle.model_card.specs.Event.{Event}
+use Rattle.model_card.specs.Machine.{answer}
 use Rattle.lapd_clock.specs.Timers as clocks
 use Rattle.lapd_transcript.specs.Streams.{Output, IsPut, IsStuck, Puts}
-use Rattle.lapd_sim_machine.specs.Bench.{Bench, happened, ordered}
-use Rattle.lapd_sim_machine.specs.Steps.{answer_text, with_event}
+use Rattle.model_sim.specs.Bench.{Bench, happened, ordered}
+use Rattle.model_sim.specs.Steps.{answer_text, with_event}
 use Rattle.lapd_sim.specs.Obeyed.{scene, Tells}
 
 pub refused-told : {E : Type 0} (result : Result Unit E) (old new : Output) (why : Refusal) (m : Bench) (e : Event) (stands : Bench → Type 0)

@@ -6,15 +6,15 @@ use Rattle.lapd_script.specs.Meaning as meaning
 use Rattle.lapd_script.specs.declared.kind.FaultKind.TheVariants.{BadLine, BadFrame}
 use Rattle.std.proofs.lemmas.List.{append-nil, map-append, take_more, take-append-drop}
 use Rattle.std.proofs.lemmas.Grind.{fold-append}
-use Rattle.lapd_line_machine.specs.Answer.{octet}
-use Rattle.lapd_card_machine.specs.Event.{Event, at}
-use Rattle.lapd_card_machine.specs.Machine.{answer}
+use Rattle.model_line.specs.Answer.{octet}
+use Rattle.model_card.specs.Event.{Event, at}
+use Rattle.model_card.specs.Machine.{answer}
 use Rattle.lapd_transcript.specs.Streams.{Output, IsPut, IsStuck}
 use Rattle.lapd_transcript.proofs.Known.{stuck_more}
-use Rattle.lapd_sim_machine.specs.Bench.{Bench}
+use Rattle.model_sim.specs.Bench.{Bench}
 use Rattle.lapd_clock.specs.Timers.{due_at}
 use Rattle.lapd_script.specs.declared.kind.FaultKind.{FaultKind}
-use Rattle.lapd_sim_machine.specs.Steps.{Scene, with_event, with_events, octets_at, after_rx, at_line, answer_text, expiries, expired, Pulls, pulls, one_pull, after_pull, after_in, with_card}
+use Rattle.model_sim.specs.Steps.{Scene, with_event, with_events, octets_at, after_rx, at_line, answer_text, expiries, expired, Pulls, pulls, one_pull, after_pull, after_in, with_card}
 use Rattle.lapd_sim.specs.declared.faults.LineFault.{LineFault}
 use Rattle.lapd_sim.specs.declared.faults.LineFault.TheVariants.{Faulty, Write, OutOfMemory}
 use Rattle.lapd_sim.specs.Obeyed.{Obeys, scene}

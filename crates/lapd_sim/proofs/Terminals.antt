@@ -10,12 +10,12 @@ use Rattle.lapd_bits.specs.Sent.{Item, idle, frame, item_text, line_text}
 use Rattle.lapd_bits.specs.StuffingLaws.{AreOctets}
 use Rattle.lapd_bits.proofs.BitLemmas.{bits-append, length-bits, number_of-low_bits}
 use Rattle.lapd_bits.proofs.FramerStands.{line_text-push}
-use Rattle.lapd_line_machine.specs.Answer as happening
-use Rattle.lapd_card_machine.specs.Event.{at}
+use Rattle.model_line.specs.Answer as happening
+use Rattle.model_card.specs.Event.{at}
 use Rattle.lapd_transcript.specs.declared.streams.WriteFailed.{WriteFailed}
 use Rattle.lapd_transcript.specs.Streams.{Output, IsStuck}
-use Rattle.lapd_sim_machine.specs.Bench.{Bench, Terminal, with_frame, sending, octets_sent, after_sending}
-use Rattle.lapd_sim_machine.specs.Steps.{with_event, after_rx}
+use Rattle.model_sim.specs.Bench.{Bench, Terminal, with_frame, sending, octets_sent, after_sending}
+use Rattle.model_sim.specs.Steps.{with_event, after_rx}
 use Rattle.lapd_sim.specs.declared.terminal.Terminal as rust
 use Rattle.lapd_sim.specs.Gives.{Gives}
 use Rattle.lapd_sim.specs.Obeyed.{scene, Tells}

@@ -2,13 +2,13 @@
 use Rattle.std.proofs.Common.{◌≡◌, ℕ, ◌<◌, List, [], ◌++◌, Some, None, Ok, Err, refl, sym, ap, ◌∙◌, subst}
 use Rattle.std.proofs.Math.Logic.{∥∥₁_elim}
 use Rattle.std.proofs.Props.{props}
-use Rattle.lapd_card_machine.specs.Event.{at}
-use Rattle.lapd_card_machine.specs.Machine.{answer}
+use Rattle.model_card.specs.Event.{at}
+use Rattle.model_card.specs.Machine.{answer}
 use Rattle.lapd_clock.specs.Timer.{Timer}
 use Rattle.lapd_clock.specs.Timers.{due_at, time_until}
-use Rattle.lapd_line_machine.specs.Answer as happening
-use Rattle.lapd_sim_machine.specs.Bench.{Bench, happened}
-use Rattle.lapd_sim_machine.specs.Steps.{Scene, answer_text, with_event, at_expiry, expired, until}
+use Rattle.model_line.specs.Answer as happening
+use Rattle.model_sim.specs.Bench.{Bench, happened}
+use Rattle.model_sim.specs.Steps.{Scene, answer_text, with_event, at_expiry, expired, until}
 use Rattle.lapd_sim.specs.Obeyed.{scene, Tells}
 use Rattle.lapd_sim.specs.Stands.{as_store, Holds}
 use Rattle.lapd_sim.specs.declared.exchange.Exchange.{Exchange}
@@ -18,7 +18,7 @@ use Rattle.lapd_store.specs.Store.{Store}
 use Rattle.lapd_transcript.proofs.Known.{puts_nothing, puts_then, stuck_more}
 use Rattle.lapd_transcript.specs.Streams.{Output, IsPut, IsStuck}
 use Rattle.lapd_transcript.specs.declared.streams.WriteFailed.{WriteFailed}
-use Rattle.lapd_sim_machine.proofs.Expiries.{expiry_lowers, until-expired, until-over, text_grows}
+use Rattle.model_sim.proofs.Expiries.{expiry_lowers, until-expired, until-over, text_grows}
 
 -- From a bench, some timers have expired, and what they say has been written; what falls due until the end is the same.
 pub record Waits (e : Exchange) (before after : Output) (end : ℕ) (m : Bench) : Type 0 where

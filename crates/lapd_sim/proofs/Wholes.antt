@@ -5,7 +5,7 @@ use Rattle.std.proofs.lemmas.Bool.{true≢false, ne_eqb}
 use Rattle.std.proofs.lemmas.List.{append-nil}
 use Rattle.std.proofs.lemmas.List.Elements.{filter-append, All-head, All-tail, All-weaker}
 use Rattle.std.proofs.lemmas.List.Folds.{list_any_none}
-use Rattle.lapd_sim_machine.specs.Pieces.{pieces_of, with_octet}
+use Rattle.model_sim.specs.Pieces.{pieces_of, with_octet}
 use Rattle.lapd_sim.specs.Plays.{is_whole, whole_lines}
 
 abbrev is_nil : {X : Type 0} → List X → Bool

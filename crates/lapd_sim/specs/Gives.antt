@@ -5,8 +5,8 @@ use Rattle.lapd_bits.specs.Sent.{Item}
 use Rattle.lapd_bits.specs.StuffingLaws.{AreOctets}
 use Rattle.lapd_transcript.specs.declared.streams.WriteFailed.{WriteFailed}
 use Rattle.lapd_transcript.specs.Streams.{Output}
-use Rattle.lapd_sim_machine.specs.Bench.{Bench}
-use Rattle.lapd_sim_machine.specs.Steps.{after_rx}
+use Rattle.model_sim.specs.Bench.{Bench}
+use Rattle.model_sim.specs.Steps.{after_rx}
 use Rattle.lapd_sim.specs.Obeyed.{scene, Tells}
 
 -- Where a write failed, the last of the octets may not have been told.

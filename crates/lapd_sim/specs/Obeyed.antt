@@ -3,11 +3,11 @@ use Rattle.std.specs.Prelude.{◌≡◌, ℕ, List, [], Option, None, Some, Resu
 use Rattle.lapd_script.specs.declared.kind.FaultKind.{FaultKind}
 use Rattle.lapd_script.specs.Meaning.{Meaning}
 use Rattle.lapd_script.specs.Read.{read}
-use Rattle.lapd_line_machine.specs.declared.config.Config.{Config}
-use Rattle.lapd_line_machine.specs.Config.{first_fault}
+use Rattle.model_line.specs.declared.config.Config.{Config}
+use Rattle.model_line.specs.Config.{first_fault}
 use Rattle.lapd_transcript.specs.Streams.{Output, IsPut, IsStuck}
-use Rattle.lapd_sim_machine.specs.Bench.{Bench, begun}
-use Rattle.lapd_sim_machine.specs.Steps.{Scene, begun_with, with_card, without_card}
+use Rattle.model_sim.specs.Bench.{Bench, begun}
+use Rattle.model_sim.specs.Steps.{Scene, begun_with, with_card, without_card}
 use Rattle.lapd_sim.specs.declared.bench.Bench as rust
 use Rattle.lapd_sim.specs.declared.faults.LineFault.{LineFault}
 use Rattle.lapd_sim.specs.declared.faults.LineFault.TheVariants.{Faulty, Write, OutOfMemory}

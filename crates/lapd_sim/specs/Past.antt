@@ -2,8 +2,8 @@
 use Rattle.std.specs.Prelude.{◌≡◌}
 use Rattle.lapd_card.specs.Card.{Held}
 use Rattle.lapd_card.specs.Stands.{Stands}
-use Rattle.lapd_card_machine.specs.Card as machine
-use Rattle.lapd_line_machine.specs.declared.config.Config.{Config}
+use Rattle.model_card.specs.Card as machine
+use Rattle.model_line.specs.declared.config.Config.{Config}
 use Rattle.lapd_store.specs.Store.{Store}
 
 -- There is a card of the machine, with this configuration, for which the card stands.

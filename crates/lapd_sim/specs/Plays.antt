@@ -2,9 +2,9 @@
 use Rattle.std.specs.Prelude.{◌≡◌, ℕ, ◌<◌, ◌==◌, ◌⊎◌, List, [], ◌∷◌, ◌++◌, length, take, filter, Bool, Option, None, Some, Result, Ok, Err}
 use Rattle.std.specs.List.{list_any}
 use Rattle.lapd_transcript.specs.Streams.{Taken, IsWritten, IsBroken, Output, IsPut, IsStuck}
-use Rattle.lapd_sim_machine.specs.Bench.{Bench}
-use Rattle.lapd_sim_machine.specs.Pieces.{pieces_of}
-use Rattle.lapd_sim_machine.specs.Script.{played, transcript, first_fault}
+use Rattle.model_sim.specs.Bench.{Bench}
+use Rattle.model_sim.specs.Pieces.{pieces_of}
+use Rattle.model_sim.specs.Script.{played, transcript, first_fault}
 use Rattle.lapd_sim.specs.declared.faults.PlayFault.{PlayFault}
 use Rattle.lapd_sim.specs.declared.faults.PlayFault.TheVariants.{Read, Write, Script, OutOfMemory}
 

@@ -2,7 +2,7 @@
 use Rattle.std.specs.Prelude.{◌≡◌, ◌≢◌, ℕ, ◌+◌, ◌-◌, ◌^◌, ◌<◌, ◌≤◌, true, false, ◌==◌, if◌then◌else◌, List, [], ◌∷◌, ◌++◌, length, take, drop, All, Option, Some, Result, Ok, Err, Bool}
 use Rattle.std.specs.List.{list_any}
 use Rattle.lapd_script.specs.declared.kind.FaultKind.TheVariants.{TooLong}
-use Rattle.lapd_sim_machine.specs.Pieces.{pieces_of, line_in}
+use Rattle.model_sim.specs.Pieces.{pieces_of, line_in}
 use Rattle.lapd_sim.specs.declared.faults.PlayFault.{PlayFault}
 use Rattle.lapd_sim.specs.declared.faults.PlayFault.TheVariants.{Read, Write, Script, OutOfMemory}
 use Rattle.lapd_sim.specs.declared.lines.ScriptLines.{ScriptLines}

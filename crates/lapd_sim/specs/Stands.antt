@@ -5,7 +5,7 @@ use Rattle.lapd_bits.specs.Deframer as deframing
 use Rattle.lapd_bits.specs.declared.deframer.Deframer.{Deframer}
 use Rattle.lapd_card.specs.Stands as card
 use Rattle.lapd_store.specs.Store.{Store}
-use Rattle.lapd_sim_machine.specs.Bench as machine
+use Rattle.model_sim.specs.Bench as machine
 use Rattle.lapd_sim.specs.declared.bench.Bench.{Bench}
 use Rattle.lapd_sim.specs.declared.exchange.Exchange.{Exchange}
 use Rattle.lapd_sim.specs.declared.terminal.Terminal.{Terminal}

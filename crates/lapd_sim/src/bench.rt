@@ -3,8 +3,8 @@
 ghost use Rattle.std.specs.Prelude.{◌≡◌, ◌<◌, ◌≤◌, length, vec_len, MatchResult};
 ghost use Rattle.lapd_script.specs.Meaning as meaning;
 ghost use Rattle.lapd_script.specs.declared.kind.FaultKind.TheVariants.{BadLine};
-ghost use Rattle.lapd_sim_machine.specs.Bench as machine;
-ghost use Rattle.lapd_sim_machine.specs.Steps.{with_card};
+ghost use Rattle.model_sim.specs.Bench as machine;
+ghost use Rattle.model_sim.specs.Steps.{with_card};
 ghost use Rattle.lapd_transcript.specs.Streams.{output};
 
 use crate::exchange::Exchange;

@@ -3,16 +3,16 @@
 ghost use Rattle.std.specs.Prelude.{◌≡◌, ◌<◌, ◌^◌, fold, Ok, IfOk, IfSome, IfNone};
 ghost use Rattle.lapd_card.specs.Card.{line_count};
 ghost use Rattle.lapd_card.specs.Reply.{answer_of_result};
-ghost use Rattle.lapd_card_machine.specs.Event.{at};
-ghost use Rattle.lapd_card_machine.specs.Machine.{answer};
+ghost use Rattle.model_card.specs.Event.{at};
+ghost use Rattle.model_card.specs.Machine.{answer};
 ghost use Rattle.lapd_clock.specs.Timers as clocks;
-ghost use Rattle.lapd_line_machine.specs.Answer as happening;
-ghost use Rattle.lapd_line_machine.specs.Laws.{orders_in};
-ghost use Rattle.lapd_line_machine.specs.Request.{request_of};
-ghost use Rattle.lapd_line_machine.specs.Sound.{IsInRange};
+ghost use Rattle.model_line.specs.Answer as happening;
+ghost use Rattle.model_line.specs.Laws.{orders_in};
+ghost use Rattle.model_line.specs.Request.{request_of};
+ghost use Rattle.model_line.specs.Sound.{IsInRange};
 ghost use Rattle.lapd_sim.specs.Past.{HasPast};
-ghost use Rattle.lapd_sim_machine.specs.Bench as machine;
-ghost use Rattle.lapd_sim_machine.specs.Steps.{answer_text, with_event, octet_in, at_expiry, until, in_time, after_stored};
+ghost use Rattle.model_sim.specs.Bench as machine;
+ghost use Rattle.model_sim.specs.Steps.{answer_text, with_event, octet_in, at_expiry, until, in_time, after_stored};
 ghost use Rattle.lapd_transcript.specs.Streams.{Puts, output};
 
 use crate::faults::LineFault;

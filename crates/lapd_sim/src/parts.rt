@@ -1,8 +1,8 @@
 //! What a bench begins with, and what the words of a script ask of it.
 
 ghost use Rattle.std.specs.Prelude.{◌≡◌, [], vec_len, replicate, IfOk};
-ghost use Rattle.lapd_line_machine.specs.Request as asking;
-ghost use Rattle.lapd_sim_machine.specs.Steps.{request_for};
+ghost use Rattle.model_line.specs.Request as asking;
+ghost use Rattle.model_sim.specs.Steps.{request_for};
 ghost use Rattle.lapd_sim.specs.Stands.{Each, Hears, Sends};
 
 use crate::terminal::{LONGEST_INFORMATION, Terminal};

@@ -2,14 +2,14 @@
 
 ghost use Rattle.std.specs.Prelude.{◌≡◌, ℕ, List, true, length};
 ghost use Rattle.lapd_frame.specs.declared.controls.Control.TheVariants.{Ua, Dm};
-ghost use Rattle.lapd_link_machine.specs.AwaitingEstablishment as row;
+ghost use Rattle.model_link.specs.AwaitingEstablishment as row;
 ghost use Rattle.lapd_link_steps.specs.Does.{Does, HasRoom, Tells};
 ghost use Rattle.lapd_link_steps.specs.Parts.{told_of_establishment};
 
 use crate::entity::Entity;
 use crate::told::Told;
 use lapd_frame::{Control, ErrorCode};
-use lapd_link_machine::{LinkTimer, State, Terms};
+use model_link::{LinkTimer, State, Terms};
 
 impl Entity {
     // A frame with so many octets of information.

@@ -2,13 +2,13 @@
 
 ghost use Rattle.std.specs.Prelude.{◌≡◌, ℕ, List, true, length};
 ghost use Rattle.lapd_frame.specs.declared.controls.Control.TheVariants.{Ua};
-ghost use Rattle.lapd_link_machine.specs.AwaitingRelease as row;
+ghost use Rattle.model_link.specs.AwaitingRelease as row;
 ghost use Rattle.lapd_link_steps.specs.Does.{Does, HasRoom, Tells};
 
 use crate::entity::Entity;
 use crate::told::Told;
 use lapd_frame::{Control, ErrorCode};
-use lapd_link_machine::{LinkTimer, State, Terms};
+use model_link::{LinkTimer, State, Terms};
 
 impl Entity {
     // A frame with so many octets of information.

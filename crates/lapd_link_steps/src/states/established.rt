@@ -3,8 +3,8 @@
 ghost use Rattle.std.specs.Prelude.{ℕ, Bool, List};
 ghost use Rattle.lapd_seq.specs.Circle.{IsValid};
 ghost use Rattle.lapd_seq.specs.Windows.{va_of, vs_of};
-ghost use Rattle.lapd_link_machine.specs.declared.terms.Terms.{Terms};
-ghost use Rattle.lapd_link_machine.specs.Established as row;
+ghost use Rattle.model_link.specs.declared.terms.Terms.{Terms};
+ghost use Rattle.model_link.specs.Established as row;
 ghost use Rattle.lapd_link_steps.specs.declared.entity.Entity.{Entity};
 ghost use Rattle.lapd_link_steps.specs.Does.{Does, DoesBy, HasRoom, Tells};
 ghost use Rattle.lapd_link_steps.specs.Parts.{effect_of};
@@ -13,7 +13,7 @@ use crate::entity::Entity;
 use crate::states::multiple_frame::Bearer;
 use crate::told::Told;
 use lapd_frame::ErrorCode;
-use lapd_link_machine::{LinkTimer, State, Terms};
+use model_link::{LinkTimer, State, Terms};
 use lapd_seq::Seq;
 
 impl Entity {

@@ -1,15 +1,15 @@
 //! What states 7 and 8 have in common: multiple-frame operation.
 
 ghost use Rattle.std.specs.Prelude.{◌≡◌, ℕ, List, length};
-ghost use Rattle.lapd_link_machine.specs.Words.{by_number};
-ghost use Rattle.lapd_link_machine.specs.MultipleFrame as row;
+ghost use Rattle.model_link.specs.Words.{by_number};
+ghost use Rattle.model_link.specs.MultipleFrame as row;
 ghost use Rattle.lapd_link_steps.specs.Does.{Does, Adds, HasRoom, Tells};
 ghost use Rattle.lapd_link_steps.specs.Parts.{particulars, effect_of, supervised, renewed};
 
 use crate::entity::Entity;
 use crate::told::Told;
 use lapd_frame::{Control, ErrorCode};
-use lapd_link_machine::{LinkTimer, State, Terms};
+use model_link::{LinkTimer, State, Terms};
 use lapd_seq::Seq;
 
 impl Told {

@@ -1,11 +1,11 @@
 //! Flags, RC and the state.
 
 ghost use Rattle.std.specs.Prelude.{◌≡◌, ◌<◌};
-ghost use Rattle.lapd_link_machine.specs.Words as word;
+ghost use Rattle.model_link.specs.Words as word;
 ghost use Rattle.lapd_link_steps.specs.Does.{Changes};
 
 use crate::entity::Entity;
-use lapd_link_machine::State;
+use model_link::State;
 
 impl Entity {
     pub(crate) fn peer_busy_is(&mut self, on: bool)

@@ -2,14 +2,14 @@
 
 ghost use Rattle.std.specs.Prelude.{◌≡◌, ℕ, List};
 ghost use Rattle.lapd_seq.specs.Numbers.{seq};
-ghost use Rattle.lapd_link_machine.specs.Words as word;
+ghost use Rattle.model_link.specs.Words as word;
 ghost use Rattle.lapd_link_steps.specs.Past.{Past, link_of};
 ghost use Rattle.lapd_link_steps.specs.Does.{Does, HasRoom, Tells};
 
 use crate::entity::Entity;
 use crate::told::Told;
 use lapd_frame::Control;
-use lapd_link_machine::{ControlFrame, LinkTimer, State, Terms};
+use model_link::{ControlFrame, LinkTimer, State, Terms};
 
 impl Entity {
     // Puts a frame into the ring. Where the ring is full, it is lost.

@@ -1,13 +1,13 @@
 //! What is told.
 
 ghost use Rattle.std.specs.Prelude.{◌≡◌, ℕ, List, length};
-ghost use Rattle.lapd_link_machine.specs.Words as word;
+ghost use Rattle.model_link.specs.Words as word;
 ghost use Rattle.lapd_link_steps.specs.declared.entity.Entity.{Entity};
 ghost use Rattle.lapd_link_steps.specs.Does.{Does, Adds, HasRoom, Tells};
 
 use crate::told::Told;
 use lapd_frame::{ErrorCode, Note};
-use lapd_link_machine::Terms;
+use model_link::Terms;
 
 impl Told {
     pub(crate) fn note(&mut self, note: Note)

@@ -3,8 +3,8 @@
 ghost use Rattle.std.specs.Prelude.{◌≡◌, ℕ, List, ◌↔◌, IsTrue, false, MatchOption};
 ghost use Rattle.lapd_seq.specs.Circle.{IsNamed, IsValid, named};
 ghost use Rattle.lapd_seq.specs.Windows.{va_of, vs_of, Stands};
-ghost use Rattle.lapd_link_machine.specs.declared.terms.Terms.{Terms};
-ghost use Rattle.lapd_link_machine.specs.Words as word;
+ghost use Rattle.model_link.specs.declared.terms.Terms.{Terms};
+ghost use Rattle.model_link.specs.Words as word;
 ghost use Rattle.lapd_link_steps.specs.Does.{Does, DoesBy, Changes, Tells};
 
 use crate::entity::Entity;

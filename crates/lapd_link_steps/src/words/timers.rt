@@ -1,13 +1,13 @@
 //! Timers, of which one at most runs.
 
 ghost use Rattle.std.specs.Prelude.{ℕ, List};
-ghost use Rattle.lapd_link_machine.specs.declared.terms.Terms.{Terms};
-ghost use Rattle.lapd_link_machine.specs.Words as word;
+ghost use Rattle.model_link.specs.declared.terms.Terms.{Terms};
+ghost use Rattle.model_link.specs.Words as word;
 ghost use Rattle.lapd_link_steps.specs.Does.{Does, Tells};
 
 use crate::entity::Entity;
 use crate::told::Told;
-use lapd_link_machine::LinkTimer;
+use model_link::LinkTimer;
 
 impl Entity {
     // Starts a timer, or starts it anew; the other is stopped.

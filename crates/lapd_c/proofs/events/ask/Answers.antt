@@ -1,10 +1,10 @@
 use Rattle.std.proofs.Common.{refl, sym, ap, subst, ◌∙◌}
 use Rattle.std.proofs.lemmas.Option.{none-some}
-use Rattle.lapd_line_machine.specs.Answer as happening
-use Rattle.lapd_line_machine.specs.Request.{request_of}
+use Rattle.model_line.specs.Answer as happening
+use Rattle.model_line.specs.Request.{request_of}
 use Rattle.lapd_plain.specs.Requests.{read_of}
 use Rattle.lapd_card.specs.Reply.{answer_of_result}
-use Rattle.lapd_card_machine.specs.Event.{at}
+use Rattle.model_card.specs.Event.{at}
 use Rattle.lapd_c.specs.Cards.{CardStands}
 use Rattle.lapd_c.proofs.Served.{if_ok, if_some, shown}
 use Rattle.lapd_c.proofs.events.ask.Goals as goal

@@ -1,6 +1,6 @@
 use Rattle.std.proofs.Common.{refl, sym, ◌∙◌}
-use Rattle.lapd_line_machine.specs.Answer as happening
-use Rattle.lapd_card_machine.specs.Event.{at}
+use Rattle.model_line.specs.Answer as happening
+use Rattle.model_card.specs.Event.{at}
 use Rattle.lapd_c.proofs.Served.{if_ok, shown}
 use Rattle.lapd_c.proofs.events.expire_timer.Goals as goal
 

@@ -1,7 +1,7 @@
 -- So many steps were made, and none had anything to tell.
 use Rattle.std.proofs.Common.{◌≡◌, ℕ, ◌+◌, ◌<◌, ◌≤◌, length}
 use Rattle.lapd_card.specs.Card.{line_count}
-use Rattle.lapd_card_machine.specs.Card.{Card}
+use Rattle.model_card.specs.Card.{Card}
 use Rattle.lapd_c.specs.Cards.{CardStands}
 use Rattle.lapd_c.proofs.Exchanging.{Through}
 use Rattle.lapd_c.proofs.exchange.exchange.Given as goal

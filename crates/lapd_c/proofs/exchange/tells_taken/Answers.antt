@@ -1,6 +1,6 @@
 use Rattle.std.proofs.Common.{not, ap, subst, ◌∙◌}
-use Rattle.lapd_line_machine.specs.Answer as happening
-use Rattle.lapd_card_machine.specs.Event.{at}
+use Rattle.model_line.specs.Answer as happening
+use Rattle.model_card.specs.Event.{at}
 use Rattle.lapd_c.specs.Cards.{ShowsAnswer}
 use Rattle.lapd_c.specs.Exchange.{is_quiet}
 use Rattle.lapd_c.proofs.Served.{small}

@@ -1,6 +1,6 @@
 use Rattle.std.proofs.Common.{◌≡◌, ◌≤◌, ap, arith}
-use Rattle.lapd_line_machine.specs.declared.config.Config.{Config}
-use Rattle.lapd_line_machine.proofs.Ranges.{ranges_of}
+use Rattle.model_line.specs.declared.config.Config.{Config}
+use Rattle.model_line.proofs.Ranges.{ranges_of}
 use Rattle.lapd_c.proofs.questions.line_count.Goals as goal
 
 pub returns : goal.returns

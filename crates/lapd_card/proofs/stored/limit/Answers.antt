@@ -1,5 +1,5 @@
 use Rattle.std.proofs.Common.{◌≡◌, ◌+◌, ◌*◌, sym, subst, Fits, w32}
-use Rattle.lapd_card_machine.specs.Stored.{limit}
+use Rattle.model_card.specs.Stored.{limit}
 use Rattle.lapd_card.proofs.Amounts.{limit_small, fits_32}
 use Rattle.lapd_card.proofs.stored.limit.Goals as goal
 

@@ -1,5 +1,5 @@
 use Rattle.std.proofs.Common.{[], refl, sym, subst}
-use Rattle.lapd_link_machine.specs.Machine.{received_step}
+use Rattle.model_link.specs.Machine.{received_step}
 use Rattle.lapd_link_steps.specs.Does.{Does}
 use Rattle.lapd_link.specs.declared.received.Received.{Received}
 use Rattle.lapd_link.specs.Events.{info_of, received_of}

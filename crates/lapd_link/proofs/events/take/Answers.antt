@@ -1,5 +1,5 @@
 use Rattle.std.proofs.Common.{[], sym, subst}
-use Rattle.lapd_link_machine.specs.Machine.{step}
+use Rattle.model_link.specs.Machine.{step}
 use Rattle.lapd_link_steps.specs.Done.{Took}
 use Rattle.lapd_link.specs.declared.events.Happening.{Happening}
 use Rattle.lapd_link.specs.Events.{info_at, event_of}

@@ -1,5 +1,5 @@
 use Rattle.std.proofs.Common.{◌≡◌, fold, take}
-use Rattle.lapd_sim_machine.specs.Bench.{ordered}
+use Rattle.model_sim.specs.Bench.{ordered}
 use Rattle.lapd_sim.proofs.exchange.order.Given as goal
 
 -- the orders so far have been applied

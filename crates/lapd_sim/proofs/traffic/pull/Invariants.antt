@@ -1,7 +1,7 @@
 use Rattle.std.proofs.Common.{◌≡◌, take}
 use Rattle.lapd_sim.specs.Stands.{Holds}
 use Rattle.lapd_sim.proofs.Pulls.{Pulled}
-use Rattle.lapd_sim_machine.specs.Bench as machine
+use Rattle.model_sim.specs.Bench as machine
 use Rattle.lapd_sim.proofs.traffic.pull.Given as goal
 
 -- the lines are the same, and the places so far have been filled

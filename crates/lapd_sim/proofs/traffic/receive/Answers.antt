@@ -1,9 +1,9 @@
 use Rattle.std.proofs.Common.{◌+◌, Ok, Err, sym, subst, take, take_all, get_or, ◌∙◌}
-use Rattle.lapd_line_machine.specs.Answer.{octet}
-use Rattle.lapd_card_machine.specs.Event.{at}
+use Rattle.model_line.specs.Answer.{octet}
+use Rattle.model_card.specs.Event.{at}
 use Rattle.lapd_transcript.specs.Streams.{IsPut, IsStuck, output}
 use Rattle.lapd_transcript.proofs.Known.{puts_then}
-use Rattle.lapd_sim_machine.specs.Steps.{Scene, after_rx, with_event}
+use Rattle.model_sim.specs.Steps.{Scene, after_rx, with_event}
 use Rattle.lapd_sim.specs.Obeyed.{scene}
 use Rattle.lapd_sim.specs.Stands.{Holds}
 use Rattle.lapd_sim.proofs.Scenes.{rx_more, broken_rx}

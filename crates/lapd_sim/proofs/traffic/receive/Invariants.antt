@@ -1,6 +1,6 @@
 use Rattle.std.proofs.Common.{◌≡◌, Ok, take}
-use Rattle.lapd_sim_machine.specs.Bench as machine
-use Rattle.lapd_sim_machine.specs.Steps.{after_rx}
+use Rattle.model_sim.specs.Bench as machine
+use Rattle.model_sim.specs.Steps.{after_rx}
 use Rattle.lapd_transcript.specs.declared.streams.WriteFailed.{WriteFailed}
 use Rattle.lapd_sim.specs.Obeyed.{scene, Tells}
 use Rattle.lapd_sim.specs.Stands.{Holds}

@@ -1,5 +1,5 @@
 use Rattle.std.proofs.Common.{◌++◌, length, Ok, Err}
-use Rattle.lapd_sim_machine.specs.Bench.{with_frame}
+use Rattle.model_sim.specs.Bench.{with_frame}
 use Rattle.lapd_sim.specs.Stands.{Holds}
 use Rattle.lapd_sim.proofs.Terminals.{items_tail, frame_tail, gives_loaded, gives_whole, gives_rest, none_left, rest_stays, sent_told, sent_after, sent_broken, on_ok}
 use Rattle.lapd_transcript.specs.Streams.{output}

@@ -1,37 +1,37 @@
 use Rattle.std.proofs.Common.{sym, ◌∙◌}
 use Rattle.std.proofs.lemmas.Option.{slice_get-get_or}
-use Rattle.lapd_card_machine.specs.declared.events.Event.TheVariants.{Octet}
+use Rattle.model_card.specs.declared.events.Event.TheVariants.{Octet}
 use Rattle.lapd_card.proofs.Taken.{ran-more, taken-more, missed-at, at_ok, at_err}
-use Rattle.lapd_card_machine.specs.ByEvent.{ArePriced}
-use Rattle.lapd_card_machine.specs.Drops.{AreDropsWithoutCost, AreDropsWithoutEffect}
-use Rattle.lapd_card_machine.proofs.Amortised.{frames_amortised}
-use Rattle.lapd_card_machine.proofs.Fold.{run_is_moments}
-use Rattle.lapd_card_machine.proofs.Isolated.{lines_isolated}
-use Rattle.lapd_card_machine.proofs.Linear.{frames_linear}
-use Rattle.lapd_card_machine.proofs.NeverFull.{pool_never_full}
-use Rattle.lapd_card_machine.proofs.Numbering.{deliveries_numbered}
-use Rattle.lapd_card_machine.proofs.Stored.{stored_within_limit}
-use Rattle.lapd_card_machine.proofs.TextGoesOn.{text_goes_on}
-use Rattle.lapd_card_machine.proofs.Refusals.{refused_by_the_table}
-use Rattle.lapd_card_machine.proofs.ByEvent.{frames_by_event}
-use Rattle.lapd_card_machine.proofs.Drops.{drops_cost_nothing, drops_change_nothing}
-use Rattle.lapd_card_machine.specs.Promises.{IsWithinLimit, IsAmortised, IsAmortisedFromZero, HasSixOctetsAFrame, HasSevenOctetsAReject, IsLinear, IsIsolated, IsNeverFull, IsNumbered, IsNumberedFromZero, IsTextual}
-use Rattle.lapd_card_laws.specs.Promises.{IsKept, IsCountedIn, IsServedIn, UnitsWaitAll, TurnsStay, AreHeeded, TakeEffect, ExpiriesTakeEffectIn, AreSteady, IsDelivered, AreReceived, RunsWhatIsNeeded, TimersAreLeft, NotesTell, TeisAreTold, TeisHaveOnePlace, BegunIsTold, MessagesHaveCauses, ToldTeisAreThere, NotesHaveReasons, NothingElseIsNoted}
-use Rattle.lapd_card_laws.proofs.Keeping.{kept, run-counted, begins-empty}
-use Rattle.lapd_card_laws.proofs.Serving.{served-in, units-all, turns-stay}
-use Rattle.lapd_card_laws.proofs.Hearing.{heard-all}
-use Rattle.lapd_card_laws.proofs.Receiving.{run-received, begins-unheard}
-use Rattle.lapd_card_laws.proofs.Heeding.{heeded-all}
-use Rattle.lapd_card_laws.proofs.Granting.{effect-all, expiries-all}
-use Rattle.lapd_card_laws.proofs.Happening.{steady-all}
-use Rattle.lapd_card_laws.proofs.Beginning.{begun-told}
-use Rattle.lapd_card_laws.proofs.Causing.{caused-all, there-all, reasons-all, noted-all}
-use Rattle.lapd_card_laws.proofs.Knowing.{up-known, on-known, down-at-first, one-place}
-use Rattle.lapd_card_laws.proofs.TimersRun.{needed-run, needs-none}
-use Rattle.lapd_card_laws.proofs.Restarting.{leaves-all}
-use Rattle.lapd_card_progress.specs.Promises.{AnswersAreBegun, PullsComeToAnEnd, FewAreToGo, EnoughPullsServe}
-use Rattle.lapd_card_progress.proofs.Enough.{enough-pulls}
-use Rattle.lapd_card_progress.proofs.Wherever.{answers-begun, come-to-an-end, few-to-go, begins-with-few}
+use Rattle.model_card.specs.ByEvent.{ArePriced}
+use Rattle.model_card.specs.Drops.{AreDropsWithoutCost, AreDropsWithoutEffect}
+use Rattle.model_card.proofs.Amortised.{frames_amortised}
+use Rattle.model_card.proofs.Fold.{run_is_moments}
+use Rattle.model_card.proofs.Isolated.{lines_isolated}
+use Rattle.model_card.proofs.Linear.{frames_linear}
+use Rattle.model_card.proofs.NeverFull.{pool_never_full}
+use Rattle.model_card.proofs.Numbering.{deliveries_numbered}
+use Rattle.model_card.proofs.Stored.{stored_within_limit}
+use Rattle.model_card.proofs.TextGoesOn.{text_goes_on}
+use Rattle.model_card.proofs.Refusals.{refused_by_the_table}
+use Rattle.model_card.proofs.ByEvent.{frames_by_event}
+use Rattle.model_card.proofs.Drops.{drops_cost_nothing, drops_change_nothing}
+use Rattle.model_card.specs.Promises.{IsWithinLimit, IsAmortised, IsAmortisedFromZero, HasSixOctetsAFrame, HasSevenOctetsAReject, IsLinear, IsIsolated, IsNeverFull, IsNumbered, IsNumberedFromZero, IsTextual}
+use Rattle.laws_card.specs.Promises.{IsKept, IsCountedIn, IsServedIn, UnitsWaitAll, TurnsStay, AreHeeded, TakeEffect, ExpiriesTakeEffectIn, AreSteady, IsDelivered, AreReceived, RunsWhatIsNeeded, TimersAreLeft, NotesTell, TeisAreTold, TeisHaveOnePlace, BegunIsTold, MessagesHaveCauses, ToldTeisAreThere, NotesHaveReasons, NothingElseIsNoted}
+use Rattle.laws_card.proofs.Keeping.{kept, run-counted, begins-empty}
+use Rattle.laws_card.proofs.Serving.{served-in, units-all, turns-stay}
+use Rattle.laws_card.proofs.Hearing.{heard-all}
+use Rattle.laws_card.proofs.Receiving.{run-received, begins-unheard}
+use Rattle.laws_card.proofs.Heeding.{heeded-all}
+use Rattle.laws_card.proofs.Granting.{effect-all, expiries-all}
+use Rattle.laws_card.proofs.Happening.{steady-all}
+use Rattle.laws_card.proofs.Beginning.{begun-told}
+use Rattle.laws_card.proofs.Causing.{caused-all, there-all, reasons-all, noted-all}
+use Rattle.laws_card.proofs.Knowing.{up-known, on-known, down-at-first, one-place}
+use Rattle.laws_card.proofs.TimersRun.{needed-run, needs-none}
+use Rattle.laws_card.proofs.Restarting.{leaves-all}
+use Rattle.laws_card.specs.PromisesOfPulls.{AnswersAreBegun, PullsComeToAnEnd, FewAreToGo, EnoughPullsServe}
+use Rattle.laws_card.proofs.Enough.{enough-pulls}
+use Rattle.laws_card.proofs.Wherever.{answers-begun, come-to-an-end, few-to-go, begins-with-few}
 use Rattle.lapd_card.proofs.Headline.{whole_list, each_front, timely_front, fresh_front}
 use Rattle.lapd_card.proofs.card.Card.drive.Goals as goal
 

@@ -1,6 +1,6 @@
 use Rattle.std.proofs.Common.{◌≡◌, take}
-use Rattle.lapd_card_machine.specs.Card as machine
-use Rattle.lapd_card_machine.specs.Run.{run}
+use Rattle.model_card.specs.Card as machine
+use Rattle.model_card.specs.Run.{run}
 use Rattle.lapd_card.specs.Drive.{events_of, Taken}
 use Rattle.lapd_card.specs.Stands.{Stands}
 use Rattle.lapd_card.proofs.card.Card.drive.Given as goal

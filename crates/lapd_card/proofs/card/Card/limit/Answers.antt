@@ -1,6 +1,6 @@
 use Rattle.std.proofs.Common.{sym, subst, ap, ◌∙◌}
-use Rattle.lapd_line_machine.specs.Sound.{IsInRange}
-use Rattle.lapd_card_machine.specs.Stored.{limit}
+use Rattle.model_line.specs.Sound.{IsInRange}
+use Rattle.model_card.specs.Stored.{limit}
 use Rattle.lapd_card.specs.Stands.{Stands}
 use Rattle.lapd_card.proofs.card.Card.limit.Goals as goal
 

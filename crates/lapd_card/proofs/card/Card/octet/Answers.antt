@@ -1,5 +1,5 @@
 use Rattle.std.proofs.Common.{refl, ap, ◌∙◌}
-use Rattle.lapd_line_machine.specs.Answer.{told}
+use Rattle.model_line.specs.Answer.{told}
 use Rattle.lapd_line.specs.Reports.{report_told}
 use Rattle.lapd_card.proofs.AnswerLaws.{drop_leaves}
 use Rattle.lapd_card.proofs.card.Card.octet.Goals as goal

@@ -1,8 +1,8 @@
 use Rattle.std.proofs.Common.{◌<◌, sym, subst}
-use Rattle.lapd_line_machine.specs.Answer as happening
-use Rattle.lapd_card_machine.specs.ByEvent.{FallsByPull}
-use Rattle.lapd_card_machine.specs.Event.{at}
-use Rattle.lapd_card_machine.proofs.ByEvent.{frames_by_event}
+use Rattle.model_line.specs.Answer as happening
+use Rattle.model_card.specs.ByEvent.{FallsByPull}
+use Rattle.model_card.specs.Event.{at}
+use Rattle.model_card.proofs.ByEvent.{frames_by_event}
 use Rattle.lapd_card.specs.Card.{line_count}
 use Rattle.lapd_card.specs.Stands.{Stands, Leads}
 use Rattle.lapd_card.proofs.Headline.{at_line}

@@ -1,5 +1,5 @@
 use Rattle.std.proofs.Common.{sym, ◌∙◌}
-use Rattle.lapd_card_machine.specs.Card.{fresh}
+use Rattle.model_card.specs.Card.{fresh}
 use Rattle.lapd_card.proofs.Begins.{fresh_stands}
 use Rattle.lapd_card.proofs.card.Card.start.Goals as goal
 

@@ -1,6 +1,6 @@
 use Rattle.std.proofs.Common.{ap, ◌∙◌}
-use Rattle.lapd_line_machine.specs.Answer as happening
-use Rattle.lapd_line_machine.specs.Machine.{answer}
+use Rattle.model_line.specs.Answer as happening
+use Rattle.model_line.specs.Machine.{answer}
 use Rattle.lapd_card.proofs.OneLine.{one_serves, one_leads, one_says, told_if_there}
 use Rattle.lapd_card.proofs.lines.Lines.hear.Goals as goal
 

@@ -1,7 +1,7 @@
 use Rattle.std.proofs.Common.{◌<◌, length, ap, ◌∙◌, arith}
 use Rattle.std.proofs.lemmas.List.{take_all}
 use Rattle.std.specs.List.{sum_by}
-use Rattle.lapd_line_machine.specs.Stored.{held_in}
+use Rattle.model_line.specs.Stored.{held_in}
 use Rattle.lapd_card.proofs.OneLine.{IsAt, one_serves, one_says}
 use Rattle.lapd_card.proofs.Amounts.{held_more}
 use Rattle.lapd_card.proofs.lines.Lines.held.Goals as goal

@@ -1,8 +1,8 @@
 use Rattle.std.proofs.Common.{◌≡◌, ◌*◌, ◌≤◌, List, take}
 use Rattle.std.specs.List.{sum_by}
-use Rattle.lapd_line_machine.specs.declared.config.Config.{Config}
-use Rattle.lapd_line_machine.specs.Line as machine
-use Rattle.lapd_line_machine.specs.Stored.{held_in}
+use Rattle.model_line.specs.declared.config.Config.{Config}
+use Rattle.model_line.specs.Line as machine
+use Rattle.model_line.specs.Stored.{held_in}
 use Rattle.lapd_store.specs.Store.{Store}
 use Rattle.lapd_card.specs.Lines.{Stand}
 use Rattle.lapd_card.proofs.lines.Lines.held.Given as goal

@@ -1,5 +1,5 @@
-use Rattle.lapd_line_machine.specs.Answer as happening
-use Rattle.lapd_line_machine.specs.Machine.{answer}
+use Rattle.model_line.specs.Answer as happening
+use Rattle.model_line.specs.Machine.{answer}
 use Rattle.lapd_card.proofs.OneLine.{one_serves, one_leads, one_says}
 use Rattle.lapd_card.proofs.lines.Lines.pull.Goals as goal
 

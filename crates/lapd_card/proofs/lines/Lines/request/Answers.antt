@@ -1,9 +1,9 @@
 use Rattle.std.proofs.Common.{sym, nat_le, Some, None}
 use Rattle.std.proofs.lemmas.Result.{IfOk-weaker, IfErr-weaker}
-use Rattle.lapd_line_machine.specs.Answer as happening
-use Rattle.lapd_line_machine.specs.Machine.{answer}
-use Rattle.lapd_line_machine.specs.Refusal.{refusal}
-use Rattle.lapd_line_machine.specs.Request.{request_of}
+use Rattle.model_line.specs.Answer as happening
+use Rattle.model_line.specs.Machine.{answer}
+use Rattle.model_line.specs.Refusal.{refusal}
+use Rattle.model_line.specs.Request.{request_of}
 use Rattle.lapd_store.specs.Store.{used_slots}
 use Rattle.lapd_card.proofs.OneLine.{one_serves, one_leads, one_says}
 use Rattle.lapd_card.proofs.lines.Lines.request.Goals as goal

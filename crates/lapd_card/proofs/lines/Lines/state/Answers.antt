@@ -1,4 +1,4 @@
-use Rattle.lapd_line_machine.specs.Line as machine
+use Rattle.model_line.specs.Line as machine
 use Rattle.lapd_card.proofs.OneLine.{one_says}
 use Rattle.lapd_card.proofs.lines.Lines.state.Goals as goal
 

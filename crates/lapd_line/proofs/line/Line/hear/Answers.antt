@@ -1,9 +1,9 @@
 use Rattle.std.proofs.Common.{◌≡◌, false, refl, sym, subst}
 use Rattle.std.proofs.lemmas.Bool.{false≢true}
 use Rattle.lapd_bits.specs.Deframer.{latest_of}
-use Rattle.lapd_line_machine.specs.Answer as event
-use Rattle.lapd_line_machine.specs.Answer.{told}
-use Rattle.lapd_line_machine.specs.Machine.{answer}
+use Rattle.model_line.specs.Answer as event
+use Rattle.model_line.specs.Answer.{told}
+use Rattle.model_line.specs.Machine.{answer}
 use Rattle.lapd_line.specs.declared.line.Line.{Line}
 use Rattle.lapd_line.specs.Reports.{told_in}
 use Rattle.lapd_line.specs.Stands.{Leads, config_of, latest_frame}

@@ -1,6 +1,6 @@
 use Rattle.std.proofs.Common.{ap, nat_le}
 use Rattle.lapd_store.specs.Store.{used_slots}
-use Rattle.lapd_line_machine.specs.Request.{request_of}
+use Rattle.model_line.specs.Request.{request_of}
 use Rattle.lapd_line.proofs.RequestSteps.{requested, request_told}
 use Rattle.lapd_line.proofs.line.Line.request.Goals as goal
 

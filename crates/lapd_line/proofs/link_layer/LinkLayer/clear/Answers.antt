@@ -1,10 +1,10 @@
 use Rattle.std.proofs.Common.{◌≡◌, ◌<◌, [], length, set, slice_get, Some, sym, ap, subst, ◌∙◌, arith}
 use Rattle.lapd_frame.specs.declared.services.Service.TheVariants.{Call, Packet}
-use Rattle.lapd_link_machine.specs.Events as event
-use Rattle.lapd_link_machine.specs.Machine.{after}
-use Rattle.lapd_link_machine.proofs.TellRows.{cleared-tells, cleared-orders}
-use Rattle.lapd_line_machine.specs.Line.{terms}
-use Rattle.lapd_line_machine.specs.Effect.{told_of_link, with_cleared}
+use Rattle.model_link.specs.Events as event
+use Rattle.model_link.specs.Machine.{after}
+use Rattle.model_link.proofs.TellRows.{cleared-tells, cleared-orders}
+use Rattle.model_line.specs.Line.{terms}
+use Rattle.model_line.specs.Effect.{told_of_link, with_cleared}
 use Rattle.lapd_link.specs.Outcome.{told_with}
 use Rattle.lapd_line.specs.Changes.{with_management}
 use Rattle.lapd_line.specs.Links as links

@@ -1,7 +1,7 @@
 use Rattle.std.proofs.Common.{[], sym, ap, ◌∙◌}
 use Rattle.lapd_tei.specs.Table.{place_of}
 use Rattle.lapd_tei.proofs.Tables.{place_of-is}
-use Rattle.lapd_line_machine.specs.Expiry.{at_timer}
+use Rattle.model_line.specs.Expiry.{at_timer}
 use Rattle.lapd_line.proofs.AimSteps.{serves_as, serves_none}
 use Rattle.lapd_line.proofs.link_layer.LinkLayer.expire_at.Goals as goal
 

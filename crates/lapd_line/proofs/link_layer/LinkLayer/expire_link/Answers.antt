@@ -1,5 +1,5 @@
 use Rattle.std.proofs.Common.{[], refl, ◌<◌, length, subst, sym}
-use Rattle.lapd_link_machine.specs.Events as event
+use Rattle.model_link.specs.Events as event
 use Rattle.lapd_line.specs.Awake.{Wakes}
 use Rattle.lapd_line.specs.Links as links
 use Rattle.lapd_line.proofs.LayerSteps.{beside_links, links_part, named, numbered, at_link_serves, told_from, low_number}

@@ -1,7 +1,7 @@
 use Rattle.std.proofs.Common.{◌≡◌, ◌<◌, refl, ap, ◌∙◌, arith}
 use Rattle.std.specs.List.{sum_by, range_with_len}
-use Rattle.lapd_line_machine.specs.Line.{link_count}
-use Rattle.lapd_line_machine.specs.Stored.{held_by_link}
+use Rattle.model_line.specs.Line.{link_count}
+use Rattle.model_line.specs.Stored.{held_by_link}
 use Rattle.lapd_line.proofs.LayerSteps.{beside_links, links_part}
 use Rattle.lapd_line.proofs.HeldSteps.{held_place, held_more, few_links}
 use Rattle.lapd_line.proofs.link_layer.LinkLayer.held_by_links.Goals as goal

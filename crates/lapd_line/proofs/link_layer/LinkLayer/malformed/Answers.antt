@@ -1,7 +1,7 @@
 use Rattle.std.proofs.Common.{◌∙◌}
 use Rattle.lapd_bits.specs.declared.heard.Cause.TheVariants.{Unserved}
 use Rattle.lapd_link.specs.Events.{received_of}
-use Rattle.lapd_line_machine.specs.Octet.{drop_for}
+use Rattle.model_line.specs.Octet.{drop_for}
 use Rattle.lapd_line.proofs.AimSteps.{aimed, serves_as, serves_none, nothing_after}
 use Rattle.lapd_line.proofs.link_layer.LinkLayer.malformed.Goals as goal
 

@@ -1,8 +1,8 @@
 use Rattle.std.proofs.Common.{◌≡◌, ◌<◌, length, set, sym, ap, subst, ◌∙◌, arith}
 use Rattle.std.proofs.lemmas.List.{get_or-set_other, length-set}
 use Rattle.lapd_frame.specs.declared.services.Service.TheVariants.{Call, Packet}
-use Rattle.lapd_link_machine.specs.Link as machine
-use Rattle.lapd_line_machine.specs.Line.{link_number, terms}
+use Rattle.model_link.specs.Link as machine
+use Rattle.model_line.specs.Line.{link_number, terms}
 use Rattle.lapd_line.specs.Changes.{with_management}
 use Rattle.lapd_line.specs.Links.{LinksStand, machine_at, terms_in}
 use Rattle.lapd_line.proofs.LayerSteps.{beside_links, links_part}

@@ -1,5 +1,5 @@
 use Rattle.std.proofs.Common.{[], sym, ap, ◌∙◌, Ok, arith}
-use Rattle.lapd_line_machine.specs.Octet.{aim_of_long}
+use Rattle.model_line.specs.Octet.{aim_of_long}
 use Rattle.lapd_line.proofs.AimSteps.{serves_as, long_fault}
 use Rattle.lapd_line.proofs.link_layer.LinkLayer.overlong.Goals as goal
 

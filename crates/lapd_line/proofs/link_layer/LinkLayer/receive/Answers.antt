@@ -1,5 +1,5 @@
 use Rattle.std.proofs.Common.{◌<◌, length, subst, sym}
-use Rattle.lapd_link_machine.specs.Events as event
+use Rattle.model_link.specs.Events as event
 use Rattle.lapd_link.specs.Events.{received_of, info_of}
 use Rattle.lapd_line.specs.Awake.{Wakes}
 use Rattle.lapd_line.specs.Links as links

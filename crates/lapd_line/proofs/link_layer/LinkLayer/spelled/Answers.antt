@@ -1,7 +1,7 @@
 use Rattle.std.proofs.Common.{drop, sym, ap, ◌∙◌}
 use Rattle.lapd_frame.specs.Grammar.{parts_of}
-use Rattle.lapd_link_machine.specs.Events as link
-use Rattle.lapd_line_machine.specs.Octet.{message_of}
+use Rattle.model_link.specs.Events as link
+use Rattle.model_line.specs.Octet.{message_of}
 use Rattle.lapd_line.proofs.AimSteps.{aimed, serves_as, serves_none}
 use Rattle.lapd_line.proofs.link_layer.LinkLayer.spelled.Goals as goal
 

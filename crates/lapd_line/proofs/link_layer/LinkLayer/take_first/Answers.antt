@@ -1,5 +1,5 @@
 use Rattle.std.proofs.Common.{◌<◌, length, ap, sym, subst, ◌∙◌, arith}
-use Rattle.lapd_line_machine.specs.Line.{link_count}
+use Rattle.model_line.specs.Line.{link_count}
 use Rattle.lapd_line.proofs.TakeStepsLinks.{none_among, one_more, found, passed, none_stands}
 use Rattle.lapd_line.proofs.link_layer.LinkLayer.take_first.Goals as goal
 

@@ -1,5 +1,5 @@
 use Rattle.std.proofs.Common.{[], Some, sym, subst}
-use Rattle.lapd_line_machine.specs.Pull.{message_taken}
+use Rattle.model_line.specs.Pull.{message_taken}
 use Rattle.lapd_line.specs.Takes.{Takes}
 use Rattle.lapd_line.proofs.TakeSteps.{message_loaded}
 use Rattle.lapd_line.proofs.link_layer.LinkLayer.take_message.Goals as goal

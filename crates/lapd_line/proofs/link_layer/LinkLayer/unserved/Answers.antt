@@ -1,7 +1,7 @@
 use Rattle.std.proofs.Common.{◌≡◌, [], inl, inr, ap, ◌∙◌}
 use Rattle.lapd_bits.specs.declared.heard.Cause.TheVariants.{Unserved}
-use Rattle.lapd_link_machine.specs.Events as link
-use Rattle.lapd_line_machine.specs.Octet.{drop_for, unless_at_link}
+use Rattle.model_link.specs.Events as link
+use Rattle.model_line.specs.Octet.{drop_for, unless_at_link}
 use Rattle.lapd_line.specs.Aims.{aim_at}
 use Rattle.lapd_line.proofs.AimSteps.{aimed, serves_as, serves_none}
 use Rattle.lapd_line.proofs.link_layer.LinkLayer.unserved.Goals as goal

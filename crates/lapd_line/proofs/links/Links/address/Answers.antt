@@ -1,5 +1,5 @@
 use Rattle.std.proofs.Common.{◌≡◌, get_or, ap, subst, ◌∙◌}
-use Rattle.lapd_link_machine.specs.Link.{address_at}
+use Rattle.model_link.specs.Link.{address_at}
 use Rattle.lapd_line.proofs.LinkSteps.{terms_at}
 use Rattle.lapd_line.proofs.links.Links.address.Goals as goal
 

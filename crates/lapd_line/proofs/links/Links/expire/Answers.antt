@@ -1,5 +1,5 @@
 use Rattle.std.proofs.Common.{◌≡◌, [], get_or, set, sym, subst}
-use Rattle.lapd_link_machine.specs.Events as event
+use Rattle.model_link.specs.Events as event
 use Rattle.lapd_line.specs.Links.{Serves, machine_at}
 use Rattle.lapd_line.proofs.LinkSteps.{take_link, serves}
 use Rattle.lapd_line.proofs.links.Links.expire.Goals as goal

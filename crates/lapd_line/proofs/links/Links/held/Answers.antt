@@ -1,5 +1,5 @@
 use Rattle.std.proofs.Common.{◌≡◌, get_or, ap, subst, ◌∙◌, arith}
-use Rattle.lapd_link_machine.specs.Rises.{held}
+use Rattle.model_link.specs.Rises.{held}
 use Rattle.lapd_line.specs.Links.{machine_at}
 use Rattle.lapd_line.proofs.HeldSteps.{link_few}
 use Rattle.lapd_line.proofs.LinkSteps.{take_link, terms_at}

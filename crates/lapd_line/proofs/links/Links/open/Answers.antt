@@ -1,7 +1,7 @@
 use Rattle.std.proofs.Common.{◌≡◌, ◌≤◌, get_or, set, refl, sym, ap, subst, ◌∙◌, arith}
 use Rattle.std.proofs.lemmas.List.{map-set}
 use Rattle.lapd_link.specs.Stands.{terms_of}
-use Rattle.lapd_link_machine.specs.Link.{fresh}
+use Rattle.model_link.specs.Link.{fresh}
 use Rattle.lapd_line.specs.Links.{LinksStand, machine_at, terms_in}
 use Rattle.lapd_line.proofs.LinkSteps.{take_link, opened_terms}
 use Rattle.lapd_line.proofs.links.Links.open.Goals as goal

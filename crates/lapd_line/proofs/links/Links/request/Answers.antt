@@ -1,7 +1,7 @@
 use Rattle.std.proofs.Common.{◌≡◌, [], get_or, set, nat_le, Some, None, IfOk, sym, ap, subst, ◌∙◌}
 use Rattle.lapd_store.specs.Store.{used_slots}
-use Rattle.lapd_link_machine.specs.Events as event
-use Rattle.lapd_link_machine.specs.Requests.{refusal}
+use Rattle.model_link.specs.Events as event
+use Rattle.model_link.specs.Requests.{refusal}
 use Rattle.lapd_link.specs.Events.{request_of}
 use Rattle.lapd_line.specs.Links.{Serves, machine_at}
 use Rattle.lapd_line.proofs.LinkSteps.{take_link, serves, terms_at, if_err, on_err, on_ok, both_ok, put_same}

@@ -1,5 +1,5 @@
 use Rattle.std.proofs.Common.{sym, ap, ◌∙◌}
-use Rattle.lapd_link_machine.specs.Told.{Told}
+use Rattle.model_link.specs.Told.{Told}
 use Rattle.lapd_link.proofs.link.Link.frame.Goals as goal
 
 pub returns-clause-unserved : goal.returns-clause-unserved

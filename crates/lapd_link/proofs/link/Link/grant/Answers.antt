@@ -1,6 +1,6 @@
 use Rattle.std.proofs.Common.{[], ap, subst, ◌∙◌}
-use Rattle.lapd_link_machine.specs.Requests.{granted}
-use Rattle.lapd_link_machine.specs.Steps.{begun}
+use Rattle.model_link.specs.Requests.{granted}
+use Rattle.model_link.specs.Steps.{begun}
 use Rattle.lapd_link.specs.declared.requests.LinkRequest.{LinkRequest}
 use Rattle.lapd_link.specs.declared.requests.LinkRequest.TheVariants.{Establish, Release, Data, SetBusy, ClearBusy}
 use Rattle.lapd_link.specs.Events.{request_of}

@@ -1,10 +1,10 @@
 use Rattle.std.proofs.Common.{Option, sym, ap, ◌∙◌}
-use Rattle.lapd_link_machine.specs.declared.timers.LinkTimer.{LinkTimer}
-use Rattle.lapd_link_machine.specs.Link.{queue_of}
-use Rattle.lapd_link_machine.specs.Events.{offer}
-use Rattle.lapd_link_machine.specs.Told.{orders_for}
-use Rattle.lapd_link_machine.specs.Steps.{Sent}
-use Rattle.lapd_link_machine.specs.Machine.{course, given_of}
+use Rattle.model_link.specs.declared.timers.LinkTimer.{LinkTimer}
+use Rattle.model_link.specs.Link.{queue_of}
+use Rattle.model_link.specs.Events.{offer}
+use Rattle.model_link.specs.Told.{orders_for}
+use Rattle.model_link.specs.Steps.{Sent}
+use Rattle.model_link.specs.Machine.{course, given_of}
 use Rattle.lapd_link_steps.specs.Done as rows
 use Rattle.lapd_link.specs.Stands.{terms_of}
 use Rattle.lapd_link.proofs.Ending.{running-at}

@@ -1,6 +1,6 @@
 use Rattle.std.proofs.Common.{sym, ap, ◌∙◌}
-use Rattle.lapd_link_machine.specs.Told.{Told}
-use Rattle.lapd_link_machine.proofs.Unserved.{unserved-stays}
+use Rattle.model_link.specs.Told.{Told}
+use Rattle.model_link.proofs.Unserved.{unserved-stays}
 use Rattle.lapd_link.specs.Stands.{terms_of}
 use Rattle.lapd_link.specs.Events.{received_of}
 use Rattle.lapd_link.proofs.link.Link.receive.Goals as goal

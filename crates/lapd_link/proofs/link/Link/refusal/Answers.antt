@@ -1,8 +1,8 @@
 use Rattle.std.proofs.Common.{◌≡◌, true, refl, sym, ap, subst, ◌∙◌}
 use Rattle.std.specs.Prelude.{IfNone}
-use Rattle.lapd_link_machine.specs.declared.states.State.{State}
-use Rattle.lapd_link_machine.specs.Link.{Link}
-use Rattle.lapd_link_machine.specs.Requests.{serves, refusal_for_room}
+use Rattle.model_link.specs.declared.states.State.{State}
+use Rattle.model_link.specs.Link.{Link}
+use Rattle.model_link.specs.Requests.{serves, refusal_for_room}
 use Rattle.lapd_link.specs.declared.requests.LinkRequest.{LinkRequest}
 use Rattle.lapd_link.specs.Events.{request_of}
 use Rattle.lapd_link.specs.Stands.{HasRoom, terms_of}

@@ -1,11 +1,11 @@
-use Rattle.lapd_link_machine.proofs.RiseEvents.{event-rises}
+use Rattle.model_link.proofs.RiseEvents.{event-rises}
 use Rattle.std.proofs.Common.{◌≡◌, ℕ, [], None, sym, ap, subst, ◌∙◌}
 use Rattle.std.specs.Prelude.{nat_le}
 use Rattle.lapd_store.specs.Store.{used_slots}
-use Rattle.lapd_link_machine.specs.Events.{requested}
-use Rattle.lapd_link_machine.specs.Steps.{Course}
-use Rattle.lapd_link_machine.specs.Requests.{refusal}
-use Rattle.lapd_link_machine.specs.Machine.{course}
+use Rattle.model_link.specs.Events.{requested}
+use Rattle.model_link.specs.Steps.{Course}
+use Rattle.model_link.specs.Requests.{refusal}
+use Rattle.model_link.specs.Machine.{course}
 use Rattle.lapd_link.specs.Events.{request_of}
 use Rattle.lapd_link.specs.Stands.{Reaches, terms_of}
 use Rattle.lapd_link.proofs.Ending.{stands-after, told-after}

@@ -1,7 +1,7 @@
 use Rattle.std.proofs.Common.{ℕ, ◌≤◌, List, sym, subst}
 use Rattle.lapd_frame.specs.declared.timers.Order.{Order}
-use Rattle.lapd_link_machine.specs.Told.{starts}
-use Rattle.lapd_link_machine.proofs.TellRows.{one-start}
+use Rattle.model_link.specs.Told.{starts}
+use Rattle.model_link.proofs.TellRows.{one-start}
 use Rattle.lapd_link.proofs.link.Link.settle.Goals as goal
 
 pub returns-clause-starts : goal.returns-clause-starts

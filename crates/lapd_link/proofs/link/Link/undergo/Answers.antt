@@ -1,7 +1,7 @@
-use Rattle.lapd_link_machine.proofs.RiseEvents.{event-rises}
+use Rattle.model_link.proofs.RiseEvents.{event-rises}
 use Rattle.std.proofs.Common.{◌∙◌}
-use Rattle.lapd_link_machine.specs.Link.{queue_of}
-use Rattle.lapd_link_machine.specs.Machine.{course}
+use Rattle.model_link.specs.Link.{queue_of}
+use Rattle.model_link.specs.Machine.{course}
 use Rattle.lapd_link.specs.Stands.{terms_of}
 use Rattle.lapd_link.specs.Events.{info_at, event_of}
 use Rattle.lapd_link.proofs.Ending.{running-at, reached, stands-after, told-after}

@@ -1,6 +1,6 @@
-use Rattle.lapd_link_machine.specs.Link.{is_peer_busy}
-use Rattle.lapd_link_machine.specs.Words.{acknowledge}
-use Rattle.lapd_link_machine.specs.Established as row
+use Rattle.model_link.specs.Link.{is_peer_busy}
+use Rattle.model_link.specs.Words.{acknowledge}
+use Rattle.model_link.specs.Established as row
 use Rattle.lapd_link_steps.proofs.Steps.{by_where_yes, by_where_no}
 use Rattle.lapd_link_steps.proofs.entity.Entity.acknowledged_by_information_in_7.Goals as goal
 

@@ -1,9 +1,9 @@
 use Rattle.std.proofs.Common.{sym, ◌∙◌, true≢false, arith}
 use Rattle.std.proofs.lemmas.Bool.{eq-eqb, lt-ltb, le-ltb}
-use Rattle.lapd_link_machine.specs.declared.timers.LinkTimer.TheVariants.{T200, T203}
-use Rattle.lapd_link_machine.specs.Steps.{◌then◌, nothing, depending_on}
-use Rattle.lapd_link_machine.specs.Words as word
-use Rattle.lapd_link_machine.specs.Established as row
+use Rattle.model_link.specs.declared.timers.LinkTimer.TheVariants.{T200, T203}
+use Rattle.model_link.specs.Steps.{◌then◌, nothing, depending_on}
+use Rattle.model_link.specs.Words as word
+use Rattle.model_link.specs.Established as row
 use Rattle.lapd_link_steps.proofs.Tests.{ne-eqb}
 use Rattle.lapd_link_steps.proofs.Steps.{by_then, by_any, by_where_yes, by_where_no, does_nothing}
 use Rattle.lapd_link_steps.proofs.entity.Entity.acknowledged_by_rr_in_7.Goals as goal

@@ -1,5 +1,5 @@
-use Rattle.lapd_link_machine.specs.Words.{acknowledge}
-use Rattle.lapd_link_machine.specs.TimerRecovery as row
+use Rattle.model_link.specs.Words.{acknowledge}
+use Rattle.model_link.specs.TimerRecovery as row
 use Rattle.lapd_link_steps.proofs.Steps.{acknowledged_then, by_bit_yes, by_bit_no}
 use Rattle.lapd_link_steps.proofs.entity.Entity.acknowledged_by_supervisory_in_8.Goals as goal
 

@@ -1,4 +1,4 @@
-use Rattle.lapd_link_machine.specs.Steps.{nothing}
+use Rattle.model_link.specs.Steps.{nothing}
 use Rattle.lapd_link_steps.proofs.Steps.{bit_yes}
 use Rattle.lapd_link_steps.proofs.entity.Entity.answered.Goals as goal
 

@@ -1,6 +1,6 @@
 use Rattle.std.proofs.Common.{sym, ◌∙◌}
-use Rattle.lapd_link_machine.specs.Steps.{nothing}
-use Rattle.lapd_link_machine.specs.Offers.{is_awaiting_acknowledgement}
+use Rattle.model_link.specs.Steps.{nothing}
+use Rattle.model_link.specs.Offers.{is_awaiting_acknowledgement}
 use Rattle.lapd_link_steps.proofs.Steps.{where_no}
 use Rattle.lapd_link_steps.proofs.entity.Entity.await_acknowledgement.Goals as goal
 

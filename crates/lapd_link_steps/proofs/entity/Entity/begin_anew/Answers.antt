@@ -1,6 +1,6 @@
 use Rattle.std.proofs.Common.{[], ap, ◌∙◌}
-use Rattle.lapd_link_machine.specs.Link.{Link}
-use Rattle.lapd_link_machine.specs.Words.{begin_anew}
+use Rattle.model_link.specs.Link.{Link}
+use Rattle.model_link.specs.Words.{begin_anew}
 use Rattle.lapd_link_steps.specs.Past.{course_of}
 use Rattle.lapd_link_steps.proofs.Queue.{discarded}
 use Rattle.lapd_link_steps.proofs.entity.Entity.begin_anew.Goals as goal

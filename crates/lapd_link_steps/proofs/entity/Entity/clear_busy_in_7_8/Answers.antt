@@ -1,5 +1,5 @@
-use Rattle.lapd_link_machine.specs.Link.{is_own_busy}
-use Rattle.lapd_link_machine.specs.Steps.{nothing}
+use Rattle.model_link.specs.Link.{is_own_busy}
+use Rattle.model_link.specs.Steps.{nothing}
 use Rattle.lapd_link_steps.proofs.Steps.{◌▹◌, where_yes}
 use Rattle.lapd_link_steps.proofs.entity.Entity.clear_busy_in_7_8.Goals as goal
 

@@ -1,6 +1,6 @@
 use Rattle.std.proofs.Common.{sym, ◌∙◌, true≢false}
-use Rattle.lapd_link_machine.specs.Link.{has_outstanding}
-use Rattle.lapd_link_machine.specs.Steps.{nothing}
+use Rattle.model_link.specs.Link.{has_outstanding}
+use Rattle.model_link.specs.Steps.{nothing}
 use Rattle.lapd_link_steps.proofs.Tests.{not_same}
 use Rattle.lapd_link_steps.proofs.Steps.{◌▹◌, where_yes}
 use Rattle.lapd_link_steps.proofs.entity.Entity.discard_outstanding.Goals as goal

@@ -1,6 +1,6 @@
 use Rattle.std.proofs.Common.{sym, ◌∙◌}
-use Rattle.lapd_link_machine.specs.Steps.{nothing}
-use Rattle.lapd_link_machine.specs.Machine.{is_running}
+use Rattle.model_link.specs.Steps.{nothing}
+use Rattle.model_link.specs.Machine.{is_running}
 use Rattle.lapd_link_steps.proofs.Steps.{where_yes}
 use Rattle.lapd_link_steps.proofs.entity.Entity.expire.Goals as goal
 

@@ -1,6 +1,6 @@
-use Rattle.lapd_link_machine.specs.declared.states.State.TheVariants.{AwaitingEstablishment, AwaitingRelease, Established, TimerRecovery}
-use Rattle.lapd_link_machine.specs.declared.timers.LinkTimer.TheVariants.{T200}
-use Rattle.lapd_link_machine.specs.Machine.{expired_in}
+use Rattle.model_link.specs.declared.states.State.TheVariants.{AwaitingEstablishment, AwaitingRelease, Established, TimerRecovery}
+use Rattle.model_link.specs.declared.timers.LinkTimer.TheVariants.{T200}
+use Rattle.model_link.specs.Machine.{expired_in}
 use Rattle.lapd_link_steps.proofs.Steps.{by_state, with_known}
 use Rattle.lapd_link_steps.proofs.entity.Entity.expire_running.Goals as goal
 

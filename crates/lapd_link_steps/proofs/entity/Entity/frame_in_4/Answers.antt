@@ -1,4 +1,4 @@
-use Rattle.lapd_link_machine.specs.TeiAssigned as row
+use Rattle.model_link.specs.TeiAssigned as row
 use Rattle.lapd_link_steps.proofs.Steps.{with_known}
 use Rattle.lapd_link_steps.proofs.entity.Entity.frame_in_4.Goals as goal
 

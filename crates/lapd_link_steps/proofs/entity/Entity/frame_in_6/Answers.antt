@@ -1,4 +1,4 @@
-use Rattle.lapd_link_machine.specs.AwaitingRelease as row
+use Rattle.model_link.specs.AwaitingRelease as row
 use Rattle.lapd_link_steps.proofs.Steps.{with_known}
 use Rattle.lapd_link_steps.proofs.entity.Entity.frame_in_6.Goals as goal
 

@@ -2,9 +2,9 @@ use Rattle.std.proofs.Common.{ap, sym, ◌∙◌, false, length, arith}
 use Rattle.std.proofs.lemmas.Bool.{lt-ltb, le-ltb}
 use Rattle.lapd_frame.specs.declared.controls.Control.TheVariants.{Dm}
 use Rattle.lapd_frame.specs.declared.notes.ErrorCode.TheVariants as code
-use Rattle.lapd_link_machine.specs.Steps.{◌then◌}
-use Rattle.lapd_link_machine.specs.Words.{by_number}
-use Rattle.lapd_link_machine.specs.MultipleFrame as row
+use Rattle.model_link.specs.Steps.{◌then◌}
+use Rattle.model_link.specs.Words.{by_number}
+use Rattle.model_link.specs.MultipleFrame as row
 use Rattle.lapd_link_steps.specs.Parts.{particulars, effect_of}
 use Rattle.lapd_link_steps.specs.declared.states.multiple_frame.Bearer.TheVariants.{Information, Rr, Rnr, Rej}
 use Rattle.lapd_link_steps.proofs.Steps.{◌▹◌, bit_yes, bit_no, with_known}

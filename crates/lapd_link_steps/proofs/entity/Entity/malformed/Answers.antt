@@ -1,5 +1,5 @@
-use Rattle.lapd_link_machine.specs.declared.states.State.TheVariants.{TeiAssigned, AwaitingEstablishment, AwaitingRelease, Established, TimerRecovery}
-use Rattle.lapd_link_machine.specs.Machine.{malformed_in}
+use Rattle.model_link.specs.declared.states.State.TheVariants.{TeiAssigned, AwaitingEstablishment, AwaitingRelease, Established, TimerRecovery}
+use Rattle.model_link.specs.Machine.{malformed_in}
 use Rattle.lapd_link_steps.proofs.Steps.{by_state}
 use Rattle.lapd_link_steps.proofs.entity.Entity.malformed.Goals as goal
 

@@ -3,7 +3,7 @@ use Rattle.std.specs.List.{slice_get}
 use Rattle.lapd_seq.specs.declared.numbers.Seq.{Seq}
 use Rattle.lapd_seq.specs.Numbers.{seq}
 use Rattle.lapd_frame.specs.declared.controls.Control.TheVariants.{Information}
-use Rattle.lapd_link_machine.specs.Words.{command}
+use Rattle.model_link.specs.Words.{command}
 use Rattle.lapd_link_steps.proofs.Queue.{contents_at-queue}
 use Rattle.lapd_link_steps.proofs.entity.Entity.next_information.Goals as goal
 

@@ -1,6 +1,6 @@
 use Rattle.std.proofs.Common.{sym, ◌∙◌}
-use Rattle.lapd_link_machine.specs.Steps.{nothing, depending_on}
-use Rattle.lapd_link_machine.specs.Offers.{may_send_information, is_pending, send_acknowledgement}
+use Rattle.model_link.specs.Steps.{nothing, depending_on}
+use Rattle.model_link.specs.Offers.{may_send_information, is_pending, send_acknowledgement}
 use Rattle.lapd_link_steps.proofs.Giving.{gives_where}
 use Rattle.lapd_link_steps.proofs.entity.Entity.offer_numbered.Goals as goal
 

@@ -1,8 +1,8 @@
 use Rattle.std.proofs.Common.{true}
-use Rattle.lapd_link_machine.specs.Link.{is_rejecting}
-use Rattle.lapd_link_machine.specs.Steps.{◌then◌}
-use Rattle.lapd_link_machine.specs.Words as word
-use Rattle.lapd_link_machine.specs.MultipleFrame as row
+use Rattle.model_link.specs.Link.{is_rejecting}
+use Rattle.model_link.specs.Steps.{◌then◌}
+use Rattle.model_link.specs.Words as word
+use Rattle.model_link.specs.MultipleFrame as row
 use Rattle.lapd_link_steps.proofs.Steps.{◌▹◌, where_yes, where_no}
 use Rattle.lapd_link_steps.proofs.entity.Entity.out_of_sequence.Goals as goal
 

@@ -1,8 +1,8 @@
 use Rattle.std.proofs.Common.{false, ap}
 use Rattle.lapd_seq.specs.declared.numbers.Seq.{Seq}
 use Rattle.lapd_frame.specs.declared.controls.Control.TheVariants.{Reject}
-use Rattle.lapd_link_machine.specs.Steps.{◌then◌}
-use Rattle.lapd_link_machine.specs.Words as word
+use Rattle.model_link.specs.Steps.{◌then◌}
+use Rattle.model_link.specs.Words as word
 use Rattle.lapd_link_steps.specs.Past.{course_of}
 use Rattle.lapd_link_steps.proofs.Steps.{◌▹◌, same_step}
 use Rattle.lapd_link_steps.proofs.entity.Entity.reject.Goals as goal

@@ -1,5 +1,5 @@
 use Rattle.std.proofs.Common.{Some, sym, ◌∙◌}
-use Rattle.lapd_link_machine.specs.Offers as offers
+use Rattle.model_link.specs.Offers as offers
 use Rattle.lapd_link_steps.specs.Past.{course_of}
 use Rattle.lapd_link_steps.proofs.Steps.{◌▹◌, gives, sent-information}
 use Rattle.lapd_link_steps.proofs.entity.Entity.send_information.Goals as goal

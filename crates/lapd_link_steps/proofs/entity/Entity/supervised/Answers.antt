@@ -1,5 +1,5 @@
 use Rattle.std.proofs.Common.{true, false, sym}
-use Rattle.lapd_link_machine.specs.Established.{unsolicited}
+use Rattle.model_link.specs.Established.{unsolicited}
 use Rattle.lapd_link_steps.specs.Parts.{particulars, supervised}
 use Rattle.lapd_link_steps.proofs.Steps.{◌▹◌, does_nothing, with_known}
 use Rattle.lapd_link_steps.proofs.entity.Entity.supervised.Goals as goal

@@ -2,11 +2,11 @@ use Rattle.std.proofs.Common.{true}
 use Rattle.std.proofs.lemmas.Bool.{lt-ltb, le-ltb}
 use Rattle.lapd_frame.specs.declared.controls.Control.TheVariants.{Sabme}
 use Rattle.lapd_frame.specs.declared.notes.ErrorCode.TheVariants as code
-use Rattle.lapd_link_machine.specs.declared.states.State.TheVariants.{TeiAssigned}
-use Rattle.lapd_link_machine.specs.declared.timers.LinkTimer.TheVariants.{T200}
-use Rattle.lapd_link_machine.specs.Link.{may_repeat}
-use Rattle.lapd_link_machine.specs.Steps.{◌then◌}
-use Rattle.lapd_link_machine.specs.Words as word
+use Rattle.model_link.specs.declared.states.State.TheVariants.{TeiAssigned}
+use Rattle.model_link.specs.declared.timers.LinkTimer.TheVariants.{T200}
+use Rattle.model_link.specs.Link.{may_repeat}
+use Rattle.model_link.specs.Steps.{◌then◌}
+use Rattle.model_link.specs.Words as word
 use Rattle.lapd_link_steps.proofs.Steps.{◌▹◌, where_yes, where_no}
 use Rattle.lapd_link_steps.proofs.entity.Entity.t200_in_5.Goals as goal
 

@@ -1,5 +1,5 @@
 use Rattle.lapd_frame.specs.declared.notes.ErrorCode.TheVariants as code
-use Rattle.lapd_link_machine.specs.Words.{error}
+use Rattle.model_link.specs.Words.{error}
 use Rattle.lapd_link_steps.proofs.Steps.{bit_yes, bit_no}
 use Rattle.lapd_link_steps.proofs.told.Told.ua_in_7_8.Goals as goal
 

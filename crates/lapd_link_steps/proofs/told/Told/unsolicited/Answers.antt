@@ -1,6 +1,6 @@
 use Rattle.lapd_frame.specs.declared.notes.ErrorCode.TheVariants as code
-use Rattle.lapd_link_machine.specs.Steps.{nothing}
-use Rattle.lapd_link_machine.specs.Words.{error}
+use Rattle.model_link.specs.Steps.{nothing}
+use Rattle.model_link.specs.Words.{error}
 use Rattle.lapd_link_steps.proofs.Steps.{bit_yes, bit_no, does_nothing}
 use Rattle.lapd_link_steps.proofs.told.Told.unsolicited.Goals as goal
 

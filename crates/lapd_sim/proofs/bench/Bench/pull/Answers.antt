@@ -1,8 +1,8 @@
 use Rattle.std.proofs.Common.{◌≡◌, ◌<◌, ◌++◌, [], length, take, get_or, sym, ap, subst, arith}
 use Rattle.std.proofs.lemmas.List.{length-take}
 use Rattle.lapd_transcript.specs.Streams.{IsPut, IsStuck, output}
-use Rattle.lapd_sim_machine.specs.Bench.{taken_at}
-use Rattle.lapd_sim_machine.specs.Steps.{pulls, pulled_text}
+use Rattle.model_sim.specs.Bench.{taken_at}
+use Rattle.model_sim.specs.Steps.{pulls, pulled_text}
 use Rattle.lapd_sim.specs.Stands.{Stands, Holds, Each, Hears, Sends}
 use Rattle.lapd_sim.proofs.Eachs.{each_at, each_set}
 use Rattle.lapd_sim.proofs.Scenes.{pulls_keep, pull_obeyed, pull_broken}

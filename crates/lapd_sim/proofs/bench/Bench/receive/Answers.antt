@@ -1,6 +1,6 @@
 use Rattle.std.proofs.Common.{◌<◌, sym, subst, ap}
 use Rattle.lapd_transcript.specs.Streams.{IsPut, output}
-use Rattle.lapd_sim_machine.specs.Steps.{after_rx, octets_at}
+use Rattle.model_sim.specs.Steps.{after_rx, octets_at}
 use Rattle.lapd_sim.specs.Obeyed.{scene}
 use Rattle.lapd_sim.specs.Stands.{Each, Hears, Holds, Sends}
 use Rattle.lapd_sim.proofs.Scenes.{obeyed_there, events_keep}

@@ -1,6 +1,6 @@
 use Rattle.std.proofs.Common.{◌<◌, [], length, set, sym, ap, subst, arith}
-use Rattle.lapd_sim_machine.specs.Bench.{terminal_at, octets_sent, after_sending, with_terminal}
-use Rattle.lapd_sim_machine.specs.Steps.{octets_at}
+use Rattle.model_sim.specs.Bench.{terminal_at, octets_sent, after_sending, with_terminal}
+use Rattle.model_sim.specs.Steps.{octets_at}
 use Rattle.lapd_sim.specs.Obeyed.{scene}
 use Rattle.lapd_sim.specs.Stands.{Stands, Holds, Each, Hears, Sends}
 use Rattle.lapd_sim.proofs.Eachs.{each_at, each_set}

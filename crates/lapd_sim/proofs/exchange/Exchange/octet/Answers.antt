@@ -1,7 +1,7 @@
 use Rattle.std.proofs.Common.{ap, ◌∙◌}
-use Rattle.lapd_card_machine.specs.Event.{at}
-use Rattle.lapd_line_machine.specs.declared.config.Config.{Config}
-use Rattle.lapd_line_machine.specs.Answer as happening
+use Rattle.model_card.specs.Event.{at}
+use Rattle.model_line.specs.declared.config.Config.{Config}
+use Rattle.model_line.specs.Answer as happening
 use Rattle.lapd_sim.proofs.Exchanges.{past_on}
 use Rattle.lapd_sim.proofs.exchange.Exchange.octet.Goals as goal
 

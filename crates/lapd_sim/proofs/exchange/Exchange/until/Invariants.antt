@@ -2,7 +2,7 @@ use Rattle.std.proofs.Common.{◌≡◌}
 use Rattle.lapd_clock.specs.Timers.{time_until}
 use Rattle.lapd_sim.specs.Stands.{Holds}
 use Rattle.lapd_sim.proofs.Waits.{Waits}
-use Rattle.lapd_sim_machine.specs.Bench as machine
+use Rattle.model_sim.specs.Bench as machine
 use Rattle.lapd_transcript.specs.Streams.{output}
 use Rattle.lapd_sim.proofs.exchange.Exchange.until.Given as goal
 

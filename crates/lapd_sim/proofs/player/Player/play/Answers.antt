@@ -1,5 +1,5 @@
 use Rattle.std.proofs.Common.{[], ◌++◌, ◌∙◌, None, Ok, Err, refl, sym, ap, subst}
-use Rattle.lapd_sim_machine.specs.Script.{played}
+use Rattle.model_sim.specs.Script.{played}
 use Rattle.lapd_sim.specs.Faults.{fault_at}
 use Rattle.lapd_sim.specs.Obeyed.{Does, said}
 use Rattle.lapd_sim.specs.Pages.{PutsSome}

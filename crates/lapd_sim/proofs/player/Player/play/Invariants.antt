@@ -1,5 +1,5 @@
 use Rattle.std.proofs.Common.{◌≡◌, ◌-◌, ◌^◌, ℕ, List, Option}
-use Rattle.lapd_sim_machine.specs.Bench as machine
+use Rattle.model_sim.specs.Bench as machine
 use Rattle.lapd_sim.specs.ScriptLines.{AreLeft}
 use Rattle.lapd_sim.specs.Stands.{Has}
 use Rattle.lapd_sim.proofs.Playing.{IsPlayed}

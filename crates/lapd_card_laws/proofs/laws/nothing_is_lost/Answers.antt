@@ -1,9 +1,0 @@
-use Rattle.lapd_card_laws.proofs.Keeping.{kept, run-counted, begins-empty}
-use Rattle.lapd_card_laws.proofs.laws.nothing_is_lost.Goals as goal
-
-pub returns : goal.returns
-returns c = record {
-  kept = λ card events s all. kept card events s all;
-  counted = λ card events s all. run-counted card events s all;
-  begins = λ c. begins-empty c;
-}

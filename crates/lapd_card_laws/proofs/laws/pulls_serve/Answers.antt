@@ -1,9 +1,0 @@
-use Rattle.lapd_card_laws.proofs.Serving.{served-in, units-all, turns-stay}
-use Rattle.lapd_card_laws.proofs.laws.pulls_serve.Goals as goal
-
-pub returns : goal.returns
-returns c = record {
-  served = λ card events s all. served-in card events s all;
-  units = λ card events s all. units-all card events s all;
-  turns = λ card events s all. turns-stay card events s all;
-}

@@ -1,5 +1,0 @@
-use Rattle.lapd_card_laws.proofs.Granting.{effect-all}
-use Rattle.lapd_card_laws.proofs.laws.requests_take_effect.Goals as goal
-
-pub returns : goal.returns
-returns c = λ card events s all. effect-all card events s all

@@ -1,5 +1,0 @@
-use Rattle.lapd_card_laws.proofs.Causing.{noted-all}
-use Rattle.lapd_card_laws.proofs.notes.nothing_else_is_noted.Goals as goal
-
-pub returns : goal.returns
-returns c = λ card events s all. noted-all card events s all

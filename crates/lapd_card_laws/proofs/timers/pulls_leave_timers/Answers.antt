@@ -1,5 +1,0 @@
-use Rattle.lapd_card_laws.proofs.Restarting.{leaves-all}
-use Rattle.lapd_card_laws.proofs.timers.pulls_leave_timers.Goals as goal
-
-pub returns : goal.returns
-returns c = λ card events s all. leaves-all card events s all

@@ -1,8 +1,0 @@
--- Which frames pulls begin, in a moment of a run.
-use Rattle.lapd_line_laws.specs.Begun.{says_begun, BeginsAs}
-use Rattle.lapd_card_machine.specs.Run.{Moment}
-use Rattle.lapd_card_laws.specs.Contents.{line_before, line_after}
-
--- The answer says that a frame was begun exactly where one was, at the line of the event.
-abbrev pub IsBegunIn : Moment → Type 0
-IsBegunIn m = BeginsAs (says_begun m.answer) (line_before m) (line_after m)

@@ -1,6 +1,0 @@
-use Rattle.std.proofs.Common.{◌≡◌}
-use Rattle.lapd_card_tests.proofs.example.order.Given as goal
-
--- the clock still has its lines
-abbrev pub invariant-loop-order : goal.invariant-loop-order
-invariant-loop-order l = l.timers.lines ≡ l.fn.timers.lines

@@ -1,7 +1,0 @@
-use Rattle.std.proofs.Common.{◌≡◌}
-use Rattle.lapd_card.specs.Card.{line_count}
-use Rattle.lapd_card_tests.proofs.example.serve.Given as goal
-
--- the card still has its line
-abbrev pub invariant-loop-octet : goal.invariant-loop-octet
-invariant-loop-octet l = line_count l.card ≡ 1

@@ -1,8 +1,0 @@
-use Rattle.lapd_line_laws.proofs.Heeding.{frame-heeded, malformed-followed}
-use Rattle.lapd_line_laws.proofs.laws.frames_are_heeded.Goals as goal
-
-pub returns : goal.returns
-returns c = record {
-  frames = λ c l value service tei place parts octets s. frame-heeded c l s value service tei place parts octets;
-  malformed = λ c e l service tei place what s. malformed-followed c l s e service tei place what;
-}

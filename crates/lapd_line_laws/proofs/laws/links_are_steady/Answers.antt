@@ -1,5 +1,0 @@
-use Rattle.lapd_line_laws.proofs.Happening.{event-happens}
-use Rattle.lapd_line_laws.proofs.laws.links_are_steady.Goals as goal
-
-pub returns : goal.returns
-returns c = λ c e l number s few. event-happens c e l number s few

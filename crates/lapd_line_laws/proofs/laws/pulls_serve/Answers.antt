@@ -1,9 +1,0 @@
-use Rattle.lapd_line_laws.proofs.Serving.{served, units-wait, turn-stays}
-use Rattle.lapd_line_laws.proofs.laws.pulls_serve.Goals as goal
-
-pub returns : goal.returns
-returns c = record {
-  served = λ c l ranged s. served c l s;
-  units = λ c e l. units-wait c e l;
-  turns = λ c e l. turn-stays c e l;
-}

@@ -1,9 +1,0 @@
-use Rattle.lapd_line_laws.proofs.Granting.{link-takes-effect}
-use Rattle.lapd_line_laws.proofs.Managing.{management-takes-effect}
-use Rattle.lapd_line_laws.proofs.laws.requests_take_effect.Goals as goal
-
-pub returns : goal.returns
-returns c = record {
-  link = λ c e l ranged s. link-takes-effect c e l ranged s;
-  management = λ c e l. management-takes-effect c e l;
-}

@@ -1,5 +1,0 @@
-use Rattle.lapd_line_laws.proofs.Beginning.{begins-as}
-use Rattle.lapd_line_laws.proofs.notes.begun_is_true.Goals as goal
-
-pub returns : goal.returns
-returns c = λ c e l ranged s. begins-as c e l ranged s

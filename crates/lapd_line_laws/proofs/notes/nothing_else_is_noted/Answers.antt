@@ -1,5 +1,0 @@
-use Rattle.lapd_line_laws.proofs.Noted.{notes-its-own}
-use Rattle.lapd_line_laws.proofs.notes.nothing_else_is_noted.Goals as goal
-
-pub returns : goal.returns
-returns c = λ c e l s. notes-its-own c e l s

@@ -1,5 +1,0 @@
-use Rattle.lapd_line_laws.proofs.Restarting.{pulls-leave}
-use Rattle.lapd_line_laws.proofs.timers.pulls_leave_timers.Goals as goal
-
-pub returns : goal.returns
-returns c = λ c e l s. pulls-leave c e l s

@@ -1,7 +1,0 @@
--- The law is that of EventsReject and ByEvent.
-use Rattle.lapd_line_machine.proofs.ByEvent.{event_rises, heard_counted, hears_one, falls_by_pull}
-use Rattle.lapd_line_machine.proofs.EventsReject.{event_rejects}
-use Rattle.lapd_line_machine.proofs.laws.lines_rise.Goals as goal
-
-pub returns : goal.returns
-returns c = record { rises = event_rises; rejects = event_rejects; counts = heard_counted; hears = hears_one; pulls = falls_by_pull }

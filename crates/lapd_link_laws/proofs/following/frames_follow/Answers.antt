@@ -1,8 +1,0 @@
-use Rattle.lapd_link_laws.proofs.Follows.{event-follows}
-use Rattle.lapd_link_laws.proofs.following.frames_follow.Goals as goal
-
-pub returns-clause-waiting : goal.returns-clause-waiting
-returns-clause-waiting c = λ t e l. (event-follows t e l).leaves.waiting
-
-pub returns-clause-lost : goal.returns-clause-lost
-returns-clause-lost c = λ t e l. (event-follows t e l).leaves.lost_is

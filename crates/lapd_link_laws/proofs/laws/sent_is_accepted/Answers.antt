@@ -1,9 +1,0 @@
-use Rattle.lapd_link_laws.proofs.Keeping.{event-done}
-use Rattle.lapd_link_laws.proofs.Offering.{given-is-offered}
-use Rattle.lapd_link_laws.proofs.laws.sent_is_accepted.Goals as goal
-
-pub returns-clause-offered : goal.returns-clause-offered
-returns-clause-offered c = λ t l r s. given-is-offered t l s
-
-pub returns-clause-goes_on : goal.returns-clause-goes_on
-returns-clause-goes_on c = λ t e l r s. (event-done t l s e).follows

@@ -1,5 +1,0 @@
-use Rattle.lapd_link_laws.proofs.Alone.{given-may-go}
-use Rattle.lapd_link_laws.proofs.sending.busy_is_left_alone.Goals as goal
-
-pub returns : goal.returns
-returns c = record { left_alone = λ t l s. given-may-go t l s }

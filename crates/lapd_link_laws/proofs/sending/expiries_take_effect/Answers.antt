@@ -1,5 +1,0 @@
-use Rattle.lapd_link_laws.proofs.Expiries.{expires}
-use Rattle.lapd_link_laws.proofs.sending.expiries_take_effect.Goals as goal
-
-pub returns : goal.returns
-returns c = record { takes_effect = λ t timer l running. expires t l timer running }

@@ -1,5 +1,0 @@
-use Rattle.lapd_link_laws.proofs.Starting.{given-leaves}
-use Rattle.lapd_link_laws.proofs.sending.offers_leave_timers.Goals as goal
-
-pub returns : goal.returns
-returns c = record { left = λ t l. given-leaves t l }

@@ -1,5 +1,0 @@
-use Rattle.lapd_link_laws.proofs.InOrder.{given-in-order}
-use Rattle.lapd_link_laws.proofs.sending.sent_in_order.Goals as goal
-
-pub returns : goal.returns
-returns c = record { in_order = λ t l s. given-in-order t l s }

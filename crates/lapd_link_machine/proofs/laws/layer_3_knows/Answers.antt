@@ -1,9 +1,0 @@
-use Rattle.lapd_link_machine.proofs.KnownRows
-use Rattle.lapd_link_machine.proofs.OwnNotes.{notes-own}
-use Rattle.lapd_link_machine.proofs.laws.layer_3_knows.Goals as goal
-
-pub returns-clause-each : goal.returns-clause-each
-returns-clause-each c = λ t e l. KnownRows.layer_3_knows t e l
-
-pub returns-clause-own : goal.returns-clause-own
-returns-clause-own c = λ t e l. notes-own t e l

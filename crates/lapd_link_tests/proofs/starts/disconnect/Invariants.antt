@@ -1,6 +1,0 @@
--- The link works.
-use Rattle.lapd_link_tests.specs.Works.{Works}
-use Rattle.lapd_link_tests.proofs.starts.disconnect.Given as goal
-
-abbrev pub invariant-loop : goal.invariant-loop
-invariant-loop l = Works 127 l.bench

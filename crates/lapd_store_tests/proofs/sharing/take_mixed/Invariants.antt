@@ -1,8 +1,0 @@
-use Rattle.lapd_store.specs.Store.{SameLimits}
-use Rattle.lapd_store_tests.specs.Outbox.{Shares}
-use Rattle.lapd_store_tests.proofs.sharing.take_mixed.Given as goal
-
-abbrev pub invariant-loop-turn : goal.invariant-loop-turn
-invariant-loop-turn g l =
-    SameLimits (g.S.Shelf.store l.initial.shelf) (g.S.Shelf.store l.shelf)
-    × Shares (g.S.Shelf.store l.shelf) l.first l.second

@@ -1,8 +1,0 @@
-use Rattle.std.proofs.Common.{[], ◌∙◌}
-use Rattle.lapd_tables.proofs.events.receive.Goals as goal
-
-pub receive-requires : goal.receive-requires
-receive-requires c = ([], c.requires.0, c.requires.1)
-
-pub returns : goal.returns
-returns c = (_, c.receive.ensures.stands [] c.requires.0 c.requires.1, c.receive.ensures.limits.slots ∙ c.requires.2)

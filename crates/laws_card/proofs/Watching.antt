@@ -1,0 +1,64 @@
+-- What is watched at a line from moment to moment, and keeps in step with the line, does so over whole runs.
+use Rattle.std.proofs.Common.{◌≡◌, ◌≢◌, ℕ, ◌<◌, ◌==◌, Bool, true, false, cond, List, [], ◌∷◌, get_or, set, refl, sym, ap, ◌∙◌, subst, arith, eqb-true, eq-eqb, true≢false}
+use Rattle.std.specs.Prelude.{fold}
+use Rattle.std.proofs.lemmas.Bool.{and_parts}
+use Rattle.std.proofs.lemmas.List.{get_or-set_same, get_or-set_other}
+use Rattle.std.proofs.lemmas.List.Elements.{All-head, All-tail}
+use Rattle.lapd_frame.specs.declared.refusals.Refusal.TheVariants.{PoolFull}
+use Rattle.model_line.specs.declared.config.Config.{Config}
+use Rattle.model_line.specs.Answer as happening
+use Rattle.model_line.specs.Answer.{Answer, refused}
+use Rattle.model_line.specs.Line.{Line, fresh_line}
+use Rattle.model_line.specs.Machine as lines
+use Rattle.model_line.specs.Request.{Request}
+use Rattle.model_line.specs.Sound as line
+use Rattle.model_card.specs.Event.{Event}
+use Rattle.model_card.specs.Card.{Card, line_at, is_full}
+use Rattle.model_card.specs.Machine.{after, answer}
+use Rattle.model_card.specs.Run.{Moment, moments, after_all, IsAtLine, AreAtLines}
+use Rattle.model_card.specs.Sound.{IsSound}
+use Rattle.model_card.proofs.CardSound.{after_is_sound}
+use Rattle.model_card.proofs.EachMoment.{moment_of}
+use Rattle.model_card.proofs.Steps.{has_lines, by_room, line_sound}
+
+module _ {X : Type 0} (seen : Line → X) (watch : X → happening.Event → Answer → X)
+    (steps : (c : Config) (e : happening.Event) (l : Line) → line.IsSound c l → watch (seen l) e (lines.answer c e l) ≡ seen (lines.after c e l))
+    (rests : (x : X) (r : Request) → watch x (happening.request r) (refused PoolFull) ≡ x) where
+  abbrev pub one_more : ℕ → X → Moment → X
+  one_more number x m = cond (m.event.line == number) (watch x m.event.what m.answer) x
+
+  module _ (card : Card) (e : Event) (s : IsSound card) (here : IsAtLine card e) where
+    full-rests : (what : happening.Event) → lines.takes_slot card.config what (line_at e.line card) ≡ true → (x : X) → watch x what (refused PoolFull) ≡ x
+    unfolding lines.takes_slot
+    full-rests (happening.octet value) takes x = absurd (true≢false (sym takes))
+    full-rests (happening.expiry timer) takes x = absurd (true≢false (sym takes))
+    full-rests (happening.request r) takes x = rests x r
+    full-rests happening.pull takes x = absurd (true≢false (sym takes))
+
+    own-line : watch (seen (line_at e.line card)) e.what (answer e card) ≡ seen (line_at e.line (after e card))
+    own-line =
+        by_room (λ ls a. watch (seen (line_at e.line card)) e.what a ≡ seen (get_or ls e.line (fresh_line card.config))) e card
+        (λ full. full-rests e.what (and_parts (lines.takes_slot card.config e.what (line_at e.line card)) (is_full card) full).0 (seen (line_at e.line card)))
+        (λ room.
+        steps card.config e.what (line_at e.line card) (line_sound card e.line (has_lines card s) here)
+        ∙ ap seen (sym (get_or-set_same card.lines e.line (lines.after card.config e.what (line_at e.line card)) (fresh_line card.config) (omega (arith, s.count, here)))))
+
+    apart : (other : ℕ) → other ≢ e.line → line_at other (after e card) ≡ line_at other card
+    apart other away =
+        by_room (λ ls a. get_or ls other (fresh_line card.config) ≡ line_at other card) e card (λ full. refl)
+        (λ room. get_or-set_other card.lines e.line other (lines.after card.config e.what (line_at e.line card)) (fresh_line card.config) away)
+
+    moment-seen : (number : ℕ) (b : Bool) → (e.line == number) ≡ b
+        → cond b (watch (seen (line_at number card)) e.what (answer e card)) (seen (line_at number card)) ≡ seen (line_at number (after e card))
+    moment-seen number true is =
+        subst (λ n. watch (seen (line_at n card)) e.what (answer e card) ≡ seen (line_at n (after e card))) (eqb-true e.line number is) own-line
+    moment-seen number false other = ap seen (sym (apart number (λ same. true≢false (sym (eq-eqb e.line number (sym same)) ∙ other))))
+
+  pub run-seen : (card : Card) (events : List Event) → IsSound card → AreAtLines card events → (number : ℕ)
+      → fold (one_more number) (seen (line_at number card)) (moments card events) ≡ seen (line_at number (after_all card events))
+  unfolding moments after_all
+  run-seen card [] s all number = refl
+  run-seen card (e ∷ events) s all number =
+      let here = All-head (IsAtLine card) e events all in
+      ap (λ x. fold (one_more number) x (moments (after e card) events)) (moment-seen card e s here number (e.line == number) refl)
+      ∙ run-seen (after e card) events (after_is_sound card e s here) (All-tail (IsAtLine card) e events all) number

@@ -1,0 +1,18 @@
+use Rattle.laws_card.proofs.Enough.{enough-pulls}
+use Rattle.laws_card.proofs.Wherever.{answers-begun, come-to-an-end, few-to-go, begins-with-few}
+use Rattle.laws_card.proofs.progress.pulls_serve_wherever.Goals as goal
+
+pub returns-clause-answered : goal.returns-clause-answered
+returns-clause-answered c = answers-begun
+
+pub returns-clause-ended : goal.returns-clause-ended
+returns-clause-ended c = come-to-an-end
+
+pub returns-clause-few : goal.returns-clause-few
+returns-clause-few c = few-to-go
+
+pub returns-clause-begins : goal.returns-clause-begins
+returns-clause-begins c = begins-with-few
+
+pub returns-clause-enough : goal.returns-clause-enough
+returns-clause-enough c = enough-pulls

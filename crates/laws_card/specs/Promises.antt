@@ -1,0 +1,141 @@
+-- What is promised of a list of events, from a card on.
+use Rattle.std.specs.Prelude.{◌≡◌, ◌<◌, ℕ, false, List, [], ◌++◌, Some, All}
+use Rattle.lapd_frame.specs.declared.services.Service.{Service}
+use Rattle.lapd_frame.specs.declared.timers.Timer.{Timer}
+use Rattle.laws_link.specs.History.{IsCounted, nothing_yet}
+use Rattle.laws_line.specs.Pulls.{IsServed}
+use Rattle.laws_line.specs.Knowledge.{is_up_of}
+use Rattle.laws_line.specs.Timers.{is_needed}
+use Rattle.model_line.specs.declared.config.Config.{Config}
+use Rattle.model_line.specs.Line.{has_tei, tei_at}
+use Rattle.model_card.specs.Card.{Card, fresh, line_at}
+use Rattle.model_card.specs.Event.{Event}
+use Rattle.model_card.specs.Numbered.{LinkName}
+use Rattle.model_card.specs.Promises.{HasLink}
+use Rattle.model_card.specs.Run.{moments, after_all}
+use Rattle.laws_card.specs.Contents.{link_named, begun, history, accepted_at}
+use Rattle.laws_card.specs.Faithful.{IsFaithful, UnitsWaitIn, TurnStaysIn, IsHeededIn, TakesEffectIn, ExpiryTakesEffectIn, IsSteadyIn}
+use Rattle.laws_card.specs.Heard.{IsHeardIn}
+use Rattle.laws_card.specs.Begun.{IsBegunIn}
+use Rattle.laws_card.specs.Knowledge.{up_by_notes, on_by_notes}
+use Rattle.laws_card.specs.Messages.{HaveCausesIn, AreThereIn, HaveReasonsIn, NotesItsOwnIn}
+use Rattle.laws_card.specs.Received.{octets_at}
+use Rattle.laws_card.specs.Timers.{runs_at_callers, LeavesTimersIn}
+
+-- In every moment nothing that was accepted is lost silently.
+abbrev pub IsKept : Card → List Event → Type 0
+IsKept m events = All IsFaithful (moments m events)
+
+-- So each link holds what was accepted since its numbers began, in order, without what went, and V(A) counts those that
+-- were acknowledged.
+abbrev pub IsCountedIn : Card → List Event → Type 0
+IsCountedIn m events =
+    (name : LinkName) → HasLink m name → IsCounted (history name m (moments m events)) (link_named name (after_all m events))
+
+-- On a card as it begins the histories begin with nothing.
+abbrev pub BeginsEmpty : Config → Type 0
+BeginsEmpty c = (name : LinkName) → HasLink (fresh c) name → begun name (fresh c) ≡ nothing_yet
+
+-- What a pull of a line begins after these events: a message, the oldest unit data, or a frame of a link, whose
+-- information, if it is an I-frame, is contents number V(S) of those that the link has accepted since its numbers began;
+-- or nothing waits.
+abbrev pub IsServedIn : Card → List Event → Type 0
+IsServedIn m events =
+    (number : ℕ) → number < m.config.lines → IsServed m.config (accepted_at m events number) (line_at number (after_all m events))
+
+-- In every moment unit data waits that was granted,
+abbrev pub UnitsWaitAll : Card → List Event → Type 0
+UnitsWaitAll m events = All UnitsWaitIn (moments m events)
+
+-- and whose turn it is, is changed by pulls alone.
+abbrev pub TurnsStay : Card → List Event → Type 0
+TurnsStay m events = All TurnStaysIn (moments m events)
+
+-- In every moment each frame for a link is heeded,
+abbrev pub AreHeeded : Card → List Event → Type 0
+AreHeeded m events = All IsHeededIn (moments m events)
+
+-- each request that is granted takes effect,
+abbrev pub TakeEffect : Card → List Event → Type 0
+TakeEffect m events = All TakesEffectIn (moments m events)
+
+-- so does each expiry of a timer that runs,
+abbrev pub ExpiriesTakeEffectIn : Card → List Event → Type 0
+ExpiriesTakeEffectIn m events = All ExpiryTakesEffectIn (moments m events)
+
+-- each link is steady,
+abbrev pub AreSteady : Card → List Event → Type 0
+AreSteady m events = All IsSteadyIn (moments m events)
+
+-- and what was heard is delivered, once, and from whom, and nothing else.
+abbrev pub IsDelivered : Card → List Event → Type 0
+IsDelivered m events = All IsHeardIn (moments m events)
+
+-- The octets that each line has received are those that it had received before, and behind them its octets of these events,
+-- in order, and no other (Q.921 clause 2).
+abbrev pub AreReceived : Card → List Event → Type 0
+AreReceived m events =
+    (line : ℕ) → line < m.config.lines →
+    (line_at line (after_all m events)).received ≡ (line_at line m).received ++ octets_at line events
+
+-- On a card as it begins none are: so from there on they are exactly those of the events.
+abbrev pub BeginsUnheard : Config → Type 0
+BeginsUnheard c = (line : ℕ) → line < c.lines → (line_at line (fresh c)).received ≡ []
+
+-- A caller that runs exactly the timers that are needed before a run, and obeys, does so after it.
+abbrev pub RunsWhatIsNeeded : Card → List Event → Type 0
+RunsWhatIsNeeded m events =
+    (line : ℕ) (timer : Timer) → line < m.config.lines →
+    runs_at_callers line timer (is_needed timer (line_at line m)) (moments m events) ≡ is_needed timer (line_at line (after_all m events))
+
+-- On a card as it begins none is needed.
+abbrev pub NeedsNone : Config → Type 0
+NeedsNone c = (line : ℕ) (timer : Timer) → line < c.lines → is_needed timer (line_at line (fresh c)) ≡ false
+
+-- Whoever knows before a run which links are up, and which TEIs are on each line, knows it after it by the notes, and for
+-- the TEIs by the requests that were granted.
+abbrev pub NotesTell : Card → List Event → Type 0
+NotesTell m events =
+    (line : ℕ) (service : Service) (tei : ℕ) → line < m.config.lines →
+    up_by_notes line service tei (is_up_of service tei (line_at line m)) (moments m events) ≡ is_up_of service tei (line_at line (after_all m events))
+
+abbrev pub TeisAreTold : Card → List Event → Type 0
+TeisAreTold m events =
+    (line tei : ℕ) → line < m.config.lines →
+    on_by_notes line tei (has_tei tei (line_at line m)) (moments m events) ≡ has_tei tei (line_at line (after_all m events))
+
+-- On a card as it begins no link is up, and no TEI on a line.
+abbrev pub BeginsDown : Config → Type 0
+BeginsDown c =
+    (line : ℕ) (service : Service) (tei : ℕ) → line < c.lines →
+    (is_up_of service tei (line_at line (fresh c)) ≡ false) × (has_tei tei (line_at line (fresh c)) ≡ false)
+
+-- No TEI has two places of a line.
+abbrev pub TeisHaveOnePlace : Card → List Event → Type 0
+TeisHaveOnePlace m events =
+    (line one other tei : ℕ) → line < m.config.lines →
+    tei_at one (line_at line (after_all m events)) ≡ Some tei → tei_at other (line_at line (after_all m events)) ≡ Some tei → one ≡ other
+
+-- In every moment the answer says that a frame was begun exactly where one was: the octet pulled has its first bit.
+abbrev pub BegunIsTold : Card → List Event → Type 0
+BegunIsTold m events = All IsBegunIn (moments m events)
+
+-- In every moment each message of TEI management that comes to wait has its cause, and each cause its message;
+abbrev pub MessagesHaveCauses : Card → List Event → Type 0
+MessagesHaveCauses m events = All HaveCausesIn (moments m events)
+
+-- and a TEI that is told to a terminal is on its line when the message comes to wait.
+abbrev pub ToldTeisAreThere : Card → List Event → Type 0
+ToldTeisAreThere m events = All AreThereIn (moments m events)
+
+-- In every moment what is noted of TEIs has its reason.
+abbrev pub NotesHaveReasons : Card → List Event → Type 0
+NotesHaveReasons m events = All HaveReasonsIn (moments m events)
+
+-- In every moment a pull starts no timer anew that runs.
+abbrev pub TimersAreLeft : Card → List Event → Type 0
+TimersAreLeft m events = All LeavesTimersIn (moments m events)
+
+-- And in every moment nothing else is noted than what the event has noted.
+abbrev pub NothingElseIsNoted : Card → List Event → Type 0
+NothingElseIsNoted m events = All NotesItsOwnIn (moments m events)

@@ -1,0 +1,29 @@
+//! Laws of whole runs of a card that say what it does: what becomes of what layer 3 gave, what pulls begin, and what
+//! comes of what was heard.
+//!
+//! The machine itself, and the laws that say what a card never does, stand in `model_card`; the laws of a line in
+//! `laws_line`, and those of a link in `laws_link`. `specs/` has the contents of the links from moment to moment
+//! (`Contents`), what holds in a moment (`Faithful`, `Heard`), what is promised of a list of events (`Promises`), which
+//! timers a caller runs (`Timers`), what a line comes to by its pulls (`Among`, `PromisesOfPulls`), what notes tell (`Knowledge`), which frames pulls begin (`Begun`), which octets come to
+//! a line (`Received`), why messages of TEI management come to wait (`Messages`), the laws, which say of which cards and
+//! lists (`Laws`), and worked values (`Worked`, `WorkedTimers`, `WorkedNotes`, `WorkedBegun`, `WorkedPlaces`,
+//! `WorkedReceived`, `WorkedReasons`). Each law is the contract of a call that does nothing, and the call of a card that
+//! runs a list of events cites the promises.
+//!
+//! - `laws`, `timers`, `notes`, `management`, `progress`: the laws.
+#![tactic(auto)]
+
+mod laws;
+mod management;
+mod notes;
+mod progress;
+mod timers;
+
+pub use laws::{
+    expiries_take_effect, frames_are_heeded, heard_is_delivered, links_are_steady, nothing_is_lost,
+    pulls_serve, requests_take_effect,
+};
+pub use management::messages_have_causes;
+pub use notes::{begun_is_true, notes_tell, nothing_else_is_noted};
+pub use progress::{pulls_serve_a_line, pulls_serve_wherever};
+pub use timers::{pulls_leave_timers, timers_follow};

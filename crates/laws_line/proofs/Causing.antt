@@ -1,0 +1,210 @@
+-- Why a message of TEI management comes to wait: each event of a line.
+use Rattle.std.proofs.Common.{◌≡◌, ◌⊎◌, inl, inr, ℕ, ◌<◌, ◌==◌, Bool, true, false, not, cond, [], ◌∷◌, length, Option, Some, None, IfSome, refl, sym, ap, ◌∙◌, subst, arith}
+use Rattle.std.specs.Option.{option_map_or}
+use Rattle.lapd_bits.specs.declared.heard.Cause.TheVariants.{Tei}
+use Rattle.lapd_frame.specs.declared.addresses.Address.{Address}
+use Rattle.lapd_frame.specs.declared.refusals.Refusal.{Refusal}
+use Rattle.lapd_frame.specs.declared.services.Service.{Service}
+use Rattle.lapd_frame.specs.declared.timers.Timer.TheVariants.{T200, T203, T201}
+use Rattle.lapd_frame.specs.Grammar.{Parts}
+use Rattle.lapd_frame.specs.Services.{service_of}
+use Rattle.model_link.specs.Events as link
+use Rattle.model_link.specs.declared.timers.LinkTimer.{LinkTimer}
+use Rattle.model_link.specs.declared.timers.LinkTimer.TheVariants as link_timer
+use Rattle.lapd_tei.specs.Events as teis
+use Rattle.lapd_tei.specs.Machine.{Management}
+use Rattle.lapd_tei.specs.Messages.{heard_in}
+use Rattle.lapd_tei.specs.Rows as rows
+use Rattle.lapd_tei.specs.Words as words
+use Rattle.lapd_tei.specs.declared.outcome.Change.{Change}
+use Rattle.lapd_tei.specs.declared.outcome.Change.TheVariants.{Gained, Left}
+use Rattle.model_line.specs.declared.config.Config.{Config}
+use Rattle.model_line.specs.Answer.{Event, octet, expiry, request, pull, Answer, nothing}
+use Rattle.model_line.specs.Effect.{Aim, at_none, at_management, told_of_management, of_change, of_aim}
+use Rattle.model_line.specs.Expiry.{at_timer}
+use Rattle.model_line.specs.Line.{Line, place_in, has_tei}
+use Rattle.model_line.specs.Machine.{after, answer, unless_refused, unless_refused_told}
+use Rattle.model_line.specs.Octet.{management_sapi, group_tei, drop_for, to_service, addressed, message_of, aim_of_reading, aim_of_heard, aim_of_octet, with_received}
+use Rattle.model_line.specs.Pull.{Taken, taken, is_due, with_item, after_pull}
+use Rattle.model_line.specs.Refusal.{bad_tei, no_link, tei_taken, table_full, check_running, control_full, refusal}
+use Rattle.model_line.specs.Request.{Request, Establish, Release, Data, Unit, Assign, Remove, Check, SetBusy, ClearBusy}
+use Rattle.model_line.specs.Requested.{at_requested, aim_of_request}
+use Rattle.model_line.specs.Sound.{IsInRange, IsSound}
+use Rattle.model_line.proofs.Ranges.{ranges_of}
+use Rattle.laws_line.specs.Causes.{Hears, HasCause, IsTaken, HaveCauses}
+use Rattle.laws_line.specs.Frames.{lost_in}
+use Rattle.laws_line.specs.Messages.{Said, Says, Serves, Expires, Grants}
+use Rattle.laws_line.specs.Share.{is_granted}
+use Rattle.laws_line.proofs.Asked.{passed}
+use Rattle.laws_line.proofs.Granting.{not-refused}
+use Rattle.laws_line.proofs.GroupAims.{brings, IsUi, hears, octet-aims}
+use Rattle.laws_line.proofs.LinkMoves.{IsOne, taken-one}
+use Rattle.laws_line.proofs.Managing.{by-two, by-three, managed}
+use Rattle.laws_line.proofs.Messaging.{serves, told-or-not, expires, puts-on, takes-off, begins-asked}
+use Rattle.lapd_tei.proofs.Tables.{not_not}
+
+-- How many messages an event of TEI management loses is what the line tells.
+module _ (c : Config) (l : Line) (e : teis.Event) where
+  lost-is : (of_aim c (at_management e) l).told.lost ≡ (teis.told e l.management).lost
+  lost-is = by-change (teis.told e l.management).change
+    where
+      by-change : (o : Option Change) → (of_change c o (told_of_management (teis.told e l.management)) (record l { management = teis.after e l.management })).told.lost ≡ (teis.told e l.management).lost
+      by-change None = refl
+      by-change (Some (Gained tei place)) = refl
+      by-change (Some (Left tei place)) = refl
+
+-- A message of a terminal is an event of TEI management.
+module _ (c : Config) (l : Line) where
+  to-group : (address : Address) (what : link.Received) (m : Aim) → address.sapi ≡ 63 → address.tei ≡ 127 → addressed l address what m ≡ m
+  to-group address what m sapi group =
+      ap (λ n. cond (n == management_sapi) (cond (address.tei == group_tei) m (drop_for Tei)) (to_service l address.tei what (service_of n))) sapi
+      ∙ ap (λ n. cond (n == group_tei) m (drop_for Tei)) group
+
+  heard-aim : (e : Event) (said : Said) (h : Hears c l e said) → aim_of_octet c h.value l ≡ at_management (teis.message h.parts.info)
+  heard-aim e said h =
+      ap (λ o. option_map_or (aim_of_heard l) o (at_none nothing)) (brings c l h.value h.octets h.ends)
+      ∙ ap (aim_of_reading l) h.read
+      ∙ to-group h.parts.address (link.frame h.parts) (message_of h.parts.control h.parts.info) h.sapi h.group
+      ∙ ap (λ k. message_of k h.parts.info) h.control
+
+  served : (e : Event) (said : Said) → IsSound c l → length l.management.places < 63 → Hears c l e said
+      → Serves said l.management (after c e l).management (lost_in (answer c e l))
+  unfolding after answer teis.course teis.refusal
+  served e said s few h =
+      subst (λ x. Serves said l.management (after c x l).management (lost_in (answer c x l))) (sym h.by)
+      (subst (λ aim. let f = of_aim c aim (with_received h.value l) in Serves said l.management f.line.management f.told.lost) (sym (heard-aim e said h))
+      (subst (λ (m : Management). Serves said l.management m (of_aim c (at_management (teis.message h.parts.info)) (with_received h.value l)).told.lost) (sym (managed c (with_received h.value l) (teis.message h.parts.info)))
+      (subst (λ n. Serves said l.management (teis.after (teis.message h.parts.info) l.management) n) (sym (lost-is c (with_received h.value l) (teis.message h.parts.info)))
+      (serves l.management said h.parts.info s.management few h.says))))
+
+  -- So is the expiry of T201,
+  expired : (e : Event) → IsSound c l → e ≡ expiry T201 → Expires l.management.check l.management (after c e l).management (lost_in (answer c e l))
+  unfolding after answer teis.course teis.refusal
+  expired e s is =
+      subst (λ x. Expires l.management.check l.management (after c x l).management (lost_in (answer c x l))) (sym is)
+      (subst (λ (m : Management). Expires l.management.check l.management m (of_aim c (at_management teis.expiry) l).told.lost) (sym (managed c l teis.expiry))
+      (subst (λ n. Expires l.management.check l.management (teis.after teis.expiry l.management) n) (sym (lost-is c l teis.expiry))
+      (expires l.management s.management l.management.check s.management.checked)))
+
+  -- and so is a request of management that is granted.
+  abbrev Granted : Request → Management → ℕ → Type 0
+  Granted r m lost = Grants r l.management m lost
+
+  by-step : (r : Request) (e : teis.Event) → refusal c false r l ≡ None → aim_of_request r l ≡ at_management e → teis.refusal e l.management ≡ None
+      → (let x = teis.step e (words.begun l.management) in Granted r x.now x.told.lost) → Granted r (after c (request r) l).management (lost_in (answer c (request r) l))
+  unfolding after answer teis.course
+  by-step r e none aim own h =
+      subst (λ o. Granted r (of_aim c (unless_refused o (aim_of_request r l)) l).line.management (lost_in (unless_refused_told o (of_aim c (unless_refused o (aim_of_request r l)) l)))) (sym none)
+      (subst (λ a. Granted r (of_aim c a l).line.management (of_aim c a l).told.lost) (sym aim)
+      (subst (λ (m : Management). Granted r m (of_aim c (at_management e) l).told.lost) (sym (managed c l e))
+      (subst (λ n. Granted r (teis.after e l.management) n) (sym (lost-is c l e))
+      (subst (λ o. let x = teis.unless_refused o (teis.step e) l.management in Granted r x.now x.told.lost) (sym own) h))))
+
+  grants : (r : Request) → refusal c false r l ≡ None → Granted r (after c (request r) l).management (lost_in (answer c (request r) l))
+  unfolding teis.refusal
+  grants (Assign tei) none =
+      let bad = passed (bad_tei tei) (tei_taken tei l ∷ table_full l ∷ []) none in
+      let taken = passed (tei_taken tei l) (table_full l ∷ []) bad.1 in
+      let full = passed (table_full l) [] taken.1 in
+      by-step (Assign tei) (teis.assign tei) none refl (by-two _ _ _ _ taken.0 full.0) (puts-on tei l.management taken.0 full.0)
+  grants (Remove tei) none =
+      let bad = passed (bad_tei tei) (no_link tei l ∷ control_full l ∷ []) none in
+      let unknown = passed (no_link tei l) (control_full l ∷ []) bad.1 in
+      let full = passed (control_full l) [] unknown.1 in
+      by-step (Remove tei) (teis.remove tei) none refl (by-two _ _ _ _ unknown.0 full.0) (takes-off tei l.management full.0 (not_not (has_tei tei l) unknown.0))
+  grants (Check tei) none =
+      let bad = passed (bad_tei tei) (no_link tei l ∷ check_running l ∷ control_full l ∷ []) none in
+      let unknown = passed (no_link tei l) (check_running l ∷ control_full l ∷ []) bad.1 in
+      let running = passed (check_running l) (control_full l ∷ []) unknown.1 in
+      let full = passed (control_full l) [] running.1 in
+      by-step (Check tei) (teis.check tei) none refl (by-three _ _ _ _ _ _ unknown.0 running.0 full.0) (begins-asked tei l.management full.0)
+  grants (Establish service tei) none = tt
+  grants (Release service tei) none = tt
+  grants (Data service tei contents) none = tt
+  grants (Unit service tei contents) none = tt
+  grants (SetBusy service tei) none = tt
+  grants (ClearBusy service tei) none = tt
+
+  granted : (e : Event) (r : Request) → e ≡ request r → is_granted (answer c e l) ≡ true → Granted r (after c e l).management (lost_in (answer c e l))
+  granted e r is = subst (λ x. is_granted (answer c x l) ≡ true → Granted r (after c x l).management (lost_in (answer c x l))) (sym is) (λ g. grants r (not-refused c r l g))
+
+-- Without a cause TEI management stays.
+module _ (c : Config) (l : Line) (value : ℕ) where
+  abbrev Caused : Aim → Type 0
+  Caused aim = ((of_aim c aim (with_received value l)).line.management ≡ l.management) ⊎ ((said : Said) × Hears c l (octet value) said)
+
+  -- a UI to the group brings a message, or one that is not served
+  by-message : (parts : Parts) → IsUi c l value parts → Caused (at_management (teis.message parts.info))
+  unfolding teis.course teis.refusal
+  by-message parts ui = go (told-or-not l.management parts.info)
+    where
+      go : ((rows.serve (heard_in parts.info) (words.begun l.management)).now ≡ l.management) ⊎ ((said : Said) × Says parts.info said) → Caused (at_management (teis.message parts.info))
+      go (inl stays) = inl (managed c (with_received value l) (teis.message parts.info) ∙ stays)
+      go (inr (said, says)) = inr (said, hears c l value parts said ui says)
+
+  octet-caused : Caused (aim_of_octet c value l)
+  octet-caused = octet-aims c l value Caused (inl refl) (λ cause. inl refl) (λ service tei place what. inl refl) (λ parts ui. by-message parts ui)
+
+module _ (c : Config) (l : Line) where
+  abbrev FromCause : Event → Line → Answer → Type 0
+  FromCause e next a = (next.management ≡ l.management) ⊎ IsTaken e l.management next.management ⊎ HasCause c l e a
+
+  by-timer : (service : Service) (tei : ℕ) (timer : LinkTimer) (o : Option ℕ) → (of_aim c (at_timer service tei timer o) l).line.management ≡ l.management
+  by-timer service tei timer None = refl
+  by-timer service tei timer (Some place) = refl
+
+  by-asked : (service : Service) (tei : ℕ) (what : link.Request) (o : Option ℕ) → (of_aim c (at_requested service tei what o) l).line.management ≡ l.management
+  by-asked service tei what None = refl
+  by-asked service tei what (Some place) = refl
+
+  asked-caused : (r : Request) (a : Answer) → is_granted a ≡ true → FromCause (request r) (of_aim c (aim_of_request r l) l).line a
+  asked-caused (Establish service tei) a g = inl (by-asked service tei link.Establish (place_in l tei))
+  asked-caused (Release service tei) a g = inl (by-asked service tei link.Release (place_in l tei))
+  asked-caused (Data service tei contents) a g = inl (by-asked service tei (link.Data contents) (place_in l tei))
+  asked-caused (Unit service tei contents) a g = inl refl
+  asked-caused (SetBusy service tei) a g = inl (by-asked service tei link.SetBusy (place_in l tei))
+  asked-caused (ClearBusy service tei) a g = inl (by-asked service tei link.ClearBusy (place_in l tei))
+  asked-caused (Assign tei) a g = inr (inr (inr (inr (record { asked = Assign tei; by = refl; granted = g; its = refl }))))
+  asked-caused (Remove tei) a g = inr (inr (inr (inr (record { asked = Remove tei; by = refl; granted = g; its = refl }))))
+  asked-caused (Check tei) a g = inr (inr (inr (inr (record { asked = Check tei; by = refl; granted = g; its = refl }))))
+
+  -- A pull takes a message, or leaves all of TEI management.
+  took : (a : Answer) (t : Taken) → IsOne c l t → FromCause pull t.line a
+  took a t (inl x) = inr (inl (record { by = refl; rest = ap (λ (u : Taken). u.line.management) x.1 }))
+  took a t (inr (inl x)) = inl (ap (λ (u : Taken). u.line.management) x.1)
+  took a t (inr (inr x)) = inl (ap (λ (u : Taken). u.line.management) x.is)
+
+  pull-caused : IsSound c l → (a : Answer) → FromCause pull (after_pull c l) a
+  pull-caused s a = go (is_due l) (taken c l) (taken-one c l s)
+    where
+      go : (due : Bool) (o : Option Taken) → IfSome o (IsOne c l) → FromCause pull (cond due (with_item o l) l) a
+      go false o x = inl refl
+      go true None x = inl refl
+      go true (Some t) x = took a t x
+
+  caused : (e : Event) → IsSound c l → FromCause e (after c e l) (answer c e l)
+  unfolding after answer
+  caused (octet value) s = go (octet-caused c l value)
+    where
+      go : Caused c l value (aim_of_octet c value l) → FromCause (octet value) (of_aim c (aim_of_octet c value l) (with_received value l)).line (answer c (octet value) l)
+      go (inl stays) = inl stays
+      go (inr h) = inr (inr (inl h))
+  caused (expiry (T200 service tei)) s = inl (by-timer service tei link_timer.T200 (place_in l tei))
+  caused (expiry (T203 service tei)) s = inl (by-timer service tei link_timer.T203 (place_in l tei))
+  caused (expiry T201) s = inr (inr (inr (inl refl)))
+  caused (request r) s = go (refusal c false r l)
+    where
+      go : (o : Option Refusal) → FromCause (request r) (of_aim c (unless_refused o (aim_of_request r l)) l).line (unless_refused_told o (of_aim c (unless_refused o (aim_of_request r l)) l))
+      go None = asked-caused r _ refl
+      go (Some why) = inl refl
+  caused pull s = pull-caused s (answer c pull l)
+
+pub have-causes : (c : Config) (e : Event) (l : Line) → IsInRange c → IsSound c l → HaveCauses c e l (after c e l) (answer c e l)
+have-causes c e l ranged s =
+    let few : length l.management.places < 63 = omega (arith, s.places, (ranges_of c ranged).terminals.most) in
+    record {
+      heard = λ said h. served c l e said s few h;
+      expired = λ is. expired c l e s is;
+      granted = λ r is g. granted c l e r is g;
+      caused = caused c l e s;
+    }

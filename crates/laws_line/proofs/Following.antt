@@ -1,0 +1,316 @@
+-- A caller that obeys the orders of a line's answers runs the timers that the line runs.
+use Rattle.std.proofs.Common.{◌≡◌, ◌≢◌, ℕ, ◌+◌, ◌*◌, ◌<◌, ◌⊎◌, ◌==◌, ◌&&◌, Bool, true, false, is_some, List, ◌++◌, length, get_or, set, Option, Some, None, refl, ap, sym, ◌∙◌, subst, arith, length-set, eqb-true, eq-eqb, true≢false, inl, inr}
+use Rattle.std.proofs.lemmas.Bool.{cases_eq}
+use Rattle.std.proofs.lemmas.List.{get_or-set_same, get_or-set_other}
+use Rattle.std.proofs.lemmas.Option.{none-some}
+use Rattle.lapd_frame.specs.declared.services.Service.{Service}
+use Rattle.lapd_frame.specs.declared.services.Service.TheVariants.{Call, Packet}
+use Rattle.lapd_frame.specs.Services.{same_service}
+use Rattle.lapd_frame.specs.declared.timers.Order.{Order}
+use Rattle.lapd_frame.specs.declared.timers.Timer.{Timer}
+use Rattle.lapd_frame.specs.declared.timers.Timer.TheVariants.{T200, T203, T201}
+use Rattle.model_link.specs.declared.timers.LinkTimer.{LinkTimer}
+use Rattle.model_link.specs.declared.timers.LinkTimer.TheVariants as kind
+use Rattle.model_link.specs.Events as link
+use Rattle.model_link.specs.Link.{Link, fresh}
+use Rattle.model_link.specs.Machine as links
+use Rattle.model_link.specs.Timed.{is_same, obeyed}
+use Rattle.model_link.specs.Told.{runs, timer_at}
+use Rattle.lapd_tei.specs.Laws as tei_laws
+use Rattle.lapd_tei.specs.Laws.{Follows, Moves}
+use Rattle.lapd_tei.specs.Machine.{Management}
+use Rattle.lapd_tei.specs.Sound.{IsAt, IsSoundTable}
+use Rattle.lapd_tei.specs.Table.{place_of}
+use Rattle.lapd_tei.proofs.Tables.{at-off, at-within, place_of-is}
+use Rattle.model_line.specs.declared.config.Config.{Config}
+use Rattle.model_line.specs.Expiry.{runs_at, is_running}
+use Rattle.model_line.specs.Line.{Line, link_number, place_at, link_in, terms, with_link}
+use Rattle.model_line.specs.Sound.{IsSound}
+use Rattle.model_line.proofs.Numbers.{place_at-number, service_at-number, number_within}
+use Rattle.model_line.specs.Line.{service_at}
+use Rattle.laws_line.proofs.Obeyed.{Steers, as_it_was, steers-event, t201-obeyed, t201-leaves, obeyed-append, service-same, services-equal, both-true}
+use Rattle.laws_line.proofs.Places.{has-no-place, has-place, stays-placed}
+
+-- A link's timer of the line, by its kind.
+abbrev pub timer_of : LinkTimer → Service → ℕ → Timer
+timer_of kind.T200 service tei = T200 service tei
+timer_of kind.T203 service tei = T203 service tei
+
+-- What holds of T201 and of both kinds holds of each timer.
+pub each-timer : (P : Timer → Type 0) → P T201 → ((k : LinkTimer) (service : Service) (tei : ℕ) → P (timer_of k service tei)) → (timer : Timer) → P timer
+each-timer P x y T201 = x
+each-timer P x y (T200 service tei) = y kind.T200 service tei
+each-timer P x y (T203 service tei) = y kind.T203 service tei
+
+pub running-of : (k : LinkTimer) (service : Service) (tei : ℕ) (l : Line) → is_running (timer_of k service tei) l ≡ runs_at service k (place_of tei l.management.places) l
+running-of kind.T200 service tei l = refl
+running-of kind.T203 service tei l = refl
+
+-- lines with the same table, check and links run the same timers
+alike : (before after : Line) → after.links ≡ before.links → (k : LinkTimer) (service : Service) (o : Option ℕ) → runs_at service k o after ≡ runs_at service k o before
+alike before after same k service None = refl
+alike before after same k service (Some place) = ap (λ ls. runs k (get_or ls (link_number place service) fresh).running) same
+
+pub same-running : (before after : Line) → after.management.places ≡ before.management.places → is_some after.management.check ≡ is_some before.management.check → after.links ≡ before.links
+    → (timer : Timer) → is_running timer after ≡ is_running timer before
+same-running before after places check links T201 = check
+same-running before after places check links (T200 service tei) =
+    ap (λ ps. runs_at service kind.T200 (place_of tei ps) after) places ∙ alike before after links kind.T200 service (place_of tei before.management.places)
+same-running before after places check links (T203 service tei) =
+    ap (λ ps. runs_at service kind.T203 (place_of tei ps) after) places ∙ alike before after links kind.T203 service (place_of tei before.management.places)
+
+-- Two timers of links are different, where service or TEI are.
+other-timers : (one other : LinkTimer) (c : Config) (s s' : Service) (n n' : ℕ) → (same_service s s' && (n == n')) ≡ false
+    → is_same (timer_at (terms c s n) one) (timer_of other s' n') ≡ false
+other-timers kind.T200 kind.T200 c s s' n n' e = e
+other-timers kind.T200 kind.T203 c s s' n n' e = refl
+other-timers kind.T203 kind.T200 c s s' n n' e = refl
+other-timers kind.T203 kind.T203 c s s' n n' e = e
+
+pub t201-other : (k : LinkTimer) (s : Service) (n : ℕ) → is_same T201 (timer_of k s n) ≡ false
+t201-other kind.T200 s n = refl
+t201-other kind.T203 s n = refl
+
+its-timer : (c : Config) (k : LinkTimer) (s : Service) (n : ℕ) → timer_at (terms c s n) k ≡ timer_of k s n
+its-timer c kind.T200 s n = refl
+its-timer c kind.T203 s n = refl
+
+-- a number is that of one service and one place
+pub same-number : (s s' : Service) (p p' : ℕ) → link_number p s ≡ link_number p' s' → (s ≡ s') × (p ≡ p')
+same-number s s' p p' e = (
+  sym (service_at-number p s) ∙ ap service_at e ∙ service_at-number p' s',
+  sym (place_at-number p s) ∙ ap place_at e ∙ place_at-number p' s',
+)
+
+pub some-same : (a b : ℕ) → Some a ≡ Some b → a ≡ b
+some-same a b e = cc
+
+-- An event of one link.
+module _ (c : Config) (l : Line) (s : IsSound c l) (service : Service) (tei place : ℕ) (at : IsAt l.management.places place tei)
+    (left : Timer → Bool → Bool) (orders : List Order) (y : Link) (steers : Steers (terms c service tei) left orders (link_in l service place) y) where
+  abbrev pub x : Link
+  x = link_in l service place
+
+  abbrev pub n : ℕ
+  n = link_number place service
+
+  here : place_of tei l.management.places ≡ Some place
+  here = has-place l.management.places tei place s.management.table at
+
+  there : get_or (set l.links n y) n fresh ≡ y
+  there = get_or-set_same l.links n y fresh (omega (arith, s.count, s.places, at-within l.management.places place tei at, number_within place c.terminals service (omega (arith, s.places, at-within l.management.places place tei at))))
+
+  abbrev pub Steered : Timer → Type 0
+  Steered timer = obeyed timer (left timer (is_running timer l)) orders ≡ is_running timer (with_link n y l)
+
+  own-timer : (k : LinkTimer) → Steered (timer_of k service tei)
+  own-timer k =
+      ap (λ b. obeyed (timer_of k service tei) (left (timer_of k service tei) b) orders) (running-of k service tei l ∙ ap (λ o. runs_at service k o l) here)
+      ∙ subst (λ timer. obeyed timer (left timer (runs k x.running)) orders ≡ runs k y.running) (its-timer c k service tei) (steers.own k)
+      ∙ ap (λ (z : Link). runs k z.running) (sym there)
+      ∙ sym (running-of k service tei (with_link n y l) ∙ ap (λ o. runs_at service k o (with_link n y l)) here)
+
+  -- another link's is left, and runs where it ran
+  apart : (s' : Service) (n' : ℕ) → (same_service service s' && (tei == n')) ≡ false → (p' : ℕ) → place_of n' l.management.places ≡ Some p' → link_number p' s' ≢ n
+  apart s' n' other p' e same =
+      let is = same-number s' service p' place same in
+      let holds : IsAt l.management.places place n' = subst (λ p. IsAt l.management.places p n') is.1 (place_of-is l.management.places n' p' e).1 in
+      let teis : tei ≡ n' = some-same tei n' (sym at ∙ holds) in
+      true≢false (sym (ap (λ b. b && (tei == n')) (ap (λ z. same_service service z) is.0 ∙ service-same service) ∙ eq-eqb tei n' teis) ∙ other)
+
+  same-place : (k : LinkTimer) (s' : Service) (n' : ℕ) → (same_service service s' && (tei == n')) ≡ false → (o : Option ℕ) → place_of n' l.management.places ≡ o
+      → runs_at s' k o l ≡ runs_at s' k o (with_link n y l)
+  same-place k s' n' other None e = refl
+  same-place k s' n' other (Some p') e = ap (λ (z : Link). runs k z.running) (sym (get_or-set_other l.links n (link_number p' s') y fresh (apart s' n' other p' e)))
+
+  other-timer : (k : LinkTimer) (s' : Service) (n' : ℕ) → (same_service service s' && (tei == n')) ≡ false → Steered (timer_of k s' n')
+  other-timer k s' n' other =
+      steers.others (timer_of k s' n') (is_running (timer_of k s' n') l) (other-timers kind.T200 k c service s' tei n' other) (other-timers kind.T203 k c service s' tei n' other)
+      ∙ running-of k s' n' l ∙ same-place k s' n' other (place_of n' l.management.places) refl ∙ sym (running-of k s' n' (with_link n y l))
+
+  link-timer : (k : LinkTimer) (s' : Service) (n' : ℕ) → Steered (timer_of k s' n')
+  link-timer k s' n' = go (same_service service s' && (tei == n')) refl
+    where
+      go : (b : Bool) → (same_service service s' && (tei == n')) ≡ b → Steered (timer_of k s' n')
+      go false e = other-timer k s' n' e
+      go true e =
+          let is = both-true (same_service service s') (tei == n') e in
+          subst (λ z. Steered (timer_of k z n')) (services-equal service s' is.0) (subst (λ z. Steered (timer_of k service z)) (eqb-true tei n' is.1) (own-timer k))
+
+  pub one-steered : (timer : Timer) → Steered timer
+  one-steered = each-timer Steered (steers.others T201 (is_running T201 l) refl refl) link-timer
+
+pub and-false : (b : Bool) → (b && false) ≡ false
+and-false true = refl
+and-false false = refl
+
+no-timer : (k : LinkTimer) → runs k None ≡ false
+no-timer k = refl
+
+-- three lists of orders, one after the other
+chain : (timer : Timer) (b b1 b2 b3 : Bool) (xs ys zs : List Order) → obeyed timer b xs ≡ b1 → obeyed timer b1 ys ≡ b2 → obeyed timer b2 zs ≡ b3
+    → obeyed timer b (xs ++ ys ++ zs) ≡ b3
+chain timer b b1 b2 b3 xs ys zs one two three =
+    obeyed-append timer b (xs ++ ys) zs
+    ∙ ap (λ r. obeyed timer r zs) (obeyed-append timer b xs ys ∙ ap (λ r. obeyed timer r ys) one ∙ two) ∙ three
+
+-- An event of TEI management.
+module _ (c : Config) (l : Line) (s : IsSound c l) (m : Management) (sound : IsSoundTable m.places) (orders : List Order) (before : Bool)
+    (follows : Follows before orders (is_some m.check)) where
+  -- T201, which the caller left as `before` says
+  abbrev pub now : Line
+  now = record l { management = m }
+
+  leaves : (k : LinkTimer) (s' : Service) (n' : ℕ) (b : Bool) → obeyed (timer_of k s' n') b orders ≡ b
+  leaves k s' n' b = t201-leaves (timer_of k s' n') (t201-other k s' n') b before orders (is_some m.check) follows
+
+  pub t201-stays : obeyed T201 before orders ≡ is_some m.check
+  t201-stays = t201-obeyed before orders (is_some m.check) follows
+
+  -- the table stays
+  pub management-stays : m.places ≡ l.management.places → (k : LinkTimer) (s' : Service) (n' : ℕ)
+      → obeyed (timer_of k s' n') (is_running (timer_of k s' n') l) orders ≡ is_running (timer_of k s' n') now
+  management-stays same k s' n' =
+      leaves k s' n' (is_running (timer_of k s' n') l) ∙ running-of k s' n' l
+      ∙ ap (λ ps. runs_at s' k (place_of n' ps) l) (sym same) ∙ sym (alike l now refl k s' (place_of n' m.places)) ∙ sym (running-of k s' n' now)
+
+  -- both links of a place begin anew
+  module _ (place : ℕ) (o : Option ℕ) (is : m.places ≡ set l.management.places place o) (within : place < length l.management.places) where
+    abbrev pub both : List Link
+    both = set (set l.links (link_number place Call) fresh) (link_number place Packet) fresh
+
+    abbrev pub anew : Line
+    anew = record l { management = m; links = both }
+
+    away : (p : ℕ) (s' : Service) → p ≢ place → get_or both (link_number p s') fresh ≡ get_or l.links (link_number p s') fresh
+    away p s' other =
+        get_or-set_other (set l.links (link_number place Call) fresh) (link_number place Packet) (link_number p s') fresh fresh (λ e. other (same-number s' Packet p place e).1)
+        ∙ get_or-set_other l.links (link_number place Call) (link_number p s') fresh fresh (λ e. other (same-number s' Call p place e).1)
+
+    -- each other TEI's timers run where they ran
+    elsewhere : (k : LinkTimer) (s' : Service) (n' : ℕ) → (o ≡ Some n' → ⊥) → (IsAt l.management.places place n' → ⊥)
+        → is_running (timer_of k s' n') l ≡ is_running (timer_of k s' n') anew
+    elsewhere k s' n' comes was =
+        running-of k s' n' l ∙ go (place_of n' l.management.places) refl
+        ∙ ap (λ p. runs_at s' k p (record l { management = m; links = both })) (sym (stays-placed l.management.places m.places place o sound is within n' comes was))
+        ∙ sym (running-of k s' n' (record l { management = m; links = both }))
+      where
+        go : (p : Option ℕ) → place_of n' l.management.places ≡ p → runs_at s' k p l ≡ runs_at s' k p (record l { management = m; links = both })
+        go None e = refl
+        go (Some p) e =
+            ap (λ (z : Link). runs k z.running) (sym (away p s' (λ same. was (subst (λ i. IsAt l.management.places i n') same (place_of-is l.management.places n' p e).1))))
+
+    long : 2 * place + 1 < length l.links
+    long = omega (arith, within, s.count, s.places)
+
+    begins : (s' : Service) → get_or both (link_number place s') fresh ≡ fresh
+    begins Call =
+        get_or-set_other (set l.links (link_number place Call) fresh) (link_number place Packet) (link_number place Call) fresh fresh (λ e. omega (arith, e))
+        ∙ get_or-set_same l.links (link_number place Call) fresh fresh (omega (arith, long))
+    begins Packet = get_or-set_same (set l.links (link_number place Call) fresh) (link_number place Packet) fresh fresh (omega (arith, long, length-set l.links (link_number place Call) fresh))
+
+    filled : get_or m.places place None ≡ o
+    filled = ap (λ ps. get_or ps place None) is ∙ get_or-set_same l.management.places place o None within
+
+  -- a TEI comes: none of its timers ran, and none runs
+  module _ (tei place : ℕ) (joined : tei_laws.HasJoined l.management.places m.places tei place) where
+    abbrev pub opened : Line
+    opened = anew place (Some tei) joined.is_there joined.within
+
+    its-own : (k : LinkTimer) (s' : Service) → is_running (timer_of k s' tei) l ≡ is_running (timer_of k s' tei) opened
+    its-own k s' =
+        running-of k s' tei l ∙ ap (λ p. runs_at s' k p l) (has-no-place l.management.places tei (λ i at. at-off l.management.places i tei joined.was_off at))
+        ∙ ap (λ (z : Link). runs k z.running) (sym (begins place (Some tei) joined.is_there joined.within s'))
+        ∙ ap (λ p. runs_at s' k p (anew place (Some tei) joined.is_there joined.within)) (sym (has-place m.places tei place sound (filled place (Some tei) joined.is_there joined.within)))
+        ∙ sym (running-of k s' tei (anew place (Some tei) joined.is_there joined.within))
+
+    pub comes : (k : LinkTimer) (s' : Service) (n' : ℕ) → obeyed (timer_of k s' n') (is_running (timer_of k s' n') l) orders ≡ is_running (timer_of k s' n') opened
+    comes k s' n' = leaves k s' n' (is_running (timer_of k s' n') l) ∙ go (tei == n') refl
+      where
+        go : (b : Bool) → (tei == n') ≡ b → is_running (timer_of k s' n') l ≡ is_running (timer_of k s' n') opened
+        go true e = subst (λ n. is_running (timer_of k s' n) l ≡ is_running (timer_of k s' n) opened) (eqb-true tei n' e) (its-own k s')
+        go false e =
+            elsewhere place (Some tei) joined.is_there joined.within k s' n' (λ same. true≢false (sym (eq-eqb tei n' (some-same tei n' same)) ∙ e))
+            (λ at. none-some n' (sym joined.was_free ∙ at))
+
+  -- a TEI leaves: its timers are stopped
+  module _ (tei place : ℕ) (gone : tei_laws.HasLeft l.management.places m.places tei place) where
+    abbrev pub closed : Line
+    closed = anew place None gone.is_free gone.within
+
+    abbrev pub first : Link
+    first = link_in l Call place
+
+    abbrev pub second : Link
+    second = get_or (set l.links (link_number place Call) fresh) (link_number place Packet) fresh
+
+    second-is : second ≡ link_in l Packet place
+    second-is = get_or-set_other l.links (link_number place Call) (link_number place Packet) fresh fresh (λ e. omega (arith, e))
+
+    abbrev pub call : List Order
+    call = (links.told (terms c Call tei) link.cleared first).orders
+
+    abbrev pub packet : List Order
+    packet = (links.told (terms c Packet tei) link.cleared second).orders
+
+    by-call : Steers (terms c Call tei) as_it_was call first fresh
+    by-call = steers-event (terms c Call tei) link.cleared first
+
+    by-packet : Steers (terms c Packet tei) as_it_was packet second fresh
+    by-packet = steers-event (terms c Packet tei) link.cleared second
+
+    placed : place_of tei l.management.places ≡ Some place
+    placed = has-place l.management.places tei place s.management.table gone.was_there
+
+    stopped : (k : LinkTimer) (s' : Service) → is_running (timer_of k s' tei) closed ≡ false
+    stopped k s' =
+        running-of k s' tei (anew place None gone.is_free gone.within)
+        ∙ ap (λ p. runs_at s' k p (anew place None gone.is_free gone.within)) (has-no-place m.places tei nowhere)
+      where
+        nowhere : (i : ℕ) → IsAt m.places i tei → ⊥
+        nowhere i at = none-some tei (sym (filled place None gone.is_free gone.within) ∙ subst (λ j. IsAt m.places j tei) (same i at) at)
+          where
+            same : (i : ℕ) → IsAt m.places i tei → i ≡ place
+            same i at = go (cases_eq i place)
+              where
+                go : (i ≡ place) ⊎ (i ≢ place) → i ≡ place
+                go (inl e) = e
+                go (inr apart) =
+                    s.management.table.once i place tei (sym (ap (λ ps. get_or ps i None) gone.is_free ∙ get_or-set_other l.management.places place i None None apart) ∙ at) gone.was_there
+
+    ran : (k : LinkTimer) (s' : Service) → is_running (timer_of k s' tei) l ≡ runs k (link_in l s' place).running
+    ran k s' = running-of k s' tei l ∙ ap (λ p. runs_at s' k p l) placed
+
+    its-own-left : (k : LinkTimer) (s' : Service) → obeyed (timer_of k s' tei) (is_running (timer_of k s' tei) l) (call ++ packet ++ orders) ≡ false
+    its-own-left k Call =
+        chain (timer_of k Call tei) (is_running (timer_of k Call tei) l) false false false call packet orders
+        (ap (λ b. obeyed (timer_of k Call tei) b call) (ran k Call)
+        ∙ subst (λ timer. obeyed timer (runs k first.running) call ≡ false) (its-timer c k Call tei) (by-call.own k ∙ no-timer k))
+        (by-packet.others (timer_of k Call tei) false (other-timers kind.T200 k c Packet Call tei tei refl) (other-timers kind.T203 k c Packet Call tei tei refl))
+        (leaves k Call tei false)
+    its-own-left k Packet =
+        chain (timer_of k Packet tei) (is_running (timer_of k Packet tei) l) (is_running (timer_of k Packet tei) l) false false call packet orders
+        (by-call.others (timer_of k Packet tei) _ (other-timers kind.T200 k c Call Packet tei tei refl) (other-timers kind.T203 k c Call Packet tei tei refl))
+        (ap (λ b. obeyed (timer_of k Packet tei) b packet) (ran k Packet ∙ ap (λ (z : Link). runs k z.running) (sym second-is))
+        ∙ subst (λ timer. obeyed timer (runs k second.running) packet ≡ false) (its-timer c k Packet tei) (by-packet.own k ∙ no-timer k))
+        (leaves k Packet tei false)
+
+    pub goes : (k : LinkTimer) (s' : Service) (n' : ℕ) → obeyed (timer_of k s' n') (is_running (timer_of k s' n') l) (call ++ packet ++ orders) ≡ is_running (timer_of k s' n') closed
+    goes k s' n' = go (tei == n') refl
+      where
+        go : (b : Bool) → (tei == n') ≡ b → obeyed (timer_of k s' n') (is_running (timer_of k s' n') l) (call ++ packet ++ orders) ≡ is_running (timer_of k s' n') closed
+        go true e =
+            subst (λ n. obeyed (timer_of k s' n) (is_running (timer_of k s' n) l) (call ++ packet ++ orders) ≡ is_running (timer_of k s' n) closed) (eqb-true tei n' e)
+            (its-own-left k s' ∙ sym (stopped k s'))
+        go false e =
+            let b = is_running (timer_of k s' n') l in
+            let apart : (z : Service) → (same_service z s' && (tei == n')) ≡ false = λ z. ap (λ x. same_service z s' && x) e ∙ and-false (same_service z s') in
+            chain (timer_of k s' n') b b b b call packet orders
+            (by-call.others (timer_of k s' n') b (other-timers kind.T200 k c Call s' tei n' (apart Call)) (other-timers kind.T203 k c Call s' tei n' (apart Call)))
+            (by-packet.others (timer_of k s' n') b (other-timers kind.T200 k c Packet s' tei n' (apart Packet)) (other-timers kind.T203 k c Packet s' tei n' (apart Packet)))
+            (leaves k s' n' b)
+            ∙ elsewhere place None gone.is_free gone.within k s' n' (λ same. none-some n' same)
+            (λ at. true≢false (sym (eq-eqb tei n' (some-same tei n' (sym gone.was_there ∙ at))) ∙ e))
+
+    pub t201-goes : obeyed T201 before (call ++ packet ++ orders) ≡ is_some m.check
+    t201-goes = chain T201 before before before (is_some m.check) call packet orders (by-call.others T201 before refl refl) (by-packet.others T201 before refl refl) t201-stays

@@ -1,0 +1,309 @@
+-- What is handed on of what an octet brings.
+use Rattle.std.proofs.Common.{◌≡◌, ℕ, Bool, true, false, cond, ◌==◌, List, [], ◌∷◌, ◌++◌, Option, Some, None, Result, Ok, Err, is_some, refl, sym, ap, ◌∙◌, ◌⊎◌, inl, inr}
+use Rattle.std.specs.Prelude.{All, IfSome}
+use Rattle.std.specs.List.{list_any}
+use Rattle.std.specs.Option.{option_or, option_map_or}
+use Rattle.std.proofs.lemmas.List.Elements.{All-head, All-tail}
+use Rattle.std.proofs.lemmas.Option.{none-some}
+use Rattle.lapd_bits.specs.Stream as stream
+use Rattle.lapd_bits.specs.declared.heard.Cause.{Cause}
+use Rattle.lapd_bits.specs.declared.heard.Cause.TheVariants.{Extension, Sapi, Tei, Unserved}
+use Rattle.lapd_frame.specs.declared.addresses.Address.{Address}
+use Rattle.lapd_frame.specs.declared.addresses.Side.TheVariants.{User}
+use Rattle.lapd_frame.specs.declared.controls.Control.{Control}
+use Rattle.lapd_frame.specs.declared.controls.Control.TheVariants as control
+use Rattle.lapd_frame.specs.declared.faults.ReadFault.{ReadFault}
+use Rattle.lapd_frame.specs.declared.faults.ReadFault.TheVariants.{BadExtension, Undefined, WrongSize, Short}
+use Rattle.lapd_frame.specs.declared.overlong.Long.{Long}
+use Rattle.lapd_frame.specs.declared.overlong.Long.TheVariants as long
+use Rattle.lapd_frame.specs.declared.notes.Note.{Note}
+use Rattle.lapd_frame.specs.declared.notes.Note.TheVariants as notes
+use Rattle.lapd_frame.specs.declared.refusals.Refusal.{Refusal}
+use Rattle.lapd_frame.specs.declared.services.Service.{Service}
+use Rattle.lapd_frame.specs.declared.timers.Timer.{Timer}
+use Rattle.lapd_frame.specs.declared.timers.Timer.TheVariants.{T200, T203, T201}
+use Rattle.lapd_frame.specs.Grammar.{Parts, AreOctets}
+use Rattle.lapd_frame.specs.Reading.{reading, long_reading}
+use Rattle.lapd_frame.specs.Services.{service_of}
+use Rattle.lapd_frame.proofs.Spelling.{reading-found}
+use Rattle.model_link.specs.declared.terms.Terms.{Terms}
+use Rattle.model_link.specs.declared.timers.LinkTimer.{LinkTimer}
+use Rattle.model_link.specs.declared.timers.LinkTimer.TheVariants as link_timer
+use Rattle.model_link.specs.Events as link
+use Rattle.model_link.specs.Known.{IsOwn}
+use Rattle.model_link.specs.Link.{Link}
+use Rattle.model_link.specs.Machine as links
+use Rattle.model_link.specs.Notes.{is_data, is_unit}
+use Rattle.model_link.specs.Sound as link_sound
+use Rattle.model_link.proofs.OwnNotes.{notes-own}
+use Rattle.model_link.proofs.TellRows.{event-tells}
+use Rattle.laws_link.specs.Heard.{contents_heard, unit_heard, data_due, unit_due}
+use Rattle.laws_link.proofs.Delivered.{delivered-was-heard}
+use Rattle.laws_link.proofs.Keeping.{event-unit}
+use Rattle.laws_link.proofs.Once.{data-is, within-is}
+use Rattle.lapd_tei.specs.Events as teis
+use Rattle.lapd_tei.specs.declared.outcome.Change.{Change}
+use Rattle.lapd_tei.specs.declared.outcome.Change.TheVariants.{Gained, Left}
+use Rattle.lapd_tei.proofs.Tables.{place_of-is}
+use Rattle.model_line.specs.declared.config.Config.{Config}
+use Rattle.model_line.specs.Answer.{Event, octet, expiry, request, pull, nothing}
+use Rattle.model_line.specs.Effect.{Aim, at_none, at_link, at_management, at_units, told_of_management, of_change, of_aim}
+use Rattle.model_line.specs.Expiry.{at_timer, aim_of_expiry}
+use Rattle.model_line.specs.Line.{Line, place_in, link_in, terms}
+use Rattle.model_line.specs.Machine.{answer, unless_refused, unless_refused_told}
+use Rattle.model_line.specs.Octet.{gained, drop_for, management_sapi, group_tei, at_place, to_service, addressed, message_of, aim_of_reading, unless_at_link, aim_of_long, aim_of_heard}
+use Rattle.model_line.specs.Refusal.{refusal}
+use Rattle.model_line.specs.Request.{Request, Establish, Release, Data, Unit, Assign, Remove, Check, SetBusy, ClearBusy}
+use Rattle.model_line.specs.Requested.{at_requested, aim_of_request}
+use Rattle.model_line.specs.Sound.{IsInRange, IsSound}
+use Rattle.model_line.proofs.LinksSound.{sound_in}
+use Rattle.laws_line.specs.Heard.{Ends, IsFor, contents_in, due, is_data_of, is_unit_of, IsHeard}
+use Rattle.laws_line.proofs.Ending.{HasOctets, gained-octets, gained-adds}
+use Rattle.laws_line.proofs.Told.{its-own}
+use Rattle.laws_line.proofs.Hearing.{sapi-is, one-event}
+
+-- What a frame brings to layer 3 is handed on.
+pub due-is : (c : Config) (l : Line) (value : ℕ) (service : Service) (tei place : ℕ) (parts : Parts) (octets : List ℕ) → IsInRange c → IsSound c l
+    → Ends c l value octets → IsFor l service tei place parts octets
+    → contents_in (answer c (octet value) l) ≡ due (terms c service tei) parts (link_in l service place)
+due-is c l value service tei place parts octets ranged s ends f =
+    let t = terms c service tei in
+    let e = link.received (link.frame parts) in
+    let says = (one-event c l value service tei place parts octets ends f).answer_is in
+    let sound = sound_in c ranged l s service tei place (place_of-is l.management.places tei place f.on_line).1 in
+    ap contents_in says.is ∙ says.contents
+    ∙ ap (λ d. option_or d (links.told t e (link_in l service place)).unit) (data-is t (link_in l service place) e)
+    ∙ ap (option_or (data_due t e (link_in l service place))) (event-unit t (link_in l service place) sound e)
+
+-- Notes of data, and of unit data, are the link's own.
+own-data : (t : Terms) (n : Note) → IsOwn t n → (is_data_of t.service t.tei n ≡ is_data n) × (is_unit_of t.service t.tei n ≡ is_unit n)
+own-data t (notes.EstablishIndication s n) own = (refl, refl)
+own-data t (notes.EstablishConfirm s n) own = (refl, refl)
+own-data t (notes.ReleaseIndication s n) own = (refl, refl)
+own-data t (notes.ReleaseConfirm s n) own = (refl, refl)
+own-data t (notes.Data s n) own = (its-own t s n own, refl)
+own-data t (notes.Unit s n) own = (refl, its-own t s n own)
+own-data t (notes.Error s n k) own = (refl, refl)
+own-data t (notes.Assigned n) own = (refl, refl)
+own-data t (notes.Removed n) own = (refl, refl)
+own-data t (notes.Doubled n) own = (refl, refl)
+own-data t (notes.Xid s n) own = (refl, refl)
+
+pub own-all : (t : Terms) (ns : List Note) → All (IsOwn t) ns
+    → (list_any (is_data_of t.service t.tei) ns ≡ list_any is_data ns) × (list_any (is_unit_of t.service t.tei) ns ≡ list_any is_unit ns)
+own-all t [] all = (refl, refl)
+own-all t (n ∷ ns) all =
+    let here = own-data t n (All-head (IsOwn t) n ns all) in
+    let rest = own-all t ns (All-tail (IsOwn t) n ns all) in
+    ((rw (here.0, rest.0) refl), (rw (here.1, rest.1) refl))
+
+-- What a link hands on was heard, and is noted.
+pub record FromFrame (t : Terms) (e : link.Event) (ns : List Note) (contents : List ℕ) : Type 0 where
+  pub is : ((contents_heard e ≡ Some contents) × (list_any (is_data_of t.service t.tei) ns ≡ true))
+      ⊎ ((unit_heard e ≡ Some contents) × (list_any (is_unit_of t.service t.tei) ns ≡ true))
+
+handed-on : (t : Terms) (l : Link) → link_sound.IsSound t l → (e : link.Event) (contents : List ℕ)
+    → option_or (links.told t e l).delivered (links.told t e l).unit ≡ Some contents → FromFrame t e (links.told t e l).notes contents
+handed-on t l s e contents h = go (links.told t e l).delivered refl h
+  where
+    ns : List Note
+    ns = (links.told t e l).notes
+
+    own : (list_any (is_data_of t.service t.tei) (links.told t e l).notes ≡ list_any is_data (links.told t e l).notes) × (list_any (is_unit_of t.service t.tei) (links.told t e l).notes ≡ list_any is_unit (links.told t e l).notes)
+    own = own-all t (links.told t e l).notes (notes-own t e l)
+
+    go : (d : Option (List ℕ)) → (links.told t e l).delivered ≡ d → option_or d (links.told t e l).unit ≡ Some contents → FromFrame t e (links.told t e l).notes contents
+    go (Some x) is e' =
+        let heard = delivered-was-heard t l e x is in
+        record { is = inl (heard ∙ e', own.0 ∙ (event-tells t e l).1 ∙ ap (λ o. is_some o) is) }
+    go None is e' =
+        let due : unit_due t e ≡ Some contents = sym (event-unit t l s e) ∙ e' in
+        record { is = inr (within-is t.n201 (unit_heard e) contents due, own.1 ∙ (event-tells t e l).3 ∙ ap (λ o. is_some o) e') }
+
+-- Contents that are handed on.
+module _ (c : Config) (ranged : IsInRange c) (l : Line) (s : IsSound c l) (received : List ℕ) where
+  abbrev HandsOn : List ℕ → Aim → Type 0
+  HandsOn contents aim = (of_aim c aim (record l { received = received })).told.contents ≡ Some contents
+
+  from-link : (service : Service) (tei place : ℕ) (e : link.Event) → place_in l tei ≡ Some place → (contents : List ℕ)
+      → HandsOn contents (at_link service tei place e)
+      → FromFrame (terms c service tei) e (links.told (terms c service tei) e (link_in l service place)).notes contents
+  from-link service tei place e on contents h =
+      handed-on (terms c service tei) (link_in l service place)
+      (sound_in c ranged l s service tei place (place_of-is l.management.places tei place on).1) e contents h
+
+  -- no contents by what is no frame of a link
+  none-by-link : (service : Service) (tei place : ℕ) (e : link.Event) → place_in l tei ≡ Some place → contents_heard e ≡ None → unit_heard e ≡ None
+      → (contents : List ℕ) → HandsOn contents (at_link service tei place e) → ⊥
+  none-by-link service tei place e on no-contents no-unit contents h =
+      by-case (from-link service tei place e on contents h).is
+    where
+      by-case : ((contents_heard e ≡ Some contents) × (list_any (is_data_of service tei) (links.told (terms c service tei) e (link_in l service place)).notes ≡ true))
+          ⊎ ((unit_heard e ≡ Some contents) × (list_any (is_unit_of service tei) (links.told (terms c service tei) e (link_in l service place)).notes ≡ true)) → ⊥
+      by-case (inl x) = none-some contents (sym no-contents ∙ x.0)
+      by-case (inr x) = none-some contents (sym no-unit ∙ x.0)
+
+  abbrev Silent : Aim → Type 0
+  Silent aim = (contents : List ℕ) → HandsOn contents aim → ⊥
+
+  dropped : (aim : Aim) → (of_aim c aim (record l { received = received })).told.contents ≡ None → Silent aim
+  dropped aim none contents h = none-some contents (sym none ∙ h)
+
+  drops : (why : Cause) → Silent (drop_for why)
+  drops why = dropped (drop_for why) refl
+
+  managed : (e : teis.Event) → Silent (at_management e)
+  managed e = dropped (at_management e) (go (teis.told e l.management).change)
+    where
+      go : (o : Option Change) → (of_change c o (told_of_management (teis.told e l.management)) (record l { received = received; management = teis.after e l.management })).told.contents ≡ None
+      go None = refl
+      go (Some (Gained tei place)) = refl
+      go (Some (Left tei place)) = refl
+
+  placed : (service : Service) (tei : ℕ) (what : link.Received) → contents_heard (link.received what) ≡ None → unit_heard (link.received what) ≡ None
+      → (o : Option ℕ) → place_in l tei ≡ o → Silent (at_place service tei what o)
+  placed service tei what no-contents no-unit None e = drops Tei
+  placed service tei what no-contents no-unit (Some place) e = none-by-link service tei place (link.received what) e no-contents no-unit
+
+  sent-to : (tei : ℕ) (what : link.Received) → contents_heard (link.received what) ≡ None → unit_heard (link.received what) ≡ None
+      → (o : Option Service) → Silent (to_service l tei what o)
+  sent-to tei what no-contents no-unit None = drops Sapi
+  sent-to tei what no-contents no-unit (Some service) = placed service tei what no-contents no-unit (place_in l tei) refl
+
+  not-read : (address : Address) (what : link.Received) (m : Aim) → Silent m → contents_heard (link.received what) ≡ None → unit_heard (link.received what) ≡ None
+      → Silent (addressed l address what m)
+  not-read address what m silent no-contents no-unit = go (address.sapi == management_sapi) (address.tei == group_tei)
+    where
+      go : (known group : Bool) → Silent (cond known (cond group m (drop_for Tei)) (to_service l address.tei what (service_of address.sapi)))
+      go true true = silent
+      go true false = drops Tei
+      go false group = sent-to address.tei what no-contents no-unit (service_of address.sapi)
+
+  unless-silent : (aim : Aim) → Silent aim → Silent (unless_at_link aim)
+  unless-silent (at_none what) x = x
+  unless-silent (at_link service tei place event) x = drops Unserved
+  unless-silent (at_management event) x = x
+  unless-silent (at_units unit) x = x
+
+  too-long : (r : Result Long ReadFault) → Silent (aim_of_long l r)
+  too-long (Ok (long.Information address)) = not-read address link.overlong (drop_for Unserved) (drops Unserved) refl refl
+  too-long (Ok (long.Unnumbered address)) =
+      unless-silent (addressed l address link.overlong (drop_for Unserved)) (not-read address link.overlong (drop_for Unserved) (drops Unserved) refl refl)
+  too-long (Err BadExtension) = drops Extension
+  too-long (Err (Undefined address)) = not-read address link.undefined (drop_for Unserved) (drops Unserved) refl refl
+  too-long (Err (WrongSize address)) = not-read address link.wrong_size (drop_for Unserved) (drops Unserved) refl refl
+  too-long (Err Short) = drops Unserved
+
+  message-silent : (k : Control) (info : List ℕ) → Silent (message_of k info)
+  message-silent (control.Information ns nr p) info = drops Unserved
+  message-silent (control.ReceiveReady nr pf) info = drops Unserved
+  message-silent (control.ReceiveNotReady nr pf) info = drops Unserved
+  message-silent (control.Reject nr pf) info = drops Unserved
+  message-silent (control.Sabme p) info = drops Unserved
+  message-silent (control.Disc p) info = drops Unserved
+  message-silent (control.Ui p) info = managed (teis.message info)
+  message-silent (control.Ua f) info = drops Unserved
+  message-silent (control.Dm f) info = drops Unserved
+  message-silent (control.Frmr f) info = drops Unserved
+  message-silent (control.Xid pf) info = drops Unserved
+
+  -- no contents by what is not heard
+  timer-silent : (service : Service) (tei : ℕ) (timer : LinkTimer) (o : Option ℕ) → place_in l tei ≡ o → Silent (at_timer service tei timer o)
+  timer-silent service tei timer None e = dropped (at_none nothing) refl
+  timer-silent service tei timer (Some place) e = none-by-link service tei place (link.expired timer) e refl refl
+
+  pub expiry-silent : (timer : Timer) → Silent (aim_of_expiry timer l)
+  expiry-silent (T200 service tei) = timer-silent service tei link_timer.T200 (place_in l tei) refl
+  expiry-silent (T203 service tei) = timer-silent service tei link_timer.T203 (place_in l tei) refl
+  expiry-silent T201 = managed teis.expiry
+
+  asked-silent : (service : Service) (tei : ℕ) (what : link.Request) (o : Option ℕ) → place_in l tei ≡ o → Silent (at_requested service tei what o)
+  asked-silent service tei what None e = dropped (at_none nothing) refl
+  asked-silent service tei what (Some place) e = none-by-link service tei place (link.requested what false) e refl refl
+
+  pub request-silent : (r : Request) → Silent (aim_of_request r l)
+  request-silent (Establish service tei) = asked-silent service tei link.Establish (place_in l tei) refl
+  request-silent (Release service tei) = asked-silent service tei link.Release (place_in l tei) refl
+  request-silent (Data service tei contents) = asked-silent service tei (link.Data contents) (place_in l tei) refl
+  request-silent (Unit service tei contents) = dropped (at_units (record { service = service; tei = tei; contents = contents })) refl
+  request-silent (Assign tei) = managed (teis.assign tei)
+  request-silent (Remove tei) = managed (teis.remove tei)
+  request-silent (Check tei) = managed (teis.check tei)
+  request-silent (SetBusy service tei) = asked-silent service tei link.SetBusy (place_in l tei) refl
+  request-silent (ClearBusy service tei) = asked-silent service tei link.ClearBusy (place_in l tei) refl
+
+  -- contents by a frame that was heard
+  pub record Heard (octets contents : List ℕ) (ns : List Note) : Type 0 where
+    pub parts : Parts
+    pub service : Service
+    pub tei : ℕ
+    pub place : ℕ
+    pub whose : IsFor l service tei place parts octets
+    pub is : FromFrame (terms c service tei) (link.received (link.frame parts)) ns contents
+
+  abbrev Hears : List ℕ → Aim → Type 0
+  Hears octets aim = (contents : List ℕ) → HandsOn contents aim → Heard octets contents (of_aim c aim (record l { received = received })).told.notes
+
+  silently : (octets : List ℕ) (aim : Aim) → Silent aim → Hears octets aim
+  silently octets aim x contents h = absurd (x contents h)
+
+  by-reading : (octets : List ℕ) → AreOctets octets → (r : Result Parts ReadFault) → reading User octets ≡ r → Hears octets (aim_of_reading l r)
+  by-reading octets are (Ok parts) read = go (parts.address.sapi == management_sapi) (parts.address.tei == group_tei)
+    where
+      at-its-place : (service : Service) → service_of parts.address.sapi ≡ Some service → (o : Option ℕ) → place_in l parts.address.tei ≡ o
+          → Hears octets (at_place service parts.address.tei (link.frame parts) o)
+      at-its-place service sapi None e = silently octets (drop_for Tei) (drops Tei)
+      at-its-place service sapi (Some place) e = λ contents h. record {
+        parts = parts;
+        service = service;
+        tei = parts.address.tei;
+        place = place;
+        whose = record { spelled = reading-found User octets parts are read; sapi = sapi-is parts.address.sapi service sapi; tei_is = refl; on_line = e };
+        is = from-link service parts.address.tei place (link.received (link.frame parts)) e contents h;
+      }
+
+      of-service : (o : Option Service) → service_of parts.address.sapi ≡ o → Hears octets (to_service l parts.address.tei (link.frame parts) o)
+      of-service None e = silently octets (drop_for Sapi) (drops Sapi)
+      of-service (Some service) e = at-its-place service e (place_in l parts.address.tei) refl
+
+      go : (known group : Bool) → Hears octets (cond known (cond group (message_of parts.control parts.info) (drop_for Tei)) (to_service l parts.address.tei (link.frame parts) (service_of parts.address.sapi)))
+      go true true = silently octets (message_of parts.control parts.info) (message-silent parts.control parts.info)
+      go true false = silently octets (drop_for Tei) (drops Tei)
+      go false group = of-service (service_of parts.address.sapi) refl
+  by-reading octets are (Err BadExtension) read = silently octets (drop_for Extension) (drops Extension)
+  by-reading octets are (Err (Undefined address)) read = silently octets (addressed l address link.undefined (drop_for Unserved)) (not-read address link.undefined (drop_for Unserved) (drops Unserved) refl refl)
+  by-reading octets are (Err (WrongSize address)) read = silently octets (addressed l address link.wrong_size (drop_for Unserved)) (not-read address link.wrong_size (drop_for Unserved) (drops Unserved) refl refl)
+  by-reading octets are (Err Short) read = silently octets (drop_for Unserved) (drops Unserved)
+
+  pub heard-by : (o : Option stream.Event) → IfSome o HasOctets → (contents : List ℕ) → HandsOn contents (option_map_or (aim_of_heard l) o (at_none nothing))
+      → (octets : List ℕ) × (o ≡ Some (stream.frame octets)) × Heard octets contents (of_aim c (option_map_or (aim_of_heard l) o (at_none nothing)) (record l { received = received })).told.notes
+  heard-by None are contents h = absurd (dropped (at_none nothing) refl contents h)
+  heard-by (Some (stream.frame octets)) are contents h = (octets, refl, by-reading octets are (reading User octets) refl contents h)
+  heard-by (Some (stream.overlong head)) are contents h = absurd (too-long (long_reading User head) contents h)
+  heard-by (Some (stream.dropped cause)) are contents h = absurd (dropped (drop_for cause) refl contents h)
+
+pub contents-heard : (c : Config) (e : Event) (l : Line) (contents : List ℕ) → IsInRange c → IsSound c l
+    → contents_in (answer c e l) ≡ Some contents → IsHeard c l e (answer c e l) contents
+unfolding answer
+contents-heard c (octet value) l contents ranged s h =
+    let x = heard-by c ranged l s (l.received ++ value ∷ []) (gained c.n201 l.received value) (gained-octets c l value) contents h in
+    record {
+      value = value;
+      by = refl;
+      octets = x.0;
+      ends = gained-adds c l value (Some (stream.frame x.0)) x.1;
+      parts = x.2.parts;
+      service = x.2.service;
+      tei = x.2.tei;
+      place = x.2.place;
+      whose = x.2.whose;
+      told = x.2.is.is;
+    }
+contents-heard c (expiry timer) l contents ranged s h = absurd (expiry-silent c ranged l s l.received timer contents h)
+contents-heard c (request r) l contents ranged s h = go (refusal c false r l) h
+  where
+    go : (o : Option Refusal) → contents_in (unless_refused_told o (of_aim c (unless_refused o (aim_of_request r l)) l)) ≡ Some contents
+        → IsHeard c l (request r) (unless_refused_told o (of_aim c (unless_refused o (aim_of_request r l)) l)) contents
+    go None h = absurd (request-silent c ranged l s l.received r contents h)
+    go (Some why) h = absurd (none-some contents h)
+contents-heard c pull l contents ranged s h = absurd (none-some contents h)

@@ -1,0 +1,120 @@
+-- Where a link stands in the round: each pull that begins a frame brings its turn nearer.
+use Rattle.std.proofs.Common.{◌≡◌, ℕ, ◌+◌, ◌-◌, ◌<◌, ◌≤◌, Bool, true, false, cond, List, ◌∷◌, ◌++◌, length, take, drop, get_or, refl, sym, ap, subst, ◌∙◌, ◌⊎◌, inl, inr, ⊎_elim, arith, length-append}
+use Rattle.std.specs.Prelude.{All, nat_le}
+use Rattle.std.specs.List.{range_with_len}
+use Rattle.std.proofs.lemmas.Bool.{leb-true, leb-false, cases_lt}
+use Rattle.std.proofs.lemmas.List.{get_or_append_left, get_or-drop, get_or-take, length-drop, length-take-le}
+use Rattle.std.proofs.lemmas.List.Elements.{All-get_or}
+use Rattle.std.proofs.lemmas.List.FromFn.{get_or-range_with_len, length-range_with_len}
+use Rattle.std.proofs.Math.Seq.{get_or-append_seam, get_or-append_right}
+use Rattle.model_line.specs.Pull.{round_from}
+use Rattle.laws_line.specs.Drains.{way_round}
+
+-- the numbers of a round that begins at turn
+abbrev IsAtPlace : ℕ → ℕ → ℕ → ℕ → Type 0
+IsAtPlace count turn i number = ((turn + i < count) × (number ≡ turn + i)) ⊎ ((count ≤ turn + i) × (number + count ≡ turn + i))
+
+module _ (count turn : ℕ) (low : turn ≤ count) where
+  abbrev numbers : List ℕ
+  numbers = range_with_len 0 count
+
+  abbrev ns : List ℕ
+  ns = round_from turn numbers
+
+  size : length numbers ≡ count
+  size = length-range_with_len 0 count
+
+  dropped : length (drop turn numbers) ≡ count - turn
+  dropped = length-drop turn numbers ∙ ap (λ n. n - turn) size
+
+  whole : length ns ≡ count
+  whole =
+      let sum = length-append (drop turn numbers) (take turn numbers) in
+      let first = dropped in
+      let second = length-take-le turn numbers (let n = size in omega (arith, n, low)) in
+      omega (arith, sum, first, second, low)
+
+  -- by places
+  in-first : (i : ℕ) → turn + i < count → get_or ns i 0 ≡ turn + i
+  in-first i less =
+      let n = dropped in
+      get_or_append_left (drop turn numbers) (take turn numbers) 0 i (omega (arith, n, less)) ∙ get_or-drop turn numbers i 0
+      ∙ get_or-range_with_len 0 count (turn + i) 0 less ∙ omega arith
+
+  in-second : (i : ℕ) → count ≤ turn + i → i < count → get_or ns i 0 + count ≡ turn + i
+  in-second i more few =
+      let n = dropped in
+      let there : get_or ns i 0 ≡ get_or (take turn numbers) (i - length (drop turn numbers)) 0 = get_or-append_right (drop turn numbers) (take turn numbers) i 0 (omega (arith, n, more)) in
+      let at : ℕ = i - length (drop turn numbers) in
+      let small : at < turn = omega (arith, n, more, few, low) in
+      let taken : get_or (take turn numbers) at 0 ≡ get_or numbers at 0 = get_or-take turn numbers at 0 small in
+      let is : get_or numbers at 0 ≡ 0 + at = get_or-range_with_len 0 count at 0 (omega (arith, small, low)) in
+      omega (arith, n, there, taken, is, more, low)
+
+  at-place : (i : ℕ) → i < count → IsAtPlace count turn i (get_or ns i 0)
+  at-place i few = ⊎_elim (λ less. inl (less, in-first i less)) (λ more. inr (omega (arith, more), in-second i (omega (arith, more)) few)) (cases_lt (turn + i) count)
+
+  -- the place of a number
+  place-is : (number : ℕ) → number < count → get_or ns (way_round count turn number) 0 ≡ number
+  place-is number few = go (nat_le turn number) refl
+    where
+      go : (b : Bool) → nat_le turn number ≡ b → get_or ns (cond b (number - turn) (count - turn + number)) 0 ≡ number
+      go true e =
+          let le : turn ≤ number = leb-true turn number e in
+          in-first (number - turn) (omega (arith, le, few)) ∙ omega (arith, le)
+      go false e =
+          let gt : number < turn = leb-false turn number e in
+          let there = in-second (count - turn + number) (omega (arith, low)) (omega (arith, low, gt)) in
+          omega (arith, there, low)
+
+  place-few : (number : ℕ) → number < count → way_round count turn number < count
+  place-few number few = go (nat_le turn number) refl
+    where
+      go : (b : Bool) → nat_le turn number ≡ b → cond b (number - turn) (count - turn + number) < count
+      go true e = omega (arith, few)
+      go false e = let gt : number < turn = leb-false turn number e in omega (arith, low, gt)
+
+  -- the turn of the link behind one that comes before it
+  nearer : (number other j : ℕ) → number < count → IsAtPlace count turn j other → j < way_round count turn number → way_round count (other + 1) number + 1 ≤ way_round count turn number
+  nearer number other j few at less = go (nat_le turn number) refl (nat_le (other + 1) number) refl at less
+    where
+      go : (b : Bool) → nat_le turn number ≡ b → (b' : Bool) → nat_le (other + 1) number ≡ b' → IsAtPlace count turn j other
+          → j < cond b (number - turn) (count - turn + number)
+          → cond b' (number - (other + 1)) (count - (other + 1) + number) + 1 ≤ cond b (number - turn) (count - turn + number)
+      go true e true e' (inl at) less = let le = leb-true turn number e in omega (arith, le, at.0, at.1, less)
+      go true e true e' (inr at) less = let le = leb-true turn number e in omega (arith, le, at.0, at.1, less, few)
+      go true e false e' (inl at) less = let le = leb-true turn number e in let gt : number < other + 1 = leb-false (other + 1) number e' in omega (arith, le, gt, at.0, at.1, less)
+      go true e false e' (inr at) less = let le = leb-true turn number e in omega (arith, le, at.0, at.1, less, few)
+      go false e true e' (inl at) less =
+          let gt : number < turn = leb-false turn number e in let le : other + 1 ≤ number = leb-true (other + 1) number e' in omega (arith, gt, le, at.0, at.1)
+      go false e true e' (inr at) less = let gt : number < turn = leb-false turn number e in omega (arith, gt, at.0, at.1, less, low)
+      go false e false e' (inl at) less = let gt : number < turn = leb-false turn number e in omega (arith, gt, at.0, at.1, less, low)
+      go false e false e' (inr at) less =
+          let gt : number < turn = leb-false turn number e in let gt' : number < other + 1 = leb-false (other + 1) number e' in omega (arith, gt, gt', at.0, at.1, less, low)
+
+  -- a whole round is before the link that was served last
+  pub served-last : (number : ℕ) → number < count → way_round count (number + 1) number + 1 ≡ count
+  served-last number few = go (nat_le (number + 1) number) refl
+    where
+      go : (b : Bool) → nat_le (number + 1) number ≡ b → cond b (number - (number + 1)) (count - (number + 1) + number) + 1 ≡ count
+      go true e = let le : number + 1 ≤ number = leb-true (number + 1) number e in absurd (omega (arith, le))
+      go false e = omega (arith, few)
+
+  -- The link that is served comes no later in the round than one that has something to give.
+  pub comes-first : (P : ℕ → Type 0) (number other : ℕ) (before behind : List ℕ) → number < count → ns ≡ before ++ other ∷ behind → All P before → (P number → ⊥)
+      → (other ≡ number) ⊎ (way_round count (other + 1) number + 1 ≤ way_round count turn number)
+  comes-first P number other before behind few place passed not =
+      let at : get_or ns (length before) 0 ≡ other = ap (λ xs. get_or xs (length before) 0) place ∙ get_or-append_seam before other behind 0 in
+      let total : length ns ≡ length before + length (other ∷ behind) = ap length place ∙ length-append before (other ∷ behind) in
+      let n = whole in
+      let small : length before < count = omega (arith, total, n) in
+      let mine = place-is number few in
+      let here : IsAtPlace count turn (length before) other = subst (IsAtPlace count turn (length before)) at (at-place (length before) small) in
+      ⊎_elim
+      (λ less. absurd (not (subst P (sym (ap (λ xs. get_or xs (way_round count turn number) 0) place ∙ get_or_append_left before (other ∷ behind) 0 (way_round count turn number) less) ∙ mine)
+      (All-get_or P before (way_round count turn number) 0 less passed))))
+      (λ more. ⊎_elim
+      (λ less. inr (nearer number other (length before) few here less))
+      (λ same. let equal : length before ≡ way_round count turn number = omega (arith, more, same) in inl (sym at ∙ ap (λ i. get_or ns i 0) equal ∙ mine))
+      (cases_lt (length before) (way_round count turn number)))
+      (cases_lt (way_round count turn number) (length before))

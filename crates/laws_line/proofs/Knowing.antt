@@ -1,0 +1,287 @@
+-- By notes layer 3 knows which links are up: each event.
+use Rattle.std.proofs.Common.{◌≡◌, ◌≢◌, ℕ, ◌==◌, ◌&&◌, Bool, true, false, cond, List, [], ◌∷◌, ◌++◌, set, get_or, Option, Some, None, IfSome, refl, ap, sym, ◌∙◌, subst, arith, eqb-true, eq-eqb, true≢false, inl, inr}
+use Rattle.std.specs.Prelude.{fold}
+use Rattle.std.specs.Option.{option_map_or}
+use Rattle.std.proofs.lemmas.List.{get_or-set_other}
+use Rattle.std.proofs.lemmas.List.Sums.{fold-append}
+use Rattle.std.proofs.lemmas.Option.{none-some}
+use Rattle.lapd_bits.specs.Stream as stream
+use Rattle.lapd_frame.specs.declared.notes.Note.{Note}
+use Rattle.lapd_frame.specs.declared.refusals.Refusal.{Refusal}
+use Rattle.lapd_frame.specs.declared.services.Service.{Service}
+use Rattle.lapd_frame.specs.declared.services.Service.TheVariants.{Call, Packet}
+use Rattle.lapd_frame.specs.Services.{same_service}
+use Rattle.lapd_frame.specs.declared.timers.Timer.TheVariants.{T200, T203, T201}
+use Rattle.model_link.specs.Events as link
+use Rattle.model_link.specs.Known.{is_up, known}
+use Rattle.model_link.specs.Link.{Link, fresh}
+use Rattle.model_link.specs.Machine as links
+use Rattle.model_link.specs.Offers.{offer_among, may_send_information, is_awaiting_acknowledgement, with_one_sent}
+use Rattle.model_link.specs.Steps.{Course, begun}
+use Rattle.model_link.specs.declared.frames.ControlFrame.{ControlFrame}
+use Rattle.model_link.specs.declared.terms.Terms.{Terms}
+use Rattle.model_link.specs.declared.timers.LinkTimer.{LinkTimer}
+use Rattle.model_link.specs.declared.timers.LinkTimer.TheVariants as kind
+use Rattle.model_link.proofs.KnownRows.{layer_3_knows}
+use Rattle.model_link.proofs.OwnNotes.{notes-own}
+use Rattle.lapd_tei.specs.Events as teis
+use Rattle.lapd_tei.specs.Laws as tei_laws
+use Rattle.lapd_tei.specs.Laws.{Moves}
+use Rattle.lapd_tei.specs.Machine.{Management}
+use Rattle.lapd_tei.specs.Sound.{IsAt, IsSoundTable}
+use Rattle.lapd_tei.specs.Table.{is_on, place_of}
+use Rattle.lapd_tei.specs.declared.outcome.Change.{Change}
+use Rattle.lapd_tei.specs.declared.outcome.Change.TheVariants.{Gained, Left}
+use Rattle.lapd_tei.proofs.LawLemmas as tei_lemmas
+use Rattle.lapd_tei.proofs.Tables.{at-off, place_of-is}
+use Rattle.model_line.specs.declared.config.Config.{Config}
+use Rattle.model_line.specs.Answer.{Event, octet, expiry, request, pull, nothing}
+use Rattle.model_line.specs.Effect.{Aim, at_none, at_link, at_management, at_units, told_of_management, of_change, of_aim}
+use Rattle.model_line.specs.Expiry.{at_timer}
+use Rattle.model_line.specs.Laws.{notes_in}
+use Rattle.model_line.specs.Line.{Line, link_number, service_at, place_at, place_in, link_at, link_in, terms, with_link, fresh_line}
+use Rattle.model_line.specs.Machine.{after, answer, unless_refused, unless_refused_told}
+use Rattle.model_line.specs.Octet.{gained, aim_of_heard, with_received}
+use Rattle.model_line.specs.Pull.{Taken, taken, is_due, with_item, after_pull, with_message, with_unit, with_given_frame}
+use Rattle.model_line.specs.Refusal.{refusal}
+use Rattle.model_line.specs.Request.{Request, Establish, Release, Data, Unit, Assign, Remove, Check, SetBusy, ClearBusy}
+use Rattle.model_line.specs.Requested.{at_requested, aim_of_request}
+use Rattle.model_line.specs.Sound.{IsSound}
+use Rattle.model_line.proofs.AimsSound.{IsProper}
+use Rattle.model_line.proofs.LineSound.{received_sound}
+use Rattle.model_line.proofs.ProperAims.{heard_aims, request_proper}
+use Rattle.laws_line.specs.Knowledge.{up_by_note, taken_for_up, link_is_up, is_up_of}
+use Rattle.laws_line.proofs.Following.{some-same, and-false}
+use Rattle.laws_line.proofs.LinkMoves.{IsOne, taken-one}
+use Rattle.laws_line.proofs.Noting.{own-notes, other-notes}
+use Rattle.laws_line.proofs.Obeyed.{services-equal, both-true}
+use Rattle.laws_line.proofs.Places.{has-place}
+use Rattle.laws_line.proofs.Readings as read
+use Rattle.laws_line.proofs.TeiNotes.{ByChange, noted}
+use Rattle.laws_line.proofs.TimersFollow.{number-is, nowhere}
+
+-- What layer 3 takes for up by notes is up, of each link.
+abbrev Up : Line → List Note → Line → Type 0
+Up before notes after = (service : Service) (tei : ℕ) → fold (up_by_note service tei) (is_up_of service tei before) notes ≡ is_up_of service tei after
+
+-- An event of one link.
+module _ (c : Config) (l : Line) (s : IsSound c l) (service : Service) (tei place : ℕ) (e : link.Event) (at : IsAt l.management.places place tei) where
+  abbrev t : Terms
+  t = terms c service tei
+
+  abbrev x : Link
+  x = link_in l service place
+
+  abbrev y : Link
+  y = links.after t e x
+
+  abbrev its : List Note
+  its = (links.told t e x).notes
+
+  abbrev then-up : Service → ℕ → Type 0
+  then-up s' n' = fold (up_by_note s' n') (is_up_of s' n' l) its ≡ is_up_of s' n' (with_link (link_number place service) y l)
+
+  own-up : then-up service tei
+  own-up =
+      ap (λ b. fold (up_by_note service tei) b its) (read.own-before is_up c l s service tei place at y)
+      ∙ own-notes t (is_up x) its (notes-own t e x) ∙ layer_3_knows t e x ∙ sym (read.own-after is_up c l s service tei place at y)
+
+  by-link : (s' : Service) (n' : ℕ) (b : Bool) → (same_service service s' && (tei == n')) ≡ b → then-up s' n'
+  by-link s' n' false other = other-notes t s' n' other (is_up_of s' n' l) its (notes-own t e x) ∙ sym (read.other-read is_up c l s service tei place at y s' n' other)
+  by-link s' n' true same =
+      let is = both-true (same_service service s') (tei == n') same in
+      subst (λ z. then-up z n') (services-equal service s' is.0) (subst (λ z. then-up service z) (eqb-true tei n' is.1) own-up)
+
+  pub link-up : Up l its (with_link (link_number place service) y l)
+  link-up s' n' = by-link s' n' (same_service service s' && (tei == n')) refl
+
+-- Notes of TEIs say nothing of links.
+tei-note : (service : Service) (tei : ℕ) (up : Bool) (e : teis.Event) (o : Option Change) (ns : List Note) → ByChange e o ns → fold (up_by_note service tei) up ns ≡ up
+tei-note service tei up e None ns is = ap (λ xs. fold (up_by_note service tei) up xs) is
+tei-note service tei up (teis.message octets) (Some (Gained by place)) ns is = ap (λ xs. fold (up_by_note service tei) up xs) is
+tei-note service tei up teis.expiry (Some (Gained by place)) ns is = absurd is
+tei-note service tei up (teis.assign asked) (Some (Gained by place)) ns is = ap (λ xs. fold (up_by_note service tei) up xs) is.1
+tei-note service tei up (teis.remove asked) (Some (Gained by place)) ns is = absurd is
+tei-note service tei up (teis.check asked) (Some (Gained by place)) ns is = absurd is
+tei-note service tei up (teis.message octets) (Some (Left by place)) ns is = ap (λ xs. fold (up_by_note service tei) up xs) is
+tei-note service tei up teis.expiry (Some (Left by place)) ns is = ap (λ xs. fold (up_by_note service tei) up xs) is
+tei-note service tei up (teis.assign asked) (Some (Left by place)) ns is = absurd is
+tei-note service tei up (teis.remove asked) (Some (Left by place)) ns is = ap (λ xs. fold (up_by_note service tei) up xs) is.1
+tei-note service tei up (teis.check asked) (Some (Left by place)) ns is = absurd is
+
+-- An event of TEI management.
+module _ (c : Config) (l : Line) (s : IsSound c l) (e : teis.Event) (fits : tei_laws.IsInRange e) where
+  abbrev m : Management
+  m = teis.after e l.management
+
+  sound : IsSoundTable m.places
+  sound = (tei_lemmas.sound-after e l.management fits s.management).table
+
+  abbrev ns : List Note
+  ns = (teis.told e l.management).notes
+
+  abbrev changed : Option Change → Line
+  changed o = (of_change c o (told_of_management (teis.told e l.management)) (record l { management = m })).line
+
+  comes-up : (tei place : ℕ) → tei_laws.HasJoined l.management.places m.places tei place → (s' : Service) (n' : ℕ) (b : Bool) → (tei == n') ≡ b
+      → is_up_of s' n' l ≡ is_up_of s' n' (changed (Some (Gained tei place)))
+  comes-up tei place joined s' n' true same =
+      let n : tei ≡ n' = eqb-true tei n' same in
+      read.off-read is_up refl c l s m sound place (Some tei) joined.is_there joined.within s' n' (λ i at. at-off l.management.places i n' (ap (λ x. is_on x l.management.places) (sym n) ∙ joined.was_off) at)
+      ∙ sym (read.filled-read is_up refl c l s m sound place (Some tei) joined.is_there joined.within s' n' (ap Some n))
+  comes-up tei place joined s' n' false other =
+      sym (read.elsewhere is_up refl c l s m sound place (Some tei) joined.is_there joined.within s' n' (λ same. true≢false (sym (eq-eqb tei n' (some-same tei n' same)) ∙ other))
+      (λ at. none-some n' (sym joined.was_free ∙ at)))
+
+  module _ (tei place : ℕ) (gone : tei_laws.HasLeft l.management.places m.places tei place) where
+    abbrev first : Link
+    first = link_in l Call place
+
+    abbrev second : Link
+    second = get_or (set l.links (link_number place Call) fresh) (link_number place Packet) fresh
+
+    abbrev call : List Note
+    call = (links.told (terms c Call tei) link.cleared first).notes
+
+    abbrev packet : List Note
+    packet = (links.told (terms c Packet tei) link.cleared second).notes
+
+    placed : place_of tei l.management.places ≡ Some place
+    placed = has-place l.management.places tei place s.management.table gone.was_there
+
+    gone-down : (z : Service) → is_up_of z tei (changed (Some (Left tei place))) ≡ false
+    gone-down z = read.emptied-read is_up refl c l s m sound place None gone.is_free gone.within z tei refl gone.was_there
+
+    abbrev leaving : Service → ℕ → Type 0
+    leaving z n' = fold (up_by_note z n') (fold (up_by_note z n') (is_up_of z n' l) call) packet ≡ is_up_of z n' (changed (Some (Left tei place)))
+
+    own-leaves : (z : Service) → leaving z tei
+    own-leaves Call =
+        ap (λ b. fold (up_by_note Call tei) (fold (up_by_note Call tei) b call) packet) (ap (λ o. option_map_or (link_is_up Call l) o false) placed)
+        ∙ ap (λ b. fold (up_by_note Call tei) b packet) (own-notes (terms c Call tei) (is_up first) call (notes-own (terms c Call tei) link.cleared first) ∙ layer_3_knows (terms c Call tei) link.cleared first)
+        ∙ other-notes (terms c Packet tei) Call tei refl false packet (notes-own (terms c Packet tei) link.cleared second) ∙ sym (gone-down Call)
+    own-leaves Packet =
+        ap (λ b. fold (up_by_note Packet tei) b packet) (other-notes (terms c Call tei) Packet tei refl (is_up_of Packet tei l) call (notes-own (terms c Call tei) link.cleared first))
+        ∙ ap (λ b. fold (up_by_note Packet tei) b packet)
+        (ap (λ o. option_map_or (link_is_up Packet l) o false) placed
+        ∙ ap is_up (sym (get_or-set_other l.links (link_number place Call) (link_number place Packet) fresh fresh (λ e. omega (arith, e)))))
+        ∙ own-notes (terms c Packet tei) (is_up second) packet (notes-own (terms c Packet tei) link.cleared second) ∙ layer_3_knows (terms c Packet tei) link.cleared second
+        ∙ sym (gone-down Packet)
+
+    leaves-up : (z : Service) (n' : ℕ) (b : Bool) → (tei == n') ≡ b → leaving z n'
+    leaves-up z n' true same = subst (λ n. leaving z n) (eqb-true tei n' same) (own-leaves z)
+    leaves-up z n' false other =
+        let apart : (y : Service) → (same_service y z && (tei == n')) ≡ false = λ y. ap (λ b. same_service y z && b) other ∙ and-false (same_service y z) in
+        ap (λ b. fold (up_by_note z n') b packet) (other-notes (terms c Call tei) z n' (apart Call) (is_up_of z n' l) call (notes-own (terms c Call tei) link.cleared first))
+        ∙ other-notes (terms c Packet tei) z n' (apart Packet) (is_up_of z n' l) packet (notes-own (terms c Packet tei) link.cleared second)
+        ∙ sym (read.elsewhere is_up refl c l s m sound place None gone.is_free gone.within z n' (λ same. none-some n' same)
+        (λ at. true≢false (sym (eq-eqb tei n' (some-same tei n' (sym gone.was_there ∙ at))) ∙ other)))
+
+  by-change : (o : Option Change) → Moves l.management.places o m.places → ByChange e o ns
+      → Up l (of_change c o (told_of_management (teis.told e l.management)) (record l { management = m })).told.notes (changed o)
+  by-change None moves is = λ s' n'. tei-note s' n' (is_up_of s' n' l) e None ns is ∙ sym (read.same-read is_up s' n' l (record l { management = m }) moves refl)
+  by-change (Some (Gained tei place)) joined is = λ s' n'.
+      tei-note s' n' (is_up_of s' n' l) e (Some (Gained tei place)) ns is ∙ comes-up tei place joined s' n' (tei == n') refl
+  by-change (Some (Left tei place)) gone is = λ s' n'.
+      fold-append (up_by_note s' n') (is_up_of s' n' l) (ns ++ call tei place gone) (packet tei place gone)
+      ∙ ap (λ b. fold (up_by_note s' n') b (packet tei place gone))
+      (fold-append (up_by_note s' n') (is_up_of s' n' l) ns (call tei place gone)
+      ∙ ap (λ b. fold (up_by_note s' n') b (call tei place gone)) (tei-note s' n' (is_up_of s' n' l) e (Some (Left tei place)) ns is))
+      ∙ leaves-up tei place gone s' n' (tei == n') refl
+
+  pub management-up : Up l (of_aim c (at_management e) l).told.notes (of_aim c (at_management e) l).line
+  management-up = by-change (teis.told e l.management).change (tei_lemmas.changes_are_told e l.management fits s.management) (noted e l.management s.management)
+
+-- An offer notes nothing.
+either : (b : Bool) (u v : Course) → u.notes ≡ [] → v.notes ≡ [] → (cond b u v).notes ≡ []
+either true u v one other = one
+either false u v one other = other
+
+offer-among : (t : Terms) (x : Link) (ws : List ControlFrame) → (offer_among t ws (begun x)).notes ≡ []
+offer-among t x (f ∷ fs) = refl
+offer-among t x [] =
+    either (may_send_information t x) _ _ (either (is_awaiting_acknowledgement (with_one_sent x)) _ _ refl refl) (either x.pending _ _ refl refl)
+
+offer-notes : (t : Terms) (x : Link) → (links.told t link.offer x).notes ≡ []
+offer-notes t x = offer-among t x x.waiting
+
+-- Each event.
+module _ (c : Config) (l : Line) (s : IsSound c l) where
+  aimed : (service : Service) (tei place : ℕ) (e : link.Event) → place_in l tei ≡ Some place
+      → Up l (of_aim c (at_link service tei place e) l).told.notes (of_aim c (at_link service tei place e) l).line
+  aimed service tei place e at = link-up c l s service tei place e (place_of-is l.management.places tei place at).1
+
+  heard-up : (o : Option stream.Event) → let aim = option_map_or (aim_of_heard l) o (at_none nothing) in Up l (of_aim c aim l).told.notes (of_aim c aim l).line
+  heard-up None = λ service tei. refl
+  heard-up (Some e) =
+      heard_aims l (λ aim. Up l (of_aim c aim l).told.notes (of_aim c aim l).line) (λ cause. λ service tei. refl)
+      (λ service tei place what at. aimed service tei place (link.received what) at) (λ info. management-up c l s (teis.message info) tt) e
+
+  timer-up : (service : Service) (tei : ℕ) (k : LinkTimer) (o : Option ℕ) → place_in l tei ≡ o → Up l (of_aim c (at_timer service tei k o) l).told.notes (of_aim c (at_timer service tei k o) l).line
+  timer-up service tei k None e = λ s' n'. refl
+  timer-up service tei k (Some place) e = aimed service tei place (link.expired k) e
+
+  asked-up : (service : Service) (tei : ℕ) (what : link.Request) (o : Option ℕ) → place_in l tei ≡ o
+      → Up l (of_aim c (at_requested service tei what o) l).told.notes (of_aim c (at_requested service tei what o) l).line
+  asked-up service tei what None e = λ s' n'. refl
+  asked-up service tei what (Some place) e = aimed service tei place (link.requested what false) e
+
+  request-up : (r : Request) → IsProper c l (aim_of_request r l) → Up l (of_aim c (aim_of_request r l) l).told.notes (of_aim c (aim_of_request r l) l).line
+  request-up (Establish service tei) proper = asked-up service tei link.Establish (place_in l tei) refl
+  request-up (Release service tei) proper = asked-up service tei link.Release (place_in l tei) refl
+  request-up (Data service tei contents) proper = asked-up service tei (link.Data contents) (place_in l tei) refl
+  request-up (Unit service tei contents) proper =
+      λ s' n'. sym (read.same-read is_up s' n' l (of_aim c (at_units (record { service = service; tei = tei; contents = contents })) l).line refl refl)
+  request-up (Assign tei) proper = management-up c l s (teis.assign tei) proper
+  request-up (Remove tei) proper = management-up c l s (teis.remove tei) proper
+  request-up (Check tei) proper = management-up c l s (teis.check tei) proper
+  request-up (SetBusy service tei) proper = asked-up service tei link.SetBusy (place_in l tei) refl
+  request-up (ClearBusy service tei) proper = asked-up service tei link.ClearBusy (place_in l tei) refl
+
+  offered-up : (service : Service) (tei place : ℕ) → IsAt l.management.places place tei → (s' : Service) (n' : ℕ)
+      → is_up_of s' n' l ≡ is_up_of s' n' (with_link (link_number place service) (links.after (terms c service tei) link.offer (link_in l service place)) l)
+  offered-up service tei place at s' n' =
+      sym (ap (λ ns. fold (up_by_note s' n') (is_up_of s' n' l) ns) (offer-notes (terms c service tei) (link_in l service place)))
+      ∙ link-up c l s service tei place link.offer at s' n'
+
+  took : (t : Taken) → IsOne c l t → Up l [] t.line
+  took t (inl x) = subst (λ (u : Taken). Up l [] u.line) (sym x.1) (λ s' n'. sym (read.same-read is_up s' n' l (with_message l x.0).line refl refl))
+  took t (inr (inl x)) = subst (λ (u : Taken). Up l [] u.line) (sym x.1) (λ s' n'. sym (read.same-read is_up s' n' l (with_unit l x.0).line refl refl))
+  took t (inr (inr x)) =
+      subst (λ (u : Taken). Up l [] u.line) (sym x.is)
+      (λ s' n'.
+      subst (λ n. is_up_of s' n' l ≡ is_up_of s' n' (with_link n (links.after (terms c (service_at x.number) x.tei) link.offer (link_at n l)) l)) (number-is x.number)
+      (offered-up (service_at x.number) x.tei (place_at x.number) x.on_line s' n')
+      ∙ sym (read.same-read is_up s' n' (with_link x.number (links.after (terms c (service_at x.number) x.tei) link.offer (link_at x.number l)) l)
+      (with_given_frame l x.number (terms c (service_at x.number) x.tei) x.what).line refl refl))
+
+  pull-up : Up l [] (after_pull c l)
+  pull-up = go (is_due l) (taken c l) (taken-one c l s)
+    where
+      go : (due : Bool) (o : Option Taken) → IfSome o (IsOne c l) → Up l [] (record (cond due (with_item o l) l) { given = (after_pull c l).given })
+      go false o x = λ s' n'. sym (read.same-read is_up s' n' l (record l { given = (after_pull c l).given }) refl refl)
+      go true None x = λ s' n'. sym (read.same-read is_up s' n' l (record (with_item None l) { given = (after_pull c l).given }) refl refl)
+      go true (Some t) x = λ s' n'. took t x s' n' ∙ sym (read.same-read is_up s' n' t.line (record (with_item (Some t) l) { given = (after_pull c l).given }) refl refl)
+
+pub known-up : (c : Config) (e : Event) (l : Line) (service : Service) (tei : ℕ) → IsSound c l
+    → taken_for_up service tei (is_up_of service tei l) (answer c e l) ≡ is_up_of service tei (after c e l)
+unfolding after answer
+known-up c (octet value) l service tei s =
+    let now = with_received value l in
+    let aim = option_map_or (aim_of_heard l) (gained c.n201 l.received value) (at_none nothing) in
+    ap (λ b. fold (up_by_note service tei) b (of_aim c aim now).told.notes) (sym (read.same-read is_up service tei l now refl refl))
+    ∙ heard-up c now (received_sound c value l s) (gained c.n201 l.received value) service tei
+known-up c (expiry (T200 by n)) l service tei s = timer-up c l s by n kind.T200 (place_in l n) refl service tei
+known-up c (expiry (T203 by n)) l service tei s = timer-up c l s by n kind.T203 (place_in l n) refl service tei
+known-up c (expiry T201) l service tei s = management-up c l s teis.expiry tt service tei
+known-up c (request r) l service tei s = go (refusal c false r l) (request_proper c l r)
+  where
+    go : (o : Option Refusal) → IsProper c l (unless_refused o (aim_of_request r l))
+        → fold (up_by_note service tei) (is_up_of service tei l) (notes_in (unless_refused_told o (of_aim c (unless_refused o (aim_of_request r l)) l)))
+        ≡ is_up_of service tei (of_aim c (unless_refused o (aim_of_request r l)) l).line
+    go None proper = request-up c l s r proper service tei
+    go (Some why) proper = refl
+known-up c pull l service tei s = pull-up c l s service tei
+
+pub begins-down : (c : Config) (service : Service) (tei : ℕ) → is_up_of service tei (fresh_line c) ≡ false
+begins-down c service tei = ap (λ o. option_map_or (link_is_up service (fresh_line c)) o false) (nowhere c tei)

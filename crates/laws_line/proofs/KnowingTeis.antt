@@ -1,0 +1,251 @@
+-- By notes and granted requests management knows which TEIs are on the line: each event.
+use Rattle.std.proofs.Common.{◌≡◌, ◌≢◌, ◌⊎◌, ℕ, ◌==◌, Bool, true, false, cond, not, is_some, nat_lt, List, [], ◌∷◌, ◌++◌, set, get_or, replicate, Option, Some, None, IfSome, option_map, refl, ap, sym, ◌∙◌, subst, eqb-true, eq-eqb, true≢false, inl, inr}
+use Rattle.std.specs.Prelude.{fold}
+use Rattle.std.specs.Option.{option_map_or}
+use Rattle.std.proofs.lemmas.List.{get_or-set_same}
+use Rattle.std.proofs.lemmas.List.Sums.{fold-append}
+use Rattle.std.proofs.lemmas.Option.{none-some}
+use Rattle.lapd_bits.specs.Stream as stream
+use Rattle.lapd_frame.specs.declared.notes.Note.{Note}
+use Rattle.lapd_frame.specs.declared.refusals.Refusal.{Refusal}
+use Rattle.lapd_frame.specs.declared.refusals.Refusal.TheVariants.{TeiTaken, TableFull, NoLink, ControlFull}
+use Rattle.lapd_frame.specs.declared.services.Service.{Service}
+use Rattle.lapd_frame.specs.declared.services.Service.TheVariants.{Call, Packet}
+use Rattle.lapd_frame.specs.declared.timers.Timer.TheVariants.{T200, T203, T201}
+use Rattle.model_link.specs.Events as link
+use Rattle.model_link.specs.Known.{is_up}
+use Rattle.model_link.specs.Link.{Link, fresh}
+use Rattle.model_link.specs.Machine as links
+use Rattle.model_link.specs.declared.timers.LinkTimer.{LinkTimer}
+use Rattle.model_link.specs.declared.timers.LinkTimer.TheVariants as kind
+use Rattle.model_link.proofs.OwnNotes.{notes-own}
+use Rattle.lapd_tei.specs.Events as teis
+use Rattle.lapd_tei.specs.Events.{refusal_if}
+use Rattle.lapd_tei.specs.Laws as tei_laws
+use Rattle.lapd_tei.specs.Laws.{Moves}
+use Rattle.lapd_tei.specs.Machine.{Management}
+use Rattle.lapd_tei.specs.declared.messages.Message.TheVariants.{IdentityRemove}
+use Rattle.lapd_tei.specs.Rows.{join_at, put_on, take_off, is_checked, nothing_happens}
+use Rattle.lapd_tei.specs.Words as words
+use Rattle.lapd_tei.specs.Words.{no_room, send, leave, left, end_check}
+use Rattle.lapd_tei.specs.Sound.{IsAt, IsSoundTable}
+use Rattle.lapd_tei.specs.Table.{Places, is_on, place_of, free_place}
+use Rattle.lapd_tei.specs.declared.outcome.Change.{Change}
+use Rattle.lapd_tei.specs.declared.outcome.Change.TheVariants.{Gained, Left}
+use Rattle.lapd_tei.proofs.LawLemmas as tei_lemmas
+use Rattle.lapd_tei.proofs.Tables.{is_on-at, place_of-is}
+use Rattle.model_line.specs.declared.config.Config.{Config}
+use Rattle.model_line.specs.Answer.{Event, octet, expiry, request, pull, nothing}
+use Rattle.model_line.specs.Effect.{Aim, at_none, at_link, at_management, at_units, told_of_management, of_change, of_aim}
+use Rattle.model_line.specs.Expiry.{at_timer}
+use Rattle.model_line.specs.Line.{Line, link_number, place_in, has_tei, link_in, terms, fresh_line}
+use Rattle.model_line.specs.Machine.{after, answer, unless_refused, unless_refused_told}
+use Rattle.model_line.specs.Octet.{gained, aim_of_heard, with_received}
+use Rattle.model_line.specs.Pull.{Taken, taken, is_due, with_item, after_pull}
+use Rattle.model_line.specs.Refusal.{refusal}
+use Rattle.model_line.specs.Request.{Request, Establish, Release, Data, Unit, Assign, Remove, Check, SetBusy, ClearBusy}
+use Rattle.model_line.specs.Requested.{at_requested, aim_of_request}
+use Rattle.model_line.specs.Sound.{IsSound}
+use Rattle.model_line.proofs.AimsSound.{IsProper}
+use Rattle.model_line.proofs.LineSound.{received_sound}
+use Rattle.model_line.proofs.ProperAims.{heard_aims, request_proper}
+use Rattle.laws_line.specs.Knowledge.{on_by_note, on_by_request, on_by_event, taken_for_on}
+use Rattle.laws_line.proofs.Following.{some-same}
+use Rattle.laws_line.proofs.LinkMoves.{IsOne, taken-one}
+use Rattle.laws_line.proofs.Noting.{link-notes}
+use Rattle.laws_line.proofs.Places.{is-off, has-no-place, stays-placed}
+use Rattle.laws_line.proofs.Readings as read
+use Rattle.laws_line.proofs.TeiNotes.{ByChange, GainedBy, LeftBy, noted}
+use Rattle.laws_line.proofs.TimersFollow.{nowhere}
+
+-- A TEI is on the line where it has a place.
+on-placed : (tei : ℕ) (places : Places) → is_on tei places ≡ is_some (place_of tei places)
+on-placed tei places = go (place_of tei places) refl
+  where
+    go : (o : Option ℕ) → place_of tei places ≡ o → is_on tei places ≡ is_some o
+    go None e = is-off places tei e
+    go (Some place) e = is_on-at places place tei (place_of-is places tei place e).1
+
+-- What an event of TEI management itself says of a TEI, with its notes.
+abbrev asked-on : ℕ → Bool → teis.Event → Bool
+asked-on tei on (teis.message octets) = on
+asked-on tei on teis.expiry = on
+asked-on tei on (teis.assign asked) = cond (asked == tei) true on
+asked-on tei on (teis.remove asked) = cond (asked == tei) false on
+asked-on tei on (teis.check asked) = on
+
+comes-on : (tei by : ℕ) (e : teis.Event) (ns : List Note) → GainedBy e by ns → (on : Bool) → fold (on_by_note tei) (asked-on tei on e) ns ≡ cond (by == tei) true on
+comes-on tei by (teis.message octets) ns is on = ap (λ xs. fold (on_by_note tei) on xs) is
+comes-on tei by teis.expiry ns is on = absurd is
+comes-on tei by (teis.assign asked) ns is on = ap (λ xs. fold (on_by_note tei) (cond (asked == tei) true on) xs) is.1 ∙ ap (λ n. cond (n == tei) true on) is.0
+comes-on tei by (teis.remove asked) ns is on = absurd is
+comes-on tei by (teis.check asked) ns is on = absurd is
+
+leaves-on : (tei by : ℕ) (e : teis.Event) (ns : List Note) → LeftBy e by ns → (on : Bool) → fold (on_by_note tei) (asked-on tei on e) ns ≡ cond (by == tei) false on
+leaves-on tei by (teis.message octets) ns is on = ap (λ xs. fold (on_by_note tei) on xs) is
+leaves-on tei by teis.expiry ns is on = ap (λ xs. fold (on_by_note tei) on xs) is
+leaves-on tei by (teis.assign asked) ns is on = absurd is
+leaves-on tei by (teis.remove asked) ns is on = ap (λ xs. fold (on_by_note tei) (cond (asked == tei) false on) xs) is.1 ∙ ap (λ n. cond (n == tei) false on) is.0
+leaves-on tei by (teis.check asked) ns is on = absurd is
+
+-- An assignment and a removal that are granted change the table.
+not-refused : (b : Bool) (why : Refusal) (o : Option Refusal) → cond b (Some why) o ≡ None → (b ≡ false) × (o ≡ None)
+not-refused true why o e = absurd (none-some why (sym e))
+not-refused false why o e = (refl, e)
+
+not-not : (b : Bool) → not b ≡ false → b ≡ true
+not-not true e = refl
+not-not false e = absurd (true≢false e)
+
+joined-some : (tei : ℕ) (m : Management) (o : Option ℕ) → is_some o ≡ true → (join_at tei o (words.begun m)).told.change ≡ None → ⊥
+joined-some tei m None some e = true≢false (sym some)
+joined-some tei m (Some place) some e = none-some _ (sym e)
+
+left-some : (tei : ℕ) (o : Option ℕ) → is_some o ≡ true → option_map (left tei) o ≡ None → ⊥
+left-some tei None some e = true≢false (sym some)
+left-some tei (Some place) some e = none-some _ (sym e)
+
+left-by : (tei : ℕ) (m : Management) (b : Bool) → (leave tei ((cond b end_check nothing_happens) (send (IdentityRemove tei) (words.begun m)))).told.change ≡ None
+    → option_map (left tei) (place_of tei m.places) ≡ None
+left-by tei m true e = e
+left-by tei m false e = e
+
+module _ (c : Config) (l : Line) where
+  assigned : (tei : ℕ) → refusal c false (Assign tei) l ≡ None → (teis.told (teis.assign tei) l.management).change ≡ None → ⊥
+  unfolding teis.course teis.refusal
+  assigned tei granted e =
+      let bad = not-refused (nat_lt 126 tei) _ _ granted in
+      let taken = not-refused (has_tei tei l) _ _ bad.1 in
+      let full = not-refused (not (is_some (free_place l.management.places))) _ _ taken.1 in
+      joined-some tei l.management (free_place l.management.places) (not-not (is_some (free_place l.management.places)) full.0)
+      (subst (λ o. (teis.unless_refused o (put_on tei) l.management).told.change ≡ None)
+      (ap (λ b. refusal_if b TeiTaken (refusal_if (not (is_some (free_place l.management.places))) TableFull None)) taken.0 ∙ ap (λ b. refusal_if b TableFull None) full.0) e)
+
+  removed : (tei : ℕ) → refusal c false (Remove tei) l ≡ None → (teis.told (teis.remove tei) l.management).change ≡ None → ⊥
+  unfolding teis.course teis.refusal
+  removed tei granted e =
+      let bad = not-refused (nat_lt 126 tei) _ _ granted in
+      let unknown = not-refused (not (has_tei tei l)) _ _ bad.1 in
+      let full = not-refused (no_room l.management.waiting) _ _ unknown.1 in
+      left-some tei (place_of tei l.management.places) (sym (on-placed tei l.management.places) ∙ not-not (has_tei tei l) unknown.0)
+      (left-by tei l.management (is_checked tei l.management.check)
+      (subst (λ o. (teis.unless_refused o (take_off tei) l.management).told.change ≡ None)
+      (ap (λ b. refusal_if b NoLink (refusal_if (no_room l.management.waiting) ControlFull None)) unknown.0 ∙ ap (λ b. refusal_if b ControlFull None) full.0) e))
+
+-- What is taken for on the line is on it.
+abbrev Knows : Line → (Bool → Bool) → ℕ → List Note → Line → Type 0
+Knows before asked tei notes after = fold (on_by_note tei) (asked (has_tei tei before)) notes ≡ has_tei tei after
+
+module _ (c : Config) (l : Line) (s : IsSound c l) (e : teis.Event) (fits : tei_laws.IsInRange e) (tei : ℕ) where
+  abbrev m : Management
+  m = teis.after e l.management
+
+  table : IsSoundTable m.places
+  table = (tei_lemmas.sound-after e l.management fits s.management).table
+
+  abbrev ns : List Note
+  ns = (teis.told e l.management).notes
+
+  comes : (by place : ℕ) → tei_laws.HasJoined l.management.places m.places by place → (b : Bool) → (by == tei) ≡ b → cond b true (has_tei tei l) ≡ is_on tei m.places
+  comes by place joined true same =
+      sym (ap (λ n. is_on n m.places) (sym (eqb-true by tei same))
+      ∙ is_on-at m.places place by (ap (λ ps. get_or ps place None) joined.is_there ∙ get_or-set_same l.management.places place (Some by) None joined.within))
+  comes by place joined false other =
+      on-placed tei l.management.places
+      ∙ ap is_some (sym (stays-placed l.management.places m.places place (Some by) table joined.is_there joined.within tei (λ same. true≢false (sym (eq-eqb by tei (some-same by tei same)) ∙ other))
+      (λ at. none-some tei (sym joined.was_free ∙ at))))
+      ∙ sym (on-placed tei m.places)
+
+  goes : (by place : ℕ) → tei_laws.HasLeft l.management.places m.places by place → (b : Bool) → (by == tei) ≡ b → cond b false (has_tei tei l) ≡ is_on tei m.places
+  goes by place gone true same =
+      sym (on-placed tei m.places
+      ∙ ap is_some (has-no-place m.places tei (read.emptied is_up refl c l s m table place None gone.is_free gone.within tei refl (gone.was_there ∙ ap Some (eqb-true by tei same)))))
+  goes by place gone false other =
+      on-placed tei l.management.places
+      ∙ ap is_some (sym (stays-placed l.management.places m.places place None table gone.is_free gone.within tei (λ same. none-some tei same)
+      (λ at. true≢false (sym (eq-eqb by tei (some-same by tei (sym gone.was_there ∙ at))) ∙ other))))
+      ∙ sym (on-placed tei m.places)
+
+  by-change : (o : Option Change) → (o ≡ None → asked-on tei (has_tei tei l) e ≡ has_tei tei l) → Moves l.management.places o m.places → ByChange e o ns
+      → let f = of_change c o (told_of_management (teis.told e l.management)) (record l { management = m }) in Knows l (λ on. asked-on tei on e) tei f.told.notes f.line
+  by-change None plain moves is = ap (λ xs. fold (on_by_note tei) (asked-on tei (has_tei tei l) e) xs) is ∙ plain refl ∙ ap (is_on tei) (sym moves)
+  by-change (Some (Gained by place)) plain joined is = comes-on tei by e ns is (has_tei tei l) ∙ comes by place joined (by == tei) refl
+  by-change (Some (Left by place)) plain gone is =
+      let second = get_or (set l.links (link_number place Call) fresh) (link_number place Packet) fresh in
+      let call = (links.told (terms c Call by) link.cleared (link_in l Call place)).notes in
+      let packet = (links.told (terms c Packet by) link.cleared second).notes in
+      let now = cond (by == tei) false (has_tei tei l) in
+      fold-append (on_by_note tei) (asked-on tei (has_tei tei l) e) (ns ++ call) packet
+      ∙ ap (λ b. fold (on_by_note tei) b packet)
+      (fold-append (on_by_note tei) (asked-on tei (has_tei tei l) e) ns call ∙ ap (λ b. fold (on_by_note tei) b call) (leaves-on tei by e ns is (has_tei tei l))
+      ∙ link-notes (terms c Call by) tei now call (notes-own (terms c Call by) link.cleared (link_in l Call place)))
+      ∙ link-notes (terms c Packet by) tei now packet (notes-own (terms c Packet by) link.cleared second)
+      ∙ goes by place gone (by == tei) refl
+
+  pub management-knows : ((teis.told e l.management).change ≡ None → asked-on tei (has_tei tei l) e ≡ has_tei tei l)
+      → Knows l (λ on. asked-on tei on e) tei (of_aim c (at_management e) l).told.notes (of_aim c (at_management e) l).line
+  management-knows plain =
+      by-change (teis.told e l.management).change plain (tei_lemmas.changes_are_told e l.management fits s.management) (noted e l.management s.management)
+
+-- Each event.
+module _ (c : Config) (l : Line) (s : IsSound c l) (tei : ℕ) where
+  link-knows : (service : Service) (by place : ℕ) (e : link.Event) → Knows l (λ on. on) tei (of_aim c (at_link service by place e) l).told.notes (of_aim c (at_link service by place e) l).line
+  link-knows service by place e =
+      link-notes (terms c service by) tei (has_tei tei l) (links.told (terms c service by) e (link_in l service place)).notes (notes-own (terms c service by) e (link_in l service place))
+
+  heard-knows : (o : Option stream.Event) → let aim = option_map_or (aim_of_heard l) o (at_none nothing) in Knows l (λ on. on) tei (of_aim c aim l).told.notes (of_aim c aim l).line
+  heard-knows None = refl
+  heard-knows (Some e) =
+      heard_aims l (λ aim. Knows l (λ on. on) tei (of_aim c aim l).told.notes (of_aim c aim l).line) (λ cause. refl)
+      (λ service by place what at. link-knows service by place (link.received what)) (λ info. management-knows c l s (teis.message info) tt tei (λ none. refl)) e
+
+  timer-knows : (service : Service) (by : ℕ) (k : LinkTimer) (o : Option ℕ) → Knows l (λ on. on) tei (of_aim c (at_timer service by k o) l).told.notes (of_aim c (at_timer service by k o) l).line
+  timer-knows service by k None = refl
+  timer-knows service by k (Some place) = link-knows service by place (link.expired k)
+
+  asked-knows : (service : Service) (by : ℕ) (what : link.Request) (o : Option ℕ) → Knows l (λ on. on) tei (of_aim c (at_requested service by what o) l).told.notes (of_aim c (at_requested service by what o) l).line
+  asked-knows service by what None = refl
+  asked-knows service by what (Some place) = link-knows service by place (link.requested what false)
+
+  request-knows : (r : Request) → refusal c false r l ≡ None → IsProper c l (aim_of_request r l)
+      → Knows l (λ on. on_by_request tei on r) tei (of_aim c (aim_of_request r l) l).told.notes (of_aim c (aim_of_request r l) l).line
+  request-knows (Establish service by) granted proper = asked-knows service by link.Establish (place_in l by)
+  request-knows (Release service by) granted proper = asked-knows service by link.Release (place_in l by)
+  request-knows (Data service by contents) granted proper = asked-knows service by (link.Data contents) (place_in l by)
+  request-knows (Unit service by contents) granted proper = refl
+  request-knows (Assign by) granted proper = management-knows c l s (teis.assign by) proper tei (λ none. absurd (assigned c l by granted none))
+  request-knows (Remove by) granted proper = management-knows c l s (teis.remove by) proper tei (λ none. absurd (removed c l by granted none))
+  request-knows (Check by) granted proper = management-knows c l s (teis.check by) proper tei (λ none. refl)
+  request-knows (SetBusy service by) granted proper = asked-knows service by link.SetBusy (place_in l by)
+  request-knows (ClearBusy service by) granted proper = asked-knows service by link.ClearBusy (place_in l by)
+
+  took-on : (t : Taken) → IsOne c l t → has_tei tei l ≡ has_tei tei t.line
+  took-on t (inl x) = ap (λ (u : Taken). has_tei tei u.line) (sym x.1)
+  took-on t (inr (inl x)) = ap (λ (u : Taken). has_tei tei u.line) (sym x.1)
+  took-on t (inr (inr x)) = ap (λ (u : Taken). has_tei tei u.line) (sym x.is)
+
+  pull-on : has_tei tei l ≡ has_tei tei (after_pull c l)
+  pull-on = go (is_due l) (taken c l) (taken-one c l s)
+    where
+      go : (due : Bool) (o : Option Taken) → IfSome o (IsOne c l) → has_tei tei l ≡ has_tei tei (cond due (with_item o l) l)
+      go false o x = refl
+      go true None x = refl
+      go true (Some t) x = took-on t x
+
+pub known-on : (c : Config) (e : Event) (l : Line) (tei : ℕ) → IsSound c l → taken_for_on tei (has_tei tei l) e (answer c e l) ≡ has_tei tei (after c e l)
+unfolding after answer
+known-on c (octet value) l tei s = heard-knows c (with_received value l) (received_sound c value l s) tei (gained c.n201 l.received value)
+known-on c (expiry (T200 by n)) l tei s = timer-knows c l s tei by n kind.T200 (place_in l n)
+known-on c (expiry (T203 by n)) l tei s = timer-knows c l s tei by n kind.T203 (place_in l n)
+known-on c (expiry T201) l tei s = management-knows c l s teis.expiry tt tei (λ none. refl)
+known-on c (request r) l tei s = go (refusal c false r l) refl (request_proper c l r)
+  where
+    go : (o : Option Refusal) → refusal c false r l ≡ o → IsProper c l (unless_refused o (aim_of_request r l))
+        → taken_for_on tei (has_tei tei l) (request r) (unless_refused_told o (of_aim c (unless_refused o (aim_of_request r l)) l))
+        ≡ has_tei tei (of_aim c (unless_refused o (aim_of_request r l)) l).line
+    go None granted proper = request-knows c l s tei r granted proper
+    go (Some why) granted proper = refl
+known-on c pull l tei s = pull-on c l s tei
+
+pub begins-off : (c : Config) (tei : ℕ) → has_tei tei (fresh_line c) ≡ false
+begins-off c tei = is-off (replicate c.terminals None) tei (nowhere c tei)

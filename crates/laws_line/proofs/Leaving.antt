@@ -1,0 +1,176 @@
+-- What waits on a link stays in its order, until a pull begins it.
+use Rattle.std.proofs.Common.{◌≡◌, ℕ, zero, suc, ◌*◌, ◌<◌, Bool, true, false, cond, List, [], ◌∷◌, ◌++◌, slice_get, get_or, Option, Some, None, option_map, refl, sym, ap, subst, ◌∙◌, ◌⊎◌, inl, inr, ⊎_elim, arith}
+use Rattle.std.specs.Prelude.{IfSome}
+use Rattle.std.specs.Option.{option_or, unwrap_or}
+use Rattle.std.proofs.lemmas.Bool.{cases_eq}
+use Rattle.std.proofs.lemmas.List.{get_or-set_same, get_or-set_other}
+use Rattle.lapd_frame.specs.declared.addresses.Side.TheVariants.{Network}
+use Rattle.lapd_frame.specs.Grammar.{spelling}
+use Rattle.model_link.specs.declared.frames.ControlFrame.{ControlFrame}
+use Rattle.model_link.specs.declared.terms.Terms.{Terms}
+use Rattle.model_link.specs.Events as link
+use Rattle.model_link.specs.Link.{Link, fresh, frame_of}
+use Rattle.model_link.specs.Machine as links
+use Rattle.model_link.specs.Offers
+use Rattle.model_link.specs.Steps.{begun as course_begun}
+use Rattle.model_link.specs.Told.{Given}
+use Rattle.laws_two_links.specs.Waits.{Goes, GoesWhole, after_offers}
+use Rattle.laws_two_links.proofs.Waiting.{in-turn}
+use Rattle.lapd_tei.specs.Messages as messages
+use Rattle.model_line.specs.declared.config.Config.{Config}
+use Rattle.model_line.specs.Answer.{pull}
+use Rattle.model_line.specs.Line.{Line, UnitData, link_count, service_at, place_at, tei_at, terms, terms_at, link_at}
+use Rattle.model_line.specs.Machine.{after}
+use Rattle.model_line.specs.Pull as pulls
+use Rattle.model_line.specs.Pull.{Taken, with_message, message_taken, with_unit, unit_taken, with_given_frame, link_taken, first_taken, round, taken, is_due, begun, with_item, with_octet, after_pull}
+use Rattle.model_line.specs.Sound.{IsInRange, IsSound}
+use Rattle.model_line.proofs.LineSound.{after_sound}
+use Rattle.laws_line.specs.Pulls.{HasNothing}
+use Rattle.laws_line.specs.Drains.{after_pulls, bits_to_go, control_text, IsBegunWithin}
+use Rattle.laws_line.proofs.Draining.{drains}
+
+-- the first that waits is what an offer gives, and the others stay
+pub first-goes : (t : Terms) (l : Link) (f : ControlFrame) (fs : List ControlFrame) → l.waiting ≡ f ∷ fs → GoesWhole f (links.given t l)
+unfolding after_offers
+first-goes t l f fs e = in-turn t [] f fs l e
+
+pub others-wait : (t : Terms) (l : Link) (f : ControlFrame) (fs : List ControlFrame) → l.waiting ≡ f ∷ fs → (links.after t link.offer l).waiting ≡ fs
+others-wait t l f fs e = ap (λ ws. (Offers.offer_among t ws (course_begun l)).link.waiting) e
+
+whole-text : (t : Terms) (f : ControlFrame) (g : Given) → Goes f g → pulls.frame_of t g ≡ spelling Network (frame_of t f)
+whole-text t f g h =
+    ap (λ (x : ControlFrame). spelling Network (record (frame_of t x) { info = unwrap_or g.contents [] })) h.frame
+    ∙ ap (λ o. spelling Network (record (frame_of t f) { info = unwrap_or o [] })) h.alone
+
+-- What becomes of a link where something is taken: it stays, or it gave what is taken.
+pub record Gave (c : Config) (number : ℕ) (l : Line) (t : Taken) : Type 0 where
+  pub given : Given
+  pub is : links.given (terms_at c number l) (link_at number l) ≡ Some given
+  pub frame : t.frame ≡ pulls.frame_of (terms_at c number l) given
+  pub link : link_at number t.line ≡ links.after (terms_at c number l) link.offer (link_at number l)
+
+pub record Moved (c : Config) (number : ℕ) (l : Line) (t : Taken) : Type 0 where
+  pub places : t.line.management.places ≡ l.management.places
+  pub fate : (link_at number t.line ≡ link_at number l) ⊎ Gave c number l t
+
+module _ (c : Config) (number : ℕ) (l : Line) (s : IsSound c l) (few : number < link_count c) where
+  by-message : (o : Option (List ℕ)) → IfSome (option_map (with_message l) o) (Moved c number l)
+  by-message None = tt
+  by-message (Some m) = record { places = refl; fate = inl refl }
+
+  by-unit : (o : Option UnitData) → IfSome (option_map (with_unit l) o) (Moved c number l)
+  by-unit None = tt
+  by-unit (Some u) = record { places = refl; fate = inl refl }
+
+  gave : (n : ℕ) (g : Given) → links.given (terms_at c n l) (link_at n l) ≡ Some g → Moved c number l (with_given_frame l n (terms_at c n l) g)
+  gave n g e =
+      ⊎_elim
+      (λ same.
+      let e' : links.given (terms_at c number l) (link_at number l) ≡ Some g = subst (λ n. links.given (terms_at c n l) (link_at n l) ≡ Some g) (sym same) e in
+      subst (λ n. Moved c number l (with_given_frame l n (terms_at c n l) g)) same
+      (record {
+        places = refl;
+        fate = inr (record {
+          given = g;
+          is = e';
+          frame = refl;
+          link = get_or-set_same l.links number (links.after (terms_at c number l) link.offer (link_at number l)) fresh (omega (arith, few, s.count));
+        });
+      }))
+      (λ apart. record { places = refl; fate = inl (get_or-set_other l.links n number (links.after (terms_at c n l) link.offer (link_at n l)) fresh apart) })
+      (cases_eq number n)
+
+  by-link : (n : ℕ) (o : Option Given) → links.given (terms_at c n l) (link_at n l) ≡ o → IfSome (option_map (with_given_frame l n (terms_at c n l)) o) (Moved c number l)
+  by-link n None e = tt
+  by-link n (Some g) e = gave n g e
+
+  either : (o o' : Option Taken) → IfSome o (Moved c number l) → IfSome o' (Moved c number l) → IfSome (option_or o o') (Moved c number l)
+  either None o' x y = y
+  either (Some t) o' x y = x
+
+  by-round : (ns : List ℕ) → IfSome (first_taken c l ns) (Moved c number l)
+  by-round [] = tt
+  by-round (n ∷ ns) = either (link_taken c l n) (first_taken c l ns) (by-link n (links.given (terms_at c n l) (link_at n l)) refl) (by-round ns)
+
+  pub taken-moved : IfSome (taken c l) (Moved c number l)
+  taken-moved =
+      either (message_taken l) (option_or (unit_taken l) (first_taken c l (round c l))) (by-message (option_map messages.frame_of (slice_get l.management.waiting 0)))
+      (either (unit_taken l) (first_taken c l (round c l)) (by-unit (slice_get l.units 0)) (by-round (round c l)))
+
+-- A pull leaves a link as it is, or begins what it gave.
+pub record Pulled (c : Config) (number : ℕ) (l : Line) (l' : Line) : Type 0 where
+  pub places : l'.management.places ≡ l.management.places
+  pub fate : (link_at number l' ≡ link_at number l)
+      ⊎ ((t : Taken) × (g : Given) × (begun c l ≡ Some t) × (links.given (terms_at c number l) (link_at number l) ≡ Some g)
+      × (t.frame ≡ pulls.frame_of (terms_at c number l) g) × (link_at number l' ≡ links.after (terms_at c number l) link.offer (link_at number l)))
+
+pulled-by : (c : Config) (number : ℕ) (l : Line) (due : Bool) (o : Option Taken) → IfSome o (Moved c number l) → begun c l ≡ cond due o None
+    → Pulled c number l (with_octet (cond due (with_item o l) l))
+pulled-by c number l false o x e = record { places = refl; fate = inl refl }
+pulled-by c number l true None x e = record { places = refl; fate = inl refl }
+pulled-by c number l true (Some t) x e = record { places = x.places; fate = go x.fate }
+  where
+    go : (link_at number t.line ≡ link_at number l) ⊎ Gave c number l t
+        → (link_at number t.line ≡ link_at number l)
+        ⊎ ((t' : Taken) × (g : Given) × (begun c l ≡ Some t') × (links.given (terms_at c number l) (link_at number l) ≡ Some g)
+        × (t'.frame ≡ pulls.frame_of (terms_at c number l) g) × (link_at number t.line ≡ links.after (terms_at c number l) link.offer (link_at number l)))
+    go (inl same) = inl same
+    go (inr y) = inr (t, y.given, e, y.is, y.frame, y.link)
+
+pub pull-moves : (c : Config) (number : ℕ) (l : Line) → IsSound c l → number < link_count c → Pulled c number l (after c pull l)
+unfolding after
+pull-moves c number l s few = pulled-by c number l (is_due l) (taken c l) (taken-moved c number l s few) refl
+
+-- A frame is begun at once, or by a later pull.
+pub now : (c : Config) (n : ℕ) (l : Line) (t : Taken) (text : List ℕ) → begun c l ≡ Some t → t.frame ≡ text → IsBegunWithin c (suc n) l text
+unfolding after_pulls
+now c n l t text e is = record { pulls = 0; few = omega arith; taken = t; begins = e; is = is }
+
+pub later : (c : Config) (n : ℕ) (l : Line) (text : List ℕ) → IsBegunWithin c n (after c pull l) text → IsBegunWithin c (suc n) l text
+unfolding after_pulls
+later c n l text h = let few : h.pulls < n = h.few in record { pulls = suc h.pulls; few = omega arith; taken = h.taken; begins = h.begins; is = h.is }
+
+pub not-empty : (before : List ControlFrame) (f : ControlFrame) (behind : List ControlFrame) → before ++ f ∷ behind ≡ [] → ⊥
+not-empty [] f behind e = cc
+not-empty (b ∷ bs) f behind e = cc
+
+module _ (c : Config) (ranged : IsInRange c) (number tei : ℕ) (few : number < link_count c) where
+  terms-are : (l : Line) → tei_at (place_at number) l ≡ Some tei → terms_at c number l ≡ terms c (service_at number) tei
+  terms-are l at = ap (λ o. terms c (service_at number) (unwrap_or o 0)) at
+
+  pub same-place : (l l' : Line) → l'.management.places ≡ l.management.places → tei_at (place_at number) l ≡ Some tei → tei_at (place_at number) l' ≡ Some tei
+  same-place l l' e at = ap (λ ps. get_or ps (place_at number) None) e ∙ at
+
+  pub given-whole : (t : Terms) (l : Link) (f : ControlFrame) (fs : List ControlFrame) (g : Given) → l.waiting ≡ f ∷ fs → links.given t l ≡ Some g → Goes f g
+  given-whole t l f fs g e e' = subst (GoesWhole f) e' (first-goes t l f fs e)
+
+  pub text-is : (l : Line) (f : ControlFrame) (g : Given) → tei_at (place_at number) l ≡ Some tei → Goes f g → pulls.frame_of (terms_at c number l) g ≡ control_text c number tei f
+  text-is l f g at h = whole-text (terms_at c number l) f g h ∙ ap (λ t. spelling Network (frame_of t f)) (terms-are l at)
+
+  pub goes-out : (n : ℕ) (l : Line) → IsSound c l → tei_at (place_at number) l ≡ Some tei → (before : List ControlFrame) (f : ControlFrame) (behind : List ControlFrame)
+      → (link_at number l).waiting ≡ before ++ f ∷ behind → HasNothing c (after_pulls c n l) → IsBegunWithin c n l (control_text c number tei f)
+  unfolding after_pulls
+  goes-out zero l s at before f behind e h = absurd (not-empty before f behind (sym e ∙ (h.links number few tei at).waiting))
+  goes-out (suc n) l s at before f behind e h =
+      let p = pull-moves c number l s few in
+      let s' = after_sound c ranged pull l s in
+      let at' = same-place l (after c pull l) p.places at in
+      step n l at before f behind e p.fate
+      (λ before' e'. goes-out n (after c pull l) s' at' before' f behind e' h)
+    where
+      step : (n : ℕ) (l : Line) → tei_at (place_at number) l ≡ Some tei → (before : List ControlFrame) (f : ControlFrame) (behind : List ControlFrame)
+          → (link_at number l).waiting ≡ before ++ f ∷ behind
+          → (link_at number (after c pull l) ≡ link_at number l)
+          ⊎ ((t : Taken) × (g : Given) × (begun c l ≡ Some t) × (links.given (terms_at c number l) (link_at number l) ≡ Some g)
+          × (t.frame ≡ pulls.frame_of (terms_at c number l) g) × (link_at number (after c pull l) ≡ links.after (terms_at c number l) link.offer (link_at number l)))
+          → ((before' : List ControlFrame) → (link_at number (after c pull l)).waiting ≡ before' ++ f ∷ behind → IsBegunWithin c n (after c pull l) (control_text c number tei f))
+          → IsBegunWithin c (suc n) l (control_text c number tei f)
+      step n l at before f behind e (inl same) more = later c n l _ (more before (ap (λ (x : Link). x.waiting) same ∙ e))
+      step n l at [] f behind e (inr (t, g, some, given, frame, moved)) more =
+          now c n l t _ some (frame ∙ text-is l f g at (given-whole (terms_at c number l) (link_at number l) f behind g e given))
+      step n l at (b ∷ bs) f behind e (inr (t, g, some, given, frame, moved)) more =
+          later c n l _ (more bs (ap (λ (x : Link). x.waiting) moved ∙ others-wait (terms_at c number l) (link_at number l) b (bs ++ f ∷ behind) e))
+
+  pub waits-and-goes : (n : ℕ) (l : Line) → IsSound c l → tei_at (place_at number) l ≡ Some tei → (before : List ControlFrame) (f : ControlFrame) (behind : List ControlFrame)
+      → (link_at number l).waiting ≡ before ++ f ∷ behind → bits_to_go c l < 8 * n → IsBegunWithin c n l (control_text c number tei f)
+  waits-and-goes n l s at before f behind e less = goes-out n l s at before f behind e (drains c ranged n l s less)

@@ -1,0 +1,139 @@
+-- What holds of a link that begins, and is kept by each event of a link, holds of all links of a line.
+use Rattle.std.proofs.Common.{◌≡◌, ℕ, zero, suc, ◌<◌, Bool, true, false, cond, List, [], ◌∷◌, ◌++◌, get_or, set, Option, Some, None, refl, ap, sym, ◌∙◌, subst, ◌⊎◌, inl, inr, option_map, IfSome}
+use Rattle.std.specs.Prelude.{All}
+use Rattle.std.specs.Option.{option_or, unwrap_or}
+use Rattle.std.proofs.lemmas.List.Elements.{All-head, All-tail}
+use Rattle.lapd_frame.specs.declared.services.Service.TheVariants.{Call, Packet}
+use Rattle.model_link.specs.Events as link
+use Rattle.model_link.specs.Link.{Link, fresh}
+use Rattle.model_link.specs.Machine as links
+use Rattle.model_link.specs.Sound as link_sound
+use Rattle.model_link.specs.Told.{Given}
+use Rattle.model_link.specs.declared.terms.Terms.{Terms}
+use Rattle.lapd_tei.specs.Events as teis
+use Rattle.lapd_tei.specs.declared.outcome.Change.{Change}
+use Rattle.lapd_tei.specs.declared.outcome.Change.TheVariants.{Gained, Left}
+use Rattle.model_line.specs.declared.config.Config.{Config}
+use Rattle.model_line.specs.Answer.{Event, octet, expiry, request, pull, Told}
+use Rattle.model_line.specs.Effect.{Aim, at_none, at_link, at_management, at_units, told_of_management, of_change, of_aim}
+use Rattle.model_line.specs.Line.{Line, UnitData, link_number, service_at, place_at, tei_at, link_at, link_in, terms, link_count}
+use Rattle.model_line.specs.Machine.{after, unless_refused}
+use Rattle.model_line.specs.Octet.{aim_of_octet}
+use Rattle.model_line.specs.Expiry.{aim_of_expiry}
+use Rattle.model_line.specs.Pull.{Taken, with_message, message_taken, with_unit, unit_taken, with_given_frame, link_taken, first_taken, round, taken, is_due, with_item, after_pull}
+use Rattle.model_line.specs.Refusal.{refusal}
+use Rattle.model_line.specs.Requested.{aim_of_request}
+use Rattle.model_line.specs.Sound.{IsInRange, IsSoundAt, IsSound}
+use Rattle.model_line.proofs.AimsSound.{IsProper}
+use Rattle.model_line.proofs.LinksSound.{sound_in}
+use Rattle.model_line.proofs.Offered.{fresh_gives_nothing}
+use Rattle.model_line.proofs.ProperAims.{octet_proper, expiry_proper, request_proper}
+use Rattle.model_line.proofs.PullSound.{round_below}
+use Rattle.model_line.proofs.Ranges.{terms_in_range}
+
+-- What a pull takes: a message, unit data, or a frame of a link of a TEI on the line.
+pub record OfLink (c : Config) (l : Line) (t : Taken) : Type 0 where
+  pub number : ℕ
+  pub few : number < link_count c
+  pub tei : ℕ
+  pub on_line : tei_at (place_at number) l ≡ Some tei
+  pub what : Given
+  pub given : links.given (terms c (service_at number) tei) (link_at number l) ≡ Some what
+  pub is : t ≡ with_given_frame l number (terms c (service_at number) tei) what
+
+abbrev pub IsOne : Config → Line → Taken → Type 0
+IsOne c l t = ((octets : List ℕ) × (t ≡ with_message l octets)) ⊎ ((unit : UnitData) × (t ≡ with_unit l unit)) ⊎ OfLink c l t
+
+mapped : {X Y : Type 0} (f : X → Y) (P : Y → Type 0) (o : Option X) → ((x : X) → P (f x)) → IfSome (option_map f o) P
+mapped f P None h = tt
+mapped f P (Some x) h = h x
+
+first_of : (P : Taken → Type 0) (o rest : Option Taken) → IfSome o P → IfSome rest P → IfSome (option_or o rest) P
+first_of P None rest h h' = h'
+first_of P (Some t) rest h h' = h
+
+module _ (c : Config) (l : Line) (s : IsSound c l) where
+  of-link : (n : ℕ) → n < link_count c → IfSome (link_taken c l n) (IsOne c l)
+  of-link n few = known (tei_at (place_at n) l) refl (s.links n few)
+    where
+      gave : (tei : ℕ) → tei_at (place_at n) l ≡ Some tei → (o : Option Given) → links.given (terms c (service_at n) tei) (link_at n l) ≡ o
+          → IfSome (option_map (with_given_frame l n (terms c (service_at n) tei)) o) (IsOne c l)
+      gave tei e None given = tt
+      gave tei e (Some g) given = inr (inr (record { number = n; few = few; tei = tei; on_line = e; what = g; given = given; is = refl }))
+
+      known : (o : Option ℕ) → tei_at (place_at n) l ≡ o → IsSoundAt c n (link_at n l) o
+          → let t = terms c (service_at n) (unwrap_or o 0) in IfSome (option_map (with_given_frame l n t) (links.given t (link_at n l))) (IsOne c l)
+      known None e is_fresh =
+          let t = terms c (service_at n) 0 in
+          let nothing : links.given t (link_at n l) ≡ None = ap (links.given t) is_fresh ∙ fresh_gives_nothing t in
+          subst (λ o. IfSome (option_map (with_given_frame l n t) o) (IsOne c l)) (sym nothing) tt
+      known (Some tei) e sound = gave tei e (links.given (terms c (service_at n) tei) (link_at n l)) refl
+
+  of-links : (ns : List ℕ) → All (λ n. n < link_count c) ns → IfSome (first_taken c l ns) (IsOne c l)
+  of-links [] all = tt
+  of-links (n ∷ ns) all =
+      first_of (IsOne c l) (link_taken c l n) (first_taken c l ns) (of-link n (All-head (λ n. n < link_count c) n ns all))
+      (of-links ns (All-tail (λ n. n < link_count c) n ns all))
+
+  pub taken-one : IfSome (taken c l) (IsOne c l)
+  taken-one =
+      first_of (IsOne c l) (message_taken l) (option_or (unit_taken l) (first_taken c l (round c l)))
+      (mapped (with_message l) (IsOne c l) _ (λ octets. inl (octets, refl)))
+      (first_of (IsOne c l) (unit_taken l) (first_taken c l (round c l)) (mapped (with_unit l) (IsOne c l) _ (λ u. inr (inl (u, refl))))
+      (of-links (round c l) (round_below c l)))
+
+module _ (P : Link → Type 0) (begins : P fresh) (keeps : (t : Terms) (e : link.Event) (x : Link) → link_sound.IsInRange t → link_sound.IsSound t x → P x → P (links.after t e x)) where
+  -- one link is another
+  set_holds : (all : List Link) (n number : ℕ) (x : Link) → ((m : ℕ) → P (get_or all m fresh)) → P x → P (get_or (set all n x) number fresh)
+  set_holds [] n number x all h = begins
+  set_holds (y ∷ ys) zero zero x all h = h
+  set_holds (y ∷ ys) zero (suc number) x all h = all (suc number)
+  set_holds (y ∷ ys) (suc n) zero x all h = all 0
+  set_holds (y ∷ ys) (suc n) (suc number) x all h = set_holds ys n number x (λ m. all (suc m)) h
+
+  -- both links of a place begin anew
+  both_hold : (all : List Link) (a b number : ℕ) → ((m : ℕ) → P (get_or all m fresh)) → P (get_or (set (set all a fresh) b fresh) number fresh)
+  both_hold all a b number h = set_holds (set all a fresh) b number fresh (λ m. set_holds all a m fresh h begins) begins
+
+  module _ (c : Config) (ranged : IsInRange c) (l : Line) (s : IsSound c l) (h : (number : ℕ) → P (link_at number l)) (number : ℕ) where
+    changed : (o : Option Change) (r : Told) (now : Line) → ((m : ℕ) → P (link_at m now)) → P (link_at number (of_change c o r now).line)
+    changed None r now all = all number
+    changed (Some (Gained tei place)) r now all = both_hold now.links (link_number place Call) (link_number place Packet) number all
+    changed (Some (Left tei place)) r now all = both_hold now.links (link_number place Call) (link_number place Packet) number all
+
+    aimed : (received : List ℕ) (aim : Aim) → IsProper c l aim → P (link_at number (of_aim c aim (record l { received = received })).line)
+    aimed received (at_none t) proper = h number
+    aimed received (at_link service tei place e) proper =
+        let t = terms c service tei in
+        set_holds l.links (link_number place service) number (links.after t e (link_in l service place)) h
+        (keeps t e (link_in l service place) (terms_in_range c ranged service tei (s.management.table.range place tei proper)) (sound_in c ranged l s service tei place proper)
+        (h (link_number place service)))
+    aimed received (at_management e) proper = changed (teis.told e l.management).change (told_of_management (teis.told e l.management)) _ h
+    aimed received (at_units unit) proper = h number
+
+    took : (t : Taken) → IsOne c l t → P (link_at number t.line)
+    took t (inl x) = subst (λ (u : Taken). P (link_at number u.line)) (sym x.1) (h number)
+    took t (inr (inl x)) = subst (λ (u : Taken). P (link_at number u.line)) (sym x.1) (h number)
+    took t (inr (inr x)) =
+        let terms_of = terms c (service_at x.number) x.tei in
+        subst (λ (u : Taken). P (link_at number u.line)) (sym x.is)
+        (set_holds l.links x.number number (links.after terms_of link.offer (link_at x.number l)) h
+        (keeps terms_of link.offer (link_at x.number l) (terms_in_range c ranged (service_at x.number) x.tei (s.management.table.range (place_at x.number) x.tei x.on_line))
+        (subst (IsSoundAt c x.number (link_at x.number l)) x.on_line (s.links x.number x.few)) (h x.number)))
+
+    pulled : P (link_at number (after_pull c l))
+    pulled = go (is_due l) (taken c l) (taken-one c l s)
+      where
+        go : (due : Bool) (o : Option Taken) → IfSome o (IsOne c l) → P (link_at number (cond due (with_item o l) l))
+        go false o x = h number
+        go true None x = h number
+        go true (Some t) x = took t x
+
+  -- Any event.
+  pub all-after : (c : Config) → IsInRange c → (e : Event) (l : Line) → IsSound c l → ((number : ℕ) → P (link_at number l)) → (number : ℕ) → P (link_at number (after c e l))
+  unfolding after
+  all-after c ranged (octet value) l s h number = aimed c ranged l s h number (l.received ++ value ∷ []) (aim_of_octet c value l) (octet_proper c l value)
+  all-after c ranged (expiry timer) l s h number = aimed c ranged l s h number l.received (aim_of_expiry timer l) (expiry_proper c l timer)
+  all-after c ranged (request r) l s h number =
+      aimed c ranged l s h number l.received (unless_refused (refusal c false r l) (aim_of_request r l)) (request_proper c l r)
+  all-after c ranged pull l s h number = pulled c ranged l s h number

@@ -1,0 +1,74 @@
+-- What notes say: those of a link of this link alone, and those of TEI management of TEIs alone.
+use Rattle.std.proofs.Common.{◌≡◌, ℕ, ◌==◌, ◌&&◌, Bool, true, false, cond, List, [], ◌∷◌, refl, ap, ◌∙◌}
+use Rattle.std.specs.Prelude.{All, fold}
+use Rattle.std.proofs.lemmas.List.Elements.{All-head, All-tail}
+use Rattle.lapd_frame.specs.declared.notes.Note.{Note}
+use Rattle.lapd_frame.specs.declared.notes.Note.TheVariants.{EstablishIndication, EstablishConfirm, ReleaseIndication, ReleaseConfirm, Data, Unit, Error, Assigned, Removed, Doubled, Xid}
+use Rattle.lapd_frame.specs.declared.services.Service.{Service}
+use Rattle.lapd_frame.specs.Services.{same_service}
+use Rattle.model_link.specs.Known.{IsOwn, seen, known}
+use Rattle.model_link.specs.declared.terms.Terms.{Terms}
+use Rattle.laws_line.specs.Knowledge.{up_by_note, on_by_note}
+use Rattle.laws_line.proofs.Told.{its-own}
+
+-- notes of a link, for the link itself,
+own-note : (t : Terms) (up : Bool) (n : Note) → IsOwn t n → up_by_note t.service t.tei up n ≡ seen up n
+own-note t up (EstablishIndication s n) own = ap (λ b. cond b true up) (its-own t s n own)
+own-note t up (EstablishConfirm s n) own = ap (λ b. cond b true up) (its-own t s n own)
+own-note t up (ReleaseIndication s n) own = ap (λ b. cond b false up) (its-own t s n own)
+own-note t up (ReleaseConfirm s n) own = ap (λ b. cond b false up) (its-own t s n own)
+own-note t up (Data s n) own = refl
+own-note t up (Unit s n) own = refl
+own-note t up (Error s n k) own = refl
+own-note t up (Assigned n) own = refl
+own-note t up (Removed n) own = refl
+own-note t up (Doubled n) own = refl
+own-note t up (Xid s n) own = refl
+
+pub own-notes : (t : Terms) (up : Bool) (ns : List Note) → All (IsOwn t) ns → fold (up_by_note t.service t.tei) up ns ≡ known up ns
+own-notes t up [] all = refl
+own-notes t up (n ∷ ns) all =
+    ap (λ b. fold (up_by_note t.service t.tei) b ns) (own-note t up n (All-head (IsOwn t) n ns all))
+    ∙ own-notes t (seen up n) ns (All-tail (IsOwn t) n ns all)
+
+-- and for another
+module _ (t : Terms) (service : Service) (tei : ℕ) (other : (same_service t.service service && (t.tei == tei)) ≡ false) where
+  not-its : (s : Service) (n : ℕ) → (s ≡ t.service) × (n ≡ t.tei) → (same_service s service && (n == tei)) ≡ false
+  not-its s n own = ap (λ x. same_service x service && (n == tei)) own.0 ∙ ap (λ m. same_service t.service service && (m == tei)) own.1 ∙ other
+
+  other-note : (up : Bool) (n : Note) → IsOwn t n → up_by_note service tei up n ≡ up
+  other-note up (EstablishIndication s n) own = ap (λ b. cond b true up) (not-its s n own)
+  other-note up (EstablishConfirm s n) own = ap (λ b. cond b true up) (not-its s n own)
+  other-note up (ReleaseIndication s n) own = ap (λ b. cond b false up) (not-its s n own)
+  other-note up (ReleaseConfirm s n) own = ap (λ b. cond b false up) (not-its s n own)
+  other-note up (Data s n) own = refl
+  other-note up (Unit s n) own = refl
+  other-note up (Error s n k) own = refl
+  other-note up (Assigned n) own = refl
+  other-note up (Removed n) own = refl
+  other-note up (Doubled n) own = refl
+  other-note up (Xid s n) own = refl
+
+  pub other-notes : (up : Bool) (ns : List Note) → All (IsOwn t) ns → fold (up_by_note service tei) up ns ≡ up
+  other-notes up [] all = refl
+  other-notes up (n ∷ ns) all =
+      ap (λ b. fold (up_by_note service tei) b ns) (other-note up n (All-head (IsOwn t) n ns all)) ∙ other-notes up ns (All-tail (IsOwn t) n ns all)
+
+-- they say nothing of TEIs
+link-note : (t : Terms) (tei : ℕ) (on : Bool) (n : Note) → IsOwn t n → on_by_note tei on n ≡ on
+link-note t tei on (EstablishIndication s n) own = refl
+link-note t tei on (EstablishConfirm s n) own = refl
+link-note t tei on (ReleaseIndication s n) own = refl
+link-note t tei on (ReleaseConfirm s n) own = refl
+link-note t tei on (Data s n) own = refl
+link-note t tei on (Unit s n) own = refl
+link-note t tei on (Error s n k) own = refl
+link-note t tei on (Assigned n) own = absurd own
+link-note t tei on (Removed n) own = absurd own
+link-note t tei on (Doubled n) own = absurd own
+link-note t tei on (Xid s n) own = refl
+
+pub link-notes : (t : Terms) (tei : ℕ) (on : Bool) (ns : List Note) → All (IsOwn t) ns → fold (on_by_note tei) on ns ≡ on
+link-notes t tei on [] all = refl
+link-notes t tei on (n ∷ ns) all =
+    ap (λ b. fold (on_by_note tei) b ns) (link-note t tei on n (All-head (IsOwn t) n ns all)) ∙ link-notes t tei on ns (All-tail (IsOwn t) n ns all)

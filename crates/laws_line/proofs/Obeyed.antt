@@ -1,0 +1,117 @@
+-- What obeying the orders of a link, or of TEI management, comes to for each timer of a line.
+use Rattle.std.proofs.Common.{◌≡◌, ℕ, ◌==◌, ◌&&◌, Bool, true, false, cond, List, [], ◌∷◌, ◌++◌, refl, ap, sym, ◌∙◌, subst, eq-eqb, true≢false}
+use Rattle.std.proofs.lemmas.List.Sums.{fold-append}
+use Rattle.lapd_frame.specs.declared.services.Service.{Service}
+use Rattle.lapd_frame.specs.declared.services.Service.TheVariants.{Call, Packet}
+use Rattle.lapd_frame.specs.declared.timers.Order.{Order}
+use Rattle.lapd_frame.specs.declared.timers.Order.TheVariants.{Start, Stop}
+use Rattle.lapd_frame.specs.declared.timers.Timer.{Timer}
+use Rattle.lapd_frame.specs.declared.timers.Timer.TheVariants.{T200, T203, T201}
+use Rattle.lapd_frame.specs.Services.{same_service}
+use Rattle.model_link.specs.declared.timers.LinkTimer.{LinkTimer}
+use Rattle.model_link.specs.declared.timers.LinkTimer.TheVariants as kind
+use Rattle.model_link.specs.declared.terms.Terms.{Terms}
+use Rattle.model_link.specs.Events as link
+use Rattle.model_link.specs.Link.{Link}
+use Rattle.model_link.specs.Machine as links
+use Rattle.model_link.specs.Timed.{is_same, obey, obeyed, IsTimed, ComesInStep}
+use Rattle.model_link.specs.Told.{runs, timer_at}
+use Rattle.model_link.proofs.Obeying.{stays-in-step, comes-in-step, leaves-others}
+use Rattle.lapd_tei.specs.Laws.{Follows}
+
+pub obeyed-append : (timer : Timer) (b : Bool) (xs ys : List Order) → obeyed timer b (xs ++ ys) ≡ obeyed timer (obeyed timer b xs) ys
+obeyed-append timer b xs ys = fold-append (obey timer) b xs ys
+
+-- A timer of a link is that of a service and a TEI.
+pub service-same : (s : Service) → same_service s s ≡ true
+service-same Call = refl
+service-same Packet = refl
+
+pub services-equal : (s other : Service) → same_service s other ≡ true → s ≡ other
+services-equal Call Call e = refl
+services-equal Call Packet e = absurd (true≢false (sym e))
+services-equal Packet Call e = absurd (true≢false (sym e))
+services-equal Packet Packet e = refl
+
+pub both-true : (a b : Bool) → (a && b) ≡ true → (a ≡ true) × (b ≡ true)
+both-true true b e = (refl, e)
+both-true false b e = absurd (true≢false (sym e))
+
+-- T201 of TEI management
+pub t201-obeyed : (before : Bool) (orders : List Order) (after : Bool) → Follows before orders after → obeyed T201 before orders ≡ after
+t201-obeyed before [] after h = sym h
+t201-obeyed before (Start T201 ∷ []) after h = sym h
+t201-obeyed before (Stop T201 ∷ []) after h = sym h
+t201-obeyed before (Start (T200 s n) ∷ os) after h = absurd h
+t201-obeyed before (Start (T203 s n) ∷ os) after h = absurd h
+t201-obeyed before (Stop (T200 s n) ∷ os) after h = absurd h
+t201-obeyed before (Stop (T203 s n) ∷ os) after h = absurd h
+t201-obeyed before (Start T201 ∷ o ∷ os) after h = absurd h
+t201-obeyed before (Stop T201 ∷ o ∷ os) after h = absurd h
+
+pub t201-leaves : (timer : Timer) → is_same T201 timer ≡ false → (running before : Bool) (orders : List Order) (after : Bool) → Follows before orders after
+    → obeyed timer running orders ≡ running
+t201-leaves timer other running before [] after h = refl
+t201-leaves timer other running before (Start T201 ∷ []) after h = ap (λ b. cond b true running) other
+t201-leaves timer other running before (Stop T201 ∷ []) after h = ap (λ b. cond b false running) other
+t201-leaves timer other running before (Start (T200 s n) ∷ os) after h = absurd h
+t201-leaves timer other running before (Start (T203 s n) ∷ os) after h = absurd h
+t201-leaves timer other running before (Stop (T200 s n) ∷ os) after h = absurd h
+t201-leaves timer other running before (Stop (T203 s n) ∷ os) after h = absurd h
+t201-leaves timer other running before (Start T201 ∷ o ∷ os) after h = absurd h
+t201-leaves timer other running before (Stop T201 ∷ o ∷ os) after h = absurd h
+
+-- What a caller does with a link's timers, which it left as `left` says, by the orders of an event: each of the link's
+-- runs where the link runs it, and each other is as it was.
+pub record Steers (t : Terms) (left : Timer → Bool → Bool) (orders : List Order) (before after : Link) : Type 0 where
+  pub own : (k : LinkTimer) → obeyed (timer_at t k) (left (timer_at t k) (runs k before.running)) orders ≡ runs k after.running
+  pub others : (timer : Timer) (running : Bool) → is_same (timer_at t kind.T200) timer ≡ false → is_same (timer_at t kind.T203) timer ≡ false
+      → obeyed timer (left timer running) orders ≡ running
+
+abbrev pub as_it_was : Timer → Bool → Bool
+as_it_was timer running = running
+
+pub steers-event : (t : Terms) (e : link.Event) (l : Link) → Steers t as_it_was (links.told t e l).orders l (links.after t e l)
+steers-event t e l = record { own = λ k. stays-in-step t e l k; others = λ timer running one two. leaves-others t e l timer running one two }
+
+-- the same where a timer has expired, which runs no more at the caller's
+abbrev pub without : Timer → Timer → Bool → Bool
+without expired timer running = cond (is_same expired timer) false running
+
+itself : (s : Service) (tei : ℕ) → (same_service s s && (tei == tei)) ≡ true
+itself Call tei = eq-eqb tei tei refl
+itself Packet tei = eq-eqb tei tei refl
+
+comes : (t : Terms) (l : Link) (k : LinkTimer) → IsTimed l → (b : Bool) → runs k l.running ≡ b → ComesInStep t (link.expired k) l k
+comes t l k h true e = comes-in-step t l k h e
+comes t l k h false e = subst (λ b. obeyed (timer_at t k) b (links.told t (link.expired k) l).orders ≡ runs k (links.after t (link.expired k) l).running) e
+    (stays-in-step t (link.expired k) l k)
+
+pub steers-expiry : (t : Terms) (k : LinkTimer) (l : Link) → IsTimed l
+    → Steers t (without (timer_at t k)) (links.told t (link.expired k) l).orders l (links.after t (link.expired k) l)
+steers-expiry t kind.T200 l h = record {
+  own = own;
+  others = λ timer running one two.
+      ap (λ b. obeyed timer (cond b false running) (links.told t (link.expired kind.T200) l).orders) one
+      ∙ leaves-others t (link.expired kind.T200) l timer running one two;
+}
+  where
+    own : (k : LinkTimer) → obeyed (timer_at t k) (without (timer_at t kind.T200) (timer_at t k) (runs k l.running)) (links.told t (link.expired kind.T200) l).orders
+        ≡ runs k (links.after t (link.expired kind.T200) l).running
+    own kind.T200 =
+        ap (λ b. obeyed (timer_at t kind.T200) (cond b false (runs kind.T200 l.running)) (links.told t (link.expired kind.T200) l).orders) (itself t.service t.tei)
+        ∙ comes t l kind.T200 h (runs kind.T200 l.running) refl
+    own kind.T203 = stays-in-step t (link.expired kind.T200) l kind.T203
+steers-expiry t kind.T203 l h = record {
+  own = own;
+  others = λ timer running one two.
+      ap (λ b. obeyed timer (cond b false running) (links.told t (link.expired kind.T203) l).orders) two
+      ∙ leaves-others t (link.expired kind.T203) l timer running one two;
+}
+  where
+    own : (k : LinkTimer) → obeyed (timer_at t k) (without (timer_at t kind.T203) (timer_at t k) (runs k l.running)) (links.told t (link.expired kind.T203) l).orders
+        ≡ runs k (links.after t (link.expired kind.T203) l).running
+    own kind.T203 =
+        ap (λ b. obeyed (timer_at t kind.T203) (cond b false (runs kind.T203 l.running)) (links.told t (link.expired kind.T203) l).orders) (itself t.service t.tei)
+        ∙ comes t l kind.T203 h (runs kind.T203 l.running) refl
+    own kind.T200 = stays-in-step t (link.expired kind.T203) l kind.T200

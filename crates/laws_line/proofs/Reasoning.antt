@@ -1,0 +1,233 @@
+-- Why notes say that a TEI came or left: each row of TEI management, and each event of a line.
+use Rattle.std.proofs.Common.{◌≡◌, ℕ, ◌+◌, ◌*◌, ◌/◌, ◌%◌, ◌==◌, ◌&&◌, nat_le, Bool, true, false, cond, List, [], ◌∷◌, ◌++◌, Option, Some, None, refl, sym, subst, eqb-true}
+use Rattle.std.specs.List.{All}
+use Rattle.std.proofs.lemmas.Bool.{and_parts}
+use Rattle.std.proofs.lemmas.List.Elements.{All-nil, All-cons, All-append, All-weaker}
+use Rattle.lapd_frame.specs.declared.notes.Note.{Note}
+use Rattle.lapd_frame.specs.declared.notes.Note.TheVariants as notes
+use Rattle.lapd_frame.specs.declared.notes.Note.TheVariants.{Assigned, Removed, Doubled}
+use Rattle.lapd_frame.specs.declared.refusals.Refusal.{Refusal}
+use Rattle.lapd_frame.specs.declared.services.Service.{Service}
+use Rattle.lapd_frame.specs.declared.services.Service.TheVariants.{Call, Packet}
+use Rattle.lapd_frame.specs.declared.timers.Timer.TheVariants.{T200, T203, T201}
+use Rattle.model_link.specs.declared.terms.Terms.{Terms}
+use Rattle.model_link.specs.declared.timers.LinkTimer.{LinkTimer}
+use Rattle.model_link.specs.declared.timers.LinkTimer.TheVariants as link_timer
+use Rattle.model_link.specs.Events as link
+use Rattle.model_link.specs.Known.{IsOwn}
+use Rattle.model_link.specs.Link.{Link}
+use Rattle.model_link.specs.Machine as links
+use Rattle.model_link.proofs.OwnNotes.{notes-own}
+use Rattle.lapd_tei.specs.declared.check.Check.{Check}
+use Rattle.lapd_tei.specs.declared.check.Period.{Period}
+use Rattle.lapd_tei.specs.declared.check.Period.TheVariants.{First, Second}
+use Rattle.lapd_tei.specs.declared.outcome.Change.{Change}
+use Rattle.lapd_tei.specs.declared.outcome.Change.TheVariants.{Gained, Left}
+use Rattle.lapd_tei.specs.declared.messages.Message.TheVariants.{IdentityRemove}
+use Rattle.lapd_tei.specs.Events as teis
+use Rattle.lapd_tei.specs.Machine.{Management}
+use Rattle.lapd_tei.specs.Messages.{heard_in, heard_of_type}
+use Rattle.lapd_tei.specs.Rows as rows
+use Rattle.lapd_tei.specs.Table.{free_place, free_tei}
+use Rattle.lapd_tei.specs.Words.{Course, begun, no_room, lose_one, unserved, check_is, begin_check, end_check, send, leave}
+use Rattle.model_line.specs.declared.config.Config.{Config}
+use Rattle.model_line.specs.Answer.{Event, octet, expiry, request, pull, Told}
+use Rattle.model_line.specs.Effect.{at_management, told_of_management, of_link, of_change, of_aim}
+use Rattle.model_line.specs.Expiry.{at_timer}
+use Rattle.model_line.specs.Line.{Line, place_in, link_in, terms}
+use Rattle.model_line.specs.Machine.{answer, unless_refused, unless_refused_told}
+use Rattle.model_line.specs.Octet.{with_received}
+use Rattle.model_line.specs.Refusal.{refusal}
+use Rattle.model_line.specs.Request.{Request, Establish, Release, Data, Unit, Assign, Remove, Check as Checking, SetBusy, ClearBusy}
+use Rattle.model_line.specs.Requested.{at_requested, aim_of_request}
+use Rattle.laws_line.specs.Heard.{notes_of}
+use Rattle.laws_line.specs.Messages.{asks, responds, Says}
+use Rattle.laws_line.specs.Reasons.{HasReason, HaveReasons}
+use Rattle.laws_line.proofs.GroupAims.{hears, octet-aims}
+use Rattle.laws_line.proofs.Messaging.{spelled}
+
+-- Each row: one note at most, which its event explains.
+module _ (P : Note → Type 0) (m : Management) where
+  abbrev Each : Course → Type 0
+  Each c = All P c.told.notes
+
+  one : (n : Note) → P n → All P (n ∷ [])
+  one n h = All-cons P n [] h (All-nil P)
+
+  new-noted : ((tei : ℕ) → P (Assigned tei)) → (ri : ℕ) (place tei : Option ℕ) → Each (rows.assign_new ri place tei (begun m))
+  new-noted h ri None None = All-nil P
+  new-noted h ri None (Some tei) = All-nil P
+  new-noted h ri (Some place) None = All-nil P
+  new-noted h ri (Some place) (Some tei) = one (Assigned tei) (h tei)
+
+  assign-noted : ((tei : ℕ) → P (Assigned tei)) → (ri : ℕ) (o : Option ℕ) → Each (rows.assign ri o (begun m))
+  assign-noted h ri None = new-noted h ri (free_place m.places) (free_tei m.places)
+  assign-noted h ri (Some tei) = All-nil P
+
+  request-noted : ((tei : ℕ) → P (Assigned tei)) → (ri : ℕ) → Each (rows.request ri (begun m))
+  request-noted h ri = go (no_room m.waiting)
+    where
+      go : (b : Bool) → Each ((cond b lose_one (rows.assign ri (rows.remembered_in ri m.remembered))) (begun m))
+      go true = All-nil P
+      go false = assign-noted h ri (rows.remembered_in ri m.remembered)
+
+  verify-noted : (tei : ℕ) → Each (rows.verify tei (begun m))
+  verify-noted tei = go (rows.may_be_checked tei m)
+    where
+      go : (b : Bool) → Each ((cond b (begin_check tei) unserved) (begun m))
+      go true = All-nil P
+      go false = All-nil P
+
+  count-noted : (tei : ℕ) → P (Doubled tei) → (check : Check) → Each (rows.count tei check (begun m))
+  count-noted tei h check = go (nat_le 2 (rows.responses check))
+    where
+      go : (b : Bool) → Each ((cond b (rows.doubled tei) (check_is (Some check))) (begun m))
+      go true = one (Doubled tei) h
+      go false = All-nil P
+
+  respond-noted : (tei : ℕ) → P (Doubled tei) → (o : Option Check) → Each (rows.respond tei o (begun m))
+  respond-noted tei h None = All-nil P
+  respond-noted tei h (Some check) = go (check.tei == tei)
+    where
+      go : (b : Bool) → Each ((cond b (rows.count tei (rows.counted check)) unserved) (begun m))
+      go true = count-noted tei h (rows.counted check)
+      go false = All-nil P
+
+  ends-noted : ((tei : ℕ) → P (Removed tei)) → (p : Period) (check : Check) → Each (rows.expire_period check p (begun m))
+  ends-noted h First check = All-nil P
+  ends-noted h Second check = go (rows.is_unanswered check)
+    where
+      go : (b : Bool) → Each ((cond b (rows.removed check.tei) end_check) (begun m))
+      go true = one (Removed check.tei) (h check.tei)
+      go false = All-nil P
+
+  expiry-noted : ((tei : ℕ) → P (Removed tei)) → (o : Option Check) → Each (rows.expire_check o (begun m))
+  expiry-noted h None = All-nil P
+  expiry-noted h (Some check) = ends-noted h check.period check
+
+  -- what a message of a terminal has noted is explained by its octets
+  module _ (info : List ℕ) (when-asked : (ri tei : ℕ) → Says info (asks ri) → P (Assigned tei)) (when-answered : (tei : ℕ) → Says info (responds tei) → P (Doubled tei)) where
+    by-type : (entity high low type last : ℕ) → info ≡ entity ∷ high ∷ low ∷ type ∷ last ∷ [] → entity ≡ 0x0F → last % 2 ≡ 1
+        → (request response verify : Bool) → (type == 1 && last / 2 == 127) ≡ request → (type == 5) ≡ response → (type == 7) ≡ verify
+        → Each (rows.serve (heard_of_type type (256 * high + low) (last / 2)) (begun m))
+    by-type entity high low type last is ours odd true response verify e1 e2 e3 =
+        let both = and_parts (type == 1) (last / 2 == 127) e1 in
+        let says = spelled m entity high low type last ours odd 1 127 (eqb-true type 1 both.0) (eqb-true (last / 2) 127 both.1) in
+        rw e1 (request-noted (λ tei. when-asked (256 * high + low) tei (subst (λ xs. Says xs (asks (256 * high + low))) (sym is) says)) (256 * high + low))
+    by-type entity high low type last is ours odd false true verify e1 e2 e3 =
+        let says = spelled m entity high low type last ours odd 5 (last / 2) (eqb-true type 5 e2) refl in
+        rw (e1, e2) (respond-noted (last / 2) (when-answered (last / 2) (subst (λ xs. Says xs (responds (last / 2))) (sym is) (256 * high + low, says))) m.check)
+    by-type entity high low type last is ours odd false false true e1 e2 e3 = rw (e1, e2, e3) (verify-noted (last / 2))
+    by-type entity high low type last is ours odd false false false e1 e2 e3 = rw (e1, e2, e3) (All-nil P)
+
+    message-noted : (octets : List ℕ) → info ≡ octets → Each (rows.serve (heard_in octets) (begun m))
+    message-noted [] is = All-nil P
+    message-noted (entity ∷ []) is = All-nil P
+    message-noted (entity ∷ high ∷ []) is = All-nil P
+    message-noted (entity ∷ high ∷ low ∷ []) is = All-nil P
+    message-noted (entity ∷ high ∷ low ∷ type ∷ []) is = All-nil P
+    message-noted (entity ∷ high ∷ low ∷ type ∷ last ∷ []) is = go (entity == 0x0F && last % 2 == 1) refl
+      where
+        go : (b : Bool) → (entity == 0x0F && last % 2 == 1) ≡ b → Each (rows.serve (cond b (heard_of_type type (256 * high + low) (last / 2)) None) (begun m))
+        go true e =
+            let both = and_parts (entity == 0x0F) (last % 2 == 1) e in
+            by-type entity high low type last is (eqb-true entity 0x0F both.0) (eqb-true (last % 2) 1 both.1)
+            (type == 1 && last / 2 == 127) (type == 5) (type == 7) refl refl refl
+        go false e = All-nil P
+    message-noted (entity ∷ high ∷ low ∷ type ∷ last ∷ sixth ∷ more) is = All-nil P
+
+  put-noted : (tei : ℕ) (o : Option ℕ) → Each (rows.join_at tei o (begun m))
+  put-noted tei None = All-nil P
+  put-noted tei (Some place) = All-nil P
+
+  off-noted : (tei : ℕ) → Each (rows.take_off tei (begun m))
+  off-noted tei = go (rows.is_checked tei m.check)
+    where
+      go : (b : Bool) → Each (leave tei ((cond b end_check rows.nothing_happens) (send (IdentityRemove tei) (begun m))))
+      go true = All-nil P
+      go false = All-nil P
+
+  unless-noted : (o : Option Refusal) (e : teis.Event) → Each (teis.step e (begun m)) → Each (teis.unless_refused o (teis.step e) m)
+  unless-noted None e h = h
+  unless-noted (Some why) e h = All-nil P
+
+-- Each event of a line. Notes of links say nothing of TEIs.
+module _ (c : Config) (l : Line) (e : Event) where
+  abbrev P : Note → Type 0
+  P = HasReason c l e
+
+  own : (t : Terms) (n : Note) → IsOwn t n → P n
+  own t (notes.EstablishIndication s n) h = tt
+  own t (notes.EstablishConfirm s n) h = tt
+  own t (notes.ReleaseIndication s n) h = tt
+  own t (notes.ReleaseConfirm s n) h = tt
+  own t (notes.Data s n) h = tt
+  own t (notes.Unit s n) h = tt
+  own t (notes.Error s n k) h = tt
+  own t (notes.Assigned n) h = absurd h
+  own t (notes.Removed n) h = absurd h
+  own t (notes.Doubled n) h = absurd h
+  own t (notes.Xid s n) h = tt
+
+  link-noted : (t : Terms) (what : link.Event) (x : Link) → All P (links.told t what x).notes
+  link-noted t what x = All-weaker (IsOwn t) P (λ n h. own t n h) (links.told t what x).notes (notes-own t what x)
+
+  change-noted : (o : Option Change) (t : Told) (at : Line) → All P t.notes → All P (of_change c o t at).told.notes
+  change-noted None t at h = h
+  change-noted (Some (Gained tei place)) t at h = h
+  change-noted (Some (Left tei place)) t at h =
+      let call = of_link c Call tei place link.cleared at in
+      let packet = of_link c Packet tei place link.cleared call.line in
+      All-append P (t.notes ++ call.told.notes) packet.told.notes
+      (All-append P t.notes call.told.notes h (link-noted (terms c Call tei) link.cleared (link_in at Call place)))
+      (link-noted (terms c Packet tei) link.cleared (link_in call.line Packet place))
+
+  management-noted : (what : teis.Event) (at : Line) → All P (teis.told what at.management).notes → All P (of_aim c (at_management what) at).told.notes
+  management-noted what at h =
+      change-noted (teis.told what at.management).change (told_of_management (teis.told what at.management)) (record at { management = teis.after what at.management }) h
+
+  timer-noted : (service : Service) (tei : ℕ) (timer : LinkTimer) (o : Option ℕ) → All P (of_aim c (at_timer service tei timer o) l).told.notes
+  timer-noted service tei timer None = All-nil P
+  timer-noted service tei timer (Some place) = link-noted (terms c service tei) (link.expired timer) (link_in l service place)
+
+  asked-noted : (service : Service) (tei : ℕ) (what : link.Request) (o : Option ℕ) → All P (of_aim c (at_requested service tei what o) l).told.notes
+  asked-noted service tei what None = All-nil P
+  asked-noted service tei what (Some place) = link-noted (terms c service tei) (link.requested what false) (link_in l service place)
+
+  granted-noted : (r : Request) → All P (of_aim c (aim_of_request r l) l).told.notes
+  unfolding teis.course
+  granted-noted (Establish service tei) = asked-noted service tei link.Establish (place_in l tei)
+  granted-noted (Release service tei) = asked-noted service tei link.Release (place_in l tei)
+  granted-noted (Data service tei contents) = asked-noted service tei (link.Data contents) (place_in l tei)
+  granted-noted (Unit service tei contents) = All-nil P
+  granted-noted (SetBusy service tei) = asked-noted service tei link.SetBusy (place_in l tei)
+  granted-noted (ClearBusy service tei) = asked-noted service tei link.ClearBusy (place_in l tei)
+  granted-noted (Assign tei) =
+      management-noted (teis.assign tei) l
+      (unless-noted P l.management (teis.refusal (teis.assign tei) l.management) (teis.assign tei) (put-noted P l.management tei (free_place l.management.places)))
+  granted-noted (Remove tei) =
+      management-noted (teis.remove tei) l
+      (unless-noted P l.management (teis.refusal (teis.remove tei) l.management) (teis.remove tei) (off-noted P l.management tei))
+  granted-noted (Checking tei) =
+      management-noted (teis.check tei) l (unless-noted P l.management (teis.refusal (teis.check tei) l.management) (teis.check tei) (All-nil P))
+
+pub have-reasons : (c : Config) (e : Event) (l : Line) → HaveReasons c l e (answer c e l)
+unfolding answer teis.course teis.refusal
+have-reasons c (octet value) l =
+    octet-aims c l value (λ aim. All (HasReason c l (octet value)) (of_aim c aim (with_received value l)).told.notes)
+    (All-nil (HasReason c l (octet value))) (λ cause. All-nil (HasReason c l (octet value)))
+    (λ service tei place what. link-noted c l (octet value) (terms c service tei) (link.received what) (link_in l service place))
+    (λ parts ui.
+    management-noted c l (octet value) (teis.message parts.info) (with_received value l)
+    (message-noted (HasReason c l (octet value)) l.management parts.info (λ ri tei says. (ri, hears c l value parts (asks ri) ui says))
+    (λ tei says. hears c l value parts (responds tei) ui says) parts.info refl))
+have-reasons c (expiry (T200 service tei)) l = timer-noted c l (expiry (T200 service tei)) service tei link_timer.T200 (place_in l tei)
+have-reasons c (expiry (T203 service tei)) l = timer-noted c l (expiry (T203 service tei)) service tei link_timer.T203 (place_in l tei)
+have-reasons c (expiry T201) l =
+    management-noted c l (expiry T201) teis.expiry l (expiry-noted (HasReason c l (expiry T201)) l.management (λ tei. refl) l.management.check)
+have-reasons c (request r) l = go (refusal c false r l)
+  where
+    go : (o : Option Refusal) → All (HasReason c l (request r)) (notes_of (unless_refused_told o (of_aim c (unless_refused o (aim_of_request r l)) l)))
+    go None = granted-noted c l (request r) r
+    go (Some why) = All-nil (HasReason c l (request r))
+have-reasons c pull l = All-nil (HasReason c l pull)

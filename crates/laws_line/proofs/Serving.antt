@@ -1,0 +1,330 @@
+-- What a pull begins.
+use Rattle.std.proofs.Common.{◌≡◌, ◌≢◌, ℕ, ◌+◌, ◌<◌, zero, suc, Bool, true, false, cond, List, [], ◌∷◌, ◌++◌, length, drop, take, slice_get, get_or, set, Option, Some, None, refl, sym, ap, ◌∙◌, subst, arith, zero-add, append-nil, option_map, inl, inr}
+use Rattle.std.specs.Prelude.{All, IfSome}
+use Rattle.std.specs.List.{range_with_len}
+use Rattle.std.specs.Option.{option_or, option_map_or, unwrap_or}
+use Rattle.std.proofs.lemmas.Bool.{ltb-false}
+use Rattle.std.proofs.lemmas.List.{length-drop, get_or-set_same, get_or-set_other, take-append-drop}
+use Rattle.std.proofs.lemmas.List.Elements.{All-head, All-tail, All-nil, All-cons, All-get_or, All-append}
+use Rattle.std.proofs.lemmas.List.FromFn.{get_or-range_with_len, length-range_with_len}
+use Rattle.std.proofs.lemmas.Option.{none-some}
+use Rattle.lapd_bits.specs.Bits.{bits}
+use Rattle.lapd_bits.specs.Sent.{line_text}
+use Rattle.lapd_bits.specs.Stream as stream
+use Rattle.lapd_frame.specs.declared.addresses.Side.TheVariants.{Network}
+use Rattle.lapd_frame.specs.declared.refusals.Refusal.{Refusal}
+use Rattle.lapd_frame.specs.declared.services.Service.{Service}
+use Rattle.lapd_frame.specs.declared.timers.Timer.{Timer}
+use Rattle.lapd_frame.specs.declared.timers.Timer.TheVariants.{T200, T203, T201}
+use Rattle.model_link.specs.declared.timers.LinkTimer.{LinkTimer}
+use Rattle.model_link.specs.declared.timers.LinkTimer.TheVariants as link_timer
+use Rattle.lapd_tei.specs.Events as teis
+use Rattle.lapd_tei.specs.declared.outcome.Change.{Change}
+use Rattle.lapd_tei.specs.declared.outcome.Change.TheVariants.{Gained, Left}
+use Rattle.model_link.specs.declared.terms.Terms.{Terms}
+use Rattle.model_link.specs.Events as link
+use Rattle.model_link.specs.Link.{Link, fresh}
+use Rattle.model_link.specs.Machine as links
+use Rattle.model_link.specs.Sound.{is_information}
+use Rattle.model_link.specs.Sound as link_sound
+use Rattle.model_link.specs.Told.{Given}
+use Rattle.laws_link.specs.InOrder.{IsInOrder}
+use Rattle.laws_link.specs.Offered.{IsOffered, one}
+use Rattle.laws_link.proofs.InOrder.{given-in-order}
+use Rattle.laws_link.proofs.Offering.{given-is-offered, offer-counts}
+use Rattle.laws_two_links.proofs.Waiting.{nothing-given}
+use Rattle.lapd_tei.specs.declared.messages.Message.{Message}
+use Rattle.lapd_tei.specs.Messages.{frame_of}
+use Rattle.model_line.specs.declared.config.Config.{Config}
+use Rattle.model_line.specs.Answer.{Event, octet, expiry, request, pull, nothing}
+use Rattle.model_line.specs.Effect.{Aim, at_none, at_link, at_management, at_units, told_of_management, of_change, of_aim}
+use Rattle.model_line.specs.Expiry.{at_timer, aim_of_expiry}
+use Rattle.model_line.specs.Octet.{gained, aim_of_heard, aim_of_octet, with_received}
+use Rattle.model_line.specs.Refusal.{refusal}
+use Rattle.model_line.specs.Request.{Request, Establish, Release, Data, Assign, Remove, Check, SetBusy, ClearBusy}
+use Rattle.model_line.specs.Requested.{at_requested, aim_of_request}
+use Rattle.model_line.proofs.ProperAims.{heard_aims}
+use Rattle.laws_line.specs.Share.{is_granted}
+use Rattle.model_line.specs.Line.{Line, UnitData, link_count, service_at, place_at, place_in, tei_at, terms, terms_at, link_at}
+use Rattle.model_line.specs.Machine.{after, answer, unless_refused, unless_refused_told}
+use Rattle.model_line.specs.Pull as pulls
+use Rattle.model_line.specs.Pull.{Taken, with_message, with_unit, with_given_frame, link_taken, first_taken, round, taken, left_of, is_due, begun, with_item, after_pull}
+use Rattle.model_line.specs.Sound.{IsInRange, IsSoundAt, IsSound}
+use Rattle.model_line.proofs.PullSound.{round_below}
+use Rattle.laws_line.specs.Pulls.{IsMessage, IsUnit, IsSilent, IsQuiet, IsItsTurn, IsOfLink, IsOwed, HasNothing, IsIdle, bits_left, contents_of, IsServed, unit_asked, UnitsWait, TurnStays}
+use Rattle.laws_line.proofs.Silence.{silent}
+
+-- the first of a list is not there
+no-first : {X : Type 0} (xs : List X) → slice_get xs 0 ≡ None → xs ≡ []
+no-first [] e = refl
+no-first (x ∷ xs) e = cc
+
+module _ (c : Config) (l : Line) (s : IsSound c l) where
+  -- What is taken, by the line without it; or nothing waits.
+  abbrev Fate : Option Taken → Type 0
+  Fate None = HasNothing c l
+  Fate (Some t) = IsOwed c (contents_of l) l t.line t.frame
+
+  abbrev LinkFate : ℕ → Option Taken → Type 0
+  LinkFate number None = IsQuiet c l number
+  LinkFate number (Some t) = (IsItsTurn c l t.line number → IsOfLink c (contents_of l) l t.line t.frame) × (t.line.turn ≡ number + 1)
+
+  -- one link
+  fresh-gives : (number : ℕ) → link_at number l ≡ fresh → links.given (terms_at c number l) (link_at number l) ≡ None
+  fresh-gives number e = ap (links.given (terms_at c number l)) e
+
+  by-link : (number : ℕ) → number < link_count c → LinkFate number (link_taken c l number)
+  by-link number few = go (tei_at (place_at number) l) refl (s.links number few)
+    where
+      at-tei : (tei : ℕ) → tei_at (place_at number) l ≡ Some tei → link_sound.IsSound (terms c (service_at number) tei) (link_at number l)
+          → (o : Option Given) → links.given (terms c (service_at number) tei) (link_at number l) ≡ o
+          → LinkFate number (option_map (with_given_frame l number (terms c (service_at number) tei)) o)
+      at-tei tei at sound None e =
+          let t = terms c (service_at number) tei in (
+          λ other at'. subst (λ n. IsSilent (terms c (service_at number) n) (link_at number l)) (same-tei at at')
+          (silent t (link_at number l) sound (nothing-given t (link_at number l) e))
+          )
+        where
+          same-tei : {n m : ℕ} → tei_at (place_at number) l ≡ Some n → tei_at (place_at number) l ≡ Some m → n ≡ m
+          same-tei e e' = let both : Some _ ≡ Some _ = sym e ∙ e' in cc
+      at-tei tei at sound (Some g) e =
+          let t = terms c (service_at number) tei in
+          let next = links.after t link.offer (link_at number l) in
+          let carried : IsOffered (contents_of l number) (link_at number l).s g.frame g.contents =
+          subst (λ o. IfSome o (λ g. IsOffered (link_at number l).contents (link_at number l).s g.frame g.contents)) e (given-is-offered t (link_at number l) sound) in
+          let counts : next.s ≡ (link_at number l).s + one (is_information g.frame.control) =
+          offer-counts t (link_at number l) sound ∙ ap (λ o. (link_at number l).s + one (option_map_or (λ g. is_information g.frame.control) o false)) e in
+          let here : get_or (set l.links number next) number fresh ≡ next = get_or-set_same l.links number next fresh (omega (arith, few, s.count)) in
+          let ordered : IsInOrder t (link_at number l) next g.frame =
+          subst (λ o. IfSome o (λ g. IsInOrder t (link_at number l) next g.frame)) e (given-in-order t (link_at number l) sound) in (
+            λ turn. record {
+              number = number;
+              few = few;
+              its_turn = turn;
+              tei = tei;
+              on_line = at;
+              command = g.frame.command;
+              control = g.frame.control;
+              information = g.contents;
+              spelled = refl;
+              in_order = subst (λ (x : Link). IsInOrder t (link_at number l) x g.frame) (sym here) ordered;
+              carried = carried;
+              counted = ap (λ (x : Link). x.s) here ∙ counts;
+              messages = refl;
+              units = refl;
+              others = λ other apart. get_or-set_other l.links number other next fresh apart;
+            },
+            refl,
+          )
+
+      go : (o : Option ℕ) → tei_at (place_at number) l ≡ o → IsSoundAt c number (link_at number l) o → LinkFate number (link_taken c l number)
+      go None e begins =
+          let none : link_taken c l number ≡ None = ap (option_map (with_given_frame l number (terms_at c number l))) (fresh-gives number begins) in
+          subst (LinkFate number) (sym none) (λ tei at. absurd (none-some tei (sym e ∙ at)))
+      go (Some tei) e sound =
+          let t : terms_at c number l ≡ terms c (service_at number) tei = ap (λ o. terms c (service_at number) (unwrap_or o 0)) e in
+          subst (λ (t : Terms). LinkFate number (option_map (with_given_frame l number t) (links.given t (link_at number l)))) (sym t)
+          (at-tei tei e sound (links.given (terms c (service_at number) tei) (link_at number l)) refl)
+
+  -- all links of a round
+  abbrev Idle : ℕ → Type 0
+  Idle number = LinkFate number None
+
+  -- the first of a list that has something to give
+  record First (ns : List ℕ) (t : Taken) : Type 0 where
+    number : ℕ
+    passed : List ℕ
+    behind : List ℕ
+    place : ns ≡ passed ++ number ∷ behind
+    quiet : All Idle passed
+    fate : LinkFate number (Some t)
+
+  abbrev RoundFate : List ℕ → Option Taken → Type 0
+  RoundFate ns None = All Idle ns
+  RoundFate ns (Some t) = First ns t
+
+  by-round : (ns : List ℕ) → All (λ n. n < link_count c) ns → RoundFate ns (first_taken c l ns)
+  by-round [] few = All-nil Idle
+  by-round (n ∷ ns) few = go (link_taken c l n) (by-link n (All-head (λ n. n < link_count c) n ns few)) (first_taken c l ns) (by-round ns (All-tail (λ n. n < link_count c) n ns few))
+    where
+      go : (o : Option Taken) → LinkFate n o → (rest : Option Taken) → RoundFate ns rest → RoundFate (n ∷ ns) (option_or o rest)
+      go (Some t) x rest y = record { number = n; passed = []; behind = ns; place = refl; quiet = All-nil Idle; fate = x }
+      go None x None y = All-cons Idle n ns x y
+      go None x (Some t) y = record {
+        number = y.number;
+        passed = n ∷ y.passed;
+        behind = y.behind;
+        place = ap (λ xs. n ∷ xs) y.place;
+        quiet = All-cons Idle n y.passed x y.quiet;
+        fate = y.fate;
+      }
+
+  -- a round is all links
+  front : {X : Type 0} (P : X → Type 0) (xs ys : List X) → All P (xs ++ ys) → All P xs × All P ys
+  front P [] ys h = (All-nil P, h)
+  front P (x ∷ xs) ys h =
+      let rest = front P xs ys (All-tail P x (xs ++ ys) h) in
+      (All-cons P x xs (All-head P x (xs ++ ys) h) rest.0, rest.1)
+
+  whole-round : All Idle (round c l) → (number : ℕ) → number < link_count c → Idle number
+  whole-round h number few =
+      let numbers = range_with_len 0 (link_count c) in
+      let parts = front Idle (drop l.turn numbers) (take l.turn numbers) h in
+      let all : All Idle numbers = subst (All Idle) (take-append-drop l.turn numbers) (All-append Idle (take l.turn numbers) (drop l.turn numbers) parts.1 parts.0) in
+      subst Idle (get_or-range_with_len 0 (link_count c) number 0 few ∙ zero-add number)
+      (All-get_or Idle numbers number 0 (omega (arith, length-range_with_len 0 (link_count c), few)) all)
+
+  by-all : (m : Option Message) → slice_get l.management.waiting 0 ≡ m → (u : Option UnitData) → slice_get l.units 0 ≡ u
+      → Fate (option_or (option_map (with_message l) (option_map frame_of m)) (option_or (option_map (with_unit l) u) (first_taken c l (round c l))))
+  by-all (Some message) e u e' = inl (record { message = message; oldest = e; spelled = refl; rest = refl; units = refl; links = refl; turn = refl })
+  by-all None e (Some unit) e' =
+      inr (inl (record { no_message = no-first l.management.waiting e; unit = unit; oldest = e'; spelled = refl; messages = refl; rest = refl; links = refl; turn = refl }))
+  by-all None e None e' = go (first_taken c l (round c l)) (by-round (round c l) (round_below c l))
+    where
+      go : (o : Option Taken) → RoundFate (round c l) o → Fate o
+      go (Some t) x = inr (inr (x.fate.0 (record {
+        no_message = no-first l.management.waiting e;
+        no_unit = no-first l.units e';
+        passed = x.passed;
+        behind = x.behind;
+        place = x.place;
+        quiet = x.quiet;
+        next = x.fate.1;
+      })))
+      go None x = record {
+        messages = no-first l.management.waiting e;
+        units = no-first l.units e';
+        links = λ number few. whole-round x number few;
+      }
+
+  taken-is : Fate (taken c l)
+  taken-is = by-all (slice_get l.management.waiting 0) refl (slice_get l.units 0) refl
+
+  -- with its item, and the octet that is given
+  pub served : IsServed c (contents_of l) l
+  unfolding after
+  served = go (is_due l) refl (taken c l) taken-is
+    where
+      with-item : (t : Taken) → IsOwed c (contents_of l) l t.line t.frame → IsOwed c (contents_of l) l (pulls.with_octet (with_item (Some t) l)) t.frame
+      with-item t (inl x) = inl (record { message = x.message; oldest = x.oldest; spelled = x.spelled; rest = x.rest; units = x.units; links = x.links; turn = x.turn })
+      with-item t (inr (inl x)) =
+          inr (inl (record { no_message = x.no_message; unit = x.unit; oldest = x.oldest; spelled = x.spelled; messages = x.messages; rest = x.rest; links = x.links; turn = x.turn }))
+      with-item t (inr (inr x)) = inr (inr (record {
+        number = x.number;
+        few = x.few;
+        its_turn = record {
+          no_message = x.its_turn.no_message;
+          no_unit = x.its_turn.no_unit;
+          passed = x.its_turn.passed;
+          behind = x.its_turn.behind;
+          place = x.its_turn.place;
+          quiet = x.its_turn.quiet;
+          next = x.its_turn.next;
+        };
+        tei = x.tei;
+        on_line = x.on_line;
+        command = x.command;
+        control = x.control;
+        information = x.information;
+        spelled = x.spelled;
+        in_order = x.in_order;
+        carried = x.carried;
+        counted = x.counted;
+        messages = x.messages;
+        units = x.units;
+        others = x.others;
+      }))
+
+      not-few : is_due l ≡ false → bits_left l < 8 → ⊥
+      not-few e few =
+          let some = ltb-false (length (left_of l)) 8 e in
+          let left = length-drop (length (bits l.given)) (line_text l.items) in
+          absurd (omega (arith, some, left, few))
+
+      go : (due : Bool) → is_due l ≡ due → (o : Option Taken) → Fate o
+          → elim (cond due o None) as (λ o. Type 0) [
+            | None ↦ IsIdle c l (pulls.with_octet (cond due (with_item o l) l))
+            | Some t ↦ IsOwed c (contents_of l) l (pulls.with_octet (cond due (with_item o l) l)) t.frame
+          ]
+      go false e o x = record { nothing = λ few. absurd (not-few e few); messages = refl; units = refl; links = refl; turn = refl }
+      go true e None x = record { nothing = λ few. x; messages = refl; units = refl; links = refl; turn = refl }
+      go true e (Some t) x = with-item t x
+
+-- Unit data that waits.
+module _ (c : Config) where
+  abbrev unit_of : Aim → List UnitData
+  unit_of (at_none t) = []
+  unit_of (at_link service tei place e) = []
+  unit_of (at_management e) = []
+  unit_of (at_units unit) = unit ∷ []
+
+  aim-units : (l m : Line) (aim : Aim) → m.units ≡ l.units → (of_aim c aim m).line.units ≡ l.units ++ unit_of aim
+  aim-units l m (at_none t) e = e ∙ sym (append-nil l.units)
+  aim-units l m (at_link service tei place what) e = e ∙ sym (append-nil l.units)
+  aim-units l m (at_management what) e = by-change (teis.told what m.management).change ∙ e ∙ sym (append-nil l.units)
+    where
+      by-change : (o : Option Change) → (of_change c o (told_of_management (teis.told what m.management)) (record m { management = teis.after what m.management })).line.units ≡ m.units
+      by-change None = refl
+      by-change (Some (Gained tei place)) = refl
+      by-change (Some (Left tei place)) = refl
+  aim-units l m (at_units unit) e = ap (λ us. us ++ unit ∷ []) e
+
+  none-heard : (l : Line) (o : Option stream.Event) → unit_of (option_map_or (aim_of_heard l) o (at_none nothing)) ≡ []
+  none-heard l None = refl
+  none-heard l (Some e) = heard_aims l (λ aim. unit_of aim ≡ []) (λ cause. refl) (λ service tei place what at. refl) (λ info. refl) e
+
+  by-timer : (service : Service) (tei : ℕ) (timer : LinkTimer) (o : Option ℕ) → unit_of (at_timer service tei timer o) ≡ []
+  by-timer service tei timer None = refl
+  by-timer service tei timer (Some place) = refl
+
+  by-expiry : (l : Line) (timer : Timer) → unit_of (aim_of_expiry timer l) ≡ []
+  by-expiry l (T200 service tei) = by-timer service tei link_timer.T200 (place_in l tei)
+  by-expiry l (T203 service tei) = by-timer service tei link_timer.T203 (place_in l tei)
+  by-expiry l T201 = refl
+
+  by-asked : (service : Service) (tei : ℕ) (what : link.Request) (o : Option ℕ) → unit_of (at_requested service tei what o) ≡ []
+  by-asked service tei what None = refl
+  by-asked service tei what (Some place) = refl
+
+  by-request : (l : Line) (r : Request) → unit_of (aim_of_request r l) ≡ unit_asked r
+  by-request l (Establish service tei) = by-asked service tei link.Establish (place_in l tei)
+  by-request l (Release service tei) = by-asked service tei link.Release (place_in l tei)
+  by-request l (Data service tei contents) = by-asked service tei (link.Data contents) (place_in l tei)
+  by-request l (Request.Unit service tei contents) = refl
+  by-request l (Assign tei) = refl
+  by-request l (Remove tei) = refl
+  by-request l (Check tei) = refl
+  by-request l (SetBusy service tei) = by-asked service tei link.SetBusy (place_in l tei)
+  by-request l (ClearBusy service tei) = by-asked service tei link.ClearBusy (place_in l tei)
+
+pub units-wait : (c : Config) (e : Event) (l : Line) → UnitsWait e l (after c e l) (answer c e l)
+unfolding after answer
+units-wait c (octet value) l =
+    aim-units c l (with_received value l) (aim_of_octet c value l) refl ∙ ap (λ us. l.units ++ us) (none-heard c l (gained c.n201 l.received value)) ∙ append-nil l.units
+units-wait c (expiry timer) l = aim-units c l l (aim_of_expiry timer l) refl ∙ ap (λ us. l.units ++ us) (by-expiry c l timer) ∙ append-nil l.units
+units-wait c (request r) l = go (refusal c false r l)
+  where
+    go : (o : Option Refusal) → (of_aim c (unless_refused o (aim_of_request r l)) l).line.units
+        ≡ l.units ++ cond (is_granted (unless_refused_told o (of_aim c (unless_refused o (aim_of_request r l)) l))) (unit_asked r) []
+    go None = aim-units c l l (aim_of_request r l) refl ∙ ap (λ us. l.units ++ us) (by-request c l r)
+    go (Some why) = sym (append-nil l.units)
+units-wait c pull l = tt
+
+-- Whose turn it is stays.
+aim-turn : (c : Config) (m : Line) (aim : Aim) → (of_aim c aim m).line.turn ≡ m.turn
+aim-turn c m (at_none t) = refl
+aim-turn c m (at_link service tei place what) = refl
+aim-turn c m (at_management what) = by-change (teis.told what m.management).change
+  where
+    by-change : (o : Option Change) → (of_change c o (told_of_management (teis.told what m.management)) (record m { management = teis.after what m.management })).line.turn ≡ m.turn
+    by-change None = refl
+    by-change (Some (Gained tei place)) = refl
+    by-change (Some (Left tei place)) = refl
+aim-turn c m (at_units unit) = refl
+
+pub turn-stays : (c : Config) (e : Event) (l : Line) → TurnStays e l (after c e l)
+unfolding after
+turn-stays c (octet value) l = aim-turn c (with_received value l) (aim_of_octet c value l)
+turn-stays c (expiry timer) l = aim-turn c l (aim_of_expiry timer l)
+turn-stays c (request r) l = aim-turn c l (unless_refused (refusal c false r l) (aim_of_request r l))
+turn-stays c pull l = tt

@@ -1,0 +1,14 @@
+-- A link has nothing to send exactly where the machine gives nothing.
+use Rattle.model_link.specs.declared.terms.Terms.{Terms}
+use Rattle.model_link.specs.Link.{Link}
+use Rattle.model_link.specs.Sound.{IsSound}
+use Rattle.laws_link.proofs.MayGo.{none-goes, goes-not}
+use Rattle.laws_two_links.specs.Waits.{HasNothingToSend}
+use Rattle.laws_line.specs.Pulls.{IsSilent}
+
+module _ (t : Terms) (l : Link) (s : IsSound t l) where
+  pub silent : HasNothingToSend t l → IsSilent t l
+  silent h = record { waiting = h.waiting; information = none-goes t l s h.information; pending = h.pending }
+
+  pub sends-none : IsSilent t l → HasNothingToSend t l
+  sends-none h = record { waiting = h.waiting; information = goes-not t l s h.information; pending = h.pending }

@@ -1,0 +1,145 @@
+-- Which event of TEI management changes the table, and what is noted of it: each row.
+use Rattle.std.proofs.Common.{◌≡◌, ℕ, ◌+◌, ◌*◌, ◌/◌, ◌%◌, ◌==◌, ◌&&◌, nat_le, Bool, true, false, cond, List, [], ◌∷◌, Option, Some, None, IfSome, option_map, refl, sym, ap, ◌∙◌, true≢false, eqb-true}
+use Rattle.std.proofs.lemmas.Option.{none-some}
+use Rattle.lapd_frame.specs.declared.notes.Note.{Note}
+use Rattle.lapd_frame.specs.declared.notes.Note.TheVariants.{Assigned, Removed, Doubled}
+use Rattle.lapd_frame.specs.declared.refusals.Refusal.{Refusal}
+use Rattle.lapd_tei.specs.declared.check.Check.{Check}
+use Rattle.lapd_tei.specs.declared.check.Period.{Period}
+use Rattle.lapd_tei.specs.declared.check.Period.TheVariants.{First, Second}
+use Rattle.lapd_tei.specs.declared.messages.Message.TheVariants.{IdentityRemove}
+use Rattle.lapd_tei.specs.declared.outcome.Change.{Change}
+use Rattle.lapd_tei.specs.declared.outcome.Change.TheVariants.{Gained, Left}
+use Rattle.lapd_tei.specs.Messages.{heard_in, heard_of_type}
+use Rattle.lapd_tei.specs.Table.{Places, is_on, place_of, free_place, free_tei}
+use Rattle.lapd_tei.specs.Machine.{Management}
+use Rattle.lapd_tei.specs.Words.{Course, Step, begun, no_room, send, lose_one, unserved, leave, left, check_is, begin_check, end_check}
+use Rattle.lapd_tei.specs.Rows.{remembered_in, assign_new, assign, may_be_checked, counted, responses, doubled, count, respond, serve, removed, is_unanswered, expire_period, expire_check, nothing_happens, join_at, put_on, is_checked, take_off}
+use Rattle.lapd_tei.specs.Events.{Event, message, expiry, assign as assigning, remove, check, refusal, step, unless_refused, course}
+use Rattle.lapd_tei.specs.Sound.{IsSound, IsSoundCheck}
+use Rattle.laws_line.proofs.Places.{is-off}
+
+-- A change of the table has its event, and its note.
+abbrev pub GainedBy : Event → ℕ → List Note → Type 0
+GainedBy (message octets) tei ns = ns ≡ Assigned tei ∷ []
+GainedBy expiry tei ns = ⊥
+GainedBy (assigning asked) tei ns = (asked ≡ tei) × (ns ≡ [])
+GainedBy (remove asked) tei ns = ⊥
+GainedBy (check asked) tei ns = ⊥
+
+abbrev pub LeftBy : Event → ℕ → List Note → Type 0
+LeftBy (message octets) tei ns = ns ≡ Doubled tei ∷ []
+LeftBy expiry tei ns = ns ≡ Removed tei ∷ []
+LeftBy (assigning asked) tei ns = ⊥
+LeftBy (remove asked) tei ns = (asked ≡ tei) × (ns ≡ [])
+LeftBy (check asked) tei ns = ⊥
+
+abbrev pub ByChange : Event → Option Change → List Note → Type 0
+ByChange e None ns = ns ≡ []
+ByChange e (Some (Gained tei place)) ns = GainedBy e tei ns
+ByChange e (Some (Left tei place)) ns = LeftBy e tei ns
+
+abbrev Noted : Event → Course → Type 0
+Noted e c = ByChange e c.told.change c.told.notes
+
+either : (e : Event) (b : Bool) (one other : Step) (c : Course) → (b ≡ true → Noted e (one c)) → (b ≡ false → Noted e (other c)) → Noted e ((cond b one other) c)
+either e true one other c x y = x refl
+either e false one other c x y = y refl
+
+new : (octets : List ℕ) (ri : ℕ) (m : Management) (place tei : Option ℕ) → Noted (message octets) (assign_new ri place tei (begun m))
+new octets ri m None None = refl
+new octets ri m None (Some tei) = refl
+new octets ri m (Some place) None = refl
+new octets ri m (Some place) (Some tei) = refl
+
+assigns : (octets : List ℕ) (ri : ℕ) (m : Management) (o : Option ℕ) → Noted (message octets) (assign ri o (begun m))
+assigns octets ri m None = new octets ri m (free_place m.places) (free_tei m.places)
+assigns octets ri m (Some tei) = refl
+
+-- a TEI that is on the line has a place, and leaves it
+no-place : (places : Places) (tei : ℕ) → is_on tei places ≡ true → place_of tei places ≡ None → ⊥
+no-place places tei on none = true≢false (sym on ∙ is-off places tei none)
+
+doubles : (octets : List ℕ) (tei : ℕ) (m : Management) → is_on tei m.places ≡ true → Noted (message octets) (doubled tei (begun m))
+doubles octets tei m on = go (place_of tei m.places) refl
+  where
+    go : (o : Option ℕ) → place_of tei m.places ≡ o → ByChange (message octets) (option_map (left tei) o) (Doubled tei ∷ [])
+    go None e = absurd (no-place m.places tei on e)
+    go (Some place) e = refl
+
+responds : (octets : List ℕ) (tei : ℕ) (m : Management) (o : Option Check) → IfSome o (IsSoundCheck m.places) → Noted (message octets) (respond tei o (begun m))
+responds octets tei m None sound = refl
+responds octets tei m (Some own) sound =
+    either (message octets) (own.tei == tei) (count tei (counted own)) unserved (begun m)
+    (λ same.
+    either (message octets) (nat_le 2 (responses (counted own))) (doubled tei) (check_is (Some (counted own))) (begun m)
+    (λ twice. doubles octets tei m (ap (λ n. is_on n m.places) (sym (eqb-true own.tei tei same)) ∙ sound.on_line)) (λ once. refl))
+    (λ other. refl)
+
+-- what a message of a terminal is, by its type
+module _ (octets : List ℕ) (m : Management) (s : IsSound m) where
+  asks : (ri : ℕ) → Noted (message octets) ((cond (no_room m.waiting) lose_one (assign ri (remembered_in ri m.remembered))) (begun m))
+  asks ri = either (message octets) (no_room m.waiting) lose_one (assign ri (remembered_in ri m.remembered)) (begun m) (λ full. refl)
+      (λ room. assigns octets ri m (remembered_in ri m.remembered))
+
+  verifies : (tei : ℕ) → Noted (message octets) ((cond (may_be_checked tei m) (begin_check tei) unserved) (begun m))
+  verifies tei = either (message octets) (may_be_checked tei m) (begin_check tei) unserved (begun m) (λ begins. refl) (λ stays. refl)
+
+  by-type : (type ri action : ℕ) (request response verify : Bool) → (type == 1 && action == 127) ≡ request → (type == 5) ≡ response → (type == 7) ≡ verify
+      → Noted (message octets) (serve (heard_of_type type ri action) (begun m))
+  by-type type ri action true response verify one two three = rw one (asks ri)
+  by-type type ri action false true verify one two three = rw (one, two) (responds octets action m m.check s.checked)
+  by-type type ri action false false true one two three = rw (one, two, three) (verifies action)
+  by-type type ri action false false false one two three = rw (one, two, three) refl
+
+  by-frame : (type ri action : ℕ) (b : Bool) → Noted (message octets) (serve (cond b (heard_of_type type ri action) None) (begun m))
+  by-frame type ri action true = by-type type ri action (type == 1 && action == 127) (type == 5) (type == 7) refl refl refl
+  by-frame type ri action false = refl
+
+  serves : (heard : List ℕ) → Noted (message octets) (serve (heard_in heard) (begun m))
+  serves [] = refl
+  serves (entity ∷ []) = refl
+  serves (entity ∷ high ∷ []) = refl
+  serves (entity ∷ high ∷ low ∷ []) = refl
+  serves (entity ∷ high ∷ low ∷ type ∷ []) = refl
+  serves (entity ∷ high ∷ low ∷ type ∷ last ∷ []) = by-frame type (256 * high + low) (last / 2) (entity == 0x0F && last % 2 == 1)
+  serves (entity ∷ high ∷ low ∷ type ∷ last ∷ sixth ∷ more) = refl
+
+removes : (tei : ℕ) (m : Management) → is_on tei m.places ≡ true → Noted expiry (removed tei (begun m))
+removes tei m on = go (place_of tei m.places) refl
+  where
+    go : (o : Option ℕ) → place_of tei m.places ≡ o → ByChange expiry (option_map (left tei) o) (Removed tei ∷ [])
+    go None e = absurd (no-place m.places tei on e)
+    go (Some place) e = refl
+
+ends : (own : Check) (period : Period) (m : Management) → is_on own.tei m.places ≡ true → Noted expiry (expire_period own period (begun m))
+ends own First m on = refl
+ends own Second m on = either expiry (is_unanswered own) (removed own.tei) end_check (begun m) (λ unanswered. removes own.tei m on) (λ answered. refl)
+
+expires : (m : Management) (o : Option Check) → IfSome o (IsSoundCheck m.places) → Noted expiry (expire_check o (begun m))
+expires m None sound = refl
+expires m (Some own) sound = ends own own.period m sound.on_line
+
+joins : (tei : ℕ) (m : Management) (o : Option ℕ) → Noted (assigning tei) (join_at tei o (begun m))
+joins tei m None = refl
+joins tei m (Some place) = (refl, refl)
+
+leaves : (tei : ℕ) (o : Option ℕ) → ByChange (remove tei) (option_map (left tei) o) []
+leaves tei None = refl
+leaves tei (Some place) = (refl, refl)
+
+takes_off : (tei : ℕ) (m : Management) (b : Bool) → Noted (remove tei) (leave tei ((cond b end_check nothing_happens) (send (IdentityRemove tei) (begun m))))
+takes_off tei m true = leaves tei (place_of tei m.places)
+takes_off tei m false = leaves tei (place_of tei m.places)
+
+unless : (e : Event) (o : Option Refusal) (does : Step) (m : Management) → Noted e (does (begun m)) → Noted e (unless_refused o does m)
+unless e None does m x = x
+unless e (Some why) does m x = refl
+
+pub noted : (e : Event) (m : Management) → IsSound m → Noted e (course e m)
+unfolding course refusal
+noted (message octets) m s = serves octets m s octets
+noted expiry m s = expires m m.check s.checked
+noted (assigning asked) m s = unless (assigning asked) (refusal (assigning asked) m) (put_on asked) m (joins asked m (free_place m.places))
+noted (remove asked) m s = unless (remove asked) (refusal (remove asked) m) (take_off asked) m (takes_off asked m (is_checked asked m.check))
+noted (check asked) m s = unless (check asked) (refusal (check asked) m) (step (check asked)) m refl

@@ -1,0 +1,123 @@
+-- A TEI that is told to a terminal is on the line when its message comes to wait: each row.
+use Rattle.std.proofs.Common.{◌≡◌, ◌⊎◌, inl, inr, ℕ, ◌+◌, ◌==◌, Bool, true, false, List, [], ◌∷◌, ◌++◌, length, drop, get_or, Option, Some, None, refl, sym, ap, ◌∙◌, arith, true≢false, length-append, length-drop}
+use Rattle.std.proofs.lemmas.List.{append_cancel_left, get_or-set_same}
+use Rattle.lapd_tei.specs.Machine.{Management}
+use Rattle.lapd_tei.specs.declared.check.Check.{Check}
+use Rattle.lapd_tei.specs.declared.check.Period.{Period}
+use Rattle.lapd_tei.specs.declared.check.Period.TheVariants.{First, Second}
+use Rattle.lapd_tei.specs.declared.messages.Message.{Message}
+use Rattle.lapd_tei.specs.declared.messages.Message.TheVariants.{IdentityAssigned, IdentityDenied, IdentityCheckRequest, IdentityRemove}
+use Rattle.lapd_tei.specs.Messages.{action_of}
+use Rattle.lapd_tei.specs.Table.{is_on}
+use Rattle.lapd_tei.proofs.Tables.{is_on-at}
+use Rattle.model_line.specs.declared.config.Config.{Config}
+use Rattle.model_line.specs.Answer.{Event, Answer}
+use Rattle.model_line.specs.Line.{Line}
+use Rattle.model_line.specs.Machine.{after, answer}
+use Rattle.model_line.specs.Request.{Request, Establish, Release, Data, Unit, Assign, Remove, Check as Checking, SetBusy, ClearBusy}
+use Rattle.model_line.specs.Sound.{IsInRange, IsSound}
+use Rattle.laws_line.specs.Causes.{HasCause, IsTaken, HaveCauses, AreThere}
+use Rattle.laws_line.specs.Messages.{Said, asks, verifies, responds, IsSent, IsUnmoved, IsToldAgain, IsAssigned, IsDenied, Verifies, may_begin, is_answered, RespondsTo, Responds, Serves, ExpiresIn, Expires, Grants, is_of_management}
+use Rattle.laws_line.proofs.Causing.{have-causes}
+
+-- whether a message tells a TEI to a terminal
+abbrev tells : Message → Bool
+tells (IdentityAssigned ri tei) = true
+tells (IdentityDenied ri) = false
+tells (IdentityCheckRequest tei) = false
+tells (IdentityRemove tei) = false
+
+abbrev first : Message → List Message → Message
+first other [] = other
+first other (message ∷ more) = message
+
+module _ (before after : Management) (ri tei : ℕ) (more : after.waiting ≡ before.waiting ++ IdentityAssigned ri tei ∷ []) where
+  -- it is the message that has come to wait
+  same : (message : Message) → after.waiting ≡ before.waiting ++ message ∷ [] → message ≡ IdentityAssigned ri tei
+  same message behind = ap (first message) (append_cancel_left before.waiting (message ∷ []) (IdentityAssigned ri tei ∷ []) (sym behind ∙ more))
+
+  other : (message : Message) → tells message ≡ false → after.waiting ≡ before.waiting ++ message ∷ [] → ⊥
+  other message none behind = true≢false (sym (ap tells (same message behind)) ∙ none)
+
+  quiet : after.waiting ≡ before.waiting → ⊥
+  quiet stays =
+      let longer : length before.waiting ≡ length (before.waiting ++ IdentityAssigned ri tei ∷ []) = ap (λ x. length x) (sym stays ∙ more) in
+      omega (arith, longer, length-append before.waiting (IdentityAssigned ri tei ∷ []))
+
+  fewer : after.waiting ≡ drop 1 before.waiting → ⊥
+  fewer rest =
+      let longer : length (drop 1 before.waiting) ≡ length (before.waiting ++ IdentityAssigned ri tei ∷ []) = ap (λ x. length x) (sym rest ∙ more) in
+      omega (arith, longer, length-drop 1 before.waiting, length-append before.waiting (IdentityAssigned ri tei ∷ []))
+
+  unsent : (message : Message) (lost : ℕ) → tells message ≡ false → IsSent message before after lost → ⊥
+  unsent message lost none (inl waits) = other message none waits.behind
+  unsent message lost none (inr full) = quiet full.same
+
+  unmoved : (lost : ℕ) → IsUnmoved before after lost → ⊥
+  unmoved lost h = quiet (ap (λ (m : Management). m.waiting) h.same)
+
+  -- of the rows only those of an identity request tell one
+  asked : (own : ℕ) (message : Message) → after.waiting ≡ before.waiting ++ message ∷ []
+      → IsToldAgain own before after message ⊎ IsAssigned own before after message ⊎ IsDenied own before after message → is_on tei after.places ≡ true
+  asked own message behind (inl again) =
+      let is : again.tei ≡ tei = ap action_of (sym again.message_is ∙ same message behind) in
+      ap (λ ps. is_on tei ps) again.stays.places ∙ ap (λ n. is_on n before.places) (sym is) ∙ again.on_line
+  asked own message behind (inr (inl new)) =
+      let is : new.tei ≡ tei = ap action_of (sym new.message_is ∙ same message behind) in
+      ap (λ n. is_on n after.places) (sym is)
+      ∙ is_on-at after.places new.joins.place new.tei
+      (ap (λ ps. get_or ps new.joins.place None) new.joins.is_there ∙ get_or-set_same before.places new.joins.place (Some new.tei) None new.joins.within)
+  asked own message behind (inr (inr denied)) = absurd (other message (ap tells denied.message_is) behind)
+
+  verified : (b : Bool) (own lost : ℕ) → Verifies b own before after lost → ⊥
+  verified true own lost h = unsent (IdentityCheckRequest own) lost refl h.0
+  verified false own lost h = unmoved lost h
+
+  answered-to : (its twice : Bool) (check : Check) (lost : ℕ) → RespondsTo its twice check before after lost → ⊥
+  answered-to false twice check lost h = unmoved lost h
+  answered-to true false check lost h = quiet h.0.same
+  answered-to true true check lost h = unsent (IdentityRemove check.tei) lost refl h.0
+
+  responded : (own : ℕ) (o : Option Check) (lost : ℕ) → Responds own o before after lost → ⊥
+  responded own None lost h = unmoved lost h
+  responded own (Some check) lost h = answered-to (check.tei == own) (is_answered check) check lost h
+
+  by-heard : (said : Said) (lost : ℕ) → Serves said before after lost → is_on tei after.places ≡ true
+  by-heard (asks own) lost (inl h) = asked own h.message h.waits.behind h.is
+  by-heard (asks own) lost (inr h) = absurd (quiet h.no_room.same)
+  by-heard (verifies own) lost h = absurd (verified (may_begin own before) own lost h)
+  by-heard (responds own) lost h = absurd (responded own before.check lost h)
+
+  by-period : (p : Period) (check : Check) (lost : ℕ) → ExpiresIn p check before after lost → ⊥
+  by-period First check lost h = unsent (IdentityCheckRequest check.tei) lost refl h.0
+  by-period Second check lost h = quiet h.0.same
+
+  by-expiry : (o : Option Check) (lost : ℕ) → Expires o before after lost → ⊥
+  by-expiry None lost h = unmoved lost h
+  by-expiry (Some check) lost h = by-period check.period check lost h
+
+  by-request : (r : Request) (lost : ℕ) → is_of_management r ≡ true → Grants r before after lost → ⊥
+  by-request (Assign own) lost its h = quiet h.silent.same
+  by-request (Remove own) lost its h = other (IdentityRemove own) refl h.0.behind
+  by-request (Checking own) lost its h = other (IdentityCheckRequest own) refl h.0.behind
+  by-request (Establish service own) lost its h = true≢false (sym its)
+  by-request (Release service own) lost its h = true≢false (sym its)
+  by-request (Data service own contents) lost its h = true≢false (sym its)
+  by-request (Unit service own contents) lost its h = true≢false (sym its)
+  by-request (SetBusy service own) lost its h = true≢false (sym its)
+  by-request (ClearBusy service own) lost its h = true≢false (sym its)
+
+-- So of each event of a line.
+pub told-there : (c : Config) (e : Event) (before after : Line) (a : Answer) → HaveCauses c e before after a → AreThere before after
+told-there c e before after a h ri tei more = go h.caused
+  where
+    go : (after.management ≡ before.management) ⊎ IsTaken e before.management after.management ⊎ HasCause c before e a → is_on tei after.management.places ≡ true
+    go (inl stays) = absurd (quiet before.management after.management ri tei more (ap (λ (m : Management). m.waiting) stays))
+    go (inr (inl taken)) = absurd (fewer before.management after.management ri tei more (ap (λ (m : Management). m.waiting) taken.rest))
+    go (inr (inr (inl cause))) = by-heard before.management after.management ri tei more cause.0 _ (h.heard cause.0 cause.1)
+    go (inr (inr (inr (inl is)))) = absurd (by-expiry before.management after.management ri tei more before.management.check _ (h.expired is))
+    go (inr (inr (inr (inr cause)))) =
+        absurd (by-request before.management after.management ri tei more cause.asked _ cause.its (h.granted cause.asked cause.by cause.granted))
+
+pub are-there : (c : Config) (e : Event) (l : Line) → IsInRange c → IsSound c l → AreThere l (after c e l)
+are-there c e l ranged s = told-there c e l (after c e l) (answer c e l) (have-causes c e l ranged s)

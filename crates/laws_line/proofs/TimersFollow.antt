@@ -1,0 +1,295 @@
+-- A caller that obeys the orders runs the timers that are needed: each event of a line.
+use Rattle.std.proofs.Common.{◌≡◌, ◌≢◌, ℕ, zero, suc, ◌/◌, ◌%◌, ◌==◌, Bool, true, false, cond, arith, eqb-true, eq-eqb, true≢false, is_some, List, [], ◌∷◌, ◌++◌, get_or, replicate, Option, Some, None, refl, ap, sym, ◌∙◌, subst, inl, inr, IfSome}
+use Rattle.std.specs.Option.{option_map_or}
+use Rattle.std.proofs.lemmas.Option.{none-some}
+use Rattle.lapd_bits.specs.Stream as stream
+use Rattle.lapd_frame.specs.declared.refusals.Refusal.{Refusal}
+use Rattle.lapd_frame.specs.declared.services.Service.{Service}
+use Rattle.lapd_frame.specs.declared.services.Service.TheVariants.{Call, Packet}
+use Rattle.lapd_frame.specs.declared.timers.Order.{Order}
+use Rattle.lapd_frame.specs.declared.timers.Timer.{Timer}
+use Rattle.lapd_frame.specs.declared.timers.Timer.TheVariants.{T200, T203, T201}
+use Rattle.model_link.specs.declared.timers.LinkTimer.{LinkTimer}
+use Rattle.model_link.specs.declared.timers.LinkTimer.TheVariants as kind
+use Rattle.model_link.specs.Events as link
+use Rattle.model_link.specs.Link.{Link, fresh}
+use Rattle.model_link.specs.Machine as links
+use Rattle.model_link.specs.Steps.{Sent}
+use Rattle.model_link.specs.Timed.{is_same, obeyed, IsTimed}
+use Rattle.model_link.specs.Told.{Given, runs, timer_at}
+use Rattle.model_link.specs.declared.terms.Terms.{Terms}
+use Rattle.laws_two_links.specs.Needed.{HasItsTimer}
+use Rattle.laws_two_links.proofs.Needing.{is-timed, timely-after, timely-fresh}
+use Rattle.model_link.proofs.SoundEvents.{sound-after}
+use Rattle.lapd_tei.specs.Events as teis
+use Rattle.lapd_tei.specs.Laws as tei_laws
+use Rattle.lapd_tei.specs.Laws.{Follows, Moves}
+use Rattle.lapd_tei.specs.Machine.{Management}
+use Rattle.lapd_tei.specs.Sound.{IsSoundTable}
+use Rattle.lapd_tei.specs.declared.outcome.Change.{Change}
+use Rattle.lapd_tei.specs.declared.outcome.Change.TheVariants.{Gained, Left}
+use Rattle.lapd_tei.proofs.Followed.{t201_follows, expired_t201_follows}
+use Rattle.lapd_tei.proofs.LawLemmas as tei_lemmas
+use Rattle.lapd_tei.proofs.Tables.{place_of-is}
+use Rattle.model_line.specs.declared.config.Config.{Config}
+use Rattle.model_line.specs.Answer.{Event, octet, expiry, request, pull, nothing}
+use Rattle.model_line.specs.Effect.{at_none, at_link, at_management, at_units, told_of_management, of_change, of_aim}
+use Rattle.model_line.specs.Expiry.{at_timer, is_running, runs_at}
+use Rattle.model_line.specs.Laws.{orders_in}
+use Rattle.model_line.specs.Line.{Line, link_number, service_at, place_at, place_in, link_at, link_in, terms, with_link, fresh_line, link_count}
+use Rattle.model_line.specs.Machine.{after, answer, unless_refused, unless_refused_told}
+use Rattle.model_line.specs.Octet.{gained, aim_of_heard, with_received}
+use Rattle.model_line.specs.Pull.{Taken, with_message, with_unit, with_given_frame, orders_of, taken, is_due, with_item, after_pull}
+use Rattle.model_line.specs.Refusal.{refusal}
+use Rattle.model_line.specs.Request.{Request, Establish, Release, Data, Unit, Assign, Remove, Check, SetBusy, ClearBusy}
+use Rattle.model_line.specs.Requested.{at_requested, aim_of_request}
+use Rattle.model_line.specs.Sound.{IsInRange, IsSound}
+use Rattle.model_line.proofs.AimsSound.{IsProper}
+use Rattle.model_line.proofs.LineSound.{received_sound}
+use Rattle.model_line.proofs.ProperAims.{heard_aims, request_proper}
+use Rattle.laws_line.specs.Timers.{link_needs, is_needed, runs_then, HaveTheirTimers}
+use Rattle.laws_line.proofs.Following.{timer_of, each-timer, running-of, same-running, one-steered, management-stays, comes, goes, t201-goes, t201-stays}
+use Rattle.laws_line.proofs.LinkMoves.{IsOne, taken-one, all-after}
+use Rattle.laws_line.proofs.Places.{has-no-place}
+use Rattle.laws_line.proofs.Obeyed.{Steers, as_it_was, without, steers-event, steers-expiry, both-true}
+
+-- a number is that of its place and its service
+pub number-is : (number : ℕ) → link_number (place_at number) (service_at number) ≡ number
+number-is number = go (number % 2 == 0) refl
+  where
+    go : (b : Bool) → (number % 2 == 0) ≡ b → link_number (number / 2) (cond b Call Packet) ≡ number
+    go true e = let even : number % 2 ≡ 0 = eqb-true (number % 2) 0 e in omega (arith, even)
+    go false e =
+        let odd : number % 2 ≢ 0 = λ x. true≢false (sym (eq-eqb (number % 2) 0 x) ∙ e) in
+        omega (arith, odd)
+
+-- what a caller that left its timers so runs by the orders is what a line runs
+abbrev Follow : (Timer → Bool → Bool) → Line → List Order → Line → Type 0
+Follow left before orders after = (timer : Timer) → obeyed timer (left timer (is_running timer before)) orders ≡ is_running timer after
+
+-- T201 is left as `left` says, and the others as they were
+module _ (c : Config) (l : Line) (s : IsSound c l) (left : Timer → Bool → Bool) (ours : (k : LinkTimer) (service : Service) (tei : ℕ) (b : Bool) → left (timer_of k service tei) b ≡ b)
+    (e : teis.Event) (fits : tei_laws.IsInRange e)
+    (follows : Follows (left T201 (is_some l.management.check)) (teis.told e l.management).orders (is_some (teis.after e l.management).check)) where
+  abbrev m : Management
+  m = teis.after e l.management
+
+  sound : IsSoundTable m.places
+  sound = (tei_lemmas.sound-after e l.management fits s.management).table
+
+  abbrev t201 : Bool
+  t201 = left T201 (is_some l.management.check)
+
+  abbrev orders : List Order
+  orders = (teis.told e l.management).orders
+
+  abbrev ByChange : Option Change → Type 0
+  ByChange o =
+      let f = of_change c o (told_of_management (teis.told e l.management)) (record l { management = m }) in
+      (timer : Timer) → obeyed timer (left timer (is_running timer l)) f.told.orders ≡ is_running timer f.line
+
+  was : (k : LinkTimer) (service : Service) (tei : ℕ) (os : List Order)
+      → obeyed (timer_of k service tei) (left (timer_of k service tei) (is_running (timer_of k service tei) l)) os ≡ obeyed (timer_of k service tei) (is_running (timer_of k service tei) l) os
+  was k service tei os = ap (λ b. obeyed (timer_of k service tei) b os) (ours k service tei (is_running (timer_of k service tei) l))
+
+  by-change : (o : Option Change) → Moves l.management.places o m.places → ByChange o
+  by-change None moves =
+      each-timer (λ timer. obeyed timer (left timer (is_running timer l)) orders ≡ is_running timer (record l { management = m })) (t201-stays c l s m sound orders t201 follows)
+      (λ k service tei. was k service tei orders ∙ management-stays c l s m sound orders t201 follows moves k service tei)
+  by-change (Some (Gained tei place)) joined =
+      let f = of_change c (Some (Gained tei place)) (told_of_management (teis.told e l.management)) (record l { management = m }) in
+      each-timer (λ timer. obeyed timer (left timer (is_running timer l)) orders ≡ is_running timer f.line) (t201-stays c l s m sound orders t201 follows)
+      (λ k service other. was k service other orders ∙ comes c l s m sound orders t201 follows tei place joined k service other)
+  by-change (Some (Left tei place)) gone =
+      let f = of_change c (Some (Left tei place)) (told_of_management (teis.told e l.management)) (record l { management = m }) in
+      each-timer (λ timer. obeyed timer (left timer (is_running timer l)) f.told.orders ≡ is_running timer f.line) (t201-goes c l s m sound orders t201 follows tei place gone)
+      (λ k service other. was k service other f.told.orders ∙ goes c l s m sound orders t201 follows tei place gone k service other)
+
+  pub management-followed : Follow left l (of_aim c (at_management e) l).told.orders (of_aim c (at_management e) l).line
+  management-followed = by-change (teis.told e l.management).change (tei_lemmas.changes_are_told e l.management fits s.management)
+
+-- An event that no part is concerned with, and one of a link.
+module _ (c : Config) (l : Line) (s : IsSound c l) where
+  pub link-followed : (left : Timer → Bool → Bool) (service : Service) (tei place : ℕ) (e : link.Event) → place_in l tei ≡ Some place
+      → Steers (terms c service tei) left (links.told (terms c service tei) e (link_in l service place)).orders (link_in l service place) (links.after (terms c service tei) e (link_in l service place))
+      → Follow left l (of_aim c (at_link service tei place e) l).told.orders (of_aim c (at_link service tei place e) l).line
+  link-followed left service tei place e at steers timer =
+      one-steered c l s service tei place (place_of-is l.management.places tei place at).1 left _ (links.after (terms c service tei) e (link_in l service place)) steers timer
+
+  pub aimed : (service : Service) (tei place : ℕ) (e : link.Event) → place_in l tei ≡ Some place
+      → Follow as_it_was l (of_aim c (at_link service tei place e) l).told.orders (of_aim c (at_link service tei place e) l).line
+  aimed service tei place e at = link-followed as_it_was service tei place e at (steers-event (terms c service tei) e (link_in l service place))
+
+  pub managed : (e : teis.Event) → tei_laws.IsInRange e → Follow as_it_was l (of_aim c (at_management e) l).told.orders (of_aim c (at_management e) l).line
+  managed e fits = management-followed c l s as_it_was (λ k service tei b. refl) e fits (t201_follows e l.management)
+
+  -- what is heard
+  pub heard-followed : (o : Option stream.Event) → let aim = option_map_or (aim_of_heard l) o (at_none nothing) in Follow as_it_was l (of_aim c aim l).told.orders (of_aim c aim l).line
+  heard-followed None = λ timer. refl
+  heard-followed (Some e) =
+      heard_aims l (λ aim. Follow as_it_was l (of_aim c aim l).told.orders (of_aim c aim l).line) (λ cause. λ timer. refl)
+      (λ service tei place what at. aimed service tei place (link.received what) at) (λ info. managed (teis.message info) tt) e
+
+  -- what is asked for
+  asked : (service : Service) (tei : ℕ) (what : link.Request) (o : Option ℕ) → place_in l tei ≡ o
+      → Follow as_it_was l (of_aim c (at_requested service tei what o) l).told.orders (of_aim c (at_requested service tei what o) l).line
+  asked service tei what None e = λ timer. refl
+  asked service tei what (Some place) e = aimed service tei place (link.requested what false) e
+
+  pub request-followed : (r : Request) → IsProper c l (aim_of_request r l) → Follow as_it_was l (of_aim c (aim_of_request r l) l).told.orders (of_aim c (aim_of_request r l) l).line
+  request-followed (Establish service tei) proper = asked service tei link.Establish (place_in l tei) refl
+  request-followed (Release service tei) proper = asked service tei link.Release (place_in l tei) refl
+  request-followed (Data service tei contents) proper = asked service tei (link.Data contents) (place_in l tei) refl
+  request-followed (Unit service tei contents) proper =
+      λ timer. sym (same-running l (of_aim c (at_units (record { service = service; tei = tei; contents = contents })) l).line refl refl refl timer)
+  request-followed (Assign tei) proper = managed (teis.assign tei) proper
+  request-followed (Remove tei) proper = managed (teis.remove tei) proper
+  request-followed (Check tei) proper = managed (teis.check tei) proper
+  request-followed (SetBusy service tei) proper = asked service tei link.SetBusy (place_in l tei) refl
+  request-followed (ClearBusy service tei) proper = asked service tei link.ClearBusy (place_in l tei) refl
+
+  -- an expiry: of a link's timer,
+  dead : (k : LinkTimer) (service : Service) (tei : ℕ) → place_in l tei ≡ None → (timer : Timer) → without (timer_of k service tei) timer (is_running timer l) ≡ is_running timer l
+  dead k service tei none = each-timer _ (by-t201 k) (λ k' s' n'. go k' s' n' (is_same (timer_of k service tei) (timer_of k' s' n')) refl)
+    where
+      by-t201 : (k : LinkTimer) → without (timer_of k service tei) T201 (is_running T201 l) ≡ is_running T201 l
+      by-t201 kind.T200 = refl
+      by-t201 kind.T203 = refl
+
+      its-tei : (k k' : LinkTimer) (s' : Service) (n' : ℕ) → is_same (timer_of k service tei) (timer_of k' s' n') ≡ true → tei ≡ n'
+      its-tei kind.T200 kind.T200 s' n' e = eqb-true tei n' (both-true _ _ e).1
+      its-tei kind.T200 kind.T203 s' n' e = absurd (true≢false (sym e))
+      its-tei kind.T203 kind.T200 s' n' e = absurd (true≢false (sym e))
+      its-tei kind.T203 kind.T203 s' n' e = eqb-true tei n' (both-true _ _ e).1
+
+      go : (k' : LinkTimer) (s' : Service) (n' : ℕ) (b : Bool) → is_same (timer_of k service tei) (timer_of k' s' n') ≡ b → cond b false (is_running (timer_of k' s' n') l) ≡ is_running (timer_of k' s' n') l
+      go k' s' n' false e = refl
+      go k' s' n' true e = sym (running-of k' s' n' l ∙ ap (λ o. runs_at s' k' o l) (ap (place_in l) (sym (its-tei k k' s' n' e)) ∙ none))
+
+  pub expired : (k : LinkTimer) (service : Service) (tei : ℕ) → ((number : ℕ) → IsTimed (link_at number l)) → (o : Option ℕ) → place_in l tei ≡ o
+      → Follow (without (timer_of k service tei)) l (of_aim c (at_timer service tei k o) l).told.orders (of_aim c (at_timer service tei k o) l).line
+  expired k service tei timed None e = λ timer. dead k service tei e timer
+  expired k service tei timed (Some place) e =
+      link-followed (without (timer_of k service tei)) service tei place (link.expired k) e
+      (subst (λ timer. Steers (terms c service tei) (without timer) (links.told (terms c service tei) (link.expired k) (link_in l service place)).orders (link_in l service place) (links.after (terms c service tei) (link.expired k) (link_in l service place)))
+      (same k) (steers-expiry (terms c service tei) k (link_in l service place) (timed (link_number place service))))
+    where
+      same : (k : LinkTimer) → timer_at (terms c service tei) k ≡ timer_of k service tei
+      same kind.T200 = refl
+      same kind.T203 = refl
+
+  -- and of T201
+  pub t201-expired : Follow (without T201) l (of_aim c (at_management teis.expiry) l).told.orders (of_aim c (at_management teis.expiry) l).line
+  t201-expired = management-followed c l s (without T201) (λ k service tei b. ours k service tei b) teis.expiry tt (expired_t201_follows l.management)
+    where
+      ours : (k : LinkTimer) (service : Service) (tei : ℕ) (b : Bool) → without T201 (timer_of k service tei) b ≡ b
+      ours kind.T200 service tei b = refl
+      ours kind.T203 service tei b = refl
+
+  -- A pull: what a link gives, it orders as well.
+  given-orders : (t : Terms) (x : Link) (g : Given) → links.given t x ≡ Some g → g.orders ≡ (links.told t link.offer x).orders
+  given-orders t x g = go (links.course t link.offer x).sent
+    where
+      go : (o : Option Sent) → links.given_of t x (links.course t link.offer x) o ≡ Some g → g.orders ≡ (links.told t link.offer x).orders
+      go None e = absurd (none-some g e)
+      go (Some sent) e = ap (λ (h : Given). h.orders) (sym (some-given e))
+        where
+          some-given : {a b : Given} → Some a ≡ Some b → a ≡ b
+          some-given e = cc
+
+  took : (t : Taken) → IsOne c l t → Follow as_it_was l t.orders t.line
+  took t (inl x) = subst (λ (u : Taken). Follow as_it_was l u.orders u.line) (sym x.1) (λ timer. sym (same-running l (with_message l x.0).line refl refl refl timer))
+  took t (inr (inl x)) = subst (λ (u : Taken). Follow as_it_was l u.orders u.line) (sym x.1) (λ timer. sym (same-running l (with_unit l x.0).line refl refl refl timer))
+  took t (inr (inr x)) =
+      subst (λ (u : Taken). Follow as_it_was l u.orders u.line) (sym x.is)
+      (λ timer. steered timer ∙ sym (same-running (with_link x.number (links.after (terms c (service_at x.number) x.tei) link.offer (link_at x.number l)) l)
+      (with_given_frame l x.number (terms c (service_at x.number) x.tei) x.what).line refl refl refl timer))
+    where
+      steers : Steers (terms c (service_at x.number) x.tei) as_it_was x.what.orders (link_at x.number l) (links.after (terms c (service_at x.number) x.tei) link.offer (link_at x.number l))
+      steers = subst (λ os. Steers (terms c (service_at x.number) x.tei) as_it_was os (link_at x.number l) (links.after (terms c (service_at x.number) x.tei) link.offer (link_at x.number l)))
+          (sym (given-orders (terms c (service_at x.number) x.tei) (link_at x.number l) x.what x.given)) (steers-event (terms c (service_at x.number) x.tei) link.offer (link_at x.number l))
+
+      steered : (timer : Timer) → obeyed timer (is_running timer l) x.what.orders ≡ is_running timer (with_link x.number (links.after (terms c (service_at x.number) x.tei) link.offer (link_at x.number l)) l)
+      steered timer =
+          subst (λ n. obeyed timer (is_running timer l) x.what.orders ≡ is_running timer (with_link n (links.after (terms c (service_at x.number) x.tei) link.offer (link_at x.number l)) l)) (number-is x.number)
+          (one-steered c l s (service_at x.number) x.tei (place_at x.number) x.on_line as_it_was x.what.orders (links.after (terms c (service_at x.number) x.tei) link.offer (link_at x.number l))
+          (subst (λ y. Steers (terms c (service_at x.number) x.tei) as_it_was x.what.orders y (links.after (terms c (service_at x.number) x.tei) link.offer (link_at x.number l))) (ap (λ n. link_at n l) (sym (number-is x.number))) steers) timer)
+
+  pub pull-followed : let begun = cond (is_due l) (taken c l) None in Follow as_it_was l (option_map_or orders_of begun []) (after_pull c l)
+  pull-followed = go (is_due l) (taken c l) (taken-one c l s)
+    where
+      with-text : (last : Line) (os : List Order) → Follow as_it_was l os last → (rest : Line) → rest.management ≡ last.management → rest.links ≡ last.links → Follow as_it_was l os rest
+      with-text last os h rest same ls timer =
+          h timer ∙ sym (same-running last rest (ap (λ (x : Management). x.places) same) (ap (λ (x : Management). is_some x.check) same) ls timer)
+
+      go : (due : Bool) (o : Option Taken) → IfSome o (IsOne c l)
+          → Follow as_it_was l (option_map_or orders_of (cond due o None) []) (record (cond due (with_item o l) l) { given = (after_pull c l).given })
+      go false o x = with-text l [] (λ timer. refl) _ refl refl
+      go true None x = with-text l [] (λ timer. refl) _ refl refl
+      go true (Some t) x = with-text t.line t.orders (took t x) _ refl refl
+
+-- Any event, of the timers that the line runs.
+abbrev Runs : Config → Event → Line → Timer → Type 0
+Runs c e l timer = runs_then timer (is_running timer l) e (answer c e l) ≡ is_running timer (after c e l)
+
+received-same : (l : Line) (received : List ℕ) (timer : Timer) → is_running timer (record l { received = received }) ≡ is_running timer l
+received-same l received timer = same-running l (record l { received = received }) refl refl refl timer
+
+runs-follow : (c : Config) (e : Event) (l : Line) (timer : Timer) → IsSound c l → ((number : ℕ) → IsTimed (link_at number l)) → Runs c e l timer
+unfolding after answer
+runs-follow c (octet value) l timer s timed =
+    let now = with_received value l in
+    let h = heard-followed c now (received_sound c value l s) (gained c.n201 l.received value) timer in
+    subst (λ b. obeyed timer b (of_aim c (option_map_or (aim_of_heard l) (gained c.n201 l.received value) (at_none nothing)) now).told.orders
+    ≡ is_running timer (of_aim c (option_map_or (aim_of_heard l) (gained c.n201 l.received value) (at_none nothing)) now).line)
+    (received-same l (l.received ++ value ∷ []) timer) h
+runs-follow c (expiry (T200 service tei)) l timer s timed = expired c l s kind.T200 service tei timed (place_in l tei) refl timer
+runs-follow c (expiry (T203 service tei)) l timer s timed = expired c l s kind.T203 service tei timed (place_in l tei) refl timer
+runs-follow c (expiry T201) l timer s timed = t201-expired c l s timer
+runs-follow c (request r) l timer s timed = go (refusal c false r l) (request_proper c l r)
+  where
+    go : (o : Option Refusal) → IsProper c l (unless_refused o (aim_of_request r l))
+        → obeyed timer (is_running timer l) (orders_in (unless_refused_told o (of_aim c (unless_refused o (aim_of_request r l)) l)))
+        ≡ is_running timer (of_aim c (unless_refused o (aim_of_request r l)) l).line
+    go None proper = request-followed c l s r proper timer
+    go (Some why) proper = refl
+runs-follow c pull l timer s timed = pull-followed c l s timer
+
+-- A timely line runs what it needs.
+needs-runs : (k : LinkTimer) (service : Service) (l : Line) → HaveTheirTimers l → (o : Option ℕ) → option_map_or (link_needs k service l) o false ≡ runs_at service k o l
+needs-runs k service l h None = refl
+needs-runs k service l h (Some place) = ap (runs k) (sym (h.links (link_number place service)).running)
+
+pub needed-runs : (l : Line) → HaveTheirTimers l → (timer : Timer) → is_needed timer l ≡ is_running timer l
+needed-runs l h T201 = refl
+needed-runs l h (T200 service tei) = needs-runs kind.T200 service l h (place_in l tei)
+needed-runs l h (T203 service tei) = needs-runs kind.T203 service l h (place_in l tei)
+
+pub timely-line : (c : Config) (e : Event) (l : Line) → IsInRange c → IsSound c l → HaveTheirTimers l → HaveTheirTimers (after c e l)
+timely-line c e l ranged s h = record {
+  links = all-after HasItsTimer timely-fresh (λ t e x range sound timely. timely-after t e x sound (sound-after t range e x sound) timely) c ranged e l s h.links;
+}
+
+pub followed : (c : Config) (e : Event) (l : Line) (timer : Timer) → IsInRange c → IsSound c l → HaveTheirTimers l
+    → runs_then timer (is_needed timer l) e (answer c e l) ≡ is_needed timer (after c e l)
+followed c e l timer ranged s h =
+    ap (λ b. runs_then timer b e (answer c e l)) (needed-runs l h timer)
+    ∙ runs-follow c e l timer s (λ number. is-timed (link_at number l) (h.links number))
+    ∙ sym (needed-runs (after c e l) (timely-line c e l ranged s h) timer)
+
+-- no TEI is on a line that begins, and its links begin
+all-same : {X : Type 0} (x : X) (count i : ℕ) → get_or (replicate count x) i x ≡ x
+all-same x zero i = refl
+all-same x (suc count) zero = refl
+all-same x (suc count) (suc i) = all-same x count i
+
+pub begins-timely : (c : Config) → HaveTheirTimers (fresh_line c)
+begins-timely c = record { links = λ number. subst HasItsTimer (sym (all-same fresh (link_count c) number)) timely-fresh }
+
+pub nowhere : (c : Config) (tei : ℕ) → place_in (fresh_line c) tei ≡ None
+nowhere c tei = has-no-place (replicate c.terminals None) tei (λ i at. none-some tei (sym (all-same None c.terminals i) ∙ at))
+
+pub begins-with-none : (c : Config) (timer : Timer) → is_needed timer (fresh_line c) ≡ false
+begins-with-none c T201 = refl
+begins-with-none c (T200 service tei) = ap (λ o. option_map_or (link_needs kind.T200 service (fresh_line c)) o false) (nowhere c tei)
+begins-with-none c (T203 service tei) = ap (λ o. option_map_or (link_needs kind.T203 service (fresh_line c)) o false) (nowhere c tei)

@@ -1,0 +1,220 @@
+-- Where all that a link keeps goes, layer 3 learns it.
+use Rattle.std.proofs.Common.{◌≡◌, ◌≢◌, ℕ, ◌<◌, Bool, true, false, cond, ◌||◌, ◌&&◌, ◌==◌, List, [], ◌∷◌, ◌++◌, length, get_or, set, Option, Some, None, is_some, refl, sym, ap, ◌∙◌, subst, true≢false, eqb-true, eq-eqb, ◌⊎◌, inl, inr, ⊎_elim}
+use Rattle.std.specs.Prelude.{All}
+use Rattle.std.specs.List.{list_any}
+use Rattle.std.specs.Option.{option_map_or}
+use Rattle.std.proofs.lemmas.List.{get_or-set_same}
+use Rattle.std.proofs.lemmas.List.Elements.{All-head, All-tail}
+use Rattle.std.proofs.lemmas.Option.{none-some}
+use Rattle.lapd_bits.specs.Stream as stream
+use Rattle.lapd_frame.specs.declared.notes.Note.{Note}
+use Rattle.lapd_frame.specs.declared.notes.Note.TheVariants as notes
+use Rattle.lapd_frame.specs.declared.refusals.Refusal.{Refusal}
+use Rattle.lapd_frame.specs.declared.services.Service.{Service}
+use Rattle.lapd_frame.specs.declared.services.Service.TheVariants.{Call, Packet}
+use Rattle.lapd_frame.specs.declared.timers.Timer.{Timer}
+use Rattle.lapd_frame.specs.declared.timers.Timer.TheVariants.{T200, T203, T201}
+use Rattle.lapd_frame.specs.Services.{same_service}
+use Rattle.model_link.specs.declared.terms.Terms.{Terms}
+use Rattle.model_link.specs.declared.timers.LinkTimer.{LinkTimer}
+use Rattle.model_link.specs.declared.timers.LinkTimer.TheVariants as link_timer
+use Rattle.model_link.specs.Events as link
+use Rattle.model_link.specs.Known.{IsOwn}
+use Rattle.model_link.specs.Machine as links
+use Rattle.model_link.specs.Requests as requests
+use Rattle.model_link.proofs.OwnNotes.{notes-own}
+use Rattle.laws_link.specs.Accepted.{is_loss, tells_loss, is_release, ends}
+use Rattle.laws_link.specs.History.{share}
+use Rattle.lapd_tei.specs.Events as teis
+use Rattle.lapd_tei.specs.Laws as tei_laws
+use Rattle.lapd_tei.specs.Machine.{Management}
+use Rattle.lapd_tei.specs.Sound.{IsAt}
+use Rattle.lapd_tei.specs.declared.outcome.Change.{Change}
+use Rattle.lapd_tei.specs.declared.outcome.Change.TheVariants.{Gained, Left}
+use Rattle.lapd_tei.proofs.LawLemmas as tei_lemmas
+use Rattle.lapd_tei.proofs.Tables.{place_of-is}
+use Rattle.model_line.specs.declared.config.Config.{Config}
+use Rattle.model_line.specs.Answer.{Event, octet, expiry, request, pull, Told, told, nothing}
+use Rattle.model_line.specs.Deliveries.{is_change_at}
+use Rattle.model_line.specs.Effect.{Aim, at_none, at_link, at_management, at_units, told_of_management, of_change, of_aim}
+use Rattle.model_line.specs.Expiry.{at_timer, aim_of_expiry}
+use Rattle.model_line.specs.Line.{Line, link_number, service_at, place_at, tei_at, place_in, link_in, terms}
+use Rattle.model_line.specs.Machine.{after, answer, unless_refused, unless_refused_told}
+use Rattle.model_line.specs.Octet.{gained, aim_of_heard, aim_of_octet}
+use Rattle.model_line.specs.Refusal.{refusal}
+use Rattle.model_line.specs.Request.{Request, Establish, Release, Data, Unit, Assign, Remove, Check, SetBusy, ClearBusy}
+use Rattle.model_line.specs.Requested.{at_requested, aim_of_request}
+use Rattle.model_line.specs.Sound.{IsSound}
+use Rattle.model_line.proofs.AimsSound.{IsProper}
+use Rattle.model_line.proofs.Numbers.{place_at-number, service_at-number}
+use Rattle.model_line.proofs.ProperAims.{heard_aims, request_proper}
+use Rattle.laws_line.specs.Share.{no_share, ending, share_aimed, share_of, is_link, is_of}
+use Rattle.laws_line.specs.Loss.{is_loss_of, IsReleased, IsNoted, IsMoved, IsTold}
+
+-- A note of a link that tells a loss tells it of this link.
+pub same_of_itself : (s : Service) → same_service s s ≡ true
+same_of_itself Call = refl
+same_of_itself Packet = refl
+
+pub its-own : (t : Terms) (s : Service) (n : ℕ) → (s ≡ t.service) × (n ≡ t.tei) → (same_service s t.service && n == t.tei) ≡ true
+its-own t s n own =
+    ap (λ x. same_service x t.service && n == t.tei) own.0
+    ∙ ap (λ b. b && n == t.tei) (same_of_itself t.service) ∙ eq-eqb n t.tei own.1
+
+own-loss : (t : Terms) (n : Note) → IsOwn t n → is_loss_of t.service t.tei n ≡ is_loss n
+own-loss t (notes.EstablishIndication s n) own = its-own t s n own
+own-loss t (notes.EstablishConfirm s n) own = refl
+own-loss t (notes.ReleaseIndication s n) own = its-own t s n own
+own-loss t (notes.ReleaseConfirm s n) own = its-own t s n own
+own-loss t (notes.Data s n) own = refl
+own-loss t (notes.Unit s n) own = refl
+own-loss t (notes.Error s n k) own = refl
+own-loss t (notes.Assigned n) own = refl
+own-loss t (notes.Removed n) own = refl
+own-loss t (notes.Doubled n) own = refl
+own-loss t (notes.Xid s n) own = refl
+
+own-losses : (t : Terms) (ns : List Note) → All (IsOwn t) ns → list_any (is_loss_of t.service t.tei) ns ≡ tells_loss ns
+own-losses t [] all = refl
+own-losses t (n ∷ ns) all =
+    let here = own-loss t n (All-head (IsOwn t) n ns all) in
+    let rest = own-losses t ns (All-tail (IsOwn t) n ns all) in
+    rw (here, rest) refl
+
+one-of : (a b : Bool) → (a || b) ≡ true → (a ≡ true) ⊎ (b ≡ true)
+one-of true b e = inl refl
+one-of false b e = inr e
+
+-- the end of one place, and what comes to it
+pub moved : (places new : List (Option ℕ)) (place : ℕ) (o : Option Change) → is_change_at place o ≡ true → tei_laws.Moves places o new
+    → get_or new place None ≢ get_or places place None
+moved places new place None e m = absurd (true≢false (sym e))
+moved places new place (Some (Gained tei other)) e m =
+    let at : other ≡ place = eqb-true other place e in
+    λ same. none-some tei (sym m.was_free ∙ ap (λ p. get_or places p None) at ∙ sym same ∙ ap (λ p. get_or new p None) (sym at) ∙ ap (λ ps. get_or ps other None) m.is_there ∙ get_or-set_same places other (Some tei) None m.within)
+moved places new place (Some (Left tei other)) e m =
+    let at : other ≡ place = eqb-true other place e in
+    λ same. none-some tei (sym (get_or-set_same places other None None m.within) ∙ ap (λ ps. get_or ps other None) (sym m.is_free) ∙ ap (λ p. get_or new p None) at ∙ same ∙ ap (λ p. get_or places p None) (sym at) ∙ m.was_there)
+
+module _ (c : Config) (l : Line) (s : IsSound c l) (number : ℕ) (received : List ℕ) where
+  abbrev Tells : Event → Aim → Type 0
+  Tells e aim = (share_aimed c number l aim).empties ≡ true → IsTold number e l (of_aim c aim (record l { received = received })).line (told (of_aim c aim (record l { received = received })).told)
+
+  -- an event of this link
+  at-link : (event : Event) (service : Service) (tei place : ℕ) (e : link.Event) → IsAt l.management.places place tei
+      → (ends (terms c service tei) e (link_in l service place) ≡ true → link_number place service ≡ number
+      → IsTold number event l (of_aim c (at_link service tei place e) (record l { received = received })).line (told (of_aim c (at_link service tei place e) (record l { received = received })).told))
+      → Tells event (at_link service tei place e)
+  at-link event service tei place e at ended = go (link_number place service == number) refl
+    where
+      t : Terms
+      t = terms c service tei
+
+      there : link_number place service ≡ number → (tei_at (place_at number) l ≡ Some tei) × (service ≡ service_at number)
+      there is = (
+        ap (λ n. tei_at (place_at n) l) (sym is) ∙ ap (λ p. tei_at p l) (place_at-number place service) ∙ at,
+        sym (service_at-number place service) ∙ ap service_at is,
+      )
+
+      go : (b : Bool) → (link_number place service == number) ≡ b → (cond b (share t e (link_in l service place)) no_share).empties ≡ true
+          → IsTold number event l (of_aim c (at_link service tei place e) (record l { received = received })).line (told (of_aim c (at_link service tei place e) (record l { received = received })).told)
+      go false other none = absurd (true≢false (sym none))
+      go true same some =
+          let is : link_number place service ≡ number = eqb-true (link_number place service) number same in
+          let x = there is in
+          ⊎_elim (λ y. ended y is)
+          (λ y. inr (inl (record {
+            tei = tei;
+            at_place = x.0;
+            noted = subst (λ v. list_any (is_loss_of v tei) (links.told t e (link_in l service place)).notes ≡ true) x.1
+                (own-losses t (links.told t e (link_in l service place)).notes (notes-own t e (link_in l service place)) ∙ y);
+          })))
+          (one-of (ends t e (link_in l service place)) (tells_loss (links.told t e (link_in l service place)).notes) some)
+
+  changes : (event : Event) (o : Option Change) (r : Told) (m : Management) → tei_laws.Moves l.management.places o m.places
+      → (cond (is_change_at (place_at number) o) ending no_share).empties ≡ true
+      → IsTold number event l (of_change c o r (record l { received = received; management = m })).line (told (of_change c o r (record l { received = received; management = m })).told)
+  changes event o r m moves some = inr (inr (λ same. moved l.management.places m.places (place_at number) o (at-it (is_change_at (place_at number) o) some) moves (places-are o ∙ same)))
+    where
+      at-it : (b : Bool) → (cond b ending no_share).empties ≡ true → b ≡ true
+      at-it true e = refl
+      at-it false e = e
+
+      places-are : (o : Option Change) → get_or m.places (place_at number) None ≡ tei_at (place_at number) (of_change c o r (record l { received = received; management = m })).line
+      places-are None = refl
+      places-are (Some (Gained tei place)) = refl
+      places-are (Some (Left tei place)) = refl
+
+  management : (event : Event) (e : teis.Event) → tei_laws.IsInRange e → Tells event (at_management e)
+  management event e fits =
+      changes event (teis.told e l.management).change (told_of_management (teis.told e l.management)) (teis.after e l.management)
+      (tei_lemmas.changes_are_told e l.management fits s.management)
+
+  no-loss : (event : Event) (aim : Aim) → (share_aimed c number l aim).empties ≡ false → Tells event aim
+  no-loss event aim none some = absurd (true≢false (sym some ∙ none))
+
+  -- what is heard
+  pub octet-tells : (event : Event) (o : Option stream.Event) → Tells event (option_map_or (aim_of_heard l) o (at_none nothing))
+  octet-tells event None = no-loss event (at_none nothing) refl
+  octet-tells event (Some e) =
+      heard_aims l (Tells event) (λ cause. no-loss event (at_none _) refl)
+      (λ service tei place what at. at-link event service tei place (link.received what) (place_of-is l.management.places tei place at).1 (λ y is. absurd (true≢false (sym y))))
+      (λ info. management event (teis.message info) tt) e
+
+  timer-tells : (event : Event) (service : Service) (tei : ℕ) (timer : LinkTimer) (o : Option ℕ) → place_in l tei ≡ o → Tells event (at_timer service tei timer o)
+  timer-tells event service tei timer None e = no-loss event (at_none nothing) refl
+  timer-tells event service tei timer (Some place) e = at-link event service tei place (link.expired timer) (place_of-is l.management.places tei place e).1 (λ y is. absurd (true≢false (sym y)))
+
+  pub expiry-tells : (event : Event) (timer : Timer) → Tells event (aim_of_expiry timer l)
+  expiry-tells event (T200 service tei) = timer-tells event service tei link_timer.T200 (place_in l tei) refl
+  expiry-tells event (T203 service tei) = timer-tells event service tei link_timer.T203 (place_in l tei) refl
+  expiry-tells event T201 = management event teis.expiry tt
+
+  -- what is asked for
+  neither : (b : Bool) → cond b false false ≡ true → ⊥
+  neither true e = true≢false (sym e)
+  neither false e = true≢false (sym e)
+
+  asked-tells : (event : Event) (service : Service) (tei : ℕ) (what : link.Request) (o : Option ℕ) → place_in l tei ≡ o → is_release what ≡ false
+      → Tells event (at_requested service tei what o)
+  asked-tells event service tei what None e not = no-loss event (at_none nothing) refl
+  asked-tells event service tei what (Some place) e not =
+      at-link event service tei place (link.requested what false) (place_of-is l.management.places tei place e).1
+      (λ y is. absurd (neither (is_some (requests.refusal (terms c service tei) (link_in l service place) false what))
+      (subst (λ b. cond (is_some (requests.refusal (terms c service tei) (link_in l service place) false what)) false b ≡ true) not y)))
+
+  release-tells : (service : Service) (tei : ℕ) (o : Option ℕ) → place_in l tei ≡ o → Tells (request (Release service tei)) (at_requested service tei link.Release o)
+  release-tells service tei None e = no-loss (request (Release service tei)) (at_none nothing) refl
+  release-tells service tei (Some place) e =
+      at-link (request (Release service tei)) service tei place (link.requested link.Release false) (place_of-is l.management.places tei place e).1
+      (λ y is. inl (record {
+        service = service;
+        tei = tei;
+        asked = refl;
+        its = ap (λ o. option_map_or (is_link number service) o false) e ∙ eq-eqb (link_number place service) number is;
+        granted = refl;
+      }))
+
+  pub request-tells : (r : Request) → IsProper c l (aim_of_request r l) → Tells (request r) (aim_of_request r l)
+  request-tells (Establish service tei) proper = asked-tells _ service tei link.Establish (place_in l tei) refl refl
+  request-tells (Release service tei) proper = release-tells service tei (place_in l tei) refl
+  request-tells (Data service tei contents) proper = asked-tells _ service tei (link.Data contents) (place_in l tei) refl refl
+  request-tells (Unit service tei contents) proper = no-loss _ (at_units (record { service = service; tei = tei; contents = contents })) refl
+  request-tells (Assign tei) proper = management _ (teis.assign tei) proper
+  request-tells (Remove tei) proper = management _ (teis.remove tei) proper
+  request-tells (Check tei) proper = management _ (teis.check tei) proper
+  request-tells (SetBusy service tei) proper = asked-tells _ service tei link.SetBusy (place_in l tei) refl refl
+  request-tells (ClearBusy service tei) proper = asked-tells _ service tei link.ClearBusy (place_in l tei) refl refl
+
+pub loss-told : (c : Config) (e : Event) (l : Line) (number : ℕ) → IsSound c l → (share_of c number e l).empties ≡ true
+    → IsTold number e l (after c e l) (answer c e l)
+unfolding after answer
+loss-told c (octet value) l number s = octet-tells c l s number (l.received ++ value ∷ []) (octet value) (gained c.n201 l.received value)
+loss-told c (expiry timer) l number s = expiry-tells c l s number l.received (expiry timer) timer
+loss-told c (request r) l number s = go (refusal c false r l) (request_proper c l r)
+  where
+    go : (o : Option Refusal) → IsProper c l (unless_refused o (aim_of_request r l)) → (share_aimed c number l (unless_refused o (aim_of_request r l))).empties ≡ true
+        → IsTold number (request r) l (of_aim c (unless_refused o (aim_of_request r l)) l).line (unless_refused_told o (of_aim c (unless_refused o (aim_of_request r l)) l))
+    go None proper = request-tells c l s number l.received r proper
+    go (Some why) proper = λ none. absurd (true≢false (sym none))
+loss-told c pull l number s = λ none. absurd (true≢false (sym none))

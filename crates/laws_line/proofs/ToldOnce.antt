@@ -1,0 +1,187 @@
+-- Contents that an answer hands on are noted once.
+use Rattle.std.proofs.Common.{◌≡◌, ℕ, ◌+◌, false, cond, List, [], ◌∷◌, ◌++◌, length, Option, Some, None, option_to_list, refl, ap, ◌∙◌, ◌⊎◌, inl, inr, arith}
+use Rattle.std.specs.Prelude.{count_by}
+use Rattle.std.specs.Option.{option_or, option_map_or}
+use Rattle.std.proofs.lemmas.List.Sums.{sum_by-cons, sum_by-append}
+use Rattle.lapd_bits.specs.Stream as stream
+use Rattle.lapd_frame.specs.declared.notes.Note.{Note}
+use Rattle.lapd_frame.specs.declared.notes.Note.TheVariants as notes
+use Rattle.lapd_frame.specs.declared.refusals.Refusal.{Refusal}
+use Rattle.lapd_frame.specs.declared.services.Service.{Service}
+use Rattle.lapd_frame.specs.declared.services.Service.TheVariants.{Call, Packet}
+use Rattle.lapd_frame.specs.declared.timers.Timer.{Timer}
+use Rattle.lapd_frame.specs.declared.timers.Timer.TheVariants.{T200, T203, T201}
+use Rattle.model_link.specs.declared.states.State.{State}
+use Rattle.model_link.specs.declared.states.State.TheVariants.{TeiAssigned, AwaitingEstablishment, AwaitingRelease, Established, TimerRecovery}
+use Rattle.model_link.specs.declared.terms.Terms.{Terms}
+use Rattle.model_link.specs.declared.timers.LinkTimer.{LinkTimer}
+use Rattle.model_link.specs.declared.timers.LinkTimer.TheVariants as link_timer
+use Rattle.model_link.specs.Events as link
+use Rattle.model_link.specs.Link.{Link}
+use Rattle.model_link.specs.Machine as links
+use Rattle.model_link.specs.Notes.{is_data, is_unit}
+use Rattle.model_link.specs.Sound as link_sound
+use Rattle.model_link.specs.Steps.{begun}
+use Rattle.model_link.proofs.TellRows.{event-tells}
+use Rattle.laws_link.proofs.Once as link_once
+use Rattle.lapd_tei.specs.Events as teis
+use Rattle.lapd_tei.specs.declared.outcome.Change.{Change}
+use Rattle.lapd_tei.specs.declared.outcome.Change.TheVariants.{Gained, Left}
+use Rattle.lapd_tei.proofs.Tables.{place_of-is}
+use Rattle.model_line.specs.declared.config.Config.{Config}
+use Rattle.model_line.specs.Answer.{Event, octet, expiry, request, pull, nothing}
+use Rattle.model_line.specs.Effect.{Aim, at_none, at_link, at_management, told_of_management, of_link, of_change, of_aim}
+use Rattle.model_line.specs.Expiry.{at_timer, aim_of_expiry}
+use Rattle.model_line.specs.Line.{Line, place_in, link_in, terms}
+use Rattle.model_line.specs.Machine.{answer, unless_refused, unless_refused_told}
+use Rattle.model_line.specs.Octet.{gained, aim_of_heard}
+use Rattle.model_line.specs.Refusal.{refusal}
+use Rattle.model_line.specs.Request.{Request, Establish, Release, Data, Unit, Assign, Remove, Check, SetBusy, ClearBusy}
+use Rattle.model_line.specs.Requested.{at_requested, aim_of_request}
+use Rattle.model_line.specs.Sound.{IsInRange, IsSound}
+use Rattle.model_line.proofs.LinksSound.{sound_in}
+use Rattle.model_line.proofs.ProperAims.{heard_aims}
+use Rattle.laws_line.specs.Heard.{tells_contents, IsNotedOnce}
+use Rattle.laws_line.proofs.TeiNotes.{ByChange, noted}
+
+-- Notes of contents are those of data and those of unit data.
+one-note : (n : Note) → cond {A = ℕ} (tells_contents n) 1 0 ≡ cond {A = ℕ} (is_data n) 1 0 + cond {A = ℕ} (is_unit n) 1 0
+one-note (notes.EstablishIndication s n) = refl
+one-note (notes.EstablishConfirm s n) = refl
+one-note (notes.ReleaseIndication s n) = refl
+one-note (notes.ReleaseConfirm s n) = refl
+one-note (notes.Data s n) = refl
+one-note (notes.Unit s n) = refl
+one-note (notes.Error s n k) = refl
+one-note (notes.Assigned n) = refl
+one-note (notes.Removed n) = refl
+one-note (notes.Doubled n) = refl
+one-note (notes.Xid s n) = refl
+
+both : (ns : List Note) → count_by tells_contents ns ≡ count_by is_data ns + count_by is_unit ns
+both [] = refl
+both (n ∷ ns) =
+    let rest = both ns in
+    let all = sum_by-cons (λ n. cond (tells_contents n) 1 0) n ns in
+    let data-all = sum_by-cons (λ n. cond (is_data n) 1 0) n ns in
+    let unit-all = sum_by-cons (λ n. cond (is_unit n) 1 0) n ns in
+    omega (arith, rest, all, data-all, unit-all, one-note n)
+
+-- A link's.
+either-one : (d u : Option (List ℕ)) → (d ≡ None) ⊎ (u ≡ None) → length (option_to_list d) + length (option_to_list u) ≡ length (option_to_list (option_or d u))
+either-one None None one = refl
+either-one None (Some x) one = refl
+either-one (Some x) None one = refl
+either-one (Some x) (Some y) (inl none) = absurd (cc)
+either-one (Some x) (Some y) (inr none) = absurd (cc)
+
+link-once : (t : Terms) (l : Link) → link_sound.IsSound t l → (e : link.Event)
+    → count_by tells_contents (links.told t e l).notes ≡ length (option_to_list (option_or (links.told t e l).delivered (links.told t e l).unit))
+link-once t l s e =
+    let noted = link_once.noted-once t l s e in
+    let one = either-one (links.told t e l).delivered (links.told t e l).unit (event-tells t e l).2 in
+    omega (arith, both (links.told t e l).notes, noted.contents, noted.unit, one)
+
+-- A link whose TEI leaves the line tells of no contents.
+cleared-none : (t : Terms) (l : Link) → count_by tells_contents (links.told t link.cleared l).notes ≡ 0
+cleared-none t l = go l.state
+  where
+    go : (here : State) → count_by tells_contents (links.told_of_clearing here t (begun l)).notes ≡ 0
+    go TeiAssigned = refl
+    go AwaitingEstablishment = refl
+    go AwaitingRelease = refl
+    go Established = refl
+    go TimerRecovery = refl
+
+-- TEI management's: none is of contents.
+is-none : (ns : List Note) (known : List Note) → ns ≡ known → count_by tells_contents known ≡ 0 → count_by tells_contents ns ≡ 0
+is-none ns known e none = ap (count_by tells_contents) e ∙ none
+
+management-none : (e : teis.Event) (o : Option Change) (ns : List Note) → ByChange e o ns → count_by tells_contents ns ≡ 0
+management-none e None ns by = is-none ns [] by refl
+management-none (teis.message octets) (Some (Gained tei place)) ns by = is-none ns (notes.Assigned tei ∷ []) by refl
+management-none teis.expiry (Some (Gained tei place)) ns by = absurd by
+management-none (teis.assign asked) (Some (Gained tei place)) ns by = is-none ns [] by.1 refl
+management-none (teis.remove asked) (Some (Gained tei place)) ns by = absurd by
+management-none (teis.check asked) (Some (Gained tei place)) ns by = absurd by
+management-none (teis.message octets) (Some (Left tei place)) ns by = is-none ns (notes.Doubled tei ∷ []) by refl
+management-none teis.expiry (Some (Left tei place)) ns by = is-none ns (notes.Removed tei ∷ []) by refl
+management-none (teis.assign asked) (Some (Left tei place)) ns by = absurd by
+management-none (teis.remove asked) (Some (Left tei place)) ns by = is-none ns [] by.1 refl
+management-none (teis.check asked) (Some (Left tei place)) ns by = absurd by
+
+three-none : (a b c : List Note) → count_by tells_contents a ≡ 0 → count_by tells_contents b ≡ 0 → count_by tells_contents c ≡ 0
+    → count_by tells_contents (a ++ b ++ c) ≡ 0
+three-none a b c one two three =
+    let first = sum_by-append (λ n. cond (tells_contents n) 1 0) (a ++ b) c in
+    let second = sum_by-append (λ n. cond (tells_contents n) 1 0) a b in
+    omega (arith, first, second, one, two, three)
+
+-- What an event aims at.
+module _ (c : Config) (ranged : IsInRange c) (l : Line) (s : IsSound c l) (received : List ℕ) where
+  abbrev Once : Aim → Type 0
+  Once aim =
+      let t = (of_aim c aim (record l { received = received })).told in
+      count_by tells_contents t.notes ≡ length (option_to_list t.contents)
+
+  at-its-link : (service : Service) (tei place : ℕ) (e : link.Event) → place_in l tei ≡ Some place → Once (at_link service tei place e)
+  at-its-link service tei place e on =
+      link-once (terms c service tei) (link_in l service place)
+      (sound_in c ranged l s service tei place (place_of-is l.management.places tei place on).1) e
+
+  changed-once : (e : teis.Event) (o : Option Change) → ByChange e o (teis.told e l.management).notes
+      → let t = (of_change c o (told_of_management (teis.told e l.management)) (record l { received = received; management = teis.after e l.management })).told in
+      count_by tells_contents t.notes ≡ length (option_to_list t.contents)
+  changed-once e None by = management-none e None (teis.told e l.management).notes by
+  changed-once e (Some (Gained tei place)) by = management-none e (Some (Gained tei place)) (teis.told e l.management).notes by
+  changed-once e (Some (Left tei place)) by =
+      let now = record l { received = received; management = teis.after e l.management } in
+      let call = of_link c Call tei place link.cleared now in
+      let packet = of_link c Packet tei place link.cleared call.line in
+      three-none (teis.told e l.management).notes call.told.notes packet.told.notes
+      (management-none e (Some (Left tei place)) (teis.told e l.management).notes by)
+      (cleared-none (terms c Call tei) (link_in now Call place)) (cleared-none (terms c Packet tei) (link_in call.line Packet place))
+
+  managed : (e : teis.Event) → Once (at_management e)
+  managed e = changed-once e (teis.told e l.management).change (noted e l.management s.management)
+
+  heard-once : (o : Option stream.Event) → Once (option_map_or (aim_of_heard l) o (at_none nothing))
+  heard-once None = refl
+  heard-once (Some e) =
+      heard_aims l Once (λ cause. refl) (λ service tei place what on. at-its-link service tei place (link.received what) on)
+      (λ info. managed (teis.message info)) e
+
+  timer-once : (service : Service) (tei : ℕ) (timer : LinkTimer) (o : Option ℕ) → place_in l tei ≡ o → Once (at_timer service tei timer o)
+  timer-once service tei timer None on = refl
+  timer-once service tei timer (Some place) on = at-its-link service tei place (link.expired timer) on
+
+  expiry-once : (timer : Timer) → Once (aim_of_expiry timer l)
+  expiry-once (T200 service tei) = timer-once service tei link_timer.T200 (place_in l tei) refl
+  expiry-once (T203 service tei) = timer-once service tei link_timer.T203 (place_in l tei) refl
+  expiry-once T201 = managed teis.expiry
+
+  asked-once : (service : Service) (tei : ℕ) (what : link.Request) (o : Option ℕ) → place_in l tei ≡ o → Once (at_requested service tei what o)
+  asked-once service tei what None on = refl
+  asked-once service tei what (Some place) on = at-its-link service tei place (link.requested what false) on
+
+  request-once : (r : Request) → Once (aim_of_request r l)
+  request-once (Establish service tei) = asked-once service tei link.Establish (place_in l tei) refl
+  request-once (Release service tei) = asked-once service tei link.Release (place_in l tei) refl
+  request-once (Data service tei contents) = asked-once service tei (link.Data contents) (place_in l tei) refl
+  request-once (Unit service tei contents) = refl
+  request-once (Assign tei) = managed (teis.assign tei)
+  request-once (Remove tei) = managed (teis.remove tei)
+  request-once (Check tei) = managed (teis.check tei)
+  request-once (SetBusy service tei) = asked-once service tei link.SetBusy (place_in l tei) refl
+  request-once (ClearBusy service tei) = asked-once service tei link.ClearBusy (place_in l tei) refl
+
+pub told-once : (c : Config) (e : Event) (l : Line) → IsInRange c → IsSound c l → IsNotedOnce (answer c e l)
+unfolding answer
+told-once c (octet value) l ranged s = heard-once c ranged l s (l.received ++ value ∷ []) (gained c.n201 l.received value)
+told-once c (expiry timer) l ranged s = expiry-once c ranged l s l.received timer
+told-once c (request r) l ranged s = go (refusal c false r l)
+  where
+    go : (o : Option Refusal) → IsNotedOnce (unless_refused_told o (of_aim c (unless_refused o (aim_of_request r l)) l))
+    go None = request-once c ranged l s l.received r
+    go (Some why) = refl
+told-once c pull l ranged s = refl

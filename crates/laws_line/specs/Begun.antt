@@ -1,0 +1,28 @@
+-- Which frames pulls begin, in the text of a line.
+use Rattle.std.specs.Prelude.{◌≡◌, ◌⊎◌, ℕ, ◌≤◌, ◌<◌, ◌++◌, Bool, true, false, List, [], ◌∷◌, length}
+use Rattle.lapd_bits.specs.Bits.{bits}
+use Rattle.lapd_bits.specs.Sent.{idle, frame, line_text}
+use Rattle.model_line.specs.Answer.{Answer, told, refused, pulled}
+use Rattle.model_line.specs.Line.{Line}
+
+-- What an answer says of it: only that to a pull tells of a frame.
+abbrev pub says_begun : Answer → Bool
+says_begun (told t) = false
+says_begun (refused why) = false
+says_begun (pulled value begun orders) = begun
+
+-- Behind what was on the line before there is a frame now, and its first bit was not given before the event, and is given
+-- with it (Q.921 clause 2.2).
+pub record BeginsFrame (before after : Line) : Type 0 where
+  pub octets : List ℕ
+  pub items : after.items ≡ before.items ++ frame octets ∷ []
+  pub not_before : length (bits before.given) ≤ length (line_text before.items)
+  pub with_it : length (line_text before.items) < length (bits after.given)
+
+-- Or no frame is there that was not there before: nothing, or an idle flag.
+abbrev pub BeginsNone : Line → Line → Type 0
+BeginsNone before after = (after.items ≡ before.items) ⊎ (after.items ≡ before.items ++ idle ∷ [])
+
+abbrev pub BeginsAs : Bool → Line → Line → Type 0
+BeginsAs true before after = BeginsFrame before after
+BeginsAs false before after = BeginsNone before after

@@ -1,0 +1,157 @@
+-- What the octets of a line bring to its links and to layer 3.
+use Rattle.std.specs.Prelude.{◌≡◌, ◌⊎◌, ℕ, ◌==◌, ◌&&◌, ◌||◌, Bool, true, false, List, [], ◌∷◌, ◌++◌, length, count_by, Ok, Err, Option, Some, None, option_to_list}
+use Rattle.std.specs.List.{list_any}
+use Rattle.std.specs.Option.{option_or}
+use Rattle.lapd_bits.specs.Stream as stream
+use Rattle.lapd_bits.specs.declared.heard.Cause.{Cause}
+use Rattle.lapd_frame.specs.declared.addresses.Address.{Address}
+use Rattle.lapd_frame.specs.declared.addresses.Side.TheVariants.{User}
+use Rattle.lapd_frame.specs.declared.faults.ReadFault.TheVariants.{Undefined, WrongSize}
+use Rattle.lapd_frame.specs.declared.notes.Note.{Note}
+use Rattle.lapd_frame.specs.declared.notes.Note.TheVariants as notes
+use Rattle.lapd_frame.specs.declared.overlong.Long.TheVariants as long
+use Rattle.lapd_frame.specs.declared.services.Service.{Service}
+use Rattle.lapd_frame.specs.Faults.{IsFault}
+use Rattle.lapd_frame.specs.Grammar.{Parts, Spells}
+use Rattle.lapd_frame.specs.Reading.{long_reading}
+use Rattle.lapd_frame.specs.Services.{sapi_of, same_service}
+use Rattle.model_link.specs.Events as link
+use Rattle.model_link.specs.declared.terms.Terms.{Terms}
+use Rattle.model_link.specs.Link.{Link}
+use Rattle.model_link.specs.Machine as links
+use Rattle.model_link.specs.Notes.{is_data, is_unit}
+use Rattle.model_link.specs.Told as link_told
+use Rattle.laws_link.specs.Heard.{in_i_frame, in_ui_frame, data_due, unit_due}
+use Rattle.model_line.specs.declared.config.Config.{Config}
+use Rattle.model_line.specs.Answer.{Event, octet, Told, Answer, told, refused, pulled, nothing, dropped}
+use Rattle.model_line.specs.Line.{Line, link_number, place_in, link_in, with_link, terms}
+use Rattle.model_line.specs.Octet.{with_received}
+
+-- What an octet adds to what is heard: in the bits of all octets received, with this one, is heard what was heard before
+-- it, and then this. Heard are the stretches between two flags: the octets of one from which the stuffed 0s are taken, and
+-- whose check is good, are a frame (Q.921 clauses 2.2 to 2.7, 2.9 and 2.10).
+abbrev pub Adds : Config → Line → ℕ → List stream.Event → Type 0
+Adds c l value more = stream.heard_in c.n201 (l.received ++ value ∷ []) ≡ stream.heard_in c.n201 l.received ++ more
+
+-- An octet ends a frame of these octets; or one that is longer than the receiver has room for, of which these are the first
+-- four; or a stretch that is no frame, for this cause: an abort, a frame of no whole octets or wrongly stuffed, a wrong check,
+-- or too few octets; or nothing.
+abbrev pub Ends : Config → Line → ℕ → List ℕ → Type 0
+Ends c l value octets = Adds c l value (stream.frame octets ∷ [])
+
+abbrev pub EndsOverlong : Config → Line → ℕ → List ℕ → Type 0
+EndsOverlong c l value head = Adds c l value (stream.overlong head ∷ [])
+
+abbrev pub EndsDropped : Config → Line → ℕ → Cause → Type 0
+EndsDropped c l value cause = Adds c l value (stream.dropped cause ∷ [])
+
+abbrev pub EndsNothing : Config → Line → ℕ → Type 0
+EndsNothing c l value = Adds c l value []
+
+-- The frame is spelled by the grammar with the SAPI of a service, and with a TEI on the line.
+pub record IsFor (l : Line) (service : Service) (tei place : ℕ) (parts : Parts) (octets : List ℕ) : Type 0 where
+  pub spelled : Spells User parts octets
+  pub sapi : parts.address.sapi ≡ sapi_of service
+  pub tei_is : parts.address.tei ≡ tei
+  pub on_line : place_in l tei ≡ Some place
+
+-- An address names a link: the SAPI of a service, and a TEI on the line.
+pub record IsTo (l : Line) (service : Service) (tei place : ℕ) (address : Address) : Type 0 where
+  pub sapi : address.sapi ≡ sapi_of service
+  pub tei_is : address.tei ≡ tei
+  pub on_line : place_in l tei ≡ Some place
+
+-- What a frame with an address is to a link where the grammar has no such frame: its control field is undefined, or it is
+-- of wrong size (clauses 3.6.1, 3.6.11 and 5.8.5).
+abbrev pub IsMalformed : Address → List ℕ → link.Received → Type 0
+IsMalformed address octets link.undefined = IsFault User octets (Undefined address)
+IsMalformed address octets link.wrong_size = IsFault User octets (WrongSize address)
+IsMalformed address octets link.overlong = ⊥
+IsMalformed address octets (link.frame parts) = ⊥
+
+-- The same of one that was too long to keep, by its first four octets: then it may be an I-frame that is too long.
+abbrev pub IsTooLong : Address → List ℕ → link.Received → Type 0
+IsTooLong address head link.undefined = long_reading User head ≡ Err (Undefined address)
+IsTooLong address head link.wrong_size = long_reading User head ≡ Err (WrongSize address)
+IsTooLong address head link.overlong = long_reading User head ≡ Ok (long.Information address)
+IsTooLong address head (link.frame parts) = ⊥
+
+-- An answer says what a link tells: its notes, the contents of an I-frame or of a UI, its orders, and what it loses.
+pub record Says (t : link_told.Told) (answer : Answer) : Type 0 where
+  pub own : Told
+  pub is : answer ≡ told own
+  pub notes : own.notes ≡ t.notes
+  pub contents : own.contents ≡ option_or t.delivered t.unit
+  pub orders : own.orders ≡ t.orders
+  pub lost : own.lost ≡ t.lost
+
+-- Then the octet is this event of the link of that service and TEI, and nothing else changes but the octets received;
+-- and the line answers what the link does.
+pub record IsOneEvent (c : Config) (before after : Line) (answer : Answer) (value : ℕ) (service : Service) (tei place : ℕ) (event : link.Event) : Type 0 where
+  pub line : after ≡ with_received value
+      (with_link (link_number place service) (links.after (terms c service tei) event (link_in before service place)) before)
+  pub answer_is : Says (links.told (terms c service tei) event (link_in before service place)) answer
+
+-- An octet that ends nothing changes nothing but what was received, and nothing is answered.
+pub record IsNoEvent (before after : Line) (answer : Answer) (value : ℕ) : Type 0 where
+  pub line : after ≡ with_received value before
+  pub answer_is : answer ≡ told nothing
+
+-- Nor does an octet that ends a stretch which is no frame; and why it is none is all that is answered.
+pub record IsDroppedFor (cause : Cause) (before after : Line) (answer : Answer) (value : ℕ) : Type 0 where
+  pub line : after ≡ with_received value before
+  pub answer_is : answer ≡ told (dropped cause)
+
+-- The contents that an answer hands on.
+abbrev pub contents_in : Answer → Option (List ℕ)
+contents_in (told t) = t.contents
+contents_in (refused why) = None
+contents_in (pulled value begun orders) = None
+
+-- Notes of data, and of unit data, of the link of a service with a TEI.
+abbrev pub is_data_of : Service → ℕ → Note → Bool
+is_data_of service tei (notes.Data of by) = same_service of service && by == tei
+is_data_of service tei other = false
+
+abbrev pub is_unit_of : Service → ℕ → Note → Bool
+is_unit_of service tei (notes.Unit of by) = same_service of service && by == tei
+is_unit_of service tei other = false
+
+abbrev pub notes_of : Answer → List Note
+notes_of (told t) = t.notes
+notes_of (refused why) = []
+notes_of (pulled value begun orders) = []
+
+abbrev pub IsData : Service → ℕ → Parts → List ℕ → Answer → Type 0
+IsData service tei parts contents answer =
+    (in_i_frame parts.control parts.info ≡ Some contents) × (list_any (is_data_of service tei) (notes_of answer) ≡ true)
+
+abbrev pub IsUnit : Service → ℕ → Parts → List ℕ → Answer → Type 0
+IsUnit service tei parts contents answer =
+    (in_ui_frame parts.control parts.info ≡ Some contents) × (list_any (is_unit_of service tei) (notes_of answer) ≡ true)
+
+-- What a frame brings to layer 3 at its link: the information of an I-frame in sequence, where the link may take it, or of
+-- a UI; at most N201 octets (clauses 5.2.3, 5.6.2 and 5.6.6).
+abbrev pub due : Terms → Parts → Link → Option (List ℕ)
+due t parts l = option_or (data_due t (link.received (link.frame parts)) l) (unit_due t (link.received (link.frame parts)))
+
+-- Contents that are handed on are noted once, as data or as unit data; where none are, nothing is noted as such.
+abbrev pub tells_contents : Note → Bool
+tells_contents note = is_data note || is_unit note
+
+abbrev pub IsNotedOnce : Answer → Type 0
+IsNotedOnce answer = count_by tells_contents (notes_of answer) ≡ length (option_to_list (contents_in answer))
+
+-- Contents are handed on only by an octet that ends a frame: an I-frame or a UI of a service and a TEI on the line, whose
+-- information they are; and the answer notes data, or unit data, of that service and TEI.
+pub record IsHeard (c : Config) (l : Line) (event : Event) (answer : Answer) (contents : List ℕ) : Type 0 where
+  pub value : ℕ
+  pub by : event ≡ octet value
+  pub octets : List ℕ
+  pub ends : Ends c l value octets
+  pub parts : Parts
+  pub service : Service
+  pub tei : ℕ
+  pub place : ℕ
+  pub whose : IsFor l service tei place parts octets
+  pub told : IsData service tei parts contents answer ⊎ IsUnit service tei parts contents answer

@@ -1,0 +1,66 @@
+-- All that an answer notes, and why: of one event of a link, of a TEI that comes or leaves, or nothing.
+use Rattle.std.specs.Prelude.{◌≡◌, ◌⊎◌, ℕ, List, [], ◌∷◌, ◌++◌, Some, None}
+use Rattle.lapd_frame.specs.declared.notes.Note.{Note}
+use Rattle.lapd_frame.specs.declared.notes.Note.TheVariants.{Assigned, Removed, Doubled}
+use Rattle.lapd_frame.specs.declared.services.Service.{Service}
+use Rattle.lapd_frame.specs.declared.services.Service.TheVariants.{Call, Packet}
+use Rattle.model_link.specs.Events as link
+use Rattle.laws_link.specs.States.{as_heard}
+use Rattle.laws_link.specs.Telling.{told_by, told_cleared}
+use Rattle.model_line.specs.declared.config.Config.{Config}
+use Rattle.model_line.specs.Answer.{Event, octet, expiry, request, pull, Answer}
+use Rattle.model_line.specs.Line.{Line, tei_at, link_in, terms}
+use Rattle.laws_line.specs.Heard.{notes_of}
+use Rattle.laws_line.specs.Steady.{IsBy}
+
+-- The event is one of a link of a TEI on the line, and the notes are those of the table.
+pub record NotesOneEvent (c : Config) (e : Event) (before after : Line) (answer : Answer) : Type 0 where
+  pub service : Service
+  pub tei : ℕ
+  pub place : ℕ
+  pub on_line : tei_at place before ≡ Some tei
+  pub event : link.Event
+  pub by : IsBy c before e answer service tei event
+  pub notes : notes_of answer
+      ≡ told_by (terms c service tei) (as_heard (terms c service tei) event) (link_in before service place) (link_in after service place).state
+
+-- A TEI comes to the line: that is noted where a terminal asked for it, and not where management did (Q.921 clause 5.3.2).
+abbrev pub noted_coming : Event → ℕ → List Note
+noted_coming (octet value) tei = Assigned tei ∷ []
+noted_coming (expiry timer) tei = []
+noted_coming (request r) tei = []
+noted_coming pull tei = []
+
+pub record NotesComing (e : Event) (before after : Line) (answer : Answer) : Type 0 where
+  pub tei : ℕ
+  pub place : ℕ
+  pub was_free : tei_at place before ≡ None
+  pub is_there : tei_at place after ≡ Some tei
+  pub notes : notes_of answer ≡ noted_coming e tei
+
+-- A TEI leaves the line: by a second answer to its check, by T201, or by a request of management, which is not noted (clauses
+-- 5.3.3.2 and 5.3.4). Behind that is noted what its two links tell as they end.
+abbrev pub noted_leaving : Event → ℕ → List Note
+noted_leaving (octet value) tei = Doubled tei ∷ []
+noted_leaving (expiry timer) tei = Removed tei ∷ []
+noted_leaving (request r) tei = []
+noted_leaving pull tei = []
+
+abbrev pub noted_ending : Config → Line → Service → ℕ → ℕ → List Note
+noted_ending c before service tei place = told_cleared (link_in before service place).state (terms c service tei)
+
+pub record NotesLeaving (c : Config) (e : Event) (before after : Line) (answer : Answer) : Type 0 where
+  pub tei : ℕ
+  pub place : ℕ
+  pub was_there : tei_at place before ≡ Some tei
+  pub is_free : tei_at place after ≡ None
+  pub notes : notes_of answer ≡ noted_leaving e tei ++ noted_ending c before Call tei place ++ noted_ending c before Packet tei place
+
+-- No TEI comes or leaves, and nothing is noted.
+pub record NotesNothing (before after : Line) (answer : Answer) : Type 0 where
+  pub stays : after.management.places ≡ before.management.places
+  pub notes : notes_of answer ≡ []
+
+abbrev pub NotesItsOwn : Config → Event → Line → Line → Answer → Type 0
+NotesItsOwn c e before after answer =
+    NotesOneEvent c e before after answer ⊎ NotesComing e before after answer ⊎ NotesLeaving c e before after answer ⊎ NotesNothing before after answer

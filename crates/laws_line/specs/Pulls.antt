@@ -1,0 +1,162 @@
+-- What a pull begins, of what waits.
+use Rattle.std.specs.Prelude.{◌≡◌, ◌≢◌, ◌⊎◌, ℕ, ◌+◌, ◌-◌, ◌<◌, Bool, true, false, List, length, [], ◌∷◌, ◌++◌, drop, take, slice_get, All, Option, Some, None, if◌then◌else◌}
+use Rattle.std.specs.List.{range_with_len}
+use Rattle.std.specs.Option.{unwrap_or}
+use Rattle.lapd_bits.specs.Bits.{bits}
+use Rattle.lapd_bits.specs.Sent.{line_text}
+use Rattle.lapd_frame.specs.declared.addresses.Side.TheVariants.{Network}
+use Rattle.lapd_frame.specs.declared.controls.Control.{Control}
+use Rattle.lapd_frame.specs.declared.controls.Control.TheVariants.{Ui}
+use Rattle.lapd_frame.specs.Grammar.{spelling}
+use Rattle.lapd_frame.specs.Services.{sapi_of}
+use Rattle.model_link.specs.declared.terms.Terms.{Terms}
+use Rattle.model_link.specs.Link.{Link}
+use Rattle.model_link.specs.Sound.{is_information}
+use Rattle.laws_link.specs.InOrder.{IsInOrder}
+use Rattle.laws_link.specs.Offered.{IsOffered, one}
+use Rattle.laws_link.specs.Sending.{MayGo}
+use Rattle.lapd_tei.specs.declared.messages.Message.{Message}
+use Rattle.lapd_tei.specs.Messages.{frame_of}
+use Rattle.model_line.specs.declared.config.Config.{Config}
+use Rattle.model_line.specs.Line.{Line, UnitData, link_count, service_at, place_at, tei_at, terms, link_at}
+use Rattle.model_line.specs.Machine.{after}
+use Rattle.model_line.specs.Answer.{Event, octet, expiry, request, pull, Answer}
+use Rattle.model_line.specs.Request.{Request, Establish, Release, Data, Assign, Remove, Check, SetBusy, ClearBusy}
+use Rattle.laws_line.specs.Share.{is_granted}
+use Rattle.model_line.specs.Pull.{Taken, begun}
+
+-- The message of TEI management that has waited longest, which waits no more;
+pub record IsMessage (before after : Line) (frame : List ℕ) : Type 0 where
+  pub message : Message
+  pub oldest : slice_get before.management.waiting 0 ≡ Some message
+  pub spelled : frame ≡ frame_of message
+  pub rest : after.management.waiting ≡ drop 1 before.management.waiting
+  pub units : after.units ≡ before.units
+  pub links : after.links ≡ before.links
+  pub turn : after.turn ≡ before.turn
+
+-- or, where no message waits, the unit data that has waited longest, whole, with its service and its TEI, in a UI command
+-- with P=0, which waits no more (Q.921 clauses 3.6.5 and 5.2.2);
+pub record IsUnit (before after : Line) (frame : List ℕ) : Type 0 where
+  pub no_message : before.management.waiting ≡ []
+  pub unit : UnitData
+  pub oldest : slice_get before.units 0 ≡ Some unit
+  pub spelled : frame ≡ spelling Network (record {
+    address = record { sapi = sapi_of unit.service; command = true; tei = unit.tei };
+    control = Ui false;
+    info = unit.contents;
+  })
+  pub messages : after.management.waiting ≡ before.management.waiting
+  pub rest : after.units ≡ drop 1 before.units
+  pub links : after.links ≡ before.links
+  pub turn : after.turn ≡ before.turn
+
+-- or, where neither waits, a frame of a link. The links are asked one after the other, from the one whose turn it is on,
+-- and then from link 0 on; those that are asked before it have nothing to send; and the next turn is that of the link
+-- after it (profile).
+abbrev pub in_turn : Config → Line → List ℕ
+in_turn c l = drop l.turn (range_with_len 0 (link_count c)) ++ take l.turn (range_with_len 0 (link_count c))
+
+-- A link has nothing to send where no control frame waits, no I-frame may go, and no acknowledgement is owed.
+pub record IsSilent (t : Terms) (l : Link) : Type 0 where
+  pub waiting : l.waiting ≡ []
+  pub information : MayGo t l → ⊥
+  pub pending : l.pending ≡ false
+
+abbrev pub IsQuiet : Config → Line → ℕ → Type 0
+IsQuiet c l number =
+    (tei : ℕ) → tei_at (place_at number) l ≡ Some tei → IsSilent (terms c (service_at number) tei) (link_at number l)
+
+pub record IsItsTurn (c : Config) (before after : Line) (number : ℕ) : Type 0 where
+  pub no_message : before.management.waiting ≡ []
+  pub no_unit : before.units ≡ []
+  pub passed : List ℕ
+  pub behind : List ℕ
+  pub place : in_turn c before ≡ passed ++ number ∷ behind
+  pub quiet : All (IsQuiet c before) passed
+  pub next : after.turn ≡ number + 1
+
+-- The link is of a TEI on the line, and the frame has the SAPI of its service and its TEI. It is what the link gives in its
+-- order: the control frame that has waited longest, an I-frame that may go, or the acknowledgement that is owed. If it is
+-- an I-frame, it carries the link's contents number V(S), and V(S) counts it. The other links stay as they are.
+pub record IsOfLink (c : Config) (contents : ℕ → List (List ℕ)) (before after : Line) (frame : List ℕ) : Type 0 where
+  pub number : ℕ
+  pub few : number < link_count c
+  pub its_turn : IsItsTurn c before after number
+  pub tei : ℕ
+  pub on_line : tei_at (place_at number) before ≡ Some tei
+  pub command : Bool
+  pub control : Control
+  pub information : Option (List ℕ)
+  pub spelled : frame ≡ spelling Network (record {
+    address = record { sapi = sapi_of (service_at number); command = command; tei = tei };
+    control = control;
+    info = unwrap_or information [];
+  })
+  pub in_order : IsInOrder (terms c (service_at number) tei) (link_at number before) (link_at number after) (record { command = command; control = control })
+  pub carried : IsOffered (contents number) (link_at number before).s (record { command = command; control = control }) information
+  pub counted : (link_at number after).s ≡ (link_at number before).s + one (is_information control)
+  pub messages : after.management.waiting ≡ before.management.waiting
+  pub units : after.units ≡ before.units
+  pub others : (other : ℕ) → other ≢ number → link_at other after ≡ link_at other before
+
+abbrev pub IsOwed : Config → (ℕ → List (List ℕ)) → Line → Line → List ℕ → Type 0
+IsOwed c contents before after frame = IsMessage before after frame ⊎ IsUnit before after frame ⊎ IsOfLink c contents before after frame
+
+-- No message waits, no unit data, and no link has anything to send.
+pub record HasNothing (c : Config) (l : Line) : Type 0 where
+  pub messages : l.management.waiting ≡ []
+  pub units : l.units ≡ []
+  pub links : (number : ℕ) → number < link_count c → IsQuiet c l number
+
+-- How many bits are on their way, and not given yet.
+abbrev pub bits_left : Line → ℕ
+bits_left l = length (line_text l.items) - length (bits l.given)
+
+-- A pull begins no frame only where eight bits or more are left to give, or where nothing waits to be sent; and then
+-- nothing of what waits is changed.
+pub record IsIdle (c : Config) (before after : Line) : Type 0 where
+  pub nothing : bits_left before < 8 → HasNothing c before
+  pub messages : after.management.waiting ≡ before.management.waiting
+  pub units : after.units ≡ before.units
+  pub links : after.links ≡ before.links
+  pub turn : after.turn ≡ before.turn
+
+abbrev pub contents_of : Line → ℕ → List (List ℕ)
+contents_of l number = (link_at number l).contents
+
+abbrev pub IsServed : Config → (ℕ → List (List ℕ)) → Line → Type 0
+IsServed c contents l =
+    elim (begun c l) as (λ o. Type 0) [ None ↦ IsIdle c l (after c pull l) | Some t ↦ IsOwed c contents l (after c pull l) t.frame ]
+
+-- Unit data waits at the end of what waits, where its request was granted: whole, once, with its service and its TEI. No
+-- other event but a pull changes what waits.
+abbrev pub unit_asked : Request → List UnitData
+unit_asked (Request.Unit service tei contents) = record { service = service; tei = tei; contents = contents } ∷ []
+unit_asked (Establish service tei) = []
+unit_asked (Release service tei) = []
+unit_asked (Data service tei contents) = []
+unit_asked (Assign tei) = []
+unit_asked (Remove tei) = []
+unit_asked (Check tei) = []
+unit_asked (SetBusy service tei) = []
+unit_asked (ClearBusy service tei) = []
+
+abbrev pub units_asked : Event → Answer → List UnitData
+units_asked (request r) answer = if is_granted answer then unit_asked r else []
+units_asked (octet value) answer = []
+units_asked (expiry timer) answer = []
+units_asked pull answer = []
+
+abbrev pub UnitsWait : Event → Line → Line → Answer → Type 0
+UnitsWait pull before after answer = Unit {0}
+UnitsWait (octet value) before after answer = after.units ≡ before.units
+UnitsWait (expiry timer) before after answer = after.units ≡ before.units
+UnitsWait (request r) before after answer = after.units ≡ before.units ++ units_asked (request r) answer
+
+-- No other event but a pull changes whose turn it is.
+abbrev pub TurnStays : Event → Line → Line → Type 0
+TurnStays pull before after = Unit {0}
+TurnStays (octet value) before after = after.turn ≡ before.turn
+TurnStays (expiry timer) before after = after.turn ≡ before.turn
+TurnStays (request r) before after = after.turn ≡ before.turn

@@ -1,0 +1,60 @@
+-- The timers of a line: which are needed, which run at a caller's that obeys the orders in the answers, and which pulls
+-- start.
+use Rattle.std.specs.Prelude.{◌≡◌, ◌⊎◌, ℕ, Bool, false, List, [], Some, is_some, if◌then◌else◌}
+use Rattle.std.specs.Option.{option_map_or}
+use Rattle.lapd_frame.specs.declared.services.Service.{Service}
+use Rattle.lapd_frame.specs.declared.timers.Order.{Order}
+use Rattle.lapd_frame.specs.declared.timers.Timer.{Timer}
+use Rattle.lapd_frame.specs.declared.timers.Timer.TheVariants.{T200, T203, T201}
+use Rattle.model_link.specs.declared.timers.LinkTimer.{LinkTimer}
+use Rattle.model_link.specs.declared.timers.LinkTimer.TheVariants as link_timer
+use Rattle.model_link.specs.Timed.{is_same, obeyed}
+use Rattle.model_link.specs.Told.{runs}
+use Rattle.laws_link.specs.Starting.{StartsT200}
+use Rattle.laws_two_links.specs.Needed.{needed, HasItsTimer}
+use Rattle.model_line.specs.declared.config.Config.{Config}
+use Rattle.model_line.specs.Answer.{Event, octet, expiry, request, pull, Answer}
+use Rattle.model_line.specs.Laws.{orders_in}
+use Rattle.model_line.specs.Line.{Line, service_at, place_at, tei_at, place_in, link_in, link_at, terms}
+
+-- A timer of a link is needed where the link's TEI is on the line, and its state needs it.
+abbrev pub link_needs : LinkTimer → Service → Line → ℕ → Bool
+link_needs timer service l place = runs timer (needed (link_in l service place))
+
+abbrev pub needs_of : LinkTimer → Service → ℕ → Line → Bool
+needs_of timer service tei l = option_map_or (link_needs timer service l) (place_in l tei) false
+
+-- T201 is needed while a TEI is checked (Q.921 clause 5.3.3.2).
+abbrev pub is_needed : Timer → Line → Bool
+is_needed (T200 service tei) l = needs_of link_timer.T200 service tei l
+is_needed (T203 service tei) l = needs_of link_timer.T203 service tei l
+is_needed T201 l = is_some l.management.check
+
+-- At a caller's, a timer that has expired runs no more when it hands the expiry to the line;
+abbrev pub left_by : Event → Timer → Bool → Bool
+left_by (expiry expired) timer running = if is_same expired timer then false else running
+left_by (octet value) timer running = running
+left_by (request r) timer running = running
+left_by pull timer running = running
+
+-- and then it obeys the orders of the answer, one after the other.
+abbrev pub runs_then : Timer → Bool → Event → Answer → Bool
+runs_then timer running event answer = obeyed timer (left_by event timer running) (orders_in answer)
+
+-- Each link of the line runs the timer that it needs.
+pub record HaveTheirTimers (l : Line) : Type 0 where
+  pub links : (number : ℕ) → HasItsTimer (link_at number l)
+
+-- A pull orders nothing; or it begins an I-frame of a link on the line whose T200 does not run, and then starts this T200, and
+-- stops the link's T203 where it runs (clause 5.6.1). So no pull starts a timer anew that runs.
+pub record StartsOne (c : Config) (before after : Line) (orders : List Order) : Type 0 where
+  pub number : ℕ
+  pub tei : ℕ
+  pub on_line : tei_at (place_at number) before ≡ Some tei
+  pub starts : StartsT200 (terms c (service_at number) tei) (link_at number before) (link_at number after) orders
+
+abbrev pub LeavesTimers : Config → Event → Line → Line → Answer → Type 0
+LeavesTimers c pull before after answer = (orders_in answer ≡ []) ⊎ StartsOne c before after (orders_in answer)
+LeavesTimers c (octet value) before after answer = Unit {0}
+LeavesTimers c (expiry timer) before after answer = Unit {0}
+LeavesTimers c (request r) before after answer = Unit {0}

@@ -1,0 +1,61 @@
+-- Worked values: what requests and their ends are to the links of a line.
+use Rattle.std.specs.Prelude.{◌≡◌, ℕ, true, false, List, [], ◌∷◌, refl}
+use Rattle.lapd_frame.specs.declared.services.Service.TheVariants.{Call, Packet}
+use Rattle.lapd_frame.specs.Reading.{reading, header_of, control_of, unnumbered_of}
+use Rattle.lapd_tei.specs.Events as teis
+use Rattle.model_line.specs.Answer.{request, told, nothing, refused}
+use Rattle.lapd_frame.specs.declared.refusals.Refusal.TheVariants.{PoolFull}
+use Rattle.lapd_bits.specs.Stream as stream
+use Rattle.model_line.specs.declared.config.Config.{Config}
+use Rattle.model_line.specs.Effect.{of_aim}
+use Rattle.model_line.specs.Line.{Line, fresh_line}
+use Rattle.model_line.specs.Machine.{of_request}
+use Rattle.model_line.specs.Octet.{aim_of_heard}
+use Rattle.model_line.specs.Request.{Assign, Data, Unit, Remove, Release}
+use Rattle.laws_line.specs.Share.{no_share, ending, share_of, asked_by}
+use Rattle.laws_line.specs.Pulls.{units_asked}
+
+abbrev pub usual : Config
+usual = record { lines = 1; terminals = 8; k = 7; k16 = 7; queue = 8; unit_queue = 4; control = 4; slots = 64; n201 = 260; n200 = 3 }
+
+-- TEI 64 on the line, and its SABME of both services
+abbrev pub hears : List ℕ → Line → Line
+hears octets l = (of_aim usual (aim_of_heard l (stream.frame octets)) l).line
+
+abbrev pub both_up : Line
+both_up = hears (0x40 ∷ 0x81 ∷ 0x7F ∷ []) (hears (0x00 ∷ 0x81 ∷ 0x7F ∷ []) (of_request usual (Assign 64) (fresh_line usual)).line)
+
+-- Data for the call control link of TEI 64 is accepted for link 0, and for no other.
+data_for_its_link : share_of usual 0 (request (Data Call 64 (1 ∷ []))) both_up
+    ≡ record { restarts = false; empties = false; accepted = (1 ∷ []) ∷ []; acknowledged = 0 }
+unfolding reading header_of control_of unnumbered_of teis.course teis.refusal
+data_for_its_link = refl
+
+data_for_no_other : share_of usual 1 (request (Data Call 64 (1 ∷ []))) both_up ≡ no_share
+unfolding reading header_of control_of unnumbered_of teis.course teis.refusal
+data_for_no_other = refl
+
+-- A TEI that leaves the line ends both of its links, and none of another.
+both_end : share_of usual 0 (request (Remove 64)) both_up ∷ share_of usual 1 (request (Remove 64)) both_up ∷ share_of usual 2 (request (Remove 64)) both_up ∷ []
+    ≡ ending ∷ ending ∷ no_share ∷ []
+unfolding reading header_of control_of unnumbered_of teis.course teis.refusal
+both_end = refl
+
+-- A release of the packet link empties it.
+packet_released : share_of usual 1 (request (Release Packet 64)) both_up
+    ≡ record { restarts = false; empties = true; accepted = []; acknowledged = 0 }
+unfolding reading header_of control_of unnumbered_of teis.course teis.refusal
+packet_released = refl
+
+-- What a request asks for counts where it is granted.
+asked_and_granted : asked_by 0 (request (Data Call 64 (1 ∷ []))) both_up (told nothing) ≡ (1 ∷ []) ∷ []
+unfolding reading header_of control_of unnumbered_of teis.course teis.refusal
+asked_and_granted = refl
+
+asked_and_refused : asked_by 0 (request (Data Call 64 (1 ∷ []))) both_up (refused PoolFull) ≡ []
+unfolding reading header_of control_of unnumbered_of teis.course teis.refusal
+asked_and_refused = refl
+
+unit_granted : units_asked (request (Unit Packet 127 (0xAB ∷ []))) (told nothing)
+    ≡ record { service = Packet; tei = 127; contents = 0xAB ∷ [] } ∷ []
+unit_granted = refl

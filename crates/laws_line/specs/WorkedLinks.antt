@@ -1,0 +1,78 @@
+-- Worked values: what frames, requests and pulls make of a link of a line.
+use Rattle.std.specs.Prelude.{◌≡◌, true, false, [], ◌∷◌, Some, refl}
+use Rattle.lapd_bits.specs.Bits.{low_bits}
+use Rattle.lapd_frame.specs.declared.controls.Control.TheVariants.{ReceiveReady, ReceiveNotReady, Sabme, Ua}
+use Rattle.lapd_frame.specs.declared.services.Service.TheVariants.{Call}
+use Rattle.lapd_frame.specs.Reading.{reading, header_of, control_of, unnumbered_of, supervisory_of}
+use Rattle.laws_link.specs.States.{state_after}
+use Rattle.laws_link.specs.Waiting.{waiting_left}
+use Rattle.model_link.specs.declared.states.State.TheVariants.{TeiAssigned, AwaitingEstablishment}
+use Rattle.model_link.specs.declared.timers.LinkTimer.TheVariants.{T200}
+use Rattle.model_link.specs.Events.{received, undefined, overlong}
+use Rattle.model_link.specs.Words.{command, response}
+use Rattle.lapd_seq.specs.Circle.{distance_of, named}
+use Rattle.lapd_seq.specs.Numbers.{seq}
+use Rattle.lapd_tei.specs.Events as teis
+use Rattle.model_line.specs.Line.{Line, fresh_line, link_at, terms}
+use Rattle.model_line.specs.Machine.{after}
+use Rattle.model_line.specs.Request.{Establish, Data, Assign, SetBusy}
+use Rattle.laws_line.specs.Worked.{usual, both_up, hears}
+use Rattle.laws_line.specs.WorkedPulls.{asked, pulled}
+
+-- RR with P=1 comes for the call control link of TEI 64: behind the UA to its SABME one answer waits, with F=1.
+poll_answered : (link_at 0 (hears (0x00 ∷ 0x81 ∷ 0x01 ∷ 0x01 ∷ []) both_up)).waiting
+    ≡ response (Ua true) ∷ response (ReceiveReady (seq 0) true) ∷ []
+unfolding seq distance_of named reading header_of control_of unnumbered_of supervisory_of teis.course teis.refusal
+poll_answered = refl
+
+-- An establishment is granted: SABME waits, and UA is awaited.
+abbrev establishing : Line
+establishing = asked (Establish Call 64) (asked (Assign 64) (fresh_line usual))
+
+establishment_waits : (link_at 0 establishing).waiting ≡ command (Sabme true) ∷ []
+unfolding teis.course teis.refusal
+establishment_waits = refl
+
+establishment_awaited : (link_at 0 establishing).state ≡ AwaitingEstablishment
+unfolding teis.course teis.refusal
+establishment_awaited = refl
+
+establishment_timed : (link_at 0 establishing).running ≡ Some T200
+unfolding teis.course teis.refusal
+establishment_timed = refl
+
+-- Own busy begins: RNR says so.
+busy_told : (link_at 0 (asked (SetBusy Call 64) both_up)).waiting ≡ response (Ua true) ∷ response (ReceiveNotReady (seq 0) false) ∷ []
+unfolding seq reading header_of control_of unnumbered_of supervisory_of teis.course teis.refusal
+busy_told = refl
+
+-- An I-frame is begun, and V(S) counts it; REJ with N(R) 0 takes V(S) back to 0.
+abbrev one_sent : Line
+one_sent = pulled 1 (asked (Data Call 64 (0x41 ∷ [])) (pulled 13 both_up))
+
+sent_counted : (link_at 0 one_sent).s ≡ 1
+unfolding after seq reading header_of control_of unnumbered_of teis.course teis.refusal low_bits pulled
+sent_counted = refl
+
+sent_again : (link_at 0 (hears (0x02 ∷ 0x81 ∷ 0x09 ∷ 0x00 ∷ []) one_sent)).s ≡ 0
+unfolding after seq distance_of named reading header_of control_of unnumbered_of supervisory_of teis.course teis.refusal low_bits pulled
+sent_again = refl
+
+-- A frame with an undefined control field comes for the call control link of TEI 64: by the tables, and on the line, SABME
+-- waits behind UA, and UA is awaited. An I-frame that is too long moves no link in state 4.
+undefined_waits : waiting_left (terms usual Call 64) (received undefined) (link_at 0 both_up) AwaitingEstablishment
+    ≡ response (Ua true) ∷ command (Sabme true) ∷ []
+unfolding seq distance_of named reading header_of control_of unnumbered_of supervisory_of teis.course teis.refusal
+undefined_waits = refl
+
+undefined_moves : state_after (terms usual Call 64) (received undefined) (link_at 0 both_up) ≡ AwaitingEstablishment
+unfolding seq distance_of named reading header_of control_of unnumbered_of supervisory_of teis.course teis.refusal
+undefined_moves = refl
+
+undefined_heard : (link_at 0 (hears (0x00 ∷ 0x81 ∷ 0x2F ∷ []) both_up)).waiting ≡ response (Ua true) ∷ command (Sabme true) ∷ []
+unfolding seq distance_of named reading header_of control_of unnumbered_of supervisory_of teis.course teis.refusal
+undefined_heard = refl
+
+none_moved : state_after (terms usual Call 64) (received overlong) (link_at 0 (asked (Assign 64) (fresh_line usual))) ≡ TeiAssigned
+unfolding teis.course teis.refusal
+none_moved = refl

@@ -1,0 +1,60 @@
+-- Worked values: what an answer notes as a TEI comes, as it leaves, and of an event of one of its links.
+use Rattle.std.specs.Prelude.{◌≡◌, [], ◌∷◌, ◌++◌, refl}
+use Rattle.lapd_bits.specs.Bits.{low_bits}
+use Rattle.lapd_frame.specs.declared.notes.ErrorCode.TheVariants as code
+use Rattle.lapd_frame.specs.declared.notes.Note.TheVariants.{Removed, ReleaseIndication, Error}
+use Rattle.lapd_frame.specs.declared.services.Service.TheVariants.{Call, Packet}
+use Rattle.lapd_frame.specs.declared.timers.Timer.TheVariants.{T201}
+use Rattle.lapd_frame.specs.Reading.{reading, header_of, control_of, unnumbered_of}
+use Rattle.lapd_seq.specs.Numbers.{seq}
+use Rattle.lapd_seq.specs.Circle.{distance_of, named}
+use Rattle.lapd_tei.specs.Events as teis
+use Rattle.model_link.specs.Events as link
+use Rattle.laws_link.specs.Telling.{told_by}
+use Rattle.model_line.specs.Answer.{octet, expiry, request}
+use Rattle.model_line.specs.Line.{Line, fresh_line, link_in, terms}
+use Rattle.model_line.specs.Machine.{after, answer}
+use Rattle.model_line.specs.Request.{Assign, Check, Remove}
+use Rattle.laws_line.specs.Heard.{notes_of}
+use Rattle.laws_line.specs.Noted.{noted_coming, noted_leaving, noted_ending}
+use Rattle.laws_line.specs.Worked.{usual, both_up}
+use Rattle.laws_line.specs.WorkedHeard.{before_undefined}
+use Rattle.laws_line.specs.WorkedMessages.{asking}
+use Rattle.laws_line.specs.WorkedPulls.{asked}
+
+-- TEI 64 comes as a terminal asks for one, and that is noted; where management puts it on the line, nothing is.
+came : notes_of (answer usual (octet 0x07) asking) ≡ noted_coming (octet 0x07) 64
+unfolding answer reading header_of control_of unnumbered_of teis.course teis.refusal low_bits
+came = refl
+
+came_unasked : notes_of (answer usual (request (Assign 64)) (fresh_line usual)) ≡ noted_coming (request (Assign 64)) 64
+unfolding answer teis.course teis.refusal
+came_unasked = refl
+
+-- Both of its links are up, and no terminal answers its check: that is noted, and the end of each link.
+abbrev unanswered : Line
+unanswered = after usual (expiry T201) (asked (Check 64) both_up)
+
+left : notes_of (answer usual (expiry T201) unanswered) ≡ Removed 64 ∷ ReleaseIndication Call 64 ∷ ReleaseIndication Packet 64 ∷ []
+unfolding after answer seq reading header_of control_of unnumbered_of teis.course teis.refusal
+left = refl
+
+left_by_table : noted_leaving (expiry T201) 64 ++ noted_ending usual unanswered Call 64 0 ++ noted_ending usual unanswered Packet 64 0
+    ≡ Removed 64 ∷ ReleaseIndication Call 64 ∷ ReleaseIndication Packet 64 ∷ []
+unfolding after seq reading header_of control_of unnumbered_of teis.course teis.refusal
+left_by_table = refl
+
+-- Where management takes it off, only the end of its links is noted.
+left_by_request : notes_of (answer usual (request (Remove 64)) both_up) ≡ ReleaseIndication Call 64 ∷ ReleaseIndication Packet 64 ∷ []
+unfolding answer seq reading header_of control_of unnumbered_of teis.course teis.refusal
+left_by_request = refl
+
+-- A frame with an undefined control field is told of its link as error L.
+undefined_told : notes_of (answer usual (octet 0xFC) before_undefined)
+    ≡ told_by (terms usual Call 64) (link.received link.undefined) (link_in before_undefined Call 0) (link_in (after usual (octet 0xFC) before_undefined) Call 0).state
+unfolding after answer seq distance_of named reading header_of control_of unnumbered_of teis.course teis.refusal low_bits
+undefined_told = refl
+
+as_error_L : notes_of (answer usual (octet 0xFC) before_undefined) ≡ Error Call 64 code.L ∷ []
+unfolding answer seq distance_of named reading header_of control_of unnumbered_of teis.course teis.refusal low_bits
+as_error_L = refl

@@ -1,0 +1,86 @@
+-- An I-frame is offered only where it may go; and with offers alone contents go one after the other.
+use Rattle.std.proofs.Common.{◌≡◌, ℕ, zero, suc, ◌+◌, ◌-◌, ◌<◌, Bool, true, false, cond, IsTrue, ◌&&◌, not, List, [], ◌∷◌, length, Option, Some, None, refl, sym, ap, ◌∙◌, subst, true≢false, arith}
+use Rattle.std.specs.Prelude.{All, IfSome, nat_lt}
+use Rattle.std.proofs.lemmas.Bool.{ltb-true, and_parts}
+use Rattle.std.proofs.lemmas.List.Elements.{All-head}
+use Rattle.model_link.specs.declared.states.State.{State}
+use Rattle.model_link.specs.declared.states.State.TheVariants.{TeiAssigned, AwaitingEstablishment, AwaitingRelease, Established, TimerRecovery}
+use Rattle.model_link.specs.declared.frames.ControlFrame.{ControlFrame}
+use Rattle.model_link.specs.declared.timers.LinkTimer.TheVariants.{T200}
+use Rattle.model_link.specs.declared.terms.Terms.{Terms}
+use Rattle.model_link.specs.Link.{Link, outstanding}
+use Rattle.model_link.specs.Events as events
+use Rattle.model_link.specs.Machine.{course, after, given, given_of}
+use Rattle.model_link.specs.Offers
+use Rattle.model_link.specs.Sound.{IsInRange, IsSound, IsWaitingFrame, is_information}
+use Rattle.model_link.specs.Steps.{Course, Sent, begun, ◌then◌, changed}
+use Rattle.model_link.specs.Words
+use Rattle.model_link.proofs.SoundEvents.{sound-after}
+use Rattle.laws_link.specs.Offered.{IsOffered, is_i_frame, i_frames}
+use Rattle.laws_link.specs.Sending.{MayGo, offered, i_frames_offered}
+use Rattle.laws_link.proofs.Offering.{given-is-offered, offer-leaves, offer-counts}
+
+in-state-7 : (state : State) → Offers.is_established state ≡ true → state ≡ Established
+in-state-7 TeiAssigned e = absurd (true≢false (sym e))
+in-state-7 AwaitingEstablishment e = absurd (true≢false (sym e))
+in-state-7 AwaitingRelease e = absurd (true≢false (sym e))
+in-state-7 Established e = refl
+in-state-7 TimerRecovery e = absurd (true≢false (sym e))
+
+off : (b : Bool) → not b ≡ true → b ≡ false
+off true e = absurd (true≢false (sym e))
+off false e = refl
+
+module _ (t : Terms) (l : Link) (h : IsSound t l) where
+  pub may-go : Offers.may_send_information t l ≡ true → MayGo t l
+  may-go e =
+      let some = and_parts (Offers.is_established l.state && not l.peer_busy && nat_lt (outstanding l) t.k) (nat_lt l.s (length l.contents)) e in
+      let fewer = and_parts (Offers.is_established l.state && not l.peer_busy) (nat_lt (outstanding l) t.k) some.0 in
+      let free = and_parts (Offers.is_established l.state) (not l.peer_busy) fewer.0 in
+      let fewer_out : l.s - l.a < t.k = ltb-true (l.s - l.a) t.k fewer.1 in
+      record {
+        state = in-state-7 l.state free.0;
+        free = off l.peer_busy free.1;
+        window = omega (arith, fewer_out);
+        unsent = ltb-true l.s (length l.contents) some.1;
+      }
+
+  abbrev May : Course → Type 0
+  May c = IfSome c.sent (λ s. IsTrue (is_information s.frame.control) → MayGo t l)
+
+  tested : (b : Bool) → Offers.may_send_information t l ≡ b → (u v : Course) → (b ≡ true → May u) → May v → May (cond b u v)
+  tested true e u v x y = x refl
+  tested false e u v x y = y
+
+  choose : (b : Bool) (u v : Course) → May u → May v → May (cond b u v)
+  choose true u v x y = x
+  choose false u v x y = y
+
+  offering : (ws : List ControlFrame) → All (IsWaitingFrame t) ws → May (Offers.offer_among t ws (begun l))
+  offering (f ∷ fs) frames = λ is. absurd (true≢false (sym is ∙ (All-head (IsWaitingFrame t) f fs frames).without_contents))
+  offering [] frames =
+      let one_more = (Offers.give_information then changed Offers.with_one_sent then Words.pending_is false) (begun l) in
+      tested (Offers.may_send_information t l) refl _ _
+      (λ e. choose (Offers.is_awaiting_acknowledgement one_more.link) one_more (Words.start T200 one_more) (λ is. may-go e) (λ is. may-go e))
+      (choose l.pending _ _ (λ is. absurd (true≢false (sym is))) tt)
+
+  from-sent : (c : Course) (o : Option Sent) → IfSome o (λ s. IsTrue (is_information s.frame.control) → MayGo t l)
+      → IfSome (given_of t l c o) (λ g. IsTrue (is_i_frame g) → MayGo t l)
+  from-sent c None x = tt
+  from-sent c (Some s) x = x
+
+  pub given-may-go : IfSome (given t l) (λ g. IsTrue (is_i_frame g) → MayGo t l)
+  given-may-go = from-sent (course t events.offer l) (course t events.offer l).sent (offering l.waiting h.frames)
+
+-- after any number of offers
+pub offered-in-order : (t : Terms) → IsInRange t → (m : ℕ) (l : Link) → IsSound t l
+    → IfSome (given t (offered t m l)) (λ g. IsOffered l.contents (l.s + i_frames_offered t m l) g.frame g.contents)
+unfolding offered i_frames_offered
+offered-in-order t r zero l h = subst (λ j. IfSome (given t l) (λ g. IsOffered l.contents j g.frame g.contents)) (omega arith) (given-is-offered t l h)
+offered-in-order t r (suc m) l h =
+    let next = after t events.offer l in
+    let rest = offered-in-order t r m next (sound-after t r events.offer l h) in
+    let at : next.s + i_frames_offered t m next ≡ l.s + (i_frames t events.offer l + i_frames_offered t m next) =
+    ap (λ s. s + i_frames_offered t m next) (offer-counts t l h) ∙ omega arith in
+    subst (λ j. IfSome (given t (offered t m next)) (λ g. IsOffered l.contents j g.frame g.contents)) at
+    (subst (λ xs. IfSome (given t (offered t m next)) (λ g. IsOffered xs (next.s + i_frames_offered t m next) g.frame g.contents)) (offer-leaves t l).contents rest)

@@ -1,0 +1,82 @@
+-- What is told where the numbers begin anew.
+use Rattle.std.proofs.Common.{◌≡◌, ℕ, Bool, true, false, cond, List, refl, ◌⊎◌, inl, inr, sym, true≢false}
+use Rattle.std.specs.List.{list_any}
+use Rattle.lapd_frame.specs.declared.controls.Control.{Control}
+use Rattle.lapd_frame.specs.declared.controls.Control.TheVariants.{Information, ReceiveReady, ReceiveNotReady, Reject, Sabme, Disc, Ui, Ua, Dm, Frmr, Xid}
+use Rattle.lapd_frame.specs.declared.notes.ErrorCode.TheVariants as code
+use Rattle.model_link.specs.declared.states.State.{State}
+use Rattle.model_link.specs.declared.states.State.TheVariants.{TeiAssigned, AwaitingEstablishment, AwaitingRelease, Established, TimerRecovery}
+use Rattle.model_link.specs.declared.terms.Terms.{Terms}
+use Rattle.model_link.specs.Link.{Link, has_outstanding}
+use Rattle.model_link.specs.Deliveries.{restarts, MayEstablish, Establishes}
+use Rattle.model_link.specs.Events
+use Rattle.model_link.specs.Steps.{Course, begun, ◌then◌}
+use Rattle.model_link.specs.Words
+use Rattle.model_link.specs.Machine
+use Rattle.model_link.proofs.Restarts.{establishes}
+use Rattle.laws_link.specs.Beginning.{tells_beginning, IsSeen}
+
+abbrev Tells : Course → Type 0
+Tells c = list_any tells_beginning c.notes ≡ true
+
+either : (b : Bool) (u v : Course) → Tells u → Tells v → Tells (cond b u v)
+either true u v x y = x
+either false u v x y = y
+
+module _ (t : Terms) (l : Link) where
+  -- of a frame: a note, or it ends an establishment that this side began itself
+  abbrev Seen : Course → Type 0
+  Seen c = Tells c ⊎ ((l.state ≡ AwaitingEstablishment) × (l.asked ≡ false))
+
+  abbrev from-7-8 : Bool → Course
+  from-7-8 p = (Words.send t (Words.response (Ua p)) then Words.clear_flags then Words.error t code.F) (begun l)
+
+  by-sabme : (here : State) (b p : Bool) (octets : List ℕ) → (Machine.frame_in here t b octets (Sabme p) (begun l)).zeroed ≡ true
+      → Tells (Machine.frame_in here t b octets (Sabme p) (begun l))
+  by-sabme TeiAssigned b p octets e = refl
+  by-sabme AwaitingEstablishment b p octets e = absurd (true≢false (sym e))
+  by-sabme AwaitingRelease b p octets e = absurd (true≢false (sym e))
+  by-sabme Established b p octets e =
+      either (has_outstanding (from-7-8 p).link) ((Words.discard then Words.establish_indication t) (from-7-8 p)) (from-7-8 p) refl refl
+  by-sabme TimerRecovery b p octets e =
+      either (has_outstanding (from-7-8 p).link) ((Words.discard then Words.establish_indication t) (from-7-8 p)) (from-7-8 p) refl refl
+
+  asked-for : l.state ≡ AwaitingEstablishment → (asked : Bool) → l.asked ≡ asked → (u v : Course) → Tells u → Seen (cond asked u v)
+  asked-for e true is u v x = inl x
+  asked-for e false is u v x = inr (e, is)
+
+  by-ua : (here : State) → l.state ≡ here → (b : Bool) (octets : List ℕ) → (Machine.frame_in here t b octets (Ua true) (begun l)).zeroed ≡ true
+      → Seen (Machine.frame_in here t b octets (Ua true) (begun l))
+  by-ua TeiAssigned is b octets e = absurd (true≢false (sym e))
+  by-ua AwaitingEstablishment is b octets e = asked-for is l.asked refl (Words.establish_confirm t (begun l)) _ refl
+  by-ua AwaitingRelease is b octets e = absurd (true≢false (sym e))
+  by-ua Established is b octets e = absurd (true≢false (sym e))
+  by-ua TimerRecovery is b octets e = absurd (true≢false (sym e))
+
+  frames : (b : Bool) (octets : List ℕ) (control : Control) → MayEstablish control → (Machine.frame_step t b octets control (begun l)).zeroed ≡ true
+      → Seen (Machine.frame_step t b octets control (begun l))
+  frames b octets (Sabme p) by e = inl (by-sabme l.state b p octets e)
+  frames b octets (Ua true) by e = by-ua l.state refl b octets e
+  frames b octets (Ua false) by e = absurd by
+  frames b octets (Information ns nr p) by e = absurd by
+  frames b octets (ReceiveReady nr pf) by e = absurd by
+  frames b octets (ReceiveNotReady nr pf) by e = absurd by
+  frames b octets (Reject nr pf) by e = absurd by
+  frames b octets (Disc p) by e = absurd by
+  frames b octets (Ui p) by e = absurd by
+  frames b octets (Dm f) by e = absurd by
+  frames b octets (Frmr f) by e = absurd by
+  frames b octets (Xid pf) by e = absurd by
+
+  by-event : (e : Events.Event) → Establishes e (Machine.after t e l) → restarts t e l ≡ true → IsSeen e l (Machine.told t e l).notes
+  by-event (Events.received (Events.frame f)) h is = inr (frames f.address.command f.info f.control h.by is)
+  by-event (Events.received Events.undefined) h is = absurd h
+  by-event (Events.received Events.wrong_size) h is = absurd h
+  by-event (Events.received Events.overlong) h is = absurd h
+  by-event (Events.expired timer) h is = absurd h
+  by-event (Events.requested request full) h is = absurd h
+  by-event Events.offer h is = absurd h
+  by-event Events.cleared h is = inl refl
+
+  pub beginning-seen : (e : Events.Event) → restarts t e l ≡ true → IsSeen e l (Machine.told t e l).notes
+  beginning-seen e is = by-event e (establishes t l e is) is

@@ -1,0 +1,129 @@
+-- What an event leaves of a link, row by row of the tables.
+use Rattle.std.proofs.Common.{◌≡◌, ℕ, ◌+◌, Bool, true, false, cond, not, ◌||◌, List, [], ◌∷◌, ◌++◌, length, drop, Option, None, Some, is_some, refl}
+use Rattle.std.specs.Prelude.{nat_lt}
+use Rattle.lapd_frame.specs.declared.controls.Control.{Control}
+use Rattle.lapd_frame.specs.declared.notes.Note.{Note}
+use Rattle.lapd_frame.specs.declared.notes.Note.TheVariants as said
+use Rattle.lapd_frame.specs.declared.notes.ErrorCode.TheVariants as code
+use Rattle.lapd_frame.specs.Grammar.{Parts}
+use Rattle.model_link.specs.declared.states.State.{State}
+use Rattle.model_link.specs.declared.states.State.TheVariants.{AwaitingEstablishment}
+use Rattle.model_link.specs.declared.timers.LinkTimer.{LinkTimer}
+use Rattle.model_link.specs.declared.frames.ControlFrame.{ControlFrame}
+use Rattle.model_link.specs.declared.terms.Terms.{Terms}
+use Rattle.model_link.specs.Link.{Link}
+use Rattle.model_link.specs.Events
+use Rattle.model_link.specs.Steps.{Course, begun, Step, ◌then◌}
+use Rattle.model_link.specs.Words
+use Rattle.model_link.specs.Machine
+use Rattle.laws_link.specs.States.{as_heard, state_after, numbers_begin}
+use Rattle.laws_link.specs.Waiting.{answers, commands}
+use Rattle.laws_link.specs.Flags.{peer_busy_left, own_busy_left, flag_left, rejecting_heard, takes, unless_put, owed_in, owed_behind, asked_left, repeats_left}
+use Rattle.laws_link.specs.Telling.{told_with}
+
+-- What a course leaves: fields of its link, how many frames were lost, and whether the numbers begin.
+pub record Left : Type 0 where
+  pub state : State
+  pub waiting : List ControlFrame
+  pub notes : List Note
+  pub lost : ℕ
+  pub peer_busy : Bool
+  pub own_busy : Bool
+  pub rejecting : Bool
+  pub pending : Bool
+  pub asked : Bool
+  pub repeats : ℕ
+  pub zeroed : Bool
+
+abbrev pub left : Course → Left
+left c = record {
+  state = c.link.state;
+  waiting = c.link.waiting;
+  notes = c.notes;
+  lost = c.lost;
+  peer_busy = c.link.peer_busy;
+  own_busy = c.link.own_busy;
+  rejecting = c.link.rejecting;
+  pending = c.link.pending;
+  asked = c.link.asked;
+  repeats = c.link.repeats;
+  zeroed = c.zeroed;
+}
+
+-- Frames that are put one after the other, and how many of them are lost.
+abbrev pub queued : ℕ → List ControlFrame → List ControlFrame → List ControlFrame
+queued most ws [] = ws
+queued most ws (f ∷ fs) = queued most (cond (nat_lt (length ws) most) (ws ++ f ∷ []) ws) fs
+
+abbrev pub unplaced : ℕ → List ControlFrame → ℕ → List ControlFrame → ℕ
+unplaced most ws n [] = n
+unplaced most ws n (f ∷ fs) =
+    unplaced most (cond (nat_lt (length ws) most) (ws ++ f ∷ []) ws) (cond {A = ℕ} (nat_lt (length ws) most) n (n + 1)) fs
+
+abbrev pub queued_by : Terms → Events.Event → Link → List ControlFrame → List ControlFrame
+queued_by t Events.offer l fs = drop 1 l.waiting
+queued_by t Events.cleared l fs = []
+queued_by t other l fs = queued t.control l.waiting fs
+
+abbrev pub owed_by : Events.Event → Link → State → List ControlFrame → Bool → Bool
+owed_by Events.offer l to fs takes = owed_behind l.waiting l.pending
+owed_by other l to fs takes = flag_left other l to (owed_in to (unless_put fs (takes || l.pending))) l.pending
+
+-- What the definitions say that it leaves, by the answers to it and what it says of REJ and of an I-frame that is taken.
+abbrev pub due_by : Terms → Events.Event → Link → List ControlFrame → Bool → Bool → State → Left
+due_by t e l answers rejecting takes to = record {
+  state = to;
+  waiting = queued_by t e l (answers ++ commands e l to);
+  notes = told_with t e takes l to;
+  lost = unplaced t.control l.waiting 0 (answers ++ commands e l to);
+  peer_busy = peer_busy_left e l to;
+  own_busy = own_busy_left e l to;
+  rejecting = flag_left e l to rejecting l.rejecting;
+  pending = owed_by e l to (answers ++ commands e l to) takes;
+  asked = asked_left e l to;
+  repeats = repeats_left e l to;
+  zeroed = numbers_begin e l.state to;
+}
+
+abbrev pub due : Terms → Events.Event → Link → State → Left
+due t e l to = due_by t e l (answers e l) (rejecting_heard e l) (takes e l) to
+
+abbrev pub at : State → Link → Link
+at here l = record l { state = here }
+
+abbrev pub at-busy : State → Bool → Bool → Link → Link
+at-busy here own rej l = record l { state = here; own_busy = own; rejecting = rej }
+
+abbrev pub at-running : State → Option LinkTimer → Link → Link
+at-running here o l = record l { state = here; running = o }
+
+abbrev pub at-waiting : State → List ControlFrame → Bool → Link → Link
+at-waiting here ws owed l = record l { state = here; waiting = ws; pending = owed }
+
+abbrev pub hears : Parts → Bool → Control → Events.Event
+hears f b control = Events.received (Events.frame (record f { address = record f.address { command = b }; control = control }))
+
+module _ (t : Terms) where
+  -- The event leaves what is due in the state to which the table leads.
+  abbrev pub Row : Events.Event → Link → Type 0
+  Row e l = left (Machine.course t e l) ≡ due t (as_heard t e) l (state_after t (as_heard t e) l)
+
+  pub chosen : (b : Bool) (u v c : Course) → left u ≡ left c → left v ≡ left c → left (cond b u v) ≡ left c
+  chosen true u v c x y = x
+  chosen false u v c x y = y
+
+  pub unit-left : (octets : List ℕ) (l : Link)
+      → left (Words.unit_data t octets (begun l)) ≡ record (left (begun l)) { notes = cond (nat_lt t.n201 (length octets)) [] (said.Unit t.service t.tei ∷ []) }
+  unit-left octets l = go (nat_lt t.n201 (length octets))
+    where
+      go : (over : Bool) → left (cond over (Words.leave_unserved (begun l)) (Words.deliver_unit t octets (begun l)))
+          ≡ record (left (begun l)) { notes = cond over [] (said.Unit t.service t.tei ∷ []) }
+      go true = refl
+      go false = refl
+
+  -- An N(R) that is valid, or not.
+  pub by-named : (D : State → Left) (c : Course) (f : ℕ → Step) (o : Option ℕ) (to : State)
+      → left ((Words.error t code.J then Words.re_establish t) c) ≡ D AwaitingEstablishment → ((n : ℕ) → left (f n c) ≡ D to)
+      → left (elim o [ None ↦ (Words.error t code.J then Words.re_establish t) c | Some n ↦ f n c ]) ≡ D (cond (not (is_some o)) AwaitingEstablishment to)
+  by-named D c f None to x y = x
+  by-named D c f (Some n) to x y = y n

@@ -1,0 +1,38 @@
+-- What a link keeps, and the contents that were accepted since its numbers began.
+use Rattle.std.proofs.Common.{◌≡◌, ℕ, List, [], ◌∷◌, refl, ap, ◌∙◌}
+use Rattle.model_link.specs.declared.terms.Terms.{Terms}
+use Rattle.model_link.specs.Link.{Link, fresh}
+use Rattle.model_link.specs.Events.{Event}
+use Rattle.model_link.specs.Machine.{after, after_all}
+use Rattle.model_link.specs.Sound.{IsInRange, IsSound}
+use Rattle.model_link.proofs.SoundEvents.{sound-after, sound-fresh}
+use Rattle.laws_link.specs.History.{Share, share, History, nothing_yet, with_share, with_all, IsKept, IsCounted}
+use Rattle.laws_link.proofs.Keeping.{Comes, event-done}
+
+pub kept-after : (t : Terms) (e : Event) (l : Link) → IsSound t l → IsKept (share t e l) l (after t e l)
+kept-after t e l s = (event-done t l s e).comes.kept
+
+-- over plain values
+pub counted : (share : Share) (all all' : List (List ℕ)) (a a' : ℕ) (h : History) → all ≡ h.accepted → a ≡ h.acknowledged → Comes share all a all' a'
+    → (all' ≡ (with_share h share).accepted) × (a' ≡ (with_share h share).acknowledged)
+counted share all all' a a' h e e' c =
+    let same : record { accepted = all; acknowledged = a } ≡ h = ap (λ xs. record { accepted = xs; acknowledged = a }) e ∙ ap (λ n. record { accepted = h.accepted; acknowledged = n }) e' in
+    (c.contents ∙ ap (λ (x : History). (with_share x share).accepted) same, c.acknowledged ∙ ap (λ (x : History). (with_share x share).acknowledged) same)
+
+pub counted-after : (t : Terms) (e : Event) (l : Link) (h : History) → IsSound t l → IsCounted h l → IsCounted (with_share h (share t e l)) (after t e l)
+counted-after t e l h s is =
+    let x = counted (share t e l) l.contents (after t e l).contents l.a (after t e l).a h is.accepted is.acknowledged (event-done t l s e).comes in
+    record { accepted = x.0; acknowledged = x.1 }
+
+pub counted-fresh : IsCounted nothing_yet fresh
+counted-fresh = record { accepted = refl; acknowledged = refl }
+
+pub counted-all : (t : Terms) → IsInRange t → (es : List Event) (l : Link) (h : History) → IsSound t l → IsCounted h l
+    → IsCounted (with_all t es l h) (after_all t es l)
+unfolding with_all after_all
+counted-all t r [] l h s is = is
+counted-all t r (e ∷ es) l h s is =
+    counted-all t r es (after t e l) (with_share h (share t e l)) (sound-after t r e l s) (counted-after t e l h s is)
+
+pub counted-always : (t : Terms) (es : List Event) → IsInRange t → IsCounted (with_all t es fresh nothing_yet) (after_all t es fresh)
+counted-always t es r = counted-all t r es fresh nothing_yet (sound-fresh t r) counted-fresh

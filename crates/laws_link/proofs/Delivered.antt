@@ -1,0 +1,51 @@
+-- What is delivered is the information of the I-frame that was heard.
+use Rattle.std.proofs.Common.{◌≡◌, ℕ, ◌<◌, ◌≤◌, Bool, true, false, cond, not, List, Some, None, ap, ◌∙◌, arith}
+use Rattle.std.specs.Prelude.{nat_lt, nat_le}
+use Rattle.std.proofs.lemmas.Bool.{ltb-true, ltb-false, leb-true, leb-false, false_from_ne_true, true_from_ne_false}
+use Rattle.lapd_frame.specs.declared.controls.Control.{Control}
+use Rattle.lapd_frame.specs.declared.controls.Control.TheVariants.{Information, ReceiveReady, ReceiveNotReady, Reject, Sabme, Disc, Ui, Ua, Dm, Frmr, Xid}
+use Rattle.model_link.specs.declared.terms.Terms.{Terms}
+use Rattle.model_link.specs.Link.{Link}
+use Rattle.model_link.specs.Deliveries.{Arrived, information_of, information_in, is_eligible, eligible_of}
+use Rattle.model_link.specs.Events
+use Rattle.model_link.specs.Machine.{told}
+use Rattle.model_link.proofs.Numbering.{delivered-at_once}
+use Rattle.laws_link.specs.Heard.{in_i_frame, contents_heard}
+
+module _ (t : Terms) (l : Link) where
+  from-eligible : (b : Bool) (i j : Arrived) → cond b (Some i) None ≡ Some j → Some i.contents ≡ Some j.contents
+  from-eligible true i j e = let same : i ≡ j = cc in ap (λ (x : Arrived). Some x.contents) same
+  from-eligible false i j e = absurd (cc)
+
+  in-frame : (control : Control) (octets : List ℕ) (i : Arrived) → eligible_of t l (information_of control octets) ≡ Some i → in_i_frame control octets ≡ Some i.contents
+  in-frame (Information ns nr p) octets i e = from-eligible (is_eligible t l (record { ns = ns; contents = octets })) (record { ns = ns; contents = octets }) i e
+  in-frame (ReceiveReady nr pf) octets i e = absurd (cc)
+  in-frame (ReceiveNotReady nr pf) octets i e = absurd (cc)
+  in-frame (Reject nr pf) octets i e = absurd (cc)
+  in-frame (Sabme p) octets i e = absurd (cc)
+  in-frame (Disc p) octets i e = absurd (cc)
+  in-frame (Ui p) octets i e = absurd (cc)
+  in-frame (Ua f) octets i e = absurd (cc)
+  in-frame (Dm f) octets i e = absurd (cc)
+  in-frame (Frmr f) octets i e = absurd (cc)
+  in-frame (Xid pf) octets i e = absurd (cc)
+
+  heard : (e : Events.Event) (i : Arrived) → eligible_of t l (information_in e) ≡ Some i → contents_heard e ≡ Some i.contents
+  heard (Events.received (Events.frame f)) i e = in-frame f.control f.info i e
+  heard (Events.received Events.undefined) i e = absurd (cc)
+  heard (Events.received Events.wrong_size) i e = absurd (cc)
+  heard (Events.received Events.overlong) i e = absurd (cc)
+  heard (Events.expired timer) i e = absurd (cc)
+  heard (Events.requested request full) i e = absurd (cc)
+  heard Events.offer i e = absurd (cc)
+  heard Events.cleared i e = absurd (cc)
+
+  pub delivered-was-heard : (e : Events.Event) (contents : List ℕ) → (told t e l).delivered ≡ Some contents → contents_heard e ≡ Some contents
+  delivered-was-heard e contents d =
+      let x = delivered-at_once t e l contents d in
+      heard e x.0 x.1 ∙ ap (λ o. Some o) x.2
+
+-- at most N201 octets, or over
+pub not-over : (b : Bool) (n m : ℕ) → nat_lt n m ≡ b → nat_le m n ≡ not b
+not-over true n m e = false_from_ne_true (nat_le m n) (λ h. let one : n < m = ltb-true n m e in let two : m ≤ n = leb-true m n h in absurd (omega arith))
+not-over false n m e = true_from_ne_false (nat_le m n) (λ h. let one : m ≤ n = ltb-false n m e in let two : n < m = leb-false m n h in absurd (omega arith))

@@ -1,0 +1,64 @@
+-- What follows an event, from what it leaves.
+use Rattle.std.proofs.Common.{◌≡◌, ℕ, Bool, List, refl, ap, sym, ◌∙◌, subst}
+use Rattle.lapd_frame.specs.declared.notes.Note.{Note}
+use Rattle.model_link.specs.declared.states.State.{State}
+use Rattle.model_link.specs.declared.frames.ControlFrame.{ControlFrame}
+use Rattle.model_link.specs.declared.terms.Terms.{Terms}
+use Rattle.model_link.specs.Deliveries.{restarts}
+use Rattle.model_link.specs.Link.{Link}
+use Rattle.model_link.specs.Events
+use Rattle.model_link.specs.Machine.{after, told}
+use Rattle.laws_link.specs.Following.{Follows}
+use Rattle.laws_link.specs.States.{as_heard, state_after, numbers_begin}
+use Rattle.laws_link.specs.Waiting.{put, waiting_left, lost_by}
+use Rattle.laws_link.specs.Flags.{peer_busy_left, own_busy_left, rejecting_left, takes, pending_left, asked_left, repeats_left}
+use Rattle.laws_link.specs.Telling.{told_by}
+use Rattle.laws_link.proofs.Columns.{Left, queued_by, owed_by}
+use Rattle.laws_link.proofs.Placing.{placed}
+use Rattle.laws_link.proofs.EachRow.{each-row}
+
+waiting-is : (t : Terms) (e : Events.Event) (l : Link) (to : State) → queued_by t e l (put e l to) ≡ waiting_left t e l to
+waiting-is t (Events.received r) l to = (placed t.control (put (Events.received r) l to) l.waiting).0
+waiting-is t (Events.expired timer) l to = (placed t.control (put (Events.expired timer) l to) l.waiting).0
+waiting-is t (Events.requested request full) l to = (placed t.control (put (Events.requested request full) l to) l.waiting).0
+waiting-is t Events.offer l to = refl
+waiting-is t Events.cleared l to = refl
+
+pending-is : (e : Events.Event) (l : Link) (to : State) → owed_by e l to (put e l to) (takes e l) ≡ pending_left e l to
+pending-is (Events.received r) l to = refl
+pending-is (Events.expired timer) l to = refl
+pending-is (Events.requested request full) l to = refl
+pending-is Events.offer l to = refl
+pending-is Events.cleared l to = refl
+
+module _ (t : Terms) (e : Events.Event) (l : Link) where
+  abbrev heard : Events.Event
+  heard = as_heard t e
+
+  leads : (after t e l).state ≡ state_after t heard l
+  leads = ap (λ (x : Left). x.state) (each-row t e l)
+
+  by-its-state : (A : Type 0) (x : A) (column : State → A) → x ≡ column (state_after t heard l) → x ≡ column (after t e l).state
+  by-its-state A x column h = subst (λ s. x ≡ column s) (sym leads) h
+
+  pub event-follows : Follows t e l (after t e l) (told t e l).notes (told t e l).lost
+  event-follows =
+      let row = each-row t e l in
+      record {
+        leaves = record {
+          state = leads;
+          waiting = by-its-state (List ControlFrame) (after t e l).waiting (λ s. waiting_left t heard l s)
+              (ap (λ (x : Left). x.waiting) row ∙ waiting-is t heard l (state_after t heard l));
+          tells = by-its-state (List Note) (told t e l).notes (λ s. told_by t heard l s) (ap (λ (x : Left). x.notes) row);
+          lost_is = by-its-state ℕ (told t e l).lost (λ s. lost_by t heard l s)
+              (ap (λ (x : Left). x.lost) row ∙ (placed t.control (put heard l (state_after t heard l)) l.waiting).1);
+          peer_busy = by-its-state Bool (after t e l).peer_busy (λ s. peer_busy_left heard l s) (ap (λ (x : Left). x.peer_busy) row);
+          own_busy = by-its-state Bool (after t e l).own_busy (λ s. own_busy_left heard l s) (ap (λ (x : Left). x.own_busy) row);
+          rejecting = by-its-state Bool (after t e l).rejecting (λ s. rejecting_left heard l s) (ap (λ (x : Left). x.rejecting) row);
+          pending = by-its-state Bool (after t e l).pending (λ s. pending_left heard l s)
+              (ap (λ (x : Left). x.pending) row ∙ pending-is heard l (state_after t heard l));
+          asked = by-its-state Bool (after t e l).asked (λ s. asked_left heard l s) (ap (λ (x : Left). x.asked) row);
+          repeats = by-its-state ℕ (after t e l).repeats (λ s. repeats_left heard l s) (ap (λ (x : Left). x.repeats) row);
+        };
+        numbers = by-its-state Bool (restarts t e l) (λ s. numbers_begin heard l.state s) (ap (λ (x : Left). x.zeroed) row);
+      }

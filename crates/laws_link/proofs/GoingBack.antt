@@ -1,0 +1,121 @@
+-- From where a link sends again.
+use Rattle.std.proofs.Common.{◌≡◌, ℕ, Bool, true, false, List, Option, Some, None, refl, sym, ap, ◌∙◌, subst}
+use Rattle.lapd_seq.specs.declared.numbers.Seq.{Seq}
+use Rattle.lapd_seq.specs.Circle.{named}
+use Rattle.lapd_frame.specs.declared.controls.Control.{Control}
+use Rattle.lapd_frame.specs.declared.controls.Control.TheVariants.{Information, ReceiveReady, ReceiveNotReady, Reject, Sabme, Disc, Ui, Ua, Dm, Frmr, Xid}
+use Rattle.lapd_frame.specs.declared.notes.ErrorCode.TheVariants as code
+use Rattle.lapd_frame.specs.declared.notes.Note.{Note}
+use Rattle.model_link.specs.declared.states.State.{State}
+use Rattle.model_link.specs.declared.states.State.TheVariants.{TeiAssigned, AwaitingEstablishment, AwaitingRelease, Established, TimerRecovery}
+use Rattle.model_link.specs.declared.timers.LinkTimer.{LinkTimer}
+use Rattle.model_link.specs.declared.timers.LinkTimer.TheVariants.{T200, T203}
+use Rattle.model_link.specs.declared.terms.Terms.{Terms}
+use Rattle.model_link.specs.Link.{Link}
+use Rattle.model_link.specs.Steps.{Course, begun, Step, ◌then◌}
+use Rattle.model_link.specs.Words
+use Rattle.model_link.specs.MultipleFrame
+use Rattle.model_link.specs.Established
+use Rattle.model_link.specs.TimerRecovery
+use Rattle.model_link.specs.Machine
+use Rattle.model_link.proofs.Leads.{Leads, keeping_then, nothing_leads, depending_leads, bit_leads}
+use Rattle.laws_link.specs.Sending.{asked_from, reported, GoesBackTo}
+
+-- The link as it is before its N(R) has its effect.
+record Still (l : Link) (c : Course) : Type 0 where
+  state : c.link.state ≡ l.state
+  contents : c.link.contents ≡ l.contents
+  a : c.link.a ≡ l.a
+  s : c.link.s ≡ l.s
+
+module _ (l : Link) where
+  note_still : (n : Note) → Leads (Still l) (Words.note n) (Still l)
+  note_still n = record { leads = λ c h. record { state = h.state; contents = h.contents; a = h.a; s = h.s } }
+
+  peer_busy_still : (b : Bool) → Leads (Still l) (Words.peer_busy_is b) (Still l)
+  peer_busy_still b = record { leads = λ c h. record { state = h.state; contents = h.contents; a = h.a; s = h.s } }
+
+  answer_still : (t : Terms) → Leads (Still l) (Words.answer t) (Still l)
+  answer_still t = record { leads = λ c h. record { state = h.state; contents = h.contents; a = h.a; s = h.s } }
+
+  begins : Still l (begun l)
+  begins = record { state = refl; contents = refl; a = refl; s = refl }
+
+ruleset words = (keeping_then, nothing_leads, depending_leads, bit_leads, note_still, peer_busy_still, answer_still)
+
+module _ (t : Terms) (l : Link) (nr : Seq) (n : ℕ) (valid : named l.a l.s nr ≡ Some n) where
+  abbrev Back : Course → Type 0
+  Back c = GoesBackTo n l c.link
+
+  abbrev effect : (ℕ → Step) → Course → Option ℕ → Course
+  effect f c o = elim o [ None ↦ (Words.error t code.J then Words.re_establish t) c | Some m ↦ f m c ]
+
+  by-number : (f : ℕ → Step) → ((c : Course) → Still l c → Back (f n c)) → (c : Course) → Still l c → Back (Words.by_number t nr f c)
+  by-number f x c h =
+      let same : named c.link.a c.link.s nr ≡ Some n = ap (λ a. named a c.link.s nr) h.a ∙ ap (λ s. named l.a s nr) h.s ∙ valid in
+      subst (λ o. Back (effect f c o)) (sym same) (x c h)
+
+  rejected-7 : l.state ≡ Established → (c : Course) → Still l c → Back (Established.acknowledged_by_rej_in_7 n c)
+  rejected-7 e c h = record { state = h.state ∙ e; contents = h.contents; acknowledged = refl; sent = refl }
+
+  reported-8 : (timer : LinkTimer) (c : Course) → Still l c → Back (TimerRecovery.acknowledged_in_8 timer true n c)
+  reported-8 timer c h = record { state = refl; contents = h.contents; acknowledged = refl; sent = refl }
+
+  before-7 : (command pf : Bool) → Leads (Still l) (Words.peer_busy_is false then MultipleFrame.answered t command pf then Established.unsolicited t (MultipleFrame.is_final command pf)) (Still l)
+  before-7 command pf = search words depth 12 fits 4000
+
+  in-7 : l.state ≡ Established → (command : Bool) (octets : List ℕ) (pf : Bool) → Back (Established.frame_in_7 t command octets (Reject nr pf) (begun l))
+  in-7 e command octets pf = by-number Established.acknowledged_by_rej_in_7 (rejected-7 e) _ ((before-7 command pf).leads (begun l) (begins l))
+
+  in-8 : (busy : Bool) (timer : LinkTimer) → Back ((Words.peer_busy_is busy then Words.by_number t nr (TimerRecovery.acknowledged_in_8 timer true)) (begun l))
+  in-8 busy timer = by-number (TimerRecovery.acknowledged_in_8 timer true) (reported-8 timer) _ ((peer_busy_still l busy).leads (begun l) (begins l))
+
+  same-number : (m : Seq) (P : Seq → Type 0) → Some m ≡ Some nr → P nr → P m
+  same-number m P e x = let same : m ≡ nr = cc in subst P (sym same) x
+
+  frames-7 : l.state ≡ Established → (command : Bool) (octets : List ℕ) (control : Control) → asked_from Established command control ≡ Some nr
+      → Back (Machine.frame_in Established t command octets control (begun l))
+  frames-7 e command octets (Reject m pf) is = same-number m (λ x. Back (Established.frame_in_7 t command octets (Reject x pf) (begun l))) is (in-7 e command octets pf)
+  frames-7 e command octets (Information ns m p) is = absurd (cc)
+  frames-7 e command octets (ReceiveReady m pf) is = absurd (cc)
+  frames-7 e command octets (ReceiveNotReady m pf) is = absurd (cc)
+  frames-7 e command octets (Sabme p) is = absurd (cc)
+  frames-7 e command octets (Disc p) is = absurd (cc)
+  frames-7 e command octets (Ui p) is = absurd (cc)
+  frames-7 e command octets (Ua f) is = absurd (cc)
+  frames-7 e command octets (Dm f) is = absurd (cc)
+  frames-7 e command octets (Frmr f) is = absurd (cc)
+  frames-7 e command octets (Xid pf) is = absurd (cc)
+
+  responses-8 : (octets : List ℕ) (control : Control) → reported control ≡ Some nr → Back (TimerRecovery.frame_in_8 t false octets control (begun l))
+  responses-8 octets (ReceiveReady m true) is = same-number m (λ x. Back (TimerRecovery.frame_in_8 t false octets (ReceiveReady x true) (begun l))) is (in-8 false T203)
+  responses-8 octets (ReceiveNotReady m true) is = same-number m (λ x. Back (TimerRecovery.frame_in_8 t false octets (ReceiveNotReady x true) (begun l))) is (in-8 true T200)
+  responses-8 octets (Reject m true) is = same-number m (λ x. Back (TimerRecovery.frame_in_8 t false octets (Reject x true) (begun l))) is (in-8 false T203)
+  responses-8 octets (ReceiveReady m false) is = absurd (cc)
+  responses-8 octets (ReceiveNotReady m false) is = absurd (cc)
+  responses-8 octets (Reject m false) is = absurd (cc)
+  responses-8 octets (Information ns m p) is = absurd (cc)
+  responses-8 octets (Sabme p) is = absurd (cc)
+  responses-8 octets (Disc p) is = absurd (cc)
+  responses-8 octets (Ui p) is = absurd (cc)
+  responses-8 octets (Ua f) is = absurd (cc)
+  responses-8 octets (Dm f) is = absurd (cc)
+  responses-8 octets (Frmr f) is = absurd (cc)
+  responses-8 octets (Xid pf) is = absurd (cc)
+
+  frames-8 : (command : Bool) (octets : List ℕ) (control : Control) → asked_from TimerRecovery command control ≡ Some nr
+      → Back (Machine.frame_in TimerRecovery t command octets control (begun l))
+  frames-8 true octets control is = absurd (cc)
+  frames-8 false octets control is = responses-8 octets control is
+
+  frames : (here : State) → l.state ≡ here → (command : Bool) (octets : List ℕ) (control : Control) → asked_from here command control ≡ Some nr
+      → Back (Machine.frame_in here t command octets control (begun l))
+  frames TeiAssigned e command octets control is = absurd (cc)
+  frames AwaitingEstablishment e command octets control is = absurd (cc)
+  frames AwaitingRelease e command octets control is = absurd (cc)
+  frames Established e command octets control is = frames-7 e command octets control is
+  frames TimerRecovery e command octets control is = frames-8 command octets control is
+
+  pub goes-back : (command : Bool) (octets : List ℕ) (control : Control) → asked_from l.state command control ≡ Some nr
+      → Back (Machine.frame_step t command octets control (begun l))
+  goes-back command octets control is = frames l.state refl command octets control is

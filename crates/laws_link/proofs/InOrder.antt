@@ -1,0 +1,43 @@
+-- A link gives what waits in its order.
+use Rattle.std.proofs.Common.{◌≡◌, Bool, true, false, cond, List, [], ◌∷◌, Option, Some, None, refl, inl, inr}
+use Rattle.std.specs.Prelude.{IfSome}
+use Rattle.model_link.specs.declared.frames.ControlFrame.{ControlFrame}
+use Rattle.model_link.specs.declared.timers.LinkTimer.TheVariants.{T200}
+use Rattle.model_link.specs.declared.terms.Terms.{Terms}
+use Rattle.model_link.specs.Link.{Link}
+use Rattle.model_link.specs.Events as events
+use Rattle.model_link.specs.Machine.{course, after, given, given_of}
+use Rattle.model_link.specs.Offers
+use Rattle.model_link.specs.Sound.{IsSound}
+use Rattle.model_link.specs.Steps.{Course, Sent, begun, ◌then◌, changed}
+use Rattle.model_link.specs.Words
+use Rattle.laws_link.specs.InOrder.{IsInOrder}
+use Rattle.laws_link.proofs.Alone.{may-go}
+use Rattle.laws_link.proofs.MayGo.{none-goes}
+
+module _ (t : Terms) (l : Link) (h : IsSound t l) where
+  abbrev InOrder : Course → Type 0
+  InOrder c = IfSome c.sent (λ s. IsInOrder t l c.link s.frame)
+
+  tested : (b : Bool) (u v : Course) → (b ≡ true → InOrder u) → (b ≡ false → InOrder v) → InOrder (cond b u v)
+  tested true u v x y = x refl
+  tested false u v x y = y refl
+
+  offering : (ws : List ControlFrame) → l.waiting ≡ ws → InOrder (Offers.offer_among t ws (begun l))
+  offering (f ∷ fs) w = inl (record { waited = w; owed = refl })
+  offering [] w =
+      let one_more = (Offers.give_information then changed Offers.with_one_sent then Words.pending_is false) (begun l) in
+      tested (Offers.may_send_information t l) _ _
+      (λ e.
+      let goes : InOrder one_more = inr (inl (record { none = w; may = may-go t l h e; is = refl; rest = w; owed = refl })) in
+      let goes_timed : InOrder (Words.start T200 one_more) = inr (inl (record { none = w; may = may-go t l h e; is = refl; rest = w; owed = refl })) in
+      tested (Offers.is_awaiting_acknowledgement one_more.link) one_more (Words.start T200 one_more) (λ b. goes) (λ b. goes_timed))
+      (λ e. tested l.pending _ _ (λ owed. inr (inr (record { none = w; may_not = none-goes t l h e; was_owed = owed; is = refl; rest = w; owed = refl }))) (λ none. tt))
+
+  from-sent : (c : Course) (o : Option Sent) → IfSome o (λ s. IsInOrder t l c.link s.frame)
+      → IfSome (given_of t l c o) (λ g. IsInOrder t l c.link g.frame)
+  from-sent c None x = tt
+  from-sent c (Some s) x = x
+
+  pub given-in-order : IfSome (given t l) (λ g. IsInOrder t l (after t events.offer l) g.frame)
+  given-in-order = from-sent (course t events.offer l) (course t events.offer l).sent (offering l.waiting refl)

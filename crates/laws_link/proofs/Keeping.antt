@@ -1,0 +1,396 @@
+-- What each event makes of the contents of a link, of V(A) and of V(S).
+use Rattle.std.proofs.Common.{◌≡◌, ℕ, ◌+◌, ◌≤◌, Bool, true, false, cond, List, [], ◌∷◌, ◌++◌, length, take, drop, Option, Some, None, is_some, refl, ◌⊎◌, inl, inr, sym, ap, ◌∙◌, subst, true≢false, arith, length-take-le, append-nil, drop-drop, add-zero, ⊎_elim}
+use Rattle.std.specs.Prelude.{All, nat_lt, nat_le}
+use Rattle.std.specs.Option.{option_map_or}
+use Rattle.std.proofs.lemmas.List.{drop_all, drop-append-le}
+use Rattle.std.proofs.lemmas.List.Elements.{All-head}
+use Rattle.lapd_frame.specs.declared.controls.Control.{Control}
+use Rattle.lapd_frame.specs.declared.controls.Control.TheVariants.{Information, ReceiveReady, ReceiveNotReady, Reject, Sabme, Disc, Ui, Ua, Dm, Frmr, Xid}
+use Rattle.lapd_frame.specs.declared.notes.ErrorCode.{ErrorCode}
+use Rattle.lapd_frame.specs.declared.notes.ErrorCode.TheVariants as code
+use Rattle.lapd_frame.specs.declared.refusals.Refusal.{Refusal}
+use Rattle.lapd_frame.specs.declared.refusals.Refusal.TheVariants.{WrongState}
+use Rattle.model_link.specs.declared.states.State.{State}
+use Rattle.model_link.specs.declared.states.State.TheVariants.{TeiAssigned, AwaitingEstablishment, AwaitingRelease, Established, TimerRecovery}
+use Rattle.model_link.specs.declared.timers.LinkTimer.{LinkTimer}
+use Rattle.model_link.specs.declared.timers.LinkTimer.TheVariants.{T200, T203}
+use Rattle.model_link.specs.declared.frames.ControlFrame.{ControlFrame}
+use Rattle.model_link.specs.declared.terms.Terms.{Terms}
+use Rattle.model_link.specs.Link.{Link, is_multiple_frame}
+use Rattle.model_link.specs.Events
+use Rattle.model_link.specs.Sound.{IsSettledIn, IsSound, IsWaitingFrame}
+use Rattle.model_link.specs.Steps.{Course, begun, Step, ◌then◌, nothing, changed}
+use Rattle.model_link.proofs.Leads.{Leads, nothing_leads}
+use Rattle.model_link.specs.Words
+use Rattle.model_link.specs.Requests
+use Rattle.model_link.specs.Offers
+use Rattle.model_link.specs.Machine
+use Rattle.laws_link.specs.Accepted.{number_of, acknowledged_by, contents_of, is_release, tells_loss}
+use Rattle.laws_link.specs.History.{Share, share, left_by, with_share}
+use Rattle.laws_link.specs.Heard.{in_ui_frame, within, unit_due}
+use Rattle.laws_link.specs.Offered.{one, is_i_frame, i_frames}
+use Rattle.laws_link.proofs.Queueing.{On, words}
+use Rattle.laws_link.proofs.Moves.{Goes, Empties, Restarts, Moves}
+use Rattle.laws_link.proofs.Delivered.{not-over}
+use Rattle.laws_link.proofs.QueueRows.{is_ui, count, Stay, Move, still, frames_in_4, released_in_4, established_in_4, frames_in_5, t200_in_5, frames_in_6, t200_in_6, frames_in_7, timer_in_7, frames_in_8, t200_in_8, failed_moves, set_busy, clear_busy}
+
+-- What a share leads to: the history that it makes, and what of the contents that were kept it leaves.
+pub record Comes (share : Share) (all : List (List ℕ)) (a : ℕ) (all' : List (List ℕ)) (a' : ℕ) : Type 0 where
+  pub contents : all' ≡ (with_share (record { accepted = all; acknowledged = a }) share).accepted
+  pub acknowledged : a' ≡ (with_share (record { accepted = all; acknowledged = a }) share).acknowledged
+  pub kept : drop a' all' ≡ left_by share (drop a all)
+
+-- and V(S), where n I-frames were given
+abbrev pub Follows : ℕ → ℕ → ℕ → ℕ → Type 0
+Follows n s a' s' = (s' ≡ s + n) ⊎ ((n ≡ 0) × (s' ≡ a'))
+
+pub record Done (share : Share) (all : List (List ℕ)) (a s n : ℕ) (all' : List (List ℕ)) (a' s' : ℕ) : Type 0 where
+  pub comes : Comes share all a all' a'
+  pub follows : Follows n s a' s'
+
+-- some more are acknowledged, and others are accepted
+drop-more : (n m : ℕ) (xs : List (List ℕ)) → drop (n + m) xs ≡ drop m (drop n xs)
+drop-more n m xs = sym (drop-drop m n xs)
+
+went-on : (all more : List (List ℕ)) (a n : ℕ) → a + n ≤ length all
+    → Comes (record { restarts = false; empties = false; accepted = more; acknowledged = n }) all a (all ++ more) (a + n)
+went-on all more a n few = record {
+  contents = refl;
+  acknowledged = refl;
+  kept = drop-append-le (a + n) all more few ∙ ap (λ xs. xs ++ more) (drop-more a n all);
+}
+
+emptied : (all more : List (List ℕ)) (a n : ℕ) → a ≤ length all
+    → Comes (record { restarts = false; empties = true; accepted = more; acknowledged = n }) all a (take a all) a
+emptied all more a n few =
+    record { contents = refl; acknowledged = refl; kept = drop_all a (take a all) (omega (arith, length-take-le a all few)) }
+
+pub restarted : (loss : Bool) (all : List (List ℕ)) (a : ℕ)
+    → Comes (record { restarts = true; empties = loss; accepted = []; acknowledged = 0 }) all a (cond loss [] (drop a all)) 0
+restarted true all a = record { contents = refl; acknowledged = refl; kept = refl }
+restarted false all a = record { contents = sym (append-nil (drop a all)); acknowledged = refl; kept = sym (append-nil (drop a all)) }
+
+-- an event that is none of the link's
+pub same-comes : (all : List (List ℕ)) (a : ℕ) → Comes (record { restarts = false; empties = false; accepted = []; acknowledged = 0 }) all a all a
+same-comes all a = record { contents = sym (append-nil all); acknowledged = sym (add-zero a); kept = sym (append-nil (drop a all)) }
+
+-- the share of a row
+abbrev row : Bool → Bool → ℕ → Share
+row zeroed loss n = record { restarts = zeroed; empties = loss; accepted = []; acknowledged = n }
+
+pub done : (all : List (List ℕ)) (a s n : ℕ) (all' : List (List ℕ)) (a' s' : ℕ) (loss zeroed : Bool) (unit : Option (List ℕ)) → a ≤ length all
+    → Moves all a s n all' a' s' loss zeroed unit → Done (row zeroed loss n) all a s 0 all' a' s'
+done all a s n all' a' s' loss zeroed unit few h =
+    ⊎_elim by-going (λ other. ⊎_elim by-emptying by-restarting other) h
+  where
+    by-going : Goes all a s n all' a' s' loss zeroed unit → Done (row zeroed loss n) all a s 0 all' a' s'
+    by-going g =
+        let x : Comes (row false false n) all a (all ++ []) (a + n) = went-on all [] a n g.among in
+        let y : Comes (row false false n) all a all' a' =
+        subst (λ xs. Comes (row false false n) all a xs a') (append-nil all ∙ sym g.contents) (subst (λ m. Comes (row false false n) all a (all ++ []) m) (sym g.acknowledged) x) in
+        record {
+          comes = subst (λ z. Comes (row z loss n) all a all' a') (sym g.goes_on) (subst (λ b. Comes (row false b n) all a all' a') (sym g.quiet) y);
+          follows = ⊎_elim (λ e. inl (e ∙ omega arith)) (λ e. inr (refl, e)) g.sent;
+        }
+
+    by-emptying : Empties all a all' a' s' loss zeroed unit → Done (row zeroed loss n) all a s 0 all' a' s'
+    by-emptying g =
+        let x : Comes (row false true n) all a (take a all) a = emptied all [] a n few in
+        let y : Comes (row false true n) all a all' a' =
+        subst (λ xs. Comes (row false true n) all a xs a') (sym g.contents) (subst (λ m. Comes (row false true n) all a (take a all) m) (sym g.acknowledged) x) in
+        record {
+          comes = subst (λ z. Comes (row z loss n) all a all' a') (sym g.goes_on) (subst (λ b. Comes (row false b n) all a all' a') (sym g.told) y);
+          follows = inr (refl, g.sent);
+        }
+
+    by-restarting : Restarts all a n all' a' s' loss zeroed unit → Done (row zeroed loss n) all a s 0 all' a' s'
+    by-restarting g =
+        let x : Comes (row true loss 0) all a (cond loss [] (drop a all)) 0 = restarted loss all a in
+        let y : Comes (row true loss 0) all a all' a' =
+        subst (λ xs. Comes (row true loss 0) all a xs a') (sym g.contents) (subst (λ m. Comes (row true loss 0) all a (cond loss [] (drop a all)) m) (sym g.acknowledged) x) in
+        record {
+          comes = subst (λ z. Comes (row z loss n) all a all' a') (sym g.begins) (subst (λ k. Comes (row true loss k) all a all' a') (sym g.none) y);
+          follows = inr (refl, g.sent ∙ sym g.acknowledged);
+        }
+
+module _ (t : Terms) (l : Link) (h : IsSound t l) where
+  abbrev Led : Share → ℕ → Course → Type 0
+  Led share n c = Done share l.contents l.a l.s n c.link.contents c.link.a c.link.s
+
+  few : l.a ≤ length l.contents
+  few = let low : l.a ≤ l.s = h.ordered in let high : l.s ≤ length l.contents = h.accepted in omega arith
+
+  Moved : ℕ → Course → Type 0
+  Moved n c = On (Move t l h.ordered h.accepted n) c
+
+  -- a row of an event that accepts nothing
+  by-row : (n : ℕ) (c : Course) → Moved n c → Led (row c.zeroed (tells_loss c.notes) n) 0 c
+  unfolding Moved
+  by-row n c m = done l.contents l.a l.s n c.link.contents c.link.a c.link.s (tells_loss c.notes) c.zeroed c.unit few m
+
+  -- what leaves the contents and V(A)
+  leaves : (all : List (List ℕ)) (a : ℕ) (loss zeroed : Bool) → all ≡ l.contents → a ≡ l.a → loss ≡ false → zeroed ≡ false
+      → Comes (row zeroed loss 0) l.contents l.a all a
+  leaves all a loss zeroed e e' q on =
+      let x : Comes (row false false 0) l.contents l.a (l.contents ++ []) (l.a + 0) = went-on l.contents [] l.a 0 (omega (arith, few)) in
+      let y : Comes (row false false 0) l.contents l.a all a =
+      subst (λ xs. Comes (row false false 0) l.contents l.a xs a) (append-nil l.contents ∙ sym e) (subst (λ n. Comes (row false false 0) l.contents l.a (l.contents ++ []) n) (add-zero l.a ∙ sym e') x) in
+      subst (λ z. Comes (row z loss 0) l.contents l.a all a) (sym on) (subst (λ b. Comes (row false b 0) l.contents l.a all a) (sym q) y)
+
+  quiet : (f : Step) → Leads (On (Stay t l h.ordered h.accepted)) f (On (Stay t l h.ordered h.accepted)) → Moved 0 (f (begun l))
+  unfolding Moved
+  quiet f x = still t l h.ordered h.accepted f x
+
+  settled : (here : State) → l.state ≡ here → IsSettledIn here l
+  settled here e = subst (λ s. IsSettledIn s l) e h.settled
+
+  -- An N(R) counts in states 7 and 8 alone.
+  count-is : (here : State) → l.state ≡ here → (o : Option Rattle.lapd_seq.specs.declared.numbers.Seq.Seq) → is_multiple_frame here ≡ true → acknowledged_by o l ≡ count l.a l.s o
+  count-is here e None m = refl
+  count-is here e (Some nr) m = rw (e, m) refl
+
+  none-counts : (here : State) → l.state ≡ here → (o : Option Rattle.lapd_seq.specs.declared.numbers.Seq.Seq) → is_multiple_frame here ≡ false → acknowledged_by o l ≡ 0
+  none-counts here e None m = refl
+  none-counts here e (Some nr) m = rw (e, m) refl
+
+  by-state : (here : State) → l.state ≡ here → (b : Bool) (octets : List ℕ) (control : Control) → is_ui control ≡ false
+      → Moved (acknowledged_by (number_of t control octets) l) (Machine.frame_in here t b octets control (begun l))
+  unfolding Moved
+  by-state TeiAssigned e b octets control is =
+      subst (λ n. Moved n (Machine.frame_in TeiAssigned t b octets control (begun l))) (sym (none-counts TeiAssigned e (number_of t control octets) refl))
+      (frames_in_4 t l h.ordered h.accepted (settled TeiAssigned e) octets control is)
+  by-state AwaitingEstablishment e b octets control is =
+      subst (λ n. Moved n (Machine.frame_in AwaitingEstablishment t b octets control (begun l))) (sym (none-counts AwaitingEstablishment e (number_of t control octets) refl))
+      (frames_in_5 t l h.ordered h.accepted (settled AwaitingEstablishment e) octets control is)
+  by-state AwaitingRelease e b octets control is =
+      subst (λ n. Moved n (Machine.frame_in AwaitingRelease t b octets control (begun l))) (sym (none-counts AwaitingRelease e (number_of t control octets) refl))
+      (frames_in_6 t l h.ordered h.accepted (settled AwaitingRelease e) octets control is)
+  by-state Established e b octets control is =
+      subst (λ n. Moved n (Machine.frame_in Established t b octets control (begun l))) (sym (count-is Established e (number_of t control octets) refl))
+      (frames_in_7 t l h.ordered h.accepted b octets control is)
+  by-state TimerRecovery e b octets control is =
+      subst (λ n. Moved n (Machine.frame_in TimerRecovery t b octets control (begun l))) (sym (count-is TimerRecovery e (number_of t control octets) refl))
+      (frames_in_8 t l h.ordered h.accepted b octets control is)
+
+  frames : (b : Bool) (octets : List ℕ) (control : Control) → is_ui control ≡ false → Moved (acknowledged_by (number_of t control octets) l) (Machine.frame_step t b octets control (begun l))
+  frames b octets control is = by-state l.state refl b octets control is
+
+  malformed : (here : State) (e : ErrorCode) → Moved 0 (Machine.malformed_in here t e (begun l))
+  unfolding Moved
+  malformed TeiAssigned e = quiet Words.leave_unserved (search words)
+  malformed AwaitingEstablishment e = quiet Words.leave_unserved (search words)
+  malformed AwaitingRelease e = quiet Words.leave_unserved (search words)
+  malformed Established e = failed_moves t l h.ordered h.accepted e
+  malformed TimerRecovery e = failed_moves t l h.ordered h.accepted e
+
+  -- Timers.
+  unmoved : Moved 0 (begun l)
+  unmoved = quiet nothing nothing_leads
+
+  expired-in : (here : State) → l.state ≡ here → (timer : LinkTimer) → Moved 0 (Machine.expired_in here timer t (begun l))
+  unfolding Moved
+  expired-in TeiAssigned e timer = unmoved
+  expired-in AwaitingEstablishment e T200 = t200_in_5 t l h.ordered h.accepted
+  expired-in AwaitingEstablishment e T203 = unmoved
+  expired-in AwaitingRelease e T200 = t200_in_6 t l h.ordered h.accepted (settled AwaitingRelease e)
+  expired-in AwaitingRelease e T203 = unmoved
+  expired-in Established e timer = timer_in_7 t l h.ordered h.accepted
+  expired-in TimerRecovery e T200 = t200_in_8 t l h.ordered h.accepted
+  expired-in TimerRecovery e T203 = unmoved
+
+  expires : (b : Bool) (timer : LinkTimer) → Moved 0 (cond b (Machine.expired_in l.state timer t (begun l)) (begun l))
+  expires true timer = expired-in l.state refl timer
+  expires false timer = unmoved
+
+  -- Requests of layer 3.
+  abbrev requested-share : Bool → List (List ℕ) → Bool → Course → Share
+  requested-share refused more release c = record {
+    restarts = c.zeroed;
+    empties = Rattle.std.specs.Prelude.◌||◌ (cond refused false release) (tells_loss c.notes);
+    accepted = cond refused [] more;
+    acknowledged = 0;
+  }
+
+  served : (b : Bool) (o : Option Refusal) → cond b o (Some WrongState) ≡ None → b ≡ true
+  served true o e = refl
+  served false o e = cc
+
+  releases : (here : State) → l.state ≡ here → Requests.serves here Events.Release ≡ true
+      → Led (requested-share false [] true (Requests.release_in here t (begun l))) 0 (Requests.release_in here t (begun l))
+  unfolding Moved
+  releases TeiAssigned e s = by-row 0 (Requests.release_in TeiAssigned t (begun l)) (released_in_4 t l h.ordered h.accepted (settled TeiAssigned e))
+  releases AwaitingEstablishment e s = absurd (true≢false (sym s))
+  releases AwaitingRelease e s = absurd (true≢false (sym s))
+  releases Established e s = record { comes = emptied l.contents [] l.a 0 few; follows = inr (refl, refl) }
+  releases TimerRecovery e s = record { comes = emptied l.contents [] l.a 0 few; follows = inr (refl, refl) }
+
+  granted : (request : Events.Request) (o : Option Refusal) → cond (Requests.serves l.state request) o (Some WrongState) ≡ None
+      → Led (requested-share false (contents_of request) (is_release request) (Requests.granted t request (begun l))) 0 (Requests.granted t request (begun l))
+  unfolding Moved
+  granted Events.Establish o e = by-row 0 (Requests.granted t Events.Establish (begun l)) (established_in_4 t l h.ordered h.accepted)
+  granted Events.Release o e = releases l.state refl (served (Requests.serves l.state Events.Release) o e)
+  granted (Events.Data octets) o e =
+      record {
+        comes = subst (λ a. Comes (record { restarts = false; empties = false; accepted = octets ∷ []; acknowledged = 0 }) l.contents l.a (l.contents ++ octets ∷ []) a) (add-zero l.a) (went-on l.contents (octets ∷ []) l.a 0 (omega (arith, few)));
+        follows = inl (sym (add-zero l.s));
+      }
+  granted Events.SetBusy o e = by-row 0 (Requests.granted t Events.SetBusy (begun l)) (set_busy t l h.ordered h.accepted)
+  granted Events.ClearBusy o e = by-row 0 (Requests.granted t Events.ClearBusy (begun l)) (clear_busy t l h.ordered h.accepted)
+
+  requested : (request : Events.Request) (full : Bool) (o : Option Refusal) → Requests.refusal t l full request ≡ o
+      → let c = elim o as (λ o. Course) [ None ↦ Requests.granted t request (begun l) | Some _ ↦ begun l ] in
+      Led (requested-share (is_some o) (contents_of request) (is_release request) c) 0 c
+  requested request full None e = granted request (Requests.refusal_for_room t l full request) e
+  requested request full (Some w) e = by-row 0 (begun l) unmoved
+
+  -- Offers.
+  abbrev given-in : Course → ℕ
+  given-in c = one (option_map_or is_i_frame (Machine.given_of t l c c.sent) false)
+
+  gives : (c : Course) (n : ℕ) → c.link.contents ≡ l.contents → c.link.a ≡ l.a → c.link.s ≡ l.s + n → tells_loss c.notes ≡ false → c.zeroed ≡ false
+      → Led (row c.zeroed (tells_loss c.notes) 0) n c
+  gives c n e e' e'' q on = record { comes = leaves c.link.contents c.link.a (tells_loss c.notes) c.zeroed e e' q on; follows = inl e'' }
+
+  choose : (Q : Course → Type 0) (b : Bool) (u v : Course) → Q u → Q v → Q (cond b u v)
+  choose Q true u v x y = x
+  choose Q false u v x y = y
+
+  abbrev Gives : Course → Type 0
+  Gives c = Led (row c.zeroed (tells_loss c.notes) 0) (given-in c) c
+
+  offers : (ws : List ControlFrame) → All (IsWaitingFrame t) ws → Gives (Offers.offer_among t ws (begun l))
+  offers (f ∷ fs) frames =
+      let bare = (All-head (IsWaitingFrame t) f fs frames).without_contents in
+      subst (λ b. Led (row false false 0) (one b) (Offers.give_waiting f fs (begun l))) (sym bare) (gives (Offers.give_waiting f fs (begun l)) 0 refl refl (sym (add-zero l.s)) refl refl)
+  offers [] frames =
+      let one_more = (Offers.give_information then changed Offers.with_one_sent then Words.pending_is false) (begun l) in
+      choose Gives (Offers.may_send_information t l) _ _
+      (choose Gives (Offers.is_awaiting_acknowledgement one_more.link) one_more (Words.start T200 one_more) (gives one_more 1 refl refl refl refl refl) (gives (Words.start T200 one_more) 1 refl refl refl refl refl))
+      (choose Gives l.pending _ _ (gives (Offers.send_acknowledgement (begun l)) 0 refl refl (sym (add-zero l.s)) refl refl) (gives (begun l) 0 refl refl (sym (add-zero l.s)) refl refl))
+
+  -- The TEI leaves the line.
+  clears : (here : State) → let c = Words.begin_anew (Machine.told_of_clearing here t (begun l)) in
+      Led (record { restarts = true; empties = true; accepted = []; acknowledged = 0 }) 0 c
+  clears TeiAssigned = record { comes = restarted true l.contents l.a; follows = inr (refl, refl) }
+  clears AwaitingEstablishment = record { comes = restarted true l.contents l.a; follows = inr (refl, refl) }
+  clears AwaitingRelease = record { comes = restarted true l.contents l.a; follows = inr (refl, refl) }
+  clears Established = record { comes = restarted true l.contents l.a; follows = inr (refl, refl) }
+  clears TimerRecovery = record { comes = restarted true l.contents l.a; follows = inr (refl, refl) }
+
+  -- A UI, in every state.
+  unit-led : (octets : List ℕ) → let c = Words.unit_data t octets (begun l) in Led (row c.zeroed (tells_loss c.notes) 0) 0 c
+  unit-led octets = choose (λ c. Led (row c.zeroed (tells_loss c.notes) 0) 0 c) (nat_lt t.n201 (length octets)) _ _
+      (gives (Words.leave_unserved (begun l)) 0 refl refl (sym (add-zero l.s)) refl refl)
+      (gives (Words.deliver_unit t octets (begun l)) 0 refl refl (sym (add-zero l.s)) refl refl)
+
+  by-unit : (here : State) (b : Bool) (octets : List ℕ) (p : Bool) → let c = Machine.frame_in here t b octets (Ui p) (begun l) in
+      Led (row c.zeroed (tells_loss c.notes) 0) 0 c
+  by-unit TeiAssigned b octets p = unit-led octets
+  by-unit AwaitingEstablishment b octets p = unit-led octets
+  by-unit AwaitingRelease b octets p = unit-led octets
+  by-unit Established b octets p = unit-led octets
+  by-unit TimerRecovery b octets p = unit-led octets
+
+  -- A frame.
+  by-frame : (b : Bool) (octets : List ℕ) (control : Control) → (d : Bool) → is_ui control ≡ d
+      → let c = Machine.frame_step t b octets control (begun l) in
+      Led (row c.zeroed (tells_loss c.notes) (acknowledged_by (number_of t control octets) l)) 0 c
+  by-frame b octets control false e = by-row _ (Machine.frame_step t b octets control (begun l)) (frames b octets control e)
+  by-frame b octets (Ui p) true e = by-unit l.state b octets p
+  by-frame b octets other true e = absurd (true≢false (sym e))
+
+  -- Any event.
+  pub event-done : (e : Events.Event) → Led (share t e l) (i_frames t e l) (Machine.course t e l)
+  event-done (Events.received (Events.frame f)) = by-frame f.address.command f.info f.control (is_ui f.control) refl
+  event-done (Events.received Events.undefined) = by-row 0 (Machine.malformed_in l.state t code.L (begun l)) (malformed l.state code.L)
+  event-done (Events.received Events.wrong_size) = by-row 0 (Machine.malformed_in l.state t code.N (begun l)) (malformed l.state code.N)
+  event-done (Events.received Events.overlong) = by-row 0 (Machine.malformed_in l.state t code.O (begun l)) (malformed l.state code.O)
+  event-done (Events.expired timer) = by-row 0 (Machine.expired_step t timer (begun l)) (expires (Machine.is_running timer l) timer)
+  event-done (Events.requested request full) = requested request full (Requests.refusal t l full request) refl
+  event-done Events.offer = offers l.waiting h.frames
+  event-done Events.cleared = clears l.state
+
+  -- Unit data is told of UI frames alone.
+  no-unit : (n : ℕ) (c : Course) → Moved n c → c.unit ≡ None
+  unfolding Moved
+  no-unit n c m = ⊎_elim (λ g. g.no_unit) (λ other. ⊎_elim (λ g. g.no_unit) (λ g. g.no_unit) other) m
+
+  by-length : (octets : List ℕ) (b : Bool) → nat_lt t.n201 (length octets) ≡ b
+      → (cond b (Words.leave_unserved (begun l)) (Words.deliver_unit t octets (begun l))).unit ≡ cond (nat_le (length octets) t.n201) (Some octets) None
+  by-length octets true e = sym (ap (λ x. cond x (Some octets) None) (not-over true t.n201 (length octets) e))
+  by-length octets false e = sym (ap (λ x. cond x (Some octets) None) (not-over false t.n201 (length octets) e))
+
+  ui-in : (here : State) (b : Bool) (octets : List ℕ) (p : Bool)
+      → (Machine.frame_in here t b octets (Ui p) (begun l)).unit ≡ within t.n201 (in_ui_frame (Ui p) octets)
+  ui-in TeiAssigned b octets p = by-length octets (nat_lt t.n201 (length octets)) refl
+  ui-in AwaitingEstablishment b octets p = by-length octets (nat_lt t.n201 (length octets)) refl
+  ui-in AwaitingRelease b octets p = by-length octets (nat_lt t.n201 (length octets)) refl
+  ui-in Established b octets p = by-length octets (nat_lt t.n201 (length octets)) refl
+  ui-in TimerRecovery b octets p = by-length octets (nat_lt t.n201 (length octets)) refl
+
+  unit-in : (b : Bool) (octets : List ℕ) (control : Control) → (d : Bool) → is_ui control ≡ d
+      → (Machine.frame_step t b octets control (begun l)).unit ≡ within t.n201 (in_ui_frame control octets)
+  unit-in b octets (Ui p) d e = ui-in l.state b octets p
+  unit-in b octets (Xid pf) d e = no-unit _ _ (by-state l.state refl b octets (Xid pf) refl)
+  unit-in b octets (Information ns nr p) d e = no-unit _ _ (by-state l.state refl b octets (Information ns nr p) refl)
+  unit-in b octets (ReceiveReady nr pf) d e = no-unit _ _ (by-state l.state refl b octets (ReceiveReady nr pf) refl)
+  unit-in b octets (ReceiveNotReady nr pf) d e = no-unit _ _ (by-state l.state refl b octets (ReceiveNotReady nr pf) refl)
+  unit-in b octets (Reject nr pf) d e = no-unit _ _ (by-state l.state refl b octets (Reject nr pf) refl)
+  unit-in b octets (Sabme p) d e = no-unit _ _ (by-state l.state refl b octets (Sabme p) refl)
+  unit-in b octets (Disc p) d e = no-unit _ _ (by-state l.state refl b octets (Disc p) refl)
+  unit-in b octets (Ua f) d e = no-unit _ _ (by-state l.state refl b octets (Ua f) refl)
+  unit-in b octets (Dm f) d e = no-unit _ _ (by-state l.state refl b octets (Dm f) refl)
+  unit-in b octets (Frmr f) d e = no-unit _ _ (by-state l.state refl b octets (Frmr f) refl)
+
+  set-busy : Moved 0 (Requests.granted t Events.SetBusy (begun l))
+  unfolding Moved
+  set-busy = set_busy t l h.ordered h.accepted
+
+  clear-busy : Moved 0 (Requests.granted t Events.ClearBusy (begun l))
+  unfolding Moved
+  clear-busy = clear_busy t l h.ordered h.accepted
+
+  unit-requested : (request : Events.Request) (o : Option Refusal) → cond (Requests.serves l.state request) o (Some WrongState) ≡ None
+      → (Requests.granted t request (begun l)).unit ≡ None
+  unit-requested Events.Establish o e = refl
+  unit-requested Events.Release o e = by-release l.state
+    where
+      by-release : (here : State) → (Requests.release_in here t (begun l)).unit ≡ None
+      by-release TeiAssigned = refl
+      by-release AwaitingEstablishment = refl
+      by-release AwaitingRelease = refl
+      by-release Established = refl
+      by-release TimerRecovery = refl
+  unit-requested (Events.Data octets) o e = refl
+  unit-requested Events.SetBusy o e = no-unit 0 _ set-busy
+  unit-requested Events.ClearBusy o e = no-unit 0 _ clear-busy
+
+  unit-asked : (request : Events.Request) (full : Bool) (o : Option Refusal) → Requests.refusal t l full request ≡ o
+      → (elim o as (λ o. Course) [ None ↦ Requests.granted t request (begun l) | Some _ ↦ begun l ]).unit ≡ None
+  unit-asked request full None e = unit-requested request (Requests.refusal_for_room t l full request) e
+  unit-asked request full (Some w) e = refl
+
+  unit-offered : (ws : List ControlFrame) → (Offers.offer_among t ws (begun l)).unit ≡ None
+  unit-offered (f ∷ fs) = refl
+  unit-offered [] =
+      let one_more = (Offers.give_information then changed Offers.with_one_sent then Words.pending_is false) (begun l) in
+      choose (λ c. c.unit ≡ None) (Offers.may_send_information t l) _ _
+      (choose (λ c. c.unit ≡ None) (Offers.is_awaiting_acknowledgement one_more.link) one_more (Words.start T200 one_more) refl refl)
+      (choose (λ c. c.unit ≡ None) l.pending _ _ refl refl)
+
+  unit-cleared : (here : State) → (Machine.told_of_clearing here t (begun l)).unit ≡ None
+  unit-cleared TeiAssigned = refl
+  unit-cleared AwaitingEstablishment = refl
+  unit-cleared AwaitingRelease = refl
+  unit-cleared Established = refl
+  unit-cleared TimerRecovery = refl
+
+  pub event-unit : (e : Events.Event) → (Machine.course t e l).unit ≡ unit_due t e
+  event-unit (Events.received (Events.frame f)) = unit-in f.address.command f.info f.control (is_ui f.control) refl
+  event-unit (Events.received Events.undefined) = no-unit 0 _ (malformed l.state code.L)
+  event-unit (Events.received Events.wrong_size) = no-unit 0 _ (malformed l.state code.N)
+  event-unit (Events.received Events.overlong) = no-unit 0 _ (malformed l.state code.O)
+  event-unit (Events.expired timer) = no-unit 0 _ (expires (Machine.is_running timer l) timer)
+  event-unit (Events.requested request full) = unit-asked request full (Requests.refusal t l full request) refl
+  event-unit Events.offer = unit-offered l.waiting
+  event-unit Events.cleared = unit-cleared l.state

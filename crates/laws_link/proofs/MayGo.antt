@@ -1,0 +1,33 @@
+-- An I-frame may go exactly where the machine lets one go.
+use Rattle.std.proofs.Common.{◌≡◌, ℕ, ◌-◌, ◌<◌, Bool, true, false, ◌&&◌, not, length, refl, ap, ◌∙◌, arith}
+use Rattle.std.specs.Prelude.{nat_lt}
+use Rattle.std.proofs.lemmas.Bool.{ltb-false}
+use Rattle.model_link.specs.declared.states.State.{State}
+use Rattle.model_link.specs.declared.terms.Terms.{Terms}
+use Rattle.model_link.specs.Link.{Link, outstanding}
+use Rattle.model_link.specs.Offers.{is_established, may_send_information}
+use Rattle.model_link.specs.Sound.{IsSound}
+use Rattle.laws_link.specs.Sending.{MayGo}
+use Rattle.laws_link.proofs.Alone.{may-go}
+
+-- the parts of a test that fails do not all hold
+not-all : (b x y : Bool) (k o n s : ℕ) → b ≡ true → nat_lt o k ≡ x → nat_lt s n ≡ y → o < k → s < n → (b && x && y) ≡ false → ⊥
+not-all false x y k o n s up e f room some fails = cc
+not-all true false y k o n s up e f room some fails = let full = ltb-false o k e in absurd (omega (arith, full, room))
+not-all true true false k o n s up e f room some fails = let sent = ltb-false s n f in absurd (omega (arith, sent, some))
+not-all true true true k o n s up e f room some fails = cc
+
+module _ (t : Terms) (l : Link) (h : IsSound t l) where
+  pub none-goes : may_send_information t l ≡ false → MayGo t l → ⊥
+  none-goes fails may =
+      let room : l.s - l.a < t.k = omega (arith, h.ordered, may.window) in
+      let up : (is_established l.state && not l.peer_busy) ≡ true = ap (λ s. is_established s && not l.peer_busy) may.state ∙ ap (λ b. not b) may.free in
+      not-all (is_established l.state && not l.peer_busy) (nat_lt (outstanding l) t.k) (nat_lt l.s (length l.contents)) t.k (outstanding l) (length l.contents) l.s
+      up refl refl room may.unsent fails
+
+  pub goes-not : (MayGo t l → ⊥) → may_send_information t l ≡ false
+  goes-not none = go (may_send_information t l) refl
+    where
+      go : (b : Bool) → may_send_information t l ≡ b → b ≡ false
+      go true e = absurd (none (may-go t l h e))
+      go false e = refl

@@ -1,0 +1,95 @@
+-- What a row makes of the contents of a link, of V(A) and of V(S): they stay, some are acknowledged, all go, or the
+-- numbers begin anew.
+use Rattle.std.proofs.Common.{◌≡◌, ℕ, ◌+◌, ◌-◌, ◌≤◌, Bool, true, false, cond, List, [], length, take, drop, Option, Some, None, refl, ◌⊎◌, inl, arith}
+use Rattle.std.specs.Option.{option_map_or}
+use Rattle.lapd_seq.specs.declared.numbers.Seq.{Seq}
+use Rattle.lapd_seq.specs.Circle.{named}
+use Rattle.lapd_frame.specs.declared.notes.ErrorCode.TheVariants as code
+use Rattle.model_link.specs.declared.terms.Terms.{Terms}
+use Rattle.model_link.specs.Steps.{Course, Step, ◌then◌}
+use Rattle.model_link.specs.Words
+use Rattle.model_link.proofs.Leads.{Leads, keeping_then, to_less}
+use Rattle.model_link.proofs.SoundRows.{named-within}
+use Rattle.laws_link.specs.Accepted.{beyond}
+use Rattle.laws_link.proofs.Queueing.{Claim, On, error_keeps, re_establish_keeps}
+
+-- the contents are these, n of them more are acknowledged, and no loss is told
+pub record Goes (all : List (List ℕ)) (a s n : ℕ) (all' : List (List ℕ)) (a' s' : ℕ) (loss zeroed : Bool) (unit : Option (List ℕ)) : Type 0 where
+  pub contents : all' ≡ all
+  pub acknowledged : a' ≡ a + n
+  pub among : a + n ≤ length all
+  pub sent : (s' ≡ s) ⊎ (s' ≡ a')
+  pub quiet : loss ≡ false
+  pub goes_on : zeroed ≡ false
+  pub no_unit : unit ≡ None
+
+-- all that are kept go
+pub record Empties (all : List (List ℕ)) (a : ℕ) (all' : List (List ℕ)) (a' s' : ℕ) (loss zeroed : Bool) (unit : Option (List ℕ)) : Type 0 where
+  pub contents : all' ≡ take a all
+  pub acknowledged : a' ≡ a
+  pub sent : s' ≡ a'
+  pub told : loss ≡ true
+  pub goes_on : zeroed ≡ false
+  pub no_unit : unit ≡ None
+
+-- the numbers begin anew: what is kept stays where no loss is told
+pub record Restarts (all : List (List ℕ)) (a n : ℕ) (all' : List (List ℕ)) (a' s' : ℕ) (loss zeroed : Bool) (unit : Option (List ℕ)) : Type 0 where
+  pub none : n ≡ 0
+  pub contents : all' ≡ cond loss [] (drop a all)
+  pub acknowledged : a' ≡ 0
+  pub sent : s' ≡ 0
+  pub begins : zeroed ≡ true
+  pub no_unit : unit ≡ None
+
+abbrev pub Moves : List (List ℕ) → ℕ → ℕ → ℕ → Claim
+Moves all a s n all' a' s' loss zeroed unit =
+    Goes all a s n all' a' s' loss zeroed unit ⊎ Empties all a all' a' s' loss zeroed unit ⊎ Restarts all a n all' a' s' loss zeroed unit
+
+-- nothing has changed
+pub record Same (all : List (List ℕ)) (a s : ℕ) (all' : List (List ℕ)) (a' s' : ℕ) (loss zeroed : Bool) (unit : Option (List ℕ)) : Type 0 where
+  pub contents : all' ≡ all
+  pub acknowledged : a' ≡ a
+  pub sent : s' ≡ s
+  pub quiet : loss ≡ false
+  pub goes_on : zeroed ≡ false
+  pub no_unit : unit ≡ None
+
+module _ (all : List (List ℕ)) (a s : ℕ) (ordered : a ≤ s) (most : s ≤ length all) where
+  abbrev pub Stays : Claim
+  Stays all' a' s' loss zeroed unit = Same all a s all' a' s' loss zeroed unit
+
+  pub stays : (c : Course) → On Stays c → On (Moves all a s 0) c
+  stays c h =
+      inl (record {
+        contents = h.contents;
+        acknowledged = omega (arith, h.acknowledged);
+        among = omega (arith, ordered, most);
+        sent = inl h.sent;
+        quiet = h.quiet;
+        goes_on = h.goes_on;
+        no_unit = h.no_unit;
+      })
+
+  pub stays_through : {f : Step} → Leads (On Stays) f (On Stays) → Leads (On Stays) f (On (Moves all a s 0))
+  stays_through x = to_less stays x
+
+  -- by an N(R): an invalid one, or one that names m
+  by-number : (t : Terms) (f : ℕ → Step) → ((m : ℕ) → a ≤ m → m ≤ s → Leads (On Stays) (f m) (On (Moves all a s (m - a)))) → (c : Course) → On Stays c → (nr : Seq) (o : Option ℕ) → named a s nr ≡ o
+      → On (Moves all a s (option_map_or (beyond a) o 0)) (elim o [ None ↦ (Words.error t code.J then Words.re_establish t) c | Some n ↦ f n c ])
+  by-number t f x c h nr None e = stays ((Words.error t code.J then Words.re_establish t) c) ((keeping_then (error_keeps Stays t code.J) (re_establish_keeps Stays t)).leads c h)
+  by-number t f x c h nr (Some m) e =
+      let between = named-within a s m nr e in
+      (x m between.0 between.1).leads c h
+
+  with-numbers : (t : Terms) (nr : Seq) (f : ℕ → Step) (c : Course) (a' s' : ℕ) (o : Option ℕ) → a' ≡ a → s' ≡ s
+      → On (Moves all a s (option_map_or (beyond a) (named a s nr) 0)) (elim (named a s nr) [ None ↦ (Words.error t code.J then Words.re_establish t) c | Some n ↦ f n c ])
+      → On (Moves all a s (option_map_or (beyond a) (named a s nr) 0)) (elim (named a' s' nr) [ None ↦ (Words.error t code.J then Words.re_establish t) c | Some n ↦ f n c ])
+  with-numbers t nr f c a' s' o e e' h = rw (e, e') h
+
+  pub number_moves : (t : Terms) (nr : Seq) {f : ℕ → Step}
+      → ((m : ℕ) → a ≤ m → m ≤ s → Leads (On Stays) (f m) (On (Moves all a s (m - a))))
+      → Leads (On Stays) (Words.by_number t nr f) (On (Moves all a s (option_map_or (beyond a) (named a s nr) 0)))
+  number_moves t nr {f} x =
+      record {
+        leads = λ c h. with-numbers t nr f c c.link.a c.link.s None h.acknowledged h.sent (by-number t f x c h nr (named a s nr) refl);
+      }

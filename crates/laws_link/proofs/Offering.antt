@@ -1,0 +1,119 @@
+-- What an offer gives.
+use Rattle.std.proofs.Common.{◌≡◌, ℕ, ◌+◌, ◌<◌, Bool, true, false, cond, ◌&&◌, not, List, [], ◌∷◌, length, Option, Some, None, refl, sym, ap, ◌∙◌, true≢false, add-zero}
+use Rattle.std.specs.Prelude.{All, IfSome, nat_lt}
+use Rattle.std.specs.Option.{option_map_or}
+use Rattle.std.proofs.lemmas.Bool.{ltb-true, and_parts}
+use Rattle.std.proofs.lemmas.Option.{slice_get-get_or}
+use Rattle.std.specs.Prelude.{get_or}
+use Rattle.std.proofs.lemmas.List.Elements.{All-head}
+use Rattle.lapd_seq.specs.Numbers.{seq}
+use Rattle.lapd_frame.specs.declared.controls.Control.{Control}
+use Rattle.lapd_frame.specs.declared.controls.Control.TheVariants.{Information, ReceiveReady, ReceiveNotReady, Reject, Sabme, Disc, Ui, Ua, Dm, Frmr, Xid}
+use Rattle.model_link.specs.declared.frames.ControlFrame.{ControlFrame}
+use Rattle.model_link.specs.declared.timers.LinkTimer.TheVariants.{T200}
+use Rattle.model_link.specs.declared.terms.Terms.{Terms}
+use Rattle.model_link.specs.Link.{Link}
+use Rattle.model_link.specs.Events as events
+use Rattle.model_link.specs.Machine.{course, after, given, given_of}
+use Rattle.model_link.specs.Offers
+use Rattle.model_link.specs.Sound.{IsSound, IsWaitingFrame, is_information}
+use Rattle.model_link.specs.Steps.{Course, Sent, begun, ◌then◌, changed}
+use Rattle.model_link.specs.Words
+use Rattle.laws_link.specs.Offered.{IsOffered, one, is_i_frame}
+
+-- a frame without contents that is no I-frame
+alone : (all : List (List ℕ)) (j : ℕ) (command : Bool) (control : Control) → is_information control ≡ false → IsOffered all j (record { command = command; control = control }) None
+alone all j b (Information ns nr p) e = absurd (true≢false e)
+alone all j b (ReceiveReady nr pf) e = refl
+alone all j b (ReceiveNotReady nr pf) e = refl
+alone all j b (Reject nr pf) e = refl
+alone all j b (Sabme p) e = refl
+alone all j b (Disc p) e = refl
+alone all j b (Ui p) e = refl
+alone all j b (Ua f) e = refl
+alone all j b (Dm f) e = refl
+alone all j b (Frmr f) e = refl
+alone all j b (Xid pf) e = refl
+
+module _ (t : Terms) (l : Link) (h : IsSound t l) where
+  abbrev Offers-it : Course → Type 0
+  Offers-it c = IfSome c.sent (λ s. IsOffered l.contents l.s s.frame s.contents)
+
+  unsent : Offers.may_send_information t l ≡ true → l.s < length l.contents
+  unsent e =
+      let parts = and_parts (Offers.is_established l.state && not l.peer_busy && nat_lt (Rattle.model_link.specs.Link.outstanding l) t.k) (nat_lt l.s (length l.contents)) e in
+      ltb-true l.s (length l.contents) parts.1
+
+  information : Offers.may_send_information t l ≡ true → IsOffered l.contents l.s (Offers.next_information l) (Offers.first_unsent l)
+  unfolding seq
+  information e =
+      let some = slice_get-get_or l.contents l.s [] (unsent e) in
+      record { information = get_or l.contents l.s []; is = some; among = some; number = refl }
+
+  tested : (b : Bool) → Offers.may_send_information t l ≡ b → (u v : Course) → (b ≡ true → Offers-it u) → Offers-it v → Offers-it (cond b u v)
+  tested true e u v x y = x refl
+  tested false e u v x y = y
+
+  choose : (b : Bool) (u v : Course) → Offers-it u → Offers-it v → Offers-it (cond b u v)
+  choose true u v x y = x
+  choose false u v x y = y
+
+  offered : (ws : List ControlFrame) → All (IsWaitingFrame t) ws → Offers-it (Offers.offer_among t ws (begun l))
+  offered (f ∷ fs) frames = alone l.contents l.s f.command f.control (All-head (IsWaitingFrame t) f fs frames).without_contents
+  offered [] frames =
+      let one_more = (Offers.give_information then changed Offers.with_one_sent then Words.pending_is false) (begun l) in
+      tested (Offers.may_send_information t l) refl _ _
+      (λ e. choose (Offers.is_awaiting_acknowledgement one_more.link) one_more (Words.start T200 one_more) (information e) (information e))
+      (choose l.pending _ _ (alone l.contents l.s false (ReceiveReady (seq l.r) false) refl) tt)
+
+  from-sent : (c : Course) (o : Option Sent) → IfSome o (λ s. IsOffered l.contents l.s s.frame s.contents)
+      → IfSome (given_of t l c o) (λ g. IsOffered l.contents l.s g.frame g.contents)
+  from-sent c None x = tt
+  from-sent c (Some s) x = x
+
+  pub given-is-offered : IfSome (given t l) (λ g. IsOffered l.contents l.s g.frame g.contents)
+  given-is-offered = from-sent (course t events.offer l) (course t events.offer l).sent (offered l.waiting h.frames)
+
+-- An offer leaves the contents and V(A);
+pub record Left (l : Link) (c : Course) : Type 0 where
+  pub contents : c.link.contents ≡ l.contents
+  pub acknowledged : c.link.a ≡ l.a
+
+module _ (t : Terms) (l : Link) where
+  either : (b : Bool) (u v : Course) → Left l u → Left l v → Left l (cond b u v)
+  either true u v x y = x
+  either false u v x y = y
+
+  leaving : (ws : List ControlFrame) → Left l (Offers.offer_among t ws (begun l))
+  leaving (f ∷ fs) = record { contents = refl; acknowledged = refl }
+  leaving [] =
+      let one_more = (Offers.give_information then changed Offers.with_one_sent then Words.pending_is false) (begun l) in
+      either (Offers.may_send_information t l) _ _
+      (either (Offers.is_awaiting_acknowledgement one_more.link) one_more (Words.start T200 one_more)
+      (record { contents = refl; acknowledged = refl }) (record { contents = refl; acknowledged = refl }))
+      (either l.pending _ _ (record { contents = refl; acknowledged = refl }) (record { contents = refl; acknowledged = refl }))
+
+  pub offer-leaves : Left l (course t events.offer l)
+  offer-leaves = leaving l.waiting
+
+-- and V(S) counts the I-frame that it gives.
+abbrev counts-it : Terms → Link → Course → Type 0
+counts-it t l c = c.link.s ≡ l.s + one (option_map_or is_i_frame (given_of t l c c.sent) false)
+
+module _ (t : Terms) (l : Link) (h : IsSound t l) where
+  one-of : (b : Bool) (u v : Course) → counts-it t l u → counts-it t l v → counts-it t l (cond b u v)
+  one-of true u v x y = x
+  one-of false u v x y = y
+
+  counting : (ws : List ControlFrame) → All (IsWaitingFrame t) ws → counts-it t l (Offers.offer_among t ws (begun l))
+  counting (f ∷ fs) frames =
+      let bare = (All-head (IsWaitingFrame t) f fs frames).without_contents in
+      sym (add-zero l.s) ∙ ap (λ b. l.s + one b) (sym bare)
+  counting [] frames =
+      let one_more = (Offers.give_information then changed Offers.with_one_sent then Words.pending_is false) (begun l) in
+      one-of (Offers.may_send_information t l) _ _
+      (one-of (Offers.is_awaiting_acknowledgement one_more.link) one_more (Words.start T200 one_more) refl refl)
+      (one-of l.pending _ _ (sym (add-zero l.s)) (sym (add-zero l.s)))
+
+  pub offer-counts : (after t events.offer l).s ≡ l.s + one (option_map_or is_i_frame (given t l) false)
+  offer-counts = counting l.waiting h.frames

@@ -1,0 +1,187 @@
+-- What is due is delivered, and is noted once.
+use Rattle.std.proofs.Common.{◌≡◌, ℕ, ◌≤◌, Bool, true, false, cond, ◌||◌, List, [], ◌∷◌, length, Option, Some, None, is_some, option_to_list, refl, sym, ap, ◌∙◌, subst, inl, inr, arith}
+use Rattle.std.specs.Prelude.{count_by, nat_lt, nat_le}
+use Rattle.std.specs.List.{list_any}
+use Rattle.std.proofs.lemmas.Bool.{or_parts}
+use Rattle.std.proofs.lemmas.List.Sums.{sum_by-cons, sum_by_push}
+use Rattle.std.proofs.lemmas.Option.{none-some}
+use Rattle.lapd_seq.specs.declared.numbers.Seq.{Seq}
+use Rattle.lapd_seq.specs.Circle.{named}
+use Rattle.lapd_frame.specs.declared.controls.Control.{Control}
+use Rattle.lapd_frame.specs.declared.controls.Control.TheVariants.{Information, ReceiveReady, ReceiveNotReady, Reject, Sabme, Disc, Ui, Ua, Dm, Frmr, Xid}
+use Rattle.lapd_frame.specs.declared.notes.Note.{Note}
+use Rattle.lapd_frame.specs.declared.notes.Note.TheVariants as notes
+use Rattle.lapd_frame.specs.declared.notes.ErrorCode.TheVariants as code
+use Rattle.model_link.specs.declared.states.State.{State}
+use Rattle.model_link.specs.declared.states.State.TheVariants.{TeiAssigned, AwaitingEstablishment, AwaitingRelease, Established, TimerRecovery}
+use Rattle.model_link.specs.declared.terms.Terms.{Terms}
+use Rattle.model_link.specs.Deliveries.{Arrived, information_of, eligible_of, eligible, MayEstablish, restarts}
+use Rattle.model_link.specs.Established
+use Rattle.model_link.specs.Events
+use Rattle.model_link.specs.Link.{Link, is_peer_busy, is_rejecting}
+use Rattle.model_link.specs.Machine
+use Rattle.model_link.specs.MultipleFrame
+use Rattle.model_link.specs.Notes.{is_data, is_unit}
+use Rattle.model_link.specs.Sound.{IsSound}
+use Rattle.model_link.specs.Steps.{Course, begun, Step, ◌then◌}
+use Rattle.model_link.specs.Words
+use Rattle.model_link.proofs.Delivering.{delivery, event-delivers}
+use Rattle.model_link.proofs.Restarts.{establishes}
+use Rattle.model_link.proofs.TellRows.{event-tells}
+use Rattle.laws_link.specs.Heard.{in_i_frame, in_ui_frame, contents_heard, unit_heard, within, in_sequence, data_due, IsNotedOnce}
+use Rattle.laws_link.proofs.Delivered.{delivered-was-heard}
+use Rattle.laws_link.proofs.Keeping.{event-unit}
+
+-- What is delivered is what is due.
+delivery-is : (r : ℕ) (o : Option Arrived) → delivery r o ≡ in_sequence r o
+delivery-is r None = refl
+delivery-is r (Some i) = refl
+
+module _ (t : Terms) (l : Link) where
+  establishing : (control : Control) (octets : List ℕ) → MayEstablish control → information_of control octets ≡ None
+  establishing (Sabme p) octets may = refl
+  establishing (Ua f) octets may = refl
+  establishing (Information ns nr p) octets may = absurd may
+  establishing (ReceiveReady nr pf) octets may = refl
+  establishing (ReceiveNotReady nr pf) octets may = refl
+  establishing (Reject nr pf) octets may = refl
+  establishing (Disc p) octets may = refl
+  establishing (Ui p) octets may = refl
+  establishing (Dm f) octets may = refl
+  establishing (Frmr f) octets may = refl
+  establishing (Xid pf) octets may = refl
+
+  none-due : (e : Events.Event) → restarts t e l ≡ true → data_due t e l ≡ None
+  none-due (Events.received (Events.frame f)) begins =
+      ap (λ o. in_sequence l.r (eligible_of t l o)) (establishing f.control f.info (establishes t l (Events.received (Events.frame f)) begins).by)
+  none-due (Events.received Events.undefined) begins = refl
+  none-due (Events.received Events.wrong_size) begins = refl
+  none-due (Events.received Events.overlong) begins = refl
+  none-due (Events.expired timer) begins = refl
+  none-due (Events.requested request full) begins = refl
+  none-due Events.offer begins = refl
+  none-due Events.cleared begins = refl
+
+  pub data-is : (e : Events.Event) → (Machine.told t e l).delivered ≡ data_due t e l
+  data-is e =
+      elim (event-delivers t l e) [
+        | inl x ↦ x.delivered ∙ delivery-is l.r (eligible t e l)
+        | inr x ↦ x.delivered ∙ sym (none-due e x.begins)
+      ]
+
+-- How often something is noted, by whether it is.
+pub none-counted : (p : Note → Bool) (ns : List Note) → list_any p ns ≡ false → count_by p ns ≡ 0
+none-counted p [] e = refl
+none-counted p (n ∷ ns) e =
+    let parts = or_parts (p n) (list_any p ns) e in
+    let one : cond {A = ℕ} (p n) 1 0 ≡ 0 = ap (λ b. cond {A = ℕ} b 1 0) parts.0 in
+    let rest = none-counted p ns parts.1 in
+    sum_by-cons (λ n. cond (p n) 1 0) n ns ∙ omega (arith, one, rest)
+
+some-counted : (p : Note → Bool) (ns : List Note) → list_any p ns ≡ true → 1 ≤ count_by p ns
+some-counted p [] e = absurd (cc)
+some-counted p (n ∷ ns) e = go (p n) refl e (λ any. some-counted p ns any)
+  where
+    go : (b : Bool) → p n ≡ b → (b || list_any p ns) ≡ true → (list_any p ns ≡ true → 1 ≤ count_by p ns) → 1 ≤ count_by p (n ∷ ns)
+    go true is any more =
+        let one : cond {A = ℕ} (p n) 1 0 ≡ 1 = ap (λ b. cond {A = ℕ} b 1 0) is in
+        omega (arith, one, sum_by-cons (λ n. cond (p n) 1 0) n ns)
+    go false is any more = let rest = more any in omega (arith, rest, sum_by-cons (λ n. cond (p n) 1 0) n ns)
+
+once : (p : Note → Bool) (ns : List Note) (o : Option (List ℕ)) → list_any p ns ≡ is_some o
+    → ((contents : List ℕ) → o ≡ Some contents → count_by p ns ≤ 1) → count_by p ns ≡ length (option_to_list o)
+once p ns None e few = none-counted p ns e
+once p ns (Some contents) e few = let one = few contents refl in let some = some-counted p ns e in omega (arith, one, some)
+
+pub within-is : (n : ℕ) (o : Option (List ℕ)) (contents : List ℕ) → within n o ≡ Some contents → o ≡ Some contents
+within-is n None contents e = e
+within-is n (Some octets) contents e = go (nat_le (length octets) n) e
+  where
+    go : (b : Bool) → cond b (Some octets) None ≡ Some contents → Some octets ≡ Some contents
+    go true e = e
+    go false e = absurd (none-some contents e)
+
+-- An I-frame has one note of data at most, and a UI one of unit data.
+module _ (t : Terms) (l : Link) where
+  abbrev AtMostOne : Course → Type 0
+  AtMostOne c = count_by is_data c.notes ≤ 1
+
+  choose : (Q : Course → Type 0) (b : Bool) (u v : Course) → Q u → Q v → Q (cond b u v)
+  choose Q true u v x y = x
+  choose Q false u v x y = y
+
+  by-number : (nr : Seq) (f : ℕ → Step) → ((n : ℕ) (c : Course) → (f n c).notes ≡ c.notes) → (c : Course) → AtMostOne c → AtMostOne (Words.by_number t nr f c)
+  by-number nr f keeps c few = go (named c.link.a c.link.s nr)
+    where
+      go : (o : Option ℕ) → AtMostOne (elim o [ None ↦ (Words.error t code.J then Words.re_establish t) c | Some n ↦ f n c ])
+      go None = omega (arith, few, sum_by_push (λ n. cond (is_data n) 1 0) c.notes (notes.Error t.service t.tei code.J))
+      go (Some n) = subst (λ ns. count_by is_data ns ≤ 1) (sym (keeps n c)) few
+
+  contents : (ns : Seq) (p : Bool) (octets : List ℕ) → AtMostOne (MultipleFrame.contents_in_7_8 t ns p octets (begun l))
+  contents ns p octets =
+      choose AtMostOne l.own_busy _ _ (choose AtMostOne p _ _ (omega arith) (omega arith))
+      (choose AtMostOne (MultipleFrame.is_next ns l) _ _ (choose AtMostOne p _ _ (omega arith) (omega arith))
+      (choose AtMostOne (is_rejecting l) _ _ (choose AtMostOne p _ _ (omega arith) (omega arith)) (omega arith)))
+
+  information : (ns nr : Seq) (p : Bool) (octets : List ℕ) (f : ℕ → Step) → ((n : ℕ) (c : Course) → (f n c).notes ≡ c.notes)
+      → AtMostOne (MultipleFrame.information_in_7_8 t ns nr p octets f (begun l))
+  information ns nr p octets f keeps =
+      choose AtMostOne (nat_lt t.n201 (length octets)) _ _ (omega arith) (by-number nr f keeps (MultipleFrame.contents_in_7_8 t ns p octets (begun l)) (contents ns p octets))
+
+  keeps-in-7 : (n : ℕ) (c : Course) → (Established.acknowledged_by_information_in_7 n c).notes ≡ c.notes
+  keeps-in-7 n c =
+      choose (λ d. d.notes ≡ c.notes) (is_peer_busy c.link) _ _ refl
+      (choose (λ d. d.notes ≡ c.notes) (Established.is_all_sent n c.link) _ _ refl (choose (λ d. d.notes ≡ c.notes) (Established.is_beyond_acknowledged n c.link) _ _ refl refl))
+
+  i-frame : (here : State) (b : Bool) (octets : List ℕ) (ns nr : Seq) (p : Bool) → AtMostOne (Machine.frame_in here t b octets (Information ns nr p) (begun l))
+  i-frame TeiAssigned b octets ns nr p = omega arith
+  i-frame AwaitingEstablishment b octets ns nr p = omega arith
+  i-frame AwaitingRelease b octets ns nr p = omega arith
+  i-frame Established b octets ns nr p = information ns nr p octets Established.acknowledged_by_information_in_7 keeps-in-7
+  i-frame TimerRecovery b octets ns nr p = information ns nr p octets Words.acknowledge (λ n c. refl)
+
+  data-frame : (b : Bool) (octets : List ℕ) (control : Control) (contents : List ℕ) → in_i_frame control octets ≡ Some contents → AtMostOne (Machine.frame_step t b octets control (begun l))
+  data-frame b octets (Information ns nr p) contents h = i-frame l.state b octets ns nr p
+  data-frame b octets other contents h = absurd (none-some contents h)
+
+  data-few : (e : Events.Event) (contents : List ℕ) → contents_heard e ≡ Some contents → AtMostOne (Machine.course t e l)
+  data-few (Events.received (Events.frame f)) contents h = data-frame f.address.command f.info f.control contents h
+  data-few (Events.received Events.undefined) contents h = absurd (none-some contents h)
+  data-few (Events.received Events.wrong_size) contents h = absurd (none-some contents h)
+  data-few (Events.received Events.overlong) contents h = absurd (none-some contents h)
+  data-few (Events.expired timer) contents h = absurd (none-some contents h)
+  data-few (Events.requested request full) contents h = absurd (none-some contents h)
+  data-few Events.offer contents h = absurd (none-some contents h)
+  data-few Events.cleared contents h = absurd (none-some contents h)
+
+  abbrev OneUnit : Course → Type 0
+  OneUnit c = count_by is_unit c.notes ≤ 1
+
+  ui-frame : (here : State) (b : Bool) (octets : List ℕ) (p : Bool) → OneUnit (Machine.frame_in here t b octets (Ui p) (begun l))
+  ui-frame TeiAssigned b octets p = choose OneUnit (nat_lt t.n201 (length octets)) _ _ (omega arith) (omega arith)
+  ui-frame AwaitingEstablishment b octets p = choose OneUnit (nat_lt t.n201 (length octets)) _ _ (omega arith) (omega arith)
+  ui-frame AwaitingRelease b octets p = choose OneUnit (nat_lt t.n201 (length octets)) _ _ (omega arith) (omega arith)
+  ui-frame Established b octets p = choose OneUnit (nat_lt t.n201 (length octets)) _ _ (omega arith) (omega arith)
+  ui-frame TimerRecovery b octets p = choose OneUnit (nat_lt t.n201 (length octets)) _ _ (omega arith) (omega arith)
+
+  unit-frame : (b : Bool) (octets : List ℕ) (control : Control) (contents : List ℕ) → in_ui_frame control octets ≡ Some contents → OneUnit (Machine.frame_step t b octets control (begun l))
+  unit-frame b octets (Ui p) contents h = ui-frame l.state b octets p
+  unit-frame b octets other contents h = absurd (none-some contents h)
+
+  unit-few : (e : Events.Event) (contents : List ℕ) → unit_heard e ≡ Some contents → OneUnit (Machine.course t e l)
+  unit-few (Events.received (Events.frame f)) contents h = unit-frame f.address.command f.info f.control contents h
+  unit-few (Events.received Events.undefined) contents h = absurd (none-some contents h)
+  unit-few (Events.received Events.wrong_size) contents h = absurd (none-some contents h)
+  unit-few (Events.received Events.overlong) contents h = absurd (none-some contents h)
+  unit-few (Events.expired timer) contents h = absurd (none-some contents h)
+  unit-few (Events.requested request full) contents h = absurd (none-some contents h)
+  unit-few Events.offer contents h = absurd (none-some contents h)
+  unit-few Events.cleared contents h = absurd (none-some contents h)
+
+  pub noted-once : IsSound t l → (e : Events.Event) → IsNotedOnce (Machine.told t e l)
+  noted-once s e = record {
+    contents = once is_data (Machine.told t e l).notes (Machine.told t e l).delivered (event-tells t e l).1
+        (λ contents is. data-few e contents (delivered-was-heard t l e contents is));
+    unit = once is_unit (Machine.told t e l).notes (Machine.told t e l).unit (event-tells t e l).3
+        (λ contents is. unit-few e contents (within-is t.n201 (unit_heard e) contents (sym (event-unit t l s e) ∙ is)));
+  }

@@ -1,0 +1,125 @@
+-- Each delivery is acknowledged.
+use Rattle.std.proofs.Common.{◌≡◌, ℕ, ◌+◌, ◌≤◌, Bool, true, false, cond, List, [], ◌∷◌, ◌++◌, length, Option, Some, None, refl, ◌⊎◌, inl, inr, sym, ◌∙◌, arith}
+use Rattle.std.specs.Prelude.{nat_lt}
+use Rattle.lapd_seq.specs.declared.numbers.Seq.{Seq}
+use Rattle.lapd_seq.specs.Numbers.{seq}
+use Rattle.lapd_seq.specs.Circle.{named}
+use Rattle.lapd_frame.specs.declared.controls.Control.{Control}
+use Rattle.lapd_frame.specs.declared.controls.Control.TheVariants.{Information, ReceiveReady, ReceiveNotReady, Reject, Sabme, Disc, Ui, Ua, Dm, Frmr, Xid}
+use Rattle.lapd_frame.specs.declared.notes.ErrorCode.TheVariants as code
+use Rattle.model_link.specs.declared.states.State.{State}
+use Rattle.model_link.specs.declared.states.State.TheVariants.{TeiAssigned, AwaitingEstablishment, AwaitingRelease, Established, TimerRecovery}
+use Rattle.model_link.specs.declared.timers.LinkTimer.{LinkTimer}
+use Rattle.model_link.specs.declared.frames.ControlFrame.{ControlFrame}
+use Rattle.model_link.specs.declared.terms.Terms.{Terms}
+use Rattle.model_link.specs.Link.{Link}
+use Rattle.model_link.specs.Deliveries.{Arrived, information_of, eligible_of}
+use Rattle.model_link.specs.Events
+use Rattle.model_link.specs.Steps.{Course, begun, Step, ◌then◌, by_bit}
+use Rattle.model_link.specs.Words
+use Rattle.model_link.specs.MultipleFrame
+use Rattle.model_link.specs.Established
+use Rattle.model_link.specs.Machine
+use Rattle.model_link.proofs.Leads.{Leads, keeping_then, nothing_leads, depending_leads}
+use Rattle.model_link.proofs.Numbering.{delivered-at_once}
+use Rattle.laws_link.specs.Owing.{receipt, HasReceipt, Owes, IsBegunAgain}
+
+-- Nothing is delivered, or its acknowledgement is owed.
+abbrev Half : List ControlFrame → Course → Type 0
+Half ws c = (c.delivered ≡ None) ⊎ Owes ws c.link c.lost
+
+abbrev Final : Terms → List ControlFrame → Course → Type 0
+Final t ws c = Half ws c ⊎ IsBegunAgain t c.link c.notes
+
+-- what a valid N(R) does leaves it
+module _ (ws : List ControlFrame) where
+  acknowledge_owes : (n : ℕ) → Leads (Half ws) (Words.acknowledge n) (Half ws)
+  acknowledge_owes n = record { leads = λ c h. h }
+
+  start_owes : (timer : LinkTimer) → Leads (Half ws) (Words.start timer) (Half ws)
+  start_owes timer = record { leads = λ c h. h }
+
+  in_7_owes : (n : ℕ) → Leads (Half ws) (Established.acknowledged_by_information_in_7 n) (Half ws)
+  in_7_owes n = search (keeping_then, nothing_leads, depending_leads, acknowledge_owes, start_owes) depth 12 fits 4000
+
+says-ready : (b : Bool) (r : ℕ) → receipt (cond b (ReceiveNotReady (seq r) true) (ReceiveReady (seq r) true)) ≡ Some (seq r)
+says-ready true r = refl
+says-ready false r = refl
+
+put : (room : Bool) (ws : List ControlFrame) (f : ControlFrame) (r : ℕ) → receipt f.control ≡ Some (seq r)
+    → HasReceipt ws (cond room (ws ++ f ∷ []) ws) r ⊎ (1 ≤ cond {A = ℕ} room 0 (0 + 1))
+put true ws f r e = inl (record { frame = f; waits = refl; number = e })
+put false ws f r e = inr (omega arith)
+
+module _ (t : Terms) (l : Link) where
+  branch : (b : Bool) (u v : Course) → Half l.waiting u → Half l.waiting v → Half l.waiting (cond b u v)
+  branch true u v x y = x
+  branch false u v x y = y
+
+  in-sequence : (p : Bool) (octets : List ℕ) → Half l.waiting (MultipleFrame.in_sequence t p octets (begun l))
+  in-sequence true octets =
+      let one_more = (Words.count_received then Words.rejecting_is false then Words.deliver t octets) (begun l) in
+      inr (inr (put (nat_lt (length l.waiting) t.control) l.waiting (Words.response (Words.ready_to_receive true one_more.link)) (l.r + 1) (says-ready l.own_busy (l.r + 1))))
+  in-sequence false octets = inr (inl refl)
+
+  contents : (ns : Seq) (p : Bool) (octets : List ℕ) → Half l.waiting (MultipleFrame.contents_in_7_8 t ns p octets (begun l))
+  contents ns p octets =
+      branch l.own_busy _ _ (branch p _ _ (inl refl) (inl refl))
+      (branch (MultipleFrame.is_next ns l) _ _ (in-sequence p octets)
+      (branch l.rejecting _ _ (branch p _ _ (inl refl) (inl refl)) (inl refl)))
+
+  by-number : (f : ℕ → Step) → ((n : ℕ) → Leads (Half l.waiting) (f n) (Half l.waiting)) → (c : Course) → Half l.waiting c → (o : Option ℕ)
+      → Final t l.waiting (elim o [ None ↦ (Words.error t code.J then Words.re_establish t) c | Some n ↦ f n c ])
+  by-number f x c h None = inr (record { state = refl; before = c.notes; told = refl })
+  by-number f x c h (Some n) = inl ((x n).leads c h)
+
+  information : (ns nr : Seq) (p : Bool) (octets : List ℕ) (f : ℕ → Step) → ((n : ℕ) → Leads (Half l.waiting) (f n) (Half l.waiting)) → (b : Bool)
+      → Final t l.waiting (by_bit b (MultipleFrame.failed t code.O) (MultipleFrame.contents_in_7_8 t ns p octets then Words.by_number t nr f) (begun l))
+  information ns nr p octets f x true = inl (inl refl)
+  information ns nr p octets f x false =
+      let c = MultipleFrame.contents_in_7_8 t ns p octets (begun l) in
+      by-number f x c (contents ns p octets) (named c.link.a c.link.s nr)
+
+  i-frame : (here : State) (command : Bool) (ns nr : Seq) (p : Bool) (octets : List ℕ)
+      → Final t l.waiting (Machine.frame_in here t command octets (Information ns nr p) (begun l))
+  i-frame TeiAssigned command ns nr p octets = inl (inl refl)
+  i-frame AwaitingEstablishment command ns nr p octets = inl (inl refl)
+  i-frame AwaitingRelease command ns nr p octets = inl (inl refl)
+  i-frame Established command ns nr p octets = information ns nr p octets Established.acknowledged_by_information_in_7 (in_7_owes l.waiting) (nat_lt t.n201 (length octets))
+  i-frame TimerRecovery command ns nr p octets = information ns nr p octets Words.acknowledge (acknowledge_owes l.waiting) (nat_lt t.n201 (length octets))
+
+  -- only an I-frame is eligible
+  frames : (command : Bool) (octets : List ℕ) (control : Control) (i : Arrived) → eligible_of t l (information_of control octets) ≡ Some i
+      → Final t l.waiting (Machine.frame_step t command octets control (begun l))
+  frames command octets (Information ns nr p) i e = i-frame l.state command ns nr p octets
+  frames command octets (ReceiveReady nr pf) i e = absurd (cc)
+  frames command octets (ReceiveNotReady nr pf) i e = absurd (cc)
+  frames command octets (Reject nr pf) i e = absurd (cc)
+  frames command octets (Sabme p) i e = absurd (cc)
+  frames command octets (Disc p) i e = absurd (cc)
+  frames command octets (Ui p) i e = absurd (cc)
+  frames command octets (Ua f) i e = absurd (cc)
+  frames command octets (Dm f) i e = absurd (cc)
+  frames command octets (Frmr f) i e = absurd (cc)
+  frames command octets (Xid pf) i e = absurd (cc)
+
+  event-final : (e : Events.Event) (i : Arrived) → Rattle.model_link.specs.Deliveries.eligible t e l ≡ Some i → Final t l.waiting (Machine.course t e l)
+  event-final (Events.received (Events.frame f)) i e = frames f.address.command f.info f.control i e
+  event-final (Events.received Events.undefined) i e = absurd (cc)
+  event-final (Events.received Events.wrong_size) i e = absurd (cc)
+  event-final (Events.received Events.overlong) i e = absurd (cc)
+  event-final (Events.expired timer) i e = absurd (cc)
+  event-final (Events.requested request full) i e = absurd (cc)
+  event-final Events.offer i e = absurd (cc)
+  event-final Events.cleared i e = absurd (cc)
+
+  delivering : (c : Course) (octets : List ℕ) → c.delivered ≡ Some octets → Final t l.waiting c → Owes l.waiting c.link c.lost ⊎ IsBegunAgain t c.link c.notes
+  delivering c octets d (inr x) = inr x
+  delivering c octets d (inl (inr x)) = inl x
+  delivering c octets d (inl (inl x)) = absurd (let none : None ≡ Some octets = sym x ∙ d in cc)
+
+  pub acknowledged : (e : Events.Event) (octets : List ℕ) → (Machine.told t e l).delivered ≡ Some octets
+      → Owes l.waiting (Machine.after t e l) (Machine.told t e l).lost ⊎ IsBegunAgain t (Machine.after t e l) (Machine.told t e l).notes
+  acknowledged e octets d =
+      let x = delivered-at_once t e l octets d in
+      delivering (Machine.course t e l) octets d (event-final e x.0 x.1)

@@ -1,0 +1,264 @@
+-- What each row of the tables makes of the contents of a link, of V(A) and of V(S).
+use Rattle.std.proofs.Common.{◌≡◌, ℕ, ◌-◌, ◌≤◌, Bool, true, false, cond, not, ◌==◌, List, [], length, take, drop, length-take-le, Option, Some, None, IsTrue, true≢false, refl, ◌⊎◌, inl, inr, sym, ap, ◌∙◌, arith, eqb-true}
+use Rattle.std.specs.Prelude.{nat_lt}
+use Rattle.std.specs.Option.{option_map_or}
+use Rattle.std.proofs.lemmas.Bool.{ltb-false}
+use Rattle.std.proofs.lemmas.List.{drop_all, take_all}
+use Rattle.lapd_seq.specs.declared.numbers.Seq.{Seq}
+use Rattle.lapd_seq.specs.Circle.{named}
+use Rattle.lapd_frame.specs.declared.controls.Control.{Control}
+use Rattle.lapd_frame.specs.declared.controls.Control.TheVariants.{Information, ReceiveReady, ReceiveNotReady, Reject, Sabme, Disc, Ui, Ua, Dm, Frmr, Xid}
+use Rattle.lapd_frame.specs.declared.notes.ErrorCode.{ErrorCode}
+use Rattle.lapd_frame.specs.declared.notes.ErrorCode.TheVariants as code
+use Rattle.model_link.specs.declared.states.State.TheVariants.{Established}
+use Rattle.model_link.specs.declared.timers.LinkTimer.{LinkTimer}
+use Rattle.model_link.specs.declared.timers.LinkTimer.TheVariants.{T200, T203}
+use Rattle.model_link.specs.declared.terms.Terms.{Terms}
+use Rattle.model_link.specs.Link.{Link, has_outstanding, is_peer_busy}
+use Rattle.model_link.specs.Steps.{Course, begun, Step, ◌then◌, by_bit}
+use Rattle.model_link.specs.Words
+use Rattle.model_link.specs.TeiAssigned.{frame_in_4, release_in_4, establish_in_4}
+use Rattle.model_link.specs.AwaitingEstablishment
+use Rattle.model_link.specs.AwaitingRelease
+use Rattle.model_link.specs.MultipleFrame
+use Rattle.model_link.specs.Established
+use Rattle.model_link.specs.TimerRecovery
+use Rattle.model_link.proofs.Leads.{Leads, keeping_then, depending_leads, bit_leads, tested_leads, from_more}
+use Rattle.laws_link.specs.Accepted.{beyond, number_of}
+use Rattle.laws_link.proofs.Queueing.{Claim, On, words}
+use Rattle.laws_link.proofs.Moves.{Moves, Stays, stays, number_moves}
+
+-- whether a frame is a UI
+abbrev pub is_ui : Control → Bool
+is_ui (Ui p) = true
+is_ui (Information ns nr p) = false
+is_ui (ReceiveReady nr pf) = false
+is_ui (ReceiveNotReady nr pf) = false
+is_ui (Reject nr pf) = false
+is_ui (Sabme p) = false
+is_ui (Disc p) = false
+is_ui (Ua f) = false
+is_ui (Dm f) = false
+is_ui (Frmr f) = false
+is_ui (Xid pf) = false
+
+-- how many contents an N(R) acknowledges, if it is there, where the link is in state 7 or 8
+abbrev pub count : ℕ → ℕ → Option Seq → ℕ
+count a s None = 0
+count a s (Some nr) = option_map_or (beyond a) (named a s nr) 0
+
+module _ (t : Terms) (l : Link) (ordered : l.a ≤ l.s) (most : l.s ≤ length l.contents) where
+  abbrev pub Stay : Claim
+  Stay = Stays l.contents l.a l.s ordered most
+
+  abbrev pub Move : ℕ → Claim
+  Move n = Moves l.contents l.a l.s n
+
+  pub begins : On Stay (begun l)
+  begins = record { contents = refl; acknowledged = refl; sent = refl; quiet = refl; goes_on = refl; no_unit = refl }
+
+  pub still : (f : Step) → Leads (On Stay) f (On Stay) → On (Move 0) (f (begun l))
+  still f x = stays l.contents l.a l.s ordered most (f (begun l)) (x.leads (begun l) begins)
+
+  either : {n : ℕ} (b : Bool) (u v : Course) → On (Move n) u → On (Move n) v → On (Move n) (cond b u v)
+  either true u v x y = x
+  either false u v x y = y
+
+  -- Nothing is kept where as many contents are acknowledged as there are.
+  none-left : length l.contents ≡ l.a → drop l.s l.contents ≡ []
+  none-left none = drop_all l.s l.contents (omega (arith, ordered, none))
+
+  all-taken : length l.contents ≡ l.a → l.contents ≡ take l.a l.contents
+  all-taken none = sym (take_all l.a l.contents (omega (arith, none)))
+
+  rest-goes : drop l.a (take l.a l.contents) ≡ []
+  rest-goes = drop_all l.a (take l.a l.contents) (omega (arith, length-take-le l.a l.contents (omega (arith, ordered, most))))
+
+  same-place : has_outstanding l ≡ false → l.s ≡ l.a
+  same-place e = eqb-true l.s l.a (go (l.s == l.a) e)
+    where
+      go : (b : Bool) → not b ≡ false → b ≡ true
+      go true e = refl
+      go false e = absurd (true≢false e)
+
+  -- State 4.
+  pub frames_in_4 : length l.contents ≡ l.a → (octets : List ℕ) (control : Control) → is_ui control ≡ false → On (Move 0) (frame_in_4 t octets control (begun l))
+  frames_in_4 none octets (Sabme p) is = inr (inr (record { none = refl; contents = none-left none; acknowledged = refl; sent = refl; begins = refl; no_unit = refl }))
+  frames_in_4 none octets (Ua true) is = still (frame_in_4 t octets (Ua true)) (search words)
+  frames_in_4 none octets (Ua false) is = still (frame_in_4 t octets (Ua false)) (search words)
+  frames_in_4 none octets (Ui p) is = absurd (true≢false is)
+  frames_in_4 none octets other is = still (frame_in_4 t octets other) (search words)
+
+  pub released_in_4 : length l.contents ≡ l.a → On (Move 0) (release_in_4 t (begun l))
+  released_in_4 none =
+      inr (inl (record { contents = all-taken none; acknowledged = refl; sent = omega (arith, ordered, most, none); told = refl; goes_on = refl; no_unit = refl }))
+
+  pub established_in_4 : On (Move 0) (establish_in_4 t (begun l))
+  established_in_4 = still (establish_in_4 t) (search words)
+
+  -- State 5.
+  answered-in-5 : (IsTrue l.asked → length l.contents ≡ l.a) → (b : Bool) → l.asked ≡ b → (d : Bool) → has_outstanding l ≡ d
+      → On (Move 0) ((Words.zero_numbers then Words.start T203 then Words.enter Established)
+      (cond b (Words.establish_confirm t (begun l)) (cond d ((Words.discard then Words.establish_indication t) (begun l)) (begun l))))
+  answered-in-5 none true e d e' =
+      inr (inr (record {
+        none = refl;
+        contents = none-left (none e) ∙ sym (drop_all l.a l.contents (omega (arith, none e)));
+        acknowledged = refl;
+        sent = refl;
+        begins = refl;
+        no_unit = refl;
+      }))
+  answered-in-5 none false e true e' = inr (inr (record { none = refl; contents = rest-goes; acknowledged = refl; sent = refl; begins = refl; no_unit = refl }))
+  answered-in-5 none false e false e' =
+      inr (inr (record { none = refl; contents = ap (λ n. drop n l.contents) (same-place e'); acknowledged = refl; sent = refl; begins = refl; no_unit = refl }))
+
+  pub frames_in_5 : (IsTrue l.asked → length l.contents ≡ l.a) → (octets : List ℕ) (control : Control) → is_ui control ≡ false → On (Move 0) (AwaitingEstablishment.frame_in_5 t octets control (begun l))
+  frames_in_5 none octets (Ua true) is = answered-in-5 none l.asked refl (has_outstanding l) refl
+  frames_in_5 none octets (Ua false) is = still (AwaitingEstablishment.frame_in_5 t octets (Ua false)) (search words)
+  frames_in_5 none octets (Dm true) is = inr (inl (record { contents = refl; acknowledged = refl; sent = refl; told = refl; goes_on = refl; no_unit = refl }))
+  frames_in_5 none octets (Dm false) is = still (AwaitingEstablishment.frame_in_5 t octets (Dm false)) (search words)
+  frames_in_5 none octets (Ui p) is = absurd (true≢false is)
+  frames_in_5 none octets other is = still (AwaitingEstablishment.frame_in_5 t octets other) (search words)
+
+  pub t200_in_5 : On (Move 0) (AwaitingEstablishment.t200_in_5 t (begun l))
+  t200_in_5 =
+      let again : Leads (On Stay) (Words.send t (Words.command (Sabme true)) then Words.repeated then Words.start T200) (On Stay) = search words in
+      either (nat_lt l.repeats t.n200) _ _ (still (Words.send t (Words.command (Sabme true)) then Words.repeated then Words.start T200) again)
+      (inr (inl (record { contents = refl; acknowledged = refl; sent = refl; told = refl; goes_on = refl; no_unit = refl })))
+
+  -- State 6.
+  pub frames_in_6 : length l.contents ≡ l.a → (octets : List ℕ) (control : Control) → is_ui control ≡ false → On (Move 0) (AwaitingRelease.frame_in_6 t octets control (begun l))
+  frames_in_6 none octets (Ua true) is =
+      inr (inl (record { contents = all-taken none; acknowledged = refl; sent = omega (arith, ordered, most, none); told = refl; goes_on = refl; no_unit = refl }))
+  frames_in_6 none octets (Ua false) is = still (AwaitingRelease.frame_in_6 t octets (Ua false)) (search words)
+  frames_in_6 none octets (Dm true) is =
+      inr (inl (record { contents = all-taken none; acknowledged = refl; sent = omega (arith, ordered, most, none); told = refl; goes_on = refl; no_unit = refl }))
+  frames_in_6 none octets (Dm false) is = still (AwaitingRelease.frame_in_6 t octets (Dm false)) (search words)
+  frames_in_6 none octets (Ui p) is = absurd (true≢false is)
+  frames_in_6 none octets other is = still (AwaitingRelease.frame_in_6 t octets other) (search words)
+
+  pub t200_in_6 : length l.contents ≡ l.a → On (Move 0) (AwaitingRelease.t200_in_6 t (begun l))
+  t200_in_6 none =
+      let again : Leads (On Stay) (Words.send t (Words.command (Disc true)) then Words.repeated then Words.start T200) (On Stay) = search words in
+      either (nat_lt l.repeats t.n200) _ _ (still (Words.send t (Words.command (Disc true)) then Words.repeated then Words.start T200) again)
+      (inr (inl (record { contents = all-taken none; acknowledged = refl; sent = omega (arith, ordered, most, none); told = refl; goes_on = refl; no_unit = refl })))
+
+  -- States 7 and 8.
+  sabme-again : (p d : Bool) → has_outstanding l ≡ d
+      → let c = (Words.send t (Words.response (Ua p)) then Words.clear_flags then Words.error t code.F) (begun l) in
+      On (Move 0) ((Words.zero_numbers then Words.start T203 then Words.enter Established) (cond d ((Words.discard then Words.establish_indication t) c) c))
+  sabme-again p true e = inr (inr (record { none = refl; contents = rest-goes; acknowledged = refl; sent = refl; begins = refl; no_unit = refl }))
+  sabme-again p false e =
+      inr (inr (record { none = refl; contents = ap (λ n. drop n l.contents) (same-place e); acknowledged = refl; sent = refl; begins = refl; no_unit = refl }))
+
+  -- an N(R) that names m
+  went : (m : ℕ) → l.a ≤ m → m ≤ l.s → (all : List (List ℕ)) (a s : ℕ) (loss zeroed : Bool) (unit : Option (List ℕ))
+      → all ≡ l.contents → a ≡ m → (s ≡ l.s) ⊎ (s ≡ a) → loss ≡ false → zeroed ≡ false → unit ≡ None
+      → Moves l.contents l.a l.s (m - l.a) all a s loss zeroed unit
+  went m from to all a s loss zeroed unit e e' sent quiet on none =
+      inl (record {
+        contents = e;
+        acknowledged = omega (arith, e', from);
+        among = omega (arith, from, to, most);
+        sent = sent;
+        quiet = quiet;
+        goes_on = on;
+        no_unit = none;
+      })
+
+  acknowledging : (m : ℕ) → l.a ≤ m → m ≤ l.s → Leads (On Stay) (Words.acknowledge m) (On (Move (m - l.a)))
+  acknowledging m from to =
+      record { leads = λ c h. went m from to c.link.contents m c.link.s _ c.zeroed c.unit h.contents refl (inl h.sent) h.quiet h.goes_on h.no_unit }
+
+  acknowledging-then : (m : ℕ) → l.a ≤ m → m ≤ l.s → (timer : LinkTimer) → Leads (On Stay) (Words.acknowledge m then Words.start timer) (On (Move (m - l.a)))
+  acknowledging-then m from to timer =
+      record { leads = λ c h. went m from to c.link.contents m c.link.s _ c.zeroed c.unit h.contents refl (inl h.sent) h.quiet h.goes_on h.no_unit }
+
+  in-7 : (m : ℕ) → l.a ≤ m → m ≤ l.s → Leads (On Stay) (Established.acknowledged_in_7 m) (On (Move (m - l.a)))
+  in-7 m from to =
+      depending_leads (Established.is_all_sent m) (acknowledging-then m from to T203)
+      (tested_leads (Established.is_beyond_acknowledged m) (from_more (λ c h. h.holds) (acknowledging-then m from to T200))
+      (record {
+        leads = λ c h.
+            let none : m ≤ c.link.a = ltb-false c.link.a m h.told in
+            let at : c.link.a ≡ l.a = h.holds.acknowledged in
+            went m from to c.link.contents c.link.a c.link.s _ c.zeroed c.unit h.holds.contents (omega (arith, none, at, from)) (inl h.holds.sent) h.holds.quiet h.holds.goes_on h.holds.no_unit;
+      }))
+
+  in-7-by-information : (m : ℕ) → l.a ≤ m → m ≤ l.s → Leads (On Stay) (Established.acknowledged_by_information_in_7 m) (On (Move (m - l.a)))
+  in-7-by-information m from to = depending_leads is_peer_busy (acknowledging m from to) (in-7 m from to)
+
+  in-7-by-rej : (m : ℕ) → l.a ≤ m → m ≤ l.s → Leads (On Stay) (Established.acknowledged_by_rej_in_7 m) (On (Move (m - l.a)))
+  in-7-by-rej m from to =
+      record { leads = λ c h. went m from to c.link.contents m m _ c.zeroed c.unit h.contents refl (inr refl) h.quiet h.goes_on h.no_unit }
+
+  in-8 : (timer : LinkTimer) (final : Bool) (m : ℕ) → l.a ≤ m → m ≤ l.s → Leads (On Stay) (TimerRecovery.acknowledged_in_8 timer final m) (On (Move (m - l.a)))
+  in-8 timer final m from to =
+      bit_leads final
+      (record { leads = λ c h. went m from to c.link.contents m m _ c.zeroed c.unit h.contents refl (inr refl) h.quiet h.goes_on h.no_unit })
+      (acknowledging m from to)
+
+  numbers : (nr : Seq) {f : ℕ → Step} → ((m : ℕ) → l.a ≤ m → m ≤ l.s → Leads (On Stay) (f m) (On (Move (m - l.a))))
+      → Leads (On Stay) (Words.by_number t nr f) (On (Move (count l.a l.s (Some nr))))
+  numbers nr x = number_moves l.contents l.a l.s ordered most t nr x
+
+  moved : {n : ℕ} (f : Step) → Leads (On Stay) f (On (Move n)) → On (Move n) (f (begun l))
+  moved f x = x.leads (begun l) begins
+
+  pub failed_moves : (e : ErrorCode) → On (Move 0) (MultipleFrame.failed t e (begun l))
+  failed_moves e = still (MultipleFrame.failed t e) (search words)
+
+  contents_lead : (ns : Seq) (p : Bool) (octets : List ℕ) → Leads (On Stay) (MultipleFrame.contents_in_7_8 t ns p octets) (On Stay)
+  contents_lead ns p octets = search words depth 12 fits 4000
+
+  information : (ns nr : Seq) (p : Bool) (octets : List ℕ) (f : ℕ → Step)
+      → ((m : ℕ) → l.a ≤ m → m ≤ l.s → Leads (On Stay) (f m) (On (Move (m - l.a)))) → (b : Bool)
+      → On (Move (count l.a l.s (cond b None (Some nr)))) (by_bit b (MultipleFrame.failed t code.O) (MultipleFrame.contents_in_7_8 t ns p octets then Words.by_number t nr f) (begun l))
+  information ns nr p octets f x true = failed_moves code.O
+  information ns nr p octets f x false = moved (MultipleFrame.contents_in_7_8 t ns p octets then Words.by_number t nr f) (keeping_then (contents_lead ns p octets) (numbers nr x))
+
+  pub frames_in_7 : (b : Bool) (octets : List ℕ) (control : Control) → is_ui control ≡ false
+      → On (Move (count l.a l.s (number_of t control octets))) (Established.frame_in_7 t b octets control (begun l))
+  frames_in_7 b octets (Information ns nr p) is = information ns nr p octets Established.acknowledged_by_information_in_7 in-7-by-information (nat_lt t.n201 (length octets))
+  frames_in_7 b octets (ReceiveReady nr pf) is = moved (Established.frame_in_7 t b octets (ReceiveReady nr pf)) (search (words, numbers, in-7) depth 12 fits 4000)
+  frames_in_7 b octets (ReceiveNotReady nr pf) is = moved (Established.frame_in_7 t b octets (ReceiveNotReady nr pf)) (search (words, numbers, acknowledging-then) depth 12 fits 4000)
+  frames_in_7 b octets (Reject nr pf) is = moved (Established.frame_in_7 t b octets (Reject nr pf)) (search (words, numbers, in-7-by-rej) depth 12 fits 4000)
+  frames_in_7 b octets (Sabme p) is = sabme-again p (has_outstanding l) refl
+  frames_in_7 b octets (Disc p) is = inr (inl (record { contents = refl; acknowledged = refl; sent = refl; told = refl; goes_on = refl; no_unit = refl }))
+  frames_in_7 b octets (Ua f) is = still (Established.frame_in_7 t b octets (Ua f)) (search words)
+  frames_in_7 b octets (Dm true) is = still (Established.frame_in_7 t b octets (Dm true)) (search words)
+  frames_in_7 b octets (Dm false) is = failed_moves code.E
+  frames_in_7 b octets (Frmr f) is = failed_moves code.K
+  frames_in_7 b octets (Ui p) is = absurd (true≢false is)
+  frames_in_7 b octets (Xid pf) is = still (Established.frame_in_7 t b octets (Xid pf)) (search words)
+
+  pub timer_in_7 : On (Move 0) (Established.timer_in_7 t (begun l))
+  timer_in_7 = still (Established.timer_in_7 t) (search words)
+
+  pub frames_in_8 : (b : Bool) (octets : List ℕ) (control : Control) → is_ui control ≡ false
+      → On (Move (count l.a l.s (number_of t control octets))) (TimerRecovery.frame_in_8 t b octets control (begun l))
+  frames_in_8 b octets (Information ns nr p) is = information ns nr p octets Words.acknowledge acknowledging (nat_lt t.n201 (length octets))
+  frames_in_8 b octets (ReceiveReady nr pf) is = moved (TimerRecovery.frame_in_8 t b octets (ReceiveReady nr pf)) (search (words, numbers, in-8) depth 12 fits 4000)
+  frames_in_8 b octets (ReceiveNotReady nr pf) is = moved (TimerRecovery.frame_in_8 t b octets (ReceiveNotReady nr pf)) (search (words, numbers, in-8) depth 12 fits 4000)
+  frames_in_8 b octets (Reject nr pf) is = moved (TimerRecovery.frame_in_8 t b octets (Reject nr pf)) (search (words, numbers, in-8) depth 12 fits 4000)
+  frames_in_8 b octets (Sabme p) is = sabme-again p (has_outstanding l) refl
+  frames_in_8 b octets (Disc p) is = inr (inl (record { contents = refl; acknowledged = refl; sent = refl; told = refl; goes_on = refl; no_unit = refl }))
+  frames_in_8 b octets (Ua f) is = still (TimerRecovery.frame_in_8 t b octets (Ua f)) (search words)
+  frames_in_8 b octets (Dm true) is = failed_moves code.B
+  frames_in_8 b octets (Dm false) is = failed_moves code.E
+  frames_in_8 b octets (Frmr f) is = failed_moves code.K
+  frames_in_8 b octets (Ui p) is = absurd (true≢false is)
+  frames_in_8 b octets (Xid pf) is = still (TimerRecovery.frame_in_8 t b octets (Xid pf)) (search words)
+
+  pub t200_in_8 : On (Move 0) (TimerRecovery.t200_in_8 t (begun l))
+  t200_in_8 =
+      let again : Leads (On Stay) (Words.enquire t then Words.repeated then Words.start T200) (On Stay) = search words in
+      either (nat_lt l.repeats t.n200) _ _ (still (Words.enquire t then Words.repeated then Words.start T200) again) (failed_moves code.I)
+
+  -- Requests of layer 3.
+  pub set_busy : On (Move 0) (MultipleFrame.set_busy_in_7_8 t (begun l))
+  set_busy = still (MultipleFrame.set_busy_in_7_8 t) (search words)
+
+  pub clear_busy : On (Move 0) (MultipleFrame.clear_busy_in_7_8 t (begun l))
+  clear_busy = still (MultipleFrame.clear_busy_in_7_8 t) (search words)

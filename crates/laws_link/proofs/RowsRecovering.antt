@@ -1,0 +1,138 @@
+-- What frames leave of a link in state 8.
+use Rattle.std.proofs.Common.{◌≡◌, ℕ, Bool, true, false, cond, not, List, length, is_some, refl, ◌==◌, [], ◌∷◌}
+use Rattle.std.specs.Prelude.{nat_lt}
+use Rattle.lapd_seq.specs.declared.numbers.Seq.{Seq}
+use Rattle.lapd_seq.specs.Circle.{named}
+use Rattle.lapd_frame.specs.declared.controls.Control.{Control}
+use Rattle.lapd_frame.specs.declared.controls.Control.TheVariants.{Information, ReceiveReady, ReceiveNotReady, Reject, Sabme, Disc, Ui, Ua, Dm, Frmr, Xid}
+use Rattle.lapd_frame.specs.declared.notes.ErrorCode.TheVariants as code
+use Rattle.lapd_frame.specs.declared.notes.Note.TheVariants as said
+use Rattle.lapd_frame.specs.Grammar.{Parts}
+use Rattle.model_link.specs.declared.states.State.TheVariants.{AwaitingEstablishment, Established, TimerRecovery}
+use Rattle.model_link.specs.declared.timers.LinkTimer.TheVariants.{T200, T203}
+use Rattle.model_link.specs.declared.terms.Terms.{Terms}
+use Rattle.model_link.specs.Link.{Link}
+use Rattle.model_link.specs.Events
+use Rattle.model_link.specs.Steps.{Course, begun, ◌then◌}
+use Rattle.model_link.specs.Words
+use Rattle.model_link.specs.MultipleFrame
+use Rattle.model_link.specs.TimerRecovery as eight
+use Rattle.laws_link.specs.States.{state_after}
+use Rattle.laws_link.specs.Waiting.{is_next, is_taken, to_information}
+use Rattle.laws_link.proofs.Columns.{left, due, due_by, at, at-busy, hears, Row, unit-left, by-named}
+
+module _ (t : Terms) where
+  -- Supervisory frames in state 8.
+  abbrev heard-8 : Bool → Bool → Bool → Link → Course
+  heard-8 busy b pf l =
+      (Words.peer_busy_is busy then MultipleFrame.answered t b pf then eight.solicited (MultipleFrame.is_final b pf)) (begun (at TimerRecovery l))
+
+  ready-8 : (l : Link) (f : Parts) (b pf : Bool) (nr : Seq) → Row t (hears f b (ReceiveReady nr pf)) (at TimerRecovery l)
+  ready-8 l f true true nr =
+      by-named t (due t (hears f true (ReceiveReady nr true)) (at TimerRecovery l)) (heard-8 false true true l) (eight.acknowledged_in_8 T203 false) (named l.a l.s nr) TimerRecovery refl (λ n. refl)
+  ready-8 l f true false nr =
+      by-named t (due t (hears f true (ReceiveReady nr false)) (at TimerRecovery l)) (heard-8 false true false l) (eight.acknowledged_in_8 T203 false) (named l.a l.s nr) TimerRecovery refl (λ n. refl)
+  ready-8 l f false true nr =
+      by-named t (due t (hears f false (ReceiveReady nr true)) (at TimerRecovery l)) (heard-8 false false true l) (eight.acknowledged_in_8 T203 true) (named l.a l.s nr) Established refl (λ n. refl)
+  ready-8 l f false false nr =
+      by-named t (due t (hears f false (ReceiveReady nr false)) (at TimerRecovery l)) (heard-8 false false false l) (eight.acknowledged_in_8 T203 false) (named l.a l.s nr) TimerRecovery refl (λ n. refl)
+
+  not-ready-8 : (l : Link) (f : Parts) (b pf : Bool) (nr : Seq) → Row t (hears f b (ReceiveNotReady nr pf)) (at TimerRecovery l)
+  not-ready-8 l f true true nr =
+      by-named t (due t (hears f true (ReceiveNotReady nr true)) (at TimerRecovery l)) (heard-8 true true true l) (eight.acknowledged_in_8 T200 false) (named l.a l.s nr) TimerRecovery refl (λ n. refl)
+  not-ready-8 l f true false nr =
+      by-named t (due t (hears f true (ReceiveNotReady nr false)) (at TimerRecovery l)) (heard-8 true true false l) (eight.acknowledged_in_8 T200 false) (named l.a l.s nr) TimerRecovery refl (λ n. refl)
+  not-ready-8 l f false true nr =
+      by-named t (due t (hears f false (ReceiveNotReady nr true)) (at TimerRecovery l)) (heard-8 true false true l) (eight.acknowledged_in_8 T200 true) (named l.a l.s nr) Established refl (λ n. refl)
+  not-ready-8 l f false false nr =
+      by-named t (due t (hears f false (ReceiveNotReady nr false)) (at TimerRecovery l)) (heard-8 true false false l) (eight.acknowledged_in_8 T200 false) (named l.a l.s nr) TimerRecovery refl (λ n. refl)
+
+  reject-8 : (l : Link) (f : Parts) (b pf : Bool) (nr : Seq) → Row t (hears f b (Reject nr pf)) (at TimerRecovery l)
+  reject-8 l f true true nr =
+      by-named t (due t (hears f true (Reject nr true)) (at TimerRecovery l)) (heard-8 false true true l) (eight.acknowledged_in_8 T203 false) (named l.a l.s nr) TimerRecovery refl (λ n. refl)
+  reject-8 l f true false nr =
+      by-named t (due t (hears f true (Reject nr false)) (at TimerRecovery l)) (heard-8 false true false l) (eight.acknowledged_in_8 T203 false) (named l.a l.s nr) TimerRecovery refl (λ n. refl)
+  reject-8 l f false true nr =
+      by-named t (due t (hears f false (Reject nr true)) (at TimerRecovery l)) (heard-8 false false true l) (eight.acknowledged_in_8 T203 true) (named l.a l.s nr) Established refl (λ n. refl)
+  reject-8 l f false false nr =
+      by-named t (due t (hears f false (Reject nr false)) (at TimerRecovery l)) (heard-8 false false false l) (eight.acknowledged_in_8 T203 false) (named l.a l.s nr) TimerRecovery refl (λ n. refl)
+
+  -- I-frames in state 8.
+  abbrev contents-8 : Bool → Bool → Bool → Bool → Link → List ℕ → Course
+  contents-8 own rej next p l octets =
+      let c = begun (at-busy TimerRecovery own rej l) in
+      cond own (MultipleFrame.dropped t p c) (cond next (MultipleFrame.in_sequence t p octets c) (MultipleFrame.out_of_sequence t p c))
+
+  information-8 : (l : Link) (f : Parts) (b : Bool) (ns nr : Seq) (own rej next p : Bool) → let x = at-busy TimerRecovery own rej l in
+      left (Words.by_number t nr Words.acknowledge (contents-8 own rej next p l f.info))
+      ≡ due_by t (hears f b (Information ns nr p)) x (to_information next p x) (cond own rej (not next)) (is_taken next x)
+      (cond (not (is_some (named l.a l.s nr))) AwaitingEstablishment TimerRecovery)
+  information-8 l f b ns nr true rej next true =
+      let x = at-busy TimerRecovery true rej l in
+      let c = contents-8 true rej next true l f.info in
+      by-named t (due_by t (hears f b (Information ns nr true)) x (to_information next true x) (cond true rej (not next)) (is_taken next x))
+      c Words.acknowledge (named l.a l.s nr) TimerRecovery refl (λ n. refl)
+  information-8 l f b ns nr true rej next false =
+      let x = at-busy TimerRecovery true rej l in
+      let c = contents-8 true rej next false l f.info in
+      by-named t (due_by t (hears f b (Information ns nr false)) x (to_information next false x) (cond true rej (not next)) (is_taken next x))
+      c Words.acknowledge (named l.a l.s nr) TimerRecovery refl (λ n. refl)
+  information-8 l f b ns nr false rej true true =
+      let x = at-busy TimerRecovery false rej l in
+      let c = contents-8 false rej true true l f.info in
+      by-named t (due_by t (hears f b (Information ns nr true)) x (to_information true true x) (cond false rej (not true)) (is_taken true x))
+      c Words.acknowledge (named l.a l.s nr) TimerRecovery refl (λ n. refl)
+  information-8 l f b ns nr false rej true false =
+      let x = at-busy TimerRecovery false rej l in
+      let c = contents-8 false rej true false l f.info in
+      by-named t (due_by t (hears f b (Information ns nr false)) x (to_information true false x) (cond false rej (not true)) (is_taken true x))
+      c Words.acknowledge (named l.a l.s nr) TimerRecovery refl (λ n. refl)
+  information-8 l f b ns nr false true false true =
+      let x = at-busy TimerRecovery false true l in
+      let c = contents-8 false true false true l f.info in
+      by-named t (due_by t (hears f b (Information ns nr true)) x (to_information false true x) (cond false true (not false)) (is_taken false x))
+      c Words.acknowledge (named l.a l.s nr) TimerRecovery refl (λ n. refl)
+  information-8 l f b ns nr false true false false =
+      let x = at-busy TimerRecovery false true l in
+      let c = contents-8 false true false false l f.info in
+      by-named t (due_by t (hears f b (Information ns nr false)) x (to_information false false x) (cond false true (not false)) (is_taken false x))
+      c Words.acknowledge (named l.a l.s nr) TimerRecovery refl (λ n. refl)
+  information-8 l f b ns nr false false false true =
+      let x = at-busy TimerRecovery false false l in
+      let c = contents-8 false false false true l f.info in
+      by-named t (due_by t (hears f b (Information ns nr true)) x (to_information false true x) (cond false false (not false)) (is_taken false x))
+      c Words.acknowledge (named l.a l.s nr) TimerRecovery refl (λ n. refl)
+  information-8 l f b ns nr false false false false =
+      let x = at-busy TimerRecovery false false l in
+      let c = contents-8 false false false false l f.info in
+      by-named t (due_by t (hears f b (Information ns nr false)) x (to_information false false x) (cond false false (not false)) (is_taken false x))
+      c Words.acknowledge (named l.a l.s nr) TimerRecovery refl (λ n. refl)
+
+  -- Frames in state 8.
+  pub in-8 : (l : Link) (f : Parts) (b : Bool) (control : Control) → Row t (hears f b control) (at TimerRecovery l)
+  in-8 l f b (Sabme p) = go (l.s == l.a)
+    where
+      go : (same : Bool) → let c = (Words.send t (Words.response (Ua p)) then Words.clear_flags then Words.error t code.F) (begun (at TimerRecovery l)) in
+          left ((Words.zero_numbers then Words.start T203 then Words.enter Established)
+          (cond (not same) ((Words.discard then Words.establish_indication t) c) c))
+          ≡ record (due t (hears f b (Sabme p)) (at TimerRecovery l) Established) { notes = said.Error t.service t.tei code.F ∷ cond same [] (said.EstablishIndication t.service t.tei ∷ []) }
+      go true = refl
+      go false = refl
+  in-8 l f b (Disc p) = refl
+  in-8 l f b (Ua true) = refl
+  in-8 l f b (Ua false) = refl
+  in-8 l f b (Ui p) = unit-left t f.info (at TimerRecovery l)
+  in-8 l f b (Xid pf) = refl
+  in-8 l f b (Information ns nr p) = go (nat_lt t.n201 (length f.info))
+    where
+      go : (over : Bool) → let e = Events.received (cond over Events.overlong (Events.frame (record f { address = record f.address { command = b }; control = Information ns nr p }))) in
+          left (cond over (MultipleFrame.failed t code.O (begun (at TimerRecovery l))) ((MultipleFrame.contents_in_7_8 t ns p f.info then Words.by_number t nr Words.acknowledge) (begun (at TimerRecovery l))))
+          ≡ due t e (at TimerRecovery l) (state_after t e (at TimerRecovery l))
+      go true = refl
+      go false = information-8 l f b ns nr l.own_busy l.rejecting (is_next ns l) p
+  in-8 l f b (ReceiveReady nr pf) = ready-8 l f b pf nr
+  in-8 l f b (ReceiveNotReady nr pf) = not-ready-8 l f b pf nr
+  in-8 l f b (Reject nr pf) = reject-8 l f b pf nr
+  in-8 l f b (Dm true) = refl
+  in-8 l f b (Dm false) = refl
+  in-8 l f b (Frmr p) = refl

@@ -1,0 +1,54 @@
+-- An offer leaves the timers that run.
+use Rattle.std.proofs.Common.{◌≡◌, Bool, true, false, cond, List, [], ◌∷◌, Option, Some, None, refl, inl, inr}
+use Rattle.std.specs.Prelude.{IfSome}
+use Rattle.lapd_frame.specs.declared.timers.Order.TheVariants.{Start, Stop}
+use Rattle.model_link.specs.declared.frames.ControlFrame.{ControlFrame}
+use Rattle.model_link.specs.declared.timers.LinkTimer.{LinkTimer}
+use Rattle.model_link.specs.declared.timers.LinkTimer.TheVariants.{T200, T203}
+use Rattle.model_link.specs.declared.terms.Terms.{Terms}
+use Rattle.model_link.specs.Link.{Link}
+use Rattle.model_link.specs.Events as events
+use Rattle.model_link.specs.Machine.{course, after, given, given_of}
+use Rattle.model_link.specs.Offers
+use Rattle.model_link.specs.Steps.{Course, Sent, begun, ◌then◌, changed}
+use Rattle.model_link.specs.Told.{runs, timer_at, orders_for}
+use Rattle.model_link.specs.Words
+use Rattle.laws_link.specs.Starting.{LeavesTimers}
+
+-- no order where no timer was started, and the same runs
+none-ordered : (t : Terms) (running : Option LinkTimer) → orders_for t running None running ≡ []
+none-ordered t None = refl
+none-ordered t (Some T200) = refl
+none-ordered t (Some T203) = refl
+
+-- T200 was started where it did not run
+t200-ordered : (t : Terms) (running : Option LinkTimer)
+    → orders_for t running (Some T200) (Some T200) ≡ Start (timer_at t T200) ∷ cond (runs T203 running) (Stop (timer_at t T203) ∷ []) []
+t200-ordered t None = refl
+t200-ordered t (Some T200) = refl
+t200-ordered t (Some T203) = refl
+
+module _ (t : Terms) (l : Link) where
+  abbrev Leaves : Course → Type 0
+  Leaves c = LeavesTimers t l c.link (orders_for t l.running c.started c.link.running)
+
+  tested : (b : Bool) (u v : Course) → (b ≡ true → Leaves u) → (b ≡ false → Leaves v) → Leaves (cond b u v)
+  tested true u v x y = x refl
+  tested false u v x y = y refl
+
+  offering : (ws : List ControlFrame) → Leaves (Offers.offer_among t ws (begun l))
+  offering (f ∷ fs) = inl (none-ordered t l.running)
+  offering [] =
+      let one_more = (Offers.give_information then changed Offers.with_one_sent then Words.pending_is false) (begun l) in
+      tested (Offers.may_send_information t l) _ _
+      (λ may.
+      tested (Offers.is_awaiting_acknowledgement one_more.link) one_more (Words.start T200 one_more) (λ runs. inl (none-ordered t l.running))
+      (λ idle. inr (record { counted = refl; idle = idle; orders_are = t200-ordered t l.running })))
+      (λ may_not. tested l.pending _ _ (λ owed. inl (none-ordered t l.running)) (λ none. inl (none-ordered t l.running)))
+
+  from-sent : (c : Course) (o : Option Sent) → Leaves c → IfSome (given_of t l c o) (λ g. LeavesTimers t l c.link g.orders)
+  from-sent c None x = tt
+  from-sent c (Some s) x = x
+
+  pub given-leaves : IfSome (given t l) (λ g. LeavesTimers t l (after t events.offer l) g.orders)
+  given-leaves = from-sent (course t events.offer l) (course t events.offer l).sent (offering l.waiting)

@@ -1,0 +1,10 @@
+use Rattle.std.proofs.Common.{refl}
+use Rattle.laws_link.specs.Ends.{begun}
+use Rattle.laws_link.proofs.Facing.{near-all, far-all}
+use Rattle.laws_link.proofs.laws.ends_hold_what_was_accepted.Goals as goal
+
+pub returns-clause-near : goal.returns-clause-near
+returns-clause-near c = λ ds e r s. near-all ds e (begun e.near) (record { ranges = r; sound = s; counted = record { accepted = refl; acknowledged = refl } })
+
+pub returns-clause-far : goal.returns-clause-far
+returns-clause-far c = λ ds e r s. far-all ds e (begun e.far) (record { ranges = r; sound = s; counted = record { accepted = refl; acknowledged = refl } })

@@ -1,0 +1,71 @@
+-- Worked values: the numbers of a link begin anew, and it is told.
+use Rattle.std.specs.Prelude.{◌≡◌, Bool, true, false, [], ◌∷◌, refl}
+use Rattle.std.specs.List.{list_any}
+use Rattle.lapd_seq.specs.Numbers.{seq}
+use Rattle.lapd_seq.specs.Circle.{distance_of, named}
+use Rattle.lapd_frame.specs.Reading.{supervisory_of, unnumbered_of, control_of, header_of, reading}
+use Rattle.model_link.specs.Deliveries.{restarts}
+use Rattle.model_link.specs.Link.{Link, fresh}
+use Rattle.model_link.specs.Events.{Event, Data, Establish, offer, cleared}
+use Rattle.model_link.specs.Machine.{after_all, told}
+use Rattle.model_link.specs.Worked.{usual, comes, ask, sabme, up}
+use Rattle.laws_link.specs.Beginning.{tells_beginning}
+
+abbrev tells : Event → Link → Bool
+tells e l = list_any tells_beginning (told usual e l).notes
+
+abbrev ua : Event
+ua = comes (0x02 ∷ 0x81 ∷ 0x73 ∷ [])
+
+-- SABME, in state 4 by an indication, and in state 7 by error F;
+sabme_in_4 : restarts usual sabme fresh ≡ true
+unfolding seq distance_of named reading header_of control_of unnumbered_of supervisory_of after_all
+sabme_in_4 = refl
+
+sabme_in_4_told : tells sabme fresh ≡ true
+unfolding seq distance_of named reading header_of control_of unnumbered_of supervisory_of after_all
+sabme_in_4_told = refl
+
+sabme_in_7 : restarts usual sabme up ≡ true
+unfolding seq distance_of named reading header_of control_of unnumbered_of supervisory_of after_all
+sabme_in_7 = refl
+
+sabme_in_7_told : tells sabme up ≡ true
+unfolding seq distance_of named reading header_of control_of unnumbered_of supervisory_of after_all
+sabme_in_7_told = refl
+
+-- UA that answers an establishment which layer 3 asked for, by a confirm;
+abbrev asked : Link
+asked = after_all usual (ask Establish ∷ offer ∷ []) fresh
+
+ua_asked : restarts usual ua asked ≡ true
+unfolding seq distance_of named reading header_of control_of unnumbered_of supervisory_of after_all
+ua_asked = refl
+
+ua_asked_told : tells ua asked ≡ true
+unfolding seq distance_of named reading header_of control_of unnumbered_of supervisory_of after_all
+ua_asked_told = refl
+
+-- and without a note UA that answers one which this side began itself, after DM with F=0, and the end of the TEI.
+abbrev begun_again : Link
+begun_again = after_all usual (comes (0x02 ∷ 0x81 ∷ 0x0F ∷ []) ∷ offer ∷ []) up
+
+ua_not_asked : restarts usual ua begun_again ≡ true
+unfolding seq distance_of named reading header_of control_of unnumbered_of supervisory_of after_all
+ua_not_asked = refl
+
+ua_not_asked_untold : tells ua begun_again ≡ false
+unfolding seq distance_of named reading header_of control_of unnumbered_of supervisory_of after_all
+ua_not_asked_untold = refl
+
+by_its_tei : restarts usual cleared up ≡ true
+unfolding seq distance_of named reading header_of control_of unnumbered_of supervisory_of after_all
+by_its_tei = refl
+
+-- REJ that takes V(S) back to 0 begins no numbers anew.
+abbrev sent : Link
+sent = after_all usual (ask (Data (1 ∷ [])) ∷ offer ∷ []) up
+
+rej_begins_none : restarts usual (comes (0x02 ∷ 0x81 ∷ 0x09 ∷ 0x00 ∷ [])) sent ≡ false
+unfolding seq distance_of named reading header_of control_of unnumbered_of supervisory_of after_all
+rej_begins_none = refl

@@ -1,0 +1,103 @@
+-- By how much each event lets rise what may be sent.
+use Rattle.std.proofs.Common.{◌≡◌, ℕ, ◌+◌, ◌*◌, ◌≤◌, ◌<◌, Bool, true, false, length, nat_le, Option, Some, None, option_to_list, ap, sym, ◌∙◌, cond, arith}
+use Rattle.std.specs.Prelude.{sum_by, count_by}
+use Rattle.std.specs.Option.{option_map_or}
+use Rattle.std.proofs.lemmas.Bool.{false≢true}
+use Rattle.lapd_bits.specs.Stream as stream
+use Rattle.lapd_frame.specs.declared.timers.Timer.{Timer}
+use Rattle.model_line.specs.Answer as happening
+use Rattle.model_line.specs.Answer.{octet, expiry, request, pull}
+use Rattle.model_line.specs.Counts as line
+use Rattle.model_line.specs.declared.config.Config.{Config}
+use Rattle.model_line.specs.Line.{Line}
+use Rattle.model_line.specs.Machine as lines
+use Rattle.model_line.specs.Refusal.{refusal}
+use Rattle.model_line.specs.Request.{Request}
+use Rattle.model_line.proofs.ByEvent.{counted_one, falls_by_pull}
+use Rattle.model_line.proofs.EventsReject.{expiry_none, request_none}
+use Rattle.model_line.proofs.LineRises.{brings}
+use Rattle.model_line.proofs.RejectsHeard.{octet_rejects}
+use Rattle.model_card.specs.ByEvent.{RisesByOctet, RisesByExpiry, RisesByRequest, FallsByPull, RisesBy, IsPriced}
+use Rattle.model_card.specs.Card.{Card, line_at}
+use Rattle.model_card.specs.Counts.{window}
+use Rattle.model_card.specs.Event.{at}
+use Rattle.model_card.specs.Laws.{FramesByEvent}
+use Rattle.model_card.specs.Sound.{IsSound}
+use Rattle.model_card.proofs.Amortised.{event_within}
+use Rattle.model_card.proofs.Heard.{event_heard}
+use Rattle.model_card.proofs.EachMoment.{each_moment}
+use Rattle.model_card.proofs.Steps.{has_lines, by_room, line_sound, one_line}
+
+-- only an octet is an REJ
+no_reject : (k : ℕ) (b : Bool) → b ≡ false → k * line.one b ≡ 0
+no_reject k true e = absurd (false≢true (sym e))
+no_reject k false e = omega arith
+
+-- an REJ is a frame that is heard
+long_is_frame : (o : Option stream.Event) → count_by line.is_long_frame (option_to_list o) ≤ count_by line.is_frame (option_to_list o)
+long_is_frame None = omega arith
+long_is_frame (Some (stream.frame octets)) = go (nat_le 4 (length octets))
+  where
+    go : (b : Bool) → 0 + cond {A = ℕ} b 1 0 ≤ 1
+    go true = omega arith
+    go false = omega arith
+long_is_frame (Some (stream.overlong head)) = omega arith
+long_is_frame (Some (stream.dropped cause)) = omega arith
+
+line_rejects : (c : Config) (value : ℕ) (l : Line) → line.one (line.rejects c (octet value) l) ≤ line.one (line.hears c (octet value) l)
+line_rejects c value l =
+    let b = brings c l value in
+    let heard = counted_one line.is_frame b.event ∙ ap (λ o. line.one (option_map_or line.is_frame o false)) (sym b.gains) in
+    omega (arith, octet_rejects c value l, b.long_frames, long_is_frame b.event, heard)
+
+octets : (card : Card) (number value : ℕ) → IsSound card → number < card.config.lines → RisesByOctet number value card
+octets card number value s within =
+    let e = at number (octet value) in
+    let heard = event_heard card e (has_lines card s) within in
+    let rise = event_within card e (has_lines card s) within in
+    (heard, line_rejects card.config value (line_at number card), omega (arith, rise))
+
+expiries : (card : Card) (number : ℕ) (timer : Timer) → IsSound card → number < card.config.lines → RisesByExpiry number timer card
+expiries card number timer s within =
+    let e = at number (expiry timer) in
+    let rise = event_within card e (has_lines card s) within in
+    let none = no_reject (window card.config) (line.rejects card.config e.what (line_at number card)) (expiry_none (line_at number card) timer) in
+    omega (arith, rise, none)
+
+requests : (card : Card) (number : ℕ) (r : Request) → IsSound card → number < card.config.lines → RisesByRequest number r card
+requests card number r s within =
+    let e = at number (request r) in
+    let l = line_at number card in
+    let rise = event_within card e (has_lines card s) within in
+    let none = no_reject (window card.config) (line.rejects card.config e.what l) (request_none l r (refusal card.config false r l)) in
+    omega (arith, rise, none)
+
+-- a pull finds room, and is one of its line
+pulls : (card : Card) (number : ℕ) → IsSound card → number < card.config.lines → FallsByPull number card
+pulls card number s within =
+    let e = at number pull in
+    by_room (λ ls a.
+    (line.one (line.is_begun a) + sum_by (line.may_send card.config) ls ≤ sum_by (line.may_send card.config) card.lines)
+    × (sum_by (line.may_send card.config) card.lines ≤ sum_by (line.may_send card.config) ls + 2 * line.one (line.is_begun a))) e card
+    (λ full. (omega arith, omega arith))
+    (λ served.
+    let l = line_at number card in
+    let falls = falls_by_pull card.config l s.config (line_sound card number (has_lines card s) within) in
+    let sums = one_line (line.may_send card.config) card number (lines.after card.config pull l) (has_lines card s) within in
+    (omega (arith, falls.0, sums), omega (arith, falls.1, sums)))
+
+-- any event
+any_event : (card : Card) (number : ℕ) (what : happening.Event) → IsSound card → number < card.config.lines → RisesBy number what card
+any_event card number (octet value) s within = octets card number value s within
+any_event card number (expiry timer) s within = expiries card number timer s within
+any_event card number (request r) s within = requests card number r s within
+any_event card number pull s within = pulls card number s within
+
+pub frames_by_event : FramesByEvent
+frames_by_event = record {
+  octets = octets;
+  expiries = expiries;
+  requests = requests;
+  pulls = pulls;
+  in_runs = each_moment IsPriced (λ card e s within. any_event card e.line e.what s within);
+}

@@ -1,0 +1,62 @@
+-- A card is sound as it begins, and each event keeps it so.
+use Rattle.std.proofs.Common.{◌≡◌, ℕ, ◌+◌, ◌*◌, ◌≤◌, ◌<◌, Bool, true, false, ◌&&◌, List, [], ◌∷◌, nat_le, ap, ◌∙◌, arith}
+use Rattle.std.specs.Prelude.{sum_by}
+use Rattle.std.proofs.lemmas.Bool.{leb-false}
+use Rattle.std.proofs.lemmas.List.Elements.{All-head, All-tail}
+use Rattle.std.proofs.lemmas.List.Folds.{sum_by-replicate}
+use Rattle.model_line.specs.declared.config.Config.{Config}
+use Rattle.model_line.specs.Counts.{one}
+use Rattle.model_line.specs.Line.{fresh_line}
+use Rattle.model_line.specs.Machine as lines
+use Rattle.model_line.specs.Sound as line
+use Rattle.model_line.specs.Stored.{slots_of}
+use Rattle.model_line.proofs.SlotsGrow.{slots_grow, fresh_slots}
+use Rattle.model_card.specs.Card.{Card, fresh, line_at, used}
+use Rattle.model_card.specs.Event.{Event}
+use Rattle.model_card.specs.Laws.{CardsStaySound}
+use Rattle.model_card.specs.Machine.{after}
+use Rattle.model_card.specs.Run.{after_all, IsAtLine, AreAtLines}
+use Rattle.model_card.specs.Sound.{IsSound}
+use Rattle.model_card.proofs.Steps.{has_lines, by_room, line_sound, after_lines, fresh_lines, one_line}
+
+-- who is not turned away finds room
+room_found : (takes : Bool) (slots in_use : ℕ) → (takes && nat_le slots in_use) ≡ false → in_use ≤ slots → in_use + one takes ≤ slots
+room_found true slots in_use e h = let below : in_use < slots = leb-false slots in_use e in omega (arith, below)
+room_found false slots in_use e h = omega (arith, h)
+
+slots_within : (card : Card) (e : Event) → IsSound card → IsAtLine card e → used (after e card) ≤ card.config.slots
+slots_within card e s within =
+    by_room (λ ls a. sum_by (slots_of card.config) ls ≤ card.config.slots) e card
+    (λ full. s.slots)
+    (λ served.
+    let l = line_at e.line card in
+    let h = has_lines card s in
+    let room = room_found (lines.takes_slot card.config e.what l) card.config.slots (used card) served s.slots in
+    omega (
+      arith,
+      room,
+      slots_grow card.config e.what l s.config (line_sound card e.line h within),
+      one_line (slots_of card.config) card e.line (lines.after card.config e.what l) h within,
+    ))
+
+pub after_is_sound : (card : Card) (e : Event) → IsSound card → IsAtLine card e → IsSound (after e card)
+after_is_sound card e s within =
+    let h = after_lines e card (has_lines card s) within in
+    record { config = h.config; count = h.count; lines = h.lines; slots = slots_within card e s within }
+
+pub always_sound : (card : Card) (events : List Event) → IsSound card → AreAtLines card events → IsSound (after_all card events)
+unfolding after_all
+always_sound card [] s within = s
+always_sound card (e ∷ events) s within =
+    always_sound (after e card) events (after_is_sound card e s (All-head (IsAtLine card) e events within)) (All-tail (IsAtLine card) e events within)
+
+pub fresh_used : (c : Config) → used (fresh c) ≡ 0
+fresh_used c = sum_by-replicate (slots_of c) c.lines (fresh_line c) ∙ omega (arith, ap (λ x. c.lines * x) (fresh_slots c))
+
+pub fresh_is_sound : (c : Config) → line.IsInRange c → IsSound (fresh c)
+fresh_is_sound c ranged =
+    let h = fresh_lines c ranged in
+    record { config = ranged; count = h.count; lines = h.lines; slots = omega (arith, fresh_used c) }
+
+pub cards_stay_sound : CardsStaySound
+cards_stay_sound = record { begins = fresh_is_sound; stays = after_is_sound; always = always_sound }

@@ -1,0 +1,56 @@
+-- The frames heard in the moments of a run are those by which the frames heard in all octets received grow.
+use Rattle.std.proofs.Common.{◌≡◌, ℕ, ◌+◌, ◌*◌, ◌≤◌, List, [], ◌∷◌, ap, arith}
+use Rattle.std.specs.Prelude.{sum_by}
+use Rattle.std.proofs.lemmas.Bool.{and_parts}
+use Rattle.std.proofs.lemmas.List.Elements.{All-head, All-tail}
+use Rattle.model_line.specs.Machine as lines
+use Rattle.model_line.specs.Counts as line
+use Rattle.model_line.proofs.ByEvent.{heard_counted, takes_no_frame}
+use Rattle.model_card.specs.Event.{Event}
+use Rattle.model_card.specs.Card.{Card, line_at, is_full}
+use Rattle.model_card.specs.Counts.{may_send, frames_heard, window, sent, heard, is_heard, accepted, expired, rejected}
+use Rattle.model_card.specs.Laws.{FramesCounted}
+use Rattle.model_card.specs.Machine.{after, answer}
+use Rattle.model_card.specs.Promises.{IsAmortised}
+use Rattle.model_card.specs.Run.{Moment, moments, after_all, IsAtLine, AreAtLines}
+use Rattle.model_card.proofs.Steps.{HasLines, has_lines, by_room, line_sound, after_lines, one_line, count_cons}
+
+-- one event
+pub event_heard : (card : Card) (e : Event) → HasLines card → IsAtLine card e
+    → frames_heard (after e card) ≡ frames_heard card + line.one (line.hears card.config e.what (line_at e.line card))
+event_heard card e h within =
+    let l = line_at e.line card in
+    by_room (λ ls a. sum_by (line.frames_heard card.config) ls ≡ frames_heard card + line.one (line.hears card.config e.what l)) e card
+    (λ full.
+    let takes = (and_parts (lines.takes_slot card.config e.what l) (is_full card) full).0 in
+    omega (arith, ap line.one (takes_no_frame card.config e.what l takes)))
+    (λ served.
+    let x = lines.after card.config e.what l in
+    omega (
+      arith,
+      heard_counted card.config e.what l h.config (line_sound card e.line h within),
+      one_line (line.frames_heard card.config) card e.line x h within,
+    ))
+
+pub run_heard : (card : Card) (events : List Event) → HasLines card → AreAtLines card events
+    → frames_heard (after_all card events) ≡ frames_heard card + heard (moments card events)
+unfolding moments after_all
+run_heard card [] h within = omega arith
+run_heard card (e ∷ events) h within =
+    let m : Moment = record { card = card; event = e; answer = answer e card } in
+    let here = All-head (IsAtLine card) e events within in
+    let first = event_heard card e h here in
+    let rest = run_heard (after e card) events (after_lines e card h here) (All-tail (IsAtLine card) e events within) in
+    omega (arith, first, rest, count_cons is_heard m (moments (after e card) events))
+
+pub frames_counted : FramesCounted
+frames_counted card events s within = run_heard card events (has_lines card s) within
+
+-- so the amortised bound may be said by all frames heard before the run and after it, too
+pub amortised_by_totals : (card : Card) (events : List Event) → HasLines card → AreAtLines card events → IsAmortised card events
+    → let ms = moments card events in
+    let end = after_all card events in
+    let k = window card.config in
+    sent ms + may_send end + 2 * frames_heard card
+    ≤ may_send card + 2 * frames_heard end + accepted ms + (k + 1) * expired ms + k * rejected ms
+amortised_by_totals card events h within bound = omega (arith, bound, run_heard card events h within)

@@ -1,0 +1,71 @@
+-- Where there is a slot for each place of each queue, the pool is never full.
+use Rattle.std.proofs.Common.{◌≡◌, ℕ, zero, suc, ◌+◌, ◌*◌, ◌≤◌, ◌<◌, false, List, [], ◌∷◌, length, get_or, subst, arith}
+use Rattle.std.specs.Prelude.{sum_by, All}
+use Rattle.std.proofs.lemmas.Bool.{and_parts, leb-true}
+use Rattle.std.proofs.lemmas.List.Elements.{All-nil, All-cons, All-head, All-tail}
+use Rattle.std.proofs.lemmas.List.Sums.{sum_by-cons, sum_by-le}
+use Rattle.model_line.specs.declared.config.Config.{Config}
+use Rattle.model_line.specs.Counts.{is_pool_full}
+use Rattle.model_line.specs.Line.{Line, fresh_line}
+use Rattle.model_line.specs.Machine as lines
+use Rattle.model_line.specs.Sound as line
+use Rattle.model_line.specs.Stored.{slots_of}
+use Rattle.model_line.proofs.NotPool.{line_not_pool}
+use Rattle.model_line.proofs.RoomForAll.{places_of, slots_few, taker_finds}
+use Rattle.model_card.specs.Card.{Card, fresh, line_at, used, is_full}
+use Rattle.model_card.specs.Event.{Event}
+use Rattle.model_card.specs.Laws.{PoolNeverFull}
+use Rattle.model_card.specs.Machine.{after, answer}
+use Rattle.model_card.specs.Promises.{IsNotRefusedForPool}
+use Rattle.model_card.specs.Run.{moments, IsAtLine, AreAtLines}
+use Rattle.model_card.proofs.Steps.{HasLines, by_room, line_sound, after_lines, fresh_lines}
+
+-- a sum of terms of at most m, by one of them
+sum_but_one : {X : Type 0} (f : X → ℕ) (m : ℕ) (xs : List X) (i : ℕ) (d : X) → i < length xs → All (λ x. f x ≤ m) xs
+    → sum_by f xs + m ≤ length xs * m + f (get_or xs i d)
+sum_but_one f m [] i d few all = absurd (omega (arith, few))
+sum_but_one f m (x ∷ xs) zero d few all =
+    let rest = sum_by-le f m xs (All-tail (λ x. f x ≤ m) x xs all) in
+    omega (arith, rest, sum_by-cons f x xs)
+sum_but_one f m (x ∷ xs) (suc i) d few all =
+    let head = All-head (λ x. f x ≤ m) x xs all in
+    let rest = sum_but_one f m xs i d (omega (arith, few)) (All-tail (λ x. f x ≤ m) x xs all) in
+    omega (arith, head, rest, sum_by-cons f x xs)
+
+lines_few : (c : Config) (ls : List Line) → All (line.IsSound c) ls → All (λ l. slots_of c l ≤ places_of c) ls
+lines_few c [] all = All-nil (λ l. slots_of c l ≤ places_of c)
+lines_few c (l ∷ ls) all =
+    All-cons (λ l. slots_of c l ≤ places_of c) l ls (slots_few c l (All-head (line.IsSound c) l ls all))
+    (lines_few c ls (All-tail (line.IsSound c) l ls all))
+
+-- fewer slots than there are, where one line finds a place
+below_all : (n most sum own slots count : ℕ) → n ≡ count → sum + most ≤ n * most + own → own + 1 ≤ most → count * most ≤ slots → slots ≤ sum → ⊥
+below_all n most sum own slots count e sums less enough full =
+    let bound : sum + most ≤ count * most + own = subst (λ x. sum + most ≤ x * most + own) e sums in
+    omega (arith, bound, less, enough, full)
+
+pub event_not_refused : (card : Card) (e : Event) → HasLines card → IsAtLine card e → card.config.lines * places_of card.config ≤ card.config.slots
+    → is_pool_full (answer e card) ≡ false
+event_not_refused card e h within enough =
+    by_room (λ ls a. is_pool_full a ≡ false) e card
+    (λ full.
+    let c = card.config in
+    let l = line_at e.line card in
+    let parts = and_parts (lines.takes_slot c e.what l) (is_full card) full in
+    let less = taker_finds c e.what l (line_sound card e.line h within) parts.0 in
+    let sums = sum_but_one (slots_of c) (places_of c) card.lines e.line (fresh_line c) (omega (arith, h.count, within)) (lines_few c card.lines h.lines) in
+    absurd (below_all (length card.lines) (places_of c) (used card) (slots_of c l) c.slots c.lines h.count sums less enough (leb-true c.slots (used card) parts.1)))
+    (λ served. line_not_pool card.config e.what (line_at e.line card))
+
+run_not_refused : (card : Card) (events : List Event) → HasLines card → AreAtLines card events → card.config.lines * places_of card.config ≤ card.config.slots
+    → All IsNotRefusedForPool (moments card events)
+unfolding moments
+run_not_refused card [] h all enough = All-nil IsNotRefusedForPool
+run_not_refused card (e ∷ events) h all enough =
+    let here = All-head (IsAtLine card) e events all in
+    All-cons IsNotRefusedForPool (record { card = card; event = e; answer = answer e card }) (moments (after e card) events)
+    (event_not_refused card e h here enough)
+    (run_not_refused (after e card) events (after_lines e card h here) (All-tail (IsAtLine card) e events all) enough)
+
+pub pool_never_full : PoolNeverFull
+pool_never_full c events ranged all enough = run_not_refused (fresh c) events (fresh_lines c ranged) all enough

@@ -1,0 +1,233 @@
+-- Numbered deliveries, over whole runs.
+use Rattle.std.proofs.Common.{◌≡◌, ◌≢◌, ℕ, ◌+◌, ◌<◌, ◌==◌, ◌&&◌, Bool, true, false, List, [], ◌∷◌, ◌++◌, length, get_or, set, Option, Some, None, is_some, refl, ap, sym, ◌∙◌, subst, cond, arith, eqb-true, eq-eqb, true≢false, inl, inr}
+use Rattle.std.specs.Prelude.{fold, option_to_list}
+use Rattle.std.proofs.lemmas.List.{get_or-set_same, get_or-set_other, get_or-replicate}
+use Rattle.std.proofs.lemmas.List.Elements.{All-head, All-tail}
+use Rattle.lapd_frame.specs.declared.refusals.Refusal.TheVariants.{PoolFull}
+use Rattle.model_link.specs.Deliveries.{Arrived}
+use Rattle.model_link.specs.Link.{Link}
+use Rattle.model_link.specs.Link.{fresh as fresh_link}
+use Rattle.model_link.proofs.Delivering.{delivery, counted_on}
+use Rattle.model_line.specs.declared.config.Config.{Config}
+use Rattle.model_line.specs.Answer.{Answer, refused}
+use Rattle.model_line.specs.Deliveries as line
+use Rattle.model_line.specs.Line.{Line, fresh_line, link_at, link_count}
+use Rattle.model_line.specs.Machine as lines
+use Rattle.model_line.proofs.Numbered.{Part, quiet, none_at}
+use Rattle.model_line.proofs.NumberedEvents.{event_parts, slot_brings_nothing}
+use Rattle.model_card.specs.Event.{Event}
+use Rattle.model_card.specs.Card.{Card, fresh, line_at}
+use Rattle.model_card.specs.Laws.{DeliveriesNumbered}
+use Rattle.model_card.specs.Machine.{wants_room, after, answer}
+use Rattle.model_card.specs.Numbered.{LinkName, Share, no_share, share_of, restarts, History, one_more, received_by, history, contents_of, AreNumbered, deliveries_of}
+use Rattle.model_card.specs.Promises.{HasLink}
+use Rattle.model_card.specs.Run.{Moment, moments, after_all, IsAtLine, AreAtLines}
+use Rattle.model_card.proofs.NumberedForms.{numbered-whole}
+use Rattle.model_card.proofs.Steps.{HasLines, has_lines, by_room, line_sound, after_lines}
+
+-- How many of the shares deliver.
+abbrev one_if : Option (List ℕ) → ℕ
+one_if o = cond {A = ℕ} (is_some o) 1 0
+
+abbrev delivered_by : List Share → ℕ
+delivered_by [] = 0
+delivered_by (share ∷ shares) = one_if share.delivered + delivered_by shares
+
+-- one share more
+push_share : (i : ℕ) (shares : List Share) (share : Share) → share.delivered ≡ contents_of (i + delivered_by shares) share.arrived
+    → AreNumbered i shares → AreNumbered i (shares ++ share ∷ [])
+push_share i [] share next h = go (contents_of i share.arrived) refl
+  where
+    at : share.delivered ≡ contents_of i share.arrived
+    at = subst (λ n. share.delivered ≡ contents_of n share.arrived) (omega arith) next
+
+    go : (o : Option (List ℕ)) → contents_of i share.arrived ≡ o
+        → elim o as (λ o. Type 0) [ None ↦ (share.delivered ≡ None) × Unit {0} | Some contents ↦ (share.delivered ≡ Some contents) × Unit {0} ]
+    go None e = (at ∙ e, tt)
+    go (Some contents) e = (at ∙ e, tt)
+push_share i (x ∷ xs) share next h =
+    go (contents_of i x.arrived) h (λ at. push_share i xs share at) (λ at. push_share (i + 1) xs share at)
+  where
+    go : (o : Option (List ℕ))
+        → elim o as (λ o. Type 0) [ None ↦ (x.delivered ≡ None) × AreNumbered i xs | Some contents ↦ (x.delivered ≡ Some contents) × AreNumbered (i + 1) xs ]
+        → (share.delivered ≡ contents_of (i + delivered_by xs) share.arrived → AreNumbered i xs → AreNumbered i (xs ++ share ∷ []))
+        → (share.delivered ≡ contents_of ((i + 1) + delivered_by xs) share.arrived → AreNumbered (i + 1) xs → AreNumbered (i + 1) (xs ++ share ∷ []))
+        → elim o as (λ o. Type 0) [ None ↦ (x.delivered ≡ None) × AreNumbered i (xs ++ share ∷ []) | Some contents ↦ (x.delivered ≡ Some contents) × AreNumbered (i + 1) (xs ++ share ∷ []) ]
+    go None (none, rest) passed taken =
+        let same : i + (one_if x.delivered + delivered_by xs) ≡ i + delivered_by xs =
+        ap (λ (o : Option (List ℕ)). i + (one_if o + delivered_by xs)) none ∙ omega arith in
+        (none, passed (subst (λ n. share.delivered ≡ contents_of n share.arrived) same next) rest)
+    go (Some contents) (some, rest) passed taken =
+        let same : i + (one_if x.delivered + delivered_by xs) ≡ (i + 1) + delivered_by xs =
+        ap (λ (o : Option (List ℕ)). i + (one_if o + delivered_by xs)) some ∙ omega arith in
+        (some, taken (subst (λ n. share.delivered ≡ contents_of n share.arrived) same next) rest)
+
+delivered-push : (shares : List Share) (share : Share) → delivered_by (shares ++ share ∷ []) ≡ delivered_by shares + one_if share.delivered
+delivered-push [] share = omega arith
+delivered-push (x ∷ xs) share = let rest = delivered-push xs share in omega (arith, rest)
+
+-- the same contents in the words of a link
+contents-is : (i : ℕ) (o : Option Arrived) → delivery i o ≡ contents_of i o
+contents-is i None = refl
+contents-is i (Some frame) = refl
+
+-- What a history is at a card: its deliveries are numbered, and V(R) counts them.
+record IsKept (name : LinkName) (card : Card) (h : History) : Type 0 where
+  numbered : AreNumbered h.first h.shares
+  counted : received_by name card ≡ h.first + delivered_by h.shares
+
+-- what an event is to a link, and what it makes of a history
+SeenBy : (name : LinkName) (card : Card) (e : Event) → Type 0
+SeenBy name card e =
+    let m : Moment = record { card = card; event = e; answer = answer e card } in
+    Part (received_by name card) (share_of name m).arrived (received_by name (after e card)) (share_of name m).delivered (restarts name m)
+
+counted_by : (r first n : ℕ) (o : Option (List ℕ)) → r ≡ first + n → counted_on r o ≡ first + (n + one_if o)
+counted_by r first n None e = omega (arith, e)
+counted_by r first n (Some x) e = omega (arith, e)
+
+history-keeps : (name : LinkName) (card : Card) (e : Event) (h : History) → SeenBy name card e → IsKept name card h
+    → IsKept name (after e card) (one_more name h (record { card = card; event = e; answer = answer e card }))
+unfolding SeenBy
+history-keeps name card e h seen kept = go (restarts name m) refl seen
+  where
+    m : Moment
+    m = record { card = card; event = e; answer = answer e card }
+
+    go : (b : Bool) → restarts name m ≡ b → Part (received_by name card) (share_of name m).arrived (received_by name (after e card)) (share_of name m).delivered b
+        → IsKept name (after e card) (cond b (record { first = 0; shares = [] }) (record { first = h.first; shares = h.shares ++ share_of name m ∷ [] }))
+    go true is (inl x) = absurd (true≢false x.goes_on)
+    go true is (inr x) = record { numbered = tt; counted = x.number }
+    go false is (inr x) = absurd (true≢false (sym x.begins))
+    go false is (inl x) =
+        let share = share_of name m in
+        let next : share.delivered ≡ contents_of (h.first + delivered_by h.shares) share.arrived =
+        x.delivered ∙ ap (λ r. delivery r share.arrived) kept.counted ∙ contents-is (h.first + delivered_by h.shares) share.arrived in
+        record {
+          numbered = push_share h.first h.shares share next kept.numbered;
+          counted =
+              x.number ∙ ap (counted_on (received_by name card)) (sym x.delivered)
+              ∙ counted_by (received_by name card) h.first (delivered_by h.shares) share.delivered kept.counted
+              ∙ ap (λ n. h.first + n) (sym (delivered-push h.shares share));
+        }
+
+first_of_both : (x y : Bool) → (x && y) ≡ true → x ≡ true
+first_of_both true y e = refl
+first_of_both false y e = e
+
+-- every event is seen
+event-seen : (name : LinkName) (card : Card) (e : Event) → HasLines card → IsAtLine card e → name.line < card.config.lines
+    → name.number < link_count card.config → SeenBy name card e
+unfolding SeenBy
+event-seen name card e h here within few =
+    by_room (λ ls a.
+    let share = cond (e.line == name.line) (record {
+      arrived = line.arrived card.config name.number e.what (line_at name.line card);
+      delivered = line.delivered name.number (line_at name.line card) a;
+    }) no_share in
+    Part (received_by name card) share.arrived (link_at name.number (get_or ls name.line (fresh_line card.config))).r share.delivered
+    ((e.line == name.line) && line.restarts card.config name.number e.what (line_at name.line card))) e card
+    (λ full. by_full (e.line == name.line) refl (wanted full))
+    (λ served. by_line (e.line == name.line) refl)
+  where
+    l : Line
+    l = line_at name.line card
+
+    next : List Line
+    next = set card.lines e.line (lines.after card.config e.what (line_at e.line card))
+
+    own : Line
+    own = lines.after card.config e.what (line_at e.line card)
+
+    a : Answer
+    a = lines.answer card.config e.what (line_at e.line card)
+
+    wanted : wants_room e card ≡ true → lines.takes_slot card.config e.what (line_at e.line card) ≡ true
+    wanted = first_of_both (lines.takes_slot card.config e.what (line_at e.line card)) _
+
+    by_full : (b : Bool) → (e.line == name.line) ≡ b → lines.takes_slot card.config e.what (line_at e.line card) ≡ true
+        → let share = cond b (record { arrived = line.arrived card.config name.number e.what l; delivered = line.delivered name.number l (refused PoolFull) }) no_share in
+        Part (received_by name card) share.arrived (received_by name card) share.delivered (b && line.restarts card.config name.number e.what l)
+    by_full false other takes = quiet (received_by name card) (received_by name card) None None false refl refl refl refl
+    by_full true same takes =
+        let is : e.line ≡ name.line = eqb-true e.line name.line same in
+        let nothing = slot_brings_nothing card.config name.number e.what l (subst (λ n. lines.takes_slot card.config e.what (line_at n card) ≡ true) is takes) in
+        quiet (received_by name card) (received_by name card) (line.arrived card.config name.number e.what l)
+        (line.delivered name.number l (refused PoolFull)) (line.restarts card.config name.number e.what l) nothing.arrives refl
+        (none_at name.number l (refused PoolFull) (λ service tei. refl)) nothing.goes_on
+
+    by_line : (b : Bool) → (e.line == name.line) ≡ b
+        → let share = cond b (record { arrived = line.arrived card.config name.number e.what l; delivered = line.delivered name.number l a }) no_share in
+        Part (received_by name card) share.arrived (link_at name.number (get_or next name.line (fresh_line card.config))).r share.delivered
+        (b && line.restarts card.config name.number e.what l)
+    by_line false other =
+        let apart : name.line ≢ e.line = λ same. true≢false (sym (eq-eqb e.line name.line (sym same)) ∙ other) in
+        quiet (received_by name card) (link_at name.number (get_or next name.line (fresh_line card.config))).r None None false refl
+        (ap (λ (x : Line). (link_at name.number x).r) (get_or-set_other card.lines e.line name.line own (fresh_line card.config) apart)) refl refl
+    by_line true same =
+        let is : e.line ≡ name.line = eqb-true e.line name.line same in
+        let now : get_or next e.line (fresh_line card.config) ≡ own =
+        get_or-set_same card.lines e.line own (fresh_line card.config) (omega (arith, h.count, here)) in
+        let parts = event_parts card.config e.what (line_at e.line card) name.number (line_sound card e.line h here) few in
+        subst (λ n.
+        Part (link_at name.number (line_at n card)).r (line.arrived card.config name.number e.what (line_at n card))
+        (link_at name.number (get_or next n (fresh_line card.config))).r (line.delivered name.number (line_at n card) a)
+        (line.restarts card.config name.number e.what (line_at n card))) is
+        (subst (λ (x : Line).
+        Part (link_at name.number (line_at e.line card)).r (line.arrived card.config name.number e.what (line_at e.line card))
+        (link_at name.number x).r (line.delivered name.number (line_at e.line card) a)
+        (line.restarts card.config name.number e.what (line_at e.line card))) (sym now) parts)
+
+-- A run.
+run-keeps : (name : LinkName) (card : Card) (events : List Event) (h : History) → HasLines card → AreAtLines card events
+    → name.line < card.config.lines → name.number < link_count card.config → IsKept name card h
+    → IsKept name (after_all card events) (fold (one_more name) h (moments card events))
+unfolding moments after_all
+run-keeps name card [] h has all within few kept = kept
+run-keeps name card (e ∷ events) h has all within few kept =
+    let here = All-head (IsAtLine card) e events all in
+    run-keeps name (after e card) events (one_more name h (record { card = card; event = e; answer = answer e card })) (after_lines e card has here)
+    (All-tail (IsAtLine card) e events all) within few (history-keeps name card e h (event-seen name card e has here within few) kept)
+
+ran : (card : Card) (events : List Event) (name : LinkName) → HasLines card → AreAtLines card events → HasLink card name
+    → IsKept name (after_all card events) (history name card (moments card events))
+ran card events name has all named =
+    run-keeps name card events (record { first = received_by name card; shares = [] }) has all named.0 named.1 (record { numbered = tt; counted = omega arith })
+
+-- what is delivered, as a list
+delivered-length : (shares : List Share) → delivered_by shares ≡ length (deliveries_of shares)
+delivered-length [] = refl
+delivered-length (x ∷ xs) = go x.delivered (delivered-length xs)
+  where
+    go : (o : Option (List ℕ)) → delivered_by xs ≡ length (deliveries_of xs)
+        → one_if o + delivered_by xs ≡ length (option_to_list o ++ deliveries_of xs)
+    go None e = omega (arith, e)
+    go (Some contents) e = omega (arith, e)
+
+-- the first number of a history stays 0
+first-zero : (name : LinkName) (ms : List Moment) (h : History) → h.first ≡ 0 → (fold (one_more name) h ms).first ≡ 0
+first-zero name [] h e = e
+first-zero name (m ∷ ms) h e = first-zero name ms (one_more name h m) (go (restarts name m))
+  where
+    go : (b : Bool) → (cond {A = History} b (record { first = 0; shares = [] }) (record { first = h.first; shares = h.shares ++ share_of name m ∷ [] })).first ≡ 0
+    go true = refl
+    go false = e
+
+begins-zero : (c : Config) (name : LinkName) → HasLink (fresh c) name → received_by name (fresh c) ≡ 0
+begins-zero c name named =
+    ap (λ (l : Line). (link_at name.number l).r) (get_or-replicate c.lines name.line (fresh_line c) (fresh_line c) named.0)
+    ∙ ap (λ (l : Link). l.r) (get_or-replicate (link_count c) name.number fresh_link fresh_link named.1)
+
+pub deliveries_numbered : DeliveriesNumbered
+deliveries_numbered = record {
+  numbered = λ card events s all name named.
+      let h = history name card (moments card events) in
+      let kept = ran card events name (has_lines card s) all named in
+      record {
+        numbered = numbered-whole h.first h.shares kept.numbered;
+        at_once = kept.numbered;
+        counted = kept.counted ∙ ap (λ n. h.first + n) (delivered-length h.shares);
+      };
+  from_zero = λ c events ranged all name named.
+      first-zero name (moments (fresh c) events) (record { first = received_by name (fresh c); shares = [] }) (begins-zero c name named);
+}

@@ -1,0 +1,114 @@
+-- Requests are refused by the table.
+use Rattle.std.proofs.Common.{◌≡◌, ℕ, Bool, true, false, not, ◌&&◌, List, [], ◌∷◌, ◌++◌, get_or, set, Option, Some, None, is_some, IsSome, refl, ap, sym, ◌∙◌, subst, cond, ◌↔◌}
+use Rattle.std.proofs.lemmas.Bool.{false≢true}
+use Rattle.std.proofs.lemmas.List.{set-get_or}
+use Rattle.lapd_frame.specs.declared.refusals.Refusal.{Refusal}
+use Rattle.lapd_frame.specs.declared.refusals.Refusal.TheVariants.{PoolFull}
+use Rattle.model_link.specs.Events as link
+use Rattle.model_line.specs.declared.config.Config.{Config}
+use Rattle.model_line.specs.Answer.{Answer, request, refused}
+use Rattle.model_line.specs.Line.{Line, fresh_line}
+use Rattle.model_line.specs.Machine as lines
+use Rattle.model_line.specs.Machine.{unless_refused, unless_refused_told}
+use Rattle.model_line.specs.Effect.{Effect, of_aim}
+use Rattle.model_line.specs.Refusal.{Row, first_that_holds, bad_tei, no_link, bad_tei_or_group, no_link_nor_group, wrong_state, too_long, queue_full, unit_queue_full, pool_full, refusal}
+use Rattle.model_line.specs.Request.{Request, Establish, Release, Data, Unit, Assign, Remove, Check, SetBusy, ClearBusy}
+use Rattle.model_line.specs.Requested.{aim_of_request, carries_contents}
+use Rattle.model_card.specs.Event.{at}
+use Rattle.model_card.specs.Card.{Card, line_at, is_full}
+use Rattle.model_card.specs.Laws.{RefusedByTheTable}
+use Rattle.model_card.specs.Machine.{after, answer}
+
+-- A full pool refuses after all other rows, and contents alone.
+abbrev pool_refusal : Bool → Option Refusal
+pool_refusal full = cond full (Some PoolFull) None
+
+abbrev with_pool : Bool → Bool → Option Refusal → Option Refusal
+with_pool carries full (Some why) = Some why
+with_pool carries full None = cond carries (pool_refusal full) None
+
+-- the rows before the last one, for contents
+last_row : (full : Bool) (rs : List Row)
+    → first_that_holds (rs ++ pool_full full ∷ []) ≡ with_pool true full (first_that_holds (rs ++ pool_full false ∷ []))
+last_row full [] = refl
+last_row full (r ∷ rs) = go r.holds (last_row full rs)
+  where
+    go : (b : Bool)
+        → first_that_holds (rs ++ pool_full full ∷ []) ≡ with_pool true full (first_that_holds (rs ++ pool_full false ∷ []))
+        → cond b (Some r.why) (first_that_holds (rs ++ pool_full full ∷ []))
+        ≡ with_pool true full (cond b (Some r.why) (first_that_holds (rs ++ pool_full false ∷ [])))
+    go true rest = refl
+    go false rest = rest
+
+no_pool : (full : Bool) (o : Option Refusal) → o ≡ with_pool false full o
+no_pool full None = refl
+no_pool full (Some why) = refl
+
+refusal_with_pool : (c : Config) (full : Bool) (r : Request) (l : Line) → refusal c full r l ≡ with_pool (carries_contents r) full (refusal c false r l)
+refusal_with_pool c full (Establish service tei) l = no_pool full (refusal c false (Establish service tei) l)
+refusal_with_pool c full (Release service tei) l = no_pool full (refusal c false (Release service tei) l)
+refusal_with_pool c full (Data service tei contents) l =
+    last_row full (bad_tei tei ∷ no_link tei l ∷ wrong_state service tei (link.Data contents) l ∷ too_long c contents ∷ queue_full c service tei l ∷ [])
+refusal_with_pool c full (Unit service tei contents) l =
+    last_row full (bad_tei_or_group tei ∷ no_link_nor_group tei l ∷ too_long c contents ∷ unit_queue_full c l ∷ [])
+refusal_with_pool c full (Assign tei) l = no_pool full (refusal c false (Assign tei) l)
+refusal_with_pool c full (Remove tei) l = no_pool full (refusal c false (Remove tei) l)
+refusal_with_pool c full (Check tei) l = no_pool full (refusal c false (Check tei) l)
+refusal_with_pool c full (SetBusy service tei) l = no_pool full (refusal c false (SetBusy service tei) l)
+refusal_with_pool c full (ClearBusy service tei) l = no_pool full (refusal c false (ClearBusy service tei) l)
+
+-- The answer to a request, by what refuses it.
+abbrev answer_by : Option Refusal → Effect → Answer
+answer_by o outcome = unless_refused_told o outcome
+
+-- the card's answer is by its own and the pool's refusal
+combined : (carries full : Bool) (o : Option Refusal) (outcome : Effect)
+    → cond ((carries && not (is_some o)) && full) (refused PoolFull) (answer_by o outcome)
+    ≡ answer_by (with_pool carries full o) outcome
+combined true true None outcome = refl
+combined true false None outcome = refl
+combined false full None outcome = refl
+combined true full (Some why) outcome = refl
+combined false full (Some why) outcome = refl
+
+pub answer_is : (card : Card) (number : ℕ) (r : Request)
+    → answer (at number (request r)) card
+    ≡ answer_by (refusal card.config (is_full card) r (line_at number card)) (lines.of_request card.config r (line_at number card))
+unfolding lines.answer lines.takes_slot
+answer_is card number r =
+    let l = line_at number card in
+    combined (carries_contents r) (is_full card) (refusal card.config false r l) (lines.of_request card.config r l)
+    ∙ ap (λ o. answer_by o (lines.of_request card.config r l)) (sym (refusal_with_pool card.config (is_full card) r l))
+
+refused_by : (o : Option Refusal) (outcome : Effect) (why : Refusal) → (answer_by o outcome ≡ refused why) ↔ (o ≡ Some why)
+refused_by None outcome why = ((λ e. cc), (λ e. cc))
+refused_by (Some x) outcome why = ((λ e. cc), (λ e. cc))
+
+-- and then nothing changes
+stays : (carries full : Bool) (o : Option Refusal) (c : Config) (r : Request) (l d : Line) (ls : List Line) (number : ℕ)
+    → IsSome (with_pool carries full o) → get_or ls number d ≡ l
+    → cond ((carries && not (is_some o)) && full) ls (set ls number (of_aim c (unless_refused o (aim_of_request r l)) l).line) ≡ ls
+stays true true None c r l d ls number some e = refl
+stays true false None c r l d ls number some e = absurd (false≢true some)
+stays false full None c r l d ls number some e = absurd (false≢true some)
+stays true full (Some why) c r l d ls number some e = ap (set ls number) (sym e) ∙ set-get_or ls number d
+stays false full (Some why) c r l d ls number some e = ap (set ls number) (sym e) ∙ set-get_or ls number d
+
+unchanged : (card : Card) (number : ℕ) (r : Request)
+    → IsSome (refusal card.config (is_full card) r (line_at number card)) → after (at number (request r)) card ≡ card
+unfolding lines.after lines.takes_slot
+unchanged card number r some =
+    let l = line_at number card in
+    let some' : IsSome (with_pool (carries_contents r) (is_full card) (refusal card.config false r l)) =
+    subst (λ o. IsSome o) (refusal_with_pool card.config (is_full card) r l) some in
+    ap (λ ls. record { config = card.config; lines = ls })
+    (stays (carries_contents r) (is_full card) (refusal card.config false r l) card.config r l (fresh_line card.config) card.lines number some' refl)
+
+pub refused_by_the_table : RefusedByTheTable
+refused_by_the_table = record {
+  refused_exactly = λ card number r why.
+      let o = refusal card.config (is_full card) r (line_at number card) in
+      let outcome = lines.of_request card.config r (line_at number card) in
+      subst (λ a. (a ≡ refused why) ↔ (o ≡ Some why)) (sym (answer_is card number r)) (refused_by o outcome why);
+  unchanged = unchanged;
+}

@@ -1,0 +1,182 @@
+-- Pulls of a line go on with its text, and no other event puts anything on the line.
+use Rattle.std.proofs.Common.{◌≡◌, ◌≢◌, ℕ, ◌<◌, ◌==◌, ◌&&◌, Bool, true, false, List, [], ◌∷◌, ◌++◌, get_or, set, Option, Some, None, option_map, IfSome, refl, ap, sym, ◌∙◌, subst, cond, arith, append_assoc, append-nil, eqb-true, eq-eqb, true≢false}
+use Rattle.std.specs.Prelude.{option_to_list}
+use Rattle.std.proofs.lemmas.List.{get_or-set_same, get_or-set_other}
+use Rattle.std.proofs.lemmas.List.Elements.{All-head, All-tail}
+use Rattle.lapd_bits.specs.Sent.{Item, idle, frame}
+use Rattle.lapd_frame.specs.declared.refusals.Refusal.{Refusal}
+use Rattle.lapd_tei.specs.declared.outcome.Change.{Change}
+use Rattle.lapd_tei.specs.declared.outcome.Change.TheVariants.{Gained, Left}
+use Rattle.lapd_tei.specs.Events as teis
+use Rattle.model_line.specs.declared.config.Config.{Config}
+use Rattle.model_line.specs.Answer.{Told, Event as LineEvent, octet, expiry, request, pull}
+use Rattle.model_line.specs.Line.{Line, fresh_line}
+use Rattle.model_line.specs.Machine as lines
+use Rattle.model_line.specs.Machine.{unless_refused, unless_refused_told}
+use Rattle.model_line.specs.Octet.{aim_of_octet, with_received}
+use Rattle.model_line.specs.Expiry.{aim_of_expiry}
+use Rattle.model_line.specs.Effect.{Aim, at_none, at_link, at_management, at_units, Effect, of_aim, of_change, told_of_management}
+use Rattle.model_line.specs.Pull.{Taken, taken, is_due, with_item, next_octet}
+use Rattle.model_line.specs.Refusal.{refusal}
+use Rattle.model_line.specs.Requested.{aim_of_request}
+use Rattle.model_line.specs.Sound as line
+use Rattle.model_line.proofs.PullSound.{TakesSoundly, taken_sound}
+use Rattle.model_card.specs.Event.{Event}
+use Rattle.model_card.specs.Card.{Card, line_at}
+use Rattle.model_card.specs.Laws.{TextGoesOn}
+use Rattle.model_card.specs.Machine.{wants_room, after, answer}
+use Rattle.model_card.specs.Pulled.{octet_in, frame_taken, frame_in, octets_pulled, frames_begun, frames_among}
+use Rattle.model_card.specs.Run.{moments, after_all, IsAtLine, AreAtLines}
+use Rattle.model_card.proofs.Steps.{HasLines, has_lines, by_room, line_sound, after_lines}
+
+-- What comes to the items of a line and to the octets given of it.
+record Adds (before after : Line) (octets : List ℕ) (frames : List (List ℕ)) : Type 0 where
+  more : List Item
+  items : after.items ≡ before.items ++ more
+  given : after.given ≡ before.given ++ octets
+  begun : frames_among more ≡ frames
+
+frames_among-append : (xs ys : List Item) → frames_among (xs ++ ys) ≡ frames_among xs ++ frames_among ys
+frames_among-append [] ys = refl
+frames_among-append (idle ∷ xs) ys = frames_among-append xs ys
+frames_among-append (frame octets ∷ xs) ys = ap (λ fs. octets ∷ fs) (frames_among-append xs ys)
+
+adds_nothing : (a b : Line) → b.items ≡ a.items → b.given ≡ a.given → Adds a b [] []
+adds_nothing a b items given = record {
+  more = [];
+  items = items ∙ sym (append-nil a.items);
+  given = given ∙ sym (append-nil a.given);
+  begun = refl;
+}
+
+adds_both : {a b c : Line} {os ps : List ℕ} {fs gs : List (List ℕ)} → Adds a b os fs → Adds b c ps gs → Adds a c (os ++ ps) (fs ++ gs)
+adds_both {a} {b} {c} {os} {ps} {fs} {gs} x y = record {
+  more = x.more ++ y.more;
+  items = y.items ∙ ap (λ is. is ++ y.more) x.items ∙ append_assoc a.items x.more y.more;
+  given = y.given ∙ ap (λ is. is ++ ps) x.given ∙ append_assoc a.given os ps;
+  begun = frames_among-append x.more y.more ∙ ap (λ z. z ++ frames_among y.more) x.begun ∙ ap (λ z. fs ++ z) y.begun;
+}
+
+-- What an event is to the parts of a line leaves its items.
+changed_adds : (c : Config) (o : Option Change) (t : Told) (l : Line) → Adds l (of_change c o t l).line [] []
+changed_adds c None t l = adds_nothing l l refl refl
+changed_adds c (Some (Gained tei place)) t l = adds_nothing l _ refl refl
+changed_adds c (Some (Left tei place)) t l = adds_nothing l _ refl refl
+
+aim_adds : (c : Config) (aim : Aim) (l : Line) → Adds l (of_aim c aim l).line [] []
+aim_adds c (at_none t) l = adds_nothing l l refl refl
+aim_adds c (at_link service tei place e) l = adds_nothing l _ refl refl
+aim_adds c (at_management e) l =
+    let t = teis.told e l.management in
+    let on = record l { management = teis.after e l.management } in
+    let h = changed_adds c t.change (told_of_management t) on in
+    record { more = h.more; items = h.items; given = h.given; begun = h.begun }
+aim_adds c (at_units unit) l = adds_nothing l _ refl refl
+
+-- A pull puts the item that is due on the line, and gives an octet.
+pull_adds : (c : Config) (l : Line) (due : Bool) (o : Option Taken) → IfSome o (TakesSoundly c l)
+    → let d = cond due (with_item o l) l in
+    Adds l (record d { given = d.given ++ next_octet d ∷ [] }) (next_octet d ∷ []) (option_to_list (option_map frame_taken (cond due o None)))
+pull_adds c l false o h = record { more = []; items = sym (append-nil l.items); given = refl; begun = refl }
+pull_adds c l true None h = record { more = idle ∷ []; items = refl; given = refl; begun = refl }
+pull_adds c l true (Some t) h = record {
+  more = frame t.frame ∷ [];
+  items = refl;
+  given = ap (λ g. g ++ next_octet (with_item (Some t) l) ∷ []) h.given;
+  begun = refl;
+}
+
+-- a refused request gives no octet, as an accepted one
+told_gives_none : (o : Option Refusal) (outcome : Effect) → octet_in (unless_refused_told o outcome) ≡ []
+told_gives_none None outcome = refl
+told_gives_none (Some why) outcome = refl
+
+-- any event
+line_adds : (c : Config) → line.IsInRange c → (e : LineEvent) (l : Line) → line.IsSound c l
+    → Adds l (lines.after c e l) (octet_in (lines.answer c e l)) (frame_in c e l)
+unfolding lines.after lines.answer
+line_adds c ranged (octet value) l s =
+    let h = aim_adds c (aim_of_octet c value l) (with_received value l) in
+    record { more = h.more; items = h.items; given = h.given; begun = h.begun }
+line_adds c ranged (expiry timer) l s = aim_adds c (aim_of_expiry timer l) l
+line_adds c ranged (request r) l s =
+    let o = refusal c false r l in
+    subst (λ os. Adds l (lines.of_request c r l).line os []) (sym (told_gives_none o (lines.of_request c r l)))
+    (aim_adds c (unless_refused o (aim_of_request r l)) l)
+line_adds c ranged pull l s = pull_adds c l (is_due l) (taken c l) (taken_sound c ranged l s)
+
+-- an event that finds the pool full is a request
+room_for_request : (c : Config) (e : LineEvent) (l : Line) (full : Bool) → (lines.takes_slot c e l && full) ≡ true → frame_in c e l ≡ []
+unfolding lines.takes_slot
+room_for_request c (octet value) l full h = refl
+room_for_request c (expiry timer) l full h = refl
+room_for_request c (request r) l full h = refl
+room_for_request c pull l full h = absurd (true≢false (sym h))
+
+-- An event at a card, seen by one of its lines.
+at_line : {X : Type 0} → Bool → List X → List X
+at_line here xs = cond here xs []
+
+event_adds : (card : Card) (e : Event) (number : ℕ) → HasLines card → IsAtLine card e → number < card.config.lines
+    → Adds (line_at number card) (line_at number (after e card)) (cond (e.line == number) (octet_in (answer e card)) [])
+    (cond (e.line == number) (frame_in card.config e.what (line_at number card)) [])
+event_adds card e number h here within =
+    by_room (λ ls a.
+    Adds (line_at number card) (get_or ls number (fresh_line card.config)) (cond (e.line == number) (octet_in a) [])
+    (cond (e.line == number) (frame_in card.config e.what (line_at number card)) [])) e card
+    (λ full. refused_adds (e.line == number) refl full)
+    (λ served. served_adds (e.line == number) refl)
+  where
+    l : Line
+    l = line_at number card
+
+    refused_adds : (b : Bool) → (e.line == number) ≡ b → wants_room e card ≡ true
+        → Adds l l (cond b [] []) (cond b (frame_in card.config e.what l) [])
+    refused_adds false same full = adds_nothing l l refl refl
+    refused_adds true same full =
+        let is_here : e.line ≡ number = eqb-true e.line number same in
+        let none = subst (λ n. frame_in card.config e.what (line_at n card) ≡ []) is_here (room_for_request card.config e.what (line_at e.line card) _ full) in
+        subst (λ fs. Adds l l [] fs) (sym none) (adds_nothing l l refl refl)
+
+    next : List Line
+    next = set card.lines e.line (lines.after card.config e.what (line_at e.line card))
+
+    served_adds : (b : Bool) → (e.line == number) ≡ b
+        → Adds l (get_or next number (fresh_line card.config)) (cond b (octet_in (lines.answer card.config e.what (line_at e.line card))) [])
+        (cond b (frame_in card.config e.what l) [])
+    served_adds false other =
+        let apart : number ≢ e.line = λ same. true≢false (sym (eq-eqb e.line number (sym same)) ∙ other) in
+        subst (λ x. Adds l x [] []) (sym (get_or-set_other card.lines e.line number _ (fresh_line card.config) apart)) (adds_nothing l l refl refl)
+    served_adds true same =
+        let is_here : e.line ≡ number = eqb-true e.line number same in
+        let now = get_or-set_same card.lines e.line (lines.after card.config e.what (line_at e.line card)) (fresh_line card.config) (omega (arith, h.count, here)) in
+        let own = line_adds card.config h.config e.what (line_at e.line card) (line_sound card e.line h here) in
+        subst (λ n. Adds (line_at n card) (get_or next n (fresh_line card.config)) (octet_in (lines.answer card.config e.what (line_at e.line card))) (frame_in card.config e.what (line_at n card))) is_here
+        (subst (λ x. Adds (line_at e.line card) x (octet_in (lines.answer card.config e.what (line_at e.line card))) (frame_in card.config e.what (line_at e.line card))) (sym now) own)
+
+-- A run, with the card's lines after it.
+record Added (card end : Card) (number : ℕ) (octets : List ℕ) (frames : List (List ℕ)) : Type 0 where
+  adds : Adds (line_at number card) (line_at number end) octets frames
+  lines : HasLines end
+  few : number < end.config.lines
+
+run_adds : (card : Card) (events : List Event) (number : ℕ) → HasLines card → AreAtLines card events → number < card.config.lines
+    → Added card (after_all card events) number (octets_pulled number (moments card events)) (frames_begun number (moments card events))
+unfolding moments after_all
+run_adds card [] number h all within = record { adds = adds_nothing (line_at number card) (line_at number card) refl refl; lines = h; few = within }
+run_adds card (e ∷ events) number h all within =
+    let here = All-head (IsAtLine card) e events all in
+    let next = after e card in
+    let rest = run_adds next events number (after_lines e card h here) (All-tail (IsAtLine card) e events all) within in
+    record { adds = adds_both (event_adds card e number h here within) rest.adds; lines = rest.lines; few = rest.few }
+
+pub text_goes_on : TextGoesOn
+text_goes_on card events s all number within =
+    let ran = run_adds card events number (has_lines card s) all within in
+    record {
+      more = ran.adds.more;
+      items = ran.adds.items;
+      given = ran.adds.given;
+      begun = ran.adds.begun;
+      text = (line_sound (after_all card events) number ran.lines ran.few).text;
+    }

@@ -1,0 +1,23 @@
+-- What a card does at one line, beside what happens at the others.
+use Rattle.std.specs.Prelude.{ℕ, ◌==◌, Bool, ◌&&◌, not, List, map, filter}
+use Rattle.model_line.specs.Answer.{Answer}
+use Rattle.model_line.specs.Counts.{is_pool_full}
+use Rattle.model_card.specs.Event.{Event}
+use Rattle.model_card.specs.Run.{Moment}
+
+-- The moments at a line in which no request found the card's pool full.
+abbrev pub is_served_at : ℕ → Moment → Bool
+is_served_at number m = (m.event.line == number) && not (is_pool_full m.answer)
+
+abbrev pub event_in : Moment → Event
+event_in m = m.event
+
+abbrev pub answer_in : Moment → Answer
+answer_in m = m.answer
+
+-- Their events, and their answers, octets pulled among them.
+abbrev pub events_at : ℕ → List Moment → List Event
+events_at number ms = map event_in (filter (is_served_at number) ms)
+
+abbrev pub answers_at : ℕ → List Moment → List Answer
+answers_at number ms = map answer_in (filter (is_served_at number) ms)

@@ -1,0 +1,104 @@
+-- Laws of whole runs. Each holds for every list of events, and so for every front of a list.
+use Rattle.std.specs.Prelude.{◌≡◌, ◌↔◌, ℕ, ◌+◌, ◌≤◌, ◌<◌, Some, IsSome, List, map}
+use Rattle.lapd_frame.specs.declared.refusals.Refusal.{Refusal}
+use Rattle.lapd_frame.specs.declared.timers.Timer.{Timer}
+use Rattle.model_line.specs.declared.config.Config.{Config}
+use Rattle.model_line.specs.Answer.{Answer, request, refused}
+use Rattle.model_line.specs.Request.{Request}
+use Rattle.model_line.specs.Refusal.{refusal}
+use Rattle.model_line.specs.Sound.{IsInRange}
+use Rattle.model_card.specs.Event.{Event, at}
+use Rattle.model_card.specs.Card.{Card, fresh, line_at, is_full}
+use Rattle.model_card.specs.Counts.{frames_heard, heard}
+use Rattle.model_card.specs.Machine.{after, answer}
+use Rattle.model_card.specs.Run.{Moment, run, moments, after_all, AreAtLines}
+use Rattle.model_card.specs.Sound.{IsSound}
+use Rattle.model_card.specs.Stored.{stored, limit}
+use Rattle.model_card.specs.ByEvent.{RisesByOctet, RisesByExpiry, RisesByRequest, FallsByPull, ArePriced}
+use Rattle.model_card.specs.Drops.{AreDropsWithoutCost, AreDropsWithoutEffect}
+use Rattle.model_card.specs.Promises.{IsWithinLimit, IsAmortised, IsAmortisedFromZero, HasSixOctetsAFrame, HasSevenOctetsAReject, IsLinear, IsNumbered, IsNumberedFromZero, IsTextual, IsIsolated, IsNeverFull}
+
+-- A run as one fold is its moments.
+abbrev pub reply_of : Moment → ℕ × Answer
+reply_of m = (m.event.line, m.answer)
+
+pub record RunIsMoments : Type 0 where
+  pub card : (card : Card) (events : List Event) → (run card events).card ≡ after_all card events
+  pub replies : (card : Card) (events : List Event) → (run card events).replies ≡ map reply_of (moments card events)
+
+-- A card is sound as it begins, and each event keeps it so.
+pub record CardsStaySound : Type 0 where
+  pub begins : (c : Config) → IsInRange c → IsSound (fresh c)
+  pub stays : (card : Card) (e : Event) → IsSound card → e.line < card.config.lines → IsSound (after e card)
+  pub always : (card : Card) (events : List Event) → IsSound card → AreAtLines card events → IsSound (after_all card events)
+
+-- It never stores more octets than its limit.
+pub record StoredWithinLimit : Type 0 where
+  pub now : (card : Card) → IsSound card → stored card ≤ limit card.config
+  pub always : (card : Card) (events : List Event) → IsSound card → AreAtLines card events → IsWithinLimit card events
+
+-- A request is refused exactly where a row of the table of refusals holds, for the reason of the first that does; and
+-- then nothing changes.
+pub record RefusedByTheTable : Type 0 where
+  pub refused_exactly : (card : Card) (number : ℕ) (r : Request) (why : Refusal) →
+      (answer (at number (request r)) card ≡ refused why)
+      ↔ (refusal card.config (is_full card) r (line_at number card) ≡ Some why)
+  pub unchanged : (card : Card) (number : ℕ) (r : Request) →
+      IsSome (refusal card.config (is_full card) r (line_at number card)) → after (at number (request r)) card ≡ card
+
+-- The frames sent, and those that may still be sent, rise by at most two for each frame that is heard, by one for
+-- each request that is accepted, by k + 1 for each expiry of a running timer, and by k for each REJ with a valid N(R).
+-- Pulls and refusals let them rise by nothing, and so do drops by the deframer; a frame dropped later is one that was
+-- heard here, though it costs nothing (`DropsCostNothing`).
+abbrev pub FramesAmortised : Type 0
+FramesAmortised = (card : Card) (events : List Event) → IsSound card → AreAtLines card events → IsAmortised card events
+
+-- The same event by event: what each lets rise at most, and that a pull which begins a frame lets it fall.
+pub record FramesByEvent : Type 0 where
+  pub octets : (card : Card) (number value : ℕ) → IsSound card → number < card.config.lines → RisesByOctet number value card
+  pub expiries : (card : Card) (number : ℕ) (timer : Timer) → IsSound card → number < card.config.lines → RisesByExpiry number timer card
+  pub requests : (card : Card) (number : ℕ) (r : Request) → IsSound card → number < card.config.lines → RisesByRequest number r card
+  pub pulls : (card : Card) (number : ℕ) → IsSound card → number < card.config.lines → FallsByPull number card
+  pub in_runs : (card : Card) (events : List Event) → IsSound card → AreAtLines card events → ArePriced card events
+
+-- What is dropped costs nothing, in no moment of a run.
+abbrev pub DropsCostNothing : Type 0
+DropsCostNothing = (card : Card) (events : List Event) → IsSound card → AreAtLines card events → AreDropsWithoutCost card events
+
+-- And nothing else is told of it, and it changes nothing but the octets received, from any card on.
+abbrev pub DropsChangeNothing : Type 0
+DropsChangeNothing = (card : Card) (events : List Event) → AreDropsWithoutEffect card events
+
+-- The frames heard in the moments of a run are those by which the frames heard in all octets received grow.
+abbrev pub FramesCounted : Type 0
+FramesCounted =
+    (card : Card) (events : List Event) → IsSound card → AreAtLines card events →
+    frames_heard (after_all card events) ≡ frames_heard card + heard (moments card events)
+
+-- From a fresh card on, where nothing may be sent before, they are within the same bound; and as a frame has six octets
+-- of its own at least, with its check and a flag, and an REJ seven, they are linear in the octets received, the accepted
+-- requests and the expiries.
+pub record FramesLinear : Type 0 where
+  pub amortised : (c : Config) (events : List Event) → IsInRange c → AreAtLines (fresh c) events → IsAmortisedFromZero c events
+  pub frames : (c : Config) (events : List Event) → IsInRange c → AreAtLines (fresh c) events → HasSixOctetsAFrame c events
+  pub rejects : (c : Config) (events : List Event) → IsInRange c → AreAtLines (fresh c) events → HasSevenOctetsAReject c events
+  pub linear : (c : Config) (events : List Event) → IsInRange c → AreAtLines (fresh c) events → IsLinear c events
+
+-- Each link's deliveries are numbered without gap since its establishment, each told in the moment of its frame; and on
+-- a card that began fresh from 0 on.
+pub record DeliveriesNumbered : Type 0 where
+  pub numbered : (card : Card) (events : List Event) → IsSound card → AreAtLines card events → IsNumbered card events
+  pub from_zero : (c : Config) (events : List Event) → IsInRange c → AreAtLines (fresh c) events → IsNumberedFromZero c events
+
+-- The octets pulled of a line go on with its text.
+abbrev pub TextGoesOn : Type 0
+TextGoesOn = (card : Card) (events : List Event) → IsSound card → AreAtLines card events → IsTextual card events
+
+-- From a fresh card on, what a line answers but for a full pool is what it would answer on a card of its own, to the
+-- events at it that did not find the pool full.
+abbrev pub LinesIsolated : Type 0
+LinesIsolated = (c : Config) (events : List Event) → IsInRange c → AreAtLines (fresh c) events → IsIsolated c events
+
+-- And the pool is never full where there is a slot for each place of each queue.
+abbrev pub PoolNeverFull : Type 0
+PoolNeverFull = (c : Config) (events : List Event) → IsInRange c → AreAtLines (fresh c) events → IsNeverFull c events

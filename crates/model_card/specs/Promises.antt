@@ -1,0 +1,100 @@
+-- What is promised of a list of events, from a card on. The laws say of which cards, and of which lists.
+use Rattle.std.specs.Prelude.{◌≡◌, ℕ, ◌+◌, ◌*◌, ◌≤◌, ◌<◌, false, List, length, map, All}
+use Rattle.model_link.specs.Numbered.{Numbered}
+use Rattle.model_line.specs.declared.config.Config.{Config}
+use Rattle.model_line.specs.Counts.{is_pool_full}
+use Rattle.model_line.specs.Line.{link_count}
+use Rattle.model_card.specs.Card.{Card, fresh, line_at}
+use Rattle.model_card.specs.Counts.{may_send, octets_received, window, sent, heard, accepted, expired, rejected}
+use Rattle.model_card.specs.Event.{Event}
+use Rattle.model_card.specs.Isolation.{events_at, answers_at, answer_in}
+use Rattle.model_card.specs.Numbered.{LinkName, History, history, received_by, AreNumbered, frames_of, deliveries_of}
+use Rattle.model_card.specs.Pulled.{octets_pulled, frames_begun, GoesOn}
+use Rattle.model_card.specs.Run.{Moment, moments, after_all}
+use Rattle.model_card.specs.Stored.{stored, limit}
+
+-- The octets stored at the end are within the limit.
+abbrev pub IsWithinLimit : Card → List Event → Type 0
+IsWithinLimit m events = stored (after_all m events) ≤ limit m.config
+
+-- The frames sent, and those that may be sent at the end, are at most those that might be sent at the beginning, two
+-- for each frame heard, one for each accepted request, k + 1 for each expiry of a running timer, and k for each REJ with
+-- a valid N(R); all of them counted over the same moments.
+abbrev pub IsAmortised : Card → List Event → Type 0
+IsAmortised m events =
+    let ms = moments m events in
+    let end = after_all m events in
+    let k = window m.config in
+    sent ms + may_send end ≤ may_send m + 2 * heard ms + accepted ms + (k + 1) * expired ms + k * rejected ms
+
+-- A card as it begins has nothing to send, so there it is the same bound without that.
+abbrev pub IsAmortisedFromZero : Config → List Event → Type 0
+IsAmortisedFromZero c events =
+    let ms = moments (fresh c) events in
+    let end = after_all (fresh c) events in
+    let k = window c in
+    sent ms + may_send end ≤ 2 * heard ms + accepted ms + (k + 1) * expired ms + k * rejected ms
+
+-- Each frame heard has taken six octets of the octets received: an address of two, a control field of one, a check of
+-- two and a flag.
+abbrev pub HasSixOctetsAFrame : Config → List Event → Type 0
+HasSixOctetsAFrame c events = 6 * heard (moments (fresh c) events) ≤ octets_received (after_all (fresh c) events)
+
+-- And each REJ with a valid N(R) seven, as its control field has two.
+abbrev pub HasSevenOctetsAReject : Config → List Event → Type 0
+HasSevenOctetsAReject c events = 7 * rejected (moments (fresh c) events) ≤ octets_received (after_all (fresh c) events)
+
+-- So the frames sent are linear in the octets received, the accepted requests and the expiries: two frames for six
+-- octets, k more for seven. In twenty-firsts of a frame, as 21 is the least multiple of 3 and 7, an octet is worth
+-- 21 * 2 / 6 = 7 of the former and 21 * k / 7 = 3 * k of the latter.
+abbrev pub IsLinear : Config → List Event → Type 0
+IsLinear c events =
+    let ms = moments (fresh c) events in
+    let octets = octets_received (after_all (fresh c) events) in
+    let k = window c in
+    21 * sent ms ≤ (7 + 3 * k) * octets + 21 * accepted ms + 21 * (k + 1) * expired ms
+
+-- On a card as it begins, what a line answers but for a full pool is what it would answer on a card of its own, to the
+-- events at it that did not find the pool full.
+abbrev pub IsIsolated : Config → List Event → Type 0
+IsIsolated c events =
+    (number : ℕ) → number < c.lines →
+    let ms = moments (fresh c) events in
+    answers_at number ms ≡ map answer_in (moments (fresh c) (events_at number ms))
+
+-- Where there is a slot for each place of each queue, no request is refused because the pool is full.
+abbrev pub IsNotRefusedForPool : Moment → Type 0
+IsNotRefusedForPool m = is_pool_full m.answer ≡ false
+
+abbrev pub IsNeverFull : Config → List Event → Type 0
+IsNeverFull c events = c.lines * (2 * c.terminals * c.queue + c.unit_queue) ≤ c.slots → All IsNotRefusedForPool (moments (fresh c) events)
+
+-- A link of the card.
+abbrev pub HasLink : Card → LinkName → Type 0
+HasLink card name = (name.line < card.config.lines) × (name.number < link_count card.config)
+
+-- What a link has delivered since its latest establishment is numbered: the next delivery is the contents of the
+-- first eligible frame that has the next number, modulo 128, and each is reported in the moment of its frame. Its V(R)
+-- counts them.
+pub record IsNumberedAs (h : History) (received : ℕ) : Type 0 where
+  pub numbered : Numbered h.first (frames_of h.shares) (deliveries_of h.shares)
+  pub at_once : AreNumbered h.first h.shares
+  pub counted : received ≡ h.first + length (deliveries_of h.shares)
+
+abbrev pub IsNumberedAt : Card → List Event → LinkName → Type 0
+IsNumberedAt m events name = IsNumberedAs (history name m (moments m events)) (received_by name (after_all m events))
+
+-- So it is with each link.
+abbrev pub IsNumbered : Card → List Event → Type 0
+IsNumbered m events = (name : LinkName) → HasLink m name → IsNumberedAt m events name
+
+-- From a card as it begins they are numbered from 0 on.
+abbrev pub IsNumberedFromZero : Config → List Event → Type 0
+IsNumberedFromZero c events = (name : LinkName) → HasLink (fresh c) name → (history name (fresh c) (moments (fresh c) events)).first ≡ 0
+
+-- The octets pulled of each line go on with its text, whose frames are those that pulls began, in order.
+abbrev pub IsTextual : Card → List Event → Type 0
+IsTextual m events =
+    (number : ℕ) → number < m.config.lines →
+    let ms = moments m events in
+    GoesOn (line_at number m) (line_at number (after_all m events)) (octets_pulled number ms) (frames_begun number ms)

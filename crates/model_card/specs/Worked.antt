@@ -1,0 +1,106 @@
+-- Worked values of a card: each computes.
+use Rattle.std.specs.Prelude.{◌≡◌, ℕ, true, false, List, [], ◌∷◌, ◌++◌, map, Some, refl}
+use Rattle.lapd_bits.specs.Bits.{low_bits}
+use Rattle.lapd_frame.specs.declared.refusals.Refusal.TheVariants.{QueueFull, PoolFull}
+use Rattle.lapd_frame.specs.declared.services.Service.TheVariants.{Call}
+use Rattle.lapd_frame.specs.Reading.{reading, header_of, control_of, unnumbered_of}
+use Rattle.lapd_tei.specs.Events as teis
+use Rattle.model_line.specs.declared.config.Config.{Config}
+use Rattle.model_line.specs.declared.config.Field.TheVariants as field
+use Rattle.model_line.specs.Config.{first_fault}
+use Rattle.model_line.specs.Answer.{Answer, octet, request, pull, told, refused, pulled, nothing}
+use Rattle.model_line.specs.Request.{Request, Assign, Data, Unit}
+use Rattle.model_line.specs.Machine as lines
+use Rattle.model_card.specs.Event.{Event, at}
+use Rattle.model_card.specs.Card.{Card, fresh, state}
+use Rattle.model_card.specs.Run.{run}
+use Rattle.model_card.specs.Stored.{stored, limit}
+
+abbrev usual : Config
+usual = record { lines = 1; terminals = 8; k = 7; k16 = 7; queue = 8; unit_queue = 4; control = 4; slots = 64; n201 = 260; n200 = 3 }
+
+abbrev on_0 : Request → Event
+on_0 r = at 0 (request r)
+
+abbrev octet_on_0 : ℕ → Event
+octet_on_0 value = at 0 (octet value)
+
+abbrev card_after : Config → List Event → Card
+card_after c events = (run (fresh c) events).card
+
+abbrev answer_of : ℕ × Answer → Answer
+answer_of reply = reply.1
+
+abbrev answers_after : Config → List Event → List Event → List Answer
+answers_after c before events = map answer_of (run (card_after c before) events).replies
+
+-- TEI 64 on line 0, and its SABME: a flag, the frame, its check, and a flag that ends in the first bit of the last
+-- octet
+abbrev up : List Event
+up =
+    on_0 (Assign 64) ∷ octet_on_0 0x7E ∷ octet_on_0 0x00 ∷ octet_on_0 0x81 ∷ octet_on_0 0xEF ∷ octet_on_0 0x50
+    ∷ octet_on_0 0xB1 ∷ octet_on_0 0xFD ∷ octet_on_0 0xFC ∷ []
+
+up_is_established : state 0 Call 64 (card_after usual up) ≡ Some 7
+unfolding lines.after lines.takes_slot reading header_of control_of unnumbered_of teis.course teis.refusal low_bits
+up_is_established = refl
+
+-- seven pulls then give the opening flag, UA with its check, and a flag; the second begins the frame
+abbrev pull_on_0 : Event
+pull_on_0 = at 0 pull
+
+ua_is_pulled :
+    answers_after usual up (pull_on_0 ∷ pull_on_0 ∷ pull_on_0 ∷ pull_on_0 ∷ pull_on_0 ∷ pull_on_0 ∷ pull_on_0 ∷ [])
+    ≡ pulled 0x7E false [] ∷ pulled 0x00 true [] ∷ pulled 0x81 false [] ∷ pulled 0x73 false [] ∷ pulled 0xC4 false []
+    ∷ pulled 0x12 false [] ∷ pulled 0x7E false [] ∷ []
+unfolding lines.after lines.answer lines.takes_slot reading header_of control_of unnumbered_of teis.course teis.refusal low_bits
+ua_is_pulled = refl
+
+-- a queue of two contents takes two, and the third is refused; UA waits all the while
+abbrev small_queue : Config
+small_queue = record usual { k = 1; k16 = 1; queue = 2 }
+
+abbrev data_on : ℕ → ℕ → Event
+data_on line value = at line (request (Data Call 64 (value ∷ [])))
+
+full_queue :
+    answers_after small_queue up (data_on 0 0x01 ∷ data_on 0 0x02 ∷ data_on 0 0x03 ∷ [])
+    ≡ told nothing ∷ told nothing ∷ refused QueueFull ∷ []
+unfolding lines.after lines.answer lines.takes_slot reading header_of control_of unnumbered_of teis.course teis.refusal low_bits
+full_queue = refl
+
+stored_before_refusal : stored (card_after small_queue (up ++ data_on 0 0x01 ∷ data_on 0 0x02 ∷ [])) ≡ 5
+unfolding lines.after lines.takes_slot reading header_of control_of unnumbered_of teis.course teis.refusal low_bits
+stored_before_refusal = refl
+
+stored_after_refusal : stored (card_after small_queue (up ++ data_on 0 0x01 ∷ data_on 0 0x02 ∷ data_on 0 0x03 ∷ [])) ≡ 5
+unfolding lines.after lines.takes_slot reading header_of control_of unnumbered_of teis.course teis.refusal low_bits
+stored_after_refusal = refl
+
+-- a pool of one slot
+full_pool :
+    answers_after (record usual { slots = 1 }) up (data_on 0 0x01 ∷ data_on 0 0x02 ∷ [])
+    ≡ told nothing ∷ refused PoolFull ∷ []
+unfolding lines.after lines.answer lines.takes_slot reading header_of control_of unnumbered_of teis.course teis.refusal low_bits
+full_pool = refl
+
+-- whichever line uses it
+abbrev unit_on : ℕ → Event
+unit_on line = at line (request (Unit Call 127 (0xAB ∷ [])))
+
+full_pool_of_two_lines :
+    answers_after (record usual { lines = 2; slots = 1 }) [] (unit_on 0 ∷ unit_on 1 ∷ [])
+    ≡ told nothing ∷ refused PoolFull ∷ []
+unfolding lines.after lines.answer lines.takes_slot
+full_pool_of_two_lines = refl
+
+-- the limits of two configurations
+limit_of_eight_lines : limit (record usual { lines = 8 }) ≡ 23280
+limit_of_eight_lines = refl
+
+limit_of_one_line : limit usual ≡ 17470
+limit_of_one_line = refl
+
+-- a window of 128, and a queue that is too small besides: the window is told
+window_out_of_range : first_fault (record usual { k = 128; queue = 127 }) ≡ Some field.K
+window_out_of_range = refl

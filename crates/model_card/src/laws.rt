@@ -1,0 +1,101 @@
+//! What holds of whole runs of the machine. Each law is the contract of a call that does nothing; it holds for every
+//! list of events, and so for every front of a list.
+
+ghost use Rattle.model_card.specs.Laws.{CardsStaySound, DeliveriesNumbered, DropsChangeNothing, DropsCostNothing, FramesAmortised, FramesByEvent, FramesCounted, FramesLinear, LinesIsolated, PoolNeverFull, RefusedByTheTable, RunIsMoments, StoredWithinLimit, TextGoesOn};
+
+/// A run as one fold is its moments, one after the other.
+pub fn run_is_moments()
+    ensures { RunIsMoments }
+{}
+
+/// A card is sound as it begins, and each event keeps it so: each line is, and no more slots are in use than there are.
+pub fn cards_stay_sound()
+    ensures { CardsStaySound }
+{}
+
+/// A sound card never stores more octets than its limit, which its configuration alone tells.
+pub fn stored_within_limit()
+    ensures { StoredWithinLimit }
+{}
+
+/// From any sound card on, whatever the number of pulls: the frames sent, and those that may still be sent, are at most
+/// those that could be sent before, two for each frame heard, one for each accepted request, k + 1 for each expiry
+/// of a running timer, and k for each REJ with a valid N(R), where k is the greater of both windows. So no terminal can
+/// make a card a source of frames.
+pub fn frames_amortised()
+    ensures { FramesAmortised }
+{}
+
+/// The frames heard in the moments of a run, as [`frames_amortised`] counts them, are those by which the frames heard in
+/// all octets received grow.
+pub fn frames_counted()
+    ensures { FramesCounted }
+{}
+
+/// The same bound for single events, and so in every moment of a run. What may be sent rises by at most two for an octet that
+/// ends a frame which is heard (one octet ends one frame at most), and by k more where that is an REJ with a valid
+/// N(R); by k + 1 for an expiry of a running timer; by one for an accepted request. A drop by the deframer (abort,
+/// ragged, short, frame check), a refusal and an expiry of a timer that does not run let it rise by nothing. A frame
+/// that is dropped later is one that was heard: see [`drops_cost_nothing`]. A pull that begins a frame lets it
+/// fall by one or two, and any other pull leaves it as it is.
+pub fn frames_by_event()
+    ensures { FramesByEvent }
+{}
+
+/// In every moment of a run: where the answer to an octet names a cause, whichever, what may be sent stays as it is. So
+/// a frame that is dropped lets it rise by nothing, for its address and for want of service too.
+pub fn drops_cost_nothing()
+    ensures { DropsCostNothing }
+{}
+
+/// In every moment of a run, from any card on: where the answer to an octet names a cause, whichever, the cause is all
+/// that it says, and the card is afterwards what it was, but that its line has received this octet. So what is dropped
+/// is never answered: no frame waits for it, no note and no order is told, and no link, TEI, timer or slot has changed.
+pub fn drops_change_nothing()
+    ensures { DropsChangeNothing }
+{}
+
+/// A request is refused exactly where a row of the table of refusals holds, for the reason of the first that does. So
+/// it is refused for want of room exactly where its place is full; and then nothing changes.
+pub fn refused_by_the_table()
+    ensures { RefusedByTheTable }
+{}
+
+/// The octets pulled of a line are a beginning of one text: that of the items before and of those that the pulls put on
+/// the line, closed by flags, whose frames are exactly those that the pulls began, in order. So what a line gives is
+/// flags and whole frames with bits stuffed (Q.921 clause 2), from the first octet on, and no other event, at this line
+/// or at another, puts a bit into it.
+pub fn text_goes_on()
+    ensures { TextGoesOn }
+{}
+
+/// From any sound card on, what each link delivers since its establishment is numbered without gap: delivery i is the
+/// contents of the first eligible I-frame after that of delivery i - 1 whose N(S) is i modulo 128, it is told in the
+/// answer to the octet that ended this frame, and after the last delivery no eligible frame had the next number. V(R)
+/// counts them (Q.921 clauses 3.5.2.4 to 3.5.2.6 and 5.6.2). An I-frame is eligible where it has at most N201 octets
+/// and meets state 7 or 8 with own busy off. An establishment is an event in which the tables set the link's numbers to
+/// zero, or the link is cleared. On a card that began fresh the first number is 0.
+pub fn deliveries_numbered()
+    ensures { DeliveriesNumbered }
+{}
+
+/// From a fresh card on, for each line: its answers but for a full pool, octets pulled among them, are those of a fresh
+/// card of the same configuration on which only the events at that line happened, without the requests that found the
+/// pool full.
+pub fn lines_isolated()
+    ensures { LinesIsolated }
+{}
+
+/// From a fresh card on, the frames sent, and those that may still be sent, are at most two for each frame heard,
+/// one for each accepted request, k + 1 for each expiry of a running timer, and k for each REJ with a valid N(R); and
+/// they are linear in the octets received, the accepted requests and those expiries: each frame takes six octets of its
+/// line at least, and each REJ seven.
+pub fn frames_linear()
+    ensures { FramesLinear }
+{}
+
+/// From a fresh card on, no request finds the pool full where there are as many slots as all queues together have
+/// places: `lines * (2 * terminals * queue + unit_queue)` (profile). So on such a card no line feels another at all.
+pub fn pool_never_full()
+    ensures { PoolNeverFull }
+{}

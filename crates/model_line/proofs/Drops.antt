@@ -1,0 +1,109 @@
+-- What an octet brings that is dropped changes nothing, and costs nothing.
+use Rattle.std.proofs.Common.{◌≡◌, ℕ, Bool, true, false, [], Option, Some, None, IsSome, refl, ap, sym, ◌∙◌}
+use Rattle.std.specs.Option.{option_map_or, unwrap_or}
+use Rattle.std.proofs.lemmas.Bool.{false≢true}
+use Rattle.std.proofs.lemmas.List.{set-get_or}
+use Rattle.std.proofs.lemmas.Option.{none-some}
+use Rattle.lapd_bits.specs.declared.heard.Cause.{Cause}
+use Rattle.lapd_bits.specs.declared.heard.Cause.TheVariants.{Unserved}
+use Rattle.lapd_bits.specs.Stream as stream
+use Rattle.lapd_frame.specs.declared.services.Service.{Service}
+use Rattle.model_link.specs.declared.terms.Terms.{Terms}
+use Rattle.model_link.specs.declared.timers.LinkTimer.{LinkTimer}
+use Rattle.model_link.specs.declared.timers.LinkTimer.TheVariants.{T200, T203}
+use Rattle.model_link.specs.Events as link
+use Rattle.model_link.specs.Link.{fresh}
+use Rattle.model_link.specs.Machine as links
+use Rattle.model_link.specs.Told.{orders_for}
+use Rattle.lapd_tei.specs.Events as teis
+use Rattle.lapd_tei.specs.declared.outcome.Change.{Change}
+use Rattle.lapd_tei.specs.declared.outcome.Change.TheVariants.{Gained, Left}
+use Rattle.lapd_tei.proofs.LawLemmas as tei_lemmas
+use Rattle.model_line.specs.declared.config.Config.{Config}
+use Rattle.model_line.specs.Answer.{Told, octet, told, nothing, dropped}
+use Rattle.model_line.specs.Counts.{may_send}
+use Rattle.model_line.specs.Laws.{cause_in, DropsChangeNothing}
+use Rattle.model_line.specs.Line.{Line, link_number, link_in, with_link, terms}
+use Rattle.model_line.specs.Machine as lines
+use Rattle.model_line.specs.Octet.{gained, aim_of_heard, with_received}
+use Rattle.model_line.specs.Effect.{Effect, at_none, unserved_cause, told_of_link, told_of_management, of_link, of_change, of_management, of_aim}
+use Rattle.model_line.proofs.ProperAims.{heard_aims}
+use Rattle.model_link.proofs.Unserved.{unserved_leaves}
+
+-- a link or TEI management names a cause exactly where it does not serve
+unserved_is : (b : Bool) (cause : Cause) → unserved_cause b ≡ Some cause → (b ≡ true) × (Unserved ≡ cause)
+unserved_is true cause e = (refl, ap (λ o. unwrap_or o Unserved) e)
+unserved_is false cause e = absurd (none-some cause e)
+
+-- What an octet comes to where a cause is named: the cause is all that is told, and the line has received the octet.
+abbrev Leaves : Line → Effect → Type 0
+Leaves l out = (cause : Cause) → out.told.cause ≡ Some cause → (out.told ≡ dropped cause) × (out.line ≡ l)
+
+-- a timer that ran before and runs after is neither started nor stopped
+no_orders : (t : Terms) (running : Option LinkTimer) → orders_for t running None running ≡ []
+no_orders t None = refl
+no_orders t (Some T200) = refl
+no_orders t (Some T203) = refl
+
+link_leaves : (c : Config) (service : Service) (tei place : ℕ) (what : link.Received) (l : Line) → Leaves l (of_link c service tei place (link.received what) l)
+link_leaves c service tei place what l cause h =
+    let t = terms c service tei in
+    let n = link_number place service in
+    let x = link_in l service place in
+    let known = unserved_is (links.told t (link.received what) x).unserved cause h in
+    let same = unserved_leaves t x what known.0 in
+    let told : told_of_link (links.told t (link.received what) x) ≡ dropped Unserved =
+    ap (λ course. told_of_link (links.told_of t x course)) same ∙ ap (λ orders. record (dropped Unserved) { orders = orders }) (no_orders t x.running) in (
+      told ∙ ap dropped known.1,
+      ap (λ course. with_link n course.link l) same ∙ ap (λ ls. record l { links = ls }) (set-get_or l.links n fresh),
+    )
+
+-- what becomes of a TEI adds no cause
+cause_stays : (c : Config) (change : Option Change) (t : Told) (l : Line) → (of_change c change t l).told.cause ≡ t.cause
+cause_stays c None t l = refl
+cause_stays c (Some (Gained tei place)) t l = refl
+cause_stays c (Some (Left tei place)) t l = refl
+
+management_leaves : (c : Config) (event : teis.Event) (l : Line) → Leaves l (of_management c event l)
+management_leaves c event l cause h =
+    let t = teis.told event l.management in
+    let next : Line = record l { management = teis.after event l.management } in
+    let known = unserved_is t.unserved cause (sym (cause_stays c t.change (told_of_management t) next) ∙ h) in
+    let still = tei_lemmas.unserved_changes_nothing event l.management known.0 in
+    let out : of_change c t.change (told_of_management t) next ≡ record { line = l; told = dropped Unserved } =
+    ap (λ x. of_change c x.change (told_of_management x) next) still.1 ∙ ap (λ m. record { line = record l { management = m }; told = dropped Unserved }) still.0 in
+    (ap (λ o. o.told) out ∙ ap dropped known.1, ap (λ o. o.line) out)
+
+-- an octet whose answer names a cause
+pub octet_leaves : (c : Config) (value : ℕ) (l : Line) (cause : Cause) → cause_in (lines.answer c (octet value) l) ≡ Some cause
+    → (lines.answer c (octet value) l ≡ told (dropped cause)) × (lines.after c (octet value) l ≡ with_received value l)
+unfolding lines.answer lines.after
+octet_leaves c value l cause h =
+    let left = go (gained c.n201 l.received value) cause h in
+    (ap told left.0, left.1)
+  where
+    go : (o : Option stream.Event) → Leaves (with_received value l) (of_aim c (option_map_or (aim_of_heard l) o (at_none nothing)) (with_received value l))
+    go None = λ cause h. absurd (none-some cause h)
+    go (Some e) =
+        heard_aims l (λ aim. Leaves (with_received value l) (of_aim c aim (with_received value l)))
+        (λ why cause h. (ap dropped (ap (λ o. unwrap_or o why) h), refl))
+        (λ service tei place what at. link_leaves c service tei place what (with_received value l))
+        (λ info. management_leaves c (teis.message info) (with_received value l)) e
+
+-- and what may be sent does not depend on what was received
+pub named_cause : (o : Option Cause) → IsSome o → (cause : Cause) × (o ≡ Some cause)
+named_cause None h = absurd (false≢true h)
+named_cause (Some cause) h = (cause, refl)
+
+pub drop_costs_nothing : (c : Config) (value : ℕ) (l : Line) → IsSome (cause_in (lines.answer c (octet value) l))
+    → may_send c (lines.after c (octet value) l) ≡ may_send c l
+drop_costs_nothing c value l h =
+    let some = named_cause (cause_in (lines.answer c (octet value) l)) h in
+    ap (may_send c) (octet_leaves c value l some.0 some.1).1
+
+pub drops_change_nothing : DropsChangeNothing
+drops_change_nothing = record {
+  answers = λ c value l cause h. (octet_leaves c value l cause h).0;
+  leaves = λ c value l cause h. (octet_leaves c value l cause h).1;
+  costs = drop_costs_nothing;
+}

@@ -1,0 +1,67 @@
+-- The first link of a round that has something to give is the one that is served.
+use Rattle.std.proofs.Common.{◌≡◌, ℕ, ◌+◌, List, [], ◌∷◌, ◌++◌, Option, Some, None, refl, ap, sym, ◌∙◌}
+use Rattle.std.specs.Prelude.{All}
+use Rattle.std.specs.Option.{option_map, option_or}
+use Rattle.std.proofs.lemmas.List.Elements.{All-nil, All-cons}
+use Rattle.model_link.specs.Machine as links
+use Rattle.model_link.specs.Told.{Given}
+use Rattle.model_line.specs.declared.config.Config.{Config}
+use Rattle.model_line.specs.Line.{Line, terms_at, link_at}
+use Rattle.model_line.specs.Pull.{Taken, message_taken, unit_taken, with_given_frame, link_taken, first_taken, round}
+use Rattle.model_line.specs.Turns.{LinksTakeTurns}
+
+module _ (c : Config) (l : Line) where
+  record First (ns : List ℕ) (t : Taken) : Type 0 where
+    number : ℕ
+    before : List ℕ
+    behind : List ℕ
+    place : ns ≡ before ++ number ∷ behind
+    passed : All (λ other. link_taken c l other ≡ None) before
+    given : link_taken c l number ≡ Some t
+
+  later : (n : ℕ) (ns : List ℕ) (t : Taken) → link_taken c l n ≡ None → First ns t → First (n ∷ ns) t
+  later n ns t none f = record {
+    number = f.number;
+    before = n ∷ f.before;
+    behind = f.behind;
+    place = ap (λ xs. n ∷ xs) f.place;
+    passed = All-cons (λ other. link_taken c l other ≡ None) n f.before none f.passed;
+    given = f.given;
+  }
+
+  at-once : (n : ℕ) (ns : List ℕ) (t : Taken) → link_taken c l n ≡ Some t → First (n ∷ ns) t
+  at-once n ns t some = record {
+    number = n;
+    before = [];
+    behind = ns;
+    place = refl;
+    passed = All-nil (λ other. link_taken c l other ≡ None);
+    given = some;
+  }
+
+  first : (ns : List ℕ) (t : Taken) → first_taken c l ns ≡ Some t → First ns t
+  first [] t e = cc
+  first (n ∷ ns) t e = go (link_taken c l n) refl (λ x. first ns t x) e
+    where
+      go : (o : Option Taken) → link_taken c l n ≡ o → (first_taken c l ns ≡ Some t → First ns t) → option_or o (first_taken c l ns) ≡ Some t → First (n ∷ ns) t
+      go None is rest e = later n ns t is (rest e)
+      go (Some u) is rest e = at-once n ns t (is ∙ e)
+
+  turned : (number : ℕ) (t : Taken) → link_taken c l number ≡ Some t → t.line.turn ≡ number + 1
+  turned number t e = go (links.given (terms_at c number l) (link_at number l)) e
+    where
+      go : (o : Option Given) → option_map (with_given_frame l number (terms_at c number l)) o ≡ Some t → t.line.turn ≡ number + 1
+      go None e = cc
+      go (Some g) e =
+          let same : with_given_frame l number (terms_at c number l) g ≡ t = cc in
+          sym (ap (λ u. u.line.turn) same)
+
+  takes : (message unit links : Option Taken) (t : Taken) → message ≡ None → unit ≡ None → option_or message (option_or unit links) ≡ Some t → links ≡ Some t
+  takes None None links t m u e = e
+  takes None (Some x) links t m u e = cc
+  takes (Some x) unit links t m u e = cc
+
+pub links_take_turns : LinksTakeTurns
+links_take_turns c l t message unit e =
+    let f = first c l (round c l) t (takes c l (message_taken l) (unit_taken l) (first_taken c l (round c l)) t message unit e) in
+    (f.number, record { before = f.before; behind = f.behind; place = f.place; passed = f.passed; given = f.given; turn = turned c l f.number t f.given })

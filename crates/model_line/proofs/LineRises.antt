@@ -1,0 +1,108 @@
+-- By how much an event lets rise what a line sends and may still send.
+use Rattle.std.proofs.Common.{◌≡◌, ℕ, ◌+◌, ◌*◌, ◌≤◌, Bool, true, false, List, [], ◌∷◌, ◌++◌, length, slice_get, max, Option, Some, None, option_to_list, refl, ap, sym, ◌∙◌, subst, cond, arith}
+use Rattle.std.specs.Prelude.{count_by}
+use Rattle.std.specs.Option.{option_map_or}
+use Rattle.std.proofs.lemmas.List.Sums.{sum_by-append}
+use Rattle.lapd_bits.specs.Stream as stream
+use Rattle.lapd_bits.proofs.OneEvent.{one_event_an_octet}
+use Rattle.lapd_frame.specs.declared.services.Service.{Service}
+use Rattle.lapd_frame.specs.declared.services.Service.TheVariants.{Call, Packet}
+use Rattle.model_link.specs.Events as link
+use Rattle.model_link.specs.Rises as rises
+use Rattle.model_line.specs.declared.config.Config.{Config}
+use Rattle.model_line.specs.Counts.{one, is_frame, frames_heard, is_long_frame, long_frames_heard, rejects_aimed}
+use Rattle.model_line.specs.Line.{Line, window, link_in}
+use Rattle.model_line.specs.Octet.{gained, aim_of_heard, aim_of_octet, with_received}
+use Rattle.model_line.specs.Effect.{Aim, at_none, at_link, at_management, at_units, told_of_management, of_change, of_aim}
+use Rattle.model_line.specs.Answer.{Told, nothing}
+use Rattle.lapd_tei.specs.Events as teis
+use Rattle.lapd_tei.specs.declared.outcome.Change.{Change}
+use Rattle.lapd_tei.specs.declared.outcome.Change.TheVariants.{Gained, Left}
+use Rattle.model_line.proofs.AimsRise.{price_at}
+use Rattle.model_line.proofs.ProperAims.{heard_aims}
+
+-- ---- what an octet brings
+
+pub record Brings (c : Config) (l : Line) (value : ℕ) : Type 0 where
+  pub event : Option stream.Event
+  pub heard : stream.heard_in c.n201 (l.received ++ value ∷ []) ≡ stream.heard_in c.n201 l.received ++ option_to_list event
+  pub gains : gained c.n201 l.received value ≡ event
+  pub frames : frames_heard c (with_received value l) ≡ frames_heard c l + count_by is_frame (option_to_list event)
+  pub long_frames : long_frames_heard c (with_received value l) ≡ long_frames_heard c l + count_by is_long_frame (option_to_list event)
+
+next_of : {X : Type 0} (xs : List X) (o : Option X) → slice_get (xs ++ option_to_list o) (length xs) ≡ o
+next_of [] None = refl
+next_of [] (Some x) = refl
+next_of (y ∷ xs) o = next_of xs o
+
+count_both : {X : Type 0} (p : X → Bool) (xs ys : List X) → count_by p (xs ++ ys) ≡ count_by p xs + count_by p ys
+count_both p xs ys = sum_by-append (λ x. cond (p x) 1 0) xs ys
+
+pub brings : (c : Config) (l : Line) (value : ℕ) → Brings c l value
+brings c l value =
+    let heard = stream.heard_in c.n201 l.received in
+    let one_more = one_event_an_octet c.n201 l.received value in
+    record {
+      event = one_more.0;
+      heard = one_more.1;
+      gains = ap (λ xs. slice_get xs (length heard)) one_more.1 ∙ next_of heard one_more.0;
+      frames = ap (count_by is_frame) one_more.1 ∙ count_both is_frame heard (option_to_list one_more.0);
+      long_frames = ap (count_by is_long_frame) one_more.1 ∙ count_both is_long_frame heard (option_to_list one_more.0);
+    }
+
+-- ---- the price of what is heard
+
+-- A frame costs two, and the window more where it is an REJ with a valid N(R).
+abbrev CostsAsFrame : Config → Line → Aim → Type 0
+CostsAsFrame c l aim = price_at c l aim ≤ 2 + max c.k c.k16 * one (rejects_aimed l aim)
+
+pub window_most : (c : Config) (service : Service) → window c service ≤ max c.k c.k16
+window_most c Call = omega arith
+window_most c Packet = omega arith
+
+received_costs : (c : Config) (l : Line) (service : Service) (tei place : ℕ) (what : link.Received)
+    → CostsAsFrame c l (at_link service tei place (link.received what))
+received_costs c l service tei place what = go (rises.rejects (link.received what) (link_in l service place))
+  where
+    go : (b : Bool) → 2 + cond b (window c service) 0 ≤ 2 + max c.k c.k16 * one b
+    go true = omega (arith, window_most c service)
+    go false = omega arith
+
+heard_costs : (c : Config) (l : Line) (e : stream.Event) → CostsAsFrame c l (aim_of_heard l e)
+heard_costs c l e =
+    heard_aims l (CostsAsFrame c l) (λ what. omega arith) (λ service tei place what at. received_costs c l service tei place what)
+    (λ info. omega arith) e
+
+event_costs : (c : Config) (l : Line) (o : Option stream.Event)
+    → let aim = option_map_or (aim_of_heard l) o (at_none nothing) in
+    price_at c l aim ≤ 2 * count_by is_frame (option_to_list o) + max c.k c.k16 * one (rejects_aimed l aim)
+event_costs c l None = omega arith
+event_costs c l (Some (stream.frame octets)) = heard_costs c l (stream.frame octets)
+event_costs c l (Some (stream.overlong head)) = heard_costs c l (stream.overlong head)
+event_costs c l (Some (stream.dropped cause)) = omega arith
+
+pub octet_costs : (c : Config) (l : Line) (value : ℕ)
+    → price_at c l (aim_of_octet c value l) + 2 * frames_heard c l
+    ≤ 2 * frames_heard c (with_received value l) + max c.k c.k16 * one (rejects_aimed l (aim_of_octet c value l))
+octet_costs c l value =
+    let b = brings c l value in
+    let costs = event_costs c l b.event in
+    let at : Option stream.Event → Type 0 = λ o.
+    let aim = option_map_or (aim_of_heard l) o (at_none nothing) in
+    price_at c l aim ≤ 2 * count_by is_frame (option_to_list b.event) + max c.k c.k16 * one (rejects_aimed l aim) in
+    let here : price_at c l (aim_of_octet c value l) ≤ 2 * count_by is_frame (option_to_list b.event) + max c.k c.k16 * one (rejects_aimed l (aim_of_octet c value l)) =
+    subst at (sym b.gains) costs in
+    omega (arith, here, b.frames)
+
+-- an octet adds no other octets
+pub aim_received : (c : Config) (aim : Aim) (l : Line) → (of_aim c aim l).line.received ≡ l.received
+aim_received c (at_none what) l = refl
+aim_received c (at_link service tei place event) l = refl
+aim_received c (at_management event) l =
+    go (teis.told event l.management).change (told_of_management (teis.told event l.management)) (record l { management = teis.after event l.management })
+  where
+    go : (change : Option Change) (told : Told) (m : Line) → (of_change c change told m).line.received ≡ m.received
+    go None told m = refl
+    go (Some (Gained tei place)) told m = refl
+    go (Some (Left tei place)) told m = refl
+aim_received c (at_units unit) l = refl

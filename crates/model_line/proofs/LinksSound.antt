@@ -1,0 +1,123 @@
+-- What keeps the links of a line sound.
+use Rattle.std.proofs.Common.{◌≡◌, ◌≢◌, ℕ, ◌≤◌, ◌<◌, List, length, get_or, set, Option, Some, None, refl, ap, sym, ◌∙◌, subst, arith, ⊎_elim, length-set}
+use Rattle.std.proofs.lemmas.Bool.{cases_eq}
+use Rattle.std.proofs.lemmas.List.{get_or-set_same, get_or-set_other}
+use Rattle.lapd_frame.specs.declared.services.Service.{Service}
+use Rattle.lapd_frame.specs.declared.services.Service.TheVariants.{Call, Packet}
+use Rattle.model_link.specs.Events as link
+use Rattle.model_link.specs.Link.{Link, fresh}
+use Rattle.model_link.specs.Machine as links
+use Rattle.model_link.specs.Sound as link_sound
+use Rattle.model_link.proofs.SoundEvents.{sound-after, sound-fresh}
+use Rattle.lapd_tei.specs.Sound.{IsAt}
+use Rattle.lapd_tei.specs.Table.{Places}
+use Rattle.lapd_tei.proofs.Tables.{at-within}
+use Rattle.model_line.specs.declared.config.Config.{Config}
+use Rattle.model_line.specs.Line.{Line, link_number, service_at, place_at, link_count, link_at, link_in, with_link, terms}
+use Rattle.model_line.specs.Effect.{of_link}
+use Rattle.model_line.specs.Sound.{IsInRange, IsSoundAt, IsSound}
+use Rattle.model_line.proofs.Numbers.{place_at-number, service_at-number, number_within, at_place}
+use Rattle.model_line.proofs.Ranges.{terms_in_range}
+
+-- The link of a number is sound, for the TEI that the table has at its place.
+abbrev pub SoundIn : Config → List Link → Places → ℕ → Type 0
+SoundIn c all places number = IsSoundAt c number (get_or all number fresh) (get_or places (place_at number) None)
+
+module _ (c : Config) (ranged : IsInRange c) where
+  -- a link of a TEI, and what it is at its number
+  pub sound_in : (l : Line) → IsSound c l → (service : Service) (tei place : ℕ) → IsAt l.management.places place tei
+      → link_sound.IsSound (terms c service tei) (link_in l service place)
+  sound_in l s service tei place at =
+      let number = link_number place service in
+      let within : place < c.terminals = omega (arith, s.places, at-within l.management.places place tei at) in
+      let here = s.links number (number_within place c.terminals service within) in
+      let there : get_or l.management.places (place_at number) None ≡ Some tei =
+      ap (λ p. get_or l.management.places p None) (place_at-number place service) ∙ at in
+      let known : link_sound.IsSound (terms c (service_at number) tei) (link_at number l) = subst (IsSoundAt c number (link_at number l)) there here in
+      subst (λ x. link_sound.IsSound (terms c x tei) (link_at number l)) (service_at-number place service) known
+
+  pub sound_at : (places : Places) (service : Service) (tei place : ℕ) (x : Link) → IsAt places place tei
+      → link_sound.IsSound (terms c service tei) x → IsSoundAt c (link_number place service) x (get_or places (place_at (link_number place service)) None)
+  sound_at places service tei place x at h =
+      let number = link_number place service in
+      let there : get_or places (place_at number) None ≡ Some tei =
+      ap (λ p. get_or places p None) (place_at-number place service) ∙ at in
+      subst (IsSoundAt c number x) (sym there)
+      (subst (λ y. link_sound.IsSound (terms c y tei) x) (sym (service_at-number place service)) h)
+
+  -- one link is another
+  pub with_one : (all : List Link) (places : Places) (number : ℕ) (x : Link) → number < length all
+      → IsSoundAt c number x (get_or places (place_at number) None)
+      → ((n : ℕ) → n < link_count c → SoundIn c all places n) → (n : ℕ) → n < link_count c → SoundIn c (set all number x) places n
+  with_one all places number x within here others n few =
+      ⊎_elim
+      (λ same.
+      subst (SoundIn c (set all number x) places) (sym same)
+      (subst (λ y. IsSoundAt c number y (get_or places (place_at number) None)) (sym (get_or-set_same all number x fresh within)) here))
+      (λ other.
+      subst (λ y. IsSoundAt c n y (get_or places (place_at n) None)) (sym (get_or-set_other all number n x fresh other)) (others n few))
+      (cases_eq n number)
+
+  pub with_link_sound : (l : Line) (number : ℕ) (x : Link) → IsSound c l → number < link_count c
+      → IsSoundAt c number x (get_or l.management.places (place_at number) None) → IsSound c (with_link number x l)
+  with_link_sound l number x s few here = record {
+    management = s.management;
+    places = s.places;
+    count = length-set l.links number x ∙ s.count;
+    links = with_one l.links l.management.places number x (omega (arith, s.count, few)) here s.links;
+    units = s.units;
+    few_units = s.few_units;
+    turn = s.turn;
+    sizes = s.sizes;
+    text = s.text;
+  }
+
+  -- an event of a link
+  pub link_event_sound : (l : Line) → IsSound c l → (service : Service) (tei place : ℕ) (e : link.Event) → IsAt l.management.places place tei
+      → IsSound c (of_link c service tei place e l).line
+  link_event_sound l s service tei place e at =
+      let within : place < c.terminals = omega (arith, s.places, at-within l.management.places place tei at) in
+      let t = terms c service tei in
+      let range = terms_in_range c ranged service tei (s.management.table.range place tei at) in
+      let after = sound-after t range e (link_in l service place) (sound_in l s service tei place at) in
+      with_link_sound l (link_number place service) (links.after t e (link_in l service place)) s
+      (number_within place c.terminals service within) (sound_at l.management.places service tei place _ at after)
+
+  -- both links of a place begin, for whatever TEI the table has there
+  fresh_at : (number : ℕ) (o : Option ℕ) → ((tei : ℕ) → o ≡ Some tei → tei ≤ 126) → IsSoundAt c number fresh o
+  fresh_at number None fits = refl
+  fresh_at number (Some tei) fits =
+      let service = service_at number in
+      sound-fresh (terms c service tei) (terms_in_range c ranged service tei (fits tei refl))
+
+  pub with_both : (all : List Link) (places : Places) (place : ℕ) → length all ≡ link_count c → place < c.terminals
+      → ((tei : ℕ) → IsAt places place tei → tei ≤ 126)
+      → ((n : ℕ) → n < link_count c → place_at n ≢ place → SoundIn c all places n)
+      → (n : ℕ) → n < link_count c → SoundIn c (set (set all (link_number place Call) fresh) (link_number place Packet) fresh) places n
+  with_both all places place size within fits others n few =
+      let call = link_number place Call in
+      let packet = link_number place Packet in
+      let one = set all call fresh in
+      let both = set one packet fresh in
+      let in_all : call < length all = omega (arith, size, within) in
+      let in_one : packet < length one = omega (arith, size, within, length-set all call fresh) in
+      ⊎_elim
+      (λ here.
+      let fits_here : (tei : ℕ) → get_or places (place_at n) None ≡ Some tei → tei ≤ 126 =
+      λ tei e. fits tei (ap (λ p. get_or places p None) (sym here) ∙ e) in
+      let begins : IsSoundAt c n fresh (get_or places (place_at n) None) = fresh_at n (get_or places (place_at n) None) fits_here in
+      let is_fresh : get_or both n fresh ≡ fresh =
+      ⊎_elim
+      (λ first.
+      ap (λ i. get_or both i fresh) first
+      ∙ get_or-set_other one packet call fresh fresh (λ e. omega (arith, e))
+      ∙ get_or-set_same all call fresh fresh in_all)
+      (λ second. ap (λ i. get_or both i fresh) second ∙ get_or-set_same one packet fresh fresh in_one)
+      (at_place n place here) in
+      subst (λ y. IsSoundAt c n y (get_or places (place_at n) None)) (sym is_fresh) begins)
+      (λ away.
+      let kept : get_or both n fresh ≡ get_or all n fresh =
+      get_or-set_other one packet n fresh fresh (λ e. away (ap place_at e ∙ place_at-number place Packet))
+      ∙ get_or-set_other all call n fresh fresh (λ e. away (ap place_at e ∙ place_at-number place Call)) in
+      subst (λ y. IsSoundAt c n y (get_or places (place_at n) None)) (sym kept) (others n few away))
+      (cases_eq (place_at n) place)

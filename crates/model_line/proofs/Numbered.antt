@@ -1,0 +1,266 @@
+-- What an event delivers at a link of a line: the next eligible I-frame's contents, or none; or its numbers begin anew.
+use Rattle.std.proofs.Common.{◌≡◌, ◌≢◌, ℕ, ◌+◌, ◌*◌, ◌<◌, Bool, true, false, cond, ◌==◌, List, [], ◌∷◌, length, get_or, set, Option, Some, None, is_some, refl, ap, sym, ◌∙◌, subst, inl, inr, ⊎_elim, arith, eqb-true, eq-eqb, true≢false, length-set}
+use Rattle.std.specs.Prelude.{All}
+use Rattle.std.specs.List.{list_any}
+use Rattle.std.specs.Option.{option_or, option_map_or}
+use Rattle.std.proofs.lemmas.List.{get_or-set_same, get_or-set_other}
+use Rattle.std.proofs.lemmas.List.Elements.{All-head, All-tail}
+use Rattle.lapd_frame.specs.declared.notes.Note.{Note}
+use Rattle.lapd_frame.specs.declared.notes.Note.TheVariants as notes
+use Rattle.lapd_frame.specs.declared.services.Service.{Service}
+use Rattle.lapd_frame.specs.declared.services.Service.TheVariants.{Call, Packet}
+use Rattle.model_link.specs.declared.terms.Terms.{Terms}
+use Rattle.model_link.specs.Deliveries as arrivals
+use Rattle.model_link.specs.Events as link
+use Rattle.model_link.specs.Link.{Link, fresh}
+use Rattle.model_link.specs.Machine as links
+use Rattle.model_link.specs.Notes.{is_data}
+use Rattle.model_link.proofs.Counting.{done}
+use Rattle.model_link.proofs.Delivering.{delivery, counted_on, event-delivers}
+use Rattle.model_link.proofs.OwnNotes.{IsOwn, notes-own}
+use Rattle.model_link.proofs.TellRows.{event-tells}
+use Rattle.lapd_tei.specs.Events as teis
+use Rattle.lapd_tei.specs.Laws.{Moves}
+use Rattle.lapd_tei.specs.Machine.{Management}
+use Rattle.lapd_tei.specs.Sound.{IsAt}
+use Rattle.lapd_tei.specs.Table.{Places}
+use Rattle.lapd_tei.specs.declared.outcome.Change.{Change}
+use Rattle.lapd_tei.specs.declared.outcome.Change.TheVariants.{Gained, Left}
+use Rattle.lapd_tei.proofs.LawLemmas as tei_laws
+use Rattle.model_line.specs.declared.config.Config.{Config}
+use Rattle.model_line.specs.Answer.{Answer, Told, told, nothing}
+use Rattle.lapd_frame.specs.Services.{same_service}
+use Rattle.model_line.specs.Deliveries.{arrived_aimed, arrived, is_change_at, restarts_aimed, restarts, is_data_of, delivered_in, delivered_at, delivered}
+use Rattle.model_line.specs.Line.{Line, link_number, service_at, place_at, tei_at, link_at, link_in, terms, link_count}
+use Rattle.model_line.specs.Effect.{Aim, at_none, at_link, at_management, at_units, told_of_link, told_of_management, of_change, of_aim}
+use Rattle.model_line.specs.Sound.{IsSound}
+use Rattle.model_line.proofs.AimsSound.{IsProper}
+use Rattle.model_line.proofs.Numbers.{place_at-number, service_at-number, at_place}
+
+-- Notes of data.
+
+data_is_own : (t : Terms) (n : Note) (service : Service) (tei : ℕ) → IsOwn t n → is_data_of service tei n ≡ true → (service ≡ t.service) × (tei ≡ t.tei)
+data_is_own t (notes.EstablishIndication s n) service tei own e = cc
+data_is_own t (notes.EstablishConfirm s n) service tei own e = cc
+data_is_own t (notes.ReleaseIndication s n) service tei own e = cc
+data_is_own t (notes.ReleaseConfirm s n) service tei own e = cc
+data_is_own t (notes.Data s n) service tei own e = go s n service own e
+  where
+    go : (s : Service) (n : ℕ) (service : Service) → (s ≡ t.service) × (n ≡ t.tei)
+        → cond (same_service s service) (n == tei) false ≡ true → (service ≡ t.service) × (tei ≡ t.tei)
+    go Call n Call own e = (own.0, sym (eqb-true n tei e) ∙ own.1)
+    go Packet n Packet own e = (own.0, sym (eqb-true n tei e) ∙ own.1)
+    go Call n Packet own e = cc
+    go Packet n Call own e = cc
+data_is_own t (notes.Unit s n) service tei own e = cc
+data_is_own t (notes.Error s n k) service tei own e = cc
+data_is_own t (notes.Assigned n) service tei own e = cc
+data_is_own t (notes.Removed n) service tei own e = cc
+data_is_own t (notes.Doubled n) service tei own e = cc
+data_is_own t (notes.Xid s n) service tei own e = cc
+
+-- a note of data of the link itself, and any of data
+same_of_itself : (s : Service) → same_service s s ≡ true
+same_of_itself Call = refl
+same_of_itself Packet = refl
+
+own_is_data : (t : Terms) (n : Note) → IsOwn t n → is_data_of t.service t.tei n ≡ is_data n
+own_is_data t (notes.EstablishIndication s n) own = refl
+own_is_data t (notes.EstablishConfirm s n) own = refl
+own_is_data t (notes.ReleaseIndication s n) own = refl
+own_is_data t (notes.ReleaseConfirm s n) own = refl
+own_is_data t (notes.Data s n) own =
+    ap (λ x. cond (same_service x t.service) (n == t.tei) false) own.0
+    ∙ ap (λ b. cond b (n == t.tei) false) (same_of_itself t.service) ∙ eq-eqb n t.tei own.1
+own_is_data t (notes.Unit s n) own = refl
+own_is_data t (notes.Error s n k) own = refl
+own_is_data t (notes.Assigned n) own = refl
+own_is_data t (notes.Removed n) own = refl
+own_is_data t (notes.Doubled n) own = refl
+own_is_data t (notes.Xid s n) own = refl
+
+own_data : (t : Terms) (ns : List Note) → All (IsOwn t) ns → list_any (is_data_of t.service t.tei) ns ≡ list_any is_data ns
+own_data t [] all = refl
+own_data t (n ∷ ns) all =
+    let here = own_is_data t n (All-head (IsOwn t) n ns all) in
+    let rest = own_data t ns (All-tail (IsOwn t) n ns all) in
+    rw (here, rest) refl
+
+no_data_of_others : (t : Terms) (ns : List Note) (service : Service) (tei : ℕ) → ((service ≡ t.service) × (tei ≡ t.tei) → ⊥)
+    → All (IsOwn t) ns → list_any (is_data_of service tei) ns ≡ false
+no_data_of_others t [] service tei other all = refl
+no_data_of_others t (n ∷ ns) service tei other all =
+    go (is_data_of service tei n) refl (no_data_of_others t ns service tei other (All-tail (IsOwn t) n ns all))
+  where
+    go : (b : Bool) → is_data_of service tei n ≡ b → list_any (is_data_of service tei) ns ≡ false → list_any (is_data_of service tei) (n ∷ ns) ≡ false
+    go true e rest = absurd (other (data_is_own t n service tei (All-head (IsOwn t) n ns all) e))
+    go false e rest = rw (e, rest) refl
+
+-- Deliveries, as an answer tells them.
+
+-- nothing is delivered by an answer with no contents
+none_in : (service : Service) (tei : ℕ) (t : Told) → t.contents ≡ None → delivered_in service tei (told t) ≡ None
+none_in service tei t e = ap (λ o. cond (list_any (is_data_of service tei) t.notes) o None) e ∙ either (list_any (is_data_of service tei) t.notes)
+  where
+    either : (b : Bool) → cond {A = Option (List ℕ)} b None None ≡ None
+    either true = refl
+    either false = refl
+
+pub none_at : (number : ℕ) (l : Line) (a : Answer) → ((service : Service) (tei : ℕ) → delivered_in service tei a ≡ None) → delivered number l a ≡ None
+none_at number l a none = go (tei_at (place_at number) l)
+  where
+    go : (o : Option ℕ) → option_map_or (delivered_at (service_at number) a) o None ≡ None
+    go None = refl
+    go (Some tei) = none (service_at number) tei
+
+-- what a link delivers is what its answer tells, to that link alone
+told_own : (t : Terms) (e : link.Event) (l : Link)
+    → delivered_in t.service t.tei (told (told_of_link (links.told t e l))) ≡ (links.course t e l).delivered
+told_own t e l =
+    let tells = event-tells t e l in
+    let has = own_data t (links.course t e l).notes (notes-own t e l) ∙ tells.1 in
+    ap (λ b. cond b (option_or (links.course t e l).delivered (links.course t e l).unit) None) has ∙ go (links.course t e l).delivered (links.course t e l).unit
+  where
+    go : (d u : Option (List ℕ)) → cond (is_some d) (option_or d u) None ≡ d
+    go None u = refl
+    go (Some x) u = refl
+
+told_others : (t : Terms) (e : link.Event) (l : Link) (service : Service) (tei : ℕ) → ((service ≡ t.service) × (tei ≡ t.tei) → ⊥)
+    → delivered_in service tei (told (told_of_link (links.told t e l))) ≡ None
+told_others t e l service tei other =
+    ap (λ b. cond b (option_or (links.course t e l).delivered (links.course t e l).unit) None)
+    (no_data_of_others t (links.course t e l).notes service tei other (notes-own t e l))
+
+-- Links by their numbers.
+
+number_is : (number : ℕ) → number ≡ link_number (place_at number) (service_at number)
+number_is number =
+    ⊎_elim
+    (λ call. call ∙ ap (link_number (place_at number)) (sym (ap service_at call ∙ service_at-number (place_at number) Call)))
+    (λ packet. packet ∙ ap (link_number (place_at number)) (sym (ap service_at packet ∙ service_at-number (place_at number) Packet)))
+    (at_place number (place_at number) refl)
+
+-- both links of a place begin
+begin_here : (all : List Link) (place number : ℕ) → place_at number ≡ place → 2 * place + 1 < length all
+    → get_or (set (set all (link_number place Call) fresh) (link_number place Packet) fresh) number fresh ≡ fresh
+begin_here all place number here few =
+    let one = set all (link_number place Call) fresh in
+    ⊎_elim
+    (λ call.
+    ap (λ i. get_or (set one (link_number place Packet) fresh) i fresh) call
+    ∙ get_or-set_other one (link_number place Packet) (link_number place Call) fresh fresh (λ e. omega (arith, e))
+    ∙ get_or-set_same all (link_number place Call) fresh fresh (omega (arith, few)))
+    (λ packet.
+    ap (λ i. get_or (set one (link_number place Packet) fresh) i fresh) packet
+    ∙ get_or-set_same one (link_number place Packet) fresh fresh (omega (arith, few, length-set all (link_number place Call) fresh)))
+    (at_place number place here)
+
+begin_away : (all : List Link) (place number : ℕ) → place_at number ≢ place
+    → get_or (set (set all (link_number place Call) fresh) (link_number place Packet) fresh) number fresh ≡ get_or all number fresh
+begin_away all place number away =
+    get_or-set_other (set all (link_number place Call) fresh) (link_number place Packet) number fresh fresh (λ e. away (ap place_at e ∙ place_at-number place Packet))
+    ∙ get_or-set_other all (link_number place Call) number fresh fresh (λ e. away (ap place_at e ∙ place_at-number place Call))
+
+-- What an event is to one link, by V(R) before and after it.
+abbrev pub Part : ℕ → Option arrivals.Arrived → ℕ → Option (List ℕ) → Bool → Type 0
+Part r arrived r' delivered restarts = done (counted_on r (delivery r arrived)) (delivery r arrived) r' delivered restarts
+
+pub quiet : (r r' : ℕ) (a : Option arrivals.Arrived) (d : Option (List ℕ)) (z : Bool) → a ≡ None → r' ≡ r → d ≡ None → z ≡ false → Part r a r' d z
+quiet r r' a d z none same nothing_delivered goes_on =
+    subst (λ x. Part r x r' d z) (sym none) (inl (record { number = same; delivered = nothing_delivered; goes_on = goes_on }))
+
+begins_anew : (r r' : ℕ) (a : Option arrivals.Arrived) (d : Option (List ℕ)) (z : Bool) → r' ≡ 0 → d ≡ None → z ≡ true → Part r a r' d z
+begins_anew r r' a d z number none begins = inr (record { number = number; delivered = none; begins = begins })
+
+-- what is told where nothing is heard or what is heard is dropped
+abbrev pub HasNoContents : Aim → Type 0
+HasNoContents (at_none t) = t.contents ≡ None
+HasNoContents (at_link service tei place event) = Unit {0}
+HasNoContents (at_management event) = Unit {0}
+HasNoContents (at_units unit) = Unit {0}
+
+module _ (c : Config) (l : Line) (s : IsSound c l) (received : List ℕ) (number : ℕ) (few : number < link_count c) where
+  abbrev pub now : Line
+  now = record l { received = received }
+
+  abbrev pub Parts : Aim → Type 0
+  Parts aim =
+      Part (link_at number l).r (arrived_aimed c number l aim) (link_at number (of_aim c aim now).line).r
+      (delivered number l (told (of_aim c aim now).told)) (restarts_aimed c number l aim)
+
+  -- an event of a link
+  at_its_link : (service : Service) (tei place : ℕ) (e : link.Event) → IsAt l.management.places place tei → Parts (at_link service tei place e)
+  at_its_link service tei place e at = go (link_number place service == number) refl
+    where
+      t : Terms
+      t = terms c service tei
+
+      x : Link
+      x = links.after t e (link_in l service place)
+
+      a : Answer
+      a = told (told_of_link (links.told t e (link_in l service place)))
+
+      go : (b : Bool) → (link_number place service == number) ≡ b
+          → Part (link_at number l).r (cond b (arrivals.eligible t e (link_in l service place)) None) (get_or (set l.links (link_number place service) (links.after t e (link_in l service place))) number fresh).r
+          (delivered number l (told (told_of_link (links.told t e (link_in l service place)))))
+          (cond b (arrivals.restarts t e (link_in l service place)) false)
+      go true same =
+          let is : link_number place service ≡ number = eqb-true (link_number place service) number same in
+          let there : get_or (set l.links (link_number place service) x) (link_number place service) fresh ≡ x =
+          get_or-set_same l.links (link_number place service) x fresh (omega (arith, is, few, s.count)) in
+          let its : tei_at (place_at (link_number place service)) l ≡ Some tei = ap (λ p. tei_at p l) (place_at-number place service) ∙ at in
+          let by_it : delivered (link_number place service) l a ≡ (links.course t e (link_in l service place)).delivered =
+          ap (λ o. option_map_or (delivered_at (service_at (link_number place service)) a) o None) its
+          ∙ ap (λ v. delivered_in v tei a) (service_at-number place service) ∙ told_own t e (link_in l service place) in
+          subst (λ n. Part (link_at n l).r (arrivals.eligible t e (link_in l service place)) (get_or (set l.links (link_number place service) x) n fresh).r (delivered n l a) (arrivals.restarts t e (link_in l service place))) is
+          (subst (λ y. Part (link_in l service place).r (arrivals.eligible t e (link_in l service place)) y.r (delivered (link_number place service) l a) (arrivals.restarts t e (link_in l service place))) (sym there)
+          (subst (λ d. Part (link_in l service place).r (arrivals.eligible t e (link_in l service place)) x.r d (arrivals.restarts t e (link_in l service place))) (sym by_it)
+          (event-delivers t (link_in l service place) e)))
+      go false other =
+          let apart : number ≢ link_number place service = λ is. true≢false (sym (eq-eqb (link_number place service) number (sym is)) ∙ other) in
+          let kept : get_or (set l.links (link_number place service) x) number fresh ≡ link_at number l =
+          get_or-set_other l.links (link_number place service) number x fresh apart in
+          quiet (link_at number l).r _ None (delivered number l a) false refl (ap (λ (y : Link). y.r) kept) (by_tei (tei_at (place_at number) l) refl apart) refl
+        where
+          by_tei : (o : Option ℕ) → tei_at (place_at number) l ≡ o → number ≢ link_number place service
+              → option_map_or (delivered_at (service_at number) a) o None ≡ None
+          by_tei None here apart = refl
+          by_tei (Some other) here apart =
+              told_others t e (link_in l service place) (service_at number) other
+              (λ same.
+              let one_place : place_at number ≡ place = s.management.table.once (place_at number) place tei (here ∙ ap (λ n. Some n) same.1) at in
+              apart (number_is number ∙ ap (λ p. link_number p (service_at number)) one_place ∙ ap (link_number place) same.0))
+
+  -- an event of TEI management: both links of a place begin, and the others stay
+  place_parts : (place : ℕ) (r : Told) → place < length l.management.places → r.contents ≡ None → (b : Bool) → (place == place_at number) ≡ b
+      → Part (link_at number l).r None (get_or (set (set l.links (link_number place Call) fresh) (link_number place Packet) fresh) number fresh).r (delivered number l (told r)) b
+  place_parts place r within none true here =
+      let at = eqb-true place (place_at number) here in
+      let all = set (set l.links (link_number place Call) fresh) (link_number place Packet) fresh in
+      let begins : get_or all number fresh ≡ fresh = begin_here l.links place number (sym at) (omega (arith, within, s.places, s.count)) in
+      begins_anew (link_at number l).r (get_or all number fresh).r None (delivered number l (told r)) true (ap (λ (y : Link). y.r) begins)
+      (none_at number l (told r) (λ service tei. none_in service tei r none)) refl
+  place_parts place r within none false away =
+      let apart : place_at number ≢ place = λ is. true≢false (sym (eq-eqb place (place_at number) (sym is)) ∙ away) in
+      let all = set (set l.links (link_number place Call) fresh) (link_number place Packet) fresh in
+      quiet (link_at number l).r (get_or all number fresh).r None (delivered number l (told r)) false refl
+      (ap (λ (y : Link). y.r) (begin_away l.links place number apart)) (none_at number l (told r) (λ service tei. none_in service tei r none)) refl
+
+  change_parts : (o : Option Change) (r : Told) (new : Places) (m : Management) → r.contents ≡ None → Moves l.management.places o new
+      → let of = of_change c o r (record now { management = m }) in
+      Part (link_at number l).r None (link_at number of.line).r (delivered number l (told of.told)) (is_change_at (place_at number) o)
+  change_parts None r new m none moves =
+      quiet (link_at number l).r (link_at number l).r None (delivered number l (told r)) false refl refl
+      (none_at number l (told r) (λ service tei. none_in service tei r none)) refl
+  change_parts (Some (Gained tei place)) r new m none moves = place_parts place r moves.within none (place == place_at number) refl
+  change_parts (Some (Left tei place)) r new m none moves =
+      place_parts place (of_change c (Some (Left tei place)) r (record now { management = m })).told moves.within none (place == place_at number) refl
+
+  pub aim_parts : (aim : Aim) → IsProper c l aim → HasNoContents aim → Parts aim
+  aim_parts (at_none t) proper none = quiet _ _ _ _ _ refl refl (none_at number l (told t) (λ service tei. none_in service tei t none)) refl
+  aim_parts (at_link service tei place e) proper none = at_its_link service tei place e proper
+  aim_parts (at_management e) proper none =
+      change_parts (teis.told e l.management).change (told_of_management (teis.told e l.management)) (teis.after e l.management).places
+      (teis.after e l.management) refl (tei_laws.changes_are_told e l.management proper s.management)
+  aim_parts (at_units unit) proper none = quiet _ _ _ _ _ refl refl (none_at number l (told nothing) (λ service tei. none_in service tei nothing refl)) refl

@@ -1,0 +1,67 @@
+-- Links by their numbers, and sums over them.
+use Rattle.std.proofs.Common.{◌≡◌, ◌≢◌, ℕ, zero, suc, ◌+◌, ◌*◌, ◌%◌, ◌≤◌, ◌<◌, ◌⊎◌, ◌==◌, refl, ap, sym, ◌∙◌, cond, arith, ⊎_elim, inl, inr}
+use Rattle.std.specs.Prelude.{sum_by}
+use Rattle.std.specs.List.{range_with_len}
+use Rattle.std.proofs.lemmas.List.Sums.{sum_by-cons}
+use Rattle.std.proofs.lemmas.Bool.{cases_eq}
+use Rattle.lapd_frame.specs.declared.services.Service.{Service}
+use Rattle.lapd_frame.specs.declared.services.Service.TheVariants.{Call, Packet}
+use Rattle.model_line.specs.Line.{link_number, service_at, place_at}
+
+-- a number has its service and its place
+pub place_at-number : (place : ℕ) (service : Service) → place_at (link_number place service) ≡ place
+place_at-number place Call = omega arith
+place_at-number place Packet = omega arith
+
+abbrev service_of_rest : ℕ → Service
+service_of_rest rest = cond (rest == 0) Call Packet
+
+pub service_at-number : (place : ℕ) (service : Service) → service_at (link_number place service) ≡ service
+service_at-number place Call = let e : 2 * place % 2 ≡ 0 = omega arith in ap service_of_rest e
+service_at-number place Packet = let e : (2 * place + 1) % 2 ≡ 1 = omega arith in ap service_of_rest e
+
+pub number_within : (place count : ℕ) (service : Service) → place < count → link_number place service < 2 * count
+number_within place count Call h = omega (arith, h)
+number_within place count Packet h = omega (arith, h)
+
+pub place_within : (number count : ℕ) → number < 2 * count → place_at number < count
+place_within number count h = omega (arith, h)
+
+-- the links of one place are two
+pub other_place : (number place : ℕ) (service : Service) → place_at number ≢ place → number ≢ link_number place service
+other_place number place service h e = h (ap place_at e ∙ place_at-number place service)
+
+pub at_place : (number place : ℕ) → place_at number ≡ place → (number ≡ link_number place Call) ⊎ (number ≡ link_number place Packet)
+at_place number place e =
+    ⊎_elim (λ even. inl even) (λ odd. inr (omega (arith, e, odd))) (cases_eq number (2 * place))
+
+-- a sum of which one term changes
+sum_elsewhere : (f g : ℕ → ℕ) (a n i : ℕ) → i < a → ((j : ℕ) → j ≢ i → g j ≡ f j) → sum_by g (range_with_len a n) ≡ sum_by f (range_with_len a n)
+sum_elsewhere f g a zero i past same = refl
+sum_elsewhere f g a (suc n) i past same =
+    let head : g a ≡ f a = same a (λ e. omega (arith, past, e)) in
+    let rest = sum_elsewhere f g (a + 1) n i (omega (arith, past)) same in
+    sum_by-cons g a (range_with_len (a + 1) n) ∙ omega (arith, head, rest) ∙ sym (sum_by-cons f a (range_with_len (a + 1) n))
+
+pub sum_changed : (f g : ℕ → ℕ) (a n i : ℕ) → a ≤ i → i < a + n → ((j : ℕ) → j ≢ i → g j ≡ f j)
+    → sum_by g (range_with_len a n) + f i ≡ sum_by f (range_with_len a n) + g i
+sum_changed f g a zero i from to same = absurd (omega (arith, from, to))
+sum_changed f g a (suc n) i from to same =
+    ⊎_elim
+    (λ at.
+    let here : g a ≡ g i = ap g (sym at) in
+    let there : f a ≡ f i = ap f (sym at) in
+    let rest = sum_elsewhere f g (a + 1) n i (omega (arith, at)) same in
+    omega (arith, here, there, rest, sum_by-cons g a (range_with_len (a + 1) n), sum_by-cons f a (range_with_len (a + 1) n)))
+    (λ other.
+    let head : g a ≡ f a = same a (λ e. other (sym e)) in
+    let rest = sum_changed f g (a + 1) n i (omega (arith, from, other)) (omega (arith, to)) same in
+    omega (arith, head, rest, sum_by-cons g a (range_with_len (a + 1) n), sum_by-cons f a (range_with_len (a + 1) n)))
+    (cases_eq i a)
+
+pub sum_bounded : (f : ℕ → ℕ) (a n m : ℕ) → ((j : ℕ) → j < a + n → f j ≤ m) → sum_by f (range_with_len a n) ≤ n * m
+sum_bounded f a zero m below = omega arith
+sum_bounded f a (suc n) m below =
+    let head = below a (omega arith) in
+    let rest = sum_bounded f (a + 1) n m (λ j h. below j (omega (arith, h))) in
+    omega (arith, head, rest, sum_by-cons f a (range_with_len (a + 1) n))

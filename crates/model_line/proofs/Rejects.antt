@@ -1,0 +1,82 @@
+-- An REJ is a frame of four octets, and frames take their octets of the stream.
+use Rattle.std.proofs.Common.{◌≡◌, ℕ, ◌%◌, ◌/◌, ◌==◌, Bool, true, false, not, List, [], ◌∷◌, length, drop, slice_index, Option, Some, None, Result, Ok, Err, refl, ap, sym, ◌∙◌, subst, cond, arith}
+use Rattle.std.proofs.lemmas.Bool.{ne_eqb, eqb-true}
+use Rattle.lapd_frame.specs.declared.addresses.Address.{Address}
+use Rattle.lapd_frame.specs.declared.addresses.Side.TheVariants.{User}
+use Rattle.lapd_frame.specs.declared.controls.Control.{Control}
+use Rattle.lapd_frame.specs.declared.controls.Control.TheVariants as control
+use Rattle.lapd_frame.specs.declared.faults.ReadFault.{ReadFault}
+use Rattle.lapd_frame.specs.declared.faults.ReadFault.TheVariants.{BadExtension, Undefined, WrongSize, Short}
+use Rattle.lapd_frame.specs.Faults.{has_bad_extension}
+use Rattle.lapd_frame.specs.Grammar.{Parts, allows, takes, row}
+use Rattle.lapd_frame.specs.Reading.{reading, header_of, control_of, supervisory_of, unnumbered_of, address_of, checked, completed, sized, start_of}
+use Rattle.lapd_seq.specs.Numbers.{seq}
+use Rattle.model_link.specs.Rises.{reject_number}
+
+-- what is read is no REJ
+abbrev pub NoReject : Result Parts ReadFault → Type 0
+NoReject (Ok parts) = reject_number parts.control ≡ None
+NoReject (Err fault) = ℕ
+
+abbrev NoRejectControl : Option Control → Type 0
+NoRejectControl None = ℕ
+NoRejectControl (Some k) = reject_number k ≡ None
+
+either : (b : Bool) (k : Control) (o : Option Control) → reject_number k ≡ None → NoRejectControl o → NoRejectControl (cond b (Some k) o)
+either true k o here rest = here
+either false k o here rest = rest
+
+unnumbered_no_reject : (octet : ℕ) → NoRejectControl (unnumbered_of octet)
+unfolding unnumbered_of
+unnumbered_no_reject octet =
+    either (octet == 0x6F) (control.Sabme false) _ refl (either (octet == 0x7F) (control.Sabme true) _ refl
+    (either (octet == 0x43) (control.Disc false) _ refl (either (octet == 0x53) (control.Disc true) _ refl
+    (either (octet == 0x03) (control.Ui false) _ refl (either (octet == 0x13) (control.Ui true) _ refl
+    (either (octet == 0x63) (control.Ua false) _ refl (either (octet == 0x73) (control.Ua true) _ refl
+    (either (octet == 0x0F) (control.Dm false) _ refl (either (octet == 0x1F) (control.Dm true) _ refl
+    (either (octet == 0x87) (control.Frmr false) _ refl (either (octet == 0x97) (control.Frmr true) _ refl
+    (either (octet == 0xAF) (control.Xid false) _ refl (either (octet == 0xBF) (control.Xid true) None refl 0)))))))))))))
+
+-- three octets that are no short frame end in a control octet of an unnumbered frame
+field_of_three : (third fourth : ℕ) → third % 4 ≡ 3 → control_of third fourth ≡ unnumbered_of third
+unfolding control_of
+field_of_three third fourth e =
+    let odd : (third % 2 == 0) ≡ false = ne_eqb (third % 2) 0 (λ h. omega (arith, e, h)) in
+    let not_supervisory : (third % 4 == 1) ≡ false = ne_eqb (third % 4) 1 (λ h. omega (arith, e, h)) in
+    ap (λ b. cond b (Some (control.Information (seq (third / 2)) (seq (fourth / 2)) (fourth % 2 == 1)))
+    (cond (third % 4 == 1) (supervisory_of third (seq (fourth / 2)) (fourth % 2 == 1)) (unnumbered_of third))) odd
+    ∙ ap (λ b. cond b (supervisory_of third (seq (fourth / 2)) (fourth % 2 == 1)) (unnumbered_of third)) not_supervisory
+
+sized_no_reject : (address : Address) (k : Control) (info : List ℕ) → reject_number k ≡ None → NoReject (sized address k info)
+sized_no_reject address k info h = go (takes (row k).info (length info))
+  where
+    go : (b : Bool) → NoReject (cond b (Ok (record { address = address; control = k; info = info })) (Err (WrongSize address)))
+    go true = h
+    go false = 0
+
+checked_no_reject : (octets : List ℕ) (address : Address) (o : Option Control) → NoRejectControl o → NoReject (completed octets (checked address o))
+checked_no_reject octets address None h = 0
+checked_no_reject octets address (Some k) h = go (allows (row k).kind address.command)
+  where
+    go : (b : Bool) → NoReject (completed octets (cond b (Ok (address, k)) (Err (Undefined address))))
+    go true = sized_no_reject address k (drop (start_of k) octets) h
+    go false = 0
+
+header_no_reject : (octets : List ℕ) (first second third fourth : ℕ) → third % 4 ≡ 3 → NoReject (completed octets (header_of User first second third fourth))
+unfolding header_of
+header_no_reject octets first second third fourth e = go (has_bad_extension first second)
+  where
+    go : (b : Bool) → NoReject (completed octets (cond b (Err BadExtension) (checked (address_of User first second) (control_of third fourth))))
+    go true = 0
+    go false =
+        checked_no_reject octets (address_of User first second) (control_of third fourth)
+        (subst NoRejectControl (sym (field_of_three third fourth e)) (unnumbered_no_reject third))
+
+pub three_no_reject : (first second third : ℕ) → NoReject (reading User (first ∷ second ∷ third ∷ []))
+unfolding reading
+three_no_reject first second third = go (third % 4 == 3) refl
+  where
+    go : (b : Bool) → (third % 4 == 3) ≡ b
+        → NoReject (cond (not b) (Err Short) (completed (first ∷ second ∷ third ∷ []) (header_of User first second third (slice_index (first ∷ second ∷ third ∷ []) 3))))
+    go true e = header_no_reject (first ∷ second ∷ third ∷ []) first second third _ (eqb-true (third % 4) 3 e)
+    go false e = 0

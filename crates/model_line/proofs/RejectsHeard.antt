@@ -1,0 +1,156 @@
+-- Each REJ with a valid N(R) is a frame of four octets that is heard; and frames take their octets of the stream.
+use Rattle.std.proofs.Common.{◌≡◌, ℕ, ◌+◌, ◌*◌, ◌-◌, ◌≤◌, ◌==◌, Bool, true, false, List, [], ◌∷◌, ◌++◌, length, take, nat_le, Option, Some, None, option_to_list, Result, Ok, Err, IfSome, refl, ap, sym, ◌∙◌, subst, cond, arith}
+use Rattle.std.specs.Prelude.{count_by, sum_by, All}
+use Rattle.std.specs.Option.{option_map_or}
+use Rattle.std.proofs.lemmas.Bool.{le-leb, leb-true}
+use Rattle.std.proofs.lemmas.List.{length-take-le}
+use Rattle.std.proofs.lemmas.List.Sums.{sum_by-cons}
+use Rattle.std.proofs.lemmas.List.Elements.{All-head, All-tail}
+use Rattle.lapd_bits.specs.Stream as stream
+use Rattle.lapd_bits.specs.Stream.{Event, frame, overlong, dropped, judged, room_for}
+use Rattle.lapd_bits.specs.StreamLaws.{IsWhole}
+use Rattle.lapd_bits.proofs.StreamLengths.{heard_within_stream, IsWeight, weight_of_heard, judged_as}
+use Rattle.lapd_frame.specs.declared.addresses.Address.{Address}
+use Rattle.lapd_frame.specs.declared.addresses.Side.TheVariants.{User}
+use Rattle.lapd_bits.specs.declared.heard.Cause.TheVariants.{Tei, Unserved}
+use Rattle.lapd_frame.specs.declared.controls.Control.{Control}
+use Rattle.lapd_frame.specs.declared.controls.Control.TheVariants as control
+use Rattle.lapd_frame.specs.declared.faults.ReadFault.{ReadFault}
+use Rattle.lapd_frame.specs.declared.faults.ReadFault.TheVariants.{BadExtension, Undefined, WrongSize, Short}
+use Rattle.lapd_frame.specs.declared.services.Service.{Service}
+use Rattle.lapd_frame.specs.Grammar.{Parts}
+use Rattle.lapd_frame.specs.Reading.{reading}
+use Rattle.lapd_frame.specs.Services.{service_of}
+use Rattle.model_link.specs.Events as link
+use Rattle.model_link.specs.Link.{Link}
+use Rattle.model_link.specs.Rises as rises
+use Rattle.model_line.specs.declared.config.Config.{Config}
+use Rattle.model_line.specs.Answer.{nothing}
+use Rattle.model_line.specs.Counts.{one, is_frame, frames_heard, is_long_frame, long_frames_heard, rejects_aimed}
+use Rattle.model_line.specs.Line.{Line, place_in}
+use Rattle.model_line.specs.Octet.{management_sapi, group_tei, drop_for, at_place, to_service, addressed, message_of, aim_of_reading, aim_of_heard, aim_of_octet, with_received}
+use Rattle.model_line.specs.Effect.{Aim, at_none}
+use Rattle.model_line.proofs.LineRises.{brings}
+use Rattle.model_line.proofs.Rejects.{NoReject, three_no_reject}
+
+module _ (l : Line) where
+  place_no_reject : (service : Service) (tei : ℕ) (what : link.Received) (o : Option ℕ) → ((x : Link) → rises.rejects (link.received what) x ≡ false)
+      → rejects_aimed l (at_place service tei what o) ≡ false
+  place_no_reject service tei what None q = refl
+  place_no_reject service tei what (Some place) q = q _
+
+  service_no_reject : (tei : ℕ) (what : link.Received) (o : Option Service) → ((x : Link) → rises.rejects (link.received what) x ≡ false)
+      → rejects_aimed l (to_service l tei what o) ≡ false
+  service_no_reject tei what None q = refl
+  service_no_reject tei what (Some service) q = place_no_reject service tei what (place_in l tei) q
+
+  addressed_no_reject : (address : Address) (what : link.Received) (message : Aim) → ((x : Link) → rises.rejects (link.received what) x ≡ false)
+      → rejects_aimed l message ≡ false → rejects_aimed l (addressed l address what message) ≡ false
+  addressed_no_reject address what message q m = go (address.sapi == management_sapi) (address.tei == group_tei)
+    where
+      go : (known group : Bool) → rejects_aimed l (cond known (cond group message (drop_for Tei)) (to_service l address.tei what (service_of address.sapi))) ≡ false
+      go true true = m
+      go true false = refl
+      go false group = service_no_reject address.tei what (service_of address.sapi) q
+
+  message_no_reject : (k : Control) (info : List ℕ) → rejects_aimed l (message_of k info) ≡ false
+  message_no_reject (control.Information ns nr p) info = refl
+  message_no_reject (control.ReceiveReady nr pf) info = refl
+  message_no_reject (control.ReceiveNotReady nr pf) info = refl
+  message_no_reject (control.Reject nr pf) info = refl
+  message_no_reject (control.Sabme p) info = refl
+  message_no_reject (control.Disc p) info = refl
+  message_no_reject (control.Ui p) info = refl
+  message_no_reject (control.Ua f) info = refl
+  message_no_reject (control.Dm f) info = refl
+  message_no_reject (control.Frmr f) info = refl
+  message_no_reject (control.Xid pf) info = refl
+
+  reading_no_reject : (r : Result Parts ReadFault) → NoReject r → rejects_aimed l (aim_of_reading l r) ≡ false
+  reading_no_reject (Ok parts) h =
+      addressed_no_reject parts.address (link.frame parts) (message_of parts.control parts.info)
+      (λ x. ap (λ o. rises.is_valid_reject o x) h) (message_no_reject parts.control parts.info)
+  reading_no_reject (Err BadExtension) h = refl
+  reading_no_reject (Err (Undefined address)) h = addressed_no_reject address link.undefined (drop_for Unserved) (λ x. refl) refl
+  reading_no_reject (Err (WrongSize address)) h = addressed_no_reject address link.wrong_size (drop_for Unserved) (λ x. refl) refl
+  reading_no_reject (Err Short) h = refl
+
+  at_most_one : (b : Bool) → one b ≤ 1
+  at_most_one true = omega arith
+  at_most_one false = omega arith
+
+  frame_counted : (octets : List ℕ) → 3 ≤ length octets
+      → one (rejects_aimed l (aim_of_reading l (reading User octets))) ≤ cond {A = ℕ} (nat_le 4 (length octets)) 1 0
+  frame_counted [] h = absurd (omega (arith, h))
+  frame_counted (a ∷ []) h = absurd (omega (arith, h))
+  frame_counted (a ∷ b ∷ []) h = absurd (omega (arith, h))
+  frame_counted (a ∷ b ∷ c ∷ []) h = omega (arith, ap one (reading_no_reject (reading User (a ∷ b ∷ c ∷ [])) (three_no_reject a b c)))
+  frame_counted (a ∷ b ∷ c ∷ d ∷ rest) h =
+      let long : nat_le 4 (length (a ∷ b ∷ c ∷ d ∷ rest)) ≡ true = le-leb 4 (length (a ∷ b ∷ c ∷ d ∷ rest)) (omega arith) in
+      subst (λ x. one (rejects_aimed l (aim_of_reading l (reading User (a ∷ b ∷ c ∷ d ∷ rest)))) ≤ cond {A = ℕ} x 1 0) (sym long)
+      (at_most_one (rejects_aimed l (aim_of_reading l (reading User (a ∷ b ∷ c ∷ d ∷ rest)))))
+
+  event_counted : (o : Option Event) → IfSome o IsWhole
+      → one (rejects_aimed l (option_map_or (aim_of_heard l) o (at_none nothing))) ≤ count_by is_long_frame (option_to_list o)
+  event_counted None h = omega arith
+  event_counted (Some (frame octets)) h = omega (arith, frame_counted octets h)
+  event_counted (Some (overlong head)) h = at_most_one (rejects_aimed l (aim_of_heard l (overlong head)))
+  event_counted (Some (dropped cause)) h = omega arith
+
+latest : {X : Type 0} (P : X → Type 0) (xs : List X) (o : Option X) → All P (xs ++ option_to_list o) → IfSome o P
+latest P [] None all = tt
+latest P [] (Some x) all = All-head P x [] all
+latest P (y ∷ xs) o all = latest P xs o (All-tail P y (xs ++ option_to_list o) all)
+
+-- an octet brings an REJ only with a frame of four octets
+pub octet_rejects : (c : Config) (value : ℕ) (l : Line)
+    → one (rejects_aimed l (aim_of_octet c value l)) + long_frames_heard c l ≤ long_frames_heard c (with_received value l)
+octet_rejects c value l =
+    let b = brings c l value in
+    let all = heard_within_stream.whole c.n201 (l.received ++ value ∷ []) in
+    let whole = latest IsWhole (stream.heard_in c.n201 l.received) b.event (subst (All IsWhole) b.heard all) in
+    let counted = event_counted l b.event whole in
+    let here : one (rejects_aimed l (aim_of_octet c value l)) ≤ count_by is_long_frame (option_to_list b.event) =
+    subst (λ o. one (rejects_aimed l (option_map_or (aim_of_heard l) o (at_none nothing))) ≤ count_by is_long_frame (option_to_list b.event)) (sym b.gains) counted in
+    omega (arith, here, b.long_frames)
+
+-- ---- frames take their octets of the stream
+
+scaled_sum : (p : Event → Bool) (n : ℕ) (es : List Event) → n * count_by p es ≡ sum_by (λ e. cond (p e) n 0) es
+scaled_sum p n [] = omega arith
+scaled_sum p n (e ∷ es) =
+    go (p e) (count_by p (e ∷ es)) (sum_by-cons (λ x. cond (p x) 1 0) e es) (scaled_sum p n es) ∙ sym (sum_by-cons (λ x. cond (p x) n 0) e es)
+  where
+    go : (b : Bool) (count : ℕ) → count ≡ cond b 1 0 + count_by p es → n * count_by p es ≡ sum_by (λ x. cond (p x) n 0) es
+        → n * count ≡ cond b n 0 + sum_by (λ x. cond (p x) n 0) es
+    go true count e rest = subst (λ k. n * k ≡ n + sum_by (λ x. cond (p x) n 0) es) (sym e) (omega (arith, rest))
+    go false count e rest = subst (λ k. n * k ≡ 0 + sum_by (λ x. cond (p x) n 0) es) (sym e) (omega (arith, rest))
+
+frame_weight : (n201 : ℕ) → IsWeight (room_for n201) (λ e. cond (is_frame e) 6 0)
+frame_weight n201 = record {
+  free = λ cause. refl;
+  within = λ octets. judged_as (λ e. cond (is_frame e) 6 0 ≤ length octets + 1) (room_for n201) octets
+      (λ cause. omega arith) (λ five long. omega (arith, long)) (λ five. omega (arith, five));
+}
+
+long_weight : (n201 : ℕ) → IsWeight (room_for n201) (λ e. cond (is_long_frame e) 7 0)
+long_weight n201 = record {
+  free = λ cause. refl;
+  within = λ octets. judged_as (λ e. cond (is_long_frame e) 7 0 ≤ length octets + 1) (room_for n201) octets
+      (λ cause. omega arith) (λ five long. omega (arith, long))
+      (λ five. frame_long octets five (nat_le 4 (length (take (length octets - 2) octets))) refl);
+}
+  where
+    frame_long : (octets : List ℕ) → 5 ≤ length octets → (b : Bool) → nat_le 4 (length (take (length octets - 2) octets)) ≡ b → cond b 7 0 ≤ length octets + 1
+    frame_long octets five true e =
+        let four = leb-true 4 (length (take (length octets - 2) octets)) e in
+        omega (arith, four, length-take-le (length octets - 2) octets (omega arith))
+    frame_long octets five false e = omega arith
+
+pub frames_within : (c : Config) (l : Line) → 6 * frames_heard c l ≤ length l.received
+frames_within c l =
+    omega (arith, scaled_sum is_frame 6 (stream.heard_in c.n201 l.received), weight_of_heard c.n201 (λ e. cond (is_frame e) 6 0) (frame_weight c.n201) l.received)
+
+pub long_frames_within : (c : Config) (l : Line) → 7 * long_frames_heard c l ≤ length l.received
+long_frames_within c l =
+    omega (arith, scaled_sum is_long_frame 7 (stream.heard_in c.n201 l.received), weight_of_heard c.n201 (λ e. cond (is_long_frame e) 7 0) (long_weight c.n201) l.received)

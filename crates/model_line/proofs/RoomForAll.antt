@@ -1,0 +1,115 @@
+-- A line uses no more slots than its queues have places, and fewer where contents are accepted.
+use Rattle.std.proofs.Common.{◌≡◌, ℕ, zero, suc, ◌+◌, ◌*◌, ◌≤◌, ◌<◌, Bool, true, false, cond, not, ◌&&◌, List, [], ◌∷◌, length, Option, Some, None, is_some, refl, ap, sym, subst, ⊎_elim, arith, true≢false}
+use Rattle.std.specs.Prelude.{sum_by}
+use Rattle.std.specs.List.{range_with_len}
+use Rattle.std.specs.Option.{option_map_or}
+use Rattle.std.proofs.lemmas.Bool.{leb-false, cases_eq}
+use Rattle.std.proofs.lemmas.List.Sums.{sum_by-cons}
+use Rattle.lapd_frame.specs.declared.refusals.Refusal.{Refusal}
+use Rattle.lapd_frame.specs.declared.services.Service.{Service}
+use Rattle.model_link.specs.Events as link
+use Rattle.model_link.specs.Link.{Link, fresh, queue_of}
+use Rattle.model_link.specs.Requests.{serves, is_queue_full}
+use Rattle.lapd_tei.proofs.Tables.{place_of-is, at-within}
+use Rattle.model_line.specs.declared.config.Config.{Config}
+use Rattle.model_line.specs.Answer.{Event, octet, expiry, request, pull}
+use Rattle.model_line.specs.Line.{Line, link_number, link_count, place_at, place_in, tei_at, link_at, link_in, terms}
+use Rattle.model_line.specs.Machine.{takes_slot}
+use Rattle.model_line.specs.Refusal.{Row, first_that_holds, bad_tei, no_link, bad_tei_or_group, no_link_nor_group, wrong_state, too_long, queue_full, unit_queue_full, pool_full, refusal}
+use Rattle.model_line.specs.Request.{Request, Establish, Release, Data, Unit, Assign, Remove, Check, SetBusy, ClearBusy}
+use Rattle.model_line.specs.Requested.{carries_contents}
+use Rattle.model_line.specs.Sound.{IsSoundAt, IsSound}
+use Rattle.model_line.specs.Stored.{slots_by_link, slots_of}
+use Rattle.model_line.proofs.Numbers.{number_within, sum_bounded}
+
+-- All places of a line's queues.
+abbrev pub places_of : Config → ℕ
+places_of c = 2 * c.terminals * c.queue + c.unit_queue
+
+link_slots : (c : Config) (l : Line) → IsSound c l → (n : ℕ) → n < link_count c → slots_by_link l n ≤ c.queue
+link_slots c l s n few = go (tei_at (place_at n) l) (s.links n few)
+  where
+    go : (o : Option ℕ) → IsSoundAt c n (link_at n l) o → length (queue_of (link_at n l)) ≤ c.queue
+    go None is_fresh = subst (λ (x : Link). length (queue_of x) ≤ c.queue) (sym is_fresh) (omega arith)
+    go (Some tei) sound = sound.queue
+
+pub slots_few : (c : Config) (l : Line) → IsSound c l → slots_of c l ≤ places_of c
+slots_few c l s =
+    let queues = sum_bounded (slots_by_link l) 0 (link_count c) c.queue (λ n few. link_slots c l s n (omega (arith, few))) in
+    omega (arith, queues, s.few_units)
+
+-- a sum of which one term is below the bound
+sum_below : (f : ℕ → ℕ) (a n i m : ℕ) → a ≤ i → i < a + n → ((j : ℕ) → j < a + n → f j ≤ m) → f i < m → sum_by f (range_with_len a n) + 1 ≤ n * m
+sum_below f a zero i m from to below less = absurd (omega (arith, from, to))
+sum_below f a (suc n) i m from to below less =
+    let head = below a (omega arith) in
+    ⊎_elim
+    (λ at.
+    let here : f a ≡ f i = ap f (sym at) in
+    let rest = sum_bounded f (a + 1) n m (λ j h. below j (omega (arith, h))) in
+    omega (arith, here, less, rest, sum_by-cons f a (range_with_len (a + 1) n)))
+    (λ other.
+    let rest = sum_below f (a + 1) n i m (omega (arith, from, other)) (omega (arith, to)) (λ j h. below j (omega (arith, h))) less in
+    omega (arith, head, rest, sum_by-cons f a (range_with_len (a + 1) n)))
+    (cases_eq i a)
+
+-- a row that does not hold is passed over
+passed : (row : Row) (rest : List Row) → first_that_holds (row ∷ rest) ≡ None → (row.holds ≡ false) × (first_that_holds rest ≡ None)
+passed row rest e = go row.holds e
+  where
+    go : (b : Bool) → cond b (Some row.why) (first_that_holds rest) ≡ None → (b ≡ false) × (first_that_holds rest ≡ None)
+    go true e = cc
+    go false e = (refl, e)
+
+-- data for a link whose queue has a place
+data_finds : (c : Config) (l : Line) (service : Service) (tei : ℕ) (contents : List ℕ) (o : Option ℕ) → IsSound c l → place_in l tei ≡ o
+    → let x = option_map_or (link_in l service) o fresh in
+    not (serves x.state (link.Data contents)) ≡ false → is_queue_full (terms c service tei) x ≡ false → slots_of c l + 1 ≤ places_of c
+data_finds c l service tei contents None s e serving room = absurd (true≢false serving)
+data_finds c l service tei contents (Some place) s e serving room =
+    let at = (place_of-is l.management.places tei place e).1 in
+    let within : place < c.terminals = omega (arith, s.places, at-within l.management.places place tei at) in
+    let number = link_number place service in
+    let less : slots_by_link l number < c.queue = leb-false c.queue (length (queue_of (link_in l service place))) room in
+    let queues =
+    sum_below (slots_by_link l) 0 (link_count c) number c.queue (omega arith) (omega (arith, number_within place c.terminals service within))
+    (λ n few. link_slots c l s n (omega (arith, few))) less in
+    omega (arith, queues, s.few_units)
+
+accepted_finds : (c : Config) (r : Request) (l : Line) → IsSound c l → carries_contents r ≡ true → refusal c false r l ≡ None → slots_of c l + 1 ≤ places_of c
+accepted_finds c (Data service tei contents) l s carries e =
+    let last = pool_full false ∷ [] in
+    let fourth = too_long c contents ∷ queue_full c service tei l ∷ last in
+    let third = wrong_state service tei (link.Data contents) l ∷ fourth in
+    let known = passed (no_link tei l) third (passed (bad_tei tei) (no_link tei l ∷ third) e).1 in
+    let serving = passed (wrong_state service tei (link.Data contents) l) fourth known.1 in
+    let room = passed (queue_full c service tei l) last (passed (too_long c contents) (queue_full c service tei l ∷ last) serving.1).1 in
+    data_finds c l service tei contents (place_in l tei) s refl serving.0 room.0
+accepted_finds c (Unit service tei contents) l s carries e =
+    let last = pool_full false ∷ [] in
+    let third = too_long c contents ∷ unit_queue_full c l ∷ last in
+    let known = passed (no_link_nor_group tei l) third (passed (bad_tei_or_group tei) (no_link_nor_group tei l ∷ third) e).1 in
+    let room = passed (unit_queue_full c l) last (passed (too_long c contents) (unit_queue_full c l ∷ last) known.1).1 in
+    let less : length l.units < c.unit_queue = leb-false c.unit_queue (length l.units) room.0 in
+    let queues = sum_bounded (slots_by_link l) 0 (link_count c) c.queue (λ n few. link_slots c l s n (omega (arith, few))) in
+    omega (arith, queues, less)
+accepted_finds c (Establish service tei) l s carries e = cc
+accepted_finds c (Release service tei) l s carries e = cc
+accepted_finds c (Assign tei) l s carries e = cc
+accepted_finds c (Remove tei) l s carries e = cc
+accepted_finds c (Check tei) l s carries e = cc
+accepted_finds c (SetBusy service tei) l s carries e = cc
+accepted_finds c (ClearBusy service tei) l s carries e = cc
+
+pub taker_finds : (c : Config) (e : Event) (l : Line) → IsSound c l → takes_slot c e l ≡ true → slots_of c l + 1 ≤ places_of c
+unfolding takes_slot
+taker_finds c (octet value) l s h = absurd (true≢false (sym h))
+taker_finds c (expiry timer) l s h = absurd (true≢false (sym h))
+taker_finds c pull l s h = absurd (true≢false (sym h))
+taker_finds c (request r) l s h = go (carries_contents r) (refusal c false r l) refl refl h
+  where
+    go : (b : Bool) (o : Option Refusal) → carries_contents r ≡ b → refusal c false r l ≡ o → (b && not (is_some o)) ≡ true → slots_of c l + 1 ≤ places_of c
+    go true None carries none h = accepted_finds c r l s carries none
+    go true (Some why) carries none h = absurd (true≢false (sym h))
+    go false None carries none h = absurd (true≢false (sym h))
+    go false (Some why) carries none h = absurd (true≢false (sym h))

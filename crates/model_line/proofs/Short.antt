@@ -1,0 +1,192 @@
+-- An answer has at most four notes and four orders.
+use Rattle.std.proofs.Common.{ℕ, ◌≤◌, Bool, true, false, cond, List, [], ◌∷◌, ◌++◌, length, Option, Some, None, option_map, IfSome, arith, length-append}
+use Rattle.std.specs.Option.{option_or, option_map_or}
+use Rattle.lapd_bits.specs.Stream as stream
+use Rattle.lapd_frame.specs.declared.refusals.Refusal.{Refusal}
+use Rattle.lapd_frame.specs.declared.services.Service.{Service}
+use Rattle.lapd_frame.specs.declared.services.Service.TheVariants.{Call, Packet}
+use Rattle.lapd_frame.specs.declared.timers.Timer.{Timer}
+use Rattle.lapd_frame.specs.declared.timers.Timer.TheVariants.{T200, T203, T201}
+use Rattle.model_link.specs.declared.terms.Terms.{Terms}
+use Rattle.model_link.specs.declared.timers.LinkTimer.{LinkTimer}
+use Rattle.model_link.specs.declared.timers.LinkTimer.TheVariants as link_timer
+use Rattle.model_link.specs.Events as link
+use Rattle.model_link.specs.Link.{Link}
+use Rattle.model_link.specs.Machine as links
+use Rattle.model_link.specs.Steps.{Sent}
+use Rattle.model_link.proofs.TellRows.{event-tells, cleared-tells, two-orders, cleared-orders}
+use Rattle.lapd_tei.specs.Events as teis
+use Rattle.lapd_tei.specs.Machine as tei
+use Rattle.lapd_tei.specs.declared.outcome.Change.{Change}
+use Rattle.lapd_tei.specs.declared.outcome.Change.TheVariants.{Gained, Left}
+use Rattle.model_line.specs.declared.config.Config.{Config}
+use Rattle.model_line.specs.Answer.{Event, octet, expiry, request, pull, Told, nothing}
+use Rattle.model_line.specs.Expiry.{at_timer, aim_of_expiry}
+use Rattle.model_line.specs.Laws.{notes_in, orders_in, AnswersAreShort}
+use Rattle.model_line.specs.Line.{Line, link_in, link_at, terms, terms_at, place_in}
+use Rattle.model_line.specs.Machine.{answer, unless_refused, unless_refused_told}
+use Rattle.model_line.specs.Octet.{gained, aim_of_heard, with_received}
+use Rattle.model_line.specs.Effect.{at_none, told_of_management, of_link, of_change, of_management, of_aim}
+use Rattle.model_line.specs.Pull.{Taken, with_message, message_taken, with_unit, unit_taken, with_given_frame, link_taken, first_taken, round, taken, is_due, orders_of, begun}
+use Rattle.model_line.specs.Refusal.{refusal}
+use Rattle.model_line.specs.Request.{Request, Establish, Release, Data, Unit, Assign, Remove, Check, SetBusy, ClearBusy}
+use Rattle.model_line.specs.Requested.{at_requested, aim_of_request}
+use Rattle.lapd_tei.proofs.Brief.{IsBrief, told_brief}
+use Rattle.model_line.proofs.ProperAims.{heard_aims}
+use Rattle.model_line.proofs.Starts.{expiry_starts}
+
+record IsShort (t : Told) : Type 0 where
+  notes : length t.notes ≤ 4
+  orders : length t.orders ≤ 4
+
+module _ (c : Config) where
+  link_short : (service : Service) (tei place : ℕ) (e : link.Event) (l : Line) → IsShort (of_link c service tei place e l).told
+  link_short service tei place e l =
+      let t = terms c service tei in
+      let x = link_in l service place in
+      let course = links.course t e x in
+      record {
+        notes = omega (arith, (event-tells t e x).0);
+        orders = omega (arith, two-orders t x.running course.started course.link.running);
+      }
+
+  -- three lists after one another
+  three : {X : Type 0} (xs ys zs : List X) → length xs ≤ 1 → length ys ≤ 1 → length zs ≤ 1 → length (xs ++ ys ++ zs) ≤ 4
+  three xs ys zs x y z =
+      let whole = length-append xs (ys ++ zs) in
+      let rest = length-append ys zs in
+      let other_whole = length-append (xs ++ ys) zs in
+      let front = length-append xs ys in
+      omega (arith, whole, rest, other_whole, front, x, y, z)
+
+  change_short : (o : Option Change) (t : tei.Told) (l : Line) → IsBrief t → IsShort (of_change c o (told_of_management t) l).told
+  change_short None t l h = record { notes = omega (arith, h.notes); orders = omega (arith, h.orders) }
+  change_short (Some (Gained n place)) t l h = record { notes = omega (arith, h.notes); orders = omega (arith, h.orders) }
+  change_short (Some (Left n place)) t l h =
+      let call = of_link c Call n place link.cleared l in
+      let first = link_in l Call place in
+      let second = link_in call.line Packet place in
+      record {
+        notes =
+            three t.notes call.told.notes (of_link c Packet n place link.cleared call.line).told.notes h.notes
+            (cleared-tells (terms c Call n) first) (cleared-tells (terms c Packet n) second);
+        orders =
+            three call.told.orders (of_link c Packet n place link.cleared call.line).told.orders t.orders
+            (cleared-orders (terms c Call n) first) (cleared-orders (terms c Packet n) second) h.orders;
+      }
+
+  management_short : (e : teis.Event) (l : Line) → IsShort (of_management c e l).told
+  management_short e l =
+      change_short (teis.told e l.management).change (teis.told e l.management) (record l { management = teis.after e l.management })
+      (told_brief e l.management)
+
+  none_short : IsShort nothing
+  none_short = record { notes = omega arith; orders = omega arith }
+
+  octet_short : (l m : Line) (o : Option stream.Event) → IsShort (of_aim c (option_map_or (aim_of_heard l) o (at_none nothing)) m).told
+  octet_short l m None = none_short
+  octet_short l m (Some e) =
+      heard_aims l (λ aim. IsShort (of_aim c aim m).told) (λ cause. record { notes = omega arith; orders = omega arith })
+      (λ service n place what at. link_short service n place (link.received what) m) (λ info. management_short (teis.message info) m) e
+
+  timer_short : (l : Line) (service : Service) (n : ℕ) (timer : LinkTimer) (o : Option ℕ) → IsShort (of_aim c (at_timer service n timer o) l).told
+  timer_short l service n timer None = none_short
+  timer_short l service n timer (Some place) = link_short service n place (link.expired timer) l
+
+  expiry_short : (l : Line) (timer : Timer) → IsShort (of_aim c (aim_of_expiry timer l) l).told
+  expiry_short l (T200 service n) = timer_short l service n link_timer.T200 (place_in l n)
+  expiry_short l (T203 service n) = timer_short l service n link_timer.T203 (place_in l n)
+  expiry_short l T201 = management_short teis.expiry l
+
+  requested_short : (l : Line) (service : Service) (n : ℕ) (what : link.Request) (o : Option ℕ) → IsShort (of_aim c (at_requested service n what o) l).told
+  requested_short l service n what None = none_short
+  requested_short l service n what (Some place) = link_short service n place (link.requested what false) l
+
+  request_short : (l : Line) (r : Request) → IsShort (of_aim c (aim_of_request r l) l).told
+  request_short l (Establish service n) = requested_short l service n link.Establish (place_in l n)
+  request_short l (Release service n) = requested_short l service n link.Release (place_in l n)
+  request_short l (Data service n contents) = requested_short l service n (link.Data contents) (place_in l n)
+  request_short l (Unit service n contents) = none_short
+  request_short l (Assign n) = management_short (teis.assign n) l
+  request_short l (Remove n) = management_short (teis.remove n) l
+  request_short l (Check n) = management_short (teis.check n) l
+  request_short l (SetBusy service n) = requested_short l service n link.SetBusy (place_in l n)
+  request_short l (ClearBusy service n) = requested_short l service n link.ClearBusy (place_in l n)
+
+  -- A pull orders what the frame's timer wants.
+  HasFewOrders : Taken → Type 0
+  HasFewOrders t = length t.orders ≤ 2
+
+  mapped : {X Y : Type 0} (f : X → Y) (P : Y → Type 0) (o : Option X) → IfSome o (λ x. P (f x)) → IfSome (option_map f o) P
+  mapped f P None h = tt
+  mapped f P (Some x) h = h
+
+  anything : {X : Type 0} (P : X → Type 0) (o : Option X) → ((x : X) → P x) → IfSome o P
+  anything P None h = tt
+  anything P (Some x) h = h x
+
+  given_few : (t : Terms) (l : Link) → IfSome (links.given t l) (λ g. length g.orders ≤ 2)
+  given_few t l = go (links.course t link.offer l).sent
+    where
+      go : (o : Option Sent) → IfSome (links.given_of t l (links.course t link.offer l) o) (λ g. length g.orders ≤ 2)
+      go None = tt
+      go (Some s) = omega (arith, two-orders t l.running (links.course t link.offer l).started (links.course t link.offer l).link.running)
+
+  first_few : (P : Taken → Type 0) (o rest : Option Taken) → IfSome o P → IfSome rest P → IfSome (option_or o rest) P
+  first_few P None rest h h' = h'
+  first_few P (Some t) rest h h' = h
+
+  links_few : (l : Line) (ns : List ℕ) → IfSome (first_taken c l ns) HasFewOrders
+  unfolding HasFewOrders
+  links_few l [] = tt
+  links_few l (n ∷ ns) =
+      let t = terms_at c n l in
+      first_few HasFewOrders (link_taken c l n) (first_taken c l ns)
+      (mapped (with_given_frame l n t) HasFewOrders (links.given t (link_at n l)) (given_few t (link_at n l))) (links_few l ns)
+
+  taken_few : (l : Line) → IfSome (taken c l) HasFewOrders
+  unfolding HasFewOrders
+  taken_few l =
+      first_few HasFewOrders (message_taken l) (option_or (unit_taken l) (first_taken c l (round c l)))
+      (mapped (with_message l) HasFewOrders _ (anything (λ octets. 0 ≤ 2) _ (λ octets. omega arith)))
+      (first_few HasFewOrders (unit_taken l) (first_taken c l (round c l))
+      (mapped (with_unit l) HasFewOrders _ (anything (λ u. 0 ≤ 2) _ (λ u. omega arith))) (links_few l (round c l)))
+
+  pull_few : (l : Line) → length (option_map_or orders_of (begun c l) []) ≤ 2
+  unfolding HasFewOrders
+  pull_few l = go (is_due l) (taken c l) (taken_few l)
+    where
+      go : (due : Bool) (o : Option Taken) → IfSome o HasFewOrders → length (option_map_or orders_of (cond due o None) []) ≤ 2
+      go false o h = omega arith
+      go true None h = omega arith
+      go true (Some t) h = h
+
+  -- any event
+  request_notes : (r : Request) (l : Line) (o : Option Refusal) → length (notes_in (unless_refused_told o (of_aim c (unless_refused o (aim_of_request r l)) l))) ≤ 4
+  request_notes r l None = (request_short l r).notes
+  request_notes r l (Some why) = omega arith
+
+  request_orders : (r : Request) (l : Line) (o : Option Refusal) → length (orders_in (unless_refused_told o (of_aim c (unless_refused o (aim_of_request r l)) l))) ≤ 4
+  request_orders r l None = (request_short l r).orders
+  request_orders r l (Some why) = omega arith
+
+  notes_few : (e : Event) (l : Line) → length (notes_in (answer c e l)) ≤ 4
+  unfolding answer
+  notes_few (octet value) l = (octet_short l (with_received value l) (gained c.n201 l.received value)).notes
+  notes_few (expiry timer) l = (expiry_short l timer).notes
+  notes_few (request r) l = request_notes r l (refusal c false r l)
+  notes_few pull l = omega arith
+
+  orders_few : (e : Event) (l : Line) → length (orders_in (answer c e l)) ≤ 4
+  unfolding answer
+  orders_few (octet value) l = (octet_short l (with_received value l) (gained c.n201 l.received value)).orders
+  orders_few (expiry timer) l = (expiry_short l timer).orders
+  orders_few (request r) l = request_orders r l (refusal c false r l)
+  orders_few pull l = omega (arith, pull_few l)
+
+  pull_orders : (l : Line) → length (orders_in (answer c pull l)) ≤ 2
+  unfolding answer
+  pull_orders l = pull_few l
+
+pub answers_are_short : AnswersAreShort
+answers_are_short = record { notes = notes_few; orders = orders_few; pulls = pull_orders; expiries = expiry_starts }

@@ -1,0 +1,88 @@
+-- An expiry starts at most one timer.
+use Rattle.std.proofs.Common.{◌≡◌, ℕ, ◌≤◌, List, [], ◌∷◌, ◌++◌, length, Option, Some, None, refl, ◌∙◌, arith}
+use Rattle.lapd_frame.specs.declared.services.Service.{Service}
+use Rattle.lapd_frame.specs.declared.services.Service.TheVariants.{Call, Packet}
+use Rattle.lapd_frame.specs.declared.timers.Order.{Order}
+use Rattle.lapd_frame.specs.declared.timers.Order.TheVariants.{Start, Stop}
+use Rattle.lapd_frame.specs.declared.timers.Timer.{Timer}
+use Rattle.lapd_frame.specs.declared.timers.Timer.TheVariants.{T200, T203, T201}
+use Rattle.model_link.proofs.TellRows.{one-start}
+use Rattle.model_link.specs.Events as link
+use Rattle.model_link.specs.Link.{Link}
+use Rattle.model_link.specs.Machine as links
+use Rattle.model_link.specs.Told.{orders_for, starts}
+use Rattle.model_link.specs.declared.terms.Terms.{Terms}
+use Rattle.model_link.specs.declared.timers.LinkTimer.{LinkTimer}
+use Rattle.model_link.specs.declared.timers.LinkTimer.TheVariants as link_timer
+use Rattle.lapd_tei.proofs.Brief.{IsBrief, told_brief}
+use Rattle.lapd_tei.specs.Events as teis
+use Rattle.lapd_tei.specs.Machine as tei
+use Rattle.lapd_tei.specs.declared.outcome.Change.{Change}
+use Rattle.lapd_tei.specs.declared.outcome.Change.TheVariants.{Gained, Left}
+use Rattle.model_line.specs.declared.config.Config.{Config}
+use Rattle.model_line.specs.Answer.{expiry}
+use Rattle.model_line.specs.Expiry.{at_timer, aim_of_expiry}
+use Rattle.model_line.specs.Laws.{orders_in}
+use Rattle.model_line.specs.Line.{Line, link_in, place_in, terms}
+use Rattle.model_line.specs.Machine.{answer}
+use Rattle.model_line.specs.Effect.{told_of_management, of_link, of_change, of_aim}
+
+-- what starts nothing may stand before other orders
+before_starts : (xs ys : List Order) → starts xs ≡ 0 → starts (xs ++ ys) ≡ starts ys
+unfolding starts
+before_starts [] ys none = refl
+before_starts (Start timer ∷ xs) ys none = absurd (omega (arith, none))
+before_starts (Stop timer ∷ xs) ys none = omega (arith, before_starts xs ys (omega (arith, none)))
+
+starts_few : (xs : List Order) → starts xs ≤ length xs
+unfolding starts
+starts_few [] = omega arith
+starts_few (Start timer ∷ xs) = omega (arith, starts_few xs)
+starts_few (Stop timer ∷ xs) = omega (arith, starts_few xs)
+
+none_starts : starts [] ≤ 1
+unfolding starts
+none_starts = omega arith
+
+-- a link that is cleared starts nothing
+cleared_orders : (t : Terms) (before : Option LinkTimer) → starts (orders_for t before None None) ≡ 0
+unfolding starts
+cleared_orders t None = refl
+cleared_orders t (Some link_timer.T200) = refl
+cleared_orders t (Some link_timer.T203) = refl
+
+cleared_starts : (t : Terms) (l : Link) → starts (links.told t link.cleared l).orders ≡ 0
+cleared_starts t l = cleared_orders t l.running
+
+three : (xs ys zs : List Order) → starts xs ≡ 0 → starts ys ≡ 0 → length zs ≤ 1 → starts (xs ++ ys ++ zs) ≤ 1
+three xs ys zs x y z =
+    let none : starts (xs ++ ys) ≡ 0 = before_starts xs ys x ∙ y in
+    omega (arith, before_starts xs (ys ++ zs) x, before_starts ys zs y, before_starts (xs ++ ys) zs none, starts_few zs, z)
+
+module _ (c : Config) where
+  change_starts : (o : Option Change) (t : tei.Told) (l : Line) → IsBrief t → starts (of_change c o (told_of_management t) l).told.orders ≤ 1
+  change_starts None t l h = omega (arith, starts_few t.orders, h.orders)
+  change_starts (Some (Gained n place)) t l h = omega (arith, starts_few t.orders, h.orders)
+  change_starts (Some (Left n place)) t l h =
+      let call = of_link c Call n place link.cleared l in
+      three call.told.orders (of_link c Packet n place link.cleared call.line).told.orders t.orders
+      (cleared_starts (terms c Call n) (link_in l Call place)) (cleared_starts (terms c Packet n) (link_in call.line Packet place)) h.orders
+
+  timer_starts : (l : Line) (service : Service) (n : ℕ) (timer : LinkTimer) (o : Option ℕ) → starts (of_aim c (at_timer service n timer o) l).told.orders ≤ 1
+  timer_starts l service n timer None = none_starts
+  timer_starts l service n timer (Some place) =
+      let t = terms c service n in
+      let x = link_in l service place in
+      let course = links.course t (link.expired timer) x in
+      one-start t x.running course.started course.link.running
+
+  aim_starts : (timer : Timer) (l : Line) → starts (of_aim c (aim_of_expiry timer l) l).told.orders ≤ 1
+  aim_starts (T200 service n) l = timer_starts l service n link_timer.T200 (place_in l n)
+  aim_starts (T203 service n) l = timer_starts l service n link_timer.T203 (place_in l n)
+  aim_starts T201 l =
+      change_starts (teis.told teis.expiry l.management).change (teis.told teis.expiry l.management)
+      (record l { management = teis.after teis.expiry l.management }) (told_brief teis.expiry l.management)
+
+pub expiry_starts : (c : Config) (timer : Timer) (l : Line) → starts (orders_in (answer c (expiry timer) l)) ≤ 1
+unfolding answer
+expiry_starts c timer l = aim_starts c timer l

@@ -1,0 +1,124 @@
+-- A sound line holds at most so many octets, and at most N201 octets in each slot.
+use Rattle.std.proofs.Common.{◌≡◌, ℕ, zero, suc, ◌+◌, ◌*◌, ◌/◌, ◌≤◌, ◌<◌, Bool, true, false, List, [], ◌∷◌, length, reverse, nat_lt, Option, Some, None, refl, sym, subst, cond, arith}
+use Rattle.std.specs.Prelude.{sum_by, All}
+use Rattle.std.specs.List.{range_with_len}
+use Rattle.std.specs.Option.{option_map_or, unwrap_or}
+use Rattle.std.proofs.lemmas.Bool.{ltb-false}
+use Rattle.std.proofs.lemmas.List.Elements.{All-head, All-tail, All-drop, All-nil, All-cons}
+use Rattle.std.proofs.lemmas.List.Sums.{sum_by-le, sum_by-cons}
+use Rattle.lapd_bits.specs.Bits.{bits}
+use Rattle.lapd_bits.specs.Stuffing.{unstuffed}
+use Rattle.lapd_bits.specs.Deframer.{kept_count, open_gap}
+use Rattle.lapd_bits.specs.Framer.{runs_low, item_octets, last_octets}
+use Rattle.lapd_bits.specs.Sent.{Item}
+use Rattle.lapd_bits.specs.Stream.{room_for}
+use Rattle.lapd_frame.specs.declared.addresses.Side.TheVariants.{Network}
+use Rattle.lapd_frame.specs.Grammar.{spelling}
+use Rattle.model_link.specs.Link.{Link, frame_of, queue_of}
+use Rattle.model_link.specs.Rises as links
+use Rattle.model_link.specs.Sound.{IsWaitingFrame}
+use Rattle.model_link.specs.declared.frames.ControlFrame.{ControlFrame}
+use Rattle.model_link.specs.declared.terms.Terms.{Terms}
+use Rattle.model_line.specs.declared.config.Config.{Config}
+use Rattle.model_line.specs.Line.{Line, UnitData, link_count, service_at, place_at, tei_at, terms, link_at}
+use Rattle.model_line.specs.Pull.{left_of}
+use Rattle.model_line.specs.Sound.{IsSoundAt, IsSound, IsUnitData}
+use Rattle.model_line.specs.Stored.{held_received, held_sent, held_by_link, held_in, sum_of_links, slots_by_link, slots_of, total_length, unit_length, octets_by_link, octets_of, stored_in}
+use Rattle.model_line.proofs.Numbers.{sum_bounded}
+
+-- of a frame that is received
+kept_few : (n201 n : ℕ) → kept_count (room_for n201) n ≤ n201 + 6
+kept_few n201 n = go (nat_lt (room_for n201) n) refl
+  where
+    go : (b : Bool) → nat_lt (room_for n201) n ≡ b → cond b 4 n ≤ n201 + 6
+    go true e = omega arith
+    go false e = omega (arith, ltb-false (room_for n201) n e)
+
+received_few : (c : Config) (l : Line) → held_received c l ≤ c.n201 + 6
+received_few c l = go (open_gap (reverse (bits l.received)))
+  where
+    go : (o : Option (List Bool)) → option_map_or (λ g. kept_count (room_for c.n201) (length (unstuffed (reverse g)) / 8)) o 0 ≤ c.n201 + 6
+    go None = omega arith
+    go (Some g) = kept_few c.n201 (length (unstuffed (reverse g)) / 8)
+
+-- of the frame that is sent
+last_few : (m : ℕ) (items : List Item) → All (λ item. item_octets item ≤ m) items → last_octets items ≤ m
+last_few m [] all = omega arith
+last_few m (item ∷ []) all = All-head (λ item. item_octets item ≤ m) item [] all
+last_few m (first ∷ item ∷ items) all = last_few m (item ∷ items) (All-tail (λ item. item_octets item ≤ m) first (item ∷ items) all)
+
+sent_few : (c : Config) (l : Line) → IsSound c l → held_sent l ≤ c.n201 + 4
+sent_few c l s = go (runs_low (left_of l))
+  where
+    go : (b : Bool) → cond b 0 (last_octets l.items) ≤ c.n201 + 4
+    go true = omega arith
+    go false = last_few (c.n201 + 4) l.items s.sizes
+
+-- of the control frames of a link
+ring_few : (t : Terms) (most : ℕ) (ws : List ControlFrame) → All (IsWaitingFrame t) ws → length ws ≤ most
+    → sum_by (λ f. length (spelling Network (frame_of t f))) ws ≤ 4 * most
+ring_few t most ws frames few =
+    let octets = sum_by-le (λ f. length (spelling Network (frame_of t f))) 4 ws (short ws frames) in
+    omega (arith, octets, few)
+  where
+    short : (fs : List ControlFrame) → All (IsWaitingFrame t) fs → All (λ f. length (spelling Network (frame_of t f)) ≤ 4) fs
+    short [] all = All-nil (λ f. length (spelling Network (frame_of t f)) ≤ 4)
+    short (f ∷ fs) all =
+        All-cons (λ f. length (spelling Network (frame_of t f)) ≤ 4) f fs (All-head (IsWaitingFrame t) f fs all).octets
+        (short fs (All-tail (IsWaitingFrame t) f fs all))
+
+link_few : (c : Config) (l : Line) → IsSound c l → (n : ℕ) → n < link_count c → held_by_link c l n ≤ 4 * c.control
+link_few c l s n few = go (tei_at (place_at n) l) (s.links n few)
+  where
+    go : (o : Option ℕ) → IsSoundAt c n (link_at n l) o → links.held (terms c (service_at n) (unwrap_or o 0)) (link_at n l) ≤ 4 * c.control
+    go None is_fresh = subst (λ x. links.held (terms c (service_at n) 0) x ≤ 4 * c.control) (sym is_fresh) (omega arith)
+    go (Some tei) sound = ring_few (terms c (service_at n) tei) c.control (link_at n l).waiting sound.frames sound.ring
+
+-- all of it
+pub held_few : (c : Config) (l : Line) → IsSound c l → held_in c l ≤ 2 * c.n201 + 10 + 8 * c.control * c.terminals + 32 + 12
+held_few c l s =
+    let rings = sum_bounded (held_by_link c l) 0 (link_count c) (4 * c.control) (λ n few. link_few c l s n (omega (arith, few))) in
+    omega (arith, received_few c l, sent_few c l s, s.management.queue.few, s.management.memory.few, rings)
+
+-- ---- contents
+
+-- two terms that are each at most m times others
+pub both_scaled : (m f g f' g' sum whole : ℕ) → sum ≡ f + f' → whole ≡ g + g' → f ≤ g * m → f' ≤ g' * m → sum ≤ whole * m
+both_scaled m f g f' g' sum whole first second below below' =
+    subst (λ x. sum ≤ x * m) (sym second) (omega (arith, first, below, below'))
+
+-- a sum of such terms
+scaled : (f g : ℕ → ℕ) (m a n : ℕ) → ((j : ℕ) → j < a + n → f j ≤ g j * m) → sum_by f (range_with_len a n) ≤ sum_by g (range_with_len a n) * m
+scaled f g m a zero below = omega arith
+scaled f g m a (suc n) below =
+    let head = below a (omega arith) in
+    let rest = scaled f g m (a + 1) n (λ j few. below j (omega (arith, few))) in
+    both_scaled m (f a) (g a) (sum_by f (range_with_len (a + 1) n)) (sum_by g (range_with_len (a + 1) n)) _ _
+    (sum_by-cons f a (range_with_len (a + 1) n)) (sum_by-cons g a (range_with_len (a + 1) n)) head rest
+
+queue_octets : (c : Config) (l : Line) → IsSound c l → (n : ℕ) → n < link_count c → octets_by_link l n ≤ slots_by_link l n * c.n201
+queue_octets c l s n few = go (tei_at (place_at n) l) (s.links n few)
+  where
+    go : (o : Option ℕ) → IsSoundAt c n (link_at n l) o → total_length (queue_of (link_at n l)) ≤ length (queue_of (link_at n l)) * c.n201
+    go None is_fresh =
+        subst (λ (x : Link). total_length (queue_of x) ≤ length (queue_of x) * c.n201) (sym is_fresh) (omega arith)
+    go (Some tei) sound =
+        sum_by-le length c.n201 (queue_of (link_at n l))
+        (All-drop (λ octets. length octets ≤ c.n201) (link_at n l).a (link_at n l).contents sound.sizes)
+
+unit_octets : (c : Config) (us : List UnitData) → All (IsUnitData c) us → sum_by unit_length us ≤ length us * c.n201
+unit_octets c us all = sum_by-le unit_length c.n201 us (short us all)
+  where
+    short : (vs : List UnitData) → All (IsUnitData c) vs → All (λ u. unit_length u ≤ c.n201) vs
+    short [] h = All-nil (λ u. unit_length u ≤ c.n201)
+    short (v ∷ vs) h = All-cons (λ u. unit_length u ≤ c.n201) v vs (All-head (IsUnitData c) v vs h).size (short vs (All-tail (IsUnitData c) v vs h))
+
+pub octets_few : (c : Config) (l : Line) → IsSound c l → octets_of c l ≤ slots_of c l * c.n201
+octets_few c l s =
+    let queues = scaled (octets_by_link l) (slots_by_link l) c.n201 0 (link_count c) (λ n few. queue_octets c l s n (omega (arith, few))) in
+    both_scaled c.n201 (sum_by unit_length l.units) (length l.units) (sum_of_links c (octets_by_link l)) (sum_of_links c (slots_by_link l)) _ _
+    refl refl (unit_octets c l.units s.units) queues
+
+pub stored_few : (c : Config) (l : Line) → IsSound c l
+    → stored_in c l ≤ (2 * c.n201 + 10 + 8 * c.control * c.terminals + 32 + 12) + slots_of c l * c.n201
+stored_few c l s = omega (arith, held_few c l s, octets_few c l s)

@@ -1,0 +1,101 @@
+-- What is counted of a line.
+use Rattle.std.specs.Prelude.{ℕ, ◌+◌, nat_le, Bool, true, false, length, count_by, if◌then◌else◌}
+use Rattle.std.specs.Option.{option_map_or}
+use Rattle.lapd_bits.specs.Stream as stream
+use Rattle.lapd_frame.specs.declared.refusals.Refusal.{Refusal}
+use Rattle.lapd_frame.specs.declared.refusals.Refusal.TheVariants as refusals
+use Rattle.model_link.specs.Rises as links
+use Rattle.lapd_tei.specs.Machine as tei
+use Rattle.model_line.specs.declared.config.Config.{Config}
+use Rattle.model_line.specs.Answer.{Event, octet, expiry, request, pull, Answer, told, refused, pulled}
+use Rattle.model_line.specs.Line.{Line, terms_at, link_at, link_in}
+use Rattle.model_line.specs.Stored.{sum_of_links}
+use Rattle.model_line.specs.Expiry.{is_running}
+use Rattle.model_line.specs.Effect.{Aim, at_none, at_link, at_management, at_units}
+use Rattle.model_line.specs.Machine.{aim_of}
+use Rattle.model_line.specs.Octet.{gained}
+
+-- A test, counted.
+abbrev pub one : Bool → ℕ
+one b = if b then 1 else 0
+
+-- What may be sent without anything else happening: management messages, unit data, and what each link may send.
+abbrev pub may_send_at_link : Config → Line → ℕ → ℕ
+may_send_at_link c l number = links.may_send (terms_at c number l) (link_at number l)
+
+abbrev pub may_send : Config → Line → ℕ
+may_send c l = tei.may_send l.management + length l.units + sum_of_links c (may_send_at_link c l)
+
+-- The frames that were heard in all octets received.
+abbrev pub is_frame : stream.Event → Bool
+is_frame (stream.frame octets) = true
+is_frame (stream.overlong head) = true
+is_frame (stream.dropped cause) = false
+
+abbrev pub frames_heard : Config → Line → ℕ
+frames_heard c l = count_by is_frame (stream.heard_in c.n201 l.received)
+
+-- An octet that ends such a frame.
+abbrev pub hears : Config → Event → Line → Bool
+hears c (octet value) l = option_map_or is_frame (gained c.n201 l.received value) false
+hears c (expiry timer) l = false
+hears c (request r) l = false
+hears c pull l = false
+
+-- Those of four octets or more, as each with a control field of two octets is.
+abbrev pub is_long_frame : stream.Event → Bool
+is_long_frame (stream.frame octets) = nat_le 4 (length octets)
+is_long_frame (stream.overlong head) = true
+is_long_frame (stream.dropped cause) = false
+
+abbrev pub long_frames_heard : Config → Line → ℕ
+long_frames_heard c l = count_by is_long_frame (stream.heard_in c.n201 l.received)
+
+-- An octet that came from the line.
+abbrev pub is_octet : Event → Bool
+is_octet (octet value) = true
+is_octet (expiry timer) = false
+is_octet (request r) = false
+is_octet pull = false
+
+-- A frame that a pull began.
+abbrev pub is_begun : Answer → Bool
+is_begun (told t) = false
+is_begun (refused why) = false
+is_begun (pulled value begun orders) = begun
+
+-- A request that was accepted.
+abbrev pub is_accepted : Event → Answer → Bool
+is_accepted (request r) (told t) = true
+is_accepted (request r) (refused why) = false
+is_accepted (request r) (pulled value begun orders) = false
+is_accepted (octet value) answer = false
+is_accepted (expiry timer) answer = false
+is_accepted pull answer = false
+
+-- An expiry of a timer that was running.
+abbrev pub is_running_expiry : Event → Line → Bool
+is_running_expiry (expiry timer) l = is_running timer l
+is_running_expiry (octet value) l = false
+is_running_expiry (request r) l = false
+is_running_expiry pull l = false
+
+-- An REJ with a valid N(R) that meets a link in state 7 or 8.
+abbrev pub rejects_aimed : Line → Aim → Bool
+rejects_aimed l (at_none what) = false
+rejects_aimed l (at_link service tei place event) = links.rejects event (link_in l service place)
+rejects_aimed l (at_management event) = false
+rejects_aimed l (at_units unit) = false
+
+abbrev pub rejects : Config → Event → Line → Bool
+rejects c event l = rejects_aimed l (aim_of c event l)
+
+-- A request that finds the card's pool full.
+abbrev pub is_pool : Refusal → Bool
+is_pool refusals.PoolFull = true
+is_pool other = false
+
+abbrev pub is_pool_full : Answer → Bool
+is_pool_full (told t) = false
+is_pool_full (refused why) = is_pool why
+is_pool_full (pulled value begun orders) = false

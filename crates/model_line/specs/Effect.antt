@@ -1,0 +1,88 @@
+-- What an event is to the parts of a line, and what comes of it.
+use Rattle.std.specs.Prelude.{ℕ, Bool, [], ◌∷◌, ◌++◌, Option, Some, None, if◌then◌else◌}
+use Rattle.std.specs.Option.{option_or}
+use Rattle.lapd_bits.specs.declared.heard.Cause.{Cause}
+use Rattle.lapd_bits.specs.declared.heard.Cause.TheVariants.{Unserved}
+use Rattle.lapd_frame.specs.declared.services.Service.{Service}
+use Rattle.lapd_frame.specs.declared.services.Service.TheVariants.{Call, Packet}
+use Rattle.model_link.specs.Events as link
+use Rattle.model_link.specs.Link.{fresh}
+use Rattle.model_link.specs.Machine as links
+use Rattle.model_link.specs.Told as link_told
+use Rattle.lapd_tei.specs.Events as teis
+use Rattle.lapd_tei.specs.Machine as tei
+use Rattle.lapd_tei.specs.declared.outcome.Change.{Change}
+use Rattle.lapd_tei.specs.declared.outcome.Change.TheVariants.{Gained, Left}
+use Rattle.model_line.specs.declared.config.Config.{Config}
+use Rattle.model_line.specs.Answer.{Told, nothing}
+use Rattle.model_line.specs.Line.{Line, UnitData, link_number, link_in, with_link, terms}
+
+pub data Aim : Type 0 where
+  -- no part is concerned
+  at_none : Told → Aim
+  -- the link of a service is, of the TEI at a place
+  at_link : Service → ℕ → ℕ → link.Event → Aim
+  -- TEI management is
+  at_management : teis.Event → Aim
+  -- unit data goes to the end of those that wait
+  at_units : UnitData → Aim
+
+-- What an event leaves, and what is told of it.
+pub record Effect : Type 0 where
+  pub line : Line
+  pub told : Told
+
+abbrev pub unserved_cause : Bool → Option Cause
+unserved_cause unserved = if unserved then Some Unserved else None
+
+-- An event of a link.
+abbrev pub told_of_link : link_told.Told → Told
+told_of_link t = record {
+  notes = t.notes;
+  contents = option_or t.delivered t.unit;
+  cause = unserved_cause t.unserved;
+  orders = t.orders;
+  lost = t.lost;
+}
+
+abbrev pub of_link : Config → Service → ℕ → ℕ → link.Event → Line → Effect
+of_link c service tei place event l =
+    let t = terms c service tei in
+    record {
+      line = with_link (link_number place service) (links.after t event (link_in l service place)) l;
+      told = told_of_link (links.told t event (link_in l service place));
+    }
+
+-- An event of TEI management. A TEI that comes to the line opens its two links. One that leaves clears them, that of
+-- call control first. What they tell comes after what TEI management tells, but for the order of T201, which is the
+-- last (profile).
+abbrev pub told_of_management : tei.Told → Told
+told_of_management t =
+    record { notes = t.notes; contents = None; cause = unserved_cause t.unserved; orders = t.orders; lost = t.lost }
+
+abbrev pub with_opened : ℕ → Line → Line
+with_opened place l = with_link (link_number place Packet) fresh (with_link (link_number place Call) fresh l)
+
+abbrev pub with_cleared : Told → Told → Told → Told
+with_cleared call packet t =
+    record t { notes = t.notes ++ call.notes ++ packet.notes; orders = call.orders ++ packet.orders ++ t.orders }
+
+abbrev pub of_change : Config → Option Change → Told → Line → Effect
+of_change c None told l = record { line = l; told = told }
+of_change c (Some (Gained tei place)) told l = record { line = with_opened place l; told = told }
+of_change c (Some (Left tei place)) told l =
+    let call = of_link c Call tei place link.cleared l in
+    let packet = of_link c Packet tei place link.cleared call.line in
+    record { line = packet.line; told = with_cleared call.told packet.told told }
+
+abbrev pub of_management : Config → teis.Event → Line → Effect
+of_management c event l =
+    let t = teis.told event l.management in
+    of_change c t.change (told_of_management t) (record l { management = teis.after event l.management })
+
+-- Any of them.
+abbrev pub of_aim : Config → Aim → Line → Effect
+of_aim c (at_none told) l = record { line = l; told = told }
+of_aim c (at_link service tei place event) l = of_link c service tei place event l
+of_aim c (at_management event) l = of_management c event l
+of_aim c (at_units unit) l = record { line = record l { units = l.units ++ unit ∷ [] }; told = nothing }

@@ -1,0 +1,89 @@
+-- Laws of a line.
+use Rattle.std.specs.Prelude.{◌≡◌, ℕ, ◌+◌, ◌*◌, ◌≤◌, max, List, [], ◌∷◌, length, Option, Some, None, IsSome}
+use Rattle.lapd_frame.specs.declared.notes.Note.{Note}
+use Rattle.lapd_bits.specs.declared.heard.Cause.{Cause}
+use Rattle.lapd_frame.specs.declared.timers.Order.{Order}
+use Rattle.lapd_frame.specs.declared.timers.Timer.{Timer}
+use Rattle.model_link.specs.Told.{starts}
+use Rattle.model_line.specs.declared.config.Config.{Config}
+use Rattle.model_line.specs.Answer.{Event, octet, expiry, pull, Answer, told, refused, pulled, dropped}
+use Rattle.model_line.specs.Line.{Line, fresh_line}
+use Rattle.model_line.specs.Counts.{one, may_send, frames_heard, hears, long_frames_heard, is_octet, is_begun, is_accepted, is_running_expiry, rejects}
+use Rattle.model_line.specs.Machine.{after, answer}
+use Rattle.model_line.specs.Octet.{with_received}
+use Rattle.model_line.specs.Sound.{IsInRange, IsSound}
+
+-- A line is sound as it begins, and each event keeps it so.
+pub record LinesStaySound : Type 0 where
+  pub begins : (c : Config) → IsInRange c → IsSound c (fresh_line c)
+  pub each : (c : Config) (e : Event) (l : Line) → IsInRange c → IsSound c l → IsSound c (after c e l)
+
+-- What a line has sent, and may still send without anything else happening, rises by no more than two for each frame
+-- that is heard, one for an accepted request, k + 1 for the expiry of a running timer, and k for an REJ with a
+-- valid N(R), where k is the greater of both windows.
+abbrev pub Rises : Config → Event → Line → Type 0
+Rises c e l =
+    let k = max c.k c.k16 in
+    one (is_begun (answer c e l)) + may_send c (after c e l)
+    ≤ may_send c l + 2 * one (hears c e l) + one (is_accepted e (answer c e l))
+    + (k + 1) * one (is_running_expiry e l) + k * one (rejects c e l)
+
+-- An REJ is a frame of four octets.
+abbrev pub IsRejectHeard : Config → Event → Line → Type 0
+IsRejectHeard c e l = one (rejects c e l) + long_frames_heard c l ≤ long_frames_heard c (after c e l)
+
+-- The frames heard grow by that which the event ends, if it ends one.
+abbrev pub IsHeardCounted : Config → Event → Line → Type 0
+IsHeardCounted c e l = frames_heard c (after c e l) ≡ frames_heard c l + one (hears c e l)
+
+-- Only an octet ends a frame, and one at most.
+abbrev pub HearsOne : Config → Event → Line → Type 0
+HearsOne c e l = frames_heard c (after c e l) ≤ frames_heard c l + one (is_octet e)
+
+-- A pull that begins a frame lets what may be sent fall by one, or by two where the frame makes an acknowledgement
+-- needless. Any other pull leaves it as it is.
+abbrev pub FallsByPull : Config → Line → Type 0
+FallsByPull c l =
+    let begun = one (is_begun (answer c pull l)) in
+    (begun + may_send c (after c pull l) ≤ may_send c l) × (may_send c l ≤ may_send c (after c pull l) + 2 * begun)
+
+pub record LinesRise : Type 0 where
+  pub rises : (c : Config) (e : Event) (l : Line) → IsInRange c → IsSound c l → Rises c e l
+  pub rejects : (c : Config) (e : Event) (l : Line) → IsInRange c → IsSound c l → IsRejectHeard c e l
+  pub counts : (c : Config) (e : Event) (l : Line) → IsInRange c → IsSound c l → IsHeardCounted c e l
+  pub hears : (c : Config) (e : Event) (l : Line) → IsInRange c → IsSound c l → HearsOne c e l
+  pub pulls : (c : Config) (l : Line) → IsInRange c → IsSound c l → FallsByPull c l
+
+-- An answer has at most four notes and at most four orders, and that to a pull at most two orders. The answer to an
+-- expiry starts one timer at most.
+abbrev pub notes_in : Answer → List Note
+notes_in (told t) = t.notes
+notes_in (refused why) = []
+notes_in (pulled value begun orders) = []
+
+abbrev pub orders_in : Answer → List Order
+orders_in (told t) = t.orders
+orders_in (refused why) = []
+orders_in (pulled value begun orders) = orders
+
+pub record AnswersAreShort : Type 0 where
+  pub notes : (c : Config) (e : Event) (l : Line) → length (notes_in (answer c e l)) ≤ 4
+  pub orders : (c : Config) (e : Event) (l : Line) → length (orders_in (answer c e l)) ≤ 4
+  pub pulls : (c : Config) (l : Line) → length (orders_in (answer c pull l)) ≤ 2
+  pub expiries : (c : Config) (timer : Timer) (l : Line) → starts (orders_in (answer c (expiry timer) l)) ≤ 1
+
+-- Why an octet, or the frame that it ended, was dropped.
+abbrev pub cause_in : Answer → Option Cause
+cause_in (told t) = t.cause
+cause_in (refused why) = None
+cause_in (pulled value begun orders) = None
+
+-- Where the answer to an octet names a cause, whichever, the cause is all that is told, the line is as it was but for
+-- the octet received, and what may be sent stays as it is.
+pub record DropsChangeNothing : Type 0 where
+  pub answers : (c : Config) (value : ℕ) (l : Line) (cause : Cause) → cause_in (answer c (octet value) l) ≡ Some cause →
+      answer c (octet value) l ≡ told (dropped cause)
+  pub leaves : (c : Config) (value : ℕ) (l : Line) (cause : Cause) → cause_in (answer c (octet value) l) ≡ Some cause →
+      after c (octet value) l ≡ with_received value l
+  pub costs : (c : Config) (value : ℕ) (l : Line) → IsSome (cause_in (answer c (octet value) l)) →
+      may_send c (after c (octet value) l) ≡ may_send c l

@@ -1,0 +1,110 @@
+-- A line: its whole past, and what it holds.
+use Rattle.std.specs.Prelude.{ℕ, ◌+◌, ◌*◌, ◌/◌, ◌%◌, ◌==◌, Bool, List, [], replicate, get_or, set, Option, None, option_map, if◌then◌else◌}
+use Rattle.std.specs.Option.{option_map_or, unwrap_or}
+use Rattle.lapd_bits.specs.Sent.{Item}
+use Rattle.lapd_frame.specs.declared.services.Service.{Service}
+use Rattle.lapd_frame.specs.declared.services.Service.TheVariants.{Call, Packet}
+use Rattle.model_link.specs.declared.terms.Terms.{Terms}
+use Rattle.model_link.specs.Link.{Link, fresh, state_number}
+use Rattle.lapd_tei.specs.Machine.{Management, empty, place}
+use Rattle.lapd_tei.specs.Table.{is_on}
+use Rattle.model_line.specs.declared.config.Config.{Config}
+
+-- Unit data that waits to be sent: to which terminals, and its contents.
+pub record UnitData : Type 0 where
+  pub service : Service
+  pub tei : ℕ
+  pub contents : List ℕ
+
+pub record Line : Type 0 where
+  -- all octets that were received
+  pub received : List ℕ
+  -- all items that were put on the line, and all octets of them that were given
+  pub items : List Item
+  pub given : List ℕ
+  -- TEI management
+  pub management : Management
+  -- the links of all places of the TEI table, at each place that of call control before that of packet mode
+  pub links : List Link
+  -- unit data that waits to be sent, oldest first
+  pub units : List UnitData
+  -- the link at which the next round begins: the one after the link that was served last
+  pub turn : ℕ
+
+-- Each TEI has one link of each service, so there are two links a place.
+abbrev pub link_number : ℕ → Service → ℕ
+link_number place Call = 2 * place
+link_number place Packet = 2 * place + 1
+
+abbrev pub service_at : ℕ → Service
+service_at number = if number % 2 == 0 then Call else Packet
+
+abbrev pub place_at : ℕ → ℕ
+place_at number = number / 2
+
+abbrev pub link_count : Config → ℕ
+link_count c = 2 * c.terminals
+
+-- As a line begins.
+abbrev pub fresh_line : Config → Line
+fresh_line c = record {
+  received = [];
+  items = [];
+  given = [];
+  management = empty c.terminals;
+  links = replicate (link_count c) fresh;
+  units = [];
+  turn = 0;
+}
+
+-- The parameters of a link (Q.921 clause 5.9). The window is the service's own.
+abbrev pub window : Config → Service → ℕ
+window c Call = c.k
+window c Packet = c.k16
+
+abbrev pub terms : Config → Service → ℕ → Terms
+terms c service tei = record {
+  service = service;
+  tei = tei;
+  k = window c service;
+  n201 = c.n201;
+  n200 = c.n200;
+  queue = c.queue;
+  control = c.control;
+}
+
+-- A link by its number, and the line with another one in its place.
+abbrev pub link_at : ℕ → Line → Link
+link_at number l = get_or l.links number fresh
+
+abbrev pub with_link : ℕ → Link → Line → Line
+with_link number link l = record l { links = set l.links number link }
+
+-- A TEI is on the line, or not, and if it is, at a place.
+abbrev pub has_tei : ℕ → Line → Bool
+has_tei tei l = is_on tei l.management.places
+
+abbrev pub place_in : Line → ℕ → Option ℕ
+place_in l tei = place tei l.management
+
+-- The TEI at a place, and the parameters of a link by its number. (Where the place is free, its links have nothing to
+-- send.)
+abbrev pub tei_at : ℕ → Line → Option ℕ
+tei_at place l = get_or l.management.places place None
+
+abbrev pub terms_at : Config → ℕ → Line → Terms
+terms_at c number l = terms c (service_at number) (unwrap_or (tei_at (place_at number) l) 0)
+
+-- The link of a service with a TEI. Where the TEI is not on the line, it is as one that begins.
+abbrev pub link_in : Line → Service → ℕ → Link
+link_in l service place = link_at (link_number place service) l
+
+abbrev pub link_of : Service → ℕ → Line → Link
+link_of service tei l = option_map_or (link_in l service) (place_in l tei) fresh
+
+-- The state of that link, by its number in Q.921; none where the TEI is not on the line.
+abbrev pub state_in : Line → Service → ℕ → ℕ
+state_in l service place = state_number (link_in l service place).state
+
+abbrev pub state_of : Service → ℕ → Line → Option ℕ
+state_of service tei l = option_map (state_in l service) (place_in l tei)

@@ -1,0 +1,42 @@
+-- What holds of every line between two events.
+use Rattle.std.specs.Prelude.{◌≡◌, ℕ, ◌+◌, ◌≤◌, ◌<◌, ◌++◌, Bool, List, length, All, Option, Some, None}
+use Rattle.lapd_bits.specs.Bits.{bits}
+use Rattle.lapd_bits.specs.Framer.{item_octets}
+use Rattle.lapd_bits.specs.Sent.{Item, line_text}
+use Rattle.model_link.specs.Link.{Link, fresh}
+use Rattle.model_link.specs.Sound as links
+use Rattle.lapd_tei.specs.Sound as tei
+use Rattle.model_line.specs.declared.config.Config.{Config}
+use Rattle.model_line.specs.Config.{first_fault}
+use Rattle.model_line.specs.Line.{Line, UnitData, link_count, service_at, place_at, tei_at, terms, link_at}
+
+-- The configuration is one with which a card can be started.
+abbrev pub IsInRange : Config → Type 0
+IsInRange c = first_fault c ≡ None
+
+-- A link of a free place is as it begins; that of a TEI is sound.
+abbrev pub IsSoundAt : Config → ℕ → Link → Option ℕ → Type 0
+IsSoundAt c number link None = link ≡ fresh
+IsSoundAt c number link (Some tei) = links.IsSound (terms c (service_at number) tei) link
+
+-- Unit data that waits is for a terminal or the group, and has at most N201 octets.
+pub record IsUnitData (c : Config) (unit : UnitData) : Type 0 where
+  pub tei : unit.tei ≤ 127
+  pub size : length unit.contents ≤ c.n201
+
+-- The octets given are a beginning of the text of the items.
+pub record IsTextOf (items : List Item) (given : List ℕ) : Type 0 where
+  pub left : List Bool
+  pub text : line_text items ≡ bits given ++ left
+
+pub record IsSound (c : Config) (l : Line) : Type 0 where
+  pub management : tei.IsSound l.management
+  pub places : length l.management.places ≡ c.terminals
+  pub count : length l.links ≡ link_count c
+  pub links : (number : ℕ) → number < link_count c → IsSoundAt c number (link_at number l) (tei_at (place_at number) l)
+  pub units : All (IsUnitData c) l.units
+  pub few_units : length l.units ≤ c.unit_queue
+  pub turn : l.turn ≤ link_count c
+  -- no item is longer than the longest frame
+  pub sizes : All (λ item. item_octets item ≤ c.n201 + 4) l.items
+  pub text : IsTextOf l.items l.given

@@ -1,0 +1,123 @@
+//! The sizes and limits of a card.
+
+ghost use Rattle.std.specs.Prelude.{◌≡◌, Some};
+ghost use Rattle.model_line.specs.Config.{first_fault, field_name, is_within};
+
+use std::fmt;
+
+/// How large a card is, and the limits of its lines and links. All memory is taken at the start by these
+/// sizes. The ranges are the profile's.
+#[derive(Clone, Copy, PartialEq, Eq, Debug)]
+pub struct Config {
+    /// Lines: 1 to 64.
+    pub lines: u16,
+    /// TEIs on each line at most: 1 to 8.
+    pub terminals: u16,
+    /// The window of call control links, SAPI 0: how many I-frames may be outstanding, 1 to 127 (Q.921
+    /// clause 5.9.5).
+    pub k: u16,
+    /// The window of packet links, SAPI 16: 1 to 127.
+    pub k16: u16,
+    /// Contents that wait on each link, sent or unsent: the greater of `k` and `k16` to 127.
+    pub queue: u16,
+    /// Unit data that wait on each line: 1 to 16.
+    pub unit_queue: u16,
+    /// Control frames that wait on each link: 2 to 16. One that finds them all waiting is lost.
+    pub control: u16,
+    /// Contents that wait on the whole card: 1 to 8192.
+    pub slots: u16,
+    /// Octets of an information field at most: 8 to 260 (N201, clause 5.9.3).
+    pub n201: u16,
+    /// How often a command is repeated: 0 to 10 (N200, clause 5.9.2).
+    pub n200: u16,
+}
+
+/// A field of [`Config`], in their order.
+#[derive(Clone, Copy, PartialEq, Eq, Debug)]
+pub enum Field {
+    /// [`Config::lines`].
+    Lines,
+    /// [`Config::terminals`].
+    Terminals,
+    /// [`Config::k`].
+    K,
+    /// [`Config::k16`].
+    K16,
+    /// [`Config::queue`].
+    Queue,
+    /// [`Config::unit_queue`].
+    UnitQueue,
+    /// [`Config::control`].
+    Control,
+    /// [`Config::slots`].
+    Slots,
+    /// [`Config::n201`].
+    N201,
+    /// [`Config::n200`].
+    N200,
+}
+
+impl Config {
+    /// The first field that is out of range, in the order of the fields; none where all are in range.
+    pub fn fault(&self) -> Option<Field>
+        ensures { result ≡ first_fault self.now }
+    {
+        if !is_in(self.lines, 1, 64) {
+            return Some(Field::Lines);
+        }
+        if !is_in(self.terminals, 1, 8) {
+            return Some(Field::Terminals);
+        }
+        if !is_in(self.k, 1, 127) {
+            return Some(Field::K);
+        }
+        if !is_in(self.k16, 1, 127) {
+            return Some(Field::K16);
+        }
+        if !is_in(self.queue, self.k.max(self.k16), 127) {
+            return Some(Field::Queue);
+        }
+        if !is_in(self.unit_queue, 1, 16) {
+            return Some(Field::UnitQueue);
+        }
+        if !is_in(self.control, 2, 16) {
+            return Some(Field::Control);
+        }
+        if !is_in(self.slots, 1, 8192) {
+            return Some(Field::Slots);
+        }
+        if !is_in(self.n201, 8, 260) {
+            return Some(Field::N201);
+        }
+        if !is_in(self.n200, 0, 10) {
+            return Some(Field::N200);
+        }
+        None
+    }
+}
+
+fn is_in(value: u16, low: u16, high: u16) -> bool
+    ensures { result ≡ is_within low high value }
+{
+    low <= value && value <= high
+}
+
+/// A field prints as its name in [`Config`].
+impl fmt::Display for Field {
+    ghost output = { λ field. Some (field_name field) };
+
+    fn fmt<W: fmt::Write>(&self, f: &mut fmt::Formatter<W>) -> fmt::Result {
+        f.write_str(match self {
+            Field::Lines => "lines",
+            Field::Terminals => "terminals",
+            Field::K => "k",
+            Field::K16 => "k16",
+            Field::Queue => "queue",
+            Field::UnitQueue => "unit_queue",
+            Field::Control => "control",
+            Field::Slots => "slots",
+            Field::N201 => "n201",
+            Field::N200 => "n200",
+        })
+    }
+}

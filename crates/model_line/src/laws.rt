@@ -1,0 +1,40 @@
+//! What holds of the machine of a line itself. Each law is the contract of a call that does nothing.
+
+ghost use Rattle.model_line.specs.Laws.{AnswersAreShort, DropsChangeNothing, LinesRise, LinesStaySound};
+ghost use Rattle.model_line.specs.Turns.{LinksTakeTurns};
+
+/// A line is sound as it begins, and each event keeps it so: TEI management and the links are, the links of free
+/// places are as they begin, no queue holds more than it may, and the octets given are a beginning of the text of the
+/// items, of which none is longer than the longest frame.
+pub fn lines_stay_sound()
+    ensures { LinesStaySound }
+{}
+
+/// What a line has sent, and may still send without anything else happening, rises by no more than an event's price:
+/// two for a frame that an octet ends, and it ends one at most; one for an accepted request; k + 1 for the expiry of a
+/// running timer; k more for an REJ with a valid N(R), which is a frame of four octets; else 0. A pull that begins a
+/// frame lets what may be sent fall by one or two, and any other leaves it as it is.
+pub fn lines_rise()
+    ensures { LinesRise }
+{}
+
+/// An answer has at most four notes and at most four orders for timers, so a list of four holds each. A line answers
+/// most of both where a TEI leaves it: one of TEI management and one of each of its two links. The answer to a pull has
+/// at most two orders, those of the link whose frame it takes. That to an expiry starts one timer at most, so whoever
+/// applies the orders of what falls due comes to an end.
+pub fn answers_are_short()
+    ensures { AnswersAreShort }
+{}
+
+/// Where the answer to an octet names a cause, whichever, the cause is all that it says, the line is afterwards what it
+/// was but for the octet received, and so what may be sent stays as it is.
+pub fn drops_change_nothing()
+    ensures { DropsChangeNothing }
+{}
+
+/// Links take turns: a frame of a link that a pull takes is that of the first link in the round that has one, and the
+/// next round begins with the link after it. So no link that has something to give is passed over, and one that was
+/// served waits until the round comes back to it.
+pub fn links_take_turns()
+    ensures { LinksTakeTurns }
+{}

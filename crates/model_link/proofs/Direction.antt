@@ -1,0 +1,161 @@
+-- One direction between two ends: what the sender's contents become on the line and at the receiver.
+use Rattle.std.proofs.Common.{length-append, ◌≡◌, ℕ, ◌+◌, ◌%◌, ◌<◌, ◌≤◌, List, [], ◌∷◌, ◌++◌, length, take, Some, refl, sym, drop, ap, subst, ◌∙◌, append_assoc, append-nil, arith}
+use Rattle.std.specs.Prelude.{slice_get}
+use Rattle.std.proofs.lemmas.List.{take-append-le}
+use Rattle.lapd_seq.specs.declared.numbers.Seq.{Seq}
+use Rattle.lapd_seq.specs.Numbers.{seq}
+use Rattle.lapd_seq.proofs.Callers.{seq-value}
+use Rattle.lapd_frame.specs.declared.controls.Control.{Control}
+use Rattle.lapd_frame.specs.declared.controls.Control.TheVariants.{Information, ReceiveReady, ReceiveNotReady, Reject, Sabme, Disc, Ui, Ua, Dm, Frmr, Xid}
+use Rattle.lapd_frame.specs.Grammar.{Parts}
+use Rattle.model_link.specs.declared.frames.ControlFrame.{ControlFrame}
+use Rattle.model_link.specs.declared.terms.Terms.{Terms}
+use Rattle.model_link.specs.Link.{Link, frame_of}
+use Rattle.model_link.specs.TwoEnds.{End}
+use Rattle.model_link.proofs.Lines.{Carries, Piece, Carried, Means, Rising, carried-more, carried-lower, carried-push, rising-lower, rising-push}
+use Rattle.model_link.proofs.Facing.{IsReport, AreReports, Reports}
+
+-- The frames that wait, as they will go.
+abbrev pub frames_of : Terms → List ControlFrame → List Parts
+frames_of t [] = []
+frames_of t (f ∷ fs) = frame_of t f ∷ frames_of t fs
+
+pub frames-append : (t : Terms) (fs gs : List ControlFrame) → frames_of t (fs ++ gs) ≡ frames_of t fs ++ frames_of t gs
+frames-append t [] gs = refl
+frames-append t (f ∷ fs) gs = ap (λ xs. frame_of t f ∷ xs) (frames-append t fs gs)
+
+-- The line from an end: what is on the way, and then what waits.
+abbrev pub line_of : End → List Parts
+line_of n = n.way ++ frames_of n.terms n.link.waiting
+
+-- One direction.
+pub record Direction (sender receiver : End) : Type 0 where
+  pub carried : Carried sender.link.contents (sender.link.a + sender.terms.k) receiver.link.r (line_of sender)
+  pub rising : Rising sender.link.a receiver.link.r (line_of receiver)
+  pub delivered : receiver.delivered ≡ take receiver.link.r sender.link.contents
+  pub accepted : receiver.link.r ≤ length sender.link.contents
+
+-- a report is a piece of any line, and means V(R)
+report-piece : (contents : List (List ℕ)) (high r top n : ℕ) (octets : List ℕ) (control : Control) → IsReport n control → Piece contents high r top octets control
+report-piece contents high r top n octets (Information ns nr p) h = absurd h
+report-piece contents high r top n octets (ReceiveReady nr pf) h = tt
+report-piece contents high r top n octets (ReceiveNotReady nr pf) h = tt
+report-piece contents high r top n octets (Reject nr pf) h = tt
+report-piece contents high r top n octets (Sabme p) h = h
+report-piece contents high r top n octets (Disc p) h = h
+report-piece contents high r top n octets (Ui p) h = h
+report-piece contents high r top n octets (Ua f) h = h
+report-piece contents high r top n octets (Dm f) h = h
+report-piece contents high r top n octets (Frmr f) h = h
+report-piece contents high r top n octets (Xid pf) h = h
+
+report-means : (n : ℕ) (control : Control) → IsReport n control → Means n control
+report-means n (Information ns nr p) h = absurd h
+report-means n (ReceiveReady nr pf) h = h
+report-means n (ReceiveNotReady nr pf) h = h
+report-means n (Reject nr pf) h = h
+report-means n (Sabme p) h = h
+report-means n (Disc p) h = h
+report-means n (Ui p) h = h
+report-means n (Ua f) h = h
+report-means n (Dm f) h = h
+report-means n (Frmr f) h = h
+report-means n (Xid pf) h = h
+
+-- reports go to the end of a line
+pub carried-reports : (t : Terms) (contents : List (List ℕ)) (high r n : ℕ) (fs : List Parts) (news : List ControlFrame) → AreReports n news
+    → Carried contents high r fs → Carried contents high r (fs ++ frames_of t news)
+carried-reports t contents high r n fs [] a h = subst (Carried contents high r) (sym (append-nil fs)) h
+carried-reports t contents high r n fs (f ∷ news) a h =
+    subst (Carried contents high r) (append_assoc fs (frame_of t f ∷ []) (frames_of t news))
+    (carried-reports t contents high r n (fs ++ frame_of t f ∷ []) news a.1 (carried-push contents high r fs (frame_of t f) (λ r' le. report-piece contents high r' high n [] f.control a.0) h))
+
+pub rising-reports : (t : Terms) (a r : ℕ) (fs : List Parts) (news : List ControlFrame) → AreReports r news
+    → Rising a r fs → Rising a r (fs ++ frames_of t news)
+rising-reports t a r fs [] x h = subst (Rising a r) (sym (append-nil fs)) h
+rising-reports t a r fs (f ∷ news) x h =
+    subst (Rising a r) (append_assoc fs (frame_of t f ∷ []) (frames_of t news))
+    (rising-reports t a r (fs ++ frame_of t f ∷ []) news x.1 (rising-push a r fs (frame_of t f) (report-means r f.control x.0) h))
+
+-- what waits after an event is what waited, and reports
+pub line-grows : (t : Terms) (way : List Parts) (before after : List ControlFrame) (r : ℕ) (h : Reports r before after)
+    → way ++ frames_of t after ≡ (way ++ frames_of t before) ++ frames_of t h.news
+line-grows t way before after r h =
+    ap (λ ws. way ++ frames_of t ws) h.more ∙ ap (λ fs. way ++ fs) (frames-append t before h.news) ∙ sym (append_assoc way (frames_of t before) (frames_of t h.news))
+
+-- An N(R) that means m where V(A) is a, and that names n, names m.
+pub named-means : (a s m n : ℕ) (nr : Seq) → nr ≡ seq m → a ≤ m → m ≤ a + 127 → a ≤ n → n ≤ s → s ≤ a + 127 → nr ≡ seq n → n ≡ m
+named-means a s m n nr e low high from to within e' =
+    let one : nr.value ≡ m % 128 = seq-value nr m e in
+    let two : nr.value ≡ n % 128 = seq-value nr n e' in
+    omega arith
+
+-- An I-frame whose N(S) is V(R) carries contents number V(R).
+pub carries-next : (contents : List (List ℕ)) (high r top a k : ℕ) (ns : Seq) (octets : List ℕ) → high ≡ a + k → k ≤ 127 → a ≤ r
+    → Carries contents high r top ns octets → ns ≡ seq r → (slice_get contents r ≡ Some octets) × (r + 1 ≤ top)
+carries-next contents high r top a k ns octets e small low h next =
+    let one : ns.value ≡ h.number % 128 = seq-value ns h.number h.is_seq in
+    let two : ns.value ≡ r % 128 = seq-value ns r next in
+    let near : r ≤ h.number + 127 = h.near in
+    let below : h.number < high = h.below in
+    let same : h.number ≡ r = omega arith in
+    (subst (λ i. slice_get contents i ≡ Some octets) same h.same, subst (λ i. i + 1 ≤ top) same h.next)
+
+-- The sender goes on: more contents may be accepted, and reports may wait.
+pub sender-goes : (n m : End) (l : Link) (more : List (List ℕ)) (r : ℕ) → l.contents ≡ n.link.contents ++ more → l.a ≡ n.link.a
+    → Reports r n.link.waiting l.waiting → Direction n m → Direction (record n { link = l }) m
+sender-goes n m l more r same still reports h =
+    let line = line-grows n.terms n.way n.link.waiting l.waiting r reports in
+    let c1 = carried-more n.link.contents more (n.link.a + n.terms.k) m.link.r (line_of n) h.carried in
+    let c2 = carried-reports n.terms (n.link.contents ++ more) (n.link.a + n.terms.k) m.link.r r (line_of n) reports.news reports.are c1 in
+    record {
+      carried =
+          subst (λ fs. Carried l.contents (l.a + n.terms.k) m.link.r fs) (sym line)
+          (subst (λ cs. Carried cs (l.a + n.terms.k) m.link.r (line_of n ++ frames_of n.terms reports.news)) (sym same)
+          (subst (λ a. Carried (n.link.contents ++ more) (a + n.terms.k) m.link.r (line_of n ++ frames_of n.terms reports.news)) (sym still) c2));
+      rising = subst (λ a. Rising a m.link.r (line_of m)) (sym still) h.rising;
+      delivered = h.delivered ∙ sym (ap (λ cs. take m.link.r cs) same ∙ take-append-le m.link.r n.link.contents more h.accepted);
+      accepted = subst (λ cs. m.link.r ≤ length cs) (sym same) (let size : length (n.link.contents ++ more) ≡ length n.link.contents + length more = length-append n.link.contents more in let here : m.link.r ≤ length n.link.contents = h.accepted in omega arith);
+    }
+
+-- The receiver goes on: it delivers nothing, and reports its V(R).
+pub receiver-goes : (n m : End) (l : Link) → l.r ≡ m.link.r → Reports m.link.r m.link.waiting l.waiting → Direction n m
+    → Direction n (record m { link = l })
+receiver-goes n m l same reports h =
+    let line = line-grows m.terms m.way m.link.waiting l.waiting m.link.r reports in
+    record {
+      carried = subst (λ r. Carried n.link.contents (n.link.a + n.terms.k) r (line_of n)) (sym same) h.carried;
+      rising =
+          subst (λ r. Rising n.link.a r (m.way ++ frames_of m.terms l.waiting)) (sym same)
+          (subst (Rising n.link.a m.link.r) (sym line) (rising-reports m.terms n.link.a m.link.r (line_of m) reports.news reports.are h.rising));
+      delivered = h.delivered ∙ ap (λ r. take r n.link.contents) (sym same);
+      accepted = subst (λ r. r ≤ length n.link.contents) (sym same) h.accepted;
+    }
+
+-- The first frame of a way is lost.
+lost-carried : (contents : List (List ℕ)) (high r : ℕ) (way rest : List Parts) → Carried contents high r (way ++ rest)
+    → Carried contents high r (drop 1 way ++ rest)
+lost-carried contents high r [] rest h = h
+lost-carried contents high r (f ∷ fs) rest (top, up, piece, h) = carried-lower contents high top r (fs ++ rest) up h
+
+lost-rising : (a r : ℕ) (way rest : List Parts) → Rising a r (way ++ rest) → Rising a r (drop 1 way ++ rest)
+lost-rising a r [] rest h = h
+lost-rising a r (f ∷ fs) rest (m, up, means, h) = rising-lower m a r (fs ++ rest) up h
+
+pub sender-loses : (n m : End) → Direction n m → Direction (record n { way = drop 1 n.way }) m
+sender-loses n m h =
+    record {
+      carried = lost-carried n.link.contents (n.link.a + n.terms.k) m.link.r n.way (frames_of n.terms n.link.waiting) h.carried;
+      rising = h.rising;
+      delivered = h.delivered;
+      accepted = h.accepted;
+    }
+
+pub receiver-loses : (n m : End) → Direction n m → Direction n (record m { way = drop 1 m.way })
+receiver-loses n m h =
+    record {
+      carried = h.carried;
+      rising = lost-rising n.link.a m.link.r m.way (frames_of m.terms m.link.waiting) h.rising;
+      delivered = h.delivered;
+      accepted = h.accepted;
+    }

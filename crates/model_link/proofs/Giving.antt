@@ -1,0 +1,63 @@
+-- What an offer gives is a frame.
+use Rattle.std.proofs.Common.{◌≡◌, ℕ, zero, suc, ◌≤◌, Bool, true, false, cond, List, [], ◌∷◌, length, Option, None, Some, refl, subst, arith}
+use Rattle.std.specs.Prelude.{All, IfSome, slice_get}
+use Rattle.std.proofs.lemmas.List.Elements.{All-head, All-tail}
+use Rattle.lapd_seq.specs.Numbers.{seq}
+use Rattle.lapd_frame.specs.declared.controls.Control.TheVariants.{ReceiveReady}
+use Rattle.model_link.specs.declared.frames.ControlFrame.{ControlFrame}
+use Rattle.model_link.specs.declared.terms.Terms.{Terms}
+use Rattle.model_link.specs.Link.{Link}
+use Rattle.model_link.specs.Events
+use Rattle.model_link.specs.Steps.{Sent, Course, begun}
+use Rattle.model_link.specs.Words
+use Rattle.model_link.specs.Offers
+use Rattle.model_link.specs.Machine
+use Rattle.model_link.specs.Sound.{IsInRange, IsSound, IsWaitingFrame, IsGiven}
+use Rattle.model_link.proofs.Waits.{frame_without_information, waits}
+
+-- a control frame goes alone
+alone : (t : Terms) (f : ControlFrame) → IsWaitingFrame t f → IsGiven t f None
+alone t f w = record { head = w.is_frame; octets = w.octets; size = tt; whole = w.is_frame }
+
+-- contents at a place are among the contents
+at-place : (n : ℕ) (contents : List (List ℕ)) (i : ℕ) → All (λ octets. length octets ≤ n) contents → IfSome (slice_get contents i) (λ octets. length octets ≤ n)
+at-place n [] i h = tt
+at-place n (x ∷ xs) zero h = All-head (λ octets. length octets ≤ n) x xs h
+at-place n (x ∷ xs) (suc i) h = at-place n xs i (All-tail (λ octets. length octets ≤ n) x xs h)
+
+module _ (t : Terms) (r : IsInRange t) (l : Link) (h : IsSound t l) where
+  Gives : Option Sent → Type 0
+  Gives o = IfSome o (λ s. IsGiven t s.frame s.contents)
+
+  information : IsGiven t (Offers.next_information l) (Offers.first_unsent l)
+  information =
+      let f = frame_without_information t (Offers.next_information l) r.tei refl refl in
+      record {
+        head = f;
+        octets = omega arith;
+        size = at-place t.n201 l.contents l.s h.sizes;
+        whole = record { sapi = f.sapi; tei = f.tei; kind = refl; size = refl };
+      }
+
+  acknowledgement : IsGiven t (Words.response (ReceiveReady (seq l.r) false)) None
+  acknowledgement = alone t (Words.response (ReceiveReady (seq l.r) false)) (waits t (Words.response (ReceiveReady (seq l.r) false)) r.tei refl refl (omega arith) refl)
+
+  either : (b : Bool) (u v : Course) → Gives u.sent → Gives v.sent → Gives (cond b u v).sent
+  either true u v x y = x
+  either false u v x y = y
+
+  offered : (ws : List ControlFrame) → l.waiting ≡ ws → Gives (Offers.offer_among t ws (begun l)).sent
+  unfolding Gives
+  offered [] e =
+      either (Offers.may_send_information t l) _ _
+      (either (Offers.is_awaiting_acknowledgement (Offers.with_one_sent l)) _ _ information information)
+      (either l.pending _ _ acknowledgement tt)
+  offered (f ∷ fs) e = alone t f (All-head (IsWaitingFrame t) f fs (subst (All (IsWaitingFrame t)) e h.frames))
+
+  from-sent : (c : Course) (o : Option Sent) → Gives o → IfSome (Machine.given_of t l c o) (λ g. IsGiven t g.frame g.contents)
+  unfolding Gives
+  from-sent c None x = tt
+  from-sent c (Some s) x = x
+
+  pub given_is_frame : IfSome (Machine.given t l) (λ g. IsGiven t g.frame g.contents)
+  given_is_frame = from-sent (Machine.course t Events.offer l) (Machine.course t Events.offer l).sent (offered l.waiting refl)

@@ -1,0 +1,257 @@
+-- Two ends: what holds in both directions, as long as both links stay in states 7 and 8.
+use Rattle.std.proofs.Common.{◌≡◌, ℕ, ◌+◌, Bool, true, false, cond, IsTrue, List, [], ◌∷◌, ◌++◌, take, drop, Option, None, Some, refl, sym, ap, subst, ◌∙◌, append-nil, true≢false, arith}
+use Rattle.std.specs.Prelude.{option_to_list}
+use Rattle.lapd_frame.specs.declared.refusals.Refusal.{Refusal}
+use Rattle.lapd_frame.specs.Grammar.{Parts}
+use Rattle.model_link.specs.declared.states.State.{State}
+use Rattle.model_link.specs.declared.states.State.TheVariants.{TeiAssigned, AwaitingEstablishment, AwaitingRelease, Established, TimerRecovery}
+use Rattle.model_link.specs.declared.timers.LinkTimer.{LinkTimer}
+use Rattle.model_link.specs.declared.timers.LinkTimer.TheVariants.{T200, T203}
+use Rattle.model_link.specs.declared.terms.Terms.{Terms}
+use Rattle.model_link.specs.Link.{Link, is_multiple_frame}
+use Rattle.model_link.specs.Events.{frame, Request, Establish, Release, Data, SetBusy, ClearBusy, Event, received, expired, requested, offer}
+use Rattle.model_link.specs.Steps.{Course, begun}
+use Rattle.model_link.specs.Requests
+use Rattle.model_link.specs.Machine
+use Rattle.model_link.specs.Sound.{IsInRange, IsSound}
+use Rattle.model_link.specs.TwoEnds.{End, Ends, Act, asks, expires, sends, receives, loses, Doing, at_near, at_far, with_link, with_sent, with_first_lost, with_first_of, acting, turned, doing, doing_all, Begins, IsUp, StayUp, Agree}
+use Rattle.model_link.proofs.SoundEvents.{sound-after}
+use Rattle.model_link.proofs.Delivering.{event-delivers}
+use Rattle.model_link.proofs.Lines.{Carried, Rising, rising-low}
+use Rattle.model_link.proofs.Facing.{Reports, no-reports, Up, still, any_number, timer_7_up, t200_8_up, set_busy_up, clear_busy_up}
+use Rattle.model_link.proofs.FacingInformation.{at-first}
+use Rattle.model_link.proofs.Direction.{Direction, frames_of, line_of, sender-goes, receiver-goes, sender-loses, receiver-loses}
+use Rattle.model_link.proofs.Taking.{frame-taken, none-delivered}
+use Rattle.model_link.proofs.Hearing.{sender-hears, receiver-hears}
+use Rattle.model_link.proofs.Sending.{offer-gave, sender-gives, receiver-gives}
+
+-- A link goes on by itself: more contents may be accepted, and reports may wait.
+record Goes (l l' : Link) : Type 0 where
+  more : List (List ℕ)
+  same : l'.contents ≡ l.contents ++ more
+  still : l'.a ≡ l.a
+  received : l'.r ≡ l.r
+  reports : Reports l.r l.waiting l'.waiting
+
+abbrev IsUpIn : Course → Type 0
+IsUpIn c = IsTrue (is_multiple_frame c.link.state)
+
+abbrev Went : Link → Course → Type 0
+Went l c = Goes l c.link
+
+module _ (t : Terms) (l : Link) where
+  stays : Goes l l
+  stays = record { more = []; same = sym (append-nil l.contents); still = refl; received = refl; reports = no-reports l.r l.waiting }
+
+  by-up : (c : Course) → Up l l.a l.r c → IsUpIn c → Goes l c.link
+  by-up c h up =
+      let stay = h.stay up in
+      record { more = []; same = stay.same ∙ sym (append-nil l.contents); still = stay.acknowledged; received = stay.received; reports = stay.reports }
+
+  either : (b : Bool) (u v : Course) → (IsUpIn u → Goes l u.link) → (IsUpIn v → Goes l v.link) → IsUpIn (cond b u v) → Goes l (cond b u v).link
+  either true u v x y up = x up
+  either false u v x y up = y up
+
+  -- requests
+  release-leads_out : (here : State) → IsTrue (is_multiple_frame here) → IsUpIn (Requests.release_in here t (begun l)) → ⊥
+  release-leads_out TeiAssigned before up = true≢false (sym before)
+  release-leads_out AwaitingEstablishment before up = true≢false (sym before)
+  release-leads_out AwaitingRelease before up = true≢false (sym before)
+  release-leads_out Established before up = true≢false (sym up)
+  release-leads_out TimerRecovery before up = true≢false (sym up)
+
+  granted-goes : IsTrue (is_multiple_frame l.state) → (request : Request) → IsUpIn (Requests.granted t request (begun l))
+      → Goes l (Requests.granted t request (begun l)).link
+  granted-goes before Establish up = absurd (true≢false (sym up))
+  granted-goes before Release up = absurd (release-leads_out l.state before up)
+  granted-goes before (Data octets) up = record { more = octets ∷ []; same = refl; still = refl; received = refl; reports = no-reports l.r l.waiting }
+  granted-goes before SetBusy up = by-up _ ((set_busy_up t l {S = still l.s}).leads (begun l) (at-first t l)) up
+  granted-goes before ClearBusy up = by-up _ ((clear_busy_up t l {S = still l.s}).leads (begun l) (at-first t l)) up
+
+  request-goes : IsTrue (is_multiple_frame l.state) → (request : Request) (o : Option Refusal)
+      → IsUpIn (elim o [ None ↦ Requests.granted t request (begun l) | Some _ ↦ begun l ])
+      → Went l (elim o [ None ↦ Requests.granted t request (begun l) | Some _ ↦ begun l ])
+  request-goes before request None up = granted-goes before request up
+  request-goes before request (Some w) up = stays
+
+  -- timers
+  expired-goes : (here : State) → IsTrue (is_multiple_frame here) → (timer : LinkTimer) → IsUpIn (Machine.expired_in here timer t (begun l))
+      → Goes l (Machine.expired_in here timer t (begun l)).link
+  expired-goes TeiAssigned before timer up = absurd (true≢false (sym before))
+  expired-goes AwaitingEstablishment before timer up = absurd (true≢false (sym before))
+  expired-goes AwaitingRelease before timer up = absurd (true≢false (sym before))
+  expired-goes Established before timer up = by-up _ ((timer_7_up t l {S = still l.s}).leads (begun l) (at-first t l)) up
+  expired-goes TimerRecovery before T200 up = by-up _ ((t200_8_up t l {S = still l.s}).leads (begun l) (at-first t l)) up
+  expired-goes TimerRecovery before T203 up = stays
+
+  timer-goes : IsTrue (is_multiple_frame l.state) → (timer : LinkTimer) → IsUpIn (Machine.course t (expired timer) l) → Goes l (Machine.after t (expired timer) l)
+  timer-goes before timer up = either (Machine.is_running timer l) _ _ (λ u. expired-goes l.state before timer u) (λ u. stays) up
+
+-- What holds of both ends.
+pub record Joined (n m : End) : Type 0 where
+  pub near_ranges : IsInRange n.terms
+  pub far_ranges : IsInRange m.terms
+  pub near_sound : IsSound n.terms n.link
+  pub far_sound : IsSound m.terms m.link
+  pub near_up : IsTrue (is_multiple_frame n.link.state)
+  pub far_up : IsTrue (is_multiple_frame m.link.state)
+  pub there : Direction n m
+  pub back : Direction m n
+
+pub joined-turned : (n m : End) → Joined n m → Joined m n
+joined-turned n m h =
+    record {
+      near_ranges = h.far_ranges;
+      far_ranges = h.near_ranges;
+      near_sound = h.far_sound;
+      far_sound = h.near_sound;
+      near_up = h.far_up;
+      far_up = h.near_up;
+      there = h.back;
+      back = h.there;
+    }
+
+-- what a sender has delivered doesn't matter, and what a receiver has is the same
+sender-told : (n m : End) (ds : List (List ℕ)) → Direction n m → Direction (record n { delivered = ds }) m
+sender-told n m ds h = record { carried = h.carried; rising = h.rising; delivered = h.delivered; accepted = h.accepted }
+
+receiver-told : (n m : End) (ds : List (List ℕ)) → ds ≡ m.delivered → Direction n m → Direction n (record m { delivered = ds })
+receiver-told n m ds e h = record { carried = h.carried; rising = h.rising; delivered = e ∙ h.delivered; accepted = h.accepted }
+
+module _ (n m : End) (h : Joined n m) where
+  -- an event of the link alone, which delivers nothing
+  goes : (e : Event) → (Machine.course n.terms e n.link).delivered ≡ None → Goes n.link (Machine.after n.terms e n.link)
+      → IsTrue (is_multiple_frame (with_link e n).link.state) → Joined (with_link e n) m
+  goes e none g up =
+      let l = Machine.after n.terms e n.link in
+      let ds = n.delivered ++ option_to_list (Machine.told n.terms e n.link).delivered in
+      record {
+        near_ranges = h.near_ranges;
+        far_ranges = h.far_ranges;
+        near_sound = sound-after n.terms h.near_ranges e n.link h.near_sound;
+        far_sound = h.far_sound;
+        near_up = up;
+        far_up = h.far_up;
+        there = sender-told (record n { link = l }) m ds (sender-goes n m l g.more n.link.r g.same g.still g.reports h.there);
+        back =
+            receiver-told m (record n { link = l }) ds (ap (λ o. n.delivered ++ option_to_list o) none ∙ append-nil n.delivered)
+            (receiver-goes m n l g.received g.reports h.back);
+      }
+
+  gives : IsTrue (is_multiple_frame (with_sent n).link.state) → Joined (with_sent n) m
+  gives up =
+      let gave = offer-gave n.terms h.near_ranges n.link h.near_sound n.link.waiting refl in
+      record {
+        near_ranges = h.near_ranges;
+        far_ranges = h.far_ranges;
+        near_sound = sound-after n.terms h.near_ranges offer n.link h.near_sound;
+        far_sound = h.far_sound;
+        near_up = up;
+        far_up = h.far_up;
+        there = sender-gives n m (Machine.course n.terms offer n.link) gave h.there;
+        back = receiver-gives n m (Machine.course n.terms offer n.link) gave h.back;
+      }
+
+  hears : (f : Parts) (fs : List Parts) → m.way ≡ f ∷ fs → IsTrue (is_multiple_frame (with_link (received (frame f)) n).link.state)
+      → Joined (with_link (received (frame f)) n) (record m { way = fs })
+  hears f fs first up =
+      let c = Machine.course n.terms (received (frame f)) n.link in
+      let ds = n.delivered ++ option_to_list c.delivered in
+      let rising : Rising n.link.a m.link.r (f ∷ fs ++ frames_of m.terms m.link.waiting) = subst (λ way. Rising n.link.a m.link.r (way ++ frames_of m.terms m.link.waiting)) first h.there.rising in
+      let this = frame-taken n.terms n.link h.near_up f.address.command f.info rising.0 f.control rising.2 in
+      let stay = (this.took.by.stay up).2 in
+      record {
+        near_ranges = h.near_ranges;
+        far_ranges = h.far_ranges;
+        near_sound = sound-after n.terms h.near_ranges (received (frame f)) n.link h.near_sound;
+        far_sound = h.far_sound;
+        near_up = up;
+        far_up = h.far_up;
+        there =
+            sender-hears n m f fs c.link ds any_number h.near_ranges h.near_sound first
+            (λ p means.
+            let other = frame-taken n.terms n.link h.near_up f.address.command f.info p f.control means in
+            let by = other.took.by.stay up in
+            (other.r, by.0, by.1, by.2))
+            h.there;
+        back =
+            receiver-hears n m f fs c.link ds this.r this.delivered h.far_ranges first this.advance stay.received stay.reports
+            (ap (λ o. n.delivered ++ option_to_list o) (this.took.delivered up)) h.back;
+      }
+
+  first-of : (way : List Parts) → m.way ≡ way → IsTrue (is_multiple_frame (with_first_of way n).link.state) → Joined (with_first_of way n) (record m { way = drop 1 way })
+  first-of [] e up = subst (λ way. Joined n (record m { way = way })) e h
+  first-of (f ∷ fs) e up = hears f fs e up
+
+  loses-first : Joined (with_first_lost n) m
+  loses-first =
+      record {
+        near_ranges = h.near_ranges;
+        far_ranges = h.far_ranges;
+        near_sound = h.near_sound;
+        far_sound = h.far_sound;
+        near_up = h.near_up;
+        far_up = h.far_up;
+        there = sender-loses n m h.there;
+        back = receiver-loses m n h.back;
+      }
+
+  acted : (act : Act) → IsUp (acting act (record { near = n; far = m })) → Joined (acting act (record { near = n; far = m })).near (acting act (record { near = n; far = m })).far
+  acted (asks request full) up =
+      goes (requested request full) (none-delivered n.terms n.link (Machine.course n.terms (requested request full) n.link) (event-delivers n.terms n.link (requested request full)))
+      (request-goes n.terms n.link h.near_up request (Requests.refusal n.terms n.link full request) up.0) up.0
+  acted (expires timer) up =
+      goes (expired timer) (none-delivered n.terms n.link (Machine.course n.terms (expired timer) n.link) (event-delivers n.terms n.link (expired timer)))
+      (timer-goes n.terms n.link h.near_up timer up.0) up.0
+  acted sends up = gives up.0
+  acted receives up = first-of m.way refl up.0
+  acted loses up = loses-first
+
+-- either side
+pub done-at : (d : Doing) (e : Ends) → IsUp (doing d e) → Joined e.near e.far → Joined (doing d e).near (doing d e).far
+done-at (at_near act) e up h = acted e.near e.far h act up
+done-at (at_far act) e up h =
+    joined-turned (acting act (turned e)).near (acting act (turned e)).far (acted e.far e.near (joined-turned e.near e.far h) act (up.1, up.0))
+
+all-done : (ds : List Doing) (e : Ends) → StayUp ds e → Joined e.near e.far → Joined (doing_all ds e).near (doing_all ds e).far
+unfolding doing_all StayUp
+all-done [] e up h = h
+all-done (d ∷ ds) e up h = all-done ds (doing d e) up.1 (done-at d e up.0 h)
+
+-- the start
+no-line : (n : End) → Begins n → line_of n ≡ []
+no-line n b = ap (λ way. way ++ frames_of n.terms n.link.waiting) b.way ∙ ap (λ ws. frames_of n.terms ws) b.waiting
+
+begins-direction : (n m : End) → Begins n → Begins m → Direction n m
+begins-direction n m b c =
+    let zero_a : n.link.a ≡ 0 = b.a in
+    let zero_r : m.link.r ≡ 0 = c.r in
+    record {
+      carried = subst (Carried n.link.contents (n.link.a + n.terms.k) m.link.r) (sym (no-line n b)) (omega arith);
+      rising = subst (Rising n.link.a m.link.r) (sym (no-line m c)) (omega arith);
+      delivered = c.delivered ∙ ap (λ r. take r n.link.contents) (sym zero_r);
+      accepted = omega arith;
+    }
+
+pub joined-first : (n m : End) → Begins n → Begins m → Joined n m
+joined-first n m b c =
+    record {
+      near_ranges = b.ranges;
+      far_ranges = c.ranges;
+      near_sound = b.sound;
+      far_sound = c.sound;
+      near_up = ap is_multiple_frame b.state;
+      far_up = ap is_multiple_frame c.state;
+      there = begins-direction n m b c;
+      back = begins-direction m n c b;
+    }
+
+-- in the words of the law
+agree : (n m : End) → Direction m n → Agree n m
+agree n m h = record { delivered = h.delivered; accepted = h.accepted; acknowledged = rising-low m.link.a n.link.r (line_of n) h.rising }
+
+pub ends-agree : (ds : List Doing) (e : Ends) → Begins e.near → Begins e.far → StayUp ds e
+    → Agree (doing_all ds e).near (doing_all ds e).far × Agree (doing_all ds e).far (doing_all ds e).near
+ends-agree ds e b c up =
+    let h = all-done ds e up (joined-first e.near e.far b c) in
+    (agree (doing_all ds e).near (doing_all ds e).far h.back, agree (doing_all ds e).far (doing_all ds e).near h.there)

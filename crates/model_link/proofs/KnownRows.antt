@@ -1,0 +1,189 @@
+-- What layer 3 is told is what becomes of the link: the rows by state, and every event.
+use Rattle.std.proofs.Common.{◌≡◌, ℕ, Bool, true, false, List, [], ◌∷◌, Option, Some, None, refl, sym, subst, ◌∙◌, cond}
+use Rattle.lapd_seq.specs.declared.numbers.Seq.{Seq}
+use Rattle.lapd_frame.specs.declared.controls.Control.{Control}
+use Rattle.lapd_frame.specs.declared.controls.Control.TheVariants.{Information, ReceiveReady, ReceiveNotReady, Reject, Sabme, Disc, Ui, Ua, Dm, Frmr, Xid}
+use Rattle.lapd_frame.specs.declared.notes.ErrorCode.{ErrorCode}
+use Rattle.lapd_frame.specs.declared.notes.ErrorCode.TheVariants as code
+use Rattle.lapd_frame.specs.declared.refusals.Refusal.{Refusal}
+use Rattle.lapd_frame.specs.declared.refusals.Refusal.TheVariants.{WrongState}
+use Rattle.model_link.specs.declared.states.State.{State}
+use Rattle.model_link.specs.declared.states.State.TheVariants.{TeiAssigned, AwaitingEstablishment, AwaitingRelease, Established, TimerRecovery}
+use Rattle.model_link.specs.declared.timers.LinkTimer.{LinkTimer}
+use Rattle.model_link.specs.declared.timers.LinkTimer.TheVariants.{T200, T203}
+use Rattle.model_link.specs.declared.frames.ControlFrame.{ControlFrame}
+use Rattle.model_link.specs.declared.terms.Terms.{Terms}
+use Rattle.model_link.specs.Link.{Link}
+use Rattle.model_link.specs.Events
+use Rattle.model_link.specs.Steps.{Course, begun}
+use Rattle.model_link.specs.TeiAssigned.{frame_in_4, establish_in_4}
+use Rattle.model_link.specs.AwaitingEstablishment.{frame_in_5}
+use Rattle.model_link.specs.AwaitingRelease.{frame_in_6}
+use Rattle.model_link.specs.MultipleFrame
+use Rattle.model_link.specs.Established
+use Rattle.model_link.specs.TimerRecovery
+use Rattle.model_link.specs.Requests
+use Rattle.model_link.specs.Offers
+use Rattle.model_link.specs.Machine
+use Rattle.model_link.proofs.Leads.{Leads, then_leads, keeping_then, nothing_leads, depending_leads, bit_leads}
+use Rattle.model_link.specs.Known.{known, is_up_in, is_up}
+use Rattle.model_link.proofs.Knowing.{up_by, is-up-by, At, Ends, at_ends, acknowledge_knows, transfer_knows, confirms_in_4, established_up, zero_enters, words, ends, failed_7, failed_8, number_7, number_8}
+
+ruleset rows = (number_7, number_8, failed_7, failed_8, ends)
+
+module _ (up : Bool) (t : Terms) where
+  frames_in_4 : (octets : List ℕ) (control : Control) → Leads (At up TeiAssigned) (frame_in_4 t octets control) (Ends up)
+  frames_in_4 octets (Ua true) = search rows depth 12 fits 4000
+  frames_in_4 octets (Ua false) = search rows depth 12 fits 4000
+  frames_in_4 octets other = search rows depth 12 fits 4000
+
+  frames_in_5 : (octets : List ℕ) (control : Control) → Leads (At up AwaitingEstablishment) (frame_in_5 t octets control) (Ends up)
+  frames_in_5 octets (Ua true) = then_leads (established_up up t) (zero_enters up)
+  frames_in_5 octets (Ua false) = search rows depth 12 fits 4000
+  frames_in_5 octets (Dm true) = search rows depth 12 fits 4000
+  frames_in_5 octets (Dm false) = search rows depth 12 fits 4000
+  frames_in_5 octets other = search rows depth 12 fits 4000
+
+  frames_in_6 : (octets : List ℕ) (control : Control) → Leads (At up AwaitingRelease) (frame_in_6 t octets control) (Ends up)
+  frames_in_6 octets (Ua true) = search rows depth 12 fits 4000
+  frames_in_6 octets (Ua false) = search rows depth 12 fits 4000
+  frames_in_6 octets (Dm true) = search rows depth 12 fits 4000
+  frames_in_6 octets (Dm false) = search rows depth 12 fits 4000
+  frames_in_6 octets other = search rows depth 12 fits 4000
+
+  contents_7 : (ns : Seq) (p : Bool) (octets : List ℕ) → Leads (At up Established) (MultipleFrame.contents_in_7_8 t ns p octets) (At up Established)
+  contents_7 ns p octets = search words depth 12 fits 4000
+
+  contents_8 : (ns : Seq) (p : Bool) (octets : List ℕ) → Leads (At up TimerRecovery) (MultipleFrame.contents_in_7_8 t ns p octets) (At up TimerRecovery)
+  contents_8 ns p octets = search words depth 12 fits 4000
+
+  information_7 : (m : ℕ) → Leads (At up Established) (Established.acknowledged_by_information_in_7 m) (At up Established)
+  information_7 m = search words depth 12 fits 4000
+
+  frames_in_7 : (b : Bool) (octets : List ℕ) (control : Control) → Leads (At up Established) (Established.frame_in_7 t b octets control) (Ends up)
+  frames_in_7 b octets (Information ns nr p) =
+      bit_leads _ (failed_7 up t code.O) (keeping_then (contents_7 ns p octets) (number_7 up t nr _ (λ m. at_ends up (information_7 m))))
+  frames_in_7 b octets (ReceiveReady nr pf) = search rows depth 12 fits 4000
+  frames_in_7 b octets (ReceiveNotReady nr pf) = search rows depth 12 fits 4000
+  frames_in_7 b octets (Reject nr pf) = search rows depth 12 fits 4000
+  frames_in_7 b octets (Sabme p) = search rows depth 12 fits 4000
+  frames_in_7 b octets (Disc p) = search rows depth 12 fits 4000
+  frames_in_7 b octets (Ua f) = search rows depth 12 fits 4000
+  frames_in_7 b octets (Dm true) = search rows depth 12 fits 4000
+  frames_in_7 b octets (Dm false) = search rows depth 12 fits 4000
+  frames_in_7 b octets (Frmr f) = search rows depth 12 fits 4000
+  frames_in_7 b octets (Ui p) = search rows depth 12 fits 4000
+  frames_in_7 b octets (Xid pf) = search rows depth 12 fits 4000
+
+  frames_in_8 : (b : Bool) (octets : List ℕ) (control : Control) → Leads (At up TimerRecovery) (TimerRecovery.frame_in_8 t b octets control) (Ends up)
+  frames_in_8 b octets (Information ns nr p) =
+      bit_leads _ (failed_8 up t code.O) (keeping_then (contents_8 ns p octets) (number_8 up t nr _ (λ m. at_ends up (acknowledge_knows up TimerRecovery m))))
+  frames_in_8 b octets (ReceiveReady nr pf) = search rows depth 12 fits 4000
+  frames_in_8 b octets (ReceiveNotReady nr pf) = search rows depth 12 fits 4000
+  frames_in_8 b octets (Reject nr pf) = search rows depth 12 fits 4000
+  frames_in_8 b octets (Sabme p) = search rows depth 12 fits 4000
+  frames_in_8 b octets (Disc p) = search rows depth 12 fits 4000
+  frames_in_8 b octets (Ua f) = search rows depth 12 fits 4000
+  frames_in_8 b octets (Dm true) = search rows depth 12 fits 4000
+  frames_in_8 b octets (Dm false) = search rows depth 12 fits 4000
+  frames_in_8 b octets (Frmr f) = search rows depth 12 fits 4000
+  frames_in_8 b octets (Ui p) = search rows depth 12 fits 4000
+  frames_in_8 b octets (Xid pf) = search rows depth 12 fits 4000
+
+  expired_knows : (here : State) (timer : LinkTimer) → Leads (At up here) (Machine.expired_in here timer t) (Ends up)
+  expired_knows TeiAssigned timer = search rows depth 12 fits 4000
+  expired_knows AwaitingEstablishment T200 = search rows depth 12 fits 4000
+  expired_knows AwaitingEstablishment T203 = search rows depth 12 fits 4000
+  expired_knows AwaitingRelease T200 = search rows depth 12 fits 4000
+  expired_knows AwaitingRelease T203 = search rows depth 12 fits 4000
+  expired_knows Established timer = search rows depth 12 fits 4000
+  expired_knows TimerRecovery T200 = search rows depth 12 fits 4000
+  expired_knows TimerRecovery T203 = search rows depth 12 fits 4000
+
+  malformed_knows : (here : State) (e : ErrorCode) → Leads (At up here) (Machine.malformed_in here t e) (Ends up)
+  malformed_knows TeiAssigned e = search rows depth 12 fits 4000
+  malformed_knows AwaitingEstablishment e = search rows depth 12 fits 4000
+  malformed_knows AwaitingRelease e = search rows depth 12 fits 4000
+  malformed_knows Established e = failed_7 up t e
+  malformed_knows TimerRecovery e = failed_8 up t e
+
+  release_knows : (here : State) → Leads (At up here) (Requests.release_in here t) (Ends up)
+  release_knows TeiAssigned = at_ends up (confirms_in_4 up t)
+  release_knows AwaitingEstablishment = search rows depth 12 fits 4000
+  release_knows AwaitingRelease = search rows depth 12 fits 4000
+  release_knows Established = search rows depth 12 fits 4000
+  release_knows TimerRecovery = search rows depth 12 fits 4000
+
+  establish_knows : Leads (At up TeiAssigned) (establish_in_4 t) (Ends up)
+  establish_knows = search rows depth 12 fits 4000
+
+  set_busy_knows : (here : State) → Leads (At up here) (MultipleFrame.set_busy_in_7_8 t) (Ends up)
+  set_busy_knows here = search rows depth 12 fits 4000
+
+  clear_busy_knows : (here : State) → Leads (At up here) (MultipleFrame.clear_busy_in_7_8 t) (Ends up)
+  clear_busy_knows here = search rows depth 12 fits 4000
+
+  frame_knows : (here : State) (b : Bool) (octets : List ℕ) (control : Control) → Leads (At up here) (Machine.frame_in here t b octets control) (Ends up)
+  frame_knows TeiAssigned b octets control = frames_in_4 octets control
+  frame_knows AwaitingEstablishment b octets control = frames_in_5 octets control
+  frame_knows AwaitingRelease b octets control = frames_in_6 octets control
+  frame_knows Established b octets control = frames_in_7 b octets control
+  frame_knows TimerRecovery b octets control = frames_in_8 b octets control
+
+  offers_know : (here : State) (ws : List ControlFrame) → Leads (At up here) (Offers.offer_among t ws) (Ends up)
+  offers_know here [] = search rows depth 12 fits 4000
+  offers_know here (f ∷ fs) = search rows depth 12 fits 4000
+
+-- the TEI leaves the line
+cleared-knows : (t : Terms) (here : State) (l : Link) → known (is_up_in here l) (Machine.told_of_clearing here t (begun l)).notes ≡ false
+cleared-knows t TeiAssigned l = refl
+cleared-knows t AwaitingEstablishment l = refl
+cleared-knows t AwaitingRelease l = refl
+cleared-knows t Established l = refl
+cleared-knows t TimerRecovery l = refl
+
+-- an establishment is granted in state 4 alone
+granted-in-4 : (here : State) → cond (Requests.is_down here) None (Some WrongState) ≡ None → here ≡ TeiAssigned
+granted-in-4 TeiAssigned e = refl
+granted-in-4 AwaitingEstablishment e = cc
+granted-in-4 AwaitingRelease e = cc
+granted-in-4 Established e = cc
+granted-in-4 TimerRecovery e = cc
+
+module _ (t : Terms) (l : Link) where
+  here : At (is_up l) l.state (begun l)
+  here = record { state_is = refl; known_is = is-up-by l.state l }
+
+  unchanged : Ends (is_up l) (begun l)
+  unchanged = record { known_is = is-up-by l.state l }
+
+  frames : (b : Bool) (octets : List ℕ) (control : Control) → Ends (is_up l) (Machine.frame_step t b octets control (begun l))
+  frames b octets control = (frame_knows (is_up l) t l.state b octets control).leads (begun l) here
+
+  establishes : l.state ≡ TeiAssigned → Ends (is_up l) (establish_in_4 t (begun l))
+  establishes at = (establish_knows (is_up l) t).leads (begun l) (record { state_is = at; known_is = subst (λ x. is_up l ≡ up_by x l.asked) at (is-up-by l.state l) })
+
+  granted : (request : Events.Request) (full : Bool) → Requests.refusal t l full request ≡ None → Ends (is_up l) (Requests.granted t request (begun l))
+  granted Events.Establish full e = establishes (granted-in-4 l.state e)
+  granted Events.Release full e = (release_knows (is_up l) t l.state).leads (begun l) here
+  granted (Events.Data octets) full e = (at_ends (is_up l) (transfer_knows (is_up l) l.state octets)).leads (begun l) here
+  granted Events.SetBusy full e = (set_busy_knows (is_up l) t l.state).leads (begun l) here
+  granted Events.ClearBusy full e = (clear_busy_knows (is_up l) t l.state).leads (begun l) here
+
+  requests : (request : Events.Request) (full : Bool) (o : Option Refusal) → Requests.refusal t l full request ≡ o
+      → Ends (is_up l) (elim o as (λ o. Course) [ None ↦ Requests.granted t request (begun l) | Some _ ↦ begun l ])
+  requests request full None e = granted request full e
+  requests request full (Some w) e = unchanged
+
+  event-knows : (e : Events.Event) → Ends (is_up l) (Machine.course t e l)
+  event-knows (Events.received (Events.frame f)) = frames f.address.command f.info f.control
+  event-knows (Events.received Events.undefined) = (malformed_knows (is_up l) t l.state code.L).leads (begun l) here
+  event-knows (Events.received Events.wrong_size) = (malformed_knows (is_up l) t l.state code.N).leads (begun l) here
+  event-knows (Events.received Events.overlong) = (malformed_knows (is_up l) t l.state code.O).leads (begun l) here
+  event-knows (Events.expired timer) = (depending_leads (Machine.is_running timer) (expired_knows (is_up l) t l.state timer) (at_ends (is_up l) nothing_leads)).leads (begun l) here
+  event-knows (Events.requested request full) = requests request full (Requests.refusal t l full request) refl
+  event-knows Events.offer = (offers_know (is_up l) t l.state l.waiting).leads (begun l) here
+  event-knows Events.cleared = record { known_is = cleared-knows t l.state l }
+
+pub layer_3_knows : (t : Terms) (e : Events.Event) (l : Link) → known (is_up l) (Machine.told t e l).notes ≡ is_up (Machine.after t e l)
+layer_3_knows t e l = (event-knows t l e).known_is ∙ sym (is-up-by (Machine.after t e l).state (Machine.after t e l))

@@ -1,0 +1,156 @@
+-- One direction between two ends, where an end gives a frame to its way.
+use Rattle.std.proofs.Common.{◌≡◌, ℕ, ◌+◌, ◌-◌, ◌<◌, ◌≤◌, Bool, true, false, cond, not, ◌&&◌, List, [], ◌∷◌, ◌++◌, length, take, Option, None, Some, refl, sym, ap, subst, ◌∙◌, append_assoc, append-nil, arith}
+use Rattle.std.specs.Prelude.{slice_get, get_or, unwrap_or, nat_lt}
+use Rattle.std.proofs.lemmas.Bool.{ltb-true, and_parts}
+use Rattle.std.proofs.lemmas.Option.{slice_get-get_or}
+use Rattle.lapd_seq.specs.Numbers.{seq}
+use Rattle.lapd_frame.specs.declared.controls.Control.TheVariants.{ReceiveReady}
+use Rattle.lapd_frame.specs.Grammar.{Parts}
+use Rattle.model_link.specs.declared.frames.ControlFrame.{ControlFrame}
+use Rattle.model_link.specs.declared.terms.Terms.{Terms}
+use Rattle.model_link.specs.Link.{Link, frame_of}
+use Rattle.model_link.specs.Steps.{Course, begun}
+use Rattle.model_link.specs.Words
+use Rattle.model_link.specs.Offers
+use Rattle.model_link.specs.Machine.{given_of}
+use Rattle.model_link.specs.Sound.{IsInRange, IsSound}
+use Rattle.model_link.specs.TwoEnds.{End, frame_given}
+use Rattle.model_link.proofs.Lines.{Carries, Carried, Rising, carried-push, rising-push}
+use Rattle.model_link.proofs.Direction.{Direction, frames_of}
+
+-- A link keeps its contents, V(A) and V(R); its line has these frames more.
+pub record Gave (t : Terms) (l : Link) (c : Course) : Type 0 where
+  pub same : c.link.contents ≡ l.contents
+  pub acknowledged : c.link.a ≡ l.a
+  pub received : c.link.r ≡ l.r
+  pub news : List Parts
+  pub line : (way : List Parts) → (way ++ frame_given t (given_of t l c c.sent)) ++ frames_of t c.link.waiting ≡ (way ++ frames_of t l.waiting) ++ news
+  pub carried : (r : ℕ) (fs : List Parts) → Carried l.contents (l.a + t.k) r fs → Carried l.contents (l.a + t.k) r (fs ++ news)
+  pub rising : (a : ℕ) (fs : List Parts) → Rising a l.r fs → Rising a l.r (fs ++ news)
+
+-- what goes alone goes to the end of the line
+at-end : (t : Terms) (way : List Parts) (f : Parts) (ws : List ControlFrame) → ws ≡ [] → (way ++ f ∷ []) ++ frames_of t ws ≡ (way ++ frames_of t ws) ++ f ∷ []
+at-end t way f [] e = append-nil (way ++ f ∷ []) ∙ sym (ap (λ xs. xs ++ f ∷ []) (append-nil way))
+at-end t way f (w ∷ ws) e = absurd (cc)
+
+unwrapped : (o : Option (List ℕ)) (x : List ℕ) → o ≡ Some x → o ≡ Some (unwrap_or o [])
+unwrapped None x e = absurd (cc)
+unwrapped (Some y) x e = refl
+
+module _ (t : Terms) (ranges : IsInRange t) (l : Link) (sound : IsSound t l) where
+  -- a frame that waited
+  waited : (f : ControlFrame) (fs : List ControlFrame) → l.waiting ≡ f ∷ fs → Gave t l (Offers.give_waiting f fs (begun l))
+  waited f fs e =
+      record {
+        same = refl;
+        acknowledged = refl;
+        received = refl;
+        news = [];
+        line = λ way. append_assoc way (frame_of t f ∷ []) (frames_of t fs) ∙ ap (λ ws. way ++ frames_of t ws) (sym e) ∙ sym (append-nil (way ++ frames_of t l.waiting));
+        carried = λ r gs h. subst (Carried l.contents (l.a + t.k) r) (sym (append-nil gs)) h;
+        rising = λ a gs h. subst (Rising a l.r) (sym (append-nil gs)) h;
+      }
+
+  -- nothing
+  idle : Gave t l (begun l)
+  idle =
+      record {
+        same = refl;
+        acknowledged = refl;
+        received = refl;
+        news = [];
+        line = λ way. ap (λ xs. xs ++ frames_of t l.waiting) (append-nil way) ∙ sym (append-nil (way ++ frames_of t l.waiting));
+        carried = λ r gs h. subst (Carried l.contents (l.a + t.k) r) (sym (append-nil gs)) h;
+        rising = λ a gs h. subst (Rising a l.r) (sym (append-nil gs)) h;
+      }
+
+  -- an acknowledgement
+  acknowledgement : l.waiting ≡ [] → Gave t l (Offers.send_acknowledgement (begun l))
+  acknowledgement e =
+      record {
+        same = refl;
+        acknowledged = refl;
+        received = refl;
+        news = frame_of t (Words.response (ReceiveReady (seq l.r) false)) ∷ [];
+        line = λ way. at-end t way (frame_of t (Words.response (ReceiveReady (seq l.r) false))) l.waiting e;
+        carried = λ r gs h. carried-push l.contents (l.a + t.k) r gs (frame_of t (Words.response (ReceiveReady (seq l.r) false))) (λ r' le. tt) h;
+        rising = λ a gs h. rising-push a l.r gs (frame_of t (Words.response (ReceiveReady (seq l.r) false))) refl h;
+      }
+
+  -- an I-frame carries the contents number V(S)
+  abbrev information_frame : Parts
+  information_frame = record (frame_of t (Offers.next_information l)) { info = unwrap_or (slice_get l.contents l.s) [] }
+
+  carries : Offers.may_send_information t l ≡ true → (r : ℕ) → r ≤ l.a + t.k → Carries l.contents (l.a + t.k) r (l.a + t.k) (seq l.s) (unwrap_or (slice_get l.contents l.s) [])
+  carries e r le =
+      let parts = and_parts (Offers.is_established l.state && not l.peer_busy && nat_lt (l.s - l.a) t.k) (nat_lt l.s (length l.contents)) e in
+      let inner = and_parts (Offers.is_established l.state && not l.peer_busy) (nat_lt (l.s - l.a) t.k) parts.0 in
+      let low : l.a ≤ l.s = sound.ordered in
+      let some : l.s < length l.contents = ltb-true l.s (length l.contents) parts.1 in
+      let free : l.s - l.a < t.k = ltb-true (l.s - l.a) t.k inner.1 in
+      let small : t.k ≤ 127 = ranges.k_high in
+      record {
+        number = l.s;
+        is_seq = refl;
+        near = omega arith;
+        below = omega arith;
+        same = unwrapped (slice_get l.contents l.s) (get_or l.contents l.s []) (slice_get-get_or l.contents l.s [] some);
+        next = omega arith;
+      }
+
+  either : (b : Bool) (u v : Course) → Gave t l u → Gave t l v → Gave t l (cond b u v)
+  either true u v x y = x
+  either false u v x y = y
+
+  either-told : (b : Bool) (u v : Course) → (b ≡ true → Gave t l u) → Gave t l v → Gave t l (cond b u v)
+  either-told true u v x y = x refl
+  either-told false u v x y = y
+
+  -- whatever it does to the timer
+  sent : (c : Course) → Offers.may_send_information t l ≡ true → l.waiting ≡ [] → c.link.contents ≡ l.contents → c.link.a ≡ l.a → c.link.r ≡ l.r
+      → c.link.waiting ≡ l.waiting → frame_given t (given_of t l c c.sent) ≡ information_frame ∷ [] → Gave t l c
+  sent c may e same acknowledged received waits gives =
+      record {
+        same = same;
+        acknowledged = acknowledged;
+        received = received;
+        news = information_frame ∷ [];
+        line = λ way. ap (λ xs. (way ++ xs) ++ frames_of t c.link.waiting) gives ∙ ap (λ ws. (way ++ information_frame ∷ []) ++ frames_of t ws) waits ∙ at-end t way information_frame l.waiting e;
+        carried = λ r gs h. carried-push l.contents (l.a + t.k) r gs information_frame (λ r' le. carries may r' le) h;
+        rising = λ a gs h. rising-push a l.r gs information_frame refl h;
+      }
+
+  pub offer-gave : (ws : List ControlFrame) → l.waiting ≡ ws → Gave t l (Offers.offer_among t ws (begun l))
+  offer-gave [] e =
+      either-told (Offers.may_send_information t l) _ _
+      (λ may. either (Offers.is_awaiting_acknowledgement (Offers.with_one_sent l)) _ _ (sent _ may e refl refl refl refl refl) (sent _ may e refl refl refl refl refl))
+      (either l.pending _ _ (acknowledgement e) idle)
+  offer-gave (f ∷ fs) e = waited f fs e
+
+-- An end that has given to its way what its link gave.
+abbrev pub having_given : End → Course → End
+having_given n c = record n { link = c.link; way = n.way ++ frame_given n.terms (given_of n.terms n.link c c.sent) }
+
+pub sender-gives : (n m : End) (c : Course) → Gave n.terms n.link c → Direction n m → Direction (having_given n c) m
+sender-gives n m c g h =
+    record {
+      carried =
+          subst (λ fs. Carried c.link.contents (c.link.a + n.terms.k) m.link.r fs) (sym (g.line n.way))
+          (subst (λ cs. Carried cs (c.link.a + n.terms.k) m.link.r ((n.way ++ frames_of n.terms n.link.waiting) ++ g.news)) (sym g.same)
+          (subst (λ a. Carried n.link.contents (a + n.terms.k) m.link.r ((n.way ++ frames_of n.terms n.link.waiting) ++ g.news)) (sym g.acknowledged)
+          (g.carried m.link.r (n.way ++ frames_of n.terms n.link.waiting) h.carried)));
+      rising = subst (λ a. Rising a m.link.r (m.way ++ frames_of m.terms m.link.waiting)) (sym g.acknowledged) h.rising;
+      delivered = h.delivered ∙ ap (λ cs. take m.link.r cs) (sym g.same);
+      accepted = subst (λ cs. m.link.r ≤ length cs) (sym g.same) h.accepted;
+    }
+
+pub receiver-gives : (n m : End) (c : Course) → Gave n.terms n.link c → Direction m n → Direction m (having_given n c)
+receiver-gives n m c g h =
+    record {
+      carried = subst (λ r. Carried m.link.contents (m.link.a + m.terms.k) r (m.way ++ frames_of m.terms m.link.waiting)) (sym g.received) h.carried;
+      rising =
+          subst (λ r. Rising m.link.a r ((n.way ++ frame_given n.terms (given_of n.terms n.link c c.sent)) ++ frames_of n.terms c.link.waiting)) (sym g.received)
+          (subst (Rising m.link.a n.link.r) (sym (g.line n.way)) (g.rising m.link.a (n.way ++ frames_of n.terms n.link.waiting) h.rising));
+      delivered = h.delivered ∙ ap (λ r. take r m.link.contents) (sym g.received);
+      accepted = subst (λ r. r ≤ length m.link.contents) (sym g.received) h.accepted;
+    }

@@ -1,0 +1,152 @@
+-- What a frame of the other end does to a link that stays in states 7 and 8.
+use Rattle.std.proofs.Common.{◌≡◌, ℕ, ◌+◌, Bool, true, false, cond, IsTrue, List, Option, None, Some, refl, sym, ap, subst, ◌∙◌, ◌⊎◌, inl, inr, eqb-true, true≢false}
+use Rattle.std.specs.Prelude.{nat_le}
+use Rattle.lapd_seq.specs.declared.numbers.Seq.{Seq}
+use Rattle.lapd_seq.specs.Numbers.{seq}
+use Rattle.lapd_seq.specs.Circle.{distance_of, named}
+use Rattle.lapd_seq.proofs.Callers.{seq-value, is_seq, seq-distance}
+use Rattle.lapd_frame.specs.declared.controls.Control.{Control}
+use Rattle.lapd_frame.specs.declared.controls.Control.TheVariants.{Information, ReceiveReady, ReceiveNotReady, Reject, Sabme, Disc, Ui, Ua, Dm, Frmr, Xid}
+use Rattle.model_link.specs.declared.states.State.{State}
+use Rattle.model_link.specs.declared.states.State.TheVariants.{TeiAssigned, AwaitingEstablishment, AwaitingRelease, Established, TimerRecovery}
+use Rattle.model_link.specs.declared.terms.Terms.{Terms}
+use Rattle.model_link.specs.Link.{Link, is_multiple_frame}
+use Rattle.model_link.specs.Steps.{Course, begun}
+use Rattle.model_link.specs.Words
+use Rattle.model_link.specs.MultipleFrame
+use Rattle.model_link.specs.Established
+use Rattle.model_link.specs.TimerRecovery
+use Rattle.model_link.specs.Machine
+use Rattle.model_link.proofs.Counting.{On, done, words, acknowledge_counts}
+use Rattle.model_link.proofs.CountRows.{frames_in_7, frames_in_8}
+use Rattle.model_link.proofs.Delivering.{begins}
+use Rattle.model_link.proofs.Lines.{Means}
+use Rattle.model_link.proofs.Facing.{UpBy, information_7_up, acknowledge_up, rr_7, rnr_7, rej_7, rr_8, rnr_8, rej_8}
+use Rattle.model_link.proofs.FacingInformation.{Took, at-first, information_took}
+
+-- what `named` finds has the remainder that names it
+found : (b : Bool) (x n : ℕ) → cond b (Some x) None ≡ Some n → x ≡ n
+found true x n e = cc
+found false x n e = absurd (cc)
+
+pub named-is_seq : (a s n : ℕ) (nr : Seq) → named a s nr ≡ Some n → nr ≡ seq n
+unfolding named
+named-is_seq a s n nr e =
+    seq-distance (seq a) nr a refl ∙ ap seq (found (nat_le (a + distance_of (seq a) nr) s) (a + distance_of (seq a) nr) n e)
+
+-- An I-frame whose N(S) is r.
+abbrev pub HasNumber : ℕ → Control → Type 0
+HasNumber r (Information ns nr p) = ns ≡ seq r
+HasNumber r (ReceiveReady nr pf) = ⊥
+HasNumber r (ReceiveNotReady nr pf) = ⊥
+HasNumber r (Reject nr pf) = ⊥
+HasNumber r (Sabme p) = ⊥
+HasNumber r (Disc p) = ⊥
+HasNumber r (Ui p) = ⊥
+HasNumber r (Ua f) = ⊥
+HasNumber r (Dm f) = ⊥
+HasNumber r (Frmr f) = ⊥
+HasNumber r (Xid pf) = ⊥
+
+-- V(R) stays and nothing is delivered, or it counts the frame's contents, which are delivered.
+abbrev pub Advance : Control → List ℕ → ℕ → ℕ → Option (List ℕ) → Type 0
+Advance control octets r r' d = ((r' ≡ r) × (d ≡ None)) ⊎ ((r' ≡ r + 1) × (d ≡ Some octets) × HasNumber r control)
+
+-- A frame is taken whose N(R) means m.
+pub record Taken (l : Link) (m : ℕ) (control : Control) (octets : List ℕ) (c : Course) : Type 0 where
+  pub r : ℕ
+  pub delivered : Option (List ℕ)
+  pub advance : Advance control octets l.r r delivered
+  pub took : Took l (seq m) r delivered c
+
+by-flags : (own next : Bool) (ns nr : Seq) (p : Bool) (octets : List ℕ) (r : ℕ) → (next ≡ true → ns ≡ seq r)
+    → Advance (Information ns nr p) octets r (cond own r (cond next (r + 1) r)) (cond own None (cond next (Some octets) None))
+by-flags true next ns nr p octets r h = inl (refl, refl)
+by-flags false true ns nr p octets r h = inr (refl, refl, h refl)
+by-flags false false ns nr p octets r h = inl (refl, refl)
+
+module _ (t : Terms) (l : Link) where
+  next-is_seq : (ns : Seq) → MultipleFrame.is_next ns l ≡ true → ns ≡ seq l.r
+  next-is_seq ns e = is_seq ns l.r (eqb-true ns.value (seq l.r).value e ∙ seq-value (seq l.r) l.r refl)
+
+  -- an I-frame
+  information : (ns nr : Seq) (p : Bool) (octets : List ℕ) (m : ℕ) (c : Course) → nr ≡ seq m
+      → Took l nr (cond l.own_busy l.r (cond (MultipleFrame.is_next ns l) (l.r + 1) l.r)) (cond l.own_busy None (cond (MultipleFrame.is_next ns l) (Some octets) None)) c
+      → Taken l m (Information ns nr p) octets c
+  information ns nr p octets m c e h =
+      record {
+        r = cond l.own_busy l.r (cond (MultipleFrame.is_next ns l) (l.r + 1) l.r);
+        delivered = cond l.own_busy None (cond (MultipleFrame.is_next ns l) (Some octets) None);
+        advance = by-flags l.own_busy (MultipleFrame.is_next ns l) ns nr p octets l.r (next-is_seq ns);
+        took = subst (λ n. Took l n (cond l.own_busy l.r (cond (MultipleFrame.is_next ns l) (l.r + 1) l.r)) (cond l.own_busy None (cond (MultipleFrame.is_next ns l) (Some octets) None)) c) e h;
+      }
+
+  -- a supervisory frame delivers nothing
+  pub none-delivered : (c : Course) → On (done l.r None) c → c.delivered ≡ None
+  none-delivered c (inl h) = h.delivered
+  none-delivered c (inr h) = h.delivered
+
+  supervisory : (control : Control) (octets : List ℕ) (nr : Seq) (m : ℕ) (c : Course) → nr ≡ seq m → UpBy l nr l.r c → On (done l.r None) c → Taken l m control octets c
+  supervisory control octets nr m c e h d =
+      record {
+        r = l.r;
+        delivered = None;
+        advance = inl (refl, refl);
+        took = subst (λ n. Took l n l.r None c) e (record { by = h; delivered = λ up. none-delivered c d });
+      }
+
+  frames-7 : (b : Bool) (octets : List ℕ) (m : ℕ) (control : Control) → Means m control → Taken l m control octets (Established.frame_in_7 t b octets control (begun l))
+  frames-7 b octets m (Information ns nr p) e =
+      information ns nr p octets m _ e (information_took t l ns nr p octets Established.acknowledged_by_information_in_7 (λ Q n. search words) (λ r n low. information_7_up l r l.a n low))
+  frames-7 b octets m (ReceiveReady nr pf) e =
+      supervisory (ReceiveReady nr pf) octets nr m _ e ((rr_7 t l l.r b octets nr pf).leads (begun l) (at-first t l)) ((frames_in_7 t l.r b octets (ReceiveReady nr pf) refl).leads (begun l) (begins t l))
+  frames-7 b octets m (ReceiveNotReady nr pf) e =
+      supervisory (ReceiveNotReady nr pf) octets nr m _ e ((rnr_7 t l l.r b octets nr pf).leads (begun l) (at-first t l)) ((frames_in_7 t l.r b octets (ReceiveNotReady nr pf) refl).leads (begun l) (begins t l))
+  frames-7 b octets m (Reject nr pf) e =
+      supervisory (Reject nr pf) octets nr m _ e ((rej_7 t l l.r b octets nr pf).leads (begun l) (at-first t l)) ((frames_in_7 t l.r b octets (Reject nr pf) refl).leads (begun l) (begins t l))
+  frames-7 b octets m (Sabme p) e = absurd e
+  frames-7 b octets m (Disc p) e = absurd e
+  frames-7 b octets m (Ui p) e = absurd e
+  frames-7 b octets m (Ua f) e = absurd e
+  frames-7 b octets m (Dm f) e = absurd e
+  frames-7 b octets m (Frmr f) e = absurd e
+  frames-7 b octets m (Xid pf) e = absurd e
+
+  frames-8 : (b : Bool) (octets : List ℕ) (m : ℕ) (control : Control) → Means m control → Taken l m control octets (TimerRecovery.frame_in_8 t b octets control (begun l))
+  frames-8 b octets m (Information ns nr p) e =
+      information ns nr p octets m _ e (information_took t l ns nr p octets Words.acknowledge (λ Q n. acknowledge_counts Q n) (λ r n low. acknowledge_up l r n))
+  frames-8 b octets m (ReceiveReady nr pf) e =
+      supervisory (ReceiveReady nr pf) octets nr m _ e ((rr_8 t l l.r b octets nr pf).leads (begun l) (at-first t l)) ((frames_in_8 t l.r b octets (ReceiveReady nr pf) refl).leads (begun l) (begins t l))
+  frames-8 b octets m (ReceiveNotReady nr pf) e =
+      supervisory (ReceiveNotReady nr pf) octets nr m _ e ((rnr_8 t l l.r b octets nr pf).leads (begun l) (at-first t l)) ((frames_in_8 t l.r b octets (ReceiveNotReady nr pf) refl).leads (begun l) (begins t l))
+  frames-8 b octets m (Reject nr pf) e =
+      supervisory (Reject nr pf) octets nr m _ e ((rej_8 t l l.r b octets nr pf).leads (begun l) (at-first t l)) ((frames_in_8 t l.r b octets (Reject nr pf) refl).leads (begun l) (begins t l))
+  frames-8 b octets m (Sabme p) e = absurd e
+  frames-8 b octets m (Disc p) e = absurd e
+  frames-8 b octets m (Ui p) e = absurd e
+  frames-8 b octets m (Ua f) e = absurd e
+  frames-8 b octets m (Dm f) e = absurd e
+  frames-8 b octets m (Frmr f) e = absurd e
+  frames-8 b octets m (Xid pf) e = absurd e
+
+  frames-in : (here : State) → IsTrue (is_multiple_frame here) → (b : Bool) (octets : List ℕ) (m : ℕ) (control : Control) → Means m control
+      → Taken l m control octets (Machine.frame_in here t b octets control (begun l))
+  frames-in TeiAssigned up b octets m control e = absurd (true≢false (sym up))
+  frames-in AwaitingEstablishment up b octets m control e = absurd (true≢false (sym up))
+  frames-in AwaitingRelease up b octets m control e = absurd (true≢false (sym up))
+  frames-in Established up b octets m control e = frames-7 b octets m control e
+  frames-in TimerRecovery up b octets m control e = frames-8 b octets m control e
+
+  pub frame-taken : IsTrue (is_multiple_frame l.state) → (b : Bool) (octets : List ℕ) (m : ℕ) (control : Control) → Means m control
+      → Taken l m control octets (Machine.frame_step t b octets control (begun l))
+  frame-taken up b octets m (Information ns nr p) e = frames-in l.state up b octets m (Information ns nr p) e
+  frame-taken up b octets m (ReceiveReady nr pf) e = frames-in l.state up b octets m (ReceiveReady nr pf) e
+  frame-taken up b octets m (ReceiveNotReady nr pf) e = frames-in l.state up b octets m (ReceiveNotReady nr pf) e
+  frame-taken up b octets m (Reject nr pf) e = frames-in l.state up b octets m (Reject nr pf) e
+  frame-taken up b octets m (Sabme p) e = absurd e
+  frame-taken up b octets m (Disc p) e = absurd e
+  frame-taken up b octets m (Ui p) e = absurd e
+  frame-taken up b octets m (Ua f) e = absurd e
+  frame-taken up b octets m (Dm f) e = absurd e
+  frame-taken up b octets m (Frmr f) e = absurd e
+  frame-taken up b octets m (Xid pf) e = absurd e

@@ -1,0 +1,283 @@
+-- Each row of the tables tells at most two notes.
+use Rattle.std.proofs.Common.{◌≡◌, ℕ, ◌+◌, ◌≤◌, zero-add, Bool, true, false, cond, not, ◌&&◌, List, [], ◌∷◌, ◌++◌, length, Option, Some, None, is_some, ◌⊎◌, inl, inr, refl, sym, ap, ◌∙◌, arith, length-append}
+use Rattle.lapd_frame.specs.declared.controls.Control.{Control}
+use Rattle.lapd_frame.specs.declared.controls.Control.TheVariants.{Information, ReceiveReady, ReceiveNotReady, Reject, Sabme, Disc, Ui, Ua, Dm, Frmr, Xid}
+use Rattle.lapd_frame.specs.declared.notes.Note.{Note}
+use Rattle.lapd_frame.specs.declared.notes.ErrorCode.{ErrorCode}
+use Rattle.lapd_frame.specs.declared.notes.ErrorCode.TheVariants as code
+use Rattle.model_link.specs.declared.states.State.{State}
+use Rattle.model_link.specs.declared.states.State.TheVariants.{TeiAssigned, AwaitingEstablishment, AwaitingRelease, Established, TimerRecovery}
+use Rattle.model_link.specs.declared.timers.LinkTimer.{LinkTimer}
+use Rattle.model_link.specs.declared.timers.LinkTimer.TheVariants.{T200, T203}
+use Rattle.model_link.specs.declared.terms.Terms.{Terms}
+use Rattle.model_link.specs.Link.{Link}
+use Rattle.model_link.specs.Steps.{Course, begun, Step, by_bit}
+use Rattle.model_link.specs.Requests
+use Rattle.model_link.specs.TeiAssigned.{frame_in_4}
+use Rattle.model_link.specs.AwaitingEstablishment.{frame_in_5}
+use Rattle.model_link.specs.AwaitingRelease.{frame_in_6}
+use Rattle.model_link.specs.MultipleFrame
+use Rattle.model_link.specs.Established
+use Rattle.model_link.specs.TimerRecovery
+use Rattle.model_link.specs.Machine
+use Rattle.model_link.specs.Events
+use Rattle.model_link.specs.Words
+use Rattle.model_link.specs.declared.frames.ControlFrame.{ControlFrame}
+use Rattle.lapd_frame.specs.declared.refusals.Refusal.{Refusal}
+use Rattle.model_link.specs.Offers
+use Rattle.std.specs.List.{list_any}
+use Rattle.lapd_frame.specs.declared.timers.Timer.{Timer}
+use Rattle.lapd_frame.specs.declared.timers.Order.{Order}
+use Rattle.lapd_frame.specs.declared.timers.Order.TheVariants.{Start, Stop}
+use Rattle.model_link.specs.Notes.{is_data, is_unit}
+use Rattle.model_link.specs.Told.{runs, timer_at, order_for, orders_for, starts}
+use Rattle.model_link.proofs.Leads.{Leads}
+use Rattle.model_link.proofs.Telling.{Notes, no_more, another, how_many, Telling, HasTold, Told, rows, words}
+
+-- any frame but a UI
+abbrev IsNoUnit : Control → Type 0
+IsNoUnit (Ui p) = ⊥
+IsNoUnit other = Unit {0}
+
+module _ (t : Terms) where
+  pub frames_in_4 : (octets : List ℕ) (control : Control) → IsNoUnit control → Leads (Telling 2 (another (another no_more))) (frame_in_4 t octets control) (HasTold 2)
+  frames_in_4 octets (Ua true) h = search rows depth 12 fits 4000
+  frames_in_4 octets (Ua false) h = search rows depth 12 fits 4000
+  frames_in_4 octets (Ui p) h = absurd h
+  frames_in_4 octets other h = search rows depth 12 fits 4000
+
+  pub frames_in_5 : (octets : List ℕ) (control : Control) → IsNoUnit control → Leads (Telling 2 (another (another no_more))) (frame_in_5 t octets control) (HasTold 2)
+  frames_in_5 octets (Ua true) h = search rows depth 12 fits 4000
+  frames_in_5 octets (Ua false) h = search rows depth 12 fits 4000
+  frames_in_5 octets (Dm true) h = search rows depth 12 fits 4000
+  frames_in_5 octets (Dm false) h = search rows depth 12 fits 4000
+  frames_in_5 octets (Ui p) h = absurd h
+  frames_in_5 octets other h = search rows depth 12 fits 4000
+
+  pub frames_in_6 : (octets : List ℕ) (control : Control) → IsNoUnit control → Leads (Telling 2 (another (another no_more))) (frame_in_6 t octets control) (HasTold 2)
+  frames_in_6 octets (Ua true) h = search rows depth 12 fits 4000
+  frames_in_6 octets (Ua false) h = search rows depth 12 fits 4000
+  frames_in_6 octets (Dm true) h = search rows depth 12 fits 4000
+  frames_in_6 octets (Dm false) h = search rows depth 12 fits 4000
+  frames_in_6 octets (Ui p) h = absurd h
+  frames_in_6 octets other h = search rows depth 12 fits 4000
+
+  pub frames_in_7 : (b : Bool) (octets : List ℕ) (control : Control) → IsNoUnit control → Leads (Telling 2 (another (another no_more))) (Established.frame_in_7 t b octets control) (HasTold 2)
+  frames_in_7 b octets (Information ns nr p) h = search rows depth 12 fits 4000
+  frames_in_7 b octets (ReceiveReady nr pf) h = search rows depth 12 fits 4000
+  frames_in_7 b octets (ReceiveNotReady nr pf) h = search rows depth 12 fits 4000
+  frames_in_7 b octets (Reject nr pf) h = search rows depth 12 fits 4000
+  frames_in_7 b octets (Sabme p) h = search rows depth 12 fits 4000
+  frames_in_7 b octets (Disc p) h = search rows depth 12 fits 4000
+  frames_in_7 b octets (Ua f) h = search rows depth 12 fits 4000
+  frames_in_7 b octets (Dm true) h = search rows depth 12 fits 4000
+  frames_in_7 b octets (Dm false) h = search rows depth 12 fits 4000
+  frames_in_7 b octets (Frmr f) h = search rows depth 12 fits 4000
+  frames_in_7 b octets (Ui p) h = absurd h
+  frames_in_7 b octets (Xid pf) h = search rows depth 12 fits 4000
+
+  pub frames_in_8 : (b : Bool) (octets : List ℕ) (control : Control) → IsNoUnit control → Leads (Telling 2 (another (another no_more))) (TimerRecovery.frame_in_8 t b octets control) (HasTold 2)
+  frames_in_8 b octets (Information ns nr p) h = search rows depth 12 fits 4000
+  frames_in_8 b octets (ReceiveReady nr pf) h = search rows depth 12 fits 4000
+  frames_in_8 b octets (ReceiveNotReady nr pf) h = search rows depth 12 fits 4000
+  frames_in_8 b octets (Reject nr pf) h = search rows depth 12 fits 4000
+  frames_in_8 b octets (Sabme p) h = search rows depth 12 fits 4000
+  frames_in_8 b octets (Disc p) h = search rows depth 12 fits 4000
+  frames_in_8 b octets (Ua f) h = search rows depth 12 fits 4000
+  frames_in_8 b octets (Dm true) h = search rows depth 12 fits 4000
+  frames_in_8 b octets (Dm false) h = search rows depth 12 fits 4000
+  frames_in_8 b octets (Frmr f) h = search rows depth 12 fits 4000
+  frames_in_8 b octets (Ui p) h = absurd h
+  frames_in_8 b octets (Xid pf) h = search rows depth 12 fits 4000
+
+  pub failed_tells : (e : ErrorCode) → Leads (Telling 2 (another (another no_more))) (MultipleFrame.failed t e) (HasTold 2)
+  failed_tells e = search rows depth 12 fits 4000
+
+  pub expired_tells : (here : State) (timer : LinkTimer) → Leads (Telling 2 (another (another no_more))) (Machine.expired_in here timer t) (HasTold 2)
+  expired_tells TeiAssigned timer = search rows depth 12 fits 4000
+  expired_tells AwaitingEstablishment T200 = search rows depth 12 fits 4000
+  expired_tells AwaitingEstablishment T203 = search rows depth 12 fits 4000
+  expired_tells AwaitingRelease T200 = search rows depth 12 fits 4000
+  expired_tells AwaitingRelease T203 = search rows depth 12 fits 4000
+  expired_tells Established timer = search rows depth 12 fits 4000
+  expired_tells TimerRecovery T200 = search rows depth 12 fits 4000
+  expired_tells TimerRecovery T203 = search rows depth 12 fits 4000
+
+  pub malformed_tells : (here : State) (e : ErrorCode) → Leads (Telling 2 (another (another no_more))) (Machine.malformed_in here t e) (HasTold 2)
+  malformed_tells TeiAssigned e = search rows depth 12 fits 4000
+  malformed_tells AwaitingEstablishment e = search rows depth 12 fits 4000
+  malformed_tells AwaitingRelease e = search rows depth 12 fits 4000
+  malformed_tells Established e = failed_tells e
+  malformed_tells TimerRecovery e = failed_tells e
+
+  pub release_tells : (here : State) → Leads (Telling 2 (another (another no_more))) (Requests.release_in here t) (HasTold 2)
+  release_tells TeiAssigned = search rows depth 12 fits 4000
+  release_tells AwaitingEstablishment = search rows depth 12 fits 4000
+  release_tells AwaitingRelease = search rows depth 12 fits 4000
+  release_tells Established = search rows depth 12 fits 4000
+  release_tells TimerRecovery = search rows depth 12 fits 4000
+
+  set_busy_tells : Leads (Telling 2 (another (another no_more))) (MultipleFrame.set_busy_in_7_8 t) (HasTold 2)
+  set_busy_tells = search rows depth 12 fits 4000
+
+  clear_busy_tells : Leads (Telling 2 (another (another no_more))) (MultipleFrame.clear_busy_in_7_8 t) (HasTold 2)
+  clear_busy_tells = search rows depth 12 fits 4000
+
+  pub granted_tells : (request : Events.Request) → Leads (Telling 2 (another (another no_more))) (λ c. Requests.granted t request c) (HasTold 2)
+  granted_tells Events.Establish = search rows depth 12 fits 4000
+  granted_tells Events.Release = record { leads = λ c h. (release_tells c.link.state).leads c h }
+  granted_tells (Events.Data octets) = search rows depth 12 fits 4000
+  granted_tells Events.SetBusy = record { leads = λ c h. set_busy_tells.leads c h }
+  granted_tells Events.ClearBusy = record { leads = λ c h. clear_busy_tells.leads c h }
+
+  pub cleared_tells : (here : State) → Leads (Telling 1 (another no_more)) (Machine.told_of_clearing here t) (Telling 1 no_more)
+  cleared_tells TeiAssigned = search words
+  cleared_tells AwaitingEstablishment = search words
+  cleared_tells AwaitingRelease = search words
+  cleared_tells Established = search words
+  cleared_tells TimerRecovery = search words
+
+  -- Each event.
+  begins : (p : Notes) (total : ℕ) → how_many p ≤ total → (l : Link) → Telling total p (begun l)
+  begins p total room l = record { count = omega (arith, room); data_told = refl; no_unit = refl; no_note = refl }
+
+  two : {f : Step} (l : Link) → Leads (Telling 2 (another (another no_more))) f (HasTold 2) → HasTold 2 (f (begun l))
+  unfolding how_many
+  two l x = x.leads (begun l) (begins (another (another no_more)) 2 (omega arith) l)
+
+  frames-by-state : (here : State) (b : Bool) (octets : List ℕ) (control : Control) → IsNoUnit control
+      → Leads (Telling 2 (another (another no_more))) (Machine.frame_in here t b octets control) (HasTold 2)
+  frames-by-state TeiAssigned b octets control h = frames_in_4 octets control h
+  frames-by-state AwaitingEstablishment b octets control h = frames_in_5 octets control h
+  frames-by-state AwaitingRelease b octets control h = frames_in_6 octets control h
+  frames-by-state Established b octets control h = frames_in_7 b octets control h
+  frames-by-state TimerRecovery b octets control h = frames_in_8 b octets control h
+
+  -- what is told: notes of data where contents are delivered, and unit data only where none are
+  TellsOf : Course → Type 0
+  TellsOf c = (length c.notes ≤ 2) × (list_any is_data c.notes ≡ is_some c.delivered) × ((c.delivered ≡ None) ⊎ (c.unit ≡ None)) × (list_any is_unit c.notes ≡ is_some c.unit)
+
+  from-told : {ns : List Note} {d u : Option (List ℕ)} → Told 2 ns d u
+      → (length ns ≤ 2) × (list_any is_data ns ≡ is_some d) × ((d ≡ None) ⊎ (u ≡ None)) × (list_any is_unit ns ≡ is_some u)
+  from-told h = (h.count, h.data_told, inr h.no_unit, h.no_note ∙ sym (ap is_some h.no_unit))
+
+  units : (b : Bool) (octets : List ℕ) (l : Link) → TellsOf (by_bit b Words.leave_unserved (Words.deliver_unit t octets) (begun l))
+  unfolding TellsOf
+  units true octets l = (omega arith, refl, inl refl, refl)
+  units false octets l = (omega arith, refl, inl refl, refl)
+
+  unit-tells : (here : State) (b : Bool) (octets : List ℕ) (p : Bool) (l : Link) → TellsOf (Machine.frame_in here t b octets (Ui p) (begun l))
+  unit-tells TeiAssigned b octets p l = units _ octets l
+  unit-tells AwaitingEstablishment b octets p l = units _ octets l
+  unit-tells AwaitingRelease b octets p l = units _ octets l
+  unit-tells Established b octets p l = units _ octets l
+  unit-tells TimerRecovery b octets p l = units _ octets l
+
+  frame-tells : (b : Bool) (octets : List ℕ) (control : Control) (l : Link) → TellsOf (Machine.frame_step t b octets control (begun l))
+  unfolding TellsOf
+  frame-tells b octets (Ui p) l = unit-tells l.state b octets p l
+  frame-tells b octets (Xid pf) l = from-told (two l (frames-by-state l.state b octets (Xid pf) tt))
+  frame-tells b octets (Information ns nr p) l = from-told (two l (frames-by-state l.state b octets (Information ns nr p) tt))
+  frame-tells b octets (ReceiveReady nr pf) l = from-told (two l (frames-by-state l.state b octets (ReceiveReady nr pf) tt))
+  frame-tells b octets (ReceiveNotReady nr pf) l = from-told (two l (frames-by-state l.state b octets (ReceiveNotReady nr pf) tt))
+  frame-tells b octets (Reject nr pf) l = from-told (two l (frames-by-state l.state b octets (Reject nr pf) tt))
+  frame-tells b octets (Sabme p) l = from-told (two l (frames-by-state l.state b octets (Sabme p) tt))
+  frame-tells b octets (Disc p) l = from-told (two l (frames-by-state l.state b octets (Disc p) tt))
+  frame-tells b octets (Ua f) l = from-told (two l (frames-by-state l.state b octets (Ua f) tt))
+  frame-tells b octets (Dm f) l = from-told (two l (frames-by-state l.state b octets (Dm f) tt))
+  frame-tells b octets (Frmr f) l = from-told (two l (frames-by-state l.state b octets (Frmr f) tt))
+
+  nothing-told : (l : Link) → HasTold 2 (begun l)
+  nothing-told l = record { count = omega arith; data_told = refl; no_unit = refl; no_note = refl }
+
+  either : (b : Bool) (u v : Course) → HasTold 2 u → HasTold 2 v → HasTold 2 (cond b u v)
+  either true u v x y = x
+  either false u v x y = y
+
+  requests-tell : (request : Events.Request) (l : Link) (o : Option Refusal)
+      → HasTold 2 (elim o as (λ o. Course) [ None ↦ Requests.granted t request (begun l) | Some _ ↦ begun l ])
+  requests-tell request l None = two l (granted_tells request)
+  requests-tell request l (Some w) = nothing-told l
+
+  offers-tell : (l : Link) (ws : List ControlFrame) → HasTold 2 (Offers.offer_among t ws (begun l))
+  offers-tell l [] =
+      either (Offers.may_send_information t l) _ _
+      (either (Offers.is_awaiting_acknowledgement (Offers.with_one_sent l)) _ _ (record { count = omega arith; data_told = refl; no_unit = refl; no_note = refl }) (record { count = omega arith; data_told = refl; no_unit = refl; no_note = refl }))
+      (either l.pending _ _ (record { count = omega arith; data_told = refl; no_unit = refl; no_note = refl }) (nothing-told l))
+  offers-tell l (f ∷ fs) = record { count = omega arith; data_told = refl; no_unit = refl; no_note = refl }
+
+  -- the TEI leaves the line: one note
+  clears : (here : State) (l : Link) → Telling 1 no_more (Machine.told_of_clearing here t (begun l))
+  unfolding how_many
+  clears here l = (cleared_tells here).leads (begun l) (begins (another no_more) 1 (omega arith) l)
+
+  pub cleared-tells : (l : Link) → length (Machine.told t Events.cleared l).notes ≤ 1
+  cleared-tells l = omega (arith, (clears l.state l).count)
+
+  pub event-tells : (e : Events.Event) (l : Link)
+      → (length (Machine.told t e l).notes ≤ 2) × (list_any is_data (Machine.told t e l).notes ≡ is_some (Machine.told t e l).delivered)
+      × (((Machine.told t e l).delivered ≡ None) ⊎ ((Machine.told t e l).unit ≡ None))
+      × (list_any is_unit (Machine.told t e l).notes ≡ is_some (Machine.told t e l).unit)
+  unfolding TellsOf
+  event-tells (Events.received (Events.frame f)) l = frame-tells f.address.command f.info f.control l
+  event-tells (Events.received Events.undefined) l = from-told (two l (malformed_tells l.state code.L))
+  event-tells (Events.received Events.wrong_size) l = from-told (two l (malformed_tells l.state code.N))
+  event-tells (Events.received Events.overlong) l = from-told (two l (malformed_tells l.state code.O))
+  event-tells (Events.expired timer) l = from-told (either (Machine.is_running timer l) _ _ (two l (expired_tells l.state timer)) (nothing-told l))
+  event-tells (Events.requested request full) l = from-told (requests-tell request l (Requests.refusal t l full request))
+  event-tells Events.offer l = from-told (offers-tell l l.waiting)
+  event-tells Events.cleared l = let one = (clears l.state l).count in (omega (arith, one), (clears l.state l).data_told, inr (clears l.state l).no_unit, (clears l.state l).no_note ∙ sym (ap is_some (clears l.state l).no_unit))
+
+-- At most one order for each timer, and at a clear only for the one that runs.
+one-order : (a b : Bool) (x y : Order) → length (cond a (x ∷ []) (cond b (y ∷ []) [])) ≤ 1
+one-order true b x y = omega arith
+one-order false true x y = omega arith
+one-order false false x y = omega arith
+
+pub two-orders : (t : Terms) (before started after : Option LinkTimer) → length (orders_for t before started after) ≤ 2
+two-orders t before started after =
+    let one = one-order (runs T200 started && runs T200 after) (runs T200 before && not (runs T200 after)) (Start (timer_at t T200)) (Stop (timer_at t T200)) in
+    let two = one-order (runs T203 started && runs T203 after) (runs T203 before && not (runs T203 after)) (Start (timer_at t T203)) (Stop (timer_at t T203)) in
+    let whole = length-append (order_for t T200 before started after) (order_for t T203 before started after) in
+    omega (arith, one, two, whole)
+
+-- At most one of them starts a timer.
+starts-append : (xs ys : List Order) → starts (xs ++ ys) ≡ starts xs + starts ys
+unfolding starts
+starts-append [] ys = sym (zero-add (starts ys))
+starts-append (x ∷ xs) ys =
+    let more : starts (xs ++ ys) ≡ starts xs + starts ys = starts-append xs ys in
+    omega (arith, more)
+
+starts-order : (a b : Bool) (x : Timer) → starts (cond a (Start x ∷ []) (cond b (Stop x ∷ []) [])) ≡ cond {A = ℕ} a 1 0
+unfolding starts
+starts-order true b x = refl
+starts-order false true x = refl
+starts-order false false x = refl
+
+at-most_one : (b : Bool) → cond {A = ℕ} b 1 0 ≤ 1
+at-most_one true = omega arith
+at-most_one false = omega arith
+
+one-started : (started after : Option LinkTimer)
+    → cond {A = ℕ} (runs T200 started && runs T200 after) 1 0 + cond {A = ℕ} (runs T203 started && runs T203 after) 1 0 ≤ 1
+one-started None after = omega arith
+one-started (Some T200) after = let one = at-most_one (runs T200 (Some T200) && runs T200 after) in omega (arith, one)
+one-started (Some T203) after = let one = at-most_one (runs T203 (Some T203) && runs T203 after) in omega (arith, one)
+
+pub one-start : (t : Terms) (before started after : Option LinkTimer) → starts (orders_for t before started after) ≤ 1
+one-start t before started after =
+    let one : starts (order_for t T200 before started after) ≡ cond {A = ℕ} (runs T200 started && runs T200 after) 1 0 =
+    starts-order (runs T200 started && runs T200 after) (runs T200 before && not (runs T200 after)) (timer_at t T200) in
+    let two : starts (order_for t T203 before started after) ≡ cond {A = ℕ} (runs T203 started && runs T203 after) 1 0 =
+    starts-order (runs T203 started && runs T203 after) (runs T203 before && not (runs T203 after)) (timer_at t T203) in
+    let whole = starts-append (order_for t T200 before started after) (order_for t T203 before started after) in
+    omega (arith, one, two, whole, one-started started after)
+
+stopped : (t : Terms) (before : Option LinkTimer) → length (orders_for t before None None) ≤ 1
+stopped t None = omega arith
+stopped t (Some T200) = omega arith
+stopped t (Some T203) = omega arith
+
+pub cleared-orders : (t : Terms) (l : Link) → length (Machine.told t Events.cleared l).orders ≤ 1
+cleared-orders t l = stopped t l.running

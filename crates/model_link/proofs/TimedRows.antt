@@ -1,0 +1,226 @@
+-- A link that awaits something has its timer: the rows by state, and every event.
+use Rattle.std.proofs.Common.{◌≡◌, ℕ, ◌+◌, Bool, true, false, cond, ◌&&◌, List, [], ◌∷◌, Option, Some, None, inl, inr, refl, sym, subst, true≢false}
+use Rattle.lapd_frame.specs.declared.controls.Control.{Control}
+use Rattle.lapd_frame.specs.declared.controls.Control.TheVariants.{Information, ReceiveReady, ReceiveNotReady, Reject, Sabme, Disc, Ui, Ua, Dm, Frmr, Xid}
+use Rattle.lapd_frame.specs.declared.notes.ErrorCode.{ErrorCode}
+use Rattle.lapd_frame.specs.declared.notes.ErrorCode.TheVariants as code
+use Rattle.lapd_frame.specs.declared.refusals.Refusal.{Refusal}
+use Rattle.model_link.specs.declared.states.State.{State}
+use Rattle.model_link.specs.declared.states.State.TheVariants.{TeiAssigned, AwaitingEstablishment, AwaitingRelease, Established, TimerRecovery}
+use Rattle.model_link.specs.declared.timers.LinkTimer.{LinkTimer}
+use Rattle.model_link.specs.declared.timers.LinkTimer.TheVariants.{T200, T203}
+use Rattle.model_link.specs.declared.frames.ControlFrame.{ControlFrame}
+use Rattle.model_link.specs.declared.terms.Terms.{Terms}
+use Rattle.model_link.specs.Link.{Link, fresh}
+use Rattle.model_link.specs.Events
+use Rattle.model_link.specs.Told.{runs}
+use Rattle.model_link.specs.Steps.{Course, begun, changed}
+use Rattle.model_link.specs.Words
+use Rattle.model_link.specs.TeiAssigned.{frame_in_4, establish_in_4}
+use Rattle.model_link.specs.AwaitingEstablishment.{frame_in_5}
+use Rattle.model_link.specs.AwaitingRelease.{frame_in_6}
+use Rattle.model_link.specs.MultipleFrame
+use Rattle.model_link.specs.Established
+use Rattle.model_link.specs.TimerRecovery
+use Rattle.model_link.specs.Requests
+use Rattle.model_link.specs.Offers
+use Rattle.model_link.specs.Machine
+use Rattle.model_link.specs.Timed.{IsTimed, IsTimedIn}
+use Rattle.model_link.proofs.Leads.{Leads}
+use Rattle.model_link.proofs.Timing.{TimedBy, At, Ends, at_ends, transfer_timed, failed_timed, acknowledge_start_7, send_again_7, to_named, acknowledged_7, acknowledged_by_information_7, acknowledge_8, ends, information_timed, supervisory_7, supervisory_8}
+
+module _ (t : Terms) where
+  -- the rows
+  frames_in_4 : (octets : List ℕ) (control : Control) → Leads (At TeiAssigned) (frame_in_4 t octets control) Ends
+  frames_in_4 octets (Sabme p) = search ends depth 12 fits 4000
+  frames_in_4 octets (Ua true) = search ends depth 12 fits 4000
+  frames_in_4 octets (Ua false) = search ends depth 12 fits 4000
+  frames_in_4 octets other = search ends depth 12 fits 4000
+
+  frames_in_5 : (octets : List ℕ) (control : Control) → Leads (At AwaitingEstablishment) (frame_in_5 t octets control) Ends
+  frames_in_5 octets (Ua true) = search ends depth 12 fits 4000
+  frames_in_5 octets (Ua false) = search ends depth 12 fits 4000
+  frames_in_5 octets (Dm true) = search ends depth 12 fits 4000
+  frames_in_5 octets (Dm false) = search ends depth 12 fits 4000
+  frames_in_5 octets other = search ends depth 12 fits 4000
+
+  frames_in_6 : (octets : List ℕ) (control : Control) → Leads (At AwaitingRelease) (frame_in_6 t octets control) Ends
+  frames_in_6 octets (Ua true) = search ends depth 12 fits 4000
+  frames_in_6 octets (Ua false) = search ends depth 12 fits 4000
+  frames_in_6 octets (Dm true) = search ends depth 12 fits 4000
+  frames_in_6 octets (Dm false) = search ends depth 12 fits 4000
+  frames_in_6 octets other = search ends depth 12 fits 4000
+
+  sabme_timed : (here : State) (p : Bool) → Leads (At here) (MultipleFrame.sabme_in_7_8 t p) Ends
+  sabme_timed here p = search ends depth 12 fits 4000
+
+  disc_timed : (here : State) (p : Bool) → Leads (At here) (MultipleFrame.disc_in_7_8 t p) Ends
+  disc_timed here p = search ends depth 12 fits 4000
+
+  frames_in_7 : (b : Bool) (octets : List ℕ) (control : Control) → Leads (At Established) (Established.frame_in_7 t b octets control) Ends
+  frames_in_7 b octets (Information ns nr p) = information_timed Established t ns nr p octets _ (λ m. to_named (acknowledged_by_information_7 m))
+  frames_in_7 b octets (ReceiveReady nr pf) = supervisory_7 t b false pf nr _ acknowledged_7
+  frames_in_7 b octets (ReceiveNotReady nr pf) = supervisory_7 t b true pf nr _ acknowledge_start_7
+  frames_in_7 b octets (Reject nr pf) = supervisory_7 t b false pf nr _ send_again_7
+  frames_in_7 b octets (Sabme p) = sabme_timed Established p
+  frames_in_7 b octets (Disc p) = disc_timed Established p
+  frames_in_7 b octets (Ua f) = search ends depth 12 fits 4000
+  frames_in_7 b octets (Dm true) = search ends depth 12 fits 4000
+  frames_in_7 b octets (Dm false) = failed_timed t code.E
+  frames_in_7 b octets (Frmr f) = failed_timed t code.K
+  frames_in_7 b octets (Ui p) = search ends depth 12 fits 4000
+  frames_in_7 b octets (Xid pf) = search ends depth 12 fits 4000
+
+  frames_in_8 : (b : Bool) (octets : List ℕ) (control : Control) → Leads (At TimerRecovery) (TimerRecovery.frame_in_8 t b octets control) Ends
+  frames_in_8 b octets (Information ns nr p) = information_timed TimerRecovery t ns nr p octets _ (λ m. to_named (acknowledge_8 m))
+  frames_in_8 b octets (ReceiveReady nr pf) = supervisory_8 t b false pf nr T203
+  frames_in_8 b octets (ReceiveNotReady nr pf) = supervisory_8 t b true pf nr T200
+  frames_in_8 b octets (Reject nr pf) = supervisory_8 t b false pf nr T203
+  frames_in_8 b octets (Sabme p) = sabme_timed TimerRecovery p
+  frames_in_8 b octets (Disc p) = disc_timed TimerRecovery p
+  frames_in_8 b octets (Ua f) = search ends depth 12 fits 4000
+  frames_in_8 b octets (Dm true) = failed_timed t code.B
+  frames_in_8 b octets (Dm false) = failed_timed t code.E
+  frames_in_8 b octets (Frmr f) = failed_timed t code.K
+  frames_in_8 b octets (Ui p) = search ends depth 12 fits 4000
+  frames_in_8 b octets (Xid pf) = search ends depth 12 fits 4000
+
+  expired_timed : (here : State) (timer : LinkTimer) → Leads (At here) (Machine.expired_in here timer t) Ends
+  expired_timed TeiAssigned timer = search ends depth 12 fits 4000
+  expired_timed AwaitingEstablishment T200 = search ends depth 12 fits 4000
+  expired_timed AwaitingEstablishment T203 = search ends depth 12 fits 4000
+  expired_timed AwaitingRelease T200 = search ends depth 12 fits 4000
+  expired_timed AwaitingRelease T203 = search ends depth 12 fits 4000
+  expired_timed Established timer = search ends depth 12 fits 4000
+  expired_timed TimerRecovery T200 = search ends depth 12 fits 4000
+  expired_timed TimerRecovery T203 = search ends depth 12 fits 4000
+
+  malformed_timed : (here : State) (e : ErrorCode) → Leads (At here) (Machine.malformed_in here t e) Ends
+  malformed_timed TeiAssigned e = search ends depth 12 fits 4000
+  malformed_timed AwaitingEstablishment e = search ends depth 12 fits 4000
+  malformed_timed AwaitingRelease e = search ends depth 12 fits 4000
+  malformed_timed Established e = failed_timed t e
+  malformed_timed TimerRecovery e = failed_timed t e
+
+  release_timed : (here : State) → Leads (At here) (Requests.release_in here t) Ends
+  release_timed TeiAssigned = search ends depth 12 fits 4000
+  release_timed AwaitingEstablishment = search ends depth 12 fits 4000
+  release_timed AwaitingRelease = search ends depth 12 fits 4000
+  release_timed Established = search ends depth 12 fits 4000
+  release_timed TimerRecovery = search ends depth 12 fits 4000
+
+  establish_timed : {here : State} → Leads (At here) (establish_in_4 t) Ends
+  establish_timed {here} = search ends depth 12 fits 4000
+
+  set_busy_timed : (here : State) → Leads (At here) (MultipleFrame.set_busy_in_7_8 t) Ends
+  set_busy_timed here = search ends depth 12 fits 4000
+
+  clear_busy_timed : (here : State) → Leads (At here) (MultipleFrame.clear_busy_in_7_8 t) Ends
+  clear_busy_timed here = search ends depth 12 fits 4000
+
+  frame_timed : (here : State) (b : Bool) (octets : List ℕ) (control : Control) → Leads (At here) (Machine.frame_in here t b octets control) Ends
+  frame_timed TeiAssigned b octets control = frames_in_4 octets control
+  frame_timed AwaitingEstablishment b octets control = frames_in_5 octets control
+  frame_timed AwaitingRelease b octets control = frames_in_6 octets control
+  frame_timed Established b octets control = frames_in_7 b octets control
+  frame_timed TimerRecovery b octets control = frames_in_8 b octets control
+
+-- as the law says it, and back
+of-law : (here : State) (l : Link) → IsTimedIn here l → TimedBy here l.running l.a l.s
+of-law TeiAssigned l h = h
+of-law AwaitingEstablishment l h = h
+of-law AwaitingRelease l h = h
+of-law Established l h = h
+of-law TimerRecovery l h = h
+
+to-law : (here : State) (l : Link) → TimedBy here l.running l.a l.s → IsTimedIn here l
+to-law TeiAssigned l h = h
+to-law AwaitingEstablishment l h = h
+to-law AwaitingRelease l h = h
+to-law Established l h = h
+to-law TimerRecovery l h = h
+
+module _ (t : Terms) (l : Link) (timed : IsTimed l) where
+  here : At l.state (begun l)
+  here = record { state_is = refl; timer = of-law l.state l timed.timer }
+
+  unchanged : Ends (begun l)
+  unchanged = record { timer = of-law l.state l timed.timer }
+
+  frames : (b : Bool) (octets : List ℕ) (control : Control) → Ends (Machine.frame_step t b octets control (begun l))
+  frames b octets control = (frame_timed t l.state b octets control).leads (begun l) here
+
+  granted : (request : Events.Request) → Ends (Requests.granted t request (begun l))
+  granted Events.Establish = (establish_timed t).leads (begun l) here
+  granted Events.Release = (release_timed t l.state).leads (begun l) here
+  granted (Events.Data octets) = (at_ends (transfer_timed l.state octets)).leads (begun l) here
+  granted Events.SetBusy = (set_busy_timed t l.state).leads (begun l) here
+  granted Events.ClearBusy = (clear_busy_timed t l.state).leads (begun l) here
+
+  requests : (request : Events.Request) (o : Option Refusal) → Ends (elim o as (λ o. Course) [ None ↦ Requests.granted t request (begun l) | Some _ ↦ begun l ])
+  requests request None = granted request
+  requests request (Some w) = unchanged
+
+-- an I-frame goes: T200 runs then
+goes_on : (running : Option LinkTimer) (a s : ℕ) (b : Bool) → runs T200 running ≡ b → TimedBy Established running a s → TimedBy Established (cond b running (Some T200)) a (s + 1)
+goes_on running a s false e h = inl refl
+goes_on running a s true e (inl h) = inl h
+goes_on running a s true e (inr h) = absurd (clash running e h.0)
+  where
+    clash : (running : Option LinkTimer) → runs T200 running ≡ true → running ≡ Some T203 → ⊥
+    clash None e h = true≢false (sym e)
+    clash (Some T200) e h = cc
+    clash (Some T203) e h = true≢false (sym e)
+
+gone : Link → Course
+gone l = Words.pending_is false (changed Offers.with_one_sent (Offers.give_information (begun l)))
+
+goes : (l : Link) → l.state ≡ Established → TimedBy Established l.running l.a l.s → (b : Bool) → runs T200 l.running ≡ b → Ends (cond b (gone l) (Words.start T200 (gone l)))
+unfolding gone
+goes l at h true e = record { timer = rw at (goes_on l.running l.a l.s true e h) }
+goes l at h false e = record { timer = rw at (goes_on l.running l.a l.s false e h) }
+
+established : (here : State) (x y z : Bool) → (Offers.is_established here && x && y && z) ≡ true → here ≡ Established
+established TeiAssigned x y z e = absurd (true≢false (sym e))
+established AwaitingEstablishment x y z e = absurd (true≢false (sym e))
+established AwaitingRelease x y z e = absurd (true≢false (sym e))
+established Established x y z e = refl
+established TimerRecovery x y z e = absurd (true≢false (sym e))
+
+either : (b : Bool) (u v : Course) → (b ≡ true → Ends u) → (b ≡ false → Ends v) → Ends (cond b u v)
+either true u v x y = x refl
+either false u v x y = y refl
+
+at-established : (state : State) (running : Option LinkTimer) (a s : ℕ) → state ≡ Established → TimedBy state running a s → TimedBy Established running a s
+at-established state running a s e h = subst (λ x. TimedBy x running a s) e h
+
+offers : (t : Terms) (l : Link) → IsTimed l → (ws : List ControlFrame) → Ends (Offers.offer_among t ws (begun l))
+unfolding gone
+offers t l timed (f ∷ fs) = record { timer = of-law l.state l timed.timer }
+offers t l timed [] =
+    either (Offers.may_send_information t l) _ _
+    (λ e.
+    let at : l.state ≡ Established = established l.state _ _ _ e in
+    goes l at (at-established l.state l.running l.a l.s at (of-law l.state l timed.timer)) (runs T200 l.running) refl)
+    (λ e. either l.pending _ _ (λ e. record { timer = of-law l.state l timed.timer }) (λ e. record { timer = of-law l.state l timed.timer }))
+
+event-timed : (t : Terms) (e : Events.Event) (l : Link) → IsTimed l → Ends (Machine.course t e l)
+event-timed t (Events.received (Events.frame f)) l h = frames t l h f.address.command f.info f.control
+event-timed t (Events.received Events.undefined) l h = (malformed_timed t l.state code.L).leads (begun l) (here t l h)
+event-timed t (Events.received Events.wrong_size) l h = (malformed_timed t l.state code.N).leads (begun l) (here t l h)
+event-timed t (Events.received Events.overlong) l h = (malformed_timed t l.state code.O).leads (begun l) (here t l h)
+event-timed t (Events.expired timer) l h = either (Machine.is_running timer l) _ _ (λ e. (expired_timed t l.state timer).leads (begun l) (here t l h)) (λ e. unchanged t l h)
+event-timed t (Events.requested request full) l h = requests t l h request (Requests.refusal t l full request)
+event-timed t Events.offer l h = offers t l h l.waiting
+event-timed t Events.cleared l h = record { timer = refl }
+
+pub timed-after : (t : Terms) (e : Events.Event) (l : Link) → IsTimed l → IsTimed (Machine.after t e l)
+timed-after t e l h = record { timer = to-law (Machine.after t e l).state (Machine.after t e l) (event-timed t e l h).timer }
+
+pub timed-all : (t : Terms) (es : List Events.Event) (l : Link) → IsTimed l → IsTimed (Machine.after_all t es l)
+unfolding Machine.after_all
+timed-all t [] l h = h
+timed-all t (e ∷ es) l h = timed-all t es (Machine.after t e l) (timed-after t e l h)
+
+pub timed-fresh : IsTimed fresh
+timed-fresh = record { timer = refl }

@@ -1,0 +1,264 @@
+-- A link that awaits something has its timer: every row keeps that.
+use Rattle.std.proofs.Common.{◌≡◌, ℕ, ◌≤◌, Bool, true, List, Option, Some, None, ◌⊎◌, inl, inr, refl, arith, eqb-true}
+use Rattle.lapd_seq.specs.declared.numbers.Seq.{Seq}
+use Rattle.lapd_seq.specs.Circle.{named}
+use Rattle.lapd_frame.specs.declared.notes.Note.{Note}
+use Rattle.lapd_frame.specs.declared.notes.ErrorCode.{ErrorCode}
+use Rattle.lapd_frame.specs.declared.notes.ErrorCode.TheVariants as code
+use Rattle.model_link.specs.declared.states.State.{State}
+use Rattle.model_link.specs.declared.states.State.TheVariants.{TeiAssigned, AwaitingEstablishment, AwaitingRelease, Established, TimerRecovery}
+use Rattle.model_link.specs.declared.timers.LinkTimer.{LinkTimer}
+use Rattle.model_link.specs.declared.timers.LinkTimer.TheVariants.{T200, T203}
+use Rattle.model_link.specs.declared.frames.ControlFrame.{ControlFrame}
+use Rattle.model_link.specs.declared.terms.Terms.{Terms}
+use Rattle.model_link.specs.Steps.{Course, Step, ◌then◌, changed}
+use Rattle.model_link.specs.Words
+use Rattle.model_link.specs.MultipleFrame
+use Rattle.model_link.specs.Established
+use Rattle.model_link.specs.TimerRecovery
+use Rattle.model_link.specs.Offers
+use Rattle.model_link.proofs.SoundRows.{named-within}
+use Rattle.model_link.proofs.Leads.{Leads, keeping_then, nothing_leads, depending_leads, bit_leads, tested_leads, Passed, from_more, to_less}
+
+-- the same as `IsTimedIn`, of what it speaks of
+abbrev pub TimedBy : State → Option LinkTimer → ℕ → ℕ → Type 0
+TimedBy TeiAssigned running a s = running ≡ None
+TimedBy AwaitingEstablishment running a s = running ≡ Some T200
+TimedBy AwaitingRelease running a s = running ≡ Some T200
+TimedBy Established running a s = (running ≡ Some T200) ⊎ ((running ≡ Some T203) × (s ≤ a))
+TimedBy TimerRecovery running a s = running ≡ Some T200
+
+-- in this state, and timed
+pub record In (here state : State) (running : Option LinkTimer) (a s : ℕ) : Type 0 where
+  pub state_is : state ≡ here
+  pub timer : TimedBy here running a s
+
+abbrev pub At : State → Course → Type 0
+At here c = In here c.link.state c.link.running c.link.a c.link.s
+
+-- and N(R) names no number before V(A)
+pub record Named (here : State) (m : ℕ) (c : Course) : Type 0 where
+  pub holds : At here c
+  pub from : c.link.a ≤ m
+
+-- what is wanted in the end
+pub record Timed (state : State) (running : Option LinkTimer) (a s : ℕ) : Type 0 where
+  pub timer : TimedBy state running a s
+
+abbrev pub Ends : Course → Type 0
+Ends c = Timed c.link.state c.link.running c.link.a c.link.s
+
+pub enough : (here state : State) (running : Option LinkTimer) (a s : ℕ) → In here state running a s → Timed state running a s
+enough here state running a s h = record { timer = rw h.state_is h.timer }
+
+pub at_ends : {here : State} {f : Step} → Leads (At here) f (At here) → Leads (At here) f Ends
+at_ends {here} {f} x = to_less (λ c h. enough here c.link.state c.link.running c.link.a c.link.s h) x
+
+pub unnamed : {here : State} {m : ℕ} {Q : Course → Type 0} {f : Step} → Leads (At here) f Q → Leads (Named here m) f Q
+unnamed x = from_more (λ c h. h.holds) x
+
+-- words that touch neither the state, nor the timer, V(A) or V(S)
+module _ (here : State) where
+  pub note_timed : (n : Note) → Leads (At here) (Words.note n) (At here)
+  note_timed n = record { leads = λ c h. h }
+
+  pub deliver_timed : (t : Terms) (octets : List ℕ) → Leads (At here) (Words.deliver t octets) (At here)
+  deliver_timed t octets = record { leads = λ c h. h }
+
+  pub deliver_unit_timed : (t : Terms) (octets : List ℕ) → Leads (At here) (Words.deliver_unit t octets) (At here)
+  deliver_unit_timed t octets = record { leads = λ c h. h }
+
+  pub refuse_timed : Leads (At here) (Words.leave_unserved) (At here)
+  refuse_timed = record { leads = λ c h. h }
+
+  pub peer_busy_timed : (b : Bool) → Leads (At here) (Words.peer_busy_is b) (At here)
+  peer_busy_timed b = record { leads = λ c h. h }
+
+  pub own_busy_timed : (b : Bool) → Leads (At here) (Words.own_busy_is b) (At here)
+  own_busy_timed b = record { leads = λ c h. h }
+
+  pub rejecting_timed : (b : Bool) → Leads (At here) (Words.rejecting_is b) (At here)
+  rejecting_timed b = record { leads = λ c h. h }
+
+  pub pending_timed : (b : Bool) → Leads (At here) (Words.pending_is b) (At here)
+  pending_timed b = record { leads = λ c h. h }
+
+  pub asked_timed : (b : Bool) → Leads (At here) (Words.asked_is b) (At here)
+  asked_timed b = record { leads = λ c h. h }
+
+  pub repeats_timed : (n : ℕ) → Leads (At here) (Words.repeats_are n) (At here)
+  repeats_timed n = record { leads = λ c h. h }
+
+  pub repeated_timed : Leads (At here) (Words.repeated) (At here)
+  repeated_timed = record { leads = λ c h. h }
+
+  pub flags_timed : Leads (At here) (Words.clear_flags) (At here)
+  flags_timed = record { leads = λ c h. h }
+
+  pub count_timed : Leads (At here) (Words.count_received) (At here)
+  count_timed = record { leads = λ c h. h }
+
+  pub transfer_timed : (octets : List ℕ) → Leads (At here) (MultipleFrame.data_in_7_8 octets) (At here)
+  transfer_timed octets = record { leads = λ c h. h }
+
+  pub waiting_rest_timed : (fs : List ControlFrame) → Leads (At here) (changed (Offers.with_waiting_rest fs)) (At here)
+  waiting_rest_timed fs = record { leads = λ c h. h }
+
+  pub give_timed : (f : ControlFrame) (o : Option (List ℕ)) → Leads (At here) (Offers.give f o) (At here)
+  give_timed f o = record { leads = λ c h. h }
+
+  pub give_information_timed : Leads (At here) (Offers.give_information) (At here)
+  give_information_timed = record { leads = λ c h. h }
+
+  pub give_acknowledgement_timed : Leads (At here) (Offers.give_acknowledgement) (At here)
+  give_acknowledgement_timed = record { leads = λ c h. h }
+
+  pub send_timed : (t : Terms) (f : ControlFrame) → Leads (At here) (Words.send t f) (At here)
+  send_timed t f = record { leads = λ c h. h }
+
+  pub enquire_timed : (t : Terms) → Leads (At here) (Words.enquire t) (At here)
+  enquire_timed t = record { leads = λ c h. h }
+
+  pub answer_timed : (t : Terms) → Leads (At here) (Words.answer t) (At here)
+  answer_timed t = record { leads = λ c h. h }
+
+  pub report_timed : (t : Terms) → Leads (At here) (Words.report_ready t) (At here)
+  report_timed t = record { leads = λ c h. h }
+
+  pub reject_timed : (t : Terms) (f : Bool) → Leads (At here) (Words.reject t f) (At here)
+  reject_timed t f = record { leads = λ c h. h }
+
+-- all contents that are kept are released: nothing is outstanding
+pub discarded : (here : State) (running : Option LinkTimer) (a s : ℕ) → TimedBy here running a s → TimedBy here running a a
+discarded TeiAssigned running a s e = e
+discarded AwaitingEstablishment running a s e = e
+discarded AwaitingRelease running a s e = e
+discarded Established running a s (inl e) = inl e
+discarded Established running a s (inr e) = inr (e.0, omega arith)
+discarded TimerRecovery running a s e = e
+
+pub discard_timed : (here : State) → Leads (At here) Words.discard (At here)
+discard_timed here = record {
+  leads = λ c h. record { state_is = h.state_is; timer = discarded here c.link.running c.link.a c.link.s h.timer };
+}
+
+-- the ends of rows, whatever was before
+module _ {X : Course → Type 0} where
+  pub enters_4 : Leads X (Words.no_timer then Words.enter TeiAssigned) Ends
+  enters_4 = record { leads = λ c h. record { timer = refl } }
+
+  pub enters_5 : Leads X (Words.start T200 then Words.enter AwaitingEstablishment) Ends
+  enters_5 = record { leads = λ c h. record { timer = refl } }
+
+  pub asks_for_5 : (b : Bool) → Leads X (Words.start T200 then Words.asked_is b then Words.enter AwaitingEstablishment) Ends
+  asks_for_5 b = record { leads = λ c h. record { timer = refl } }
+
+  pub enters_6 : Leads X (Words.start T200 then Words.enter AwaitingRelease) Ends
+  enters_6 = record { leads = λ c h. record { timer = refl } }
+
+  pub enters_8 : Leads X (Words.start T200 then Words.enter TimerRecovery) Ends
+  enters_8 = record { leads = λ c h. record { timer = refl } }
+
+  pub zero_enters_7 : Leads X (Words.zero_numbers then Words.start T203 then Words.enter Established) Ends
+  zero_enters_7 = record { leads = λ c h. record { timer = inr (refl, omega arith) } }
+
+  pub zero_told_enters_7 : (t : Terms) → Leads X (Words.zero_numbers then Words.start T203 then Words.establish_indication t then Words.enter Established) Ends
+  zero_told_enters_7 t = record { leads = λ c h. record { timer = inr (refl, omega arith) } }
+
+  pub re_establish_timed : (t : Terms) → Leads X (Words.re_establish t) Ends
+  re_establish_timed t = record { leads = λ c h. record { timer = refl } }
+
+  pub failed_timed : (t : Terms) (e : ErrorCode) → Leads X (MultipleFrame.failed t e) Ends
+  failed_timed t e = record { leads = λ c h. record { timer = refl } }
+
+  pub recovered_timed : (timer : LinkTimer) (m : ℕ) → Leads X (TimerRecovery.recovered timer m) Ends
+  recovered_timed T200 m = record { leads = λ c h. record { timer = inl refl } }
+  recovered_timed T203 m = record { leads = λ c h. record { timer = inr (refl, omega arith) } }
+
+-- T200 is started anew, and the state stays
+pub restart_5 : Leads (At AwaitingEstablishment) (Words.start T200) (At AwaitingEstablishment)
+restart_5 = record { leads = λ c h. record { state_is = h.state_is; timer = refl } }
+
+pub restart_6 : Leads (At AwaitingRelease) (Words.start T200) (At AwaitingRelease)
+restart_6 = record { leads = λ c h. record { state_is = h.state_is; timer = refl } }
+
+pub restart_7 : Leads (At Established) (Words.start T200) (At Established)
+restart_7 = record { leads = λ c h. record { state_is = h.state_is; timer = inl refl } }
+
+pub restart_8 : Leads (At TimerRecovery) (Words.start T200) (At TimerRecovery)
+restart_8 = record { leads = λ c h. record { state_is = h.state_is; timer = refl } }
+
+-- what a valid N(R) does in state 7
+pub nearer : (running : Option LinkTimer) (a s m : ℕ) → a ≤ m → TimedBy Established running a s → TimedBy Established running m s
+nearer running a s m from (inl e) = inl e
+nearer running a s m from (inr e) = inr (e.0, omega (arith, from, e.1))
+
+pub acknowledge_7 : (m : ℕ) → Leads (Named Established m) (Words.acknowledge m) (At Established)
+acknowledge_7 m = record {
+  leads = λ c h. record { state_is = h.holds.state_is; timer = nearer c.link.running c.link.a c.link.s m h.from h.holds.timer };
+}
+
+pub all_acknowledged_7 : (m : ℕ) → Leads (Passed (Named Established m) (Established.is_all_sent m) true) (Words.acknowledge m then Words.start T203) (At Established)
+all_acknowledged_7 m = record {
+  leads = λ c h. record { state_is = h.holds.holds.state_is; timer = inr (refl, omega (arith, eqb-true m c.link.s h.told)) };
+}
+
+pub acknowledge_start_7 : (m : ℕ) → Leads (Named Established m) (Words.acknowledge m then Words.start T200) (At Established)
+acknowledge_start_7 m = record { leads = λ c h. record { state_is = h.holds.state_is; timer = inl refl } }
+
+pub send_again_7 : (m : ℕ) → Leads (Named Established m) (Words.acknowledge m then Words.send_again_from m then Words.start T203) (At Established)
+send_again_7 m = record { leads = λ c h. record { state_is = h.holds.state_is; timer = inr (refl, omega arith) } }
+
+pub to_named : {here : State} {m : ℕ} {f : Step} → Leads (Named here m) f (At here) → Leads (Named here m) f Ends
+to_named {here} {m} {f} x = to_less (λ c h. enough here c.link.state c.link.running c.link.a c.link.s h) x
+
+pub acknowledged_7 : (m : ℕ) → Leads (Named Established m) (Established.acknowledged_in_7 m) (At Established)
+acknowledged_7 m =
+    tested_leads (Established.is_all_sent m) (all_acknowledged_7 m)
+    (from_more (λ c h. h.holds) (depending_leads (Established.is_beyond_acknowledged m) (acknowledge_start_7 m) (unnamed nothing_leads)))
+
+pub acknowledged_by_information_7 : (m : ℕ) → Leads (Named Established m) (Established.acknowledged_by_information_in_7 m) (At Established)
+acknowledged_by_information_7 m = depending_leads _ (acknowledge_7 m) (acknowledged_7 m)
+
+-- and in state 8
+pub acknowledge_8 : (m : ℕ) → Leads (Named TimerRecovery m) (Words.acknowledge m) (At TimerRecovery)
+acknowledge_8 m = record { leads = λ c h. record { state_is = h.holds.state_is; timer = h.holds.timer } }
+
+pub acknowledged_8 : (final : Bool) (timer : LinkTimer) (m : ℕ) → Leads (Named TimerRecovery m) (TimerRecovery.acknowledged_in_8 timer final m) Ends
+acknowledged_8 final timer m = bit_leads final (recovered_timed timer m) (to_named (acknowledge_8 m))
+
+-- by the N(R): an invalid one, or the one number that it names
+pub by-number : (here : State) (t : Terms) (nr : Seq) (f : ℕ → Step) → ((m : ℕ) → Leads (Named here m) (f m) Ends) → (c : Course) → At here c
+    → (o : Option ℕ) → named c.link.a c.link.s nr ≡ o → Ends (elim o [ None ↦ (Words.error t code.J then Words.re_establish t) c | Some n ↦ f n c ])
+by-number here t nr f x c h None e = record { timer = refl }
+by-number here t nr f x c h (Some m) e = (x m).leads c (record { holds = h; from = (named-within c.link.a c.link.s m nr e).0 })
+
+pub number_timed : {here : State} (t : Terms) (nr : Seq) (f : ℕ → Step) → ((m : ℕ) → Leads (Named here m) (f m) Ends) → Leads (At here) (Words.by_number t nr f) Ends
+number_timed {here} t nr f x = record { leads = λ c h. by-number here t nr f x c h (named c.link.a c.link.s nr) refl }
+
+pub ruleset words = (keeping_then, nothing_leads, depending_leads, bit_leads, discard_timed, restart_5, restart_6, restart_7, restart_8, note_timed, deliver_timed, deliver_unit_timed, refuse_timed, peer_busy_timed, own_busy_timed, rejecting_timed, pending_timed, asked_timed, repeats_timed, repeated_timed, flags_timed, count_timed, transfer_timed, waiting_rest_timed, give_timed, give_information_timed, give_acknowledgement_timed, send_timed, enquire_timed, answer_timed, report_timed, reject_timed)
+
+pub ruleset ends = (words, at_ends, enters_4, enters_5, asks_for_5, enters_6, enters_8, zero_enters_7, zero_told_enters_7, failed_timed)
+
+pub contents_timed : (here : State) (t : Terms) (ns : Seq) (p : Bool) (octets : List ℕ) → Leads (At here) (MultipleFrame.contents_in_7_8 t ns p octets) (At here)
+contents_timed here t ns p octets = search words depth 12 fits 4000
+
+pub information_timed : (here : State) (t : Terms) (ns nr : Seq) (p : Bool) (octets : List ℕ) (f : ℕ → Step) → ((m : ℕ) → Leads (Named here m) (f m) Ends)
+    → Leads (At here) (MultipleFrame.information_in_7_8 t ns nr p octets f) Ends
+information_timed here t ns nr p octets f x =
+    bit_leads _ (failed_timed t code.O) (keeping_then (contents_timed here t ns p octets) (number_timed t nr f x))
+
+-- a supervisory frame
+pub supervisory_7 : (t : Terms) (is_command busy pf : Bool) (nr : Seq) (f : ℕ → Step) → ((m : ℕ) → Leads (Named Established m) (f m) (At Established))
+    → Leads (At Established) (Words.peer_busy_is busy then MultipleFrame.answered t is_command pf then Established.unsolicited t (MultipleFrame.is_final is_command pf) then Words.by_number t nr f) Ends
+supervisory_7 t is_command busy pf nr f x =
+    keeping_then (peer_busy_timed Established busy)
+    (keeping_then (bit_leads _ (answer_timed Established t) nothing_leads)
+    (keeping_then (bit_leads _ (note_timed Established _) nothing_leads) (number_timed t nr f (λ m. to_named (x m)))))
+
+pub supervisory_8 : (t : Terms) (is_command busy pf : Bool) (nr : Seq) (timer : LinkTimer)
+    → Leads (At TimerRecovery) (Words.peer_busy_is busy then MultipleFrame.answered t is_command pf then Words.by_number t nr (TimerRecovery.acknowledged_in_8 timer (MultipleFrame.is_final is_command pf))) Ends
+supervisory_8 t is_command busy pf nr timer =
+    keeping_then (peer_busy_timed TimerRecovery busy)
+    (keeping_then (bit_leads _ (answer_timed TimerRecovery t) nothing_leads)
+    (number_timed t nr _ (λ m. acknowledged_8 (MultipleFrame.is_final is_command pf) timer m)))

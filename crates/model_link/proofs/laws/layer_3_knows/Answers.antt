@@ -1,0 +1,9 @@
+use Rattle.model_link.proofs.KnownRows
+use Rattle.model_link.proofs.OwnNotes.{notes-own}
+use Rattle.model_link.proofs.laws.layer_3_knows.Goals as goal
+
+pub returns-clause-each : goal.returns-clause-each
+returns-clause-each c = λ t e l. KnownRows.layer_3_knows t e l
+
+pub returns-clause-own : goal.returns-clause-own
+returns-clause-own c = λ t e l. notes-own t e l

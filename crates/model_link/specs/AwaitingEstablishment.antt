@@ -1,0 +1,41 @@
+-- State 5, awaiting establishment: SABME was sent.
+use Rattle.std.specs.Prelude.{ℕ, true, false, List}
+use Rattle.lapd_frame.specs.declared.controls.Control.{Control}
+use Rattle.lapd_frame.specs.declared.controls.Control.TheVariants.{Sabme, Disc, Ui, Ua, Dm, Xid}
+use Rattle.lapd_frame.specs.declared.notes.ErrorCode.TheVariants as code
+use Rattle.model_link.specs.declared.states.State.TheVariants.{TeiAssigned, Established}
+use Rattle.model_link.specs.declared.timers.LinkTimer.TheVariants.{T200, T203}
+use Rattle.model_link.specs.declared.terms.Terms.{Terms}
+use Rattle.model_link.specs.Link.{is_asked, has_outstanding, may_repeat}
+use Rattle.model_link.specs.Steps.{Step, ◌then◌, nothing, depending_on}
+use Rattle.model_link.specs.Words.{error, establish_indication, establish_confirm, release_indication, leave_unserved, unit_data, xid, zero_numbers, discard, repeated, start, no_timer, enter, send, command, response}
+
+abbrev pub frame_in_5 : Terms → List ℕ → Control → Step
+-- clause 5.5.5.1
+frame_in_5 t octets (Sabme p) = send t (response (Ua p))
+-- clause 5.5.5.2
+frame_in_5 t octets (Disc p) = send t (response (Dm p))
+-- clauses 5.5.1.2 and 5.7. Contents of which none was sent stay, and are sent from number 0 on.
+frame_in_5 t octets (Ua true) =
+    depending_on is_asked (establish_confirm t) (depending_on has_outstanding (discard then establish_indication t) nothing)
+    then zero_numbers then start T203 then enter Established
+-- clause 5.8.7
+frame_in_5 t octets (Ua false) = error t code.D
+-- clause 5.5.1.2
+frame_in_5 t octets (Dm true) = discard then release_indication t then no_timer then enter TeiAssigned
+-- clause 5.2.3
+frame_in_5 t octets (Ui p) = unit_data t octets
+-- XID (profile)
+frame_in_5 t octets (Xid pf) = xid t
+-- clauses 5.5.1.2 and 5.5.2; DM with F=0 is among them
+frame_in_5 t octets other = leave_unserved
+
+-- Frames of wrong size, undefined ones and overlong I-frames (profile).
+abbrev pub malformed_in_5 : Step
+malformed_in_5 = leave_unserved
+
+-- T200 expires (clause 5.5.1.3).
+abbrev pub t200_in_5 : Terms → Step
+t200_in_5 t =
+    depending_on (may_repeat t) (send t (command (Sabme true)) then repeated then start T200)
+    (discard then error t code.G then release_indication t then no_timer then enter TeiAssigned)

@@ -1,0 +1,53 @@
+-- What layer 3 knows of a link by its notes.
+use Rattle.std.specs.Prelude.{◌≡◌, Bool, true, false, not, List, fold}
+use Rattle.lapd_frame.specs.declared.notes.Note.{Note}
+use Rattle.lapd_frame.specs.declared.notes.Note.TheVariants.{EstablishIndication, EstablishConfirm, ReleaseIndication, ReleaseConfirm, Data, Unit, Error, Assigned, Removed, Doubled, Xid}
+use Rattle.model_link.specs.declared.states.State.{State}
+use Rattle.model_link.specs.declared.states.State.TheVariants.{TeiAssigned, AwaitingEstablishment, AwaitingRelease, Established, TimerRecovery}
+use Rattle.model_link.specs.declared.terms.Terms.{Terms}
+use Rattle.model_link.specs.Link.{Link}
+
+-- By a note layer 3 takes the link for up, or for down; other notes leave that as it was.
+abbrev pub seen : Bool → Note → Bool
+seen up (EstablishIndication service tei) = true
+seen up (EstablishConfirm service tei) = true
+seen up (ReleaseIndication service tei) = false
+seen up (ReleaseConfirm service tei) = false
+seen up (Data service tei) = up
+seen up (Unit service tei) = up
+seen up (Error service tei code) = up
+seen up (Assigned tei) = up
+seen up (Removed tei) = up
+seen up (Doubled tei) = up
+seen up (Xid service tei) = up
+
+-- By all notes of an event, one after the other.
+abbrev pub known : Bool → List Note → Bool
+known up notes = fold seen up notes
+
+-- What it is to layer 3: down in state 4, and up in states 7 and 8. In state 5 it is down as long as layer 3 awaits the
+-- establishment that it asked for, and still up where the link establishes itself anew (clause 5.7.1). In state 6 it is
+-- up until the release is confirmed.
+abbrev pub is_up_in : State → Link → Bool
+is_up_in TeiAssigned l = false
+is_up_in AwaitingEstablishment l = not l.asked
+is_up_in AwaitingRelease l = true
+is_up_in Established l = true
+is_up_in TimerRecovery l = true
+
+abbrev pub is_up : Link → Bool
+is_up l = is_up_in l.state l
+
+-- A note of a link names its service and its TEI, and is none of TEI management.
+abbrev pub IsOwn : Terms → Note → Type 0
+IsOwn t (EstablishIndication service tei) = (service ≡ t.service) × (tei ≡ t.tei)
+IsOwn t (EstablishConfirm service tei) = (service ≡ t.service) × (tei ≡ t.tei)
+IsOwn t (ReleaseIndication service tei) = (service ≡ t.service) × (tei ≡ t.tei)
+IsOwn t (ReleaseConfirm service tei) = (service ≡ t.service) × (tei ≡ t.tei)
+IsOwn t (Data service tei) = (service ≡ t.service) × (tei ≡ t.tei)
+IsOwn t (Unit service tei) = (service ≡ t.service) × (tei ≡ t.tei)
+IsOwn t (Error service tei code) = (service ≡ t.service) × (tei ≡ t.tei)
+IsOwn t (Assigned tei) = ⊥
+IsOwn t (Removed tei) = ⊥
+IsOwn t (Doubled tei) = ⊥
+IsOwn t (Xid service tei) = (service ≡ t.service) × (tei ≡ t.tei)

@@ -1,0 +1,66 @@
+-- What a link answers.
+use Rattle.std.specs.Prelude.{ℕ, ◌+◌, Bool, false, true, List, [], ◌∷◌, ◌++◌, Option, Some, None, ◌&&◌, not, if◌then◌else◌}
+use Rattle.lapd_frame.specs.declared.notes.Note.{Note}
+use Rattle.lapd_frame.specs.declared.timers.Order.{Order}
+use Rattle.lapd_frame.specs.declared.timers.Order.TheVariants.{Start, Stop}
+use Rattle.lapd_frame.specs.declared.timers.Timer.{Timer}
+use Rattle.lapd_frame.specs.declared.timers.Timer.TheVariants as line_timer
+use Rattle.model_link.specs.declared.timers.LinkTimer.{LinkTimer}
+use Rattle.model_link.specs.declared.timers.LinkTimer.TheVariants.{T200, T203}
+use Rattle.model_link.specs.declared.frames.ControlFrame.{ControlFrame}
+use Rattle.model_link.specs.declared.terms.Terms.{Terms}
+
+-- What an event tells layer 3, layer management and the timers.
+pub record Told : Type 0 where
+  pub notes : List Note
+  -- the contents of an I-frame, and of a UI frame
+  pub delivered : Option (List ℕ)
+  pub unit : Option (List ℕ)
+  pub orders : List Order
+  -- control frames that found no place to wait
+  pub lost : ℕ
+  -- the state does not serve the frame
+  pub unserved : Bool
+
+-- What an offer gives: the frame, the contents that go with it if it is an I-frame, and orders for the timers.
+pub record Given : Type 0 where
+  pub frame : ControlFrame
+  pub contents : Option (List ℕ)
+  pub orders : List Order
+
+-- Timers, and the orders for them.
+abbrev pub is_timer : LinkTimer → LinkTimer → Bool
+is_timer T200 T200 = true
+is_timer T200 T203 = false
+is_timer T203 T200 = false
+is_timer T203 T203 = true
+
+abbrev pub runs : LinkTimer → Option LinkTimer → Bool
+runs timer None = false
+runs timer (Some running) = is_timer timer running
+
+-- A link's timer, as one of the line's.
+abbrev pub timer_at : Terms → LinkTimer → Timer
+timer_at t T200 = line_timer.T200 t.service t.tei
+timer_at t T203 = line_timer.T203 t.service t.tei
+
+-- Start where the event started the timer and left it running, Stop where it ran before the event and does not run
+-- after it (profile). A timer's own expiry is an event before which it ran.
+abbrev pub order_for : Terms → LinkTimer → Option LinkTimer → Option LinkTimer → Option LinkTimer → List Order
+order_for t timer before started after =
+    if runs timer started && runs timer after then Start (timer_at t timer) ∷ []
+    else if runs timer before && not (runs timer after) then Stop (timer_at t timer) ∷ []
+    else []
+
+-- T200's comes before T203's.
+abbrev pub orders_for : Terms → Option LinkTimer → Option LinkTimer → Option LinkTimer → List Order
+orders_for t before started after = order_for t T200 before started after ++ order_for t T203 before started after
+
+-- How many timers orders start.
+abbrev pub is_start : Order → Bool
+is_start (Start timer) = true
+is_start (Stop timer) = false
+
+unfoldable pub starts : List Order → ℕ
+starts [] = 0
+starts (order ∷ more) = (if is_start order then 1 else 0) + starts more

@@ -1,0 +1,187 @@
+-- Worked values: links are established and released.
+use Rattle.std.specs.Prelude.{◌≡◌, true, false, [], ◌∷◌, None, Some, refl}
+use Rattle.lapd_seq.specs.Numbers.{seq}
+use Rattle.lapd_seq.specs.Circle.{distance_of, named}
+use Rattle.lapd_frame.specs.declared.notes.Note.TheVariants as tell
+use Rattle.lapd_frame.specs.declared.notes.ErrorCode.TheVariants as code
+use Rattle.lapd_frame.specs.declared.services.Service.TheVariants.{Call, Packet}
+use Rattle.lapd_frame.specs.declared.timers.Order.TheVariants.{Start, Stop}
+use Rattle.lapd_frame.specs.declared.timers.Timer.TheVariants as timer
+use Rattle.lapd_frame.specs.declared.refusals.Refusal.TheVariants.{WrongState}
+use Rattle.lapd_frame.specs.Reading.{supervisory_of, unnumbered_of, control_of, header_of, reading}
+use Rattle.model_link.specs.declared.states.State.TheVariants.{TeiAssigned, AwaitingEstablishment, Established}
+use Rattle.model_link.specs.declared.timers.LinkTimer.TheVariants.{T200, T203}
+use Rattle.model_link.specs.Link.{fresh}
+use Rattle.model_link.specs.Events.{Establish, Release, expired, offer, cleared}
+use Rattle.model_link.specs.Requests.{refusal}
+use Rattle.model_link.specs.Machine.{after, after_all, told}
+use Rattle.model_link.specs.Rises.{price_of_all}
+use Rattle.model_link.specs.Worked.{usual, with_n200, packet, comes, ask, out, notes, lost, told_after, sabme, up}
+
+-- Establish, and T200 four times with N200 3: SABME four times, then error G and a release indication.
+refused_thrice : out usual (ask Establish ∷ offer ∷ expired T200 ∷ offer ∷ expired T200 ∷ offer ∷ expired T200 ∷ offer ∷ expired T200 ∷ offer ∷ []) fresh
+    ≡ (0x02 ∷ 0x81 ∷ 0x7F ∷ []) ∷ (0x02 ∷ 0x81 ∷ 0x7F ∷ []) ∷ (0x02 ∷ 0x81 ∷ 0x7F ∷ []) ∷ (0x02 ∷ 0x81 ∷ 0x7F ∷ []) ∷ []
+unfolding seq distance_of named reading header_of control_of unnumbered_of supervisory_of after_all out notes lost price_of_all
+refused_thrice = refl
+
+refused_thrice_notes : notes usual (ask Establish ∷ expired T200 ∷ expired T200 ∷ expired T200 ∷ expired T200 ∷ []) fresh
+    ≡ tell.Error Call 64 code.G ∷ tell.ReleaseIndication Call 64 ∷ []
+unfolding seq distance_of named reading header_of control_of unnumbered_of supervisory_of after_all out notes lost price_of_all
+refused_thrice_notes = refl
+
+refused_thrice_state : after_all usual (ask Establish ∷ offer ∷ expired T200 ∷ offer ∷ expired T200 ∷ offer ∷ expired T200 ∷ offer ∷ expired T200 ∷ offer ∷ []) fresh
+    ≡ record fresh { asked = true; repeats = 3 }
+unfolding seq distance_of named reading header_of control_of unnumbered_of supervisory_of after_all out notes lost price_of_all
+refused_thrice_state = refl
+
+-- With N200 0 there is one SABME.
+never_repeated : out (with_n200 0) (ask Establish ∷ expired T200 ∷ offer ∷ offer ∷ []) fresh
+    ≡ (0x02 ∷ 0x81 ∷ 0x7F ∷ []) ∷ []
+unfolding seq distance_of named reading header_of control_of unnumbered_of supervisory_of after_all out notes lost price_of_all
+never_repeated = refl
+
+never_repeated_told : told_after (with_n200 0) (ask Establish ∷ []) (expired T200) fresh
+    ≡ record { notes = tell.Error Call 64 code.G ∷ tell.ReleaseIndication Call 64 ∷ []; delivered = None; unit = None; orders = Stop (timer.T200 Call 64) ∷ []; lost = 0; unserved = false }
+unfolding seq distance_of named reading header_of control_of unnumbered_of supervisory_of after_all out notes lost price_of_all
+never_repeated_told = refl
+
+-- Establish, and UA with F=1: an establish confirm, T203 in place of T200, state 7.
+confirmed : told_after usual (ask Establish ∷ offer ∷ []) (comes (0x02 ∷ 0x81 ∷ 0x73 ∷ [])) fresh
+    ≡ record { notes = tell.EstablishConfirm Call 64 ∷ []; delivered = None; unit = None; orders = Stop (timer.T200 Call 64) ∷ Start (timer.T203 Call 64) ∷ []; lost = 0; unserved = false }
+unfolding seq distance_of named reading header_of control_of unnumbered_of supervisory_of after_all out notes lost price_of_all
+confirmed = refl
+
+confirmed_state : (after_all usual (ask Establish ∷ offer ∷ comes (0x02 ∷ 0x81 ∷ 0x73 ∷ []) ∷ []) fresh).state
+    ≡ Established
+unfolding seq distance_of named reading header_of control_of unnumbered_of supervisory_of after_all out notes lost price_of_all
+confirmed_state = refl
+
+-- UA with F=0 is error D, and state 5 stays.
+not_confirmed : told_after usual (ask Establish ∷ offer ∷ []) (comes (0x02 ∷ 0x81 ∷ 0x63 ∷ [])) fresh
+    ≡ record { notes = tell.Error Call 64 code.D ∷ []; delivered = None; unit = None; orders = []; lost = 0; unserved = false }
+unfolding seq distance_of named reading header_of control_of unnumbered_of supervisory_of after_all out notes lost price_of_all
+not_confirmed = refl
+
+not_confirmed_state : (after_all usual (ask Establish ∷ offer ∷ comes (0x02 ∷ 0x81 ∷ 0x63 ∷ []) ∷ []) fresh).state
+    ≡ AwaitingEstablishment
+unfolding seq distance_of named reading header_of control_of unnumbered_of supervisory_of after_all out notes lost price_of_all
+not_confirmed_state = refl
+
+-- State 7, and DM with F=0: error E, SABME, state 5.
+begun_again : told usual (comes (0x02 ∷ 0x81 ∷ 0x0F ∷ [])) up
+    ≡ record { notes = tell.Error Call 64 code.E ∷ []; delivered = None; unit = None; orders = Start (timer.T200 Call 64) ∷ Stop (timer.T203 Call 64) ∷ []; lost = 0; unserved = false }
+unfolding seq distance_of named reading header_of control_of unnumbered_of supervisory_of after_all out notes lost price_of_all
+begun_again = refl
+
+begun_again_out : out usual (comes (0x02 ∷ 0x81 ∷ 0x0F ∷ []) ∷ offer ∷ offer ∷ []) up
+    ≡ (0x02 ∷ 0x81 ∷ 0x7F ∷ []) ∷ []
+unfolding seq distance_of named reading header_of control_of unnumbered_of supervisory_of after_all out notes lost price_of_all
+begun_again_out = refl
+
+begun_again_state : (after_all usual (comes (0x02 ∷ 0x81 ∷ 0x0F ∷ []) ∷ []) up).state
+    ≡ AwaitingEstablishment
+unfolding seq distance_of named reading header_of control_of unnumbered_of supervisory_of after_all out notes lost price_of_all
+begun_again_state = refl
+
+-- State 7, Release, and UA with F=1: DISC, a release confirm, state 4.
+released : out usual (ask Release ∷ offer ∷ comes (0x02 ∷ 0x81 ∷ 0x73 ∷ []) ∷ offer ∷ []) up
+    ≡ (0x02 ∷ 0x81 ∷ 0x53 ∷ []) ∷ []
+unfolding seq distance_of named reading header_of control_of unnumbered_of supervisory_of after_all out notes lost price_of_all
+released = refl
+
+released_told : told_after usual (ask Release ∷ offer ∷ []) (comes (0x02 ∷ 0x81 ∷ 0x73 ∷ [])) up
+    ≡ record { notes = tell.ReleaseConfirm Call 64 ∷ []; delivered = None; unit = None; orders = Stop (timer.T200 Call 64) ∷ []; lost = 0; unserved = false }
+unfolding seq distance_of named reading header_of control_of unnumbered_of supervisory_of after_all out notes lost price_of_all
+released_told = refl
+
+released_state : (after_all usual (ask Release ∷ offer ∷ comes (0x02 ∷ 0x81 ∷ 0x73 ∷ []) ∷ []) up).state
+    ≡ TeiAssigned
+unfolding seq distance_of named reading header_of control_of unnumbered_of supervisory_of after_all out notes lost price_of_all
+released_state = refl
+
+-- The terminal's SABME: UA, an establish indication, T203 started, state 7.
+established : told usual sabme fresh
+    ≡ record { notes = tell.EstablishIndication Call 64 ∷ []; delivered = None; unit = None; orders = Start (timer.T203 Call 64) ∷ []; lost = 0; unserved = false }
+unfolding seq distance_of named reading header_of control_of unnumbered_of supervisory_of after_all out notes lost price_of_all
+established = refl
+
+established_out : out usual (sabme ∷ offer ∷ offer ∷ []) fresh
+    ≡ (0x00 ∷ 0x81 ∷ 0x73 ∷ []) ∷ []
+unfolding seq distance_of named reading header_of control_of unnumbered_of supervisory_of after_all out notes lost price_of_all
+established_out = refl
+
+established_state : up
+    ≡ record fresh { state = Established; running = Some T203 }
+unfolding seq distance_of named reading header_of control_of unnumbered_of supervisory_of after_all out notes lost price_of_all
+established_state = refl
+
+-- The terminal's DISC in state 7: UA, a release indication, T203 stopped, state 4.
+released_by_the_terminal : told usual (comes (0x00 ∷ 0x81 ∷ 0x53 ∷ [])) up
+    ≡ record { notes = tell.ReleaseIndication Call 64 ∷ []; delivered = None; unit = None; orders = Stop (timer.T203 Call 64) ∷ []; lost = 0; unserved = false }
+unfolding seq distance_of named reading header_of control_of unnumbered_of supervisory_of after_all out notes lost price_of_all
+released_by_the_terminal = refl
+
+released_by_the_terminal_out : out usual (comes (0x00 ∷ 0x81 ∷ 0x53 ∷ []) ∷ offer ∷ offer ∷ []) up
+    ≡ (0x00 ∷ 0x81 ∷ 0x73 ∷ []) ∷ []
+unfolding seq distance_of named reading header_of control_of unnumbered_of supervisory_of after_all out notes lost price_of_all
+released_by_the_terminal_out = refl
+
+released_by_the_terminal_state : (after usual (comes (0x00 ∷ 0x81 ∷ 0x53 ∷ [])) up).state
+    ≡ TeiAssigned
+unfolding seq distance_of named reading header_of control_of unnumbered_of supervisory_of after_all out notes lost price_of_all
+released_by_the_terminal_state = refl
+
+-- SABME once and then four times with P=0, none pulled: the fifth UA is lost.
+fifth_is_lost : told_after usual (sabme ∷ comes (0x00 ∷ 0x81 ∷ 0x6F ∷ []) ∷ comes (0x00 ∷ 0x81 ∷ 0x6F ∷ []) ∷ comes (0x00 ∷ 0x81 ∷ 0x6F ∷ []) ∷ []) (comes (0x00 ∷ 0x81 ∷ 0x6F ∷ [])) fresh
+    ≡ record { notes = tell.Error Call 64 code.F ∷ []; delivered = None; unit = None; orders = Start (timer.T203 Call 64) ∷ []; lost = 1; unserved = false }
+unfolding seq distance_of named reading header_of control_of unnumbered_of supervisory_of after_all out notes lost price_of_all
+fifth_is_lost = refl
+
+fifth_is_lost_out : out usual (sabme ∷ comes (0x00 ∷ 0x81 ∷ 0x6F ∷ []) ∷ comes (0x00 ∷ 0x81 ∷ 0x6F ∷ []) ∷ comes (0x00 ∷ 0x81 ∷ 0x6F ∷ []) ∷ comes (0x00 ∷ 0x81 ∷ 0x6F ∷ []) ∷ offer ∷ offer ∷ offer ∷ offer ∷ offer ∷ []) fresh
+    ≡ (0x00 ∷ 0x81 ∷ 0x73 ∷ []) ∷ (0x00 ∷ 0x81 ∷ 0x63 ∷ []) ∷ (0x00 ∷ 0x81 ∷ 0x63 ∷ []) ∷ (0x00 ∷ 0x81 ∷ 0x63 ∷ []) ∷ []
+unfolding seq distance_of named reading header_of control_of unnumbered_of supervisory_of after_all out notes lost price_of_all
+fifth_is_lost_out = refl
+
+-- A packet link has SAPI 16.
+packet_established : told packet (comes (0x40 ∷ 0x81 ∷ 0x7F ∷ [])) fresh
+    ≡ record { notes = tell.EstablishIndication Packet 64 ∷ []; delivered = None; unit = None; orders = Start (timer.T203 Packet 64) ∷ []; lost = 0; unserved = false }
+unfolding seq distance_of named reading header_of control_of unnumbered_of supervisory_of after_all out notes lost price_of_all
+packet_established = refl
+
+packet_established_out : out packet (comes (0x40 ∷ 0x81 ∷ 0x7F ∷ []) ∷ offer ∷ []) fresh
+    ≡ (0x40 ∷ 0x81 ∷ 0x73 ∷ []) ∷ []
+unfolding seq distance_of named reading header_of control_of unnumbered_of supervisory_of after_all out notes lost price_of_all
+packet_established_out = refl
+
+-- The TEI leaves the line.
+cleared_in_7 : told usual cleared up
+    ≡ record { notes = tell.ReleaseIndication Call 64 ∷ []; delivered = None; unit = None; orders = Stop (timer.T203 Call 64) ∷ []; lost = 0; unserved = false }
+unfolding seq distance_of named reading header_of control_of unnumbered_of supervisory_of after_all out notes lost price_of_all
+cleared_in_7 = refl
+
+cleared_in_7_state : after usual cleared up
+    ≡ fresh
+unfolding seq distance_of named reading header_of control_of unnumbered_of supervisory_of after_all out notes lost price_of_all
+cleared_in_7_state = refl
+
+cleared_in_6 : told_after usual (ask Release ∷ []) cleared up
+    ≡ record { notes = tell.ReleaseConfirm Call 64 ∷ []; delivered = None; unit = None; orders = Stop (timer.T200 Call 64) ∷ []; lost = 0; unserved = false }
+unfolding seq distance_of named reading header_of control_of unnumbered_of supervisory_of after_all out notes lost price_of_all
+cleared_in_6 = refl
+
+-- States 4, 5 and 6 don't serve RR, and the request for what is there already is refused.
+unserved_in_4 : told usual (comes (0x00 ∷ 0x81 ∷ 0x01 ∷ 0x01 ∷ [])) fresh
+    ≡ record { notes = []; delivered = None; unit = None; orders = []; lost = 0; unserved = true }
+unfolding seq distance_of named reading header_of control_of unnumbered_of supervisory_of after_all out notes lost price_of_all
+unserved_in_4 = refl
+
+establish_refused : refusal usual up false Establish
+    ≡ Some WrongState
+unfolding seq distance_of named reading header_of control_of unnumbered_of supervisory_of after_all out notes lost price_of_all
+establish_refused = refl
+
+-- Release in state 4 is confirmed at once.
+released_while_down : told usual (ask Release) fresh
+    ≡ record { notes = tell.ReleaseConfirm Call 64 ∷ []; delivered = None; unit = None; orders = []; lost = 0; unserved = false }
+unfolding seq distance_of named reading header_of control_of unnumbered_of supervisory_of after_all out notes lost price_of_all
+released_while_down = refl

@@ -1,0 +1,73 @@
+-- The text of a script, by the answers to its events.
+use Rattle.std.specs.Prelude.{◌≡◌, ℕ, List, [], ◌∷◌, ◌++◌, map, flat_map, Option, None, Some, Result, Ok, Err}
+use Rattle.model_line.specs.declared.config.Config.{Config}
+use Rattle.model_card.specs.Card.{fresh}
+use Rattle.model_card.specs.Run.{Moment, moments}
+use Rattle.model_card.specs.Stored.{stored, limit}
+use Rattle.lapd_script.specs.declared.kind.FaultKind.{FaultKind}
+use Rattle.lapd_script.specs.Meaning as line
+use Rattle.lapd_script.specs.Read.{read}
+use Rattle.lapd_transcript.specs.Text.{stored_text}
+use Rattle.model_sim.specs.Pieces.{pieces_of, line_in}
+use Rattle.model_sim.specs.Bench.{Bench, taken_at}
+use Rattle.model_sim.specs.Steps.{answer_text, octet_in, pulled_text}
+use Rattle.model_sim.specs.Script.{Played, not_begun, one_more, played, transcript}
+use Rattle.model_sim.specs.Events.{meant_events, unless_fault, script_events, first_card}
+
+-- What an answer says, and the octet that it gives.
+abbrev pub reply_text : Moment → List ℕ
+reply_text m = answer_text m.event.line m.answer
+
+abbrev pub replies_text : List Moment → List ℕ
+replies_text ms = flat_map reply_text ms
+
+abbrev pub octet_given : Moment → ℕ
+octet_given m = octet_in m.answer
+
+-- What a line says, where its events have these answers: of the octets that it pulls, all together; `stored` shows the
+-- card.
+abbrev pub said : line.Meaning → Bench → List Moment → List ℕ
+said line.skip b ms = []
+said (line.card config) b ms = []
+said (line.rx number octets) b ms = replies_text ms
+said (line.into number octets) b ms = replies_text ms
+said (line.pull number count) b ms = pulled_text number (taken_at number b) (map octet_given ms)
+said (line.wait milliseconds) b ms = replies_text ms
+said line.stored b ms = stored_text (stored b.card) (limit b.card.config)
+said (line.ask number tei what octets) b ms = replies_text ms
+
+-- The moments of a line, and what it says; before the card line, and from the first faulty line on, nothing.
+abbrev pub meant_moments : line.Meaning → Bench → List Moment
+meant_moments m b = moments b.card (meant_events m (record { bench = b; text = [] }))
+
+abbrev pub read_moments : Result line.Meaning FaultKind → Option Bench → List Moment
+read_moments (Err kind) bench = []
+read_moments (Ok m) None = []
+read_moments (Ok m) (Some b) = meant_moments m b
+
+abbrev pub read_text : Result line.Meaning FaultKind → Option Bench → List ℕ
+read_text (Err kind) bench = []
+read_text (Ok m) None = []
+read_text (Ok m) (Some b) = said m b (meant_moments m b)
+
+abbrev pub line_moments : List ℕ → Played → List Moment
+line_moments piece p = unless_fault (one_more p piece).fault (read_moments (read (line_in piece)) p.bench)
+
+abbrev pub line_text : List ℕ → Played → List ℕ
+line_text piece p = unless_fault (one_more p piece).fault (read_text (read (line_in piece)) p.bench)
+
+-- Of lines, from where the script has been played to.
+abbrev pub moments_from : Played → List (List ℕ) → List Moment
+moments_from p [] = []
+moments_from p (piece ∷ pieces) = line_moments piece p ++ moments_from (one_more p piece) pieces
+
+abbrev pub text_from : Played → List (List ℕ) → List ℕ
+text_from p [] = []
+text_from p (piece ∷ pieces) = line_text piece p ++ text_from (one_more p piece) pieces
+
+-- The moments of the lines, one after the other, are those of the run of the script's events from the fresh card on;
+-- and the transcript is what the lines say of them.
+pub record TranscriptsAreReplies : Type 0 where
+  pub by_line : (text : List ℕ) (bench : Bench) (c : Config) → (played (pieces_of text)).bench ≡ Some bench → first_card (pieces_of text) ≡ Some c
+      → moments (fresh c) (script_events text) ≡ moments_from not_begun (pieces_of text)
+  pub text : (text : List ℕ) → transcript text ≡ text_from not_begun (pieces_of text)

@@ -1,0 +1,6 @@
+use Rattle.std.proofs.Common.{◌≡◌}
+use Rattle.test_card.proofs.example.order.Given as goal
+
+-- the clock still has its lines
+abbrev pub invariant-loop-order : goal.invariant-loop-order
+invariant-loop-order l = l.timers.lines ≡ l.fn.timers.lines

@@ -1,0 +1,33 @@
+//! Tests of the card by the public contracts of `lapd_card`. What a transcript shows is in `tests/scripts`. The one
+//! call shows by its contract what a caller of `drive` can conclude.
+//!
+//! - `kept`: what a sink that keeps replies has kept after a list of events.
+//! - `starts`: which configurations and shelves a card starts with, and its faults in words.
+//! - `sinks`: whole lists of events, and sinks that fail.
+//! - `refusals`: requests that are refused, and what the card stores before and after.
+//! - `timers`: the orders of single events.
+//! - `own_shelf`: a card over a shelf of the caller's own.
+//! - `example`: a line that is served, as in the README.
+//! - `rows`: worked rows, with every allocation after the starts refused by `tests/memory`: no answer changes.
+//! - `memory`: starts and long runs, of which `tests/memory` counts the allocations.
+#![tactic(auto)]
+
+#[cfg(test)]
+mod example;
+mod kept;
+#[cfg(test)]
+mod memory;
+#[cfg(test)]
+mod own_shelf;
+#[cfg(test)]
+mod refusals;
+#[cfg(test)]
+mod rows;
+#[cfg(test)]
+mod sinks;
+#[cfg(test)]
+mod starts;
+#[cfg(test)]
+mod timers;
+
+pub use kept::keep_replies;

@@ -1,0 +1,144 @@
+//! Runs the rows, and compares what the card has answered.
+
+ghost use Rattle.std.specs.Prelude.{◌≡◌, ◌<◌, All};
+ghost use Rattle.lapd_card.specs.Card.{line_count};
+ghost use Rattle.lapd_card.specs.Drive.{line_of};
+
+use super::line_rows::LINE_ROWS;
+use super::link_rows::LINK_ROWS;
+use super::row::{CALL, Row, Step};
+use super::sink::FixedSink;
+use test_shelf::ArrayShelf;
+use lapd_card::{Card, Event};
+use std::alloc::Global;
+use std::test::Fail;
+
+/// A card of one line, and what it has answered.
+#[derive(Drop)]
+struct Bench {
+    card: Card<ArrayShelf>,
+    sink: FixedSink,
+}
+
+impl Bench {
+    fn start(alloc: Global, row: &Row) -> Result<Bench, Fail> {
+        Ok(Bench {
+            card: Card::start(alloc, row.config, ArrayShelf::new())?,
+            sink: FixedSink::new(),
+        })
+    }
+
+    fn drive(&mut self, events: &[Event<'_>]) -> bool
+        requires { All (λ event. line_of event < line_count self.old.card) events.now }
+    {
+        self.card.drive(events, &mut self.sink).is_ok()
+    }
+
+    fn run(&mut self, event: Event<'_>) -> bool
+        requires { line_of event ≡ 0 }
+    {
+        self.card.lines() > 0 && self.drive(&[event])
+    }
+
+    fn line(&mut self, octets: &[u8]) -> bool {
+        for octet in octets.iter() {
+            if !self.run(Event::Octet(0, *octet)) {
+                return false;
+            }
+        }
+        true
+    }
+
+    fn pull(&mut self, eights: usize) -> bool {
+        for _ in 0..eights {
+            if self.card.lines() == 0 || !self.drive(&[Event::Pull(0); 8]) {
+                return false;
+            }
+        }
+        true
+    }
+
+    fn each(&mut self, octets: &[u8], size: usize, eights: usize) -> bool {
+        let mut rest = octets;
+        for _ in 0..octets.len() {
+            if rest.is_empty() {
+                return true;
+            }
+            let (first, more) = rest.split_at(size.min(rest.len()));
+            if !self.line(first) || !self.pull(eights) {
+                return false;
+            }
+            rest = more;
+        }
+        rest.is_empty()
+    }
+
+    fn step(&mut self, step: Step) -> bool {
+        match step {
+            Step::Line(octets) => self.line(octets),
+            Step::Ask(request) => self.run(Event::Request(0, request)),
+            Step::Expire(timer) => self.run(Event::Expire(0, timer)),
+            Step::Pull(eights) => self.pull(eights),
+            Step::Each {
+                octets,
+                size,
+                eights,
+            } => self.each(octets, size, eights),
+        }
+    }
+
+    fn play(&mut self, steps: &[Step]) -> bool {
+        for step in steps.iter() {
+            if !self.step(*step) {
+                return false;
+            }
+        }
+        true
+    }
+
+    fn answers(&mut self, row: &Row) -> bool {
+        self.play(row.before)
+            && self.play(row.steps)
+            && self.sink.seen.is_wanted_by(row)
+            && self.card.state(0, CALL, 64) == row.state
+    }
+}
+
+/// One card for each row.
+fn benches(alloc: Global, rows: &[Row]) -> Result<Vec<Bench>, Fail> {
+    let mut benches = Vec::with_capacity(alloc, rows.len())?;
+    for row in rows.iter() {
+        benches.push(Bench::start(alloc, row)?)?;
+    }
+    Ok(benches)
+}
+
+/// The first row that is not answered as it wants, each by a card of its own from its start.
+fn fault(benches: &mut [Bench], rows: &[Row]) -> Option<usize> {
+    if benches.len() != rows.len() {
+        return Some(rows.len());
+    }
+    for (place, bench) in benches.iter_mut().enumerate() {
+        if !bench.answers(&rows[place]) {
+            return Some(place);
+        }
+    }
+    None
+}
+
+/// `tests/memory` counts the allocations of the starts by this test, and refuses all others in the next.
+#[test]
+fn the_starts(rt: HostRuntime) -> Result<(), Fail> {
+    assert!(rt; benches(rt.alloc(), &LINE_ROWS)?.len() == 11);
+    assert!(rt; benches(rt.alloc(), &LINK_ROWS)?.len() == 13);
+    Ok(())
+}
+
+#[test]
+fn each_row(rt: HostRuntime) -> Result<(), Fail> {
+    let mut of_lines = benches(rt.alloc(), &LINE_ROWS)?;
+    let mut of_links = benches(rt.alloc(), &LINK_ROWS)?;
+    assert_eq!(rt; fault(&mut of_lines, &LINE_ROWS), None);
+    assert_eq!(rt; fault(&mut of_links, &LINK_ROWS), None);
+    Ok(())
+}

@@ -1,0 +1,8 @@
+use Rattle.std.proofs.Common.{[], ◌∙◌}
+use Rattle.test_link.proofs.bench.Bench.clear.Goals as goal
+
+pub clear-requires : goal.clear-requires
+clear-requires c = ([], c.requires.0, c.requires.1)
+
+pub returns : goal.returns
+returns c = (_, c.clear.ensures.stands [] c.requires.0 c.requires.1, c.clear.ensures.limits.slots ∙ c.requires.2)

@@ -1,0 +1,8 @@
+use Rattle.std.proofs.Common.{[], ◌∙◌}
+use Rattle.test_link.proofs.bench.Bench.expire.Goals as goal
+
+pub expire-requires : goal.expire-requires
+expire-requires c = ([], c.requires.0, c.requires.1)
+
+pub returns : goal.returns
+returns c = (_, c.expire.ensures.stands [] c.requires.0 c.requires.1, c.expire.ensures.limits.slots ∙ c.requires.2)

@@ -1,0 +1,8 @@
+use Rattle.std.proofs.Common.{[], ◌∙◌}
+use Rattle.test_link.proofs.bench.Bench.hear.Goals as goal
+
+pub receive-requires : goal.receive-requires
+receive-requires c = ([], c.requires.0, c.requires.1)
+
+pub returns : goal.returns
+returns c = (_, c.receive.ensures.stands [] c.requires.0 c.requires.1, c.receive.ensures.limits.slots ∙ c.requires.2)

@@ -1,0 +1,8 @@
+use Rattle.std.proofs.Common.{[], ◌∙◌}
+use Rattle.test_link.proofs.bench.Bench.listen.Goals as goal
+
+pub frame-requires : goal.frame-requires
+frame-requires c = ([], c.requires.0, c.requires.1)
+
+pub returns : goal.returns
+returns c = (_, c.frame.ensures.stands [] c.requires.0 c.requires.1, c.frame.ensures.limits.slots ∙ c.requires.2)

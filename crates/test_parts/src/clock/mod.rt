@@ -1,0 +1,3 @@
+//! Runs of clocks, worked out by hand, and starts.
+
+mod runs;

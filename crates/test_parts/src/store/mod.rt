@@ -1,0 +1,8 @@
+//! Each shelf by the same tests, through the trait; queues of slots; and queues of messages on a shelf that others use
+//! too (`outbox`, `sharing`).
+
+mod each_shelf;
+mod outbox;
+mod sharing;
+mod slab_shelf;
+mod slot_queue;

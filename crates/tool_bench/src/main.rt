@@ -1,0 +1,55 @@
+//! `tool_bench WORK ROUNDS` does one kind of work so many times, and prints how many octets and frames, or contents, there
+//! were and how many octets the workers held at most. Its time is taken outside, by `tests/bench`.
+//!
+//! `WORK` is the name of one of the works (`Work::name`), or `all`, which does each of them in turn.
+#![tactic(auto)]
+
+mod busy;
+mod copies;
+mod done;
+mod fault;
+mod lengths;
+mod line;
+mod lines;
+mod sender;
+mod shelves;
+mod size;
+mod terminal;
+mod work;
+
+use crate::fault::Fault;
+use crate::work::{WORKS, Work};
+use std::alloc::Global;
+use std::env;
+
+/// Does one kind of work, and prints how much it was.
+fn report(rt: &impl Print, alloc: Global, work: Work, rounds: u32) -> Result<(), Fault> {
+    let done = work.run(alloc, rounds)?;
+    println!(rt;
+        "{} {} octets {} frames {} held sum {}",
+        work.name(),
+        done.octets,
+        done.frames,
+        done.held,
+        done.sum
+    )?;
+    Ok(())
+}
+
+fn main(rt: HostRuntime) -> Result<(), Fault> {
+    let words = env::args(&rt)?.skip(1).collect::<Vec<String>>(rt.alloc())?;
+    let [name, rounds] = words.as_slice() else {
+        return Err(Fault::Words);
+    };
+    let Ok(rounds) = rounds.parse::<u32>() else {
+        return Err(Fault::Words);
+    };
+    let mut is_known = false;
+    for work in WORKS {
+        if name.as_str() == "all" || name.as_str() == work.name() {
+            is_known = true;
+            report(&rt, rt.alloc(), work, rounds)?;
+        }
+    }
+    if is_known { Ok(()) } else { Err(Fault::Words) }
+}

@@ -1,0 +1,218 @@
+//! What happens to a link, and what it leads to.
+
+ghost use Rattle.test_link.specs.Works.{Works};
+
+use lapd_frame::{Control, Refusal};
+use lapd_link::{Answer, LinkRequest, LinkTimer, Offer, Received};
+use test_link::Bench;
+use lapd_seq::Seq;
+
+/// As many slots as the shelf of a link has.
+pub const SLOTS: u32 = 2;
+
+/// A state of a link, by the events that lead there from state 4.
+#[derive(Clone, Copy, Debug)]
+pub struct Case {
+    /// What the state is called.
+    pub name: &'static str,
+    /// Events after each of which what waits is sent.
+    pub events: &'static [Event],
+    /// Events after them, each of which leaves a control frame waiting.
+    pub held: &'static [Event],
+}
+
+/// A frame with an N(R).
+#[derive(Clone, Copy, Debug)]
+pub enum Kind {
+    /// The next contents in order: N(S) 0.
+    NextInformation,
+    /// Contents out of order: N(S) 1.
+    OtherInformation,
+    /// RR.
+    Ready,
+    /// RNR.
+    NotReady,
+    /// REJ.
+    Reject,
+}
+
+/// A frame without numbers.
+#[derive(Clone, Copy, Debug)]
+pub enum Unnumbered {
+    /// SABME, a command.
+    Sabme,
+    /// DISC, a command.
+    Disc,
+    /// UA, a response.
+    Ua,
+    /// DM, a response.
+    Dm,
+    /// FRMR, a response.
+    Frmr,
+    /// UI, a command.
+    Ui,
+    /// XID, a command.
+    Xid,
+}
+
+/// What is no frame of the exchange.
+#[derive(Clone, Copy, Debug)]
+pub enum Malformed {
+    /// Its control field is undefined.
+    Undefined,
+    /// Its size is wrong.
+    WrongSize,
+    /// An I-frame over N201.
+    Overlong,
+}
+
+/// What happens to a link.
+#[derive(Clone, Copy, Debug)]
+pub enum Event {
+    /// A frame without numbers comes, with this P or F.
+    Plain(Unnumbered, bool),
+    /// A command with an N(R) comes: its kind, its N(R), and P.
+    Command(Kind, u8, bool),
+    /// A response with an N(R) comes: its kind, its N(R), and F.
+    Response(Kind, u8, bool),
+    /// What came is malformed.
+    Malformed(Malformed),
+    /// A timer expires.
+    Expire(LinkTimer),
+    /// Layer 3 asks for something.
+    Ask(LinkRequest<'static>),
+    /// The TEI leaves the line.
+    Clear,
+}
+
+/// What an event led to, and what was sent after it.
+#[derive(Clone, Copy, Debug)]
+pub struct Led {
+    /// The state before.
+    pub state: u8,
+    /// What was told, or why a request was refused.
+    pub answer: Result<Answer, Refusal>,
+    /// The frames that were sent then, but those that waited before.
+    pub sent: [Option<Offer>; 4],
+}
+
+/// Leads a link to a state, and plays one event there.
+pub fn lead(bench: &mut Bench, case: Case, event: Event) -> Led
+    requires { Works 2 bench.old }
+    ensures { Works 2 bench.new }
+{
+    prepare(bench, case.events);
+    hold(bench, case.held);
+    let state = bench.link.state();
+    let answer = give(bench, event);
+    skip(bench, case.held.len());
+    let sent = send(bench);
+    Led {
+        state,
+        answer,
+        sent,
+    }
+}
+
+/// Plays events, and after each sends what waits.
+fn prepare(bench: &mut Bench, events: &[Event])
+    requires { Works 2 bench.old }
+    ensures { Works 2 bench.new }
+{
+    for event in events {
+        let _ = give(bench, *event);
+        let _ = send(bench);
+    }
+}
+
+fn hold(bench: &mut Bench, events: &[Event])
+    requires { Works 2 bench.old }
+    ensures { Works 2 bench.new }
+{
+    for event in events {
+        let _ = give(bench, *event);
+    }
+}
+
+fn skip(bench: &mut Bench, frames: usize)
+    requires { Works 2 bench.old }
+    ensures { Works 2 bench.new }
+{
+    for _ in 0..frames {
+        let _ = bench.offer(SLOTS);
+    }
+}
+
+/// Sends what waits: no event of the tables lets more than three frames go.
+fn send(bench: &mut Bench) -> [Option<Offer>; 4]
+    requires { Works 2 bench.old }
+    ensures { Works 2 bench.new }
+{
+    let first = bench.offer(SLOTS);
+    let second = bench.offer(SLOTS);
+    let third = bench.offer(SLOTS);
+    let fourth = bench.offer(SLOTS);
+    [first, second, third, fourth]
+}
+
+fn give(bench: &mut Bench, event: Event) -> Result<Answer, Refusal>
+    requires { Works 2 bench.old }
+    ensures { Works 2 bench.new }
+{
+    match event {
+        Event::Plain(frame, pf) => {
+            let (command, control) = frame_of(frame, pf);
+            Ok(bench.hear(SLOTS, command, control, &[]))
+        }
+        Event::Command(kind, nr, p) => Ok(bench.hear(SLOTS, true, control_of(kind, nr, p), &[])),
+        Event::Response(kind, nr, f) => Ok(bench.hear(SLOTS, false, control_of(kind, nr, f), &[])),
+        Event::Malformed(malformed) => Ok(receive(bench, malformed)),
+        Event::Expire(timer) => Ok(bench.expire(SLOTS, timer)),
+        Event::Ask(request) => bench.ask(SLOTS, request),
+        Event::Clear => Ok(bench.clear(SLOTS)),
+    }
+}
+
+fn receive(bench: &mut Bench, malformed: Malformed) -> Answer
+    requires { Works 2 bench.old }
+    ensures { Works 2 bench.new }
+{
+    let received = match malformed {
+        Malformed::Undefined => Received::Undefined,
+        Malformed::WrongSize => Received::WrongSize,
+        Malformed::Overlong => Received::Overlong,
+    };
+    bench.link.receive(received, &mut bench.shelf)
+}
+
+/// Whether it is a command, and its control field.
+fn frame_of(frame: Unnumbered, pf: bool) -> (bool, Control) {
+    match frame {
+        Unnumbered::Sabme => (true, Control::Sabme { pf }),
+        Unnumbered::Disc => (true, Control::Disc { pf }),
+        Unnumbered::Ua => (false, Control::Ua { pf }),
+        Unnumbered::Dm => (false, Control::Dm { pf }),
+        Unnumbered::Frmr => (false, Control::Frmr { pf }),
+        Unnumbered::Ui => (true, Control::Ui { pf }),
+        Unnumbered::Xid => (true, Control::Xid { pf }),
+    }
+}
+
+fn control_of(kind: Kind, nr: u8, pf: bool) -> Control {
+    let nr = Seq::new(nr % 128);
+    match kind {
+        Kind::NextInformation => Control::Information {
+            ns: Seq::new(0),
+            nr,
+            pf,
+        },
+        Kind::OtherInformation => Control::Information {
+            ns: Seq::new(1),
+            nr,
+            pf,
+        },
+        Kind::Ready => Control::ReceiveReady { nr, pf },
+        Kind::NotReady => Control::ReceiveNotReady { nr, pf },
+        Kind::Reject => Control::Reject { nr, pf },
+    }
+}

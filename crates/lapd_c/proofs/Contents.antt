@@ -31,7 +31,7 @@ use Rattle.lapd_tei.specs.declared.outcome.Change.{Change}
 use Rattle.lapd_tei.specs.declared.outcome.Change.TheVariants.{Gained, Left}
 use Rattle.lapd_tei.specs.Machine as tei
 use Rattle.model_line.specs.declared.config.Config.{Config}
-use Rattle.model_line.specs.Answer.{Event, octet, expiry, request, pull, Answer, Told, told, refused, pulled, nothing}
+use Rattle.model_line.specs.Event.{Event, octet, expiry, request, pull, Answer, LineTold, told, refused, pulled, nothing}
 use Rattle.model_line.specs.Effect.{at_none, told_of_management, of_link, of_change, of_management, of_aim}
 use Rattle.model_line.specs.Expiry.{at_timer, aim_of_expiry}
 use Rattle.model_line.specs.Line.{Line, link_in, terms, place_in}
@@ -128,7 +128,7 @@ module _ (c : Config) where
       let t = terms c service tei in let x = link_in l service place in
       either_small c.n201 (links.told t e x).delivered (links.told t e x).unit (delivered-small t e x) h
 
-  change-small : (o : Option Change) (t : tei.Told) (l : Line) → IsSmall c.n201 (of_change c o (told_of_management t) l).told.contents
+  change-small : (o : Option Change) (t : tei.TeiTold) (l : Line) → IsSmall c.n201 (of_change c o (told_of_management t) l).told.contents
   change-small None t l = omega arith
   change-small (Some (Gained n place)) t l = omega arith
   change-small (Some (Left n place)) t l = omega arith

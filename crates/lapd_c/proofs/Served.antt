@@ -5,7 +5,7 @@ use Rattle.lapd_frame.specs.declared.notes.Note.{Note}
 use Rattle.lapd_frame.specs.declared.timers.Order.{Order}
 use Rattle.lapd_line.specs.declared.reports.Report.{Report}
 use Rattle.lapd_line.specs.Reports.{report_told}
-use Rattle.model_line.specs.Answer.{Told, told}
+use Rattle.model_line.specs.Event.{LineTold, told}
 use Rattle.model_line.proofs.Ranges.{ranges_of}
 use Rattle.model_card.specs.Card.{Card}
 use Rattle.model_card.specs.Event.{Event}
@@ -26,7 +26,7 @@ pub if_some : {X : Type 0} (P : X → Type 0) (o : Option X) (x : X) → o ≡ S
 if_some P o x e p = subst (λ r. IfSome r P) (sym e) p
 
 -- contents of an answer have room in a report
-pub small : (m : Card) (e : Event) (t : Told) → IsSound m → told t ≡ answer e m → length (contents_of t.contents) ≤ 260
+pub small : (m : Card) (e : Event) (t : LineTold) → IsSound m → told t ≡ answer e m → length (contents_of t.contents) ≤ 260
 small m e t sound is =
     let fits : length (contents_of (contents_in (told t))) ≤ m.config.n201 = subst (λ a. length (contents_of (contents_in a)) ≤ m.config.n201) (sym is) (contents_fit m e) in
     let most : m.config.n201 ≤ 260 = (ranges_of m.config sound.config).n201.most in
@@ -44,12 +44,12 @@ shown m e r notes orders p sound is same_notes same_orders h =
     subst (ShowsAnswer p) is (subst (λ (o : List Order). Shows p (told_by t.notes o r.cause r.lost (option_copied r.delivered))) same_orders with_notes)
 
 -- and what they tell
-pub shown_told : (t : Told) (r : Report) (notes : List Note) (orders : List Order) (p : PlainReport) → report_told r ≡ t
+pub shown_told : (t : LineTold) (r : Report) (notes : List Note) (orders : List Order) (p : PlainReport) → report_told r ≡ t
     → notes ≡ (report_told r).notes → orders ≡ (report_told r).orders
     → (length (contents_of (option_copied r.delivered)) ≤ 260 → Shows p (told_by notes orders r.cause r.lost (option_copied r.delivered)))
     → length (contents_of t.contents) ≤ 260 → Shows p t
 shown_told t r notes orders p is same_notes same_orders h few =
     let u = report_told r in
-    let all = h (subst (λ (v : Told). length (contents_of v.contents) ≤ 260) (sym is) few) in
+    let all = h (subst (λ (v : LineTold). length (contents_of v.contents) ≤ 260) (sym is) few) in
     let with_notes = subst (λ (n : List Note). Shows p (told_by n orders r.cause r.lost (option_copied r.delivered))) same_notes all in
     subst (Shows p) is (subst (λ (o : List Order). Shows p (told_by u.notes o r.cause r.lost (option_copied r.delivered))) same_orders with_notes)

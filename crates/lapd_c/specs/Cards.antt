@@ -3,8 +3,8 @@ use Rattle.std.specs.Prelude.{◌≡◌, ◌≤◌, ◌<◌, ℕ, is_some, None,
 use Rattle.model_card.specs.Card as machine
 use Rattle.model_card.specs.Event.{at}
 use Rattle.model_card.specs.Machine.{after, answer}
-use Rattle.model_line.specs.Answer.{Answer, told, refused, pulled}
-use Rattle.model_line.specs.Answer as happening
+use Rattle.model_line.specs.Event.{Answer, told, refused, pulled}
+use Rattle.model_line.specs.Event as line_event
 use Rattle.lapd_store.specs.Store.{Store}
 use Rattle.lapd_card.specs.Card.{Held}
 use Rattle.lapd_card.specs.Stands as card

@@ -4,7 +4,7 @@ use Rattle.model_card.specs.Card.{Card}
 use Rattle.model_card.specs.Event.{Event, at}
 use Rattle.model_card.specs.Machine.{after, answer}
 use Rattle.model_card.specs.Run.{run}
-use Rattle.model_line.specs.Answer.{Answer, octet, pull, told, refused, pulled, nothing}
+use Rattle.model_line.specs.Event.{Answer, octet, pull, told, refused, pulled, nothing}
 use Rattle.lapd_store.specs.Store.{Store}
 use Rattle.lapd_card.specs.Card.{Held}
 use Rattle.lapd_plain.specs.declared.reports.PlainReport.{PlainReport}

@@ -1,6 +1,6 @@
 -- What a card's machine answers fits a report.
 use Rattle.std.specs.Prelude.{ℕ, ◌≤◌, List, length, Option, None}
-use Rattle.model_line.specs.Answer.{Answer, told, refused, pulled}
+use Rattle.model_line.specs.Event.{Answer, told, refused, pulled}
 use Rattle.model_card.specs.Card.{Card}
 use Rattle.model_card.specs.Event.{Event}
 use Rattle.model_card.specs.Machine.{answer}

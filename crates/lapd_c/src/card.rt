@@ -10,9 +10,9 @@ ghost use Rattle.lapd_c.specs.Cards.{card_of, IsHandle, Stands, CardStands};
 
 use crate::card_slot::CardSlot;
 use lapd_card::Card;
-use model_line::Config;
 use lapd_plain::{NO_CARD, NO_MEMORY, OK, PlainConfig, SECOND_START, field_status};
 use lapd_store::RawShelf;
+use model_line::Config;
 use std::alloc::Global;
 use std::mem::replace;
 

@@ -4,7 +4,7 @@ ghost use Rattle.std.specs.Prelude.{◌≡◌, ◌≤◌, ◌<◌, Some, None, I
 ghost use Rattle.model_card.specs.Card as machine;
 ghost use Rattle.model_card.specs.Event.{at};
 ghost use Rattle.model_card.specs.Machine.{after, answer};
-ghost use Rattle.model_line.specs.Answer as happening;
+ghost use Rattle.model_line.specs.Event as line_event;
 ghost use Rattle.model_line.specs.Refusal.{refusal};
 ghost use Rattle.lapd_plain.specs.Statuses as status;
 ghost use Rattle.lapd_plain.specs.Statuses.{refusal_status};
@@ -34,8 +34,8 @@ pub extern "C" fn lapd_octet(
     ensures wrong_line { (m : machine.Card) → Stands handle.old m → m.config.lines ≤ line
         → (result ≡ status.wrong_line) × Stands handle.new m × (report.new ≡ report.old) }
     ensures served { (m : machine.Card) → Stands handle.old m → line < m.config.lines
-        → (result ≡ status.ok) × Stands handle.new (after (at line (happening.octet octet)) m)
-        × ShowsAnswer report.new (answer (at line (happening.octet octet)) m) }
+        → (result ≡ status.ok) × Stands handle.new (after (at line (line_event.octet octet)) m)
+        × ShowsAnswer report.new (answer (at line (line_event.octet octet)) m) }
 {
     let Some(mut card) = handle.take(alloc) else {
         return NO_CARD;
@@ -49,8 +49,8 @@ fn take_octet(card: &mut Card<RawShelf>, line: u32, octet: u8, report: &mut Plai
     ensures wrong_line { (m : machine.Card) → CardStands card.old m → m.config.lines ≤ line
         → (result ≡ status.wrong_line) × CardStands card.new m × (report.new ≡ report.old) }
     ensures served { (m : machine.Card) → CardStands card.old m → line < m.config.lines
-        → (result ≡ status.ok) × CardStands card.new (after (at line (happening.octet octet)) m)
-        × ShowsAnswer report.new (answer (at line (happening.octet octet)) m) }
+        → (result ≡ status.ok) × CardStands card.new (after (at line (line_event.octet octet)) m)
+        × ShowsAnswer report.new (answer (at line (line_event.octet octet)) m) }
 {
     let line = line as usize;
     if line >= card.lines() {
@@ -91,9 +91,9 @@ pub extern "C" fn lapd_pull(
     ensures wrong_line { (m : machine.Card) → Stands handle.old m → m.config.lines ≤ line
         → (result ≡ status.wrong_line) × Stands handle.new m × (octet.new ≡ octet.old) × (report.new ≡ report.old) }
     ensures served { (m : machine.Card) → Stands handle.old m → line < m.config.lines
-        → (result ≡ status.ok) × Stands handle.new (after (at line happening.pull) m)
-        × (octet.new ≡ octet_of (answer (at line happening.pull) m))
-        × ShowsAnswer report.new (answer (at line happening.pull) m) }
+        → (result ≡ status.ok) × Stands handle.new (after (at line line_event.pull) m)
+        × (octet.new ≡ octet_of (answer (at line line_event.pull) m))
+        × ShowsAnswer report.new (answer (at line line_event.pull) m) }
 {
     let Some(mut card) = handle.take(alloc) else {
         return NO_CARD;
@@ -107,9 +107,9 @@ fn give_octet(card: &mut Card<RawShelf>, line: u32, octet: &mut u8, report: &mut
     ensures wrong_line { (m : machine.Card) → CardStands card.old m → m.config.lines ≤ line
         → (result ≡ status.wrong_line) × CardStands card.new m × (octet.new ≡ octet.old) × (report.new ≡ report.old) }
     ensures served { (m : machine.Card) → CardStands card.old m → line < m.config.lines
-        → (result ≡ status.ok) × CardStands card.new (after (at line happening.pull) m)
-        × (octet.new ≡ octet_of (answer (at line happening.pull) m))
-        × ShowsAnswer report.new (answer (at line happening.pull) m) }
+        → (result ≡ status.ok) × CardStands card.new (after (at line line_event.pull) m)
+        × (octet.new ≡ octet_of (answer (at line line_event.pull) m))
+        × ShowsAnswer report.new (answer (at line line_event.pull) m) }
 {
     let line = line as usize;
     if line >= card.lines() {
@@ -141,8 +141,8 @@ pub extern "C" fn lapd_expire(
         (result ≡ wrong) × Stands handle.new m × (report.new ≡ report.old)) }
     ensures served { (m : machine.Card) → Stands handle.old m → line < m.config.lines
         → IfOk (timer_in timer.now) (λ expired.
-        (result ≡ status.ok) × Stands handle.new (after (at line (happening.expiry expired)) m)
-        × ShowsAnswer report.new (answer (at line (happening.expiry expired)) m)) }
+        (result ≡ status.ok) × Stands handle.new (after (at line (line_event.expiry expired)) m)
+        × ShowsAnswer report.new (answer (at line (line_event.expiry expired)) m)) }
 {
     let Some(mut card) = handle.take(alloc) else {
         return NO_CARD;
@@ -165,8 +165,8 @@ fn expire_timer(
         (result ≡ wrong) × CardStands card.new m × (report.new ≡ report.old)) }
     ensures served { (m : machine.Card) → CardStands card.old m → line < m.config.lines
         → IfOk (timer_in timer.now) (λ expired.
-        (result ≡ status.ok) × CardStands card.new (after (at line (happening.expiry expired)) m)
-        × ShowsAnswer report.new (answer (at line (happening.expiry expired)) m)) }
+        (result ≡ status.ok) × CardStands card.new (after (at line (line_event.expiry expired)) m)
+        × ShowsAnswer report.new (answer (at line (line_event.expiry expired)) m)) }
 {
     let line = line as usize;
     if line >= card.lines() {
@@ -216,8 +216,8 @@ pub extern "C" fn lapd_request(
     ensures served { (m : machine.Card) → Stands handle.old m → line < m.config.lines
         → IfOk (request_in request service tei contents.now) (λ asked.
         refusal m.config (machine.is_full m) asked (machine.line_at line m) ≡ None
-        → (result ≡ status.ok) × Stands handle.new (after (at line (happening.request asked)) m)
-        × ShowsAnswer report.new (answer (at line (happening.request asked)) m)) }
+        → (result ≡ status.ok) × Stands handle.new (after (at line (line_event.request asked)) m)
+        × ShowsAnswer report.new (answer (at line (line_event.request asked)) m)) }
 {
     let Some(mut card) = handle.take(alloc) else {
         return NO_CARD;
@@ -248,8 +248,8 @@ fn ask(
     ensures served { (m : machine.Card) → CardStands card.old m → line < m.config.lines
         → IfOk (request_in request service tei contents.now) (λ asked.
         refusal m.config (machine.is_full m) asked (machine.line_at line m) ≡ None
-        → (result ≡ status.ok) × CardStands card.new (after (at line (happening.request asked)) m)
-        × ShowsAnswer report.new (answer (at line (happening.request asked)) m)) }
+        → (result ≡ status.ok) × CardStands card.new (after (at line (line_event.request asked)) m)
+        × ShowsAnswer report.new (answer (at line (line_event.request asked)) m)) }
 {
     let line = line as usize;
     if line >= card.lines() {

@@ -4,7 +4,7 @@ ghost use Rattle.std.specs.Prelude.{◌≡◌, ◌≤◌, ◌<◌, ◌*◌, true
 ghost use Rattle.model_card.specs.Card as machine;
 ghost use Rattle.model_card.specs.Event.{at};
 ghost use Rattle.model_card.specs.Machine.{answer};
-ghost use Rattle.model_line.specs.Answer as happening;
+ghost use Rattle.model_line.specs.Event as line_event;
 ghost use Rattle.lapd_card.specs.Card.{line_count};
 ghost use Rattle.lapd_card.specs.Lines.{told_at};
 ghost use Rattle.lapd_card.specs.Stands.{Leads};
@@ -140,11 +140,11 @@ fn make_step(
 // Takes an octet, and says whether there is anything to tell; else nothing is written.
 fn tells_taken(card: &mut Card<RawShelf>, line: usize, octet: u8, report: &mut PlainReport) -> bool
     requires { line < line_count card.old }
-    ensures leads { Leads shelf_of (at line (happening.octet octet)) card.old card.new }
+    ensures leads { Leads shelf_of (at line (line_event.octet octet)) card.old card.new }
     ensures tells { (m : machine.Card) → CardStands card.old m
-        → result ≡ not (is_quiet (answer (at line (happening.octet octet)) m)) }
+        → result ≡ not (is_quiet (answer (at line (line_event.octet octet)) m)) }
     ensures shown { (m : machine.Card) → CardStands card.old m → result ≡ true
-        → ShowsAnswer report.new (answer (at line (happening.octet octet)) m) }
+        → ShowsAnswer report.new (answer (at line (line_event.octet octet)) m) }
     ensures unchanged { result ≡ false → report.new ≡ report.old }
 {
     match card.hear(line, octet) {
@@ -162,7 +162,7 @@ fn tells_ended(
     report: &mut PlainReport,
 ) -> bool
     requires { line < line_count card.now }
-    ensures tells { result ≡ not (is_quiet (happening.told (told_at card.now.lines line bare.now))) }
+    ensures tells { result ≡ not (is_quiet (line_event.told (told_at card.now.lines line bare.now))) }
     ensures shown { length (contents_of (told_at card.now.lines line bare.now).contents) ≤ 260 → result ≡ true
         → Shows report.new (told_at card.now.lines line bare.now) }
     ensures unchanged { result ≡ false → report.new ≡ report.old }
@@ -189,13 +189,13 @@ fn tells_given(
     report: &mut PlainReport,
 ) -> bool
     requires { line < line_count card.old }
-    ensures leads { Leads shelf_of (at line happening.pull) card.old card.new }
+    ensures leads { Leads shelf_of (at line line_event.pull) card.old card.new }
     ensures octet { (m : machine.Card) → CardStands card.old m
-        → octet.new ≡ octet_of (answer (at line happening.pull) m) }
+        → octet.new ≡ octet_of (answer (at line line_event.pull) m) }
     ensures tells { (m : machine.Card) → CardStands card.old m
-        → result ≡ not (is_quiet (answer (at line happening.pull) m)) }
+        → result ≡ not (is_quiet (answer (at line line_event.pull) m)) }
     ensures shown { (m : machine.Card) → CardStands card.old m → result ≡ true
-        → ShowsAnswer report.new (answer (at line happening.pull) m) }
+        → ShowsAnswer report.new (answer (at line line_event.pull) m) }
     ensures unchanged { result ≡ false → report.new ≡ report.old }
 {
     let pulled = card.pull(line);
@@ -208,7 +208,7 @@ fn tells_given(
 }
 
 fn is_quiet(told: &Report<'_>) -> bool
-    ensures { result ≡ is_quiet (happening.told (report_told told.now)) }
+    ensures { result ≡ is_quiet (line_event.told (report_told told.now)) }
 {
     told.notes().is_empty()
         && told.orders().is_empty()

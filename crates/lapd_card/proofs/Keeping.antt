@@ -1,7 +1,7 @@
 -- A reply that is appended to those kept is one more of them.
 use Rattle.std.proofs.Common.{◌≡◌, ℕ, List, [], ◌∷◌, ◌++◌, map, ap, ◌∙◌}
 use Rattle.std.proofs.lemmas.List.{map-append}
-use Rattle.model_line.specs.Answer.{Answer}
+use Rattle.model_line.specs.Event.{Answer}
 use Rattle.lapd_card.specs.Kept.{kept_of}
 use Rattle.lapd_card.specs.declared.kept.KeptReply.{KeptReply}
 

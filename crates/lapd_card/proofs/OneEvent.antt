@@ -12,7 +12,7 @@ use Rattle.lapd_line.specs.declared.reports.Report.{Report}
 use Rattle.lapd_line.specs.Reports.{report_told}
 use Rattle.lapd_line.proofs.Stood.{slots-pairs, octets-pairs}
 use Rattle.model_line.specs.declared.config.Config.{Config}
-use Rattle.model_line.specs.Answer as happening
+use Rattle.model_line.specs.Event as line_event
 use Rattle.model_line.specs.Line as line
 use Rattle.model_line.specs.Machine as lines
 use Rattle.model_line.specs.Refusal.{refusal}
@@ -40,26 +40,26 @@ after_served : (e : Event) (m : Card) → wants_room e m ≡ false → after e m
 after_served e m room = ap (λ b. record m { lines = if b then m.lines else after_event m.config e.line e.what m.lines }) room
 
 answer_served : (e : Event) (m : Card) → wants_room e m ≡ false → answer e m ≡ lines.answer m.config e.what (line_at e.line m)
-answer_served e m room = ap (λ b. if b then happening.refused PoolFull else lines.answer m.config e.what (line_at e.line m)) room
+answer_served e m room = ap (λ b. if b then line_event.refused PoolFull else lines.answer m.config e.what (line_at e.line m)) room
 
 -- what takes no slot finds room
 pub has_room : (e : Event) (m : Card) → lines.takes_slot m.config e.what (line_at e.line m) ≡ false → wants_room e m ≡ false
 has_room e m takes = ap (λ b. b && is_full m) takes
 
-pub octet_takes : (c : Config) (value : ℕ) (l : line.Line) → lines.takes_slot c (happening.octet value) l ≡ false
+pub octet_takes : (c : Config) (value : ℕ) (l : line.Line) → lines.takes_slot c (line_event.octet value) l ≡ false
 unfolding lines.takes_slot
 octet_takes c value l = refl
 
-pub expiry_takes : (c : Config) (timer : _) (l : line.Line) → lines.takes_slot c (happening.expiry timer) l ≡ false
+pub expiry_takes : (c : Config) (timer : _) (l : line.Line) → lines.takes_slot c (line_event.expiry timer) l ≡ false
 unfolding lines.takes_slot
 expiry_takes c timer l = refl
 
-pub pull_takes : (c : Config) (l : line.Line) → lines.takes_slot c happening.pull l ≡ false
+pub pull_takes : (c : Config) (l : line.Line) → lines.takes_slot c line_event.pull l ≡ false
 unfolding lines.takes_slot
 pull_takes c l = refl
 
 -- what the lines do, the card does
-pub event_leads : {S : Type 0} (store : S → Store) (what : happening.Event) (number : ℕ) (old : Held S) (ls : List Line) (shelf : S) → number < line_count old → ((m : Card) → Stands store old m → wants_room (at number what) m ≡ false) → Lead number what old.lines (store old.shelf) ls (store shelf) → Leads store (at number what) old (record { config = old.config; lines = ls; shelf = shelf })
+pub event_leads : {S : Type 0} (store : S → Store) (what : line_event.Event) (number : ℕ) (old : Held S) (ls : List Line) (shelf : S) → number < line_count old → ((m : Card) → Stands store old m → wants_room (at number what) m ≡ false) → Lead number what old.lines (store old.shelf) ls (store shelf) → Leads store (at number what) old (record { config = old.config; lines = ls; shelf = shelf })
 event_leads {S} store what number old ls shelf within room lead =
     let new : Held S = record { config = old.config; lines = ls; shelf = shelf } in
     record {
@@ -76,7 +76,7 @@ event_leads {S} store what number old ls shelf within room lead =
     }
 
 -- and answers what its line answers
-pub event_told : {S : Type 0} (store : S → Store) (what : happening.Event) (number : ℕ) (old : Held S) (r : happening.Answer) → ((m : Card) → Stands store old m → wants_room (at number what) m ≡ false) → ((c : Config) (ms : List line.Line) → Stand c old.lines (store old.shelf) ms → r ≡ lines.answer c what (line_in c number ms)) → (m : Card) → Stands store old m → r ≡ answer (at number what) m
+pub event_told : {S : Type 0} (store : S → Store) (what : line_event.Event) (number : ℕ) (old : Held S) (r : line_event.Answer) → ((m : Card) → Stands store old m → wants_room (at number what) m ≡ false) → ((c : Config) (ms : List line.Line) → Stand c old.lines (store old.shelf) ms → r ≡ lines.answer c what (line_in c number ms)) → (m : Card) → Stands store old m → r ≡ answer (at number what) m
 event_told store what number old r room told m s =
     told old.config m.lines s.lines ∙ ap (λ c. lines.answer c what (line_in c number m.lines)) (sym s.config) ∙ sym (answer_served (at number what) m (room m s))
 
@@ -118,22 +118,22 @@ refusal_is store r number slots card o is says m s =
     ∙ says card.config m.lines s.lines
 
 -- a request that is not refused finds room
-accepted_has_room : (r : Request) (number : ℕ) (m : Card) → refusal m.config (is_full m) r (line_at number m) ≡ None → wants_room (at number (happening.request r)) m ≡ false
-accepted_has_room r number m none = go (wants_room (at number (happening.request r)) m) refl
+accepted_has_room : (r : Request) (number : ℕ) (m : Card) → refusal m.config (is_full m) r (line_at number m) ≡ None → wants_room (at number (line_event.request r)) m ≡ false
+accepted_has_room r number m none = go (wants_room (at number (line_event.request r)) m) refl
   where
-    go : (b : Bool) → wants_room (at number (happening.request r)) m ≡ b → b ≡ false
+    go : (b : Bool) → wants_room (at number (line_event.request r)) m ≡ b → b ≡ false
     go false is = refl
     go true is =
-        let refused : answer (at number (happening.request r)) m ≡ happening.refused PoolFull =
-        ap (λ b. if b then happening.refused PoolFull else lines.answer m.config (happening.request r) (line_at number m)) is in
+        let refused : answer (at number (line_event.request r)) m ≡ line_event.refused PoolFull =
+        ap (λ b. if b then line_event.refused PoolFull else lines.answer m.config (line_event.request r) (line_at number m)) is in
         absurd (none-some PoolFull (sym none ∙ (refused_by_the_table.refused_exactly m number r PoolFull).0 refused))
 
-pub request_told : {S : Type 0} (store : S → Store) (r : Request) (number : ℕ) (old : Held S) (result : Result Report Refusal) → IfErr result (λ why. (m : Card) → Stands store old m → refusal m.config (is_full m) r (line_at number m) ≡ Some why) → IfOk result (λ report. (m : Card) → Stands store old m → refusal m.config (is_full m) r (line_at number m) ≡ None) → IfOk result (λ report. (c : Config) (ms : List line.Line) → Stand c old.lines (store old.shelf) ms → happening.told (report_told report) ≡ lines.answer c (happening.request r) (line_in c number ms)) → (m : Card) → Stands store old m → answer_of_result result ≡ answer (at number (happening.request r)) m
+pub request_told : {S : Type 0} (store : S → Store) (r : Request) (number : ℕ) (old : Held S) (result : Result Report Refusal) → IfErr result (λ why. (m : Card) → Stands store old m → refusal m.config (is_full m) r (line_at number m) ≡ Some why) → IfOk result (λ report. (m : Card) → Stands store old m → refusal m.config (is_full m) r (line_at number m) ≡ None) → IfOk result (λ report. (c : Config) (ms : List line.Line) → Stand c old.lines (store old.shelf) ms → line_event.told (report_told report) ≡ lines.answer c (line_event.request r) (line_in c number ms)) → (m : Card) → Stands store old m → answer_of_result result ≡ answer (at number (line_event.request r)) m
 request_told store r number old (Err why) refused accepted told m s = sym ((refused_by_the_table.refused_exactly m number r why).1 (refused m s))
 request_told store r number old (Ok report) refused accepted told m s =
-    event_told store (happening.request r) number old (happening.told (report_told report)) (λ m s. accepted_has_room r number m (accepted m s)) told m s
+    event_told store (line_event.request r) number old (line_event.told (report_told report)) (λ m s. accepted_has_room r number m (accepted m s)) told m s
 
-pub request_leads : {S : Type 0} (store : S → Store) (r : Request) (number : ℕ) (old : Held S) (ls : List Line) (shelf : S) (result : Result Report Refusal) → number < line_count old → IfErr result (λ why. (m : Card) → Stands store old m → refusal m.config (is_full m) r (line_at number m) ≡ Some why) → IfOk result (λ report. (m : Card) → Stands store old m → refusal m.config (is_full m) r (line_at number m) ≡ None) → OnErr result (ls ≡ old.lines) → OnErr result (shelf ≡ old.shelf) → IfOk result (λ report. Lead number (happening.request r) old.lines (store old.shelf) ls (store shelf)) → Leads store (at number (happening.request r)) old (record { config = old.config; lines = ls; shelf = shelf })
+pub request_leads : {S : Type 0} (store : S → Store) (r : Request) (number : ℕ) (old : Held S) (ls : List Line) (shelf : S) (result : Result Report Refusal) → number < line_count old → IfErr result (λ why. (m : Card) → Stands store old m → refusal m.config (is_full m) r (line_at number m) ≡ Some why) → IfOk result (λ report. (m : Card) → Stands store old m → refusal m.config (is_full m) r (line_at number m) ≡ None) → OnErr result (ls ≡ old.lines) → OnErr result (shelf ≡ old.shelf) → IfOk result (λ report. Lead number (line_event.request r) old.lines (store old.shelf) ls (store shelf)) → Leads store (at number (line_event.request r)) old (record { config = old.config; lines = ls; shelf = shelf })
 request_leads {S} store r number old ls shelf (Err why) within refused accepted same kept leads =
     let new : Held S = record { config = old.config; lines = ls; shelf = shelf } in
     let new_is : new ≡ old = ap (λ l. record { config = old.config; lines = l; shelf = shelf }) same ∙ ap (λ h. record { config = old.config; lines = old.lines; shelf = h }) kept in
@@ -144,7 +144,7 @@ request_leads {S} store r number old ls shelf (Err why) within refused accepted 
           subst (Stands store new) (sym (refused_by_the_table.unchanged m number r some)) (subst (λ card. Stands store card m) (sym new_is) s);
     }
 request_leads store r number old ls shelf (Ok report) within refused accepted same kept leads =
-    event_leads store (happening.request r) number old ls shelf within (λ m s. accepted_has_room r number m (accepted m s)) leads
+    event_leads store (line_event.request r) number old ls shelf within (λ m s. accepted_has_room r number m (accepted m s)) leads
 
 -- The state of a link is that of its line's.
 pub state_is : {S : Type 0} (store : S → Store) (number : ℕ) (service : Service) (tei : ℕ) (card : Held S) (r : Option ℕ) → number < line_count card → ((c : Config) (s : Store) (ms : List line.Line) → Stand c card.lines s ms → r ≡ line.state_of service tei (line_in c number ms)) → (m : Card) → Stands store card m → r ≡ state number service tei m

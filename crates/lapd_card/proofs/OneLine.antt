@@ -10,7 +10,7 @@ use Rattle.lapd_line.specs.Reports.{told_if}
 use Rattle.lapd_line.specs.Stands.{config_of, latest_frame}
 use Rattle.lapd_line.proofs.Stood.{held_of, stands_on}
 use Rattle.model_line.specs.declared.config.Config.{Config}
-use Rattle.model_line.specs.Answer.{Event, nothing}
+use Rattle.model_line.specs.Event.{Event, nothing}
 use Rattle.model_line.specs.Line as machine
 use Rattle.model_line.specs.Machine.{after}
 use Rattle.lapd_store.specs.Ownership.{Owned}

@@ -4,7 +4,7 @@ use Rattle.std.proofs.lemmas.Bool.{false≢true}
 use Rattle.std.proofs.lemmas.Option.{none-some, same_Some}
 use Rattle.std.specs.Prelude.{Result, Ok, Err, is_err, OnOk, OnErr, true, false}
 use Rattle.std.proofs.lemmas.List.Sums.{fold-append}
-use Rattle.model_line.specs.Answer.{Answer}
+use Rattle.model_line.specs.Event.{Answer}
 use Rattle.model_card.specs.declared.events.Event as rust
 use Rattle.model_card.specs.Card.{Card}
 use Rattle.model_card.specs.Event.{event_of}

@@ -1,6 +1,6 @@
 -- Whole lists of events, and what a sink takes of them.
 use Rattle.std.specs.Prelude.{◌≡◌, ℕ, List, [], ◌∷◌, map, take, slice_get, Option, Some, None}
-use Rattle.model_line.specs.Answer.{Answer}
+use Rattle.model_line.specs.Event.{Answer}
 use Rattle.model_card.specs.declared.events.Event as rust
 use Rattle.model_card.specs.Card.{Card}
 use Rattle.model_card.specs.Event.{Event, event_of}

@@ -1,6 +1,6 @@
 -- What a sink has kept, and which replies it keeps.
 use Rattle.std.specs.Prelude.{◌≡◌, ℕ, ◌<◌, ◌≤◌, List, [], ◌∷◌, ◌++◌, length, map, Option, option_map, IfSome, vec_capacity, ⊤}
-use Rattle.model_line.specs.Answer.{Answer, told, refused, pulled}
+use Rattle.model_line.specs.Event.{Answer, told, refused, pulled}
 use Rattle.lapd_card.specs.declared.kept.Kept.{Kept}
 use Rattle.lapd_card.specs.declared.kept.KeptReply.{KeptReply}
 use Rattle.lapd_card.specs.Reply.{answer_of}

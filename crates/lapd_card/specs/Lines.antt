@@ -8,7 +8,7 @@ use Rattle.lapd_line.specs.Reports.{told_in}
 use Rattle.lapd_line.specs.Stands as line
 use Rattle.lapd_line.specs.Stands.{config_of, pairs_of, latest_frame}
 use Rattle.model_line.specs.declared.config.Config.{Config}
-use Rattle.model_line.specs.Answer.{Event, Told, nothing}
+use Rattle.model_line.specs.Event.{Event, LineTold, nothing}
 use Rattle.model_line.specs.Line as machine
 use Rattle.model_line.specs.Machine.{after}
 use Rattle.lapd_store.specs.Ownership.{Owned, Holds}
@@ -51,14 +51,14 @@ pub record Lead (number : ℕ) (e : Event) (old : List Line) (s : Store) (new : 
   pub stand : (c : Config) (ms : List machine.Line) → Stand c old s ms → Stand c new t (after_event c number e ms)
 
 -- What an outcome tells of the line at a place.
-abbrev pub told_of : BareReport → Line → Told
+abbrev pub told_of : BareReport → Line → LineTold
 told_of outcome l = told_in (latest_frame l) outcome
 
-abbrev pub told_at : List Line → ℕ → BareReport → Told
+abbrev pub told_at : List Line → ℕ → BareReport → LineTold
 told_at lines number outcome = option_map_or (told_of outcome) (slice_get lines number) nothing
 
 -- The same where there is an outcome, and nothing where there is none.
-abbrev pub told_if_at : List Line → ℕ → Option BareReport → Told
+abbrev pub told_if_at : List Line → ℕ → Option BareReport → LineTold
 told_if_at lines number None = nothing
 told_if_at lines number (Some outcome) = told_at lines number outcome
 

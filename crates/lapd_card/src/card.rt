@@ -6,7 +6,7 @@ ghost use Rattle.model_card.specs.Card as machine;
 ghost use Rattle.model_card.specs.Event.{at};
 ghost use Rattle.model_card.specs.Counts.{may_send};
 ghost use Rattle.model_card.specs.Machine.{after, answer};
-ghost use Rattle.model_line.specs.Answer as happening;
+ghost use Rattle.model_line.specs.Event as line_event;
 ghost use Rattle.model_link.specs.Told.{starts};
 ghost use Rattle.model_line.specs.Refusal.{refusal};
 ghost use Rattle.model_line.specs.Request.{request_of};
@@ -64,14 +64,14 @@ impl<S: Shelf> Card<S> {
     pub fn octet(&mut self, line: usize, octet: u8) -> Report<'_>
         requires { line < line_count self.old }
         ensures told { (m : machine.Card) → Stands S.store self.old m
-            → happening.told (report_told result) ≡ answer (at line (happening.octet octet)) m }
+            → line_event.told (report_told result) ≡ answer (at line (line_event.octet octet)) m }
         // What may be sent rises by two at most for the frame that it ends, and by k more where that is an REJ with a
         // valid N(R); else by nothing.
         ensures frames { (m : machine.Card) → Stands S.store self.old m → RisesByOctet line octet m }
         // Where it names a cause, why the octet or its frame was dropped, what may be sent stays as it is.
         ensures dropped { (m : machine.Card) → Stands S.store self.old m → IsSome result.cause
-            → may_send (after (at line (happening.octet octet)) m) ≡ may_send m }
-        ensures* after { sem 𝓛 (Rests (the_row S.row S.Shelf) self.entry (λ v. Leads S.store (at line (happening.octet octet)) self.old v)) }
+            → may_send (after (at line (line_event.octet octet)) m) ≡ may_send m }
+        ensures* after { sem 𝓛 (Rests (the_row S.row S.Shelf) self.entry (λ v. Leads S.store (at line (line_event.octet octet)) self.old v)) }
     {
         let bare = self.hear(line, octet);
         self.report(line, &bare)
@@ -83,8 +83,8 @@ impl<S: Shelf> Card<S> {
     pub fn hear(&mut self, line: usize, octet: u8) -> Option<BareReport>
         requires { line < line_count self.old }
         ensures told { (m : machine.Card) → Stands S.store self.old m
-            → happening.told (told_if_at self.new.lines line result) ≡ answer (at line (happening.octet octet)) m }
-        ensures after { Leads S.store (at line (happening.octet octet)) self.old self.new }
+            → line_event.told (told_if_at self.new.lines line result) ≡ answer (at line (line_event.octet octet)) m }
+        ensures after { Leads S.store (at line (line_event.octet octet)) self.old self.new }
         ensures frames { (m : machine.Card) → Stands S.store self.old m → RisesByOctet line octet m }
     {
         self.lines.hear(line, octet, &mut self.shelf)
@@ -104,8 +104,8 @@ impl<S: Shelf> Card<S> {
     pub fn expire(&mut self, line: usize, timer: Timer) -> Report<'static>
         requires { line < line_count self.old }
         ensures told { (m : machine.Card) → Stands S.store self.old m
-            → happening.told (report_told result) ≡ answer (at line (happening.expiry timer)) m }
-        ensures after { Leads S.store (at line (happening.expiry timer)) self.old self.new }
+            → line_event.told (report_told result) ≡ answer (at line (line_event.expiry timer)) m }
+        ensures after { Leads S.store (at line (line_event.expiry timer)) self.old self.new }
         // It starts one timer at most, so applying the orders of what falls due comes to an end.
         ensures starts { starts (report_told result).orders ≤ 1 }
         // What may be sent rises by k + 1 where the timer was running, else by nothing.
@@ -128,8 +128,8 @@ impl<S: Shelf> Card<S> {
         ensures accepted { IfOk result (λ report. (m : machine.Card) → Stands S.store self.old m
             → refusal m.config (machine.is_full m) (request_of request.entry) (machine.line_at line m) ≡ None) }
         ensures told { (m : machine.Card) → Stands S.store self.old m
-            → answer_of_result result ≡ answer (at line (happening.request (request_of request.entry))) m }
-        ensures after { Leads S.store (at line (happening.request (request_of request.entry))) self.old self.new }
+            → answer_of_result result ≡ answer (at line (line_event.request (request_of request.entry))) m }
+        ensures after { Leads S.store (at line (line_event.request (request_of request.entry))) self.old self.new }
         // What may be sent rises by one where it is accepted, else by nothing.
         ensures frames { (m : machine.Card) → Stands S.store self.old m → RisesByRequest line (request_of request.entry) m }
     {
@@ -141,8 +141,8 @@ impl<S: Shelf> Card<S> {
     #[inline(always)]
     pub fn pull(&mut self, line: usize) -> Pulled
         requires { line < line_count self.old }
-        ensures told { (m : machine.Card) → Stands S.store self.old m → pulled_of result ≡ answer (at line happening.pull) m }
-        ensures after { Leads S.store (at line happening.pull) self.old self.new }
+        ensures told { (m : machine.Card) → Stands S.store self.old m → pulled_of result ≡ answer (at line line_event.pull) m }
+        ensures after { Leads S.store (at line line_event.pull) self.old self.new }
         // Where it begins a frame, what may be sent falls by one or two; else it stays.
         ensures frames { (m : machine.Card) → Stands S.store self.old m → FallsByPull line m }
     {

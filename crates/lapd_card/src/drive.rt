@@ -3,7 +3,7 @@
 ghost use Rattle.std.specs.Prelude.{◌≡◌, ◌<◌, ◌+◌, ℕ, length, take, All, IfOk, IfErr, OnOk, OnErr};
 ghost use Rattle.model_card.specs.Card as machine;
 ghost use Rattle.model_card.specs.Event.{at, event_of};
-ghost use Rattle.model_line.specs.Answer as happening;
+ghost use Rattle.model_line.specs.Event as line_event;
 ghost use Rattle.model_line.specs.Request.{request_of};
 ghost use Rattle.model_card.specs.Machine.{answer};
 ghost use Rattle.model_card.specs.Run.{run};
@@ -24,9 +24,9 @@ ghost use Rattle.lapd_card.specs.Stands.{Stands, Leads};
 use crate::card::Card;
 use crate::replies::Reply;
 use crate::sink::{Sink, SinkFailed, SinkFault};
-use model_card::Event;
 use lapd_line::Request;
 use lapd_store::Shelf;
+use model_card::Event;
 
 impl<S: Shelf> Card<S> {
     /// Runs a list of events, and hands each reply to the sink, in order. Answers how many events there were. A sink that
@@ -333,11 +333,11 @@ impl<S: Shelf> Card<S> {
         requires { line < line_count self.old }
         ensures failed { OnErr result (K.failures sink.new ≡ one_failure_more (K.failures sink.old)) }
         ensures not_failed { OnOk result (K.failures sink.new ≡ K.failures sink.old) }
-        ensures leads { Leads S.store (at line (happening.request (request_of request.entry))) self.old self.new }
+        ensures leads { Leads S.store (at line (line_event.request (request_of request.entry))) self.old self.new }
         ensures taken { OnOk result ((m : machine.Card) → Stands S.store self.old m
-            → K.takes sink.old line (answer (at line (happening.request (request_of request.entry))) m) sink.new) }
+            → K.takes sink.old line (answer (at line (line_event.request (request_of request.entry))) m) sink.new) }
         ensures not_taken { OnErr result ((m : machine.Card) → Stands S.store self.old m
-            → K.misses sink.old line (answer (at line (happening.request (request_of request.entry))) m) sink.new) }
+            → K.misses sink.old line (answer (at line (line_event.request (request_of request.entry))) m) sink.new) }
     {
         match self.request(line, request) {
             Ok(report) => sink.take(line, &Reply::Report(report)),

@@ -2,7 +2,7 @@
 
 ghost use Rattle.std.specs.Prelude.{◌≡◌, ◌≤◌, ◌<◌, List, length, nat_le, sum_by, Some, None, IfOk, IfErr, OnErr};
 ghost use Rattle.lapd_line.specs.Reports.{report_told, pulled_of};
-ghost use Rattle.model_line.specs.Answer as happening;
+ghost use Rattle.model_line.specs.Event as line_event;
 ghost use Rattle.model_line.specs.Line as machine;
 ghost use Rattle.model_line.specs.Machine.{answer};
 ghost use Rattle.model_line.specs.Refusal.{refusal};
@@ -61,8 +61,8 @@ impl Lines {
         requires within { line < length self.old }
         requires serve { Serve self.old (S.store shelf.old) }
         ensures told { (c : Config) (ms : List machine.Line) → Stand c self.old (S.store shelf.old) ms
-            → happening.told (told_if_at self.new line result) ≡ answer c (happening.octet octet) (line_in c line ms) }
-        ensures after { Lead line (happening.octet octet) self.old (S.store shelf.old) self.new (S.store shelf.new) }
+            → line_event.told (told_if_at self.new line result) ≡ answer c (line_event.octet octet) (line_in c line ms) }
+        ensures after { Lead line (line_event.octet octet) self.old (S.store shelf.old) self.new (S.store shelf.new) }
     {
         self.lines[line].hear(octet, shelf)
     }
@@ -85,8 +85,8 @@ impl Lines {
         requires within { line < length self.old }
         requires serve { Serve self.old (S.store shelf.old) }
         ensures told { (c : Config) (ms : List machine.Line) → Stand c self.old (S.store shelf.old) ms
-            → happening.told (report_told result) ≡ answer c (happening.expiry timer) (line_in c line ms) }
-        ensures after { Lead line (happening.expiry timer) self.old (S.store shelf.old) self.new (S.store shelf.new) }
+            → line_event.told (report_told result) ≡ answer c (line_event.expiry timer) (line_in c line ms) }
+        ensures after { Lead line (line_event.expiry timer) self.old (S.store shelf.old) self.new (S.store shelf.new) }
     {
         self.lines[line].expire(timer, shelf)
     }
@@ -109,9 +109,9 @@ impl Lines {
         ensures accepted { IfOk result (λ report. (c : Config) (ms : List machine.Line) → Stand c self.old (S.store shelf.old) ms
             → refusal c (nat_le slots (used_slots (S.store shelf.old))) (request_of request.entry) (line_in c line ms) ≡ None) }
         ensures told { IfOk result (λ report. (c : Config) (ms : List machine.Line) → Stand c self.old (S.store shelf.old) ms
-            → happening.told (report_told report) ≡ answer c (happening.request (request_of request.entry)) (line_in c line ms)) }
+            → line_event.told (report_told report) ≡ answer c (line_event.request (request_of request.entry)) (line_in c line ms)) }
         ensures after { IfOk result (λ report.
-            Lead line (happening.request (request_of request.entry)) self.old (S.store shelf.old) self.new (S.store shelf.new)) }
+            Lead line (line_event.request (request_of request.entry)) self.old (S.store shelf.old) self.new (S.store shelf.new)) }
     {
         self.lines[line].request(request, shelf, slots)
     }
@@ -122,8 +122,8 @@ impl Lines {
         requires within { line < length self.old }
         requires serve { Serve self.old (S.store shelf.old) }
         ensures told { (c : Config) (ms : List machine.Line) → Stand c self.old (S.store shelf.old) ms
-            → pulled_of result ≡ answer c happening.pull (line_in c line ms) }
-        ensures after { Lead line happening.pull self.old (S.store shelf.old) self.new (S.store shelf.new) }
+            → pulled_of result ≡ answer c line_event.pull (line_in c line ms) }
+        ensures after { Lead line line_event.pull self.old (S.store shelf.old) self.new (S.store shelf.new) }
     {
         self.lines[line].pull(shelf)
     }

@@ -1,7 +1,7 @@
 //! Where the answers of a whole list of events go.
 
 ghost use Rattle.std.specs.Prelude.{◌≡◌, ℕ, OnOk, OnErr};
-ghost use Rattle.model_line.specs.Answer.{Answer};
+ghost use Rattle.model_line.specs.Event.{Answer};
 ghost use Rattle.lapd_card.specs.Reply.{answer_of};
 ghost use Rattle.lapd_card.specs.Sink.{one_failure_more};
 

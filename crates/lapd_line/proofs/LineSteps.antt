@@ -14,8 +14,8 @@ use Rattle.lapd_store.specs.Store.{Store}
 use Rattle.lapd_tei.specs.declared.outcome.Change.{Change}
 use Rattle.lapd_tei.specs.declared.outcome.Change.TheVariants.{Gained, Left}
 use Rattle.model_line.specs.declared.config.Config.{Config}
-use Rattle.model_line.specs.Answer as event
-use Rattle.model_line.specs.Answer.{Told, told, nothing}
+use Rattle.model_line.specs.Event as line_event
+use Rattle.model_line.specs.Event.{LineTold, told, nothing}
 use Rattle.model_line.specs.Expiry.{aim_of_expiry}
 use Rattle.model_line.specs.Line as machine
 use Rattle.model_line.specs.Machine.{after, answer}
@@ -55,7 +55,7 @@ record SameBits (l m : machine.Line) : Type 0 where
   items : m.items ≡ l.items
   given : m.given ≡ l.given
 
-same_change : (c : Config) (o : Option Change) (t : Told) (l : machine.Line) → SameBits l (of_change c o t l).line
+same_change : (c : Config) (o : Option Change) (t : LineTold) (l : machine.Line) → SameBits l (of_change c o t l).line
 same_change c None t l = record { received = refl; items = refl; given = refl }
 same_change c (Some (Gained tei place)) t l = record { received = refl; items = refl; given = refl }
 same_change c (Some (Left tei place)) t l = record { received = refl; items = refl; given = refl }
@@ -101,9 +101,9 @@ pub stepped : (old new : Line) (s t : Store) (octet : ℕ) (o : BareReport)
     → ((n201 : ℕ) (past : List ℕ) → deframer.Stands n201 old.deframer past → heard_in n201 (past ++ octet ∷ []) ≡ heard_in n201 past ++ option_to_list (deframer.latest_of new.deframer))
     → ((n201 : ℕ) (past : List ℕ) → deframer.Stands n201 old.deframer past → deframer.Stands n201 new.deframer (past ++ octet ∷ []))
     → new.framer ≡ old.framer
-    → (new.quiet ≡ true → (old.quiet ≡ true) × (deframer.latest_of new.deframer ≡ None))
+    → (new.nothing_waits ≡ true → (old.nothing_waits ≡ true) × (deframer.latest_of new.deframer ≡ None))
     → Serves (aim_of_event (deframer.latest_of new.deframer)) (latest_frame new) old.layer s new.layer t o
-    → Leads (event.octet octet) old s new t
+    → Leads (line_event.octet octet) old s new t
 unfolding after
 stepped old new s t octet o heard goes_on framed still served = record {
   config = served.config;
@@ -123,18 +123,18 @@ stepped old new s t octet o heard goes_on framed still served = record {
             (subst (framer.Stands old.framer m.items) (sym same.given) st.sent));
         room = ap (λ f. f.room) framed ∙ st.room ∙ ap (λ k. k.n201) (sym served.config);
         layer = e;
-        quiet = λ is.
+        nothing_waits = λ is.
             let (before, none) = still is in
             ap (λ k. taken k (of_aim c (aim_of_event (deframer.latest_of new.deframer) m') m').line) served.config
             ∙ ap (λ h. taken c (of_aim c (aim_of_event h m') m').line) none
-            ∙ none_taken c m (m.received ++ octet ∷ []) m.items m.given (st.quiet before);
+            ∙ none_taken c m (m.received ++ octet ∷ []) m.items m.given (st.nothing_waits before);
       });
 }
 
 pub step_told : (old new : Line) (s t : Store) (octet : ℕ) (o : BareReport)
     → ((n201 : ℕ) (past : List ℕ) → deframer.Stands n201 old.deframer past → heard_in n201 (past ++ octet ∷ []) ≡ heard_in n201 past ++ option_to_list (deframer.latest_of new.deframer))
     → Serves (aim_of_event (deframer.latest_of new.deframer)) (latest_frame new) old.layer s new.layer t o
-    → (others : List Owned) (m : machine.Line) → Stands old s others m → told (told_in (latest_frame new) o) ≡ answer (config_of old) (event.octet octet) m
+    → (others : List Owned) (m : machine.Line) → Stands old s others m → told (told_in (latest_frame new) o) ≡ answer (config_of old) (line_event.octet octet) m
 unfolding answer
 step_told old new s t octet o heard served others m st =
     let c = config_of old in
@@ -154,10 +154,10 @@ nothing_served e s octets h none =
 pub unheard : (old new : Line) (s : Store) (octet : ℕ)
     → ((n201 : ℕ) (past : List ℕ) → deframer.Stands n201 old.deframer past → heard_in n201 (past ++ octet ∷ []) ≡ heard_in n201 past ++ option_to_list (deframer.latest_of new.deframer))
     → ((n201 : ℕ) (past : List ℕ) → deframer.Stands n201 old.deframer past → deframer.Stands n201 new.deframer (past ++ octet ∷ []))
-    → new.framer ≡ old.framer → new.quiet ≡ old.quiet → new.layer ≡ old.layer
+    → new.framer ≡ old.framer → new.nothing_waits ≡ old.nothing_waits → new.layer ≡ old.layer
     → deframer.latest_of new.deframer ≡ None
-    → Leads (event.octet octet) old s new s
-    × ((others : List Owned) (m : machine.Line) → Stands old s others m → told nothing ≡ answer (config_of old) (event.octet octet) m)
+    → Leads (line_event.octet octet) old s new s
+    × ((others : List Owned) (m : machine.Line) → Stands old s others m → told nothing ≡ answer (config_of old) (line_event.octet octet) m)
 unheard old new s octet heard goes_on framed same entities none =
     let served : Serves (aim_of_event (deframer.latest_of new.deframer)) (latest_frame new) old.layer s new.layer s nothing_told =
     subst (λ e. Serves (aim_of_event (deframer.latest_of new.deframer)) (latest_frame new) old.layer s e s nothing_told) (sym entities)
@@ -168,7 +168,7 @@ unheard old new s octet heard goes_on framed same entities none =
 
 -- the bits stay, where the entities alone go on
 pub with_layer : (old : Line) (t : Store) (others : List Owned) (m : machine.Line) (e : LinkLayer) (aim : Aim) (s : Store) → Stands old s others m → e.config ≡ config_of old
-    → layer.Stands e t others (of_aim (config_of old) aim m).line → Stands (record old { layer = e; quiet = false }) t others (of_aim (config_of old) aim m).line
+    → layer.Stands e t others (of_aim (config_of old) aim m).line → Stands (record old { layer = e; nothing_waits = false }) t others (of_aim (config_of old) aim m).line
 with_layer old t others m e aim s st same h =
     let kept = same_bits (config_of old) aim m in
     let l = (of_aim (config_of old) aim m).line in
@@ -177,11 +177,11 @@ with_layer old t others m e aim s st same h =
       sent = subst (λ i. framer.Stands old.framer i l.given) (sym kept.items) (subst (framer.Stands old.framer m.items) (sym kept.given) st.sent);
       room = st.room ∙ ap (λ k. k.n201) (sym same);
       layer = h;
-      quiet = λ is. absurd (false≢true is);
+      nothing_waits = λ is. absurd (false≢true is);
     }
 
 pub expired : (old : Line) (s : Store) (e : LinkLayer) (t : Store) (timer : Timer) (o : BareReport) → Serves (aim_of_expiry timer) [] old.layer s e t o
-    → Leads (event.expiry timer) old s (record old { layer = e; quiet = false }) t
+    → Leads (line_event.expiry timer) old s (record old { layer = e; nothing_waits = false }) t
 unfolding after
 expired old s e t timer o served = record {
   config = served.config;
@@ -190,6 +190,6 @@ expired old s e t timer o served = record {
 }
 
 pub expiry_told : (old : Line) (s : Store) (e : LinkLayer) (t : Store) (timer : Timer) (o : BareReport) (r : Report) → report_told r ≡ told_in [] o → Serves (aim_of_expiry timer) [] old.layer s e t o
-    → (others : List Owned) (m : machine.Line) → Stands old s others m → told (report_told r) ≡ answer (config_of old) (event.expiry timer) m
+    → (others : List Owned) (m : machine.Line) → Stands old s others m → told (report_told r) ≡ answer (config_of old) (line_event.expiry timer) m
 unfolding answer
 expiry_told old s e t timer o r is served others m st = ap told (is ∙ served.told others m st.layer)

@@ -15,8 +15,8 @@ use Rattle.lapd_frame.specs.declared.timers.Order.{Order}
 use Rattle.lapd_store.specs.Ownership.{Owned}
 use Rattle.lapd_store.specs.Store.{Store}
 use Rattle.model_line.specs.declared.config.Config.{Config}
-use Rattle.model_line.specs.Answer as event
-use Rattle.model_line.specs.Answer.{pulled}
+use Rattle.model_line.specs.Event as line_event
+use Rattle.model_line.specs.Event.{pulled}
 use Rattle.model_line.specs.Line as machine
 use Rattle.model_line.specs.Machine.{after, answer}
 use Rattle.model_line.specs.Pull as pull
@@ -30,7 +30,7 @@ use Rattle.lapd_line.specs.declared.link_layer.LinkLayer.{LinkLayer}
 use Rattle.lapd_line.specs.Begins.{Begins, with_frame}
 use Rattle.lapd_line.specs.LinkLayer as layer
 use Rattle.lapd_line.specs.Stands.{Stands, Leads, config_of}
-use Rattle.lapd_line.specs.Takes.{Took, Takes, orders_taken}
+use Rattle.lapd_line.specs.Pulls.{Took, Takes, orders_taken}
 use Rattle.lapd_line.proofs.Quiet.{none_taken}
 
 -- an item is due exactly where the framer's bits run low
@@ -69,8 +69,8 @@ none_due line s busy = record {
         ap (λ due. cond due (taken (config_of line) m) None) (due_is m line.framer st.sent ∙ le-ltb (length line.framer.left) 8 busy)
 
 -- nothing is there that could be taken
-pub none_waits : (line : Line) (s : Store) → line.quiet ≡ true → Begins line s line s None
-none_waits line s quiet = record {
+pub none_waits : (line : Line) (s : Store) → line.nothing_waits ≡ true → Begins line s line s None
+none_waits line s nothing_waits = record {
   config = refl;
   limits = record { slots = refl; width = refl };
   stands = λ others m st. subst (λ o. Stands line s others (with_frame o m)) (sym (none others m st)) st;
@@ -82,11 +82,11 @@ none_waits line s quiet = record {
     either false = refl
 
     none : (others : List Owned) (m : machine.Line) → Stands line s others m → begun (config_of line) m ≡ None
-    none others m st = ap (λ o. cond (is_due m) o None) (st.quiet quiet) ∙ either (is_due m)
+    none others m st = ap (λ o. cond (is_due m) o None) (st.nothing_waits nothing_waits) ∙ either (is_due m)
 
 -- one is due, and taken if there is one
 pub due_taken : (old : Line) (s : Store) (e : LinkLayer) (t : Store) (g : Framing) (orders : Option (List Order)) (q : Bool) → length old.framer.left < 8 → (q ≡ true → orders ≡ None)
-    → Takes taken old.layer s old.framer e t g orders → Begins old s (record old { layer = e; framer = g; quiet = q }) t orders
+    → Takes taken old.layer s old.framer e t g orders → Begins old s (record old { layer = e; framer = g; nothing_waits = q }) t orders
 due_taken old s e t g orders q low none h = record {
   config = h.config;
   limits = h.limits;
@@ -101,7 +101,7 @@ due_taken old s e t g orders q low none h = record {
     c = config_of old
 
     new : Line
-    new = record old { layer = e; framer = g; quiet = q }
+    new = record old { layer = e; framer = g; nothing_waits = q }
 
     due : (others : List Owned) (m : machine.Line) → Stands old s others m → is_due m ≡ true
     due others m st = due_is m old.framer st.sent ∙ lt-ltb (length old.framer.left) 8 low
@@ -121,14 +121,14 @@ due_taken old s e t g orders q low none h = record {
 
     stands : (others : List Owned) (m : machine.Line) → Stands old s others m → (o : Option Taken) → taken c m ≡ o → (os : Option (List Order)) → (q ≡ true → os ≡ None)
         → Took o os m e t others old.framer g → Stands new t others (with_frame o m)
-    stands others m st None is None quiet (there, same) = record {
+    stands others m st None is None nothing_waits (there, same) = record {
       received = subst (λ k. deframer.Stands k.n201 old.deframer m.received) (sym h.config) st.received;
       sent = subst (λ f. framer.Stands f m.items m.given) (sym same) st.sent;
       room = h.room ∙ st.room ∙ ap (λ k. k.n201) (sym h.config);
       layer = there;
-      quiet = λ on. ap (λ k. taken k m) h.config ∙ is;
+      nothing_waits = λ on. ap (λ k. taken k m) h.config ∙ is;
     }
-    stands others m st (Some k) is (Some os) quiet has =
+    stands others m st (Some k) is (Some os) nothing_waits has =
         let whole : TakesSoundly c m k = subst (λ o. IfSome o (TakesSoundly c m)) is (taken_sound c st.layer.range m st.layer.sound) in
         let items = m.items ++ frame k.frame ∷ [] in
         let sound : IsSound c (record k.line { items = items }) =
@@ -140,10 +140,10 @@ due_taken old s e t g orders q low none h = record {
           room = h.room ∙ st.room ∙ ap (λ k. k.n201) (sym h.config);
           layer = with_bits e t others k.line items k.line.given has.stands
               (subst (λ x. IsSound x (record k.line { items = items })) (sym h.config) sound);
-          quiet = λ on. let is_none : Some os ≡ None = quiet on in absurd (cc);
+          nothing_waits = λ on. let is_none : Some os ≡ None = nothing_waits on in absurd (cc);
         }
-    stands others m st None is (Some os) quiet h = absurd h
-    stands others m st (Some k) is None quiet h = absurd h
+    stands others m st None is (Some os) nothing_waits h = absurd h
+    stands others m st (Some k) is None nothing_waits h = absurd h
 
 -- a frame that was just loaded leaves enough bits for an octet
 loaded : (c : Config) (m : machine.Line) (k : Taken) (f : Framing) → IsSound c m → TakesSoundly c m k
@@ -218,7 +218,7 @@ module _ {old : Line} {s : Store} {b : Line} {t : Store} (orders : Option (Short
       ∙ ap (λ l. with_given l octet) (sym (due_gone_on others m st))
 
   -- so a pull leads the line on
-  pub pulls : Leads event.pull old s (record b { framer = g }) t
+  pub pulls : Leads line_event.pull old s (record b { framer = g }) t
   unfolding after
   pulls = record {
     config = begins.config;
@@ -231,7 +231,7 @@ module _ {old : Line} {s : Store} {b : Line} {t : Store} (orders : Option (Short
         let there = begins.stands others m st in
         let is = gone_on others m st in
         let sound : IsSound c (record l { items = items; given = given }) =
-        subst (IsSound c) is (after_sound c st.layer.range event.pull m st.layer.sound) in
+        subst (IsSound c) is (after_sound c st.layer.range line_event.pull m st.layer.sound) in
         subst (λ x. Stands (record b { framer = g }) t others x) (sym is)
         (record {
           received = there.received;
@@ -239,13 +239,13 @@ module _ {old : Line} {s : Store} {b : Line} {t : Store} (orders : Option (Short
           room = gives.room ∙ there.room;
           layer = with_bits b.layer t others l items given there.layer
               (subst (λ x. IsSound x (record l { items = items; given = given })) (sym begins.config) sound);
-          quiet = λ on. none_taken (config_of b) l l.received items given (there.quiet on);
+          nothing_waits = λ on. none_taken (config_of b) l l.received items given (there.nothing_waits on);
         });
   }
 
   -- and is told what the machine answers
   pub pull_told : (taken_one : Bool) → taken_one ≡ is_some orders → (no_orders told : ShortList Order) → listed no_orders ≡ [] → told ≡ unwrap_or orders no_orders
-      → (others : List Owned) (m : machine.Line) → Stands old s others m → pulled octet taken_one (listed told) ≡ answer (config_of old) event.pull m
+      → (others : List Owned) (m : machine.Line) → Stands old s others m → pulled octet taken_one (listed told) ≡ answer (config_of old) line_event.pull m
   unfolding answer
   pull_told taken_one is no_orders told empty told_is others m st =
       let o = pull.begun (config_of old) m in

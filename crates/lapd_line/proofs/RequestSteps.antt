@@ -5,8 +5,8 @@ use Rattle.lapd_frame.specs.declared.services.Service.{Service}
 use Rattle.lapd_store.specs.Ownership.{Owned}
 use Rattle.lapd_store.specs.Store.{Store}
 use Rattle.model_line.specs.declared.config.Config.{Config}
-use Rattle.model_line.specs.Answer as event
-use Rattle.model_line.specs.Answer.{told}
+use Rattle.model_line.specs.Event as line_event
+use Rattle.model_line.specs.Event.{told}
 use Rattle.model_line.specs.Line as machine
 use Rattle.model_line.specs.Machine.{after, answer, unless_refused, unless_refused_told}
 use Rattle.model_line.specs.Effect.{Aim, of_aim}
@@ -18,7 +18,7 @@ use Rattle.model_link.specs.Events as link
 use Rattle.lapd_link.specs.declared.requests.LinkRequest as links
 use Rattle.lapd_link.specs.declared.requests.LinkRequest.{LinkRequest}
 use Rattle.lapd_link.specs.Events.{request_of as link_request_of}
-use Rattle.lapd_line.specs.Asks.{link_refusal}
+use Rattle.lapd_line.specs.Requests.{link_refusal}
 use Rattle.lapd_line.specs.declared.link_layer.LinkLayer.{LinkLayer}
 use Rattle.lapd_line.specs.declared.line.Line.{Line}
 use Rattle.lapd_line.specs.declared.reports.BareReport.{BareReport}
@@ -27,7 +27,7 @@ use Rattle.lapd_line.specs.LinkLayer as layer
 use Rattle.lapd_line.specs.LinkLayer.{Serves}
 use Rattle.lapd_line.specs.Reports.{report_told, told_in}
 use Rattle.lapd_line.specs.Stands.{Stands, Leads, config_of}
-use Rattle.lapd_line.proofs.AskSteps.{establish_rows, release_rows, data_rows, set_busy_rows, clear_busy_rows}
+use Rattle.lapd_line.proofs.LayerRequests.{establish_rows, release_rows, data_rows, set_busy_rows, clear_busy_rows}
 use Rattle.lapd_line.proofs.LinkSteps.{if_err, on_ok}
 use Rattle.lapd_line.proofs.LineSteps.{with_layer}
 
@@ -97,19 +97,19 @@ with_room c full (ClearBusy service tei) l e = e
 module _ (old : Line) (s : Store) (e : LinkLayer) (t : Store) (full : Bool) (r : Request) (o : BareReport)
     (granted : (others : List Owned) (m : machine.Line) → layer.Stands old.layer s others m → refusal (config_of old) full r m ≡ None)
     (served : Serves (aim_of_request r) [] old.layer s e t o) where
-  pub requested : Leads (event.request r) old s (record old { layer = e; quiet = false }) t
+  pub requested : Leads (line_event.request r) old s (record old { layer = e; nothing_waits = false }) t
   unfolding after
   requested = record {
     config = served.config;
     limits = served.limits;
     stands = λ others m st.
         let c = config_of old in
-        subst (λ why. Stands (record old { layer = e; quiet = false }) t others (of_aim c (unless_refused why (aim_of_request r m)) m).line) (sym (with_room c full r m (granted others m st.layer)))
+        subst (λ why. Stands (record old { layer = e; nothing_waits = false }) t others (of_aim c (unless_refused why (aim_of_request r m)) m).line) (sym (with_room c full r m (granted others m st.layer)))
         (with_layer old t others m e (aim_of_request r m) s st served.config (served.stands others m st.layer));
   }
 
   pub request_told : (report : Report) → report_told report ≡ told_in [] o → (others : List Owned) (m : machine.Line) → Stands old s others m
-      → told (report_told report) ≡ answer (config_of old) (event.request r) m
+      → told (report_told report) ≡ answer (config_of old) (line_event.request r) m
   unfolding answer
   request_told report is others m st =
       let c = config_of old in

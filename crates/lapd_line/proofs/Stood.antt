@@ -27,7 +27,7 @@ use Rattle.lapd_line.specs.Stands.{Stands, config_of, pairs_of}
 use Rattle.lapd_line.specs.Units as units
 use Rattle.lapd_line.specs.Units.{AreFor, unit_pairs, messages_of}
 use Rattle.lapd_line.proofs.HeldSteps.{sum_next}
-use Rattle.lapd_line.proofs.TakeStepsUnits.{as_many}
+use Rattle.lapd_line.proofs.PullTakesUnits.{as_many}
 
 -- what a line owns is held beside what others own
 pub held_of : (x : Line) (s : Store) (others : List Owned) (m : machine_line.Line) → Stands x s others m → Holds s (pairs_of x m ++ others)
@@ -54,7 +54,7 @@ stands_on x s others m st t rest wide held = record {
     asleep = st.layer.asleep;
     held = held;
   };
-  quiet = st.quiet;
+  nothing_waits = st.nothing_waits;
 }
 
 -- a sum over the places of a list is the sum over its elements

@@ -12,7 +12,7 @@ use Rattle.lapd_store.proofs.Queues.{Keeps-put}
 use Rattle.lapd_tei.specs.Table.{Places, is_on, place_of}
 use Rattle.lapd_tei.proofs.Tables.{place_of-is, is_on-at}
 use Rattle.model_line.specs.declared.config.Config.{Config}
-use Rattle.model_line.specs.Answer.{nothing}
+use Rattle.model_line.specs.Event.{nothing}
 use Rattle.model_line.specs.Line.{Line, UnitData}
 use Rattle.model_line.specs.Effect.{at_units, of_aim}
 use Rattle.model_line.specs.Refusal.{refusal}
@@ -25,8 +25,8 @@ use Rattle.lapd_line.specs.declared.units.QueuedUnit.{QueuedUnit}
 use Rattle.lapd_line.specs.LinkLayer.{Stands, Standing, Serves, always}
 use Rattle.lapd_line.specs.Reports.{told_in}
 use Rattle.lapd_line.specs.Units.{UnitRing, AreFor, slots_of, messages_of, unit_pairs, slot_of, with_newest}
-use Rattle.lapd_line.proofs.AskSteps.{off_line}
-use Rattle.lapd_line.proofs.TakeStepsUnits.{as_many, beside_units}
+use Rattle.lapd_line.proofs.LayerRequests.{off_line}
+use Rattle.lapd_line.proofs.PullTakesUnits.{as_many, beside_units}
 
 -- a TEI is on the line exactly where it has a place
 pub has_place : (places : Places) (tei : ℕ) → is_some (place_of tei places) ≡ is_on tei places

@@ -5,9 +5,9 @@ pub mod Links
 pub mod Awake
 pub mod Starts
 pub mod LinkLayer
-pub mod Aims
-pub mod Changes
+pub mod Addressing
+pub mod TeiChanges
 pub mod Stands
-pub mod Asks
-pub mod Takes
+pub mod Requests
+pub mod Pulls
 pub mod Begins

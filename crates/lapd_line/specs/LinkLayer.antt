@@ -5,7 +5,7 @@ use Rattle.std.specs.Option.{option_map_or}
 use Rattle.lapd_bits.specs.Stream as stream
 use Rattle.lapd_store.specs.Ownership.{Owned, Holds}
 use Rattle.lapd_store.specs.Store.{Store, SameLimits}
-use Rattle.model_line.specs.Answer.{nothing}
+use Rattle.model_line.specs.Event.{nothing}
 use Rattle.model_line.specs.Line.{Line, link_count, place_at, service_at, tei_at, terms}
 use Rattle.model_line.specs.Octet.{aim_of_heard}
 use Rattle.model_line.specs.Effect.{Aim, at_none, of_aim}

@@ -3,26 +3,26 @@ use Rattle.std.specs.Prelude.{ℕ, List, [], drop, Option, Some, None, option_ma
 use Rattle.std.specs.Option.{option_copied}
 use Rattle.lapd_bits.specs.Stream as stream
 use Rattle.lapd_frame.specs.ShortLists.{listed}
-use Rattle.model_line.specs.Answer.{Told, Answer, pulled, nothing}
+use Rattle.model_line.specs.Event.{LineTold, Answer, pulled, nothing}
 use Rattle.lapd_line.specs.declared.reports.BareReport.{BareReport}
 use Rattle.lapd_line.specs.declared.reports.Report.{Report}
 use Rattle.lapd_line.specs.declared.pulled.Pulled.{Pulled}
 
-abbrev pub report_told : Report → Told
+abbrev pub report_told : Report → LineTold
 report_told r =
     record { notes = listed r.notes; contents = option_copied r.delivered; cause = r.cause; orders = listed r.orders; lost = r.lost }
 
 -- What is left of it without the contents.
-abbrev pub without_contents : Told → Told
+abbrev pub without_contents : LineTold → LineTold
 without_contents t = record t { contents = None }
 
 -- What an outcome tells, with the contents that it names lent from these octets.
-abbrev pub told_in : List ℕ → BareReport → Told
+abbrev pub told_in : List ℕ → BareReport → LineTold
 told_in octets o =
     record { notes = listed o.notes; contents = option_map (λ start. drop start octets) o.contents; cause = o.cause; orders = listed o.orders; lost = o.lost }
 
 -- The same where there is an outcome, and nothing where there is none.
-abbrev pub told_if : List ℕ → Option BareReport → Told
+abbrev pub told_if : List ℕ → Option BareReport → LineTold
 told_if octets None = nothing
 told_if octets (Some o) = told_in octets o
 

@@ -5,7 +5,7 @@ use Rattle.lapd_bits.specs.Framer as framer
 use Rattle.lapd_store.specs.Ownership.{Owned}
 use Rattle.lapd_store.specs.Store.{Store, SameLimits}
 use Rattle.model_line.specs.declared.config.Config.{Config}
-use Rattle.model_line.specs.Answer.{Event}
+use Rattle.model_line.specs.Event.{Event}
 use Rattle.model_line.specs.Line as machine
 use Rattle.model_line.specs.Machine.{after}
 use Rattle.model_line.specs.Pull.{taken}
@@ -29,7 +29,7 @@ pairs_of line m = links_pairs line.layer.links m.links ++ unit_pairs line.layer.
 
 -- A line whose entities have served something, so that they may have something to send.
 abbrev pub with_served : LinkLayer → Line → Line
-with_served e line = record line { layer = e; quiet = false }
+with_served e line = record line { layer = e; nothing_waits = false }
 
 -- A line stands for a past beside others on its shelf: its deframer for the octets received, its framer for the items
 -- sent and the octets given, its entities for the rest; and the shelf holds exactly what the line and the others own.
@@ -38,8 +38,8 @@ pub record Stands (line : Line) (store : Store) (others : List Owned) (m : machi
   pub sent : framer.Stands line.framer m.items m.given
   pub room : line.framer.room ≡ (config_of line).n201
   pub layer : layer.Stands line.layer store others m
-  -- where it is known to be quiet, there is nothing that a pull could take
-  pub quiet : line.quiet ≡ true → taken (config_of line) m ≡ None
+  -- where it is known to be nothing_waits, there is nothing that a pull could take
+  pub nothing_waits : line.nothing_waits ≡ true → taken (config_of line) m ≡ None
 
 -- An event leads a line and its shelf from one value to another: for every past, and every list of what others own, for
 -- which they stood, they stand for that past with the event, and for the same others.

@@ -7,17 +7,15 @@
 //! - `line`: the calls: an octet that comes, a timer that expires, a request, and an octet that goes out; and the state
 //!   of a link, and how many octets the line stores.
 //! - `link_layer`: what the calls change beside the bits: TEI management, links and units; `starts`, how they begin;
-//!   `aims`, what is heard; `expiries`, timers; `changes`, links that open and are cleared; `asks`, what is requested
-//!   of a link, of TEI management and as unit data; `takes`, what goes out; `held`, what they store.
+//!   `addressing`, what is heard; `expiries`, timers; `tei_changes`, links that open and are cleared; `requests`, what is requested
+//!   of a link, of TEI management and as unit data; `pulls`, what goes out; `held`, what they store.
 //! - `links`, `units`: the links of all places of the TEI table, and the unit data that waits; `awake`, which links may
 //!   have something to give.
 //! - `reports`, `pulled`: the answers; `fault`: why a line can't be started.
 #![tactic(auto)]
 
-mod aims;
-mod asks;
+mod addressing;
 mod awake;
-mod changes;
 mod expiries;
 mod fault;
 mod held;
@@ -25,13 +23,15 @@ mod line;
 mod link_layer;
 mod links;
 mod pulled;
+mod pulls;
 mod reports;
+mod requests;
 mod starts;
-mod takes;
+mod tei_changes;
 mod units;
 
 pub use fault::StartFault;
-pub use model_line::{Config, Field, Request};
 pub use line::Line;
+pub use model_line::{Config, Field, Request};
 pub use pulled::Pulled;
 pub use reports::{BareReport, Report};

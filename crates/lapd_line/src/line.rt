@@ -4,8 +4,8 @@ ghost use Rattle.std.specs.Prelude.{◌≡◌, ◌<◌, ◌≤◌, List, length,
 ghost use Rattle.lapd_bits.specs.Deframer.{latest_of};
 ghost use Rattle.lapd_store.specs.Ownership.{Owned, Holds};
 ghost use Rattle.lapd_store.specs.Store.{Store, used_slots};
-ghost use Rattle.model_line.specs.Answer as event;
-ghost use Rattle.model_line.specs.Answer.{told};
+ghost use Rattle.model_line.specs.Event as line_event;
+ghost use Rattle.model_line.specs.Event.{told};
 ghost use Rattle.model_line.specs.Line as machine;
 ghost use Rattle.model_line.specs.Counts.{may_send};
 ghost use Rattle.model_link.specs.Told.{starts};
@@ -21,8 +21,8 @@ use crate::pulled::Pulled;
 use crate::reports::{BareReport, Report};
 use lapd_bits::{Deframer, Ended, Framer, Heard};
 use lapd_frame::{Order, Refusal, Service, ShortList, Timer};
-use model_line::{Config, Request};
 use lapd_store::Shelf;
+use model_line::{Config, Request};
 use std::alloc::Global;
 
 /// A line of a card: what it holds of its terminals now (Q.921 clauses 2, 3 and 5, network side).
@@ -36,7 +36,7 @@ pub struct Line {
     layer: LinkLayer,
     /// A pull found nothing to send, and nothing has happened since but octets that ended nothing and pulls. So the next
     /// pull need not look for messages, unit data and links that are awake again.
-    quiet: bool,
+    nothing_waits: bool,
 }
 
 impl Line {
@@ -47,7 +47,7 @@ impl Line {
     ghost use Rattle.lapd_line.specs.Reports.{report_told, told_in, told_if, pulled_of};
     ghost use Rattle.lapd_line.specs.Begins.{Begins};
     ghost use Rattle.lapd_line.specs.Stands.{Stands, Leads, config_of, latest_frame, with_served};
-    ghost use Rattle.lapd_line.specs.Takes.{orders_taken};
+    ghost use Rattle.lapd_line.specs.Pulls.{orders_taken};
 
     /// A line of a card with these sizes and limits, all in range. No TEI is on it.
     ///
@@ -68,7 +68,7 @@ impl Line {
             deframer,
             framer,
             layer,
-            quiet: false,
+            nothing_waits: false,
         })
     }
 
@@ -77,12 +77,12 @@ impl Line {
     pub fn octet<S: Shelf>(&mut self, octet: u8, shelf: &mut S) -> Report<'_>
         requires { (others : List Owned) × (m : machine.Line) × Stands self.old (S.store shelf.old) others m }
         ensures told { (others : List Owned) (m : machine.Line) → Stands self.old (S.store shelf.old) others m
-            → told (report_told result) ≡ answer (config_of self.old) (event.octet octet) m }
+            → told (report_told result) ≡ answer (config_of self.old) (line_event.octet octet) m }
         // Where it names a cause, why the octet or its frame was dropped, what may be sent stays as it is.
         ensures dropped { (others : List Owned) (m : machine.Line) → Stands self.old (S.store shelf.old) others m → IsSome result.cause
-            → may_send (config_of self.old) (after (config_of self.old) (event.octet octet) m) ≡ may_send (config_of self.old) m }
+            → may_send (config_of self.old) (after (config_of self.old) (line_event.octet octet) m) ≡ may_send (config_of self.old) m }
         ensures* after { sem 𝓛 (Rests the_row self.entry
-            (λ v. Leads (event.octet octet) self.old (S.store shelf.old) v (S.store shelf.new))) }
+            (λ v. Leads (line_event.octet octet) self.old (S.store shelf.old) v (S.store shelf.new))) }
     {
         let bare = self.step(octet, shelf);
         self.lend(&bare)
@@ -93,8 +93,8 @@ impl Line {
     pub fn step<S: Shelf>(&mut self, octet: u8, shelf: &mut S) -> BareReport
         requires { (others : List Owned) × (m : machine.Line) × Stands self.old (S.store shelf.old) others m }
         ensures told { (others : List Owned) (m : machine.Line) → Stands self.old (S.store shelf.old) others m
-            → told (told_in (latest_frame self.new) result) ≡ answer (config_of self.old) (event.octet octet) m }
-        ensures after { Leads (event.octet octet) self.old (S.store shelf.old) self.new (S.store shelf.new) }
+            → told (told_in (latest_frame self.new) result) ≡ answer (config_of self.old) (line_event.octet octet) m }
+        ensures after { Leads (line_event.octet octet) self.old (S.store shelf.old) self.new (S.store shelf.new) }
     {
         self.hear(octet, shelf).unwrap_or(BareReport::nothing())
     }
@@ -105,8 +105,8 @@ impl Line {
     pub fn hear<S: Shelf>(&mut self, octet: u8, shelf: &mut S) -> Option<BareReport>
         requires { (others : List Owned) × (m : machine.Line) × Stands self.old (S.store shelf.old) others m }
         ensures told { (others : List Owned) (m : machine.Line) → Stands self.old (S.store shelf.old) others m
-            → told (told_if (latest_frame self.new) result) ≡ answer (config_of self.old) (event.octet octet) m }
-        ensures after { Leads (event.octet octet) self.old (S.store shelf.old) self.new (S.store shelf.new) }
+            → told (told_if (latest_frame self.new) result) ≡ answer (config_of self.old) (line_event.octet octet) m }
+        ensures after { Leads (line_event.octet octet) self.old (S.store shelf.old) self.new (S.store shelf.new) }
     {
         match self.deframer.step(octet) {
             Ended::Nothing => None,
@@ -121,7 +121,7 @@ impl Line {
         ensures served { Serves (aim_of_event (latest_of self.old.deframer)) (latest_frame self.old)
             self.old.layer (S.store shelf.old) self.new.layer (S.store shelf.new) result }
     {
-        self.quiet = false;
+        self.nothing_waits = false;
         self.layer.serve(self.deframer.latest(), shelf)
     }
 
@@ -137,12 +137,12 @@ impl Line {
     pub fn expire<S: Shelf>(&mut self, timer: Timer, shelf: &mut S) -> Report<'static>
         requires { (others : List Owned) × (m : machine.Line) × Stands self.old (S.store shelf.old) others m }
         ensures told { (others : List Owned) (m : machine.Line) → Stands self.old (S.store shelf.old) others m
-            → told (report_told result) ≡ answer (config_of self.old) (event.expiry timer) m }
+            → told (report_told result) ≡ answer (config_of self.old) (line_event.expiry timer) m }
         // It starts one timer at most.
         ensures starts { starts (report_told result).orders ≤ 1 }
-        ensures after { Leads (event.expiry timer) self.old (S.store shelf.old) self.new (S.store shelf.new) }
+        ensures after { Leads (line_event.expiry timer) self.old (S.store shelf.old) self.new (S.store shelf.new) }
     {
-        self.quiet = false;
+        self.nothing_waits = false;
         self.layer.expire(timer, shelf).report(&[])
     }
 
@@ -168,13 +168,13 @@ impl Line {
         ensures accepted { IfOk result (λ report. (others : List Owned) (m : machine.Line) → Stands self.old (S.store shelf.old) others m
             → refusal (config_of self.old) (nat_le slots (used_slots (S.store shelf.old))) (request_of request.entry) m ≡ None) }
         ensures told { IfOk result (λ report. (others : List Owned) (m : machine.Line) → Stands self.old (S.store shelf.old) others m
-            → told (report_told report) ≡ answer (config_of self.old) (event.request (request_of request.entry)) m) }
+            → told (report_told report) ≡ answer (config_of self.old) (line_event.request (request_of request.entry)) m) }
         ensures after { IfOk result (λ report.
-            Leads (event.request (request_of request.entry)) self.old (S.store shelf.old) self.new (S.store shelf.new)) }
+            Leads (line_event.request (request_of request.entry)) self.old (S.store shelf.old) self.new (S.store shelf.new)) }
     {
         match self.layer.request(request, shelf, slots) {
             Ok(bare) => {
-                self.quiet = false;
+                self.nothing_waits = false;
                 Ok(bare.report(&[]))
             }
             Err(why) => Err(why),
@@ -188,8 +188,8 @@ impl Line {
     pub fn pull<S: Shelf>(&mut self, shelf: &mut S) -> Pulled
         requires { (others : List Owned) × (m : machine.Line) × Stands self.old (S.store shelf.old) others m }
         ensures told { (others : List Owned) (m : machine.Line) → Stands self.old (S.store shelf.old) others m
-            → pulled_of result ≡ answer (config_of self.old) event.pull m }
-        ensures after { Leads event.pull self.old (S.store shelf.old) self.new (S.store shelf.new) }
+            → pulled_of result ≡ answer (config_of self.old) line_event.pull m }
+        ensures after { Leads line_event.pull self.old (S.store shelf.old) self.new (S.store shelf.new) }
     {
         if self.begins_nothing() {
             return Pulled::octet_alone(self.framer.octet());
@@ -205,7 +205,7 @@ impl Line {
         if self.framer.busy() {
             return true;
         }
-        self.quiet
+        self.nothing_waits
     }
 
     /// Gives the next octet as [`Line::pull`] does, where fewer than eight bits are left to send. It stands apart, so that
@@ -215,8 +215,8 @@ impl Line {
         requires stands { (others : List Owned) × (m : machine.Line) × Stands self.old (S.store shelf.old) others m }
         requires few { length self.old.framer.left < 8 }
         ensures told { (others : List Owned) (m : machine.Line) → Stands self.old (S.store shelf.old) others m
-            → pulled_of result ≡ answer (config_of self.old) event.pull m }
-        ensures after { Leads event.pull self.old (S.store shelf.old) self.new (S.store shelf.new) }
+            → pulled_of result ≡ answer (config_of self.old) line_event.pull m }
+        ensures after { Leads line_event.pull self.old (S.store shelf.old) self.new (S.store shelf.new) }
     {
         let taken = self.begin(shelf);
         Pulled {
@@ -234,7 +234,7 @@ impl Line {
         ensures { Begins self.old (S.store shelf.old) self.new (S.store shelf.new) (orders_taken result) }
     {
         let taken = self.layer.take(&mut self.framer, shelf);
-        self.quiet = taken.is_none();
+        self.nothing_waits = taken.is_none();
         taken
     }
 

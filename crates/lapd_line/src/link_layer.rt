@@ -14,10 +14,10 @@ use crate::reports::BareReport;
 use crate::units::Units;
 use lapd_bits::Cause;
 use lapd_frame::Service;
-use model_line::Config;
 use lapd_link::{Answer, LinkTimer, Received};
 use lapd_store::Shelf;
 use lapd_tei::Teis;
+use model_line::Config;
 
 /// What a line has beside its bits.
 #[derive(Debug, Drop)]

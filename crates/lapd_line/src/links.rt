@@ -14,9 +14,9 @@ ghost use Rattle.model_line.specs.Sound.{IsInRange};
 
 use crate::fault::StartFault;
 use lapd_frame::{Address, Refusal, Service};
-use model_line::Config;
 use lapd_link::{Answer, Link, LinkRequest, LinkTimer, Offer, Received};
 use lapd_store::Shelf;
+use model_line::Config;
 use std::alloc::Global;
 use std::marker::Model;
 

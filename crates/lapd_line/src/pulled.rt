@@ -1,7 +1,7 @@
 //! What a pull is answered with.
 
 ghost use Rattle.std.specs.Prelude.{◌≡◌, false, []};
-ghost use Rattle.model_line.specs.Answer.{pulled};
+ghost use Rattle.model_line.specs.Event.{pulled};
 
 use lapd_frame::{Order, ShortList};
 

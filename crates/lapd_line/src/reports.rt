@@ -32,7 +32,7 @@ pub struct BareReport {
 }
 
 impl Report<'_> {
-    ghost use Rattle.model_line.specs.Answer.{nothing};
+    ghost use Rattle.model_line.specs.Event.{nothing};
     ghost use Rattle.lapd_line.specs.Reports.{report_told, without_contents};
 
     /// Of something that led to nothing.
@@ -79,7 +79,7 @@ impl Report<'_> {
 
 impl BareReport {
     ghost use Rattle.std.specs.Prelude.{ℕ, List};
-    ghost use Rattle.model_line.specs.Answer.{nothing, dropped};
+    ghost use Rattle.model_line.specs.Event.{nothing, dropped};
     ghost use Rattle.lapd_line.specs.Reports.{report_told, told_in};
 
     /// Nothing happened.

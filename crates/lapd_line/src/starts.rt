@@ -11,8 +11,8 @@ use crate::fault::StartFault;
 use crate::link_layer::LinkLayer;
 use crate::links::Links;
 use crate::units::Units;
-use model_line::Config;
 use lapd_tei::Teis;
+use model_line::Config;
 use std::alloc::Global;
 
 impl LinkLayer {

@@ -3,13 +3,13 @@ use Rattle.std.specs.Prelude.{◌≡◌, ℕ, ◌≤◌, List, length, Option, S
 use Rattle.std.specs.Borrow.{Bor}
 use Rattle.lapd_store.specs.Store.{Store, contents_of}
 use Rattle.lapd_frame.specs.ShortLists.{listed}
-use Rattle.model_link.specs.Told.{Told, Given}
+use Rattle.model_link.specs.Told.{LinkTold, Given}
 use Rattle.lapd_link.specs.declared.outcome.Answer.{Answer}
 use Rattle.lapd_link.specs.declared.outcome.Outcome.{Outcome}
 use Rattle.lapd_link.specs.declared.offers.Offer.{Offer}
 
 -- of an answer, with the information that came with the frame
-abbrev pub told_with : List ℕ → Answer → Told
+abbrev pub told_with : List ℕ → Answer → LinkTold
 told_with info answer = record {
   notes = listed answer.notes;
   delivered = if answer.delivered then Some info else None;
@@ -23,7 +23,7 @@ told_with info answer = record {
 abbrev pub lent : Option (Bor (List ℕ)) → Option (List ℕ)
 lent o = option_map (λ octets. octets.now) o
 
-abbrev pub told_of : Outcome → Told
+abbrev pub told_of : Outcome → LinkTold
 told_of outcome = record {
   notes = listed outcome.notes;
   delivered = lent outcome.delivered;

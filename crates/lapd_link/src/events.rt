@@ -19,9 +19,9 @@ use crate::orders::orders;
 use crate::outcome::{Answer, Outcome};
 use crate::received::Received;
 use lapd_frame::ErrorCode;
-use model_link::{LinkTimer, Terms};
 use lapd_link_steps::{Entity, Told};
 use lapd_store::Shelf;
+use model_link::{LinkTimer, Terms};
 
 // What happens to a link but for requests and offers.
 #[derive(Clone, Copy)]

@@ -26,8 +26,8 @@ mod received;
 mod requests;
 
 pub use fault::StartFault;
-pub use model_link::{LinkTimer, two_ends};
 pub use link::Link;
+pub use model_link::{LinkTimer, two_ends};
 pub use offers::Offer;
 pub use outcome::{Answer, Outcome};
 pub use received::Received;

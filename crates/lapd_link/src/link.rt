@@ -10,9 +10,9 @@ ghost use Rattle.model_link.specs.Rises.{held};
 
 use crate::fault::StartFault;
 use lapd_frame::{Address, Service};
-use model_link::Terms;
 use lapd_link_steps::Entity;
 use lapd_store::SlotQueue;
+use model_link::Terms;
 use std::alloc::Global;
 
 /// A data link of one TEI and one service.

@@ -13,9 +13,9 @@ ghost use Rattle.model_link.specs.Rises.{RisesByEvent, sent, may_send};
 use crate::link::Link;
 use crate::orders::orders;
 use lapd_frame::{Order, ShortList};
-use model_link::ControlFrame;
 use lapd_link_steps::Told;
 use lapd_store::Slot;
+use model_link::ControlFrame;
 
 /// A frame that a link gives to be sent.
 #[derive(Clone, Copy, PartialEq, Eq, Debug)]

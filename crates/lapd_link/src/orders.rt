@@ -5,8 +5,8 @@ ghost use Rattle.lapd_frame.specs.ShortLists.{listed};
 ghost use Rattle.model_link.specs.Told.{timer_at, order_for, orders_for};
 
 use lapd_frame::{Order, ShortList, Timer};
-use model_link::{LinkTimer, Terms};
 use lapd_link_steps::is_the;
+use model_link::{LinkTimer, Terms};
 
 // Start where the event started a timer and left it running, Stop where it ran before and does not after; T200 first.
 pub(crate) fn orders(

@@ -13,9 +13,9 @@ ghost use Rattle.model_link.specs.Rises.{RisesByEvent};
 use crate::link::Link;
 use crate::outcome::Answer;
 use lapd_frame::Refusal;
-use model_link::State;
 use lapd_link_steps::Told;
 use lapd_store::Shelf;
+use model_link::State;
 
 /// What layer 3 asks of a link (Q.921 clauses 4.1.1 and 5.6.6).
 #[derive(Clone, Copy, PartialEq, Eq, Debug)]

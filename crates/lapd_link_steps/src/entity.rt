@@ -1,8 +1,8 @@
 //! The state and the variables of a link.
 
 use circular_buffer::HeapCircularBuffer;
-use model_link::{ControlFrame, LinkTimer, State};
 use lapd_seq::{Seq, Window};
+use model_link::{ControlFrame, LinkTimer, State};
 use std::alloc::{AllocError, Global};
 
 /// The data link layer entity of one link, without its queue of contents.

@@ -10,8 +10,8 @@ ghost use Rattle.lapd_link_steps.specs.Parts.{released_by_state, told_of_clearin
 
 use crate::entity::Entity;
 use crate::told::{ALL, Told};
-use model_link::{State, Terms};
 use lapd_seq::{Seq, Window};
+use model_link::{State, Terms};
 
 impl Entity {
     /// Layer 3 asks for the release. In states 5 and 6 nothing is done.

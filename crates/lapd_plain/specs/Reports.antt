@@ -3,7 +3,7 @@ use Rattle.std.specs.Prelude.{◌≡◌, ℕ, ◌==◌, Bool, List, [], length, 
 use Rattle.lapd_bits.specs.declared.heard.Cause.{Cause}
 use Rattle.lapd_frame.specs.declared.notes.Note.{Note}
 use Rattle.lapd_frame.specs.declared.timers.Order.{Order}
-use Rattle.model_line.specs.Answer.{Told}
+use Rattle.model_line.specs.Event.{LineTold}
 use Rattle.lapd_plain.specs.declared.notes.PlainNote.{PlainNote}
 use Rattle.lapd_plain.specs.declared.reports.PlainReport.{PlainReport}
 use Rattle.lapd_plain.specs.declared.timers.PlainOrder.{PlainOrder}
@@ -31,11 +31,11 @@ mark_of None = 0
 mark_of (Some contents) = 1
 
 -- An answer of these parts.
-abbrev pub told_by : List Note → List Order → Option Cause → ℕ → Option (List ℕ) → Told
+abbrev pub told_by : List Note → List Order → Option Cause → ℕ → Option (List ℕ) → LineTold
 told_by notes orders cause lost contents = record { notes = notes; contents = contents; cause = cause; orders = orders; lost = lost }
 
 -- It shows what an octet, an expiry or a request was answered with: all of it, and nothing else.
-pub record Shows (r : PlainReport) (t : Told) : Type 0 where
+pub record Shows (r : PlainReport) (t : LineTold) : Type 0 where
   pub note_count : r.note_count ≡ length t.notes
   pub order_count : r.order_count ≡ length t.orders
   pub delivered : r.delivered ≡ mark_of t.contents

@@ -2,7 +2,7 @@
 
 ghost use Rattle.std.specs.Prelude.{◌≡◌, ◌≤◌, [], false, length, take, map};
 ghost use Rattle.std.specs.Option.{option_copied};
-ghost use Rattle.model_line.specs.Answer.{nothing};
+ghost use Rattle.model_line.specs.Event.{nothing};
 ghost use Rattle.lapd_plain.specs.Notes.{plain_note};
 ghost use Rattle.lapd_plain.specs.Timers.{plain_order};
 ghost use Rattle.lapd_plain.specs.Reports.{Shows, ShowsPull, SameButContents, contents_in, contents_of, mark_of, orders_of, told_by};

@@ -14,7 +14,7 @@ use Rattle.lapd_transcript.specs.Streams.{Output, IsPut, IsStuck}
 use Rattle.lapd_transcript.specs.Text.{frame_text}
 use Rattle.lapd_transcript.specs.declared.streams.WriteFailed.{WriteFailed}
 use Rattle.lapd_sim.specs.Stands.{Hears}
-use Rattle.model_sim.specs.Bench.{frame_in, found}
+use Rattle.model_sim.specs.Setup.{frame_in, found}
 
 -- what is told of events
 abbrev pub events_text : ℕ → List Event → List ℕ

@@ -2,27 +2,27 @@
 use Rattle.std.proofs.Common.{◌≡◌, ℕ, List, [], ◌∷◌, ◌++◌, map, Result, Ok, Err, refl, ap, sym, ◌∙◌, subst, append_assoc}
 use Rattle.std.proofs.lemmas.List.{append-nil, map-append}
 use Rattle.std.proofs.lemmas.List.Sums.{fold-append}
-use Rattle.model_line.specs.Answer as happening
+use Rattle.model_line.specs.Event as line_event
 use Rattle.model_card.specs.Event.{Event, at}
 use Rattle.model_card.specs.Machine.{answer}
 use Rattle.lapd_transcript.specs.declared.streams.WriteFailed.{WriteFailed}
 use Rattle.lapd_transcript.specs.Streams.{Output, IsPut, IsStuck}
 use Rattle.lapd_transcript.proofs.Known.{puts_then, stuck_more, puts_nothing}
-use Rattle.model_sim.specs.Bench.{Bench, happened}
+use Rattle.model_sim.specs.Setup.{Setup, happened}
 use Rattle.model_sim.specs.Steps.{Scene, with_event, with_events, answer_text, octets_at, after_rx}
 use Rattle.lapd_sim.specs.Obeyed.{scene, Tells}
 
 -- ---- what is said after what was said before
 
 -- what happens does not depend on it,
-bench_onto : (events : List Event) (m : Bench) (x y : List ℕ) → (with_events events (record { bench = m; text = x })).bench ≡ (with_events events (record { bench = m; text = y })).bench
+bench_onto : (events : List Event) (m : Setup) (x y : List ℕ) → (with_events events (record { setup = m; text = x })).setup ≡ (with_events events (record { setup = m; text = y })).setup
 bench_onto [] m x y = refl
 bench_onto (e ∷ events) m x y =
     let said = answer_text e.line (answer e m.card) in
     bench_onto events (happened m e) (x ++ said) (y ++ said)
 
 -- and what is said follows it
-text_onto : (events : List Event) (m : Bench) (x : List ℕ) → (with_events events (record { bench = m; text = x })).text ≡ x ++ (with_events events (scene m)).text
+text_onto : (events : List Event) (m : Setup) (x : List ℕ) → (with_events events (record { setup = m; text = x })).text ≡ x ++ (with_events events (scene m)).text
 text_onto [] m x = sym (append-nil x)
 text_onto (e ∷ events) m x =
     let said = answer_text e.line (answer e m.card) in
@@ -30,33 +30,33 @@ text_onto (e ∷ events) m x =
     ∙ append_assoc x said (with_events events (scene (happened m e))).text
     ∙ ap (λ l. x ++ l) (sym (text_onto events (happened m e) said))
 
-tells_onto : (r : Result Unit WriteFailed) (a b c : Output) (P : Bench → Type 0) (events : List Event) (s : Scene) → IsPut a b s.text → Tells r b c P (with_events events (scene s.bench)) → Tells r a c P (with_events events s)
+tells_onto : (r : Result Unit WriteFailed) (a b c : Output) (P : Setup → Type 0) (events : List Event) (s : Scene) → IsPut a b s.text → Tells r b c P (with_events events (scene s.setup)) → Tells r a c P (with_events events s)
 tells_onto (Ok u) a b c P events s before told = (
-  subst (λ text. IsPut a c text) (sym (text_onto events s.bench s.text)) (puts_then (Ok u) a b c s.text (with_events events (scene s.bench)).text before told.0),
-  subst P (bench_onto events s.bench [] s.text) told.1,
+  subst (λ text. IsPut a c text) (sym (text_onto events s.setup s.text)) (puts_then (Ok u) a b c s.text (with_events events (scene s.setup)).text before told.0),
+  subst P (bench_onto events s.setup [] s.text) told.1,
 )
 tells_onto (Err e) a b c P events s before told =
-    subst (λ text. IsStuck a c text) (sym (text_onto events s.bench s.text)) (puts_then (Err e) a b c s.text (with_events events (scene s.bench)).text before told)
+    subst (λ text. IsStuck a c text) (sym (text_onto events s.setup s.text)) (puts_then (Err e) a b c s.text (with_events events (scene s.setup)).text before told)
 
 -- ---- octets that come from a line
 
 pub after_rx-append : (line : ℕ) (octets more : List ℕ) (s : Scene) → after_rx line (octets ++ more) s ≡ after_rx line more (after_rx line octets s)
 after_rx-append line octets more s =
-    let event : ℕ → Event = λ value. at line (happening.octet value) in
+    let event : ℕ → Event = λ value. at line (line_event.octet value) in
     ap (λ events. with_events events s) (map-append event octets more) ∙ fold-append with_event s (map event octets) (map event more)
 
 -- some octets, and then more
-pub tells_then : (r : Result Unit WriteFailed) (a b c : Output) (P : Bench → Type 0) (line : ℕ) (octets more : List ℕ) (m : Bench) → IsPut a b (after_rx line octets (scene m)).text → Tells r b c P (after_rx line more (scene (after_rx line octets (scene m)).bench)) → Tells r a c P (after_rx line (octets ++ more) (scene m))
+pub tells_then : (r : Result Unit WriteFailed) (a b c : Output) (P : Setup → Type 0) (line : ℕ) (octets more : List ℕ) (m : Setup) → IsPut a b (after_rx line octets (scene m)).text → Tells r b c P (after_rx line more (scene (after_rx line octets (scene m)).setup)) → Tells r a c P (after_rx line (octets ++ more) (scene m))
 tells_then r a b c P line octets more m before told =
     subst (λ s. Tells r a c P s) (sym (after_rx-append line octets more (scene m))) (tells_onto r a b c P (octets_at line more) (after_rx line octets (scene m)) before told)
 
 -- where a write failed, octets that were to follow change nothing
-pub broken_then : (a b : Output) (line : ℕ) (octets more : List ℕ) (m : Bench) → IsStuck a b (after_rx line octets (scene m)).text → IsStuck a b (after_rx line (octets ++ more) (scene m)).text
+pub broken_then : (a b : Output) (line : ℕ) (octets more : List ℕ) (m : Setup) → IsStuck a b (after_rx line octets (scene m)).text → IsStuck a b (after_rx line (octets ++ more) (scene m)).text
 broken_then a b line octets more m broken =
     let s = after_rx line octets (scene m) in
-    let whole : (after_rx line (octets ++ more) (scene m)).text ≡ s.text ++ (after_rx line more (scene s.bench)).text =
-    ap (λ (t : Scene). t.text) (after_rx-append line octets more (scene m)) ∙ text_onto (octets_at line more) s.bench s.text in
-    subst (λ text. IsStuck a b text) (sym whole) (stuck_more a b s.text (after_rx line more (scene s.bench)).text broken)
+    let whole : (after_rx line (octets ++ more) (scene m)).text ≡ s.text ++ (after_rx line more (scene s.setup)).text =
+    ap (λ (t : Scene). t.text) (after_rx-append line octets more (scene m)) ∙ text_onto (octets_at line more) s.setup s.text in
+    subst (λ text. IsStuck a b text) (sym whole) (stuck_more a b s.text (after_rx line more (scene s.setup)).text broken)
 
-pub tells_none : (a : Output) (P : Bench → Type 0) (m : Bench) → P m → Tells {E = WriteFailed} (Ok tt) a a P (scene m)
+pub tells_none : (a : Output) (P : Setup → Type 0) (m : Setup) → P m → Tells {E = WriteFailed} (Ok tt) a a P (scene m)
 tells_none a P m holds = (puts_nothing a, holds)

@@ -13,7 +13,7 @@ use Rattle.lapd_bits.specs.StuffingLaws.{AreOctets}
 use Rattle.lapd_bits.proofs.BitLemmas.{length-bits}
 use Rattle.lapd_bits.proofs.Division.Unique.{length-check}
 use Rattle.lapd_bits.proofs.FramerStands.{line_text-push}
-use Rattle.model_sim.specs.Bench as machine
+use Rattle.model_sim.specs.Setup as machine
 use Rattle.lapd_sim.specs.declared.terminal.Terminal.{Terminal}
 use Rattle.lapd_sim.specs.OnLine.{HasPut}
 use Rattle.lapd_sim.specs.Shown.{on_line}

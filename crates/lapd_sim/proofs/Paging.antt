@@ -6,7 +6,7 @@ use Rattle.lapd_transcript.specs.Streams.{Output, IsPut, IsStuck}
 use Rattle.lapd_transcript.proofs.Known.{puts_then, stuck_more}
 use Rattle.model_sim.specs.Pieces.{pieces_of}
 use Rattle.model_sim.specs.Script.{Played, played, one_more, not_begun, transcript}
-use Rattle.lapd_sim.specs.declared.bench.Bench.{Bench}
+use Rattle.lapd_sim.specs.declared.setup.Setup.{Setup}
 use Rattle.lapd_sim.specs.declared.faults.PlayFault.{PlayFault}
 use Rattle.lapd_sim.specs.declared.faults.PlayFault.TheVariants.{Read, Write, Script, OutOfMemory}
 use Rattle.lapd_sim.specs.declared.lines.ScriptLines.{ScriptLines}
@@ -16,9 +16,9 @@ use Rattle.lapd_sim.specs.Plays.{PlaysOn}
 use Rattle.lapd_sim.proofs.Playing.{IsPlayed, grows, stops_reading}
 
 -- the page has gone out
-abbrev pub played_on : (lines : ScriptLines) (bench : Option Bench) (remaining : Option (List ℕ)) (text : List ℕ) (a b c : Output) → IsPlayed lines bench remaining text a b → IsPut b c []
-    → IsPlayed lines bench remaining text a c
-played_on lines bench remaining text a b c p put = record {
+abbrev pub played_on : (lines : ScriptLines) (setup : Option Setup) (remaining : Option (List ℕ)) (text : List ℕ) (a b c : Output) → IsPlayed lines setup remaining text a b → IsPut b c []
+    → IsPlayed lines setup remaining text a c
+played_on lines setup remaining text a b c p put = record {
   done = p.done;
   left = p.left;
   is = p.is;
@@ -35,8 +35,8 @@ played_on lines bench remaining text a b c p put = record {
 }
 
 -- it could not
-stops_sending : (lines : ScriptLines) (bench : Option Bench) (remaining : Option (List ℕ)) (text : List ℕ) (a b c : Output) → IsPlayed lines bench remaining text a b → IsStuck b c [] → IsStuck a c (transcript text)
-stops_sending lines bench remaining text a b c p stuck =
+stops_sending : (lines : ScriptLines) (setup : Option Setup) (remaining : Option (List ℕ)) (text : List ℕ) (a b c : Output) → IsPlayed lines setup remaining text a b → IsStuck b c [] → IsStuck a c (transcript text)
+stops_sending lines setup remaining text a b c p stuck =
     let rest = grows (pieces_of p.left) (played p.done) in
     let whole : transcript text ≡ (played p.done).written ++ rest.0 =
     ap (λ pieces. (played pieces).written) p.is ∙ ap (λ q. Played.written q) (fold-append one_more not_begun p.done (pieces_of p.left)) ∙ rest.1 in
@@ -51,10 +51,10 @@ put_before Write a b c text put h = (text ++ [], puts_then (Err (record {})) a b
 put_before (Script number kind) a b c text put h = (text ++ [], puts_then (Ok tt) a b c text [] put h)
 put_before OutOfMemory a b c text put h = (text ++ [], puts_then (Ok tt) a b c text [] put h)
 
-pub stops_before : (fault : PlayFault) (lines new : ScriptLines) (bench : Option Bench) (remaining left : Option (List ℕ)) (text : List ℕ) (a b c : Output) (p : IsPlayed lines bench remaining text a b)
+pub stops_before : (fault : PlayFault) (lines new : ScriptLines) (setup : Option Setup) (remaining left : Option (List ℕ)) (text : List ℕ) (a b c : Output) (p : IsPlayed lines setup remaining text a b)
     → PutsNone {A = Bool} (Err fault) b c → Reaches (Err fault) lines new left p.left → PlaysOn (Err fault) text left a c
-stops_before Read lines new bench remaining left text a b c p put h = stops_reading Read lines new bench remaining left text a c (played_on lines bench remaining text a b c p put.1) h
-stops_before Write lines new bench remaining left text a b c p put h = stops_sending lines bench remaining text a b c p put
-stops_before (Script number kind) lines new bench remaining left text a b c p put h =
-    stops_reading (Script number kind) lines new bench remaining left text a c (played_on lines bench remaining text a b c p put) h
-stops_before OutOfMemory lines new bench remaining left text a b c p put h = absurd h
+stops_before Read lines new setup remaining left text a b c p put h = stops_reading Read lines new setup remaining left text a c (played_on lines setup remaining text a b c p put.1) h
+stops_before Write lines new setup remaining left text a b c p put h = stops_sending lines setup remaining text a b c p put
+stops_before (Script number kind) lines new setup remaining left text a b c p put h =
+    stops_reading (Script number kind) lines new setup remaining left text a c (played_on lines setup remaining text a b c p put) h
+stops_before OutOfMemory lines new setup remaining left text a b c p put h = absurd h

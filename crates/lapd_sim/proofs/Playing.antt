@@ -11,11 +11,11 @@ use Rattle.lapd_script.specs.Meaning.{Meaning}
 use Rattle.lapd_script.specs.Read.{read}
 use Rattle.lapd_transcript.specs.Streams.{Output, IsPut, IsStuck}
 use Rattle.lapd_transcript.proofs.Known.{puts_then, stuck_more, puts_nothing}
-use Rattle.model_sim.specs.Bench as machine
+use Rattle.model_sim.specs.Setup as machine
 use Rattle.model_sim.specs.Pieces.{pieces_of, line_in}
 use Rattle.model_sim.specs.Script.{Played, Fault, played, one_more, not_begun, counted, faulty, is_too_long, after_reading, after_meaning, after_bench, after_scene, after_piece, unless_faulty, transcript, first_fault}
 use Rattle.model_sim.specs.Steps.{Scene, with_card, without_card}
-use Rattle.lapd_sim.specs.declared.bench.Bench.{Bench}
+use Rattle.lapd_sim.specs.declared.setup.Setup.{Setup}
 use Rattle.lapd_sim.specs.declared.faults.LineFault.{LineFault}
 use Rattle.lapd_sim.specs.declared.faults.LineFault.TheVariants as line
 use Rattle.lapd_sim.specs.declared.faults.LineFault.TheVariants.{Faulty}
@@ -31,7 +31,7 @@ use Rattle.lapd_sim.specs.Stands.{Has}
 use Rattle.lapd_sim.proofs.Wholes.{AreWhole, no_whole, whole_more, first_whole, some_octet, split_first, read_whole}
 
 -- These pieces of the text have been played without a fault, and what is left of it is still to be read.
-pub record IsPlayed (lines : ScriptLines) (bench : Option Bench) (remaining : Option (List ℕ)) (text : List ℕ) (old new : Output) : Type 0 where
+pub record IsPlayed (lines : ScriptLines) (setup : Option Setup) (remaining : Option (List ℕ)) (text : List ℕ) (old new : Output) : Type 0 where
   pub done : List (List ℕ)
   pub left : List ℕ
   pub is : pieces_of text ≡ done ++ pieces_of left
@@ -39,7 +39,7 @@ pub record IsPlayed (lines : ScriptLines) (bench : Option Bench) (remaining : Op
   pub number : lines.number ≡ (played done).lines
   pub octets : lines.octets ≡ (played done).octets
   pub sound : (played done).fault ≡ None
-  pub has : Has bench (played done).bench
+  pub has : Has setup (played done).setup
   pub written : IsPut old new (played done).written
   -- the octets of these pieces; they are whole lines but where they are all that the source gave
   pub front : List ℕ
@@ -49,24 +49,24 @@ pub record IsPlayed (lines : ScriptLines) (bench : Option Bench) (remaining : Op
 
 -- What a line leads to, by what it says.
 abbrev pub after_said : List ℕ → Result Said FaultKind → Played → Played
-after_said piece (Ok s) p = record (counted piece p) { bench = s.bench; written = p.written ++ s.text }
+after_said piece (Ok s) p = record (counted piece p) { setup = s.setup; written = p.written ++ s.text }
 after_said piece (Err kind) p = faulty kind p
 
-started : (piece : List ℕ) (x : Result (Option machine.Bench) FaultKind) (p : Played) → after_bench piece x p ≡ after_said piece (said_without x) p
-started piece (Ok bench) p = ap (λ written. record (counted piece p) { bench = bench; written = written }) (sym (append-nil p.written))
+started : (piece : List ℕ) (x : Result (Option machine.Setup) FaultKind) (p : Played) → after_bench piece x p ≡ after_said piece (said_without x) p
+started piece (Ok setup) p = ap (λ written. record (counted piece p) { setup = setup; written = written }) (sym (append-nil p.written))
 started piece (Err kind) p = refl
 
 went_on : (piece : List ℕ) (x : Result Scene FaultKind) (p : Played) → after_scene piece x p ≡ after_said piece (said_with x) p
 went_on piece (Ok s) p = refl
 went_on piece (Err kind) p = refl
 
-meant_is : (piece : List ℕ) (m : Meaning) (bench : Option machine.Bench) (p : Played) → after_meaning piece m bench p ≡ after_said piece (said_of m bench) p
+meant_is : (piece : List ℕ) (m : Meaning) (setup : Option machine.Setup) (p : Played) → after_meaning piece m setup p ≡ after_said piece (said_of m setup) p
 meant_is piece m None p = started piece (without_card m) p
-meant_is piece m (Some bench) p = went_on piece (with_card m (scene bench)) p
+meant_is piece m (Some setup) p = went_on piece (with_card m (scene setup)) p
 
-pub read_is : (piece : List ℕ) (r : Result Meaning FaultKind) (p : Played) → after_reading piece r p ≡ after_said piece (said_by r p.bench) p
+pub read_is : (piece : List ℕ) (r : Result Meaning FaultKind) (p : Played) → after_reading piece r p ≡ after_said piece (said_by r p.setup) p
 read_is piece (Err kind) p = refl
-read_is piece (Ok m) p = meant_is piece m p.bench p
+read_is piece (Ok m) p = meant_is piece m p.setup p
 
 -- one piece more, where no fault came before
 unless_is : (piece : List ℕ) (fault : Option Fault) (p : Played) → fault ≡ None → unless_faulty piece fault p ≡ after_piece piece p
@@ -84,7 +84,7 @@ not_long false true p q e f = absurd (true≢false f)
 not_long false false p q e f = refl
 
 pub short_is : (piece : List ℕ) (p : Played) → length (line_in piece) ≤ 4096 → p.octets + length piece ≤ 2 ^ 63
-    → after_piece piece p ≡ after_said piece (said (line_in piece) p.bench) p
+    → after_piece piece p ≡ after_said piece (said (line_in piece) p.setup) p
 short_is piece p short near =
     not_long (nat_lt 4096 (length (line_in piece))) (nat_lt (2 ^ 63) (p.octets + length piece)) (faulty TooLong p) (after_reading piece (read (line_in piece)) p)
     (le-ltb 4096 (length (line_in piece)) short) (le-ltb (2 ^ 63) (p.octets + length piece) near)
@@ -124,7 +124,7 @@ grows_test false p q r h k = k
 grows_piece : (piece : List ℕ) (p : Played) → Grows p (after_piece piece p)
 grows_piece piece p = grows_test (is_too_long piece p) p (faulty TooLong p) (after_reading piece (read (line_in piece)) p)
     ([], sym (append-nil p.written))
-    (subst (λ q. Grows p q) (sym (read_is piece (read (line_in piece)) p)) (grows_said piece (said (line_in piece) p.bench) p))
+    (subst (λ q. Grows p q) (sym (read_is piece (read (line_in piece)) p)) (grows_said piece (said (line_in piece) p.setup) p))
 
 grows_one : (piece : List ℕ) (o : Option Fault) (p : Played) → Grows p (unless_faulty piece o p)
 grows_one piece None p = grows_piece piece p
@@ -152,9 +152,9 @@ fault_is text left done piece more kind is next sound fault =
     ∙ stays more (faulty kind (played done)) (record { line = (played done).lines + 1; kind = kind }) refl
 
 -- nothing has been played yet
-pub begins : (lines : ScriptLines) (bench : Option Bench) (remaining : Option (List ℕ)) (text : List ℕ) (a : Output) → bench ≡ None → lines.number ≡ 0 → lines.octets ≡ 0
-    → AreLeft lines remaining text → IsPlayed lines bench remaining text a a
-begins lines bench remaining text a none number octets unread = record {
+pub begins : (lines : ScriptLines) (setup : Option Setup) (remaining : Option (List ℕ)) (text : List ℕ) (a : Output) → setup ≡ None → lines.number ≡ 0 → lines.octets ≡ 0
+    → AreLeft lines remaining text → IsPlayed lines setup remaining text a a
+begins lines setup remaining text a none number octets unread = record {
   done = [];
   left = text;
   is = refl;
@@ -171,16 +171,16 @@ begins lines bench remaining text a none number octets unread = record {
 }
 
 -- no line is left
-pub ends : (lines : ScriptLines) (bench : Option Bench) (remaining : Option (List ℕ)) (text : List ℕ) (a b : Output) (p : IsPlayed lines bench remaining text a b) → p.left ≡ []
+pub ends : (lines : ScriptLines) (setup : Option Setup) (remaining : Option (List ℕ)) (text : List ℕ) (a b : Output) (p : IsPlayed lines setup remaining text a b) → p.left ≡ []
     → (first_fault text ≡ None) × IsPut a b (transcript text)
-ends lines bench remaining text a b p none =
+ends lines setup remaining text a b p none =
     let all : played (pieces_of text) ≡ played p.done = ap played (p.is ∙ ap (λ l. p.done ++ pieces_of l) none ∙ append-nil p.done) in
     (ap (λ q. Played.fault q) all ∙ p.sound, subst (λ t. IsPut a b t) (sym (ap (λ q. Played.written q) all)) p.written)
 
 -- the next line is too long
-pub stops_long : (lines : ScriptLines) (bench : Option Bench) (remaining : Option (List ℕ)) (text : List ℕ) (a b : Output) (p : IsPlayed lines bench remaining text a b) (number : ℕ) → IsTooLong lines number p.left
+pub stops_long : (lines : ScriptLines) (setup : Option Setup) (remaining : Option (List ℕ)) (text : List ℕ) (a b : Output) (p : IsPlayed lines setup remaining text a b) (number : ℕ) → IsTooLong lines number p.left
     → (first_fault text ≡ Some (record { line = number; kind = TooLong })) × IsPut a b (transcript text)
-stops_long lines bench remaining text a b p number long =
+stops_long lines setup remaining text a b p number long =
     let fault = long_is long.piece (played p.done) (λ short. subst (λ n. 2 ^ 63 < n + length long.piece) p.octets (long.long short)) in
     let all = fault_is text p.left p.done long.piece (pieces_of long.more) TooLong p.is long.pieces p.sound fault in (
       ap (λ q. Played.fault q) all ∙ ap (λ n. Some (record { line = n; kind = TooLong })) (sym (long.number ∙ ap (λ n. n + 1) p.number)),
@@ -188,38 +188,38 @@ stops_long lines bench remaining text a b p number long =
     )
 
 -- the next line leads to what it says
-pub next_is : (lines new : ScriptLines) (bench : Option Bench) (remaining left : Option (List ℕ)) (text : List ℕ) (a b : Output) (p : IsPlayed lines bench remaining text a b) (n : IsNext lines new left p.left)
-    → new.octets ≤ 2 ^ 63 → after_piece n.piece (played p.done) ≡ after_said n.piece (said (line_in n.piece) (played p.done).bench) (played p.done)
-next_is lines new bench remaining left text a b p n bound =
+pub next_is : (lines new : ScriptLines) (setup : Option Setup) (remaining left : Option (List ℕ)) (text : List ℕ) (a b : Output) (p : IsPlayed lines setup remaining text a b) (n : IsNext lines new left p.left)
+    → new.octets ≤ 2 ^ 63 → after_piece n.piece (played p.done) ≡ after_said n.piece (said (line_in n.piece) (played p.done).setup) (played p.done)
+next_is lines new setup remaining left text a b p n bound =
     short_is n.piece (played p.done) n.short (subst (λ octets. octets ≤ 2 ^ 63) (n.octets ∙ ap (λ octets. octets + length n.piece) p.octets) bound)
 
 -- the next line is faulty
-pub stops_faulty : (lines new : ScriptLines) (bench : Option Bench) (remaining left : Option (List ℕ)) (text : List ℕ) (a b : Output) (p : IsPlayed lines bench remaining text a b) (n : IsNext lines new left p.left)
-    → new.octets ≤ 2 ^ 63 → (kind : FaultKind) → said (line_in n.piece) (played p.done).bench ≡ Err kind
+pub stops_faulty : (lines new : ScriptLines) (setup : Option Setup) (remaining left : Option (List ℕ)) (text : List ℕ) (a b : Output) (p : IsPlayed lines setup remaining text a b) (n : IsNext lines new left p.left)
+    → new.octets ≤ 2 ^ 63 → (kind : FaultKind) → said (line_in n.piece) (played p.done).setup ≡ Err kind
     → (first_fault text ≡ Some (record { line = new.number; kind = kind })) × IsPut a b (transcript text)
-stops_faulty lines new bench remaining left text a b p n bound kind fault =
-    let next = next_is lines new bench remaining left text a b p n bound ∙ ap (λ x. after_said n.piece x (played p.done)) fault in
+stops_faulty lines new setup remaining left text a b p n bound kind fault =
+    let next = next_is lines new setup remaining left text a b p n bound ∙ ap (λ x. after_said n.piece x (played p.done)) fault in
     let all = fault_is text p.left p.done n.piece (pieces_of n.more) kind p.is n.pieces p.sound next in (
       ap (λ q. Played.fault q) all ∙ ap (λ i. Some (record { line = i; kind = kind })) (sym (n.number ∙ ap (λ i. i + 1) p.number)),
       subst (λ t. IsPut a b t) (sym (ap (λ q. Played.written q) all)) p.written,
     )
 
 -- a write of the next line fails
-pub stops_broken : (lines new : ScriptLines) (bench : Option Bench) (remaining left : Option (List ℕ)) (text : List ℕ) (a b c : Output) (p : IsPlayed lines bench remaining text a b) (n : IsNext lines new left p.left)
-    → new.octets ≤ 2 ^ 63 → (s : Said) → said (line_in n.piece) (played p.done).bench ≡ Ok s → IsStuck b c s.text → IsStuck a c (transcript text)
-stops_broken lines new bench remaining left text a b c p n bound s fine broken =
-    let next = next_is lines new bench remaining left text a b p n bound ∙ ap (λ x. after_said n.piece x (played p.done)) fine in
+pub stops_broken : (lines new : ScriptLines) (setup : Option Setup) (remaining left : Option (List ℕ)) (text : List ℕ) (a b c : Output) (p : IsPlayed lines setup remaining text a b) (n : IsNext lines new left p.left)
+    → new.octets ≤ 2 ^ 63 → (s : Said) → said (line_in n.piece) (played p.done).setup ≡ Ok s → IsStuck b c s.text → IsStuck a c (transcript text)
+stops_broken lines new setup remaining left text a b c p n bound s fine broken =
+    let next = next_is lines new setup remaining left text a b p n bound ∙ ap (λ x. after_said n.piece x (played p.done)) fine in
     let all = all_played text p.left p.done n.piece (pieces_of n.more) p.is n.pieces p.sound ∙ ap (λ q. fold one_more q (pieces_of n.more)) next in
     let rest = grows (pieces_of n.more) (after_said n.piece (Ok s) (played p.done)) in
     subst (λ t. IsStuck a c t) (sym (ap (λ q. Played.written q) all ∙ rest.1))
     (stuck_more a c ((played p.done).written ++ s.text) rest.0 (puts_then (Err (record {})) a b c (played p.done).written s.text p.written broken))
 
 -- the next line has been played
-pub goes_on : (lines new : ScriptLines) (bench later : Option Bench) (remaining left : Option (List ℕ)) (text : List ℕ) (a b c : Output) (p : IsPlayed lines bench remaining text a b) (n : IsNext lines new left p.left)
-    → new.octets ≤ 2 ^ 63 → (s : Said) → said (line_in n.piece) (played p.done).bench ≡ Ok s → IsPut b c s.text → Has later s.bench → IsPlayed new later left text a c
-goes_on lines new bench later remaining left text a b c p n bound s fine written has =
+pub goes_on : (lines new : ScriptLines) (setup later : Option Setup) (remaining left : Option (List ℕ)) (text : List ℕ) (a b c : Output) (p : IsPlayed lines setup remaining text a b) (n : IsNext lines new left p.left)
+    → new.octets ≤ 2 ^ 63 → (s : Said) → said (line_in n.piece) (played p.done).setup ≡ Ok s → IsPut b c s.text → Has later s.setup → IsPlayed new later left text a c
+goes_on lines new setup later remaining left text a b c p n bound s fine written has =
     let is : played (p.done ++ n.piece ∷ []) ≡ after_said n.piece (Ok s) (played p.done) =
-    played_more p.done n.piece p.sound ∙ next_is lines new bench remaining left text a b p n bound ∙ ap (λ x. after_said n.piece x (played p.done)) fine in
+    played_more p.done n.piece p.sound ∙ next_is lines new setup remaining left text a b p n bound ∙ ap (λ x. after_said n.piece x (played p.done)) fine in
     let octet = some_octet p.left n.piece (pieces_of n.more) n.pieces in
     let whole = p.before_more octet.0 octet.1.0 octet.1.1 in
     record {
@@ -230,7 +230,7 @@ goes_on lines new bench later remaining left text a b c p n bound s fine written
       number = n.number ∙ ap (λ i. i + 1) p.number ∙ sym (ap (λ q. Played.lines q) is);
       octets = n.octets ∙ ap (λ i. i + length n.piece) p.octets ∙ sym (ap (λ q. Played.octets q) is);
       sound = ap (λ q. Played.fault q) is ∙ p.sound;
-      has = subst (λ q. Has later (Played.bench q)) (sym is) has;
+      has = subst (λ q. Has later (Played.setup q)) (sym is) has;
       written = subst (λ q. IsPut a c (Played.written q)) (sym is) (puts_then (Ok tt) a b c (played p.done).written s.text p.written written);
       front = p.front ++ n.piece;
       joined = p.joined ∙ ap (λ l. p.front ++ l) (split_first p.left n.piece n.more n.pieces) ∙ sym (append_assoc p.front n.piece n.more);
@@ -238,38 +238,38 @@ goes_on lines new bench later remaining left text a b c p n bound s fine written
       before_more = λ o t e. whole_more p.front p.done p.left n.piece (pieces_of n.more) whole n.pieces (first_whole p.left n.piece n.more o t n.pieces e);
     }
 
--- what a line put, where it stopped the script and where it did not; and that there is a bench after it
-pub does_fail : (fault : LineFault) (number : ℕ) (a b c : Output) (m : Option machine.Bench) (has : Option machine.Bench → Type 0) (x : Result Said FaultKind) (text : List ℕ) → IsPut a b text
+-- what a line put, where it stopped the script and where it did not; and that there is a setup after it
+pub does_fail : (fault : LineFault) (number : ℕ) (a b c : Output) (m : Option machine.Setup) (has : Option machine.Setup → Type 0) (x : Result Said FaultKind) (text : List ℕ) → IsPut a b text
     → Does (Err fault) b c m has x → PutsSome {A = Unit} (Err (fault_at fault number)) a c
 does_fail (Faulty kind) number a b c m has x text p h = (text, subst (λ d. IsPut a d text) (sym h.0) p)
 does_fail line.Write number a b c m has (Ok s) text p h = (text ++ s.text, puts_then (Err (record {})) a b c text s.text p h)
 does_fail line.Write number a b c m has (Err kind) text p h = absurd h
 does_fail line.OutOfMemory number a b c m has x text p h = (text, subst (λ d. IsPut a d text) (sym h.0) p)
 
-pub does_ok : (u : Unit {0}) (a b : Output) (m : Option machine.Bench) (has : Option machine.Bench → Type 0) (x : Result Said FaultKind) → Does (Ok u) a b m has x
-    → (s : Said) × (x ≡ Ok s) × IsPut a b s.text × has s.bench
+pub does_ok : (u : Unit {0}) (a b : Output) (m : Option machine.Setup) (has : Option machine.Setup → Type 0) (x : Result Said FaultKind) → Does (Ok u) a b m has x
+    → (s : Said) × (x ≡ Ok s) × IsPut a b s.text × has s.setup
 does_ok u a b m has (Ok s) h = (s, refl, h.0, h.1)
 does_ok u a b m has (Err kind) h = absurd h
 
 -- where there is no card yet, nothing has been written
 abbrev Silent : Played → Type 0
-Silent p = p.bench ≡ None → p.written ≡ []
+Silent p = p.setup ≡ None → p.written ≡ []
 
-silent_start : (piece : List ℕ) (x : Result (Option machine.Bench) FaultKind) (p : Played) → p.written ≡ [] → Silent (after_said piece (said_without x) p)
-silent_start piece (Ok bench) p h = λ e. append-nil p.written ∙ h
+silent_start : (piece : List ℕ) (x : Result (Option machine.Setup) FaultKind) (p : Played) → p.written ≡ [] → Silent (after_said piece (said_without x) p)
+silent_start piece (Ok setup) p h = λ e. append-nil p.written ∙ h
 silent_start piece (Err kind) p h = λ e. h
 
 silent_with : (piece : List ℕ) (x : Result Scene FaultKind) (p : Played) → Silent p → Silent (after_said piece (said_with x) p)
-silent_with piece (Ok s) p h = λ e. absurd (none-some s.bench (sym e))
+silent_with piece (Ok s) p h = λ e. absurd (none-some s.setup (sym e))
 silent_with piece (Err kind) p h = h
 
-silent_meant : (piece : List ℕ) (m : Meaning) (bench : Option machine.Bench) (p : Played) → bench ≡ p.bench → Silent p → Silent (after_said piece (said_of m bench) p)
+silent_meant : (piece : List ℕ) (m : Meaning) (setup : Option machine.Setup) (p : Played) → setup ≡ p.setup → Silent p → Silent (after_said piece (said_of m setup) p)
 silent_meant piece m None p e h = silent_start piece (without_card m) p (h (sym e))
-silent_meant piece m (Some bench) p e h = silent_with piece (with_card m (scene bench)) p h
+silent_meant piece m (Some setup) p e h = silent_with piece (with_card m (scene setup)) p h
 
-silent_read : (piece : List ℕ) (r : Result Meaning FaultKind) (p : Played) → Silent p → Silent (after_said piece (said_by r p.bench) p)
+silent_read : (piece : List ℕ) (r : Result Meaning FaultKind) (p : Played) → Silent p → Silent (after_said piece (said_by r p.setup) p)
 silent_read piece (Err kind) p h = h
-silent_read piece (Ok m) p h = silent_meant piece m p.bench p refl h
+silent_read piece (Ok m) p h = silent_meant piece m p.setup p refl h
 
 silent_test : (b : Bool) (q r : Played) → Silent q → Silent r → Silent (cond b q r)
 silent_test true q r h k = h
@@ -284,25 +284,25 @@ silent_after : (pieces : List (List ℕ)) (p : Played) → Silent p → Silent (
 silent_after [] p h = h
 silent_after (piece ∷ pieces) p h = silent_after pieces (one_more p piece) (silent_one piece p.fault p h)
 
-silent : (pieces : List (List ℕ)) → (played pieces).bench ≡ None → (played pieces).written ≡ []
+silent : (pieces : List (List ℕ)) → (played pieces).setup ≡ None → (played pieces).written ≡ []
 silent pieces = silent_after pieces not_begun (λ e. refl)
 
 -- the next line stops the script
-pub stops : (fault : LineFault) (lines new : ScriptLines) (bench : Option Bench) (remaining left : Option (List ℕ)) (text : List ℕ) (a b c : Output) (has : Option machine.Bench → Type 0)
-    (p : IsPlayed lines bench remaining text a b) (n : IsNext lines new left p.left) → new.octets ≤ 2 ^ 63
-    → Does (Err fault) b c (played p.done).bench has (said (line_in n.piece) (played p.done).bench)
+pub stops : (fault : LineFault) (lines new : ScriptLines) (setup : Option Setup) (remaining left : Option (List ℕ)) (text : List ℕ) (a b c : Output) (has : Option machine.Setup → Type 0)
+    (p : IsPlayed lines setup remaining text a b) (n : IsNext lines new left p.left) → new.octets ≤ 2 ^ 63
+    → Does (Err fault) b c (played p.done).setup has (said (line_in n.piece) (played p.done).setup)
     → PlaysOn (Err (fault_at fault new.number)) text left a c
-stops (Faulty kind) lines new bench remaining left text a b c has p n bound h =
-    let found = stops_faulty lines new bench remaining left text a b p n bound kind h.1 in
+stops (Faulty kind) lines new setup remaining left text a b c has p n bound h =
+    let found = stops_faulty lines new setup remaining left text a b p n bound kind h.1 in
     (found.0, subst (λ t. IsPut a t (transcript text)) (sym h.0) found.1)
-stops line.Write lines new bench remaining left text a b c has p n bound h =
-    stops_write (said (line_in n.piece) (played p.done).bench) refl h where
-      stops_write : (x : Result Said FaultKind) → said (line_in n.piece) (played p.done).bench ≡ x → Does (Err line.Write) b c (played p.done).bench has x → IsStuck a c (transcript text)
-      stops_write (Ok s) e k = stops_broken lines new bench remaining left text a b c p n bound s e k
+stops line.Write lines new setup remaining left text a b c has p n bound h =
+    stops_write (said (line_in n.piece) (played p.done).setup) refl h where
+      stops_write : (x : Result Said FaultKind) → said (line_in n.piece) (played p.done).setup ≡ x → Does (Err line.Write) b c (played p.done).setup has x → IsStuck a c (transcript text)
+      stops_write (Ok s) e k = stops_broken lines new setup remaining left text a b c p n bound s e k
       stops_write (Err kind) e k = absurd k
-stops line.OutOfMemory lines new bench remaining left text a b c has p n bound h =
-    let is : played (p.done ++ n.piece ∷ []) ≡ after_said n.piece (Ok (record { bench = Some h.1.card; text = [] })) (played p.done) =
-    played_more p.done n.piece p.sound ∙ next_is lines new bench remaining left text a b p n bound ∙ ap (λ x. after_said n.piece x (played p.done)) h.1.begins in (
+stops line.OutOfMemory lines new setup remaining left text a b c has p n bound h =
+    let is : played (p.done ++ n.piece ∷ []) ≡ after_said n.piece (Ok (record { setup = Some h.1.card; text = [] })) (played p.done) =
+    played_more p.done n.piece p.sound ∙ next_is lines new setup remaining left text a b p n bound ∙ ap (λ x. after_said n.piece x (played p.done)) h.1.begins in (
       subst (λ t. IsPut a t []) (sym h.0) (subst (λ t. IsPut a b t) (silent p.done h.1.none) p.written),
       inr (record {
         before = p.done;
@@ -311,7 +311,7 @@ stops line.OutOfMemory lines new bench remaining left text a b c has p n bound h
         pieces = p.is ∙ ap (λ pieces. p.done ++ pieces) n.pieces;
         no_card = h.1.none;
         card = h.1.card;
-        starts = ap (λ q. Played.bench q) is;
+        starts = ap (λ q. Played.setup q) is;
         read = held new;
         unread = n.left.rest;
         is = n.left.is;
@@ -329,9 +329,9 @@ next true old new remaining text e h = h
 next false old new remaining text e h = absurd (true≢false (sym e))
 
 -- reading stops the script
-pub stops_reading : (fault : PlayFault) (lines new : ScriptLines) (bench : Option Bench) (remaining left : Option (List ℕ)) (text : List ℕ) (a b : Output) (p : IsPlayed lines bench remaining text a b)
+pub stops_reading : (fault : PlayFault) (lines new : ScriptLines) (setup : Option Setup) (remaining left : Option (List ℕ)) (text : List ℕ) (a b : Output) (p : IsPlayed lines setup remaining text a b)
     → Advances (Err fault) lines new left p.left → PlaysOn (Err fault) text left a b
-stops_reading Read lines new bench remaining left text a b p h =
+stops_reading Read lines new setup remaining left text a b p h =
     let pieces = read_whole p.front h.begun p.done (p.while_open h.goes_on) h.open_is in
     record {
       read = p.front ++ h.begun;
@@ -340,24 +340,24 @@ stops_reading Read lines new bench remaining left text a b p h =
       tells = h.tells;
       answered = subst (λ ps. AreAnswered ps (IsPut a b)) (sym pieces) (record { sound = p.sound; written = p.written });
     }
-stops_reading (Script number kind) lines new bench remaining left text a b p h =
-    let found = stops_long lines bench remaining text a b p number h.1 in
+stops_reading (Script number kind) lines new setup remaining left text a b p h =
+    let found = stops_long lines setup remaining text a b p number h.1 in
     (found.0 ∙ ap (λ k. Some (record { line = number; kind = k })) (sym h.0), found.1)
-stops_reading Write lines new bench remaining left text a b p h = absurd h
-stops_reading OutOfMemory lines new bench remaining left text a b p h = absurd h
+stops_reading Write lines new setup remaining left text a b p h = absurd h
+stops_reading OutOfMemory lines new setup remaining left text a b p h = absurd h
 
 -- the line that starts the card, or is skipped before it
-has_none : (b : Option Bench) (m : Option machine.Bench) → b ≡ None → Has b m → m ≡ None
+has_none : (b : Option Setup) (m : Option machine.Setup) → b ≡ None → Has b m → m ≡ None
 has_none None None e h = refl
 has_none None (Some m) e h = absurd h
 has_none (Some b) m e h = absurd (none-some b (sym e))
 
-starts_as : (bench : Option Bench) (a : Output) (x : Result (Option machine.Bench) FaultKind) → StartsBy (Ok bench) x → Does (Ok tt) a a None (Has bench) (said_without x)
-starts_as bench a (Ok b) h = (puts_nothing a, h)
-starts_as bench a (Err kind) h = absurd h
+starts_as : (setup : Option Setup) (a : Output) (x : Result (Option machine.Setup) FaultKind) → StartsBy (Ok setup) x → Does (Ok tt) a a None (Has setup) (said_without x)
+starts_as setup a (Ok b) h = (puts_nothing a, h)
+starts_as setup a (Err kind) h = absurd h
 
-pub starts : (before bench : Option Bench) (a : Output) (meaning : Meaning) (line : List ℕ) (m : Option machine.Bench) → before ≡ None → Has before m → Ok meaning ≡ read line
-    → StartsBy (Ok bench) (without_card meaning) → Does (Ok tt) a a m (Has bench) (said line m)
-starts before bench a meaning line m e h is k =
-    subst (λ n. Does (Ok tt) a a n (Has bench) (said line n)) (sym (has_none before m e h))
-    (subst (λ r. Does (Ok tt) a a None (Has bench) (said_by r None)) is (starts_as bench a (without_card meaning) k))
+pub starts : (before setup : Option Setup) (a : Output) (meaning : Meaning) (line : List ℕ) (m : Option machine.Setup) → before ≡ None → Has before m → Ok meaning ≡ read line
+    → StartsBy (Ok setup) (without_card meaning) → Does (Ok tt) a a m (Has setup) (said line m)
+starts before setup a meaning line m e h is k =
+    subst (λ n. Does (Ok tt) a a n (Has setup) (said line n)) (sym (has_none before m e h))
+    (subst (λ r. Does (Ok tt) a a None (Has setup) (said_by r None)) is (starts_as setup a (without_card meaning) k))

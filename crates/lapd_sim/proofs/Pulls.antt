@@ -3,10 +3,10 @@ use Rattle.std.proofs.Common.{◌≡◌, ℕ, zero, suc, ◌+◌, List, [], ◌�
 use Rattle.std.proofs.Math.Numerals.{suc-eq-add-one}
 use Rattle.model_card.specs.Event.{at}
 use Rattle.model_card.specs.Machine.{answer}
-use Rattle.model_line.specs.Answer.{pull}
+use Rattle.model_line.specs.Event.{pull}
 use Rattle.lapd_sim.specs.Stands.{Holds}
 use Rattle.lapd_sim.specs.declared.exchange.Exchange.{Exchange}
-use Rattle.model_sim.specs.Bench.{Bench, happened}
+use Rattle.model_sim.specs.Setup.{Setup, happened}
 use Rattle.model_sim.specs.Steps.{Pulls, octet_in, one_pull, pulls}
 
 -- one more is the last
@@ -14,20 +14,20 @@ pulls_more : (n line : ℕ) (p : Pulls) → pulls (suc n) line p ≡ one_pull li
 pulls_more zero line p = refl
 pulls_more (suc n) line p = pulls_more n line (one_pull line p)
 
--- From a bench, so many octets have been pulled.
-pub record Pulled (e : Exchange) (line count : ℕ) (taken : List ℕ) (m : Bench) : Type 0 where
-  pub octets : taken ≡ (pulls count line (record { bench = m; octets = [] })).octets
-  pub stands : Holds e (pulls count line (record { bench = m; octets = [] })).bench
+-- From a setup, so many octets have been pulled.
+pub record Pulled (e : Exchange) (line count : ℕ) (taken : List ℕ) (m : Setup) : Type 0 where
+  pub octets : taken ≡ (pulls count line (record { setup = m; octets = [] })).octets
+  pub stands : Holds e (pulls count line (record { setup = m; octets = [] })).setup
 
-pub pulled_on : (e new : Exchange) (line count value : ℕ) (taken : List ℕ) (m : Bench) → Pulled e line count taken m
-    → ((b : Bench) → Holds e b → value ≡ octet_in (answer (at line pull) b.card))
-    → ((b : Bench) → Holds e b → Holds new (happened b (at line pull)))
+pub pulled_on : (e new : Exchange) (line count value : ℕ) (taken : List ℕ) (m : Setup) → Pulled e line count taken m
+    → ((b : Setup) → Holds e b → value ≡ octet_in (answer (at line pull) b.card))
+    → ((b : Setup) → Holds e b → Holds new (happened b (at line pull)))
     → Pulled new line (count + 1) (taken ++ value ∷ []) m
 pulled_on e new line count value taken m p is after =
-    let start : Pulls = record { bench = m; octets = [] } in
+    let start : Pulls = record { setup = m; octets = [] } in
     let so_far = pulls count line start in
     let more : one_pull line so_far ≡ pulls (count + 1) line start = sym (pulls_more count line start) ∙ ap (λ n. pulls n line start) (suc-eq-add-one count) in
     record {
-      octets = ap (λ octets. octets ++ value ∷ []) p.octets ∙ ap (λ last. so_far.octets ++ last ∷ []) (is so_far.bench p.stands) ∙ ap (λ (q : Pulls). q.octets) more;
-      stands = subst (λ (q : Pulls). Holds new q.bench) more (after so_far.bench p.stands);
+      octets = ap (λ octets. octets ++ value ∷ []) p.octets ∙ ap (λ last. so_far.octets ++ last ∷ []) (is so_far.setup p.stands) ∙ ap (λ (q : Pulls). q.octets) more;
+      stands = subst (λ (q : Pulls). Holds new q.setup) more (after so_far.setup p.stands);
     }

@@ -6,12 +6,12 @@ use Rattle.lapd_script.specs.Meaning as meaning
 use Rattle.lapd_script.specs.declared.kind.FaultKind.TheVariants.{BadLine, BadFrame}
 use Rattle.std.proofs.lemmas.List.{append-nil, map-append, take_more, take-append-drop}
 use Rattle.std.proofs.lemmas.Grind.{fold-append}
-use Rattle.model_line.specs.Answer.{octet}
+use Rattle.model_line.specs.Event.{octet}
 use Rattle.model_card.specs.Event.{Event, at}
 use Rattle.model_card.specs.Machine.{answer}
 use Rattle.lapd_transcript.specs.Streams.{Output, IsPut, IsStuck}
 use Rattle.lapd_transcript.proofs.Known.{stuck_more}
-use Rattle.model_sim.specs.Bench.{Bench}
+use Rattle.model_sim.specs.Setup.{Setup}
 use Rattle.lapd_clock.specs.Timers.{due_at}
 use Rattle.lapd_script.specs.declared.kind.FaultKind.{FaultKind}
 use Rattle.model_sim.specs.Steps.{Scene, with_event, with_events, octets_at, after_rx, at_line, answer_text, expiries, expired, Pulls, pulls, one_pull, after_pull, after_in, with_card}
@@ -32,7 +32,7 @@ pub events_say : (es : List Event) (s : Scene) → (more : List ℕ) × ((with_e
 events_say [] s = ([], sym (append-nil s.text))
 events_say (e ∷ es) s =
     let rest = events_say es (with_event s e) in
-    let said = answer_text e.line (answer e s.bench.card) in
+    let said = answer_text e.line (answer e s.setup.card) in
     (said ++ rest.0, rest.1 ∙ append_assoc s.text said rest.0)
 
 pub rx_says : (line : ℕ) (xs : List ℕ) (n : ℕ) (s : Scene) → (more : List ℕ) × ((after_rx line xs s).text ≡ (after_rx line (take n xs) s).text ++ more)
@@ -52,27 +52,27 @@ broken_rx a b line xs n s h =
     subst (λ text. IsStuck a b text) (sym rest.1) (stuck_more a b (after_rx line (take n xs) s).text rest.0 h)
 
 -- events leave the terminals, what was taken, and the card's configuration
-abbrev pub Keeps : Bench → Bench → Type 0
+abbrev pub Keeps : Setup → Setup → Type 0
 Keeps m n = (n.terminals ≡ m.terminals) × (n.taken ≡ m.taken) × (n.card.config ≡ m.card.config)
 
-pub events_keep : (es : List Event) (s : Scene) → Keeps s.bench (with_events es s).bench
+pub events_keep : (es : List Event) (s : Scene) → Keeps s.setup (with_events es s).setup
 events_keep [] s = (refl, refl, refl)
 events_keep (e ∷ es) s = events_keep es (with_event s e)
 
 -- where the line is there
-pub at_line_is : (line : ℕ) (s after : Scene) → line < s.bench.card.config.lines → at_line line s after ≡ Ok after
-at_line_is line s after h = rw (lt-ltb line s.bench.card.config.lines h) refl
+pub at_line_is : (line : ℕ) (s after : Scene) → line < s.setup.card.config.lines → at_line line s after ≡ Ok after
+at_line_is line s after h = rw (lt-ltb line s.setup.card.config.lines h) refl
 
-pub expiries_keep : (n end : ℕ) (s : Scene) → Keeps s.bench (expiries n end s).bench
+pub expiries_keep : (n end : ℕ) (s : Scene) → Keeps s.setup (expiries n end s).setup
 expiries_keep zero end s = (refl, refl, refl)
 expiries_keep (suc n) end s =
-    elim (due_at s.bench.clock end) as (λ o. Keeps s.bench (elim o as (λ _. Scene) [ None ↦ s | Some due ↦ expiries n end (expired end due.0 due.1 s) ]).bench) [
+    elim (due_at s.setup.clock end) as (λ o. Keeps s.setup (elim o as (λ _. Scene) [ None ↦ s | Some due ↦ expiries n end (expired end due.0 due.1 s) ]).setup) [
       | None ↦ (refl, refl, refl)
       | Some due ↦ expiries_keep n end (expired end due.0 due.1 s)
     ]
 
--- what has been obeyed at the exchange has been obeyed at the bench
-pub obeyed_at : (r : Result Unit LineFault) (a b : Output) (P Q : Bench → Type 0) (test : Bool) (t : Scene) (kind : FaultKind) → (P t.bench → Q t.bench)
+-- what has been obeyed at the exchange has been obeyed at the setup
+pub obeyed_at : (r : Result Unit LineFault) (a b : Output) (P Q : Setup → Type 0) (test : Bool) (t : Scene) (kind : FaultKind) → (P t.setup → Q t.setup)
     → Obeys r a b P (cond test (Ok t) (Err kind)) → Obeys r a b Q (cond test (Ok t) (Err kind))
 obeyed_at (Ok u) a b P Q true t kind f h = (h.0, f h.1)
 obeyed_at (Ok u) a b P Q false t kind f h = absurd h
@@ -82,23 +82,23 @@ obeyed_at (Err Write) a b P Q false t kind f h = absurd h
 obeyed_at (Err OutOfMemory) a b P Q test t kind f h = absurd h
 
 -- what happened at a line that is there
-pub obeyed_there : (a b : Output) (Q : Bench → Type 0) (line : ℕ) (s after : Scene) → line < s.bench.card.config.lines → IsPut a b after.text → Q after.bench → Obeys (Ok tt) a b Q (at_line line s after)
+pub obeyed_there : (a b : Output) (Q : Setup → Type 0) (line : ℕ) (s after : Scene) → line < s.setup.card.config.lines → IsPut a b after.text → Q after.setup → Obeys (Ok tt) a b Q (at_line line s after)
 obeyed_there a b Q line s after there written stands = subst (λ said. Obeys (Ok tt) a b Q said) (sym (at_line_is line s after there)) (written, stands)
 
-pub broken_there : (a b : Output) (Q : Bench → Type 0) (line : ℕ) (s after : Scene) → line < s.bench.card.config.lines → IsStuck a b after.text → Obeys (Err Write) a b Q (at_line line s after)
+pub broken_there : (a b : Output) (Q : Setup → Type 0) (line : ℕ) (s after : Scene) → line < s.setup.card.config.lines → IsStuck a b after.text → Obeys (Err Write) a b Q (at_line line s after)
 broken_there a b Q line s after there broken = subst (λ said. Obeys (Err Write) a b Q said) (sym (at_line_is line s after there)) broken
 
-pub pulls_keep : (n line : ℕ) (p : Pulls) → Keeps p.bench (pulls n line p).bench
+pub pulls_keep : (n line : ℕ) (p : Pulls) → Keeps p.setup (pulls n line p).setup
 pulls_keep zero line p = (refl, refl, refl)
 pulls_keep (suc n) line p = pulls_keep n line (one_pull line p)
 
 -- what was pulled at a line that is there
-pub pull_obeyed : (a b : Output) (Q : Bench → Type 0) {line at_it : ℕ} → line ≡ at_it → (count : ℕ) (m : Bench) → line < m.card.config.lines
-    → IsPut a b (after_pull line count (scene m)).text → Q (after_pull line count (scene m)).bench → Obeys (Ok tt) a b Q (at_line at_it (scene m) (after_pull at_it count (scene m)))
+pub pull_obeyed : (a b : Output) (Q : Setup → Type 0) {line at_it : ℕ} → line ≡ at_it → (count : ℕ) (m : Setup) → line < m.card.config.lines
+    → IsPut a b (after_pull line count (scene m)).text → Q (after_pull line count (scene m)).setup → Obeys (Ok tt) a b Q (at_line at_it (scene m) (after_pull at_it count (scene m)))
 pull_obeyed a b Q {line} e count m there written stands =
     subst (λ n. Obeys (Ok tt) a b Q (at_line n (scene m) (after_pull n count (scene m)))) e (obeyed_there a b Q line (scene m) (after_pull line count (scene m)) there written stands)
 
-pub pull_broken : (a b : Output) (Q : Bench → Type 0) {line at_it : ℕ} → line ≡ at_it → (count : ℕ) (m : Bench) → line < m.card.config.lines
+pub pull_broken : (a b : Output) (Q : Setup → Type 0) {line at_it : ℕ} → line ≡ at_it → (count : ℕ) (m : Setup) → line < m.card.config.lines
     → IsStuck a b (after_pull line count (scene m)).text → Obeys (Err Write) a b Q (at_line at_it (scene m) (after_pull at_it count (scene m)))
 pull_broken a b Q {line} e count m there broken =
     subst (λ n. Obeys (Err Write) a b Q (at_line n (scene m) (after_pull n count (scene m)))) e (broken_there a b Q line (scene m) (after_pull line count (scene m)) there broken)
@@ -110,19 +110,19 @@ three_yes false b c x y z e f h = absurd (true≢false (sym e))
 three_yes true false c x y z e f h = absurd (true≢false (sym f))
 three_yes true true false x y z e f h = absurd (true≢false (sym h))
 
-frame_is : (line : ℕ) (frame : List ℕ) (s : Scene) → line < s.bench.card.config.lines → 3 ≤ length frame → length frame ≤ 1028
+frame_is : (line : ℕ) (frame : List ℕ) (s : Scene) → line < s.setup.card.config.lines → 3 ≤ length frame → length frame ≤ 1028
     → with_card (meaning.into line frame) s ≡ Ok (after_in line frame s)
 frame_is line frame s there short long =
-    three_yes (nat_lt line s.bench.card.config.lines) (nat_le 3 (length frame)) (nat_le (length frame) 1028) (Ok (after_in line frame s)) (Err BadFrame) (Err BadLine)
-    (lt-ltb line s.bench.card.config.lines there) (le-leb 3 (length frame) short) (le-leb (length frame) 1028 long)
+    three_yes (nat_lt line s.setup.card.config.lines) (nat_le 3 (length frame)) (nat_le (length frame) 1028) (Ok (after_in line frame s)) (Err BadFrame) (Err BadLine)
+    (lt-ltb line s.setup.card.config.lines there) (le-leb 3 (length frame) short) (le-leb (length frame) 1028 long)
 
-pub frame_obeyed : (a b : Output) (Q : Bench → Type 0) {line at_it : ℕ} → line ≡ at_it → (frame : List ℕ) (m : Bench) → line < m.card.config.lines → 3 ≤ length frame → length frame ≤ 1028
-    → IsPut a b (after_in line frame (scene m)).text → Q (after_in line frame (scene m)).bench → Obeys (Ok tt) a b Q (with_card (meaning.into at_it frame) (scene m))
+pub frame_obeyed : (a b : Output) (Q : Setup → Type 0) {line at_it : ℕ} → line ≡ at_it → (frame : List ℕ) (m : Setup) → line < m.card.config.lines → 3 ≤ length frame → length frame ≤ 1028
+    → IsPut a b (after_in line frame (scene m)).text → Q (after_in line frame (scene m)).setup → Obeys (Ok tt) a b Q (with_card (meaning.into at_it frame) (scene m))
 frame_obeyed a b Q {line} e frame m there short long written stands =
     subst (λ n. Obeys (Ok tt) a b Q (with_card (meaning.into n frame) (scene m))) e
     (subst (λ said. Obeys (Ok tt) a b Q said) (sym (frame_is line frame (scene m) there short long)) (written, stands))
 
-pub frame_broken : (a b : Output) (Q : Bench → Type 0) {line at_it : ℕ} → line ≡ at_it → (frame : List ℕ) (m : Bench) → line < m.card.config.lines → 3 ≤ length frame → length frame ≤ 1028
+pub frame_broken : (a b : Output) (Q : Setup → Type 0) {line at_it : ℕ} → line ≡ at_it → (frame : List ℕ) (m : Setup) → line < m.card.config.lines → 3 ≤ length frame → length frame ≤ 1028
     → IsStuck a b (after_in line frame (scene m)).text → Obeys (Err Write) a b Q (with_card (meaning.into at_it frame) (scene m))
 frame_broken a b Q {line} e frame m there short long broken =
     subst (λ n. Obeys (Err Write) a b Q (with_card (meaning.into n frame) (scene m))) e

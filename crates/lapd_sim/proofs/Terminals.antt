@@ -10,11 +10,11 @@ use Rattle.lapd_bits.specs.Sent.{Item, idle, frame, item_text, line_text}
 use Rattle.lapd_bits.specs.StuffingLaws.{AreOctets}
 use Rattle.lapd_bits.proofs.BitLemmas.{bits-append, length-bits, number_of-low_bits}
 use Rattle.lapd_bits.proofs.FramerStands.{line_text-push}
-use Rattle.model_line.specs.Answer as happening
+use Rattle.model_line.specs.Event as line_event
 use Rattle.model_card.specs.Event.{at}
 use Rattle.lapd_transcript.specs.declared.streams.WriteFailed.{WriteFailed}
 use Rattle.lapd_transcript.specs.Streams.{Output, IsStuck}
-use Rattle.model_sim.specs.Bench.{Bench, Terminal, with_frame, sending, octets_sent, after_sending}
+use Rattle.model_sim.specs.Setup.{Setup, Terminal, with_frame, sending, octets_sent, after_sending}
 use Rattle.model_sim.specs.Steps.{with_event, after_rx}
 use Rattle.lapd_sim.specs.declared.terminal.Terminal as rust
 use Rattle.lapd_sim.specs.Gives.{Gives}
@@ -105,7 +105,7 @@ rest_stays old new octet items given s few after =
 
 -- ---- what is given
 
-pub gives_none : (a : Output) (P : Bench → Type 0) (line : ℕ) (items : List Item) (given : List ℕ) (framer : Framing) → framing.Stands framer items given → Gives (Ok tt) a a P P line items given framer
+pub gives_none : (a : Output) (P : Setup → Type 0) (line : ℕ) (items : List Item) (given : List ℕ) (framer : Framing) → framing.Stands framer items given → Gives (Ok tt) a a P P line items given framer
 gives_none a P line items given framer s = record {
   octets = [];
   are_octets = λ k d h. absurd (omega arith);
@@ -113,8 +113,8 @@ gives_none a P line items given framer s = record {
   told = λ m holds. tells_none a P m holds;
 }
 
-pub gives_one : (r : Result Unit WriteFailed) (a b : Output) (P Q : Bench → Type 0) (line octet : ℕ) (items : List Item) (given : List ℕ) (framer : Framing) → octet < 256 → framing.Stands framer items (given ++ octet ∷ [])
-    → ((m : Bench) → P m → Tells r a b Q (with_event (scene m) (at line (happening.octet octet)))) → Gives r a b P Q line items given framer
+pub gives_one : (r : Result Unit WriteFailed) (a b : Output) (P Q : Setup → Type 0) (line octet : ℕ) (items : List Item) (given : List ℕ) (framer : Framing) → octet < 256 → framing.Stands framer items (given ++ octet ∷ [])
+    → ((m : Setup) → P m → Tells r a b Q (with_event (scene m) (at line (line_event.octet octet)))) → Gives r a b P Q line items given framer
 gives_one r a b P Q line octet items given framer small s told = record {
   octets = octet ∷ [];
   are_octets = All-one octet small;
@@ -127,7 +127,7 @@ gives_one r a b P Q line octet items given framer small s told = record {
     All-one x h (suc n) d k = absurd (omega arith)
 
 -- some octets, and then more
-pub gives_then : (r : Result Unit WriteFailed) (u : Unit {0}) (a b c : Output) (P Q R : Bench → Type 0) (line : ℕ) (items later : List Item) (given : List ℕ) (old new : Framing)
+pub gives_then : (r : Result Unit WriteFailed) (u : Unit {0}) (a b c : Output) (P Q R : Setup → Type 0) (line : ℕ) (items later : List Item) (given : List ℕ) (old new : Framing)
     → (first : Gives (Ok u) a b P Q line items given old) → Gives r b c Q R line later (given ++ first.octets) new → Gives r a c P R line later given new
 gives_then r u a b c P Q R line items later given old new first next = record {
   octets = first.octets ++ next.octets;
@@ -136,14 +136,14 @@ gives_then r u a b c P Q R line items later given old new first next = record {
   told =
       λ m holds.
       let told = first.told m holds in
-      tells_then r a b c R line first.octets next.octets m told.0 (next.told (after_rx line first.octets (scene m)).bench told.1);
+      tells_then r a b c R line first.octets next.octets m told.0 (next.told (after_rx line first.octets (scene m)).setup told.1);
 }
 
 -- one octet more of a terminal that is busy
-pub gives_more : (r : Result Unit WriteFailed) (u : Unit {0}) (a b c : Output) (P Q R : Bench → Type 0) (line octet : ℕ) (items : List Item) (given : List ℕ) (old new : Framing)
+pub gives_more : (r : Result Unit WriteFailed) (u : Unit {0}) (a b c : Output) (P Q R : Setup → Type 0) (line octet : ℕ) (items : List Item) (given : List ℕ) (old new : Framing)
     → Gives (Ok u) a b P Q line items given old → 8 ≤ length old.left → octet < 256
     → ((items : List Item) (given : List ℕ) → framing.Stands old items given → framing.Stands new (with_idle old.left items) (given ++ octet ∷ []))
-    → ((m : Bench) → Q m → Tells r b c R (with_event (scene m) (at line (happening.octet octet)))) → Gives r a c P R line items given new
+    → ((m : Setup) → Q m → Tells r b c R (with_event (scene m) (at line (line_event.octet octet)))) → Gives r a c P R line items given new
 gives_more r u a b c P Q R line octet items given old new first busy small steps told =
     let stands : framing.Stands new items ((given ++ first.octets) ++ octet ∷ []) =
     subst (λ b. framing.Stands new (if b then items ++ idle ∷ [] else items) ((given ++ first.octets) ++ octet ∷ [])) (le-ltb (length old.left) 8 busy)
@@ -151,7 +151,7 @@ gives_more r u a b c P Q R line octet items given old new first busy small steps
     gives_then r u a b c P Q R line items items given old new first (gives_one r b c Q R line octet items (given ++ first.octets) new small stands told)
 
 -- what was left, then a frame
-pub gives_loaded : (r : Result Unit WriteFailed) (u : Unit {0}) (a b c : Output) (P Q R : Bench → Type 0) (line : ℕ) (octets : List ℕ) (t : Terminal) (given : List ℕ) (old loaded new : Framing)
+pub gives_loaded : (r : Result Unit WriteFailed) (u : Unit {0}) (a b c : Output) (P Q R : Setup → Type 0) (line : ℕ) (octets : List ℕ) (t : Terminal) (given : List ℕ) (old loaded new : Framing)
     → Gives (Ok u) a b P Q line t.items given old
     → ((items : List Item) (given : List ℕ) → framing.Stands old items given → framing.Stands loaded (items ++ frame octets ∷ []) given)
     → ((items : List Item) (given : List ℕ) → framing.Stands loaded items given → Gives r b c Q R line items given new)
@@ -162,16 +162,16 @@ gives_loaded r u a b c P Q R line octets t given old loaded new first loads give
     gives_then r u a b c P Q R line t.items items given old new first (gives items before (loads t.items before first.stands))
 
 -- no bit is left after it
-pub gives_whole : (r : Result Unit WriteFailed) (a b : Output) (P Q : Bench → Type 0) (line : ℕ) (octets : List ℕ) (t : Terminal) (given : List ℕ) (framer : Framing) → length framer.left ≡ 0
+pub gives_whole : (r : Result Unit WriteFailed) (a b : Output) (P Q : Setup → Type 0) (line : ℕ) (octets : List ℕ) (t : Terminal) (given : List ℕ) (framer : Framing) → length framer.left ≡ 0
     → Gives r a b P Q line (with_frame octets t.items) given framer → Gives r a b P Q line (sending octets t) given framer
 gives_whole r a b P Q line octets t given framer none gives =
     subst (λ items. Gives r a b P Q line items given framer) (whole_where framer octets t (given ++ gives.octets) gives.stands none) gives
 
 -- some are, and then an idle flag begins
-pub gives_rest : (r : Result Unit WriteFailed) (u : Unit {0}) (a b c : Output) (P Q R : Bench → Type 0) (line octet : ℕ) (octets : List ℕ) (t : Terminal) (given : List ℕ) (old new : Framing)
+pub gives_rest : (r : Result Unit WriteFailed) (u : Unit {0}) (a b c : Output) (P Q R : Setup → Type 0) (line octet : ℕ) (octets : List ℕ) (t : Terminal) (given : List ℕ) (old new : Framing)
     → Gives (Ok u) a b P Q line (with_frame octets t.items) given old → 0 < length old.left → length old.left < 8 → octet < 256
     → ((items : List Item) (given : List ℕ) → framing.Stands old items given → framing.Stands new (with_idle old.left items) (given ++ octet ∷ []))
-    → ((m : Bench) → Q m → Tells r b c R (with_event (scene m) (at line (happening.octet octet)))) → Gives r a c P R line (sending octets t) given new
+    → ((m : Setup) → Q m → Tells r b c R (with_event (scene m) (at line (line_event.octet octet)))) → Gives r a c P R line (sending octets t) given new
 gives_rest r u a b c P Q R line octet octets t given old new first some few small steps told =
     let items = with_frame octets t.items in
     let before = given ++ first.octets in
@@ -187,7 +187,7 @@ none_left rest (suc n) e h = absurd (false≢true (sym e ∙ h (omega arith)))
 -- ---- what is sent with a frame
 
 -- they are the octets of the frame, where no whole one is left
-sent_is : (r : Result Unit WriteFailed) (a b : Output) (P Q : Bench → Type 0) (line : ℕ) (octets : List ℕ) (t : Terminal) (given : List ℕ) (framer : Framing) → length given ≡ t.given → length framer.left < 8
+sent_is : (r : Result Unit WriteFailed) (a b : Output) (P Q : Setup → Type 0) (line : ℕ) (octets : List ℕ) (t : Terminal) (given : List ℕ) (framer : Framing) → length given ≡ t.given → length framer.left < 8
     → (gives : Gives r a b P Q line (sending octets t) given framer) → gives.octets ≡ octets_sent octets t
 sent_is r a b P Q line octets t given framer many few gives =
     let items = sending octets t in
@@ -200,12 +200,12 @@ sent_is r a b P Q line octets t given framer many few gives =
     ∙ ap (λ l. gives.octets ++ l) none
     ∙ append-nil gives.octets)
 
-pub sent_told : (r : Result Unit WriteFailed) (a b : Output) (P Q : Bench → Type 0) (line : ℕ) (octets : List ℕ) (t : Terminal) (given : List ℕ) (framer : Framing) → length given ≡ t.given → length framer.left < 8
-    → Gives r a b P Q line (sending octets t) given framer → (m : Bench) → P m → Tells r a b Q (after_rx line (octets_sent octets t) (scene m))
+pub sent_told : (r : Result Unit WriteFailed) (a b : Output) (P Q : Setup → Type 0) (line : ℕ) (octets : List ℕ) (t : Terminal) (given : List ℕ) (framer : Framing) → length given ≡ t.given → length framer.left < 8
+    → Gives r a b P Q line (sending octets t) given framer → (m : Setup) → P m → Tells r a b Q (after_rx line (octets_sent octets t) (scene m))
 sent_told r a b P Q line octets t given framer many few gives m holds =
     subst (λ l. Tells r a b Q (after_rx line l (scene m))) (sent_is r a b P Q line octets t given framer many few gives) (gives.told m holds)
 
-pub sent_after : (r : Result Unit WriteFailed) (a b : Output) (P Q : Bench → Type 0) (line : ℕ) (octets : List ℕ) (t : Terminal) (given : List ℕ) (terminal : rust.Terminal) → length given ≡ t.given → length terminal.framer.left < 8
+pub sent_after : (r : Result Unit WriteFailed) (a b : Output) (P Q : Setup → Type 0) (line : ℕ) (octets : List ℕ) (t : Terminal) (given : List ℕ) (terminal : rust.Terminal) → length given ≡ t.given → length terminal.framer.left < 8
     → Gives r a b P Q line (sending octets t) given terminal.framer → Sends terminal (after_sending octets t)
 sent_after r a b P Q line octets t given terminal many few gives = record {
   octets = given ++ gives.octets;
@@ -217,9 +217,9 @@ sent_after r a b P Q line octets t given terminal many few gives = record {
 }
 
 -- where a write failed, the octets up to there are a beginning
-pub sent_broken : (e : WriteFailed) (a b : Output) (P Q : Bench → Type 0) (line : ℕ) (octets : List ℕ) (t : Terminal) (given : List ℕ) (framer : Framing) (items : List Item) → length given ≡ t.given
+pub sent_broken : (e : WriteFailed) (a b : Output) (P Q : Setup → Type 0) (line : ℕ) (octets : List ℕ) (t : Terminal) (given : List ℕ) (framer : Framing) (items : List Item) → length given ≡ t.given
     → (tail : List Bool) × (line_text (sending octets t) ≡ line_text items ++ tail)
-    → Gives (Err e) a b P Q line items given framer → (m : Bench) → P m → IsStuck a b (after_rx line (octets_sent octets t) (scene m)).text
+    → Gives (Err e) a b P Q line items given framer → (m : Setup) → P m → IsStuck a b (after_rx line (octets_sent octets t) (scene m)).text
 sent_broken e a b P Q line octets t given framer items many tail gives m holds =
     let more = octets_of (framer.left ++ tail.0) in
     let whole : octets_sent octets t ≡ gives.octets ++ more =

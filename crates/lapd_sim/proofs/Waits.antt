@@ -6,8 +6,8 @@ use Rattle.model_card.specs.Event.{at}
 use Rattle.model_card.specs.Machine.{answer}
 use Rattle.lapd_clock.specs.Timer.{Timer}
 use Rattle.lapd_clock.specs.Timers.{due_at, time_until}
-use Rattle.model_line.specs.Answer as happening
-use Rattle.model_sim.specs.Bench.{Bench, happened}
+use Rattle.model_line.specs.Event as line_event
+use Rattle.model_sim.specs.Setup.{Setup, happened}
 use Rattle.model_sim.specs.Steps.{Scene, answer_text, with_event, at_expiry, expired, until}
 use Rattle.lapd_sim.specs.Obeyed.{scene, Tells}
 use Rattle.lapd_sim.specs.Stands.{as_store, Holds}
@@ -20,14 +20,14 @@ use Rattle.lapd_transcript.specs.Streams.{Output, IsPut, IsStuck}
 use Rattle.lapd_transcript.specs.declared.streams.WriteFailed.{WriteFailed}
 use Rattle.model_sim.proofs.Expiries.{expiry_lowers, until-expired, until-over, text_grows}
 
--- From a bench, some timers have expired, and what they say has been written; what falls due until the end is the same.
-pub record Waits (e : Exchange) (before after : Output) (end : ℕ) (m : Bench) : Type 0 where
+-- From a setup, some timers have expired, and what they say has been written; what falls due until the end is the same.
+pub record Waits (e : Exchange) (before after : Output) (end : ℕ) (m : Setup) : Type 0 where
   pub by_now : Scene
   pub written : IsPut before after by_now.text
-  pub holds : Holds e by_now.bench
+  pub holds : Holds e by_now.setup
   pub same : until end (scene m) ≡ until end by_now
 
-pub waits_begins : (e : Exchange) (t : Output) (end : ℕ) (m : Bench) → Holds e m → Waits e t t end m
+pub waits_begins : (e : Exchange) (t : Output) (end : ℕ) (m : Setup) → Holds e m → Waits e t t end m
 waits_begins e t end m h = record {
   by_now = scene m;
   written = puts_nothing t;
@@ -35,14 +35,14 @@ waits_begins e t end m h = record {
   same = refl;
 }
 
-module _ (e new : Exchange) (before after last : Output) (end : ℕ) (m : Bench) (due : ℕ × Timer) (is : Some due ≡ due_at e.clock end) (w : Waits e before after end m) where
-  due_by_now : due_at w.by_now.bench.clock end ≡ Some due
+module _ (e new : Exchange) (before after last : Output) (end : ℕ) (m : Setup) (due : ℕ × Timer) (is : Some due ≡ due_at e.clock end) (w : Waits e before after end m) where
+  due_by_now : due_at w.by_now.setup.clock end ≡ Some due
   due_by_now = ap (λ c. due_at c end) (sym w.holds.clock) ∙ sym is
 
   abbrev said_then : List ℕ
-  said_then = answer_text due.0 (answer (at due.0 (happening.expiry due.1)) w.by_now.bench.card)
+  said_then = answer_text due.0 (answer (at due.0 (line_event.expiry due.1)) w.by_now.setup.card)
 
-  pub waits_on : (u : Unit {0}) → Tells {E = WriteFailed} (Ok u) after last (Holds new) (with_event (scene (at_expiry end w.by_now.bench)) (at due.0 (happening.expiry due.1))) → Waits new before last end m
+  pub waits_on : (u : Unit {0}) → Tells {E = WriteFailed} (Ok u) after last (Holds new) (with_event (scene (at_expiry end w.by_now.setup)) (at due.0 (line_event.expiry due.1))) → Waits new before last end m
   waits_on u told = record {
     by_now = expired end due.0 due.1 w.by_now;
     written = puts_then (Ok u) before after last w.by_now.text said_then w.written told.0;
@@ -50,38 +50,38 @@ module _ (e new : Exchange) (before after last : Output) (end : ℕ) (m : Bench)
     same = w.same ∙ until-expired end w.by_now due due_by_now;
   }
 
-  pub waits_in_vain : (why : WriteFailed) → Tells (Err why) after last (Holds new) (with_event (scene (at_expiry end w.by_now.bench)) (at due.0 (happening.expiry due.1))) → Tells (Err why) before last (Holds new) (until end (scene m))
+  pub waits_in_vain : (why : WriteFailed) → Tells (Err why) after last (Holds new) (with_event (scene (at_expiry end w.by_now.setup)) (at due.0 (line_event.expiry due.1))) → Tells (Err why) before last (Holds new) (until end (scene m))
   waits_in_vain why told =
       let next = expired end due.0 due.1 w.by_now in
-      let later = text_grows (time_until end next.bench.clock) end next (due_at next.bench.clock end) refl in
+      let later = text_grows (time_until end next.setup.clock) end next (due_at next.setup.clock end) refl in
       let whole : (until end (scene m)).text ≡ next.text ++ later.0 = ap (λ (x : Scene). x.text) (w.same ∙ until-expired end w.by_now due due_by_now) ∙ later.1 in
       subst (IsStuck before last) (sym whole) (stuck_more before last next.text later.0 (puts_then (Err why) before after last w.by_now.text said_then w.written told))
 
 -- each expiry lowers what is left, whatever the past
 pub wait_lowers : (e middle new : Exchange) (end : ℕ) (due : ℕ × Timer) → Some due ≡ due_at e.clock end
-    → ((m : Bench) → Holds e m → Holds middle (at_expiry end m))
-    → ((m : Bench) → Holds middle m → Holds new (happened m (at due.0 (happening.expiry due.1))))
+    → ((m : Setup) → Holds e m → Holds middle (at_expiry end m))
+    → ((m : Setup) → Holds middle m → Holds new (happened m (at due.0 (line_event.expiry due.1))))
     → time_until end new.clock < time_until end e.clock
 wait_lowers e middle new end due is out event =
     let prop : IsProp (time_until end new.clock < time_until end e.clock) = hlevel props in
     ∥∥₁_elim e.past prop (λ p.
     let (now, config, stands) = p in
-    let m : Bench = record { card = now; clock = e.clock; now = e.moment; terminals = []; taken = [] } in
-    let held : Holds new (happened (at_expiry end m) (at due.0 (happening.expiry due.1))) =
+    let m : Setup = record { card = now; clock = e.clock; now = e.moment; terminals = []; taken = [] } in
+    let held : Holds new (happened (at_expiry end m) (at due.0 (line_event.expiry due.1))) =
     event (at_expiry end m) (out m (record { config = config; card = stands; clock = refl; now = refl })) in
     subst (λ c. time_until end c < time_until end e.clock) (sym held.clock) (expiry_lowers end due.0 due.1 due m (sym is)))
 
 -- at the end, the moment is the end
-pub waits_over : (e new : Exchange) (before after : Output) (end : ℕ) (m : Bench) (u : Unit {0}) → None ≡ due_at e.clock end → Waits e before after end m
+pub waits_over : (e new : Exchange) (before after : Output) (end : ℕ) (m : Setup) (u : Unit {0}) → None ≡ due_at e.clock end → Waits e before after end m
     → new.config ≡ e.config → new.card ≡ e.card → new.clock ≡ e.clock → new.moment ≡ end → Tells {E = WriteFailed} (Ok u) before after (Holds new) (until end (scene m))
 waits_over e new before after end m u is w config card clock now =
-    let over : until end (scene m) ≡ record w.by_now { bench = record w.by_now.bench { now = end } } =
+    let over : until end (scene m) ≡ record w.by_now { setup = record w.by_now.setup { now = end } } =
     w.same ∙ until-over end w.by_now (ap (λ c. due_at c end) (sym w.holds.clock) ∙ sym is) in
-    subst (λ (s : Scene). IsPut before after s.text × Holds new s.bench) (sym over) (
+    subst (λ (s : Scene). IsPut before after s.text × Holds new s.setup) (sym over) (
       w.written,
       record {
         config = w.holds.config ∙ sym config;
-        card = subst (λ (c : Held Store). Stands as_store c w.by_now.bench.card) (sym card) w.holds.card;
+        card = subst (λ (c : Held Store). Stands as_store c w.by_now.setup.card) (sym card) w.holds.card;
         clock = clock ∙ w.holds.clock;
         now = now;
       },

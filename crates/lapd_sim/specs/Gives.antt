@@ -5,13 +5,13 @@ use Rattle.lapd_bits.specs.Sent.{Item}
 use Rattle.lapd_bits.specs.StuffingLaws.{AreOctets}
 use Rattle.lapd_transcript.specs.declared.streams.WriteFailed.{WriteFailed}
 use Rattle.lapd_transcript.specs.Streams.{Output}
-use Rattle.model_sim.specs.Bench.{Bench}
+use Rattle.model_sim.specs.Setup.{Setup}
 use Rattle.model_sim.specs.Steps.{after_rx}
 use Rattle.lapd_sim.specs.Obeyed.{scene, Tells}
 
 -- Where a write failed, the last of the octets may not have been told.
-pub record Gives (result : Result Unit WriteFailed) (old new : Output) (before after : Bench → Type 0) (line : ℕ) (items : List Item) (given : List ℕ) (framer : framing.Framing) : Type 0 where
+pub record Gives (result : Result Unit WriteFailed) (old new : Output) (before after : Setup → Type 0) (line : ℕ) (items : List Item) (given : List ℕ) (framer : framing.Framing) : Type 0 where
   pub octets : List ℕ
   pub are_octets : AreOctets octets
   pub stands : framing.Stands framer items (given ++ octets)
-  pub told : (m : Bench) → before m → Tells result old new after (after_rx line octets (scene m))
+  pub told : (m : Setup) → before m → Tells result old new after (after_rx line octets (scene m))

@@ -1,4 +1,4 @@
--- What a line of a script was answered with: what has been written, and what the bench stands for after it.
+-- What a line of a script was answered with: what has been written, and what the setup stands for after it.
 use Rattle.std.specs.Prelude.{◌≡◌, ℕ, List, [], Option, None, Some, Result, Ok, Err}
 use Rattle.lapd_script.specs.declared.kind.FaultKind.{FaultKind}
 use Rattle.lapd_script.specs.Meaning.{Meaning}
@@ -6,20 +6,20 @@ use Rattle.lapd_script.specs.Read.{read}
 use Rattle.model_line.specs.declared.config.Config.{Config}
 use Rattle.model_line.specs.Config.{first_fault}
 use Rattle.lapd_transcript.specs.Streams.{Output, IsPut, IsStuck}
-use Rattle.model_sim.specs.Bench.{Bench, begun}
+use Rattle.model_sim.specs.Setup.{Setup, begun}
 use Rattle.model_sim.specs.Steps.{Scene, begun_with, with_card, without_card}
-use Rattle.lapd_sim.specs.declared.bench.Bench as rust
+use Rattle.lapd_sim.specs.declared.setup.Setup as rust
 use Rattle.lapd_sim.specs.declared.faults.LineFault.{LineFault}
 use Rattle.lapd_sim.specs.declared.faults.LineFault.TheVariants.{Faulty, Write, OutOfMemory}
 use Rattle.lapd_sim.specs.Stands.{Has}
 
 -- The scene in which nothing has been said yet.
-abbrev pub scene : Bench → Scene
-scene m = record { bench = m; text = [] }
+abbrev pub scene : Setup → Scene
+scene m = record { setup = m; text = [] }
 
--- What happens at a bench can fail in a write alone: then a beginning has been written of what it says.
-abbrev pub Tells : {E : Type 0} → Result Unit E → Output → Output → (Bench → Type 0) → Scene → Type 0
-Tells (Ok _) old new stands s = IsPut old new s.text × stands s.bench
+-- What happens at a setup can fail in a write alone: then a beginning has been written of what it says.
+abbrev pub Tells : {E : Type 0} → Result Unit E → Output → Output → (Setup → Type 0) → Scene → Type 0
+Tells (Ok _) old new stands s = IsPut old new s.text × stands s.setup
 Tells (Err _) old new stands s = IsStuck old new s.text
 
 abbrev pub Breaks : Output → Output → Result Scene FaultKind → Type 0
@@ -27,61 +27,61 @@ Breaks old new (Ok s) = IsStuck old new s.text
 Breaks old new (Err kind) = ⊥
 
 -- A line that needs the card can be faulty too: then nothing has been written. Memory is never refused.
-abbrev pub Obeys : Result Unit LineFault → Output → Output → (Bench → Type 0) → Result Scene FaultKind → Type 0
-Obeys (Ok _) old new stands (Ok s) = IsPut old new s.text × stands s.bench
+abbrev pub Obeys : Result Unit LineFault → Output → Output → (Setup → Type 0) → Result Scene FaultKind → Type 0
+Obeys (Ok _) old new stands (Ok s) = IsPut old new s.text × stands s.setup
 Obeys (Ok _) old new stands (Err kind) = ⊥
 Obeys (Err (Faulty kind)) old new stands said = (new ≡ old) × (said ≡ Err kind)
 Obeys (Err Write) old new stands said = Breaks old new said
 Obeys (Err OutOfMemory) old new stands said = ⊥
 
 -- What is begun at a card line: for want of memory alone it may not begin where the configuration is in range.
-abbrev pub Begins : {X : Type 0} → Result X LineFault → Config → (X → Bench → Type 0) → Type 0
+abbrev pub Begins : {X : Type 0} → Result X LineFault → Config → (X → Setup → Type 0) → Type 0
 Begins (Ok x) c stands = (first_fault c ≡ None) × stands x (begun c)
 Begins (Err (Faulty kind)) c stands = begun_with c ≡ Err kind
 Begins (Err Write) c stands = ⊥
 Begins (Err OutOfMemory) c stands = first_fault c ≡ None
 
 -- The same of any line where there is no card yet: memory is taken, and can be refused, at a card line alone.
-abbrev pub StartsBy : Result (Option rust.Bench) LineFault → Result (Option Bench) FaultKind → Type 0
-StartsBy (Ok bench) (Ok m) = Has bench m
-StartsBy (Ok bench) (Err kind) = ⊥
+abbrev pub StartsBy : Result (Option rust.Setup) LineFault → Result (Option Setup) FaultKind → Type 0
+StartsBy (Ok setup) (Ok m) = Has setup m
+StartsBy (Ok setup) (Err kind) = ⊥
 StartsBy (Err (Faulty kind)) said = said ≡ Err kind
 StartsBy (Err Write) said = ⊥
-StartsBy (Err OutOfMemory) said = (m : Bench) × (said ≡ Ok (Some m))
+StartsBy (Err OutOfMemory) said = (m : Setup) × (said ≡ Ok (Some m))
 
--- What a line says, whatever stands before it: the bench after it, where there is one, and its text.
+-- What a line says, whatever stands before it: the setup after it, where there is one, and its text.
 pub record Said : Type 0 where
-  pub bench : Option Bench
+  pub setup : Option Setup
   pub text : List ℕ
 
 abbrev pub said_with : Result Scene FaultKind → Result Said FaultKind
-said_with (Ok s) = Ok (record { bench = Some s.bench; text = s.text })
+said_with (Ok s) = Ok (record { setup = Some s.setup; text = s.text })
 said_with (Err kind) = Err kind
 
-abbrev pub said_without : Result (Option Bench) FaultKind → Result Said FaultKind
-said_without (Ok bench) = Ok (record { bench = bench; text = [] })
+abbrev pub said_without : Result (Option Setup) FaultKind → Result Said FaultKind
+said_without (Ok setup) = Ok (record { setup = setup; text = [] })
 said_without (Err kind) = Err kind
 
-abbrev pub said_of : Meaning → Option Bench → Result Said FaultKind
+abbrev pub said_of : Meaning → Option Setup → Result Said FaultKind
 said_of meaning None = said_without (without_card meaning)
 said_of meaning (Some m) = said_with (with_card meaning (scene m))
 
-abbrev pub said_by : Result Meaning FaultKind → Option Bench → Result Said FaultKind
-said_by (Err kind) bench = Err kind
-said_by (Ok meaning) bench = said_of meaning bench
+abbrev pub said_by : Result Meaning FaultKind → Option Setup → Result Said FaultKind
+said_by (Err kind) setup = Err kind
+said_by (Ok meaning) setup = said_of meaning setup
 
-abbrev pub said : List ℕ → Option Bench → Result Said FaultKind
-said line bench = said_by (read line) bench
+abbrev pub said : List ℕ → Option Setup → Result Said FaultKind
+said line setup = said_by (read line) setup
 
 -- A line that starts the card, where there was none.
-pub record IsCardLine (before : Option Bench) (said : Result Said FaultKind) : Type 0 where
+pub record IsCardLine (before : Option Setup) (said : Result Said FaultKind) : Type 0 where
   pub none : before ≡ None
-  pub card : Bench
-  pub begins : said ≡ Ok (record { bench = Some card; text = [] })
+  pub card : Setup
+  pub begins : said ≡ Ok (record { setup = Some card; text = [] })
 
 -- A line can start the card: memory can be refused then, and nothing has been written.
-abbrev pub Does : Result Unit LineFault → Output → Output → Option Bench → (Option Bench → Type 0) → Result Said FaultKind → Type 0
-Does (Ok _) old new before has (Ok s) = IsPut old new s.text × has s.bench
+abbrev pub Does : Result Unit LineFault → Output → Output → Option Setup → (Option Setup → Type 0) → Result Said FaultKind → Type 0
+Does (Ok _) old new before has (Ok s) = IsPut old new s.text × has s.setup
 Does (Ok _) old new before has (Err kind) = ⊥
 Does (Err (Faulty kind)) old new before has said = (new ≡ old) × (said ≡ Err kind)
 Does (Err Write) old new before has (Ok s) = IsStuck old new s.text

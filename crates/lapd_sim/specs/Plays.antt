@@ -2,7 +2,7 @@
 use Rattle.std.specs.Prelude.{◌≡◌, ℕ, ◌<◌, ◌==◌, ◌⊎◌, List, [], ◌∷◌, ◌++◌, length, take, filter, Bool, Option, None, Some, Result, Ok, Err}
 use Rattle.std.specs.List.{list_any}
 use Rattle.lapd_transcript.specs.Streams.{Taken, IsWritten, IsBroken, Output, IsPut, IsStuck}
-use Rattle.model_sim.specs.Bench.{Bench}
+use Rattle.model_sim.specs.Setup.{Setup}
 use Rattle.model_sim.specs.Pieces.{pieces_of}
 use Rattle.model_sim.specs.Script.{played, transcript, first_fault}
 use Rattle.lapd_sim.specs.declared.faults.PlayFault.{PlayFault}
@@ -35,9 +35,9 @@ pub record IsRefusedAtCard (text : List ℕ) (remaining : Option (List ℕ)) : T
   pub piece : List ℕ
   pub after : List ℕ
   pub pieces : pieces_of text ≡ before ++ piece ∷ pieces_of after
-  pub no_card : (played before).bench ≡ None
-  pub card : Bench
-  pub starts : (played (before ++ piece ∷ [])).bench ≡ Some card
+  pub no_card : (played before).setup ≡ None
+  pub card : Setup
+  pub starts : (played (before ++ piece ∷ [])).setup ≡ Some card
   pub read : List ℕ
   pub unread : List ℕ
   pub is : after ≡ read ++ unread

@@ -8,7 +8,7 @@ use Rattle.lapd_script.specs.declared.kind.FaultKind.TheVariants as kind
 use Rattle.lapd_script.specs.Octets.{octets}
 use Rattle.lapd_transcript.specs.Shown.{shown_text, on_line_text}
 use Rattle.lapd_transcript.specs.Streams.{Taken, IsWritten, IsBroken}
-use Rattle.model_sim.specs.Bench.{octets_sent}
+use Rattle.model_sim.specs.Setup.{octets_sent}
 use Rattle.lapd_sim.specs.declared.shown.FrameFault.{FrameFault}
 use Rattle.lapd_sim.specs.declared.shown.FrameFault.TheVariants.{BadOctets, TooLong, NoFrame, Write, OutOfMemory}
 

@@ -1,12 +1,12 @@
--- What the parts of a simulator stand for: the bench of the machine that a script is played on.
+-- What the parts of a simulator stand for: the setup of the machine that a script is played on.
 use Rattle.std.specs.Prelude.{◌≡◌, ℕ, List, [], ◌∷◌, length, Option, None, Some}
 use Rattle.lapd_bits.specs.Framer as framing
 use Rattle.lapd_bits.specs.Deframer as deframing
 use Rattle.lapd_bits.specs.declared.deframer.Deframer.{Deframer}
 use Rattle.lapd_card.specs.Stands as card
 use Rattle.lapd_store.specs.Store.{Store}
-use Rattle.model_sim.specs.Bench as machine
-use Rattle.lapd_sim.specs.declared.bench.Bench.{Bench}
+use Rattle.model_sim.specs.Setup as machine
+use Rattle.lapd_sim.specs.declared.setup.Setup.{Setup}
 use Rattle.lapd_sim.specs.declared.exchange.Exchange.{Exchange}
 use Rattle.lapd_sim.specs.declared.terminal.Terminal.{Terminal}
 
@@ -15,7 +15,7 @@ abbrev pub as_store : Store → Store
 as_store shelf = shelf
 
 -- The card, its clock and the moment.
-pub record Holds (e : Exchange) (m : machine.Bench) : Type 0 where
+pub record Holds (e : Exchange) (m : machine.Setup) : Type 0 where
   pub config : m.card.config ≡ e.config
   pub card : card.Stands as_store e.card m.card
   pub clock : e.clock ≡ m.clock
@@ -38,13 +38,13 @@ Each R [] (y ∷ ys) = ⊥
 Each R (x ∷ xs) [] = ⊥
 Each R (x ∷ xs) (y ∷ ys) = R x y × Each R xs ys
 
-pub record Stands (b : Bench) (m : machine.Bench) : Type 0 where
+pub record Stands (b : Setup) (m : machine.Setup) : Type 0 where
   pub exchange : Holds b.exchange m
   pub terminals : Each Sends b.terminals.items m.terminals
   pub listeners : Each Hears b.listeners.items m.taken
 
--- Before the card line there is no bench.
-abbrev pub Has : Option Bench → Option machine.Bench → Type 0
+-- Before the card line there is no setup.
+abbrev pub Has : Option Setup → Option machine.Setup → Type 0
 Has None None = Unit {0}
 Has None (Some m) = ⊥
 Has (Some b) None = ⊥

@@ -6,12 +6,12 @@ ghost use Rattle.lapd_card.specs.Reply.{answer_of_result};
 ghost use Rattle.model_card.specs.Event.{at};
 ghost use Rattle.model_card.specs.Machine.{answer};
 ghost use Rattle.lapd_clock.specs.Timers as clocks;
-ghost use Rattle.model_line.specs.Answer as happening;
+ghost use Rattle.model_line.specs.Event as line_event;
 ghost use Rattle.model_line.specs.Laws.{orders_in};
 ghost use Rattle.model_line.specs.Request.{request_of};
 ghost use Rattle.model_line.specs.Sound.{IsInRange};
 ghost use Rattle.lapd_sim.specs.Past.{HasPast};
-ghost use Rattle.model_sim.specs.Bench as machine;
+ghost use Rattle.model_sim.specs.Setup as machine;
 ghost use Rattle.model_sim.specs.Steps.{answer_text, with_event, octet_in, at_expiry, until, in_time, after_stored};
 ghost use Rattle.lapd_transcript.specs.Streams.{Puts, output};
 
@@ -89,8 +89,8 @@ impl Exchange {
     ) -> Result<(), WriteFailed>
         requires { line < self.old.config.lines }
         ensures config { self.new.config ≡ self.old.config }
-        ensures told { (m : machine.Bench) → Holds self.old m
-            → Tells result (output (T.taken target.old) page.old.items) (output (T.taken target.new) page.new.items) (Holds self.new) (with_event (scene m) (at line (happening.octet octet))) }
+        ensures told { (m : machine.Setup) → Holds self.old m
+            → Tells result (output (T.taken target.old) page.old.items) (output (T.taken target.new) page.new.items) (Holds self.new) (with_event (scene m) (at line (line_event.octet octet))) }
     {
         let report = self.card.octet(line, octet);
         carry_out(&mut self.clock, line, &report, self.moment, target, page)
@@ -100,8 +100,8 @@ impl Exchange {
     pub(crate) fn pull(&mut self, line: usize) -> u8
         requires { line < self.old.config.lines }
         ensures config { self.new.config ≡ self.old.config }
-        ensures pulled { (m : machine.Bench) → Holds self.old m → result ≡ octet_in (answer (at line happening.pull) m.card) }
-        ensures after { (m : machine.Bench) → Holds self.old m → Holds self.new (machine.happened m (at line happening.pull)) }
+        ensures pulled { (m : machine.Setup) → Holds self.old m → result ≡ octet_in (answer (at line line_event.pull) m.card) }
+        ensures after { (m : machine.Setup) → Holds self.old m → Holds self.new (machine.happened m (at line line_event.pull)) }
     {
         let pulled = self.card.pull(line);
         order(&mut self.clock, line, pulled.orders(), self.moment);
@@ -118,9 +118,9 @@ impl Exchange {
     ) -> Result<(), WriteFailed>
         requires { line < self.old.config.lines }
         ensures config { self.new.config ≡ self.old.config }
-        ensures told { (m : machine.Bench) → Holds self.old m
+        ensures told { (m : machine.Setup) → Holds self.old m
             → Tells result (output (T.taken target.old) page.old.items) (output (T.taken target.new) page.new.items) (Holds self.new)
-            (with_event (scene m) (at line (happening.request (request_of request.entry)))) }
+            (with_event (scene m) (at line (line_event.request (request_of request.entry)))) }
     {
         match self.card.request(line, request) {
             Ok(report) => carry_out(&mut self.clock, line, &report, self.moment, target, page),
@@ -136,7 +136,7 @@ impl Exchange {
         page: &mut Page,
     ) -> Result<(), LineFault>
         ensures config { self.new.config ≡ self.old.config }
-        ensures told { (m : machine.Bench) → Holds self.old m
+        ensures told { (m : machine.Setup) → Holds self.old m
             → Obeys result (output (T.taken target.old) page.old.items) (output (T.taken target.new) page.new.items) (Holds self.new) (in_time milliseconds (scene m)) }
     {
         let end = self.moment + u64::from(milliseconds);
@@ -158,7 +158,7 @@ impl Exchange {
     ) -> Result<(), WriteFailed>
         requires { end < 2 ^ 63 }
         ensures config { self.new.config ≡ self.old.config }
-        ensures told { (m : machine.Bench) → Holds self.old m
+        ensures told { (m : machine.Setup) → Holds self.old m
             → Tells result (output (T.taken target.old) page.old.items) (output (T.taken target.new) page.new.items) (Holds self.new) (until end (scene m)) }
     {
         while let Some((line, timer)) = self.due(end) {
@@ -176,7 +176,7 @@ impl Exchange {
         ensures config { self.new.config ≡ self.old.config }
         ensures line { IfSome result (λ due. due.0 < self.old.config.lines) }
         ensures due { result ≡ clocks.due_at self.old.clock end }
-        ensures after { IfSome result (λ due. (m : machine.Bench) → Holds self.old m → Holds self.new (at_expiry end m)) }
+        ensures after { IfSome result (λ due. (m : machine.Setup) → Holds self.old m → Holds self.new (at_expiry end m)) }
         ensures unchanged { IfNone result (self.new ≡ self.old) }
     {
         let moment = self.clock.next()?;
@@ -196,8 +196,8 @@ impl Exchange {
     ) -> Result<(), WriteFailed>
         requires { line < self.old.config.lines }
         ensures config { self.new.config ≡ self.old.config }
-        ensures told { (m : machine.Bench) → Holds self.old m
-            → Tells result (output (T.taken target.old) page.old.items) (output (T.taken target.new) page.new.items) (Holds self.new) (with_event (scene m) (at line (happening.expiry timer))) }
+        ensures told { (m : machine.Setup) → Holds self.old m
+            → Tells result (output (T.taken target.old) page.old.items) (output (T.taken target.new) page.new.items) (Holds self.new) (with_event (scene m) (at line (line_event.expiry timer))) }
     {
         let report = self.card.expire(line, timer);
         carry_out(&mut self.clock, line, &report, self.moment, target, page)
@@ -209,7 +209,7 @@ impl Exchange {
         target: &mut T,
         page: &mut Page,
     ) -> Result<(), WriteFailed>
-        ensures { (m : machine.Bench) → Holds self.now m
+        ensures { (m : machine.Setup) → Holds self.now m
             → Tells result (output (T.taken target.old) page.old.items) (output (T.taken target.new) page.new.items) (Holds self.now) (after_stored (scene m)) }
     {
         put_stored(target, page, self.card.stored(), limit(&self.config))

@@ -4,7 +4,7 @@
 //! - `lines`: how the lines of a script are read, in pieces.
 //! - `exchange`: the card that a script is played on, and its clock.
 //! - `terminal`: the sender of a terminal.
-//! - `bench`: the card with the terminals and listeners of its lines; `parts`, what it begins with; `traffic`, what
+//! - `setup`: the card with the terminals and listeners of its lines; `parts`, what it begins with; `traffic`, what
 //!   comes from a line and what a line takes.
 //! - `player`: plays a script; `memory`, one that lies in memory.
 //! - `faults`: why a script is not played to its end.
@@ -12,7 +12,6 @@
 //! - `program`: the program's words, fault lines and exit status.
 #![tactic(auto)]
 
-mod bench;
 mod exchange;
 mod faults;
 mod lines;
@@ -20,6 +19,7 @@ mod memory;
 mod parts;
 mod player;
 mod program;
+mod setup;
 mod shown;
 mod terminal;
 mod traffic;

@@ -1,4 +1,4 @@
-//! What a bench begins with, and what the words of a script ask of it.
+//! What a setup begins with, and what the words of a script ask of it.
 
 ghost use Rattle.std.specs.Prelude.{◌≡◌, [], vec_len, replicate, IfOk};
 ghost use Rattle.model_line.specs.Request as asking;

@@ -2,7 +2,7 @@
 
 ghost use Rattle.std.specs.Prelude.{◌≡◌, ◌≤◌, ◌<◌, ℕ, List, [], Some, None, Option, length, vec_len, IfOk, IsTrue};
 ghost use Rattle.lapd_script.specs.Meaning.{meant, IsCounted};
-ghost use Rattle.model_sim.specs.Bench as machine;
+ghost use Rattle.model_sim.specs.Setup as machine;
 ghost use Rattle.model_sim.specs.Steps.{with_card, without_card};
 ghost use Rattle.lapd_sim.specs.Faults.{reads_failed_by, writes_failed_by};
 ghost use Rattle.lapd_sim.specs.Obeyed.{Does, Obeys, StartsBy, said, scene};
@@ -12,9 +12,9 @@ ghost use Rattle.lapd_sim.specs.ScriptLines.{AreLeft};
 ghost use Rattle.lapd_transcript.specs.Streams.{Taken, output};
 ghost use Rattle.lapd_sim.specs.Stands.{Has, Stands};
 
-use crate::bench::Bench;
 use crate::faults::{LineFault, PlayFault};
 use crate::lines::ScriptLines;
+use crate::setup::Setup;
 use lapd_script::{Command, FaultKind, read_line};
 use lapd_transcript::{Page, Source, Target, WriteFailed, send};
 use std::alloc::{AllocError, Global};
@@ -113,18 +113,18 @@ struct Player {
     alloc: Global,
     /// The octets that the line brings, or has pulled.
     octets: Vec<u8>,
-    bench: Option<Bench>,
+    setup: Option<Setup>,
     ghost room: { vec_len octets ≡ 4096 },
 }
 
 impl Player {
     fn start(alloc: Global) -> Result<Player, AllocError>
-        ensures { IfOk result (λ player. player.bench ≡ None) }
+        ensures { IfOk result (λ player. player.setup ≡ None) }
     {
         Ok(Player {
             alloc,
             octets: vec![in alloc; 0; ROOM]?,
-            bench: None,
+            setup: None,
         })
     }
 
@@ -136,7 +136,7 @@ impl Player {
         target: &mut T,
         page: &mut Page,
     ) -> Result<(), PlayFault>
-        requires none { self.old.bench ≡ None }
+        requires none { self.old.setup ≡ None }
         requires number { lines.old.number ≡ 0 }
         requires octets { lines.old.octets ≡ 0 }
         ensures reads { S.failures source.new ≡ reads_failed_by result (S.failures source.old) }
@@ -165,18 +165,18 @@ impl Player {
         page: &mut Page,
     ) -> Result<(), LineFault>
         requires { length line.now ≤ 4096 }
-        ensures { (m : Option machine.Bench) → Has self.old.bench m
+        ensures { (m : Option machine.Setup) → Has self.old.setup m
             → Does result (output (T.taken target.old) page.old.items) (output (T.taken target.new) page.new.items)
-            m (Has self.new.bench) (said line.now m) }
+            m (Has self.new.setup) (said line.now m) }
     {
         let command = match read_line(line, self.octets.as_mut_slice()) {
             Ok(command) => command,
             Err(kind) => return Err(LineFault::Faulty(kind)),
         };
-        match &mut self.bench {
-            Some(bench) => with_card(bench, command, self.octets.as_mut_slice(), target, page),
+        match &mut self.setup {
+            Some(setup) => with_card(setup, command, self.octets.as_mut_slice(), target, page),
             None => {
-                self.bench = without_card(self.alloc, command)?;
+                self.setup = without_card(self.alloc, command)?;
                 Ok(())
             }
         }
@@ -184,12 +184,12 @@ impl Player {
 }
 
 /// Obeys a line where there is no card yet: it starts one, or needs one.
-fn without_card(alloc: Global, command: Command) -> Result<Option<Bench>, LineFault>
+fn without_card(alloc: Global, command: Command) -> Result<Option<Setup>, LineFault>
     ensures { (buffer : List ℕ) → StartsBy result (without_card (meant buffer command)) }
 {
     match command {
         Command::Skip => Ok(None),
-        Command::Card(config) => Ok(Some(Bench::start(alloc, config)?)),
+        Command::Card(config) => Ok(Some(Setup::start(alloc, config)?)),
         Command::Rx { .. } => Err(LineFault::Faulty(FaultKind::NoCard)),
         Command::In { .. } => Err(LineFault::Faulty(FaultKind::NoCard)),
         Command::Pull { .. } => Err(LineFault::Faulty(FaultKind::NoCard)),
@@ -201,7 +201,7 @@ fn without_card(alloc: Global, command: Command) -> Result<Option<Bench>, LineFa
 
 /// Obeys a line where there is a card. The octets that it brings stand at the beginning of `room`.
 fn with_card<T: Target>(
-    bench: &mut Bench,
+    setup: &mut Setup,
     command: Command,
     room: &mut [u8],
     target: &mut T,
@@ -209,22 +209,22 @@ fn with_card<T: Target>(
 ) -> Result<(), LineFault>
     requires counted { IsCounted (length room.old) command }
     requires room { 4096 ≤ length room.old }
-    ensures { (m : machine.Bench) → Stands bench.old m
-        → Obeys result (output (T.taken target.old) page.old.items) (output (T.taken target.new) page.new.items) (Stands bench.new) (with_card (meant room.old command) (scene m)) }
+    ensures { (m : machine.Setup) → Stands setup.old m
+        → Obeys result (output (T.taken target.old) page.old.items) (output (T.taken target.new) page.new.items) (Stands setup.new) (with_card (meant room.old command) (scene m)) }
 {
     match command {
         Command::Skip => Ok(()),
         Command::Card(_) => Err(LineFault::Faulty(FaultKind::SecondCard)),
-        Command::Rx { line, octets } => bench.receive(line, &room[..octets], target, page),
-        Command::In { line, octets } => bench.send(line, &room[..octets], target, page),
-        Command::Pull { line, count } => bench.pull(line, count as usize, room, target, page),
-        Command::Wait { milliseconds } => bench.wait(milliseconds, target, page),
-        Command::Stored => bench.show_stored(target, page),
+        Command::Rx { line, octets } => setup.receive(line, &room[..octets], target, page),
+        Command::In { line, octets } => setup.send(line, &room[..octets], target, page),
+        Command::Pull { line, count } => setup.pull(line, count as usize, room, target, page),
+        Command::Wait { milliseconds } => setup.wait(milliseconds, target, page),
+        Command::Stored => setup.show_stored(target, page),
         Command::Ask {
             line,
             tei,
             what,
             octets,
-        } => bench.ask(line, tei, what, &room[..octets], target, page),
+        } => setup.ask(line, tei, what, &room[..octets], target, page),
     }
 }

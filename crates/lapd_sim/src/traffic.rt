@@ -5,7 +5,7 @@ ghost use Rattle.lapd_bits.specs.Framer as framing;
 ghost use Rattle.lapd_bits.specs.Sent.{Item};
 ghost use Rattle.lapd_transcript.specs.Streams.{Puts, output};
 ghost use Rattle.lapd_transcript.specs.Text.{frame_text};
-ghost use Rattle.model_sim.specs.Bench as machine;
+ghost use Rattle.model_sim.specs.Setup as machine;
 ghost use Rattle.model_sim.specs.Steps.{after_rx, pulls, pulled_text};
 ghost use Rattle.lapd_sim.specs.Gives.{Gives};
 ghost use Rattle.lapd_sim.specs.Obeyed.{scene, Tells};
@@ -26,7 +26,7 @@ pub(crate) fn receive<T: Target>(
 ) -> Result<(), WriteFailed>
     requires { line < exchange.old.config.lines }
     ensures config { exchange.new.config ≡ exchange.old.config }
-    ensures told { (m : machine.Bench) → Holds exchange.old m
+    ensures told { (m : machine.Setup) → Holds exchange.old m
         → Tells result (output (T.taken target.old) page.old.items) (output (T.taken target.new) page.new.items) (Holds exchange.new) (after_rx line octets.now (scene m)) }
 {
     for octet in octets {
@@ -50,7 +50,7 @@ pub(crate) fn send<T: Target>(
     requires short { 3 ≤ length frame.now }
     requires long { length frame.now ≤ 1028 }
     ensures config { exchange.new.config ≡ exchange.old.config }
-    ensures told { (m : machine.Bench) (t : machine.Terminal) → Holds exchange.old m → Sends terminal.old t
+    ensures told { (m : machine.Setup) (t : machine.Terminal) → Holds exchange.old m → Sends terminal.old t
         → Tells result (output (T.taken target.old) page.old.items) (output (T.taken target.new) page.new.items) (Holds exchange.new) (after_rx line (machine.octets_sent frame.now t) (scene m)) }
     ensures after { OnOk result ((t : machine.Terminal) → Sends terminal.old t → Sends terminal.new (machine.after_sending frame.now t)) }
 {
@@ -95,10 +95,10 @@ fn give<T: Target>(
 pub(crate) fn pull(exchange: &mut Exchange, line: usize, room: &mut [u8])
     requires { line < exchange.old.config.lines }
     ensures config { exchange.new.config ≡ exchange.old.config }
-    ensures pulled { (m : machine.Bench) → Holds exchange.old m
-        → room.new ≡ (pulls (length room.old) line (record { bench = m; octets = [] })).octets }
-    ensures after { (m : machine.Bench) → Holds exchange.old m
-        → Holds exchange.new (pulls (length room.old) line (record { bench = m; octets = [] })).bench }
+    ensures pulled { (m : machine.Setup) → Holds exchange.old m
+        → room.new ≡ (pulls (length room.old) line (record { setup = m; octets = [] })).octets }
+    ensures after { (m : machine.Setup) → Holds exchange.old m
+        → Holds exchange.new (pulls (length room.old) line (record { setup = m; octets = [] })).setup }
 {
     for place in room.iter_mut() {
         *place = exchange.pull(line);

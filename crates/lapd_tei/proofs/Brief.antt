@@ -2,7 +2,7 @@
 use Rattle.std.proofs.Common.{ℕ, ◌≤◌, Bool, true, false, cond, ◌==◌, [], length, Option, Some, None, arith}
 use Rattle.lapd_frame.specs.declared.refusals.Refusal.{Refusal}
 use Rattle.lapd_tei.specs.Events.{Event, message, expiry, assign, remove, check, refusal, step, unless_refused, course, told}
-use Rattle.lapd_tei.specs.Machine.{Management, Told}
+use Rattle.lapd_tei.specs.Machine.{Management, TeiTold}
 use Rattle.lapd_tei.specs.declared.check.Check.{Check}
 use Rattle.lapd_tei.specs.declared.check.Period.{Period}
 use Rattle.lapd_tei.specs.declared.check.Period.TheVariants.{First, Second}
@@ -13,7 +13,7 @@ use Rattle.lapd_tei.specs.Rows as rows
 use Rattle.lapd_tei.specs.Table.{free_place, free_tei}
 use Rattle.lapd_tei.specs.Words.{Course, begun, no_room, lose_one, unserved, begin_check, end_check, check_is}
 
-pub record IsBrief (t : Told) : Type 0 where
+pub record IsBrief (t : TeiTold) : Type 0 where
   pub notes : length t.notes ≤ 1
   pub orders : length t.orders ≤ 1
 

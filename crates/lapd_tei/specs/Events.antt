@@ -4,7 +4,7 @@ use Rattle.lapd_frame.specs.declared.refusals.Refusal.{Refusal}
 use Rattle.lapd_frame.specs.declared.refusals.Refusal.TheVariants.{NoLink, TeiTaken, TableFull, CheckRunning, ControlFull}
 use Rattle.lapd_tei.specs.Messages.{heard_in, frame_of}
 use Rattle.lapd_tei.specs.Table.{is_on, free_place}
-use Rattle.lapd_tei.specs.Machine.{Management, Told}
+use Rattle.lapd_tei.specs.Machine.{Management, TeiTold}
 use Rattle.lapd_tei.specs.Words.{Course, begun, Step, no_room, begin_check}
 use Rattle.lapd_tei.specs.Rows.{serve, expire, put_on, take_off}
 
@@ -48,7 +48,7 @@ course e m = unless_refused (refusal e m) (step e) m
 abbrev pub after : Event → Management → Management
 after e m = (course e m).now
 
-abbrev pub told : Event → Management → Told
+abbrev pub told : Event → Management → TeiTold
 told e m = (course e m).told
 
 -- A pull takes the message that has waited longest.

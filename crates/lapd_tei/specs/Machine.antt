@@ -44,12 +44,12 @@ held m = 8 * length m.waiting + 3 * length m.remembered
 
 -- What is told of an event: notes; whether a TEI came to the line or left it; what is ordered of T201; how many
 -- messages were lost, as they found no room; and whether the event is one that is not served.
-pub record Told : Type 0 where
+pub record TeiTold : Type 0 where
   pub notes : List Note
   pub change : Option Change
   pub orders : List Order
   pub lost : ℕ
   pub unserved : Bool
 
-abbrev pub nothing : Told
+abbrev pub nothing : TeiTold
 nothing = record { notes = []; change = None; orders = []; lost = 0; unserved = false }

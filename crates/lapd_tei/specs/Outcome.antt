@@ -3,10 +3,10 @@ use Rattle.std.specs.Prelude.{◌≤◌, length}
 use Rattle.lapd_frame.specs.ShortLists.{listed}
 use Rattle.lapd_tei.specs.declared.outcome.TeiOutcome.{TeiOutcome}
 use Rattle.lapd_tei.specs.declared.teis.Teis.TheInside.{Inside}
-use Rattle.lapd_tei.specs.Machine.{Management, Told}
+use Rattle.lapd_tei.specs.Machine.{Management, TeiTold}
 use Rattle.lapd_tei.specs.Words.{Course}
 
-abbrev pub told_of : TeiOutcome → Told
+abbrev pub told_of : TeiOutcome → TeiTold
 told_of o = record { notes = listed o.notes; change = o.change; orders = listed o.orders; lost = o.lost; unserved = o.unserved }
 
 abbrev pub management_of : Inside → Management

@@ -6,12 +6,12 @@ use Rattle.lapd_frame.specs.declared.timers.Order.TheVariants.{Start, Stop}
 use Rattle.lapd_frame.specs.declared.timers.Timer.TheVariants.{T201}
 use Rattle.lapd_tei.specs.Messages.{Message, IdentityCheckRequest}
 use Rattle.lapd_tei.specs.Table.{Places, place_of}
-use Rattle.lapd_tei.specs.Machine.{Management, Told, nothing, Remembered, Check, First, Change, Gained, Left, messages_limit, remembered_limit}
+use Rattle.lapd_tei.specs.Machine.{Management, TeiTold, nothing, Remembered, Check, First, Change, Gained, Left, messages_limit, remembered_limit}
 
 -- an event under way: where things stand, and what is told so far
 pub record Course : Type 0 where
   pub now : Management
-  pub told : Told
+  pub told : TeiTold
 
 abbrev pub begun : Management → Course
 begun m = record { now = m; told = nothing }

@@ -5,7 +5,7 @@ use Rattle.lapd_frame.specs.declared.refusals.Refusal.TheVariants.{NoLink, TeiTa
 use Rattle.lapd_frame.specs.declared.timers.Order.TheVariants.{Start, Stop}
 use Rattle.lapd_frame.specs.declared.timers.Timer.TheVariants.{T201}
 use Rattle.lapd_tei.specs.Messages.{IdentityRemove}
-use Rattle.lapd_tei.specs.Machine.{Management, empty, may_send, held, Told, nothing, Gained, Left}
+use Rattle.lapd_tei.specs.Machine.{Management, empty, may_send, held, TeiTold, nothing, Gained, Left}
 use Rattle.lapd_tei.specs.Events.{Event, message, expiry, assign, remove, check, refusal, course, after, told, offered, after_offer}
 
 -- a line with room for eight TEIs, after events from its start; each message is pulled at once
@@ -43,7 +43,7 @@ abbrev taken : ℕ → Option (List ℕ)
 taken last = Some (0xFE ∷ 0xFF ∷ 0x03 ∷ 0x0F ∷ 0x00 ∷ 0x00 ∷ 0x06 ∷ last ∷ [])
 
 -- what an event brings to a line: what is told of it, and what the next pull gives
-abbrev brought : Event → Management → Told × Option (List ℕ)
+abbrev brought : Event → Management → TeiTold × Option (List ℕ)
 brought e m = (told e m, offered (after e m))
 
 -- A request for a TEI on a line without one: TEI 64 is assigned, at place 0.
@@ -202,7 +202,7 @@ unpulled (e ∷ es) m = unpulled es (after e m)
 abbrev full : Management
 full = unpulled (map (asks 0x22) (1 ∷ 2 ∷ 3 ∷ 4 ∷ [])) (pulled (assign 0) (empty 1))
 
-abbrev lost_one : Told
+abbrev lost_one : TeiTold
 lost_one = record nothing { lost = 1 }
 
 denials-wait : may_send full ≡ 4

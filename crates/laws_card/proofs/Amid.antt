@@ -5,8 +5,8 @@ use Rattle.std.proofs.lemmas.Bool.{eqb-true, eqb-false, and_parts}
 use Rattle.std.proofs.lemmas.List.{get_or-set_same}
 use Rattle.std.proofs.lemmas.List.Elements.{All-head, All-tail}
 use Rattle.model_link.specs.declared.frames.ControlFrame.{ControlFrame}
-use Rattle.model_line.specs.Answer as happening
-use Rattle.model_line.specs.Answer.{octet, expiry, request, pull}
+use Rattle.model_line.specs.Event as line_event
+use Rattle.model_line.specs.Event.{octet, expiry, request, pull}
 use Rattle.model_line.specs.Line.{Line, fresh_line, link_count, place_at, tei_at, link_at}
 use Rattle.model_line.specs.Machine as lines
 use Rattle.model_line.specs.Pull.{Taken, begun}
@@ -24,7 +24,7 @@ use Rattle.laws_card.specs.Among.{IsBegunAmong}
 use Rattle.laws_card.specs.PromisesOfPulls.{come_first_at, pulls_of, StaysAt}
 use Rattle.laws_card.proofs.Meanwhile.{at-another, at-pull, few-lines, line-sound}
 
-is-the-pull : (w : happening.Event) → is_pull w ≡ true → w ≡ pull
+is-the-pull : (w : line_event.Event) → is_pull w ≡ true → w ≡ pull
 is-the-pull (octet value) is = absurd (cc)
 is-the-pull (expiry timer) is = absurd (cc)
 is-the-pull (request r) is = absurd (cc)

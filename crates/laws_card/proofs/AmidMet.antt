@@ -11,7 +11,7 @@ use Rattle.lapd_seq.specs.Circle.{distance_of, named}
 use Rattle.lapd_tei.specs.Events as teis
 use Rattle.model_link.specs.Words.{response}
 use Rattle.model_line.specs.declared.config.Config.{Config}
-use Rattle.model_line.specs.Answer.{octet, request, pull}
+use Rattle.model_line.specs.Event.{octet, request, pull}
 use Rattle.model_line.specs.Line.{Line, link_count, place_at, tei_at, link_at}
 use Rattle.model_line.specs.Machine as lines
 use Rattle.model_line.specs.Request

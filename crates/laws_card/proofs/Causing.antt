@@ -4,7 +4,7 @@ use Rattle.std.proofs.lemmas.Bool.{and_parts}
 use Rattle.std.proofs.lemmas.List.{get_or-set_same}
 use Rattle.std.proofs.lemmas.List.Elements.{All-nil}
 use Rattle.lapd_frame.specs.declared.timers.Timer.{Timer}
-use Rattle.model_line.specs.Answer as happening
+use Rattle.model_line.specs.Event as line_event
 use Rattle.model_line.specs.Line.{Line, fresh_line}
 use Rattle.model_line.specs.Machine as lines
 use Rattle.model_line.specs.declared.config.Config.{Config}
@@ -27,7 +27,7 @@ use Rattle.laws_card.specs.Promises.{MessagesHaveCauses, ToldTeisAreThere, Notes
 use Rattle.laws_card.proofs.Hearing.{no-octet}
 
 -- an expiry takes no slot
-no-expiry : (c : Config) (l : Line) (what : happening.Event) (timer : Timer) → lines.takes_slot c what l ≡ true → what ≡ happening.expiry timer → ⊥
+no-expiry : (c : Config) (l : Line) (what : line_event.Event) (timer : Timer) → lines.takes_slot c what l ≡ true → what ≡ line_event.expiry timer → ⊥
 unfolding lines.takes_slot
 no-expiry c l what timer takes is = true≢false (sym takes ∙ ap (λ e. lines.takes_slot c e l) is)
 

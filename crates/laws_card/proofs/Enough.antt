@@ -4,7 +4,7 @@ use Rattle.std.specs.Prelude.{All}
 use Rattle.lapd_frame.specs.declared.services.Service.{Service}
 use Rattle.lapd_frame.specs.Grammar.{Parts}
 use Rattle.model_line.specs.declared.config.Config.{Config}
-use Rattle.model_line.specs.Answer.{octet}
+use Rattle.model_line.specs.Event.{octet}
 use Rattle.model_line.specs.Line.{link_number, link_in}
 use Rattle.model_line.specs.Machine as lines
 use Rattle.model_line.proofs.LineSound.{after_sound}

@@ -8,7 +8,7 @@ use Rattle.lapd_seq.specs.Numbers.{seq}
 use Rattle.model_link.specs.Words.{response}
 use Rattle.laws_two_links.specs.Polls.{IsPollWhileUp, asked_of}
 use Rattle.model_line.specs.declared.config.Config.{Config}
-use Rattle.model_line.specs.Answer.{octet, request}
+use Rattle.model_line.specs.Event.{octet, request}
 use Rattle.model_line.specs.Line.{Line, link_number, link_in, terms}
 use Rattle.model_line.specs.Machine as lines
 use Rattle.model_line.specs.Request.{Assign}

@@ -6,8 +6,8 @@ use Rattle.lapd_frame.specs.declared.services.Service.{Service}
 use Rattle.lapd_frame.specs.declared.timers.Timer.{Timer}
 use Rattle.model_link.specs.declared.timers.LinkTimer.{LinkTimer}
 use Rattle.std.proofs.lemmas.List.{get_or-set_same}
-use Rattle.model_line.specs.Answer as happening
-use Rattle.model_line.specs.Answer.{Answer}
+use Rattle.model_line.specs.Event as line_event
+use Rattle.model_line.specs.Event.{Answer}
 use Rattle.model_line.specs.Line.{Line, fresh_line}
 use Rattle.model_line.specs.Machine as lines
 use Rattle.model_line.specs.declared.config.Config.{Config}
@@ -27,11 +27,11 @@ use Rattle.model_card.proofs.Steps.{has_lines, by_room, line_sound}
 use Rattle.laws_card.specs.Faithful.{TakesEffectIn, ExpiryTakesEffectIn}
 use Rattle.laws_card.specs.Promises.{TakeEffect, ExpiriesTakeEffectIn}
 
-takes-none : (c : Config) (timer : Timer) (l : Line) → lines.takes_slot c (happening.expiry timer) l ≡ false
+takes-none : (c : Config) (timer : Timer) (l : Line) → lines.takes_slot c (line_event.expiry timer) l ≡ false
 unfolding lines.takes_slot
 takes-none c timer l = refl
 
-record Takes (c : Config) (e : happening.Event) (before after : Line) (a : Answer) : Type 0 where
+record Takes (c : Config) (e : line_event.Event) (before after : Line) (a : Answer) : Type 0 where
   link : LinkTakesEffect c e before after a
   management : ManagementTakesEffect e before after a
 
@@ -58,16 +58,16 @@ pub effect-all : (card : Card) (events : List Event) → IsSound card → AreAtL
 effect-all card events s all = each_moment TakesEffectIn effect-in card events s all
 
 -- The same of an expiry.
-refused-expires : (c : Config) (e : happening.Event) (l : Line) → lines.takes_slot c e l ≡ true → (a : Answer) → ExpiryTakesEffect c e l l a
+refused-expires : (c : Config) (e : line_event.Event) (l : Line) → lines.takes_slot c e l ≡ true → (a : Answer) → ExpiryTakesEffect c e l l a
 refused-expires c e l takes a service tei place timer is on running = absurd (true≢false (sym takes ∙ ap (λ x. lines.takes_slot c x l) is ∙ never service tei timer))
   where
-    never : (service : Service) (tei : ℕ) (timer : LinkTimer) → lines.takes_slot c (happening.expiry (timer_of service tei timer)) l ≡ false
+    never : (service : Service) (tei : ℕ) (timer : LinkTimer) → lines.takes_slot c (line_event.expiry (timer_of service tei timer)) l ≡ false
     never service tei timer = takes-none c (timer_of service tei timer) l
 
 expiry-in : (card : Card) (e : Event) → IsSound card → IsAtLine card e → ExpiryTakesEffectIn (moment_of card e)
 expiry-in card e s here =
     by_room (λ ls a. ExpiryTakesEffect card.config e.what (line_at e.line card) (get_or ls e.line (fresh_line card.config)) a) e card
-    (λ full. refused-expires card.config e.what (line_at e.line card) (and_parts (lines.takes_slot card.config e.what (line_at e.line card)) (is_full card) full).0 (happening.refused PoolFull))
+    (λ full. refused-expires card.config e.what (line_at e.line card) (and_parts (lines.takes_slot card.config e.what (line_at e.line card)) (is_full card) full).0 (line_event.refused PoolFull))
     (λ room.
     let own = lines.after card.config e.what (line_at e.line card) in
     subst (λ (x : Line). ExpiryTakesEffect card.config e.what (line_at e.line card) x (lines.answer card.config e.what (line_at e.line card)))

@@ -2,7 +2,7 @@
 use Rattle.std.proofs.Common.{◌≡◌, ◌≢◌, ℕ, ◌<◌, List, get_or, set, refl, sym, ap, subst, arith, inl}
 use Rattle.std.proofs.lemmas.Bool.{and_parts}
 use Rattle.std.proofs.lemmas.List.{get_or-set_same, get_or-set_other}
-use Rattle.model_line.specs.Answer.{Answer}
+use Rattle.model_line.specs.Event.{Answer}
 use Rattle.model_line.specs.Line.{Line, fresh_line, link_at, link_count}
 use Rattle.model_line.specs.Machine as lines
 use Rattle.model_line.proofs.NumberedEvents.{slot_brings_nothing}

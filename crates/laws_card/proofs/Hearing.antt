@@ -9,8 +9,8 @@ use Rattle.lapd_frame.specs.declared.services.Service.{Service}
 use Rattle.lapd_frame.specs.Grammar.{Parts}
 use Rattle.model_link.specs.Events as link
 use Rattle.model_line.specs.declared.config.Config.{Config}
-use Rattle.model_line.specs.Answer as happening
-use Rattle.model_line.specs.Answer.{Answer, refused, octet}
+use Rattle.model_line.specs.Event as line_event
+use Rattle.model_line.specs.Event.{Answer, refused, octet}
 use Rattle.model_line.specs.Line.{Line, fresh_line, link_in, terms}
 use Rattle.model_line.specs.Machine as lines
 use Rattle.model_line.specs.Sound as sound_line
@@ -57,7 +57,7 @@ octet-served c l value ranged s = record {
 }
 
 -- The same of an event that may be an octet.
-record Served (c : Config) (e : happening.Event) (before after : Line) (a : Answer) : Type 0 where
+record Served (c : Config) (e : line_event.Event) (before after : Line) (a : Answer) : Type 0 where
   by_octet : (value : ℕ) → e ≡ octet value → OctetServed c before after a value
   once : IsNotedOnce a
   heard : (contents : List ℕ) → contents_in a ≡ Some contents → IsHeard c before e a contents

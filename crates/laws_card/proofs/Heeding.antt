@@ -6,8 +6,8 @@ use Rattle.lapd_frame.specs.declared.services.Service.{Service}
 use Rattle.lapd_frame.specs.Grammar.{Parts}
 use Rattle.model_link.specs.Events.{Received}
 use Rattle.model_line.specs.declared.config.Config.{Config}
-use Rattle.model_line.specs.Answer as happening
-use Rattle.model_line.specs.Answer.{Answer, octet}
+use Rattle.model_line.specs.Event as line_event
+use Rattle.model_line.specs.Event.{Answer, octet}
 use Rattle.model_line.specs.Line.{Line, fresh_line, place_in, link_in, terms}
 use Rattle.model_line.specs.Machine as lines
 use Rattle.model_line.specs.Sound as sound_line
@@ -27,14 +27,14 @@ use Rattle.laws_card.specs.Promises.{AreHeeded}
 use Rattle.laws_card.proofs.Hearing.{no-octet}
 
 -- What a frame makes of its link, of an event that may be its octet.
-record Heeds (c : Config) (e : happening.Event) (before after : Line) (a : Answer) : Type 0 where
+record Heeds (c : Config) (e : line_event.Event) (before after : Line) (a : Answer) : Type 0 where
   frames : (value : ℕ) (service : Service) (tei place : ℕ) (parts : Parts) (octets : List ℕ) → e ≡ octet value
       → Ends c before value octets → IsFor before service tei place parts octets
       → IsHeeded (terms c service tei) parts (link_in before service place) (link_in after service place) a
   malformed : (service : Service) (tei place : ℕ) (what : Received) → BringsMalformed c before e service tei what → place_in before tei ≡ Some place
       → IsFollowed (terms c service tei) what (link_in before service place) (link_in after service place) a
 
-at-its-line : (c : Config) (e : happening.Event) (l : Line) → sound_line.IsSound c l → Heeds c e l (lines.after c e l) (lines.answer c e l)
+at-its-line : (c : Config) (e : line_event.Event) (l : Line) → sound_line.IsSound c l → Heeds c e l (lines.after c e l) (lines.answer c e l)
 at-its-line c e l s = record {
   frames = λ value service tei place parts octets is ends f.
       subst (λ e. IsHeeded (terms c service tei) parts (link_in l service place) (link_in (lines.after c e l) service place) (lines.answer c e l)) (sym is)

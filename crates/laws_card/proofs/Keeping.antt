@@ -9,8 +9,8 @@ use Rattle.model_link.specs.Link.{fresh as fresh_link}
 use Rattle.laws_link.specs.History.{Share, History, IsCounted}
 use Rattle.laws_link.proofs.Counted.{counted}
 use Rattle.model_line.specs.declared.config.Config.{Config}
-use Rattle.model_line.specs.Answer as happening
-use Rattle.model_line.specs.Answer.{Answer, refused}
+use Rattle.model_line.specs.Event as line_event
+use Rattle.model_line.specs.Event.{Answer, refused}
 use Rattle.model_line.specs.Counts.{is_pool_full}
 use Rattle.model_line.specs.Line.{Line, fresh_line, link_at, link_count}
 use Rattle.model_line.specs.Machine as lines
@@ -35,14 +35,14 @@ use Rattle.laws_card.specs.Faithful.{IsFaithfulTo, IsFaithful}
 use Rattle.laws_card.specs.Promises.{BeginsEmpty, IsKept, IsCountedIn}
 
 -- a request that finds the pool full asks for nothing that is granted
-refused-asks : (number : ℕ) (e : happening.Event) (l : Line) → asked_by number e l (refused PoolFull) ≡ []
-refused-asks number (happening.octet value) l = refl
-refused-asks number (happening.expiry timer) l = refl
-refused-asks number (happening.request r) l = refl
-refused-asks number happening.pull l = refl
+refused-asks : (number : ℕ) (e : line_event.Event) (l : Line) → asked_by number e l (refused PoolFull) ≡ []
+refused-asks number (line_event.octet value) l = refl
+refused-asks number (line_event.expiry timer) l = refl
+refused-asks number (line_event.request r) l = refl
+refused-asks number line_event.pull l = refl
 
 -- What a moment is to a link: what its share leads to, what it accepts, and what is told.
-pub record Seen (share : Share) (at : Bool) (name : LinkName) (e : happening.Event) (before after : Line) (a : Answer) : Type 0 where
+pub record Seen (share : Share) (at : Bool) (name : LinkName) (e : line_event.Event) (before after : Line) (a : Answer) : Type 0 where
   pub goes : Goes share (link_at name.number before) (link_at name.number after)
   pub asked : share.accepted ≡ cond at (asked_by name.number e before a) []
   pub told : share.empties ≡ true → (at ≡ true) × IsTold name.number e before after a

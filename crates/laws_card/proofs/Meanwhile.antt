@@ -9,7 +9,7 @@ use Rattle.lapd_frame.specs.Grammar.{Parts}
 use Rattle.model_link.specs.declared.frames.ControlFrame.{ControlFrame}
 use Rattle.laws_two_links.specs.Polls.{IsPollWhileUp, asked_of}
 use Rattle.model_line.specs.declared.config.Config.{Config}
-use Rattle.model_line.specs.Answer.{octet, pull}
+use Rattle.model_line.specs.Event.{octet, pull}
 use Rattle.model_line.specs.Line.{Line, fresh_line, link_number, link_in, terms}
 use Rattle.model_line.specs.Machine as lines
 use Rattle.model_line.specs.Pull.{begun}

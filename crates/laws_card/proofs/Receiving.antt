@@ -4,7 +4,7 @@ use Rattle.std.proofs.lemmas.Bool.{and_parts}
 use Rattle.std.proofs.lemmas.List.{get_or-set_same, get_or-set_other, get_or-replicate}
 use Rattle.std.proofs.lemmas.List.Elements.{All-head, All-tail}
 use Rattle.model_line.specs.declared.config.Config.{Config}
-use Rattle.model_line.specs.Answer as happening
+use Rattle.model_line.specs.Event as line_event
 use Rattle.model_line.specs.Line.{Line, fresh_line}
 use Rattle.model_line.specs.Machine as lines
 use Rattle.model_line.specs.Machine.{unless_refused}
@@ -33,22 +33,22 @@ pull_receives c l true None h = refl
 pull_receives c l true (Some t) h = h.received
 
 -- any event
-line_receives : (c : Config) → line.IsInRange c → (e : happening.Event) (l : Line) → line.IsSound c l → (lines.after c e l).received ≡ l.received ++ octet_of e
+line_receives : (c : Config) → line.IsInRange c → (e : line_event.Event) (l : Line) → line.IsSound c l → (lines.after c e l).received ≡ l.received ++ octet_of e
 unfolding lines.after
-line_receives c ranged (happening.octet value) l s = aim_received c (aim_of_octet c value l) (with_received value l)
-line_receives c ranged (happening.expiry timer) l s = aim_received c (aim_of_expiry timer l) l ∙ sym (append-nil l.received)
-line_receives c ranged (happening.request r) l s =
+line_receives c ranged (line_event.octet value) l s = aim_received c (aim_of_octet c value l) (with_received value l)
+line_receives c ranged (line_event.expiry timer) l s = aim_received c (aim_of_expiry timer l) l ∙ sym (append-nil l.received)
+line_receives c ranged (line_event.request r) l s =
     aim_received c (unless_refused (refusal c false r l) (aim_of_request r l)) l ∙ sym (append-nil l.received)
-line_receives c ranged happening.pull l s =
+line_receives c ranged line_event.pull l s =
     pull_receives c l (is_due l) (taken c l) (taken_sound c ranged l s) ∙ sym (append-nil l.received)
 
 -- an event that finds the pool full is no octet
-full_hears_none : (c : Config) (what : happening.Event) (l : Line) → lines.takes_slot c what l ≡ true → octet_of what ≡ []
+full_hears_none : (c : Config) (what : line_event.Event) (l : Line) → lines.takes_slot c what l ≡ true → octet_of what ≡ []
 unfolding lines.takes_slot
-full_hears_none c (happening.octet value) l takes = absurd (true≢false (sym takes))
-full_hears_none c (happening.expiry timer) l takes = refl
-full_hears_none c (happening.request r) l takes = refl
-full_hears_none c happening.pull l takes = refl
+full_hears_none c (line_event.octet value) l takes = absurd (true≢false (sym takes))
+full_hears_none c (line_event.expiry timer) l takes = refl
+full_hears_none c (line_event.request r) l takes = refl
+full_hears_none c line_event.pull l takes = refl
 
 -- An event at a card, seen by one of its lines.
 module _ (card : Card) (e : Event) (s : IsSound card) (here : IsAtLine card e) where

@@ -3,8 +3,8 @@ use Rattle.std.proofs.Common.{◌≡◌, List, [], get_or, refl, sym, subst, ari
 use Rattle.std.proofs.lemmas.List.{get_or-set_same}
 use Rattle.lapd_frame.specs.declared.refusals.Refusal.TheVariants.{PoolFull}
 use Rattle.model_line.specs.declared.config.Config.{Config}
-use Rattle.model_line.specs.Answer.{octet, expiry, request, pull, refused}
-use Rattle.model_line.specs.Answer as happening
+use Rattle.model_line.specs.Event.{octet, expiry, request, pull, refused}
+use Rattle.model_line.specs.Event as line_event
 use Rattle.model_line.specs.Line.{Line, fresh_line}
 use Rattle.model_line.specs.Machine as lines
 use Rattle.laws_line.specs.Timers.{LeavesTimers}
@@ -18,7 +18,7 @@ use Rattle.model_card.proofs.Steps.{has_lines, by_room, line_sound}
 use Rattle.laws_card.specs.Timers.{LeavesTimersIn}
 use Rattle.laws_card.specs.Promises.{TimersAreLeft}
 
-refused-leaves : (c : Config) (e : happening.Event) (l : Line) → LeavesTimers c e l l (refused PoolFull)
+refused-leaves : (c : Config) (e : line_event.Event) (l : Line) → LeavesTimers c e l l (refused PoolFull)
 refused-leaves c (octet value) l = tt
 refused-leaves c (expiry timer) l = tt
 refused-leaves c (request r) l = tt

@@ -4,8 +4,8 @@ use Rattle.std.proofs.lemmas.List.{get_or-set_same}
 use Rattle.lapd_frame.specs.declared.refusals.Refusal.TheVariants.{PoolFull}
 use Rattle.laws_link.specs.Offered.{IsOffered}
 use Rattle.model_line.specs.declared.config.Config.{Config}
-use Rattle.model_line.specs.Answer as happening
-use Rattle.model_line.specs.Answer.{Answer, refused, pull}
+use Rattle.model_line.specs.Event as line_event
+use Rattle.model_line.specs.Event.{Answer, refused, pull}
 use Rattle.model_line.specs.Line.{Line, fresh_line, link_at, link_count}
 use Rattle.model_line.specs.Machine as lines
 use Rattle.model_line.specs.Pull.{Taken, begun}
@@ -77,11 +77,11 @@ served-in card events s all number within =
     (subst (λ c. IsServed c (contents_of l) l) config now)
 
 -- Unit data, in a moment.
-refused-waits : (e : happening.Event) (l : Line) → UnitsWait e l l (refused PoolFull)
-refused-waits (happening.octet value) l = refl
-refused-waits (happening.expiry timer) l = refl
-refused-waits (happening.request r) l = sym (append-nil l.units)
-refused-waits happening.pull l = tt
+refused-waits : (e : line_event.Event) (l : Line) → UnitsWait e l l (refused PoolFull)
+refused-waits (line_event.octet value) l = refl
+refused-waits (line_event.expiry timer) l = refl
+refused-waits (line_event.request r) l = sym (append-nil l.units)
+refused-waits line_event.pull l = tt
 
 units-in : (card : Card) (e : Event) → IsSound card → IsAtLine card e → UnitsWaitIn (moment_of card e)
 units-in card e s here =
@@ -97,11 +97,11 @@ pub units-all : (card : Card) (events : List Event) → IsSound card → AreAtLi
 units-all card events s all = each_moment UnitsWaitIn units-in card events s all
 
 -- Whose turn it is, in a moment.
-refused-stays : (e : happening.Event) (l : Line) → TurnStays e l l
-refused-stays (happening.octet value) l = refl
-refused-stays (happening.expiry timer) l = refl
-refused-stays (happening.request r) l = refl
-refused-stays happening.pull l = tt
+refused-stays : (e : line_event.Event) (l : Line) → TurnStays e l l
+refused-stays (line_event.octet value) l = refl
+refused-stays (line_event.expiry timer) l = refl
+refused-stays (line_event.request r) l = refl
+refused-stays line_event.pull l = tt
 
 turn-in : (card : Card) (e : Event) → IsSound card → IsAtLine card e → TurnStaysIn (moment_of card e)
 turn-in card e s here =

@@ -7,8 +7,8 @@ use Rattle.std.proofs.lemmas.List.Elements.{All-head, All-tail}
 use Rattle.lapd_frame.specs.declared.refusals.Refusal.TheVariants.{PoolFull}
 use Rattle.lapd_frame.specs.declared.timers.Timer.{Timer}
 use Rattle.model_line.specs.declared.config.Config.{Config}
-use Rattle.model_line.specs.Answer as happening
-use Rattle.model_line.specs.Answer.{Answer, refused}
+use Rattle.model_line.specs.Event as line_event
+use Rattle.model_line.specs.Event.{Answer, refused}
 use Rattle.model_line.specs.Line.{Line, fresh_line}
 use Rattle.model_line.specs.Machine as lines
 use Rattle.laws_line.specs.Timers.{is_needed, runs_then, left_by, HaveTheirTimers}
@@ -35,12 +35,12 @@ module _ (card : Card) (e : Event) (s : IsSound card) (timely : AllHaveTheirTime
   now : get_or (set card.lines e.line own) e.line (fresh_line card.config) ≡ own
   now = get_or-set_same card.lines e.line own (fresh_line card.config) (omega (arith, s.count, here))
 
-  left-by : (what : happening.Event) → lines.takes_slot card.config what (line_at e.line card) ≡ true → (timer : Timer) (b : Bool) → left_by what timer b ≡ b
+  left-by : (what : line_event.Event) → lines.takes_slot card.config what (line_at e.line card) ≡ true → (timer : Timer) (b : Bool) → left_by what timer b ≡ b
   unfolding lines.takes_slot
-  left-by (happening.octet value) takes timer b = refl
-  left-by (happening.expiry other) takes timer b = absurd (true≢false (sym takes))
-  left-by (happening.request r) takes timer b = refl
-  left-by happening.pull takes timer b = refl
+  left-by (line_event.octet value) takes timer b = refl
+  left-by (line_event.expiry other) takes timer b = absurd (true≢false (sym takes))
+  left-by (line_event.request r) takes timer b = refl
+  left-by line_event.pull takes timer b = refl
 
   -- at the event's line
   own-line : (timer : Timer) → runs_then timer (is_needed timer (line_at e.line card)) e.what (answer e card) ≡ is_needed timer (line_at e.line (after e card))

@@ -6,8 +6,8 @@ use Rattle.std.proofs.lemmas.List.{get_or-set_same, get_or-set_other}
 use Rattle.std.proofs.lemmas.List.Elements.{All-head, All-tail}
 use Rattle.lapd_frame.specs.declared.refusals.Refusal.TheVariants.{PoolFull}
 use Rattle.model_line.specs.declared.config.Config.{Config}
-use Rattle.model_line.specs.Answer as happening
-use Rattle.model_line.specs.Answer.{Answer, refused}
+use Rattle.model_line.specs.Event as line_event
+use Rattle.model_line.specs.Event.{Answer, refused}
 use Rattle.model_line.specs.Line.{Line, fresh_line}
 use Rattle.model_line.specs.Machine as lines
 use Rattle.model_line.specs.Request.{Request}
@@ -21,19 +21,19 @@ use Rattle.model_card.proofs.CardSound.{after_is_sound}
 use Rattle.model_card.proofs.EachMoment.{moment_of}
 use Rattle.model_card.proofs.Steps.{has_lines, by_room, line_sound}
 
-module _ {X : Type 0} (seen : Line → X) (watch : X → happening.Event → Answer → X)
-    (steps : (c : Config) (e : happening.Event) (l : Line) → line.IsSound c l → watch (seen l) e (lines.answer c e l) ≡ seen (lines.after c e l))
-    (rests : (x : X) (r : Request) → watch x (happening.request r) (refused PoolFull) ≡ x) where
+module _ {X : Type 0} (seen : Line → X) (watch : X → line_event.Event → Answer → X)
+    (steps : (c : Config) (e : line_event.Event) (l : Line) → line.IsSound c l → watch (seen l) e (lines.answer c e l) ≡ seen (lines.after c e l))
+    (rests : (x : X) (r : Request) → watch x (line_event.request r) (refused PoolFull) ≡ x) where
   abbrev pub one_more : ℕ → X → Moment → X
   one_more number x m = cond (m.event.line == number) (watch x m.event.what m.answer) x
 
   module _ (card : Card) (e : Event) (s : IsSound card) (here : IsAtLine card e) where
-    full-rests : (what : happening.Event) → lines.takes_slot card.config what (line_at e.line card) ≡ true → (x : X) → watch x what (refused PoolFull) ≡ x
+    full-rests : (what : line_event.Event) → lines.takes_slot card.config what (line_at e.line card) ≡ true → (x : X) → watch x what (refused PoolFull) ≡ x
     unfolding lines.takes_slot
-    full-rests (happening.octet value) takes x = absurd (true≢false (sym takes))
-    full-rests (happening.expiry timer) takes x = absurd (true≢false (sym takes))
-    full-rests (happening.request r) takes x = rests x r
-    full-rests happening.pull takes x = absurd (true≢false (sym takes))
+    full-rests (line_event.octet value) takes x = absurd (true≢false (sym takes))
+    full-rests (line_event.expiry timer) takes x = absurd (true≢false (sym takes))
+    full-rests (line_event.request r) takes x = rests x r
+    full-rests line_event.pull takes x = absurd (true≢false (sym takes))
 
     own-line : watch (seen (line_at e.line card)) e.what (answer e card) ≡ seen (line_at e.line (after e card))
     own-line =

@@ -4,7 +4,7 @@ use Rattle.lapd_bits.specs.Sent.{idle}
 use Rattle.lapd_frame.specs.declared.services.Service.{Service}
 use Rattle.model_link.specs.declared.frames.ControlFrame.{ControlFrame}
 use Rattle.laws_two_links.specs.Polls.{SaysReceived}
-use Rattle.model_line.specs.Answer.{pull}
+use Rattle.model_line.specs.Event.{pull}
 use Rattle.model_line.specs.Line.{link_number}
 use Rattle.model_line.specs.Pull.{Taken, begun}
 use Rattle.laws_line.specs.Pulls.{HasNothing}

@@ -4,7 +4,7 @@ use Rattle.lapd_frame.specs.declared.services.Service.{Service}
 use Rattle.lapd_frame.specs.Grammar.{Parts}
 use Rattle.laws_link.specs.History as links
 use Rattle.model_link.specs.Events.{Received}
-use Rattle.model_line.specs.Answer.{octet}
+use Rattle.model_line.specs.Event.{octet}
 use Rattle.model_line.specs.Line.{place_in, link_in, terms}
 use Rattle.laws_line.specs.Frames.{IsFollowed, IsHeeded}
 use Rattle.laws_line.specs.Share.{asked_by}

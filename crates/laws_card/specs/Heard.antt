@@ -5,7 +5,7 @@ use Rattle.lapd_frame.specs.declared.addresses.Address.{Address}
 use Rattle.lapd_frame.specs.declared.services.Service.{Service}
 use Rattle.lapd_frame.specs.Grammar.{Parts}
 use Rattle.model_link.specs.Events as link
-use Rattle.model_line.specs.Answer.{octet}
+use Rattle.model_line.specs.Event.{octet}
 use Rattle.model_line.specs.Line.{link_in, terms}
 use Rattle.laws_line.specs.Heard.{Ends, EndsOverlong, EndsDropped, EndsNothing, IsFor, IsTo, IsMalformed, IsTooLong, IsOneEvent, IsNoEvent, IsDroppedFor, contents_in, due, IsNotedOnce, IsHeard}
 use Rattle.model_card.specs.Card.{line_at}

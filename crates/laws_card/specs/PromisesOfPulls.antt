@@ -6,7 +6,7 @@ use Rattle.lapd_frame.specs.Grammar.{Parts}
 use Rattle.model_link.specs.declared.frames.ControlFrame.{ControlFrame}
 use Rattle.laws_two_links.specs.Polls.{IsPollWhileUp, asked_of}
 use Rattle.model_line.specs.declared.config.Config.{Config}
-use Rattle.model_line.specs.Answer.{octet}
+use Rattle.model_line.specs.Event.{octet}
 use Rattle.model_line.specs.Line.{Line, link_number, link_count, place_at, tei_at, link_at, link_in, terms}
 use Rattle.model_line.specs.Machine as lines
 use Rattle.laws_line.specs.Heard.{Ends, IsFor}

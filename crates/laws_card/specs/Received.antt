@@ -1,11 +1,11 @@
 -- The octets that come to a line over a list of events.
 use Rattle.std.specs.Prelude.{ℕ, ◌==◌, List, [], ◌∷◌, flat_map, if◌then◌else◌}
-use Rattle.model_line.specs.Answer as happening
-use Rattle.model_line.specs.Answer.{octet, expiry, request, pull}
+use Rattle.model_line.specs.Event as line_event
+use Rattle.model_line.specs.Event.{octet, expiry, request, pull}
 use Rattle.model_card.specs.Event.{Event}
 
 -- The octet of an event that is one.
-abbrev pub octet_of : happening.Event → List ℕ
+abbrev pub octet_of : line_event.Event → List ℕ
 octet_of (octet value) = value ∷ []
 octet_of (expiry timer) = []
 octet_of (request r) = []

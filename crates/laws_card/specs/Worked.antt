@@ -7,7 +7,7 @@ use Rattle.laws_link.specs.History.{History}
 use Rattle.lapd_tei.specs.Events as teis
 use Rattle.model_line.specs.Machine as lines
 use Rattle.model_line.specs.declared.config.Config.{Config}
-use Rattle.model_line.specs.Answer.{octet, request}
+use Rattle.model_line.specs.Event.{octet, request}
 use Rattle.model_line.specs.Request.{Request, Assign, Data, Release}
 use Rattle.model_card.specs.Card.{fresh}
 use Rattle.model_card.specs.Event.{Event, at}

@@ -5,7 +5,7 @@ use Rattle.lapd_bits.specs.Bits.{low_bits}
 use Rattle.lapd_frame.specs.Reading.{reading, header_of, control_of, unnumbered_of, supervisory_of}
 use Rattle.lapd_seq.specs.Circle.{distance_of, named}
 use Rattle.lapd_tei.specs.Events as teis
-use Rattle.model_line.specs.Answer.{octet, request, pull}
+use Rattle.model_line.specs.Event.{octet, request, pull}
 use Rattle.model_line.specs.Machine as lines
 use Rattle.model_line.specs.Request.{Assign}
 use Rattle.laws_line.specs.WorkedPolled.{small, octets_before, before_poll}

@@ -6,7 +6,7 @@ use Rattle.lapd_frame.specs.Reading.{reading, header_of, control_of, unnumbered_
 use Rattle.lapd_tei.specs.Events as teis
 use Rattle.laws_line.specs.Begun.{says_begun}
 use Rattle.model_line.specs.Machine as lines
-use Rattle.model_line.specs.Answer.{pull}
+use Rattle.model_line.specs.Event.{pull}
 use Rattle.model_card.specs.Card.{fresh, line_at}
 use Rattle.model_card.specs.Event.{Event, at}
 use Rattle.model_card.specs.Run.{Moment, moments, after_all}

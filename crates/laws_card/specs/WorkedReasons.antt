@@ -9,8 +9,8 @@ use Rattle.lapd_tei.specs.declared.messages.Message.{Message}
 use Rattle.lapd_tei.specs.declared.messages.Message.TheVariants.{IdentityAssigned, IdentityDenied, IdentityCheckRequest, IdentityRemove}
 use Rattle.lapd_tei.specs.Events as teis
 use Rattle.model_line.specs.Machine as lines
-use Rattle.model_line.specs.Answer as happening
-use Rattle.model_line.specs.Answer.{octet, told, nothing}
+use Rattle.model_line.specs.Event as line_event
+use Rattle.model_line.specs.Event.{octet, told, nothing}
 use Rattle.model_line.specs.Line.{Line, fresh_line, has_tei}
 use Rattle.laws_line.specs.Causes.{AreThere}
 use Rattle.laws_line.specs.Heard.{notes_of}
@@ -57,10 +57,10 @@ reason_64 zero d few = (
 reason_64 (suc k) d few = absurd (omega (arith, few))
 
 -- A pull that noted the same would have none.
-unasked : HaveReasons usual (fresh_line usual) happening.pull (told (record nothing { notes = Assigned 64 ∷ [] })) → ⊥
+unasked : HaveReasons usual (fresh_line usual) line_event.pull (told (record nothing { notes = Assigned 64 ∷ [] })) → ⊥
 unasked reasons = no_octet (reasons zero (Assigned 64) (omega arith)).1.by
   where
-    no_octet : {value : ℕ} → happening.pull ≡ octet value → ⊥
+    no_octet : {value : ℕ} → line_event.pull ≡ octet value → ⊥
     no_octet same = cc
 
 -- Its message waits, behind none;

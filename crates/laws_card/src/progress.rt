@@ -7,7 +7,7 @@ ghost use Rattle.lapd_frame.specs.Grammar.{Parts};
 ghost use Rattle.model_link.specs.declared.frames.ControlFrame.{ControlFrame};
 ghost use Rattle.laws_two_links.specs.Polls.{IsPollWhileUp, asked_of};
 ghost use Rattle.model_line.specs.declared.config.Config.{Config};
-ghost use Rattle.model_line.specs.Answer.{octet};
+ghost use Rattle.model_line.specs.Event.{octet};
 ghost use Rattle.model_line.specs.Line.{link_number, link_in, terms};
 ghost use Rattle.model_line.specs.Machine as lines;
 ghost use Rattle.laws_line.specs.Heard.{Ends, IsFor};

@@ -15,7 +15,7 @@ use Rattle.lapd_tei.specs.declared.outcome.Change.{Change}
 use Rattle.lapd_tei.specs.declared.outcome.Change.TheVariants.{Gained, Left}
 use Rattle.lapd_tei.proofs.LawLemmas.{one_more_waits}
 use Rattle.model_line.specs.declared.config.Config.{Config}
-use Rattle.model_line.specs.Answer.{Event, octet, expiry, request, pull, Told, Answer}
+use Rattle.model_line.specs.Event.{Event, octet, expiry, request, pull, LineTold, Answer}
 use Rattle.model_line.specs.Effect.{Aim, at_none, at_link, at_management, at_units, told_of_management, of_change, of_aim}
 use Rattle.model_line.specs.Expiry.{aim_of_expiry}
 use Rattle.model_line.specs.Line.{Line, link_count, service_at, place_at, tei_at, terms, link_at}
@@ -40,7 +40,7 @@ record Meanwhile (l l' : Line) : Type 0 where
   turn : l'.turn ≡ l.turn
   few : go_first l' ≤ go_first l + 1
 
-by-change : (c : Config) (o : Option Change) (t : Told) (l : Line) → (left_of (of_change c o t l).line ≡ left_of l) × ((of_change c o t l).line.turn ≡ l.turn) × (go_first (of_change c o t l).line ≡ go_first l)
+by-change : (c : Config) (o : Option Change) (t : LineTold) (l : Line) → (left_of (of_change c o t l).line ≡ left_of l) × ((of_change c o t l).line.turn ≡ l.turn) × (go_first (of_change c o t l).line ≡ go_first l)
 by-change c None t l = (refl, refl, refl)
 by-change c (Some (Gained tei place)) t l = (refl, refl, refl)
 by-change c (Some (Left tei place)) t l = (refl, refl, refl)

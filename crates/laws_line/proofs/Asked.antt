@@ -17,7 +17,7 @@ use Rattle.laws_link.specs.Accepted.{accepted, contents_of}
 use Rattle.laws_link.specs.History.{share}
 use Rattle.lapd_tei.proofs.Tables.{not_not}
 use Rattle.model_line.specs.declared.config.Config.{Config}
-use Rattle.model_line.specs.Answer.{Event, octet, expiry, request, pull, nothing}
+use Rattle.model_line.specs.Event.{Event, octet, expiry, request, pull, nothing}
 use Rattle.model_line.specs.Effect.{Aim, at_none, at_link, at_management, at_units}
 use Rattle.model_line.specs.Expiry.{at_timer, aim_of_expiry}
 use Rattle.model_line.specs.Line.{Line, link_number, place_in, link_in, link_of, terms}

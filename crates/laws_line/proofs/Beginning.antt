@@ -9,7 +9,7 @@ use Rattle.lapd_tei.specs.Events as teis
 use Rattle.lapd_tei.specs.declared.outcome.Change.{Change}
 use Rattle.lapd_tei.specs.declared.outcome.Change.TheVariants.{Gained, Left}
 use Rattle.model_line.specs.declared.config.Config.{Config}
-use Rattle.model_line.specs.Answer.{Event, octet, expiry, request, pull, Told}
+use Rattle.model_line.specs.Event.{Event, octet, expiry, request, pull, LineTold}
 use Rattle.model_line.specs.Effect.{Aim, at_none, at_link, at_management, at_units, told_of_management, of_change, of_aim}
 use Rattle.model_line.specs.Expiry.{aim_of_expiry}
 use Rattle.model_line.specs.Line.{Line}
@@ -24,7 +24,7 @@ use Rattle.model_line.proofs.TextGoesOn.{left_is}
 use Rattle.laws_line.specs.Begun.{says_begun, BeginsFrame, BeginsNone, BeginsAs}
 
 -- No other event puts anything on the line.
-changed : (c : Config) (o : Option Change) (r : Told) (l : Line) → (of_change c o r l).line.items ≡ l.items
+changed : (c : Config) (o : Option Change) (r : LineTold) (l : Line) → (of_change c o r l).line.items ≡ l.items
 changed c None r l = refl
 changed c (Some (Gained tei place)) r l = refl
 changed c (Some (Left tei place)) r l = refl

@@ -14,7 +14,7 @@ use Rattle.lapd_tei.specs.Events as teis
 use Rattle.lapd_tei.specs.declared.outcome.Change.{Change}
 use Rattle.lapd_tei.specs.declared.outcome.Change.TheVariants.{Gained, Left}
 use Rattle.model_line.specs.declared.config.Config.{Config}
-use Rattle.model_line.specs.Answer.{Event, octet, expiry, request, pull, Told}
+use Rattle.model_line.specs.Event.{Event, octet, expiry, request, pull, LineTold}
 use Rattle.model_line.specs.Effect.{Aim, at_none, at_link, at_management, at_units, told_of_management, of_change, of_aim}
 use Rattle.model_line.specs.Expiry.{aim_of_expiry}
 use Rattle.model_line.specs.Line.{Line, fresh_line, link_count, service_at, place_at, tei_at, window, terms, link_at}
@@ -77,7 +77,7 @@ fresh-few c = let eight : length (left_of (fresh_line c)) ≡ 8 = refl in omega 
 abbrev SameText : Line → Line → Type 0
 SameText l l' = left_of l' ≡ left_of l
 
-by-change : (c : Config) (o : Option Change) (t : Told) (l : Line) → SameText l (of_change c o t l).line
+by-change : (c : Config) (o : Option Change) (t : LineTold) (l : Line) → SameText l (of_change c o t l).line
 by-change c None t l = refl
 by-change c (Some (Gained tei place)) t l = refl
 by-change c (Some (Left tei place)) t l = refl

@@ -19,7 +19,7 @@ use Rattle.lapd_tei.specs.Words as words
 use Rattle.lapd_tei.specs.declared.outcome.Change.{Change}
 use Rattle.lapd_tei.specs.declared.outcome.Change.TheVariants.{Gained, Left}
 use Rattle.model_line.specs.declared.config.Config.{Config}
-use Rattle.model_line.specs.Answer.{Event, octet, expiry, request, pull, Answer, nothing}
+use Rattle.model_line.specs.Event.{Event, octet, expiry, request, pull, Answer, nothing}
 use Rattle.model_line.specs.Effect.{Aim, at_none, at_management, told_of_management, of_change, of_aim}
 use Rattle.model_line.specs.Expiry.{at_timer}
 use Rattle.model_line.specs.Line.{Line, place_in, has_tei}

@@ -11,7 +11,7 @@ use Rattle.model_link.specs.Machine as links
 use Rattle.laws_two_links.proofs.Waiting.{nothing-to_send}
 use Rattle.lapd_tei.specs.Messages.{frame_of}
 use Rattle.model_line.specs.declared.config.Config.{Config}
-use Rattle.model_line.specs.Answer.{pull}
+use Rattle.model_line.specs.Event.{pull}
 use Rattle.model_line.specs.Counts.{one}
 use Rattle.model_line.specs.Line.{Line, link_count, service_at, place_at, tei_at, terms, terms_at, link_at}
 use Rattle.model_line.specs.Machine.{after}

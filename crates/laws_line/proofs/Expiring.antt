@@ -12,7 +12,7 @@ use Rattle.laws_link.specs.Expiries.{Expires}
 use Rattle.laws_link.proofs.Expiries.{expires}
 use Rattle.lapd_tei.proofs.Tables.{place_of-is}
 use Rattle.model_line.specs.declared.config.Config.{Config}
-use Rattle.model_line.specs.Answer.{Event, expiry, Answer, told}
+use Rattle.model_line.specs.Event.{Event, expiry, Answer, told}
 use Rattle.model_line.specs.Effect.{Aim, at_link, told_of_link, of_aim}
 use Rattle.model_line.specs.Expiry.{at_timer, aim_of_expiry}
 use Rattle.model_line.specs.Line.{Line, link_number, place_in, link_in, terms}

@@ -13,7 +13,7 @@ use Rattle.laws_link.specs.Effects.{TakesEffect}
 use Rattle.laws_link.proofs.Effects.{takes-effect}
 use Rattle.lapd_tei.proofs.Tables.{not_not, place_of-is}
 use Rattle.model_line.specs.declared.config.Config.{Config}
-use Rattle.model_line.specs.Answer.{Answer, request, told}
+use Rattle.model_line.specs.Event.{Answer, request, told}
 use Rattle.model_line.specs.Effect.{Aim, at_link, told_of_link, of_aim}
 use Rattle.model_line.specs.Line.{Line, link_number, place_in, link_in, link_of, terms}
 use Rattle.model_line.specs.Machine.{after, answer, unless_refused, unless_refused_told, of_request}
@@ -93,7 +93,7 @@ module _ (c : Config) (l : Line) (service : Service) (tei place : ℕ) (on : pla
       subst (λ (x : Link). TakesEffect t asked (link_in l service place) x (notes_of (unless_refused_told (refusal c false r l) (of_request c r l))) (lost_in (unless_refused_told (refusal c false r l) (of_request c r l)))) (sym there)
       (subst (λ (a : Answer). TakesEffect t asked (link_in l service place) next (notes_of a) (lost_in a)) (sym is) own)
 
-pub link-takes-effect : (c : Config) (e : Rattle.model_line.specs.Answer.Event) (l : Line) → IsInRange c → IsSound c l → LinkTakesEffect c e l (after c e l) (answer c e l)
+pub link-takes-effect : (c : Config) (e : Rattle.model_line.specs.Event.Event) (l : Line) → IsInRange c → IsSound c l → LinkTakesEffect c e l (after c e l) (answer c e l)
 link-takes-effect c e l ranged s service tei place asked is =
     subst (λ e. is_granted (answer c e l) ≡ true → place_in l tei ≡ Some place
     → TakesEffect (terms c service tei) asked (link_in l service place) (link_in (after c e l) service place) (notes_of (answer c e l)) (lost_in (answer c e l))) (sym is)

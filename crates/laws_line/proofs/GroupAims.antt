@@ -19,7 +19,7 @@ use Rattle.lapd_frame.specs.Services.{service_of}
 use Rattle.model_link.specs.Events as link
 use Rattle.lapd_tei.specs.Events as teis
 use Rattle.model_line.specs.declared.config.Config.{Config}
-use Rattle.model_line.specs.Answer.{Event, octet, nothing}
+use Rattle.model_line.specs.Event.{Event, octet, nothing}
 use Rattle.model_line.specs.Effect.{Aim, at_none, at_link, at_management, at_units}
 use Rattle.model_line.specs.Line.{Line, place_in}
 use Rattle.model_line.specs.Octet.{gained, management_sapi, group_tei, drop_for, at_place, to_service, addressed, message_of, aim_of_reading, unless_at_link, aim_of_long, aim_of_heard, aim_of_octet}

@@ -17,7 +17,7 @@ use Rattle.lapd_frame.proofs.Spelling.{reading-again, fault-again}
 use Rattle.model_link.specs.Events as link
 use Rattle.model_link.specs.Machine as links
 use Rattle.model_line.specs.declared.config.Config.{Config}
-use Rattle.model_line.specs.Answer.{octet, told, nothing, dropped}
+use Rattle.model_line.specs.Event.{octet, told, nothing, dropped}
 use Rattle.model_line.specs.Effect.{Aim, at_none, at_link, told_of_link, of_aim}
 use Rattle.model_line.specs.Line.{Line, place_in, link_in, terms}
 use Rattle.model_line.specs.Machine.{after, answer}

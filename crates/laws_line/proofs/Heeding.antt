@@ -23,7 +23,7 @@ use Rattle.laws_two_links.proofs.FinalRows.{event-finals}
 use Rattle.laws_two_links.proofs.Unanswered.{poll-lost, unnumbered-lost}
 use Rattle.lapd_tei.proofs.Tables.{place_of-is}
 use Rattle.model_line.specs.declared.config.Config.{Config}
-use Rattle.model_line.specs.Answer.{Event, Answer, octet}
+use Rattle.model_line.specs.Event.{Event, Answer, octet}
 use Rattle.model_line.specs.Line.{Line, link_number, place_in, link_in, terms}
 use Rattle.model_line.specs.Machine.{after, answer}
 use Rattle.model_line.specs.Sound.{IsSound}

@@ -25,7 +25,7 @@ use Rattle.lapd_tei.specs.declared.outcome.Change.{Change}
 use Rattle.lapd_tei.specs.declared.outcome.Change.TheVariants.{Gained, Left}
 use Rattle.lapd_tei.proofs.LawLemmas as tei_laws
 use Rattle.model_line.specs.declared.config.Config.{Config}
-use Rattle.model_line.specs.Answer.{Event, octet, expiry, request, pull, Told}
+use Rattle.model_line.specs.Event.{Event, octet, expiry, request, pull, LineTold}
 use Rattle.model_line.specs.Deliveries.{is_change_at}
 use Rattle.model_line.specs.Effect.{Aim, at_none, at_link, at_management, at_units, told_of_management, of_change, of_aim}
 use Rattle.model_line.specs.Line.{Line, link_number, place_at, link_at, link_in, terms, terms_at, tei_at, link_count}
@@ -111,7 +111,7 @@ module _ (c : Config) (ranged : IsInRange c) (l : Line) (s : IsSound c l) (recei
       let apart : place_at number ≢ place = λ is. true≢false (sym (eq-eqb place (place_at number) (sym is)) ∙ away) in
       stays (link_at number l) _ (begin_away l.links place number apart)
 
-  change_parts : (o : Option Change) (r : Told) (new : Places) (m : Management) → Moves l.management.places o new
+  change_parts : (o : Option Change) (r : LineTold) (new : Places) (m : Management) → Moves l.management.places o new
       → Goes (cond (is_change_at (place_at number) o) ending no_share) (link_at number l) (link_at number (of_change c o r (record now { management = m })).line)
   change_parts None r new m moves = stays (link_at number l) (link_at number l) refl
   change_parts (Some (Gained tei place)) r new m moves = place_parts place moves.within (place == place_at number) refl

@@ -18,7 +18,7 @@ use Rattle.laws_two_links.specs.Waits.{Goes, GoesWhole, after_offers}
 use Rattle.laws_two_links.proofs.Waiting.{in-turn}
 use Rattle.lapd_tei.specs.Messages as messages
 use Rattle.model_line.specs.declared.config.Config.{Config}
-use Rattle.model_line.specs.Answer.{pull}
+use Rattle.model_line.specs.Event.{pull}
 use Rattle.model_line.specs.Line.{Line, UnitData, link_count, service_at, place_at, tei_at, terms, terms_at, link_at}
 use Rattle.model_line.specs.Machine.{after}
 use Rattle.model_line.specs.Pull as pulls

@@ -14,7 +14,7 @@ use Rattle.lapd_tei.specs.Events as teis
 use Rattle.lapd_tei.specs.declared.outcome.Change.{Change}
 use Rattle.lapd_tei.specs.declared.outcome.Change.TheVariants.{Gained, Left}
 use Rattle.model_line.specs.declared.config.Config.{Config}
-use Rattle.model_line.specs.Answer.{Event, octet, expiry, request, pull, Told}
+use Rattle.model_line.specs.Event.{Event, octet, expiry, request, pull, LineTold}
 use Rattle.model_line.specs.Effect.{Aim, at_none, at_link, at_management, at_units, told_of_management, of_change, of_aim}
 use Rattle.model_line.specs.Line.{Line, UnitData, link_number, service_at, place_at, tei_at, link_at, link_in, terms, link_count}
 use Rattle.model_line.specs.Machine.{after, unless_refused}
@@ -96,7 +96,7 @@ module _ (P : Link → Type 0) (begins : P fresh) (keeps : (t : Terms) (e : link
   both_hold all a b number h = set_holds (set all a fresh) b number fresh (λ m. set_holds all a m fresh h begins) begins
 
   module _ (c : Config) (ranged : IsInRange c) (l : Line) (s : IsSound c l) (h : (number : ℕ) → P (link_at number l)) (number : ℕ) where
-    changed : (o : Option Change) (r : Told) (now : Line) → ((m : ℕ) → P (link_at m now)) → P (link_at number (of_change c o r now).line)
+    changed : (o : Option Change) (r : LineTold) (now : Line) → ((m : ℕ) → P (link_at m now)) → P (link_at number (of_change c o r now).line)
     changed None r now all = all number
     changed (Some (Gained tei place)) r now all = both_hold now.links (link_number place Call) (link_number place Packet) number all
     changed (Some (Left tei place)) r now all = both_hold now.links (link_number place Call) (link_number place Packet) number all

@@ -12,7 +12,7 @@ use Rattle.lapd_tei.specs.Table.{free_place, is_on}
 use Rattle.lapd_tei.specs.Words as words
 use Rattle.lapd_tei.proofs.Tables.{on-newcomer}
 use Rattle.model_line.specs.declared.config.Config.{Config}
-use Rattle.model_line.specs.Answer.{Event, request}
+use Rattle.model_line.specs.Event.{Event, request}
 use Rattle.model_line.specs.Effect.{at_management, told_of_management, of_change, of_aim}
 use Rattle.model_line.specs.Line.{Line, has_tei}
 use Rattle.model_line.specs.Machine.{after, answer, unless_refused}

@@ -15,7 +15,7 @@ use Rattle.laws_two_links.specs.Waits.{GoesWhole}
 use Rattle.lapd_tei.specs.declared.messages.Message.{Message}
 use Rattle.lapd_tei.specs.Messages as messages
 use Rattle.model_line.specs.declared.config.Config.{Config}
-use Rattle.model_line.specs.Answer.{pull}
+use Rattle.model_line.specs.Event.{pull}
 use Rattle.model_line.specs.Line.{Line, UnitData, link_count, place_at, tei_at, terms_at, link_at}
 use Rattle.model_line.specs.Machine.{after}
 use Rattle.model_line.specs.Pull.{Taken, with_message, with_unit, with_given_frame, link_taken, first_taken, round, taken, left_of, is_due, begun, with_item, with_due, after_pull}

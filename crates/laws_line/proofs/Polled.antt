@@ -12,7 +12,7 @@ use Rattle.laws_two_links.specs.Polls.{IsPollWhileUp, Answered, AnsweredBy, aske
 use Rattle.laws_two_links.proofs.Answering.{poll-answered, unnumbered-answered}
 use Rattle.lapd_tei.proofs.Tables.{place_of-is}
 use Rattle.model_line.specs.declared.config.Config.{Config}
-use Rattle.model_line.specs.Answer.{octet}
+use Rattle.model_line.specs.Event.{octet}
 use Rattle.model_line.specs.Line.{Line, link_number, link_count, place_at, tei_at, link_at, link_in, terms}
 use Rattle.model_line.specs.Machine.{after}
 use Rattle.model_line.specs.Sound.{IsInRange, IsSound}

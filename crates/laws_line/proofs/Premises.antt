@@ -8,7 +8,7 @@ use Rattle.lapd_frame.specs.Grammar.{Spells}
 use Rattle.lapd_seq.specs.Numbers.{seq}
 use Rattle.model_link.specs.Words.{response}
 use Rattle.laws_two_links.specs.Polls.{IsPollWhileUp}
-use Rattle.model_line.specs.Answer.{octet, request}
+use Rattle.model_line.specs.Event.{octet, request}
 use Rattle.model_line.specs.Line.{Line, fresh_line, terms}
 use Rattle.model_line.specs.Machine.{after}
 use Rattle.model_line.specs.Request.{Assign}

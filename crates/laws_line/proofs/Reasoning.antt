@@ -31,7 +31,7 @@ use Rattle.lapd_tei.specs.Rows as rows
 use Rattle.lapd_tei.specs.Table.{free_place, free_tei}
 use Rattle.lapd_tei.specs.Words.{Course, begun, no_room, lose_one, unserved, check_is, begin_check, end_check, send, leave}
 use Rattle.model_line.specs.declared.config.Config.{Config}
-use Rattle.model_line.specs.Answer.{Event, octet, expiry, request, pull, Told}
+use Rattle.model_line.specs.Event.{Event, octet, expiry, request, pull, LineTold}
 use Rattle.model_line.specs.Effect.{at_management, told_of_management, of_link, of_change, of_aim}
 use Rattle.model_line.specs.Expiry.{at_timer}
 use Rattle.model_line.specs.Line.{Line, place_in, link_in, terms}
@@ -172,7 +172,7 @@ module _ (c : Config) (l : Line) (e : Event) where
   link-noted : (t : Terms) (what : link.Event) (x : Link) → All P (links.told t what x).notes
   link-noted t what x = All-weaker (IsOwn t) P (λ n h. own t n h) (links.told t what x).notes (notes-own t what x)
 
-  change-noted : (o : Option Change) (t : Told) (at : Line) → All P t.notes → All P (of_change c o t at).told.notes
+  change-noted : (o : Option Change) (t : LineTold) (at : Line) → All P t.notes → All P (of_change c o t at).told.notes
   change-noted None t at h = h
   change-noted (Some (Gained tei place)) t at h = h
   change-noted (Some (Left tei place)) t at h =

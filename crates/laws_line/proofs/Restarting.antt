@@ -11,7 +11,7 @@ use Rattle.model_link.specs.Told.{Given}
 use Rattle.laws_link.specs.Starting as starting
 use Rattle.laws_link.proofs.Starting.{given-leaves}
 use Rattle.model_line.specs.declared.config.Config.{Config}
-use Rattle.model_line.specs.Answer.{Event, octet, expiry, request, pull}
+use Rattle.model_line.specs.Event.{Event, octet, expiry, request, pull}
 use Rattle.model_line.specs.Line.{Line, service_at, link_at, terms}
 use Rattle.model_line.specs.Machine.{after, answer}
 use Rattle.model_line.specs.Pull.{Taken, with_given_frame, orders_of, taken, is_due, with_item, after_pull}

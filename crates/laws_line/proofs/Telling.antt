@@ -11,7 +11,7 @@ use Rattle.lapd_tei.specs.Messages.{action_of}
 use Rattle.lapd_tei.specs.Table.{is_on}
 use Rattle.lapd_tei.proofs.Tables.{is_on-at}
 use Rattle.model_line.specs.declared.config.Config.{Config}
-use Rattle.model_line.specs.Answer.{Event, Answer}
+use Rattle.model_line.specs.Event.{Event, Answer}
 use Rattle.model_line.specs.Line.{Line}
 use Rattle.model_line.specs.Machine.{after, answer}
 use Rattle.model_line.specs.Request.{Request, Establish, Release, Data, Unit, Assign, Remove, Check as Checking, SetBusy, ClearBusy}

@@ -32,7 +32,7 @@ use Rattle.lapd_tei.proofs.Followed.{t201_follows, expired_t201_follows}
 use Rattle.lapd_tei.proofs.LawLemmas as tei_lemmas
 use Rattle.lapd_tei.proofs.Tables.{place_of-is}
 use Rattle.model_line.specs.declared.config.Config.{Config}
-use Rattle.model_line.specs.Answer.{Event, octet, expiry, request, pull, nothing}
+use Rattle.model_line.specs.Event.{Event, octet, expiry, request, pull, nothing}
 use Rattle.model_line.specs.Effect.{at_none, at_link, at_management, at_units, told_of_management, of_change, of_aim}
 use Rattle.model_line.specs.Expiry.{at_timer, is_running, runs_at}
 use Rattle.model_line.specs.Laws.{orders_in}

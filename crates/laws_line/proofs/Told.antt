@@ -34,7 +34,7 @@ use Rattle.lapd_tei.specs.declared.outcome.Change.TheVariants.{Gained, Left}
 use Rattle.lapd_tei.proofs.LawLemmas as tei_lemmas
 use Rattle.lapd_tei.proofs.Tables.{place_of-is}
 use Rattle.model_line.specs.declared.config.Config.{Config}
-use Rattle.model_line.specs.Answer.{Event, octet, expiry, request, pull, Told, told, nothing}
+use Rattle.model_line.specs.Event.{Event, octet, expiry, request, pull, LineTold, told, nothing}
 use Rattle.model_line.specs.Deliveries.{is_change_at}
 use Rattle.model_line.specs.Effect.{Aim, at_none, at_link, at_management, at_units, told_of_management, of_change, of_aim}
 use Rattle.model_line.specs.Expiry.{at_timer, aim_of_expiry}
@@ -131,7 +131,7 @@ module _ (c : Config) (l : Line) (s : IsSound c l) (number : ℕ) (received : Li
           })))
           (one-of (ends t e (link_in l service place)) (tells_loss (links.told t e (link_in l service place)).notes) some)
 
-  changes : (event : Event) (o : Option Change) (r : Told) (m : Management) → tei_laws.Moves l.management.places o m.places
+  changes : (event : Event) (o : Option Change) (r : LineTold) (m : Management) → tei_laws.Moves l.management.places o m.places
       → (cond (is_change_at (place_at number) o) ending no_share).empties ≡ true
       → IsTold number event l (of_change c o r (record l { received = received; management = m })).line (told (of_change c o r (record l { received = received; management = m })).told)
   changes event o r m moves some = inr (inr (λ same. moved l.management.places m.places (place_at number) o (at-it (is_change_at (place_at number) o) some) moves (places-are o ∙ same)))

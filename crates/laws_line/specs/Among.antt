@@ -1,7 +1,7 @@
 -- Pulls of a line among other events of it: octets that come in, expiries and requests.
 use Rattle.std.specs.Prelude.{◌≡◌, ℕ, ◌+◌, ◌-◌, Bool, true, false, List, [], ◌∷◌, ◌++◌, length, Some, if◌then◌else◌}
 use Rattle.model_line.specs.declared.config.Config.{Config}
-use Rattle.model_line.specs.Answer.{Event, octet, expiry, request, pull}
+use Rattle.model_line.specs.Event.{Event, octet, expiry, request, pull}
 use Rattle.model_line.specs.Line.{Line, place_at, tei_at}
 use Rattle.model_line.specs.Machine.{after}
 use Rattle.model_line.specs.Pull.{Taken, begun}

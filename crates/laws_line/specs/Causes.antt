@@ -8,7 +8,7 @@ use Rattle.lapd_frame.specs.Reading.{reading}
 use Rattle.lapd_tei.specs.Machine.{Management}
 use Rattle.lapd_tei.specs.declared.messages.Message.TheVariants.{IdentityAssigned}
 use Rattle.model_line.specs.declared.config.Config.{Config}
-use Rattle.model_line.specs.Answer.{Event, octet, expiry, request, pull, Answer}
+use Rattle.model_line.specs.Event.{Event, octet, expiry, request, pull, Answer}
 use Rattle.model_line.specs.Line.{Line, has_tei}
 use Rattle.model_line.specs.Request.{Request}
 use Rattle.laws_line.specs.Frames.{lost_in}

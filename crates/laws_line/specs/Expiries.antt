@@ -5,7 +5,7 @@ use Rattle.model_link.specs.declared.timers.LinkTimer.{LinkTimer}
 use Rattle.model_link.specs.Told.{runs}
 use Rattle.laws_link.specs.Expiries.{Expires}
 use Rattle.model_line.specs.declared.config.Config.{Config}
-use Rattle.model_line.specs.Answer.{Event, expiry, Answer}
+use Rattle.model_line.specs.Event.{Event, expiry, Answer}
 use Rattle.model_line.specs.Line.{Line, place_in, link_in, terms}
 use Rattle.laws_line.specs.Frames.{lost_in}
 use Rattle.laws_line.specs.Heard.{notes_of}

@@ -11,7 +11,7 @@ use Rattle.laws_link.specs.Following.{Follows}
 use Rattle.laws_link.specs.Owing.{Owes, IsBegunAgain}
 use Rattle.laws_link.specs.Sending.{asked_from, GoesBackTo}
 use Rattle.laws_two_links.specs.Polls.{IsPollWhileUp, Answered, AnsweredBy, asked_of, polls, finals}
-use Rattle.model_line.specs.Answer.{Answer, told, refused, pulled}
+use Rattle.model_line.specs.Event.{Answer, told, refused, pulled}
 use Rattle.laws_line.specs.Heard.{is_data_of, notes_of}
 
 -- How many control frames an answer tells as lost, and that one was, since as many waited as may.

@@ -23,7 +23,7 @@ use Rattle.model_link.specs.Notes.{is_data, is_unit}
 use Rattle.model_link.specs.Told as link_told
 use Rattle.laws_link.specs.Heard.{in_i_frame, in_ui_frame, data_due, unit_due}
 use Rattle.model_line.specs.declared.config.Config.{Config}
-use Rattle.model_line.specs.Answer.{Event, octet, Told, Answer, told, refused, pulled, nothing, dropped}
+use Rattle.model_line.specs.Event.{Event, octet, LineTold, Answer, told, refused, pulled, nothing, dropped}
 use Rattle.model_line.specs.Line.{Line, link_number, place_in, link_in, with_link, terms}
 use Rattle.model_line.specs.Octet.{with_received}
 
@@ -77,8 +77,8 @@ IsTooLong address head link.overlong = long_reading User head ≡ Ok (long.Infor
 IsTooLong address head (link.frame parts) = ⊥
 
 -- An answer says what a link tells: its notes, the contents of an I-frame or of a UI, its orders, and what it loses.
-pub record Says (t : link_told.Told) (answer : Answer) : Type 0 where
-  pub own : Told
+pub record Says (t : link_told.LinkTold) (answer : Answer) : Type 0 where
+  pub own : LineTold
   pub is : answer ≡ told own
   pub notes : own.notes ≡ t.notes
   pub contents : own.contents ≡ option_or t.delivered t.unit

@@ -6,7 +6,7 @@ use Rattle.lapd_frame.specs.declared.notes.Note.TheVariants.{EstablishIndication
 use Rattle.lapd_frame.specs.declared.services.Service.{Service}
 use Rattle.lapd_frame.specs.Services.{same_service}
 use Rattle.model_link.specs.Known.{is_up}
-use Rattle.model_line.specs.Answer.{Event, octet, expiry, request, pull, Answer}
+use Rattle.model_line.specs.Event.{Event, octet, expiry, request, pull, Answer}
 use Rattle.model_line.specs.Laws.{notes_in}
 use Rattle.model_line.specs.Line.{Line, place_in, link_in}
 use Rattle.model_line.specs.Request as requests

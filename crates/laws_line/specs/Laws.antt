@@ -7,7 +7,7 @@ use Rattle.lapd_frame.specs.declared.timers.Timer.{Timer}
 use Rattle.lapd_frame.specs.Grammar.{Parts}
 use Rattle.model_link.specs.Events as link
 use Rattle.model_line.specs.declared.config.Config.{Config}
-use Rattle.model_line.specs.Answer.{Event, octet}
+use Rattle.model_line.specs.Event.{Event, octet}
 use Rattle.model_line.specs.Line.{Line, fresh_line, link_count, place_in, link_in, terms, has_tei}
 use Rattle.model_line.specs.Machine.{after, answer}
 use Rattle.model_line.specs.Sound.{IsInRange, IsSound}

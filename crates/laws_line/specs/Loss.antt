@@ -5,7 +5,7 @@ use Rattle.lapd_frame.specs.declared.notes.Note.{Note}
 use Rattle.lapd_frame.specs.declared.notes.Note.TheVariants as notes
 use Rattle.lapd_frame.specs.declared.services.Service.{Service}
 use Rattle.lapd_frame.specs.Services.{same_service}
-use Rattle.model_line.specs.Answer.{Event, request, Answer, told, refused, pulled}
+use Rattle.model_line.specs.Event.{Event, request, Answer, told, refused, pulled}
 use Rattle.model_line.specs.Line.{Line, service_at, place_at, tei_at}
 use Rattle.model_line.specs.Request.{Release}
 use Rattle.laws_line.specs.Share.{is_of, is_granted}

@@ -8,7 +8,7 @@ use Rattle.model_link.specs.Events as link
 use Rattle.laws_link.specs.States.{as_heard}
 use Rattle.laws_link.specs.Telling.{told_by, told_cleared}
 use Rattle.model_line.specs.declared.config.Config.{Config}
-use Rattle.model_line.specs.Answer.{Event, octet, expiry, request, pull, Answer}
+use Rattle.model_line.specs.Event.{Event, octet, expiry, request, pull, Answer}
 use Rattle.model_line.specs.Line.{Line, tei_at, link_in, terms}
 use Rattle.laws_line.specs.Heard.{notes_of}
 use Rattle.laws_line.specs.Steady.{IsBy}

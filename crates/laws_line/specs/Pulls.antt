@@ -20,7 +20,7 @@ use Rattle.lapd_tei.specs.Messages.{frame_of}
 use Rattle.model_line.specs.declared.config.Config.{Config}
 use Rattle.model_line.specs.Line.{Line, UnitData, link_count, service_at, place_at, tei_at, terms, link_at}
 use Rattle.model_line.specs.Machine.{after}
-use Rattle.model_line.specs.Answer.{Event, octet, expiry, request, pull, Answer}
+use Rattle.model_line.specs.Event.{Event, octet, expiry, request, pull, Answer}
 use Rattle.model_line.specs.Request.{Request, Establish, Release, Data, Assign, Remove, Check, SetBusy, ClearBusy}
 use Rattle.laws_line.specs.Share.{is_granted}
 use Rattle.model_line.specs.Pull.{Taken, begun}

@@ -4,7 +4,7 @@ use Rattle.lapd_frame.specs.declared.notes.Note.{Note}
 use Rattle.lapd_frame.specs.declared.notes.Note.TheVariants.{EstablishIndication, EstablishConfirm, ReleaseIndication, ReleaseConfirm, Data, Unit as UnitData, Error, Assigned, Removed, Doubled, Xid}
 use Rattle.lapd_frame.specs.declared.timers.Timer.TheVariants.{T201}
 use Rattle.model_line.specs.declared.config.Config.{Config}
-use Rattle.model_line.specs.Answer.{Event, expiry, Answer}
+use Rattle.model_line.specs.Event.{Event, expiry, Answer}
 use Rattle.model_line.specs.Line.{Line}
 use Rattle.laws_line.specs.Causes.{Hears}
 use Rattle.laws_line.specs.Heard.{notes_of}

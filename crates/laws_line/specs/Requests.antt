@@ -5,7 +5,7 @@ use Rattle.model_link.specs.Events as link
 use Rattle.lapd_tei.specs.declared.messages.Message.TheVariants.{IdentityRemove, IdentityCheckRequest}
 use Rattle.laws_link.specs.Effects.{TakesEffect}
 use Rattle.model_line.specs.declared.config.Config.{Config}
-use Rattle.model_line.specs.Answer.{Event, request, Answer}
+use Rattle.model_line.specs.Event.{Event, request, Answer}
 use Rattle.model_line.specs.Line.{Line, has_tei, place_in, link_in, terms}
 use Rattle.model_line.specs.Request.{Request, Establish, Release, Data, Assign, Remove, Check, SetBusy, ClearBusy}
 use Rattle.laws_line.specs.Frames.{lost_in}

@@ -6,7 +6,7 @@ use Rattle.laws_link.specs.History as links
 use Rattle.laws_link.specs.History.{Share, share}
 use Rattle.lapd_tei.specs.Events as teis
 use Rattle.model_line.specs.declared.config.Config.{Config}
-use Rattle.model_line.specs.Answer.{Event, octet, expiry, request, pull, Answer, told, refused, pulled}
+use Rattle.model_line.specs.Event.{Event, octet, expiry, request, pull, Answer, told, refused, pulled}
 use Rattle.model_line.specs.Deliveries.{is_change_at}
 use Rattle.model_line.specs.Effect.{Aim, at_none, at_link, at_management, at_units}
 use Rattle.model_line.specs.Line.{Line, link_number, place_at, place_in, terms, link_in, link_at}

@@ -21,7 +21,7 @@ use Rattle.laws_link.specs.Following.{Follows}
 use Rattle.laws_link.specs.Steady.{MovesSent, MovesBusy, MayLose}
 use Rattle.laws_two_links.specs.Polls.{polls, finals}
 use Rattle.model_line.specs.declared.config.Config.{Config}
-use Rattle.model_line.specs.Answer.{Event, octet, expiry, request, pull, Answer}
+use Rattle.model_line.specs.Event.{Event, octet, expiry, request, pull, Answer}
 use Rattle.model_line.specs.Deliveries as lines
 use Rattle.model_line.specs.Line.{Line, service_at, place_at, tei_at, terms, link_at}
 use Rattle.laws_line.specs.Frames.{lost_in}

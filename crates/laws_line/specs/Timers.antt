@@ -13,7 +13,7 @@ use Rattle.model_link.specs.Told.{runs}
 use Rattle.laws_link.specs.Starting.{StartsT200}
 use Rattle.laws_two_links.specs.Needed.{needed, HasItsTimer}
 use Rattle.model_line.specs.declared.config.Config.{Config}
-use Rattle.model_line.specs.Answer.{Event, octet, expiry, request, pull, Answer}
+use Rattle.model_line.specs.Event.{Event, octet, expiry, request, pull, Answer}
 use Rattle.model_line.specs.Laws.{orders_in}
 use Rattle.model_line.specs.Line.{Line, service_at, place_at, tei_at, place_in, link_in, link_at, terms}
 

@@ -3,7 +3,7 @@ use Rattle.std.specs.Prelude.{◌≡◌, ℕ, true, false, List, [], ◌∷◌, 
 use Rattle.lapd_frame.specs.declared.services.Service.TheVariants.{Call, Packet}
 use Rattle.lapd_frame.specs.Reading.{reading, header_of, control_of, unnumbered_of}
 use Rattle.lapd_tei.specs.Events as teis
-use Rattle.model_line.specs.Answer.{request, told, nothing, refused}
+use Rattle.model_line.specs.Event.{request, told, nothing, refused}
 use Rattle.lapd_frame.specs.declared.refusals.Refusal.TheVariants.{PoolFull}
 use Rattle.lapd_bits.specs.Stream as stream
 use Rattle.model_line.specs.declared.config.Config.{Config}

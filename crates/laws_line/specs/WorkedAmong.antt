@@ -6,7 +6,7 @@ use Rattle.lapd_frame.specs.Reading.{reading, header_of, control_of, unnumbered_
 use Rattle.lapd_seq.specs.Numbers.{seq}
 use Rattle.lapd_seq.specs.Circle.{distance_of, named}
 use Rattle.lapd_tei.specs.Events as teis
-use Rattle.model_line.specs.Answer.{Event, octet, request, pull}
+use Rattle.model_line.specs.Event.{Event, octet, request, pull}
 use Rattle.model_line.specs.Machine.{after}
 use Rattle.model_line.specs.Request
 use Rattle.laws_line.specs.Among.{pulls_in, come_first}

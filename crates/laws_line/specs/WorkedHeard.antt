@@ -10,7 +10,7 @@ use Rattle.lapd_frame.specs.Reading.{reading, header_of, control_of, unnumbered_
 use Rattle.lapd_seq.specs.Numbers.{seq}
 use Rattle.lapd_seq.specs.Circle.{distance_of, named}
 use Rattle.lapd_tei.specs.Events as teis
-use Rattle.model_line.specs.Answer.{Answer, octet, told, dropped}
+use Rattle.model_line.specs.Event.{Answer, octet, told, dropped}
 use Rattle.model_line.specs.Line.{Line, link_in, state_in, terms}
 use Rattle.model_line.specs.Machine.{after, answer}
 use Rattle.laws_line.specs.Heard.{Ends, EndsDropped, EndsNothing, contents_in, due, is_data_of, is_unit_of, notes_of, IsNotedOnce}

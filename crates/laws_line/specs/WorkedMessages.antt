@@ -8,7 +8,7 @@ use Rattle.lapd_tei.specs.declared.messages.Message.{Message}
 use Rattle.lapd_tei.specs.declared.messages.Message.TheVariants.{IdentityAssigned, IdentityDenied, IdentityCheckRequest, IdentityRemove}
 use Rattle.lapd_tei.specs.Events as teis
 use Rattle.model_line.specs.declared.config.Config.{Config}
-use Rattle.model_line.specs.Answer.{octet, expiry}
+use Rattle.model_line.specs.Event.{octet, expiry}
 use Rattle.model_line.specs.Line.{Line, fresh_line, has_tei}
 use Rattle.model_line.specs.Machine.{after, answer}
 use Rattle.model_line.specs.Request.{Assign, Check}

@@ -11,7 +11,7 @@ use Rattle.lapd_seq.specs.Circle.{distance_of, named}
 use Rattle.lapd_tei.specs.Events as teis
 use Rattle.model_link.specs.Events as link
 use Rattle.laws_link.specs.Telling.{told_by}
-use Rattle.model_line.specs.Answer.{octet, expiry, request}
+use Rattle.model_line.specs.Event.{octet, expiry, request}
 use Rattle.model_line.specs.Line.{Line, fresh_line, link_in, terms}
 use Rattle.model_line.specs.Machine.{after, answer}
 use Rattle.model_line.specs.Request.{Assign, Check, Remove}

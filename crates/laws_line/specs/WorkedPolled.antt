@@ -12,7 +12,7 @@ use Rattle.lapd_tei.specs.Events as teis
 use Rattle.model_link.specs.Link.{Link, is_multiple_frame}
 use Rattle.model_link.specs.Words.{response}
 use Rattle.model_line.specs.declared.config.Config.{Config}
-use Rattle.model_line.specs.Answer.{octet, request}
+use Rattle.model_line.specs.Event.{octet, request}
 use Rattle.model_line.specs.Config.{first_fault}
 use Rattle.model_line.specs.Line.{Line, fresh_line, place_in, tei_at, link_in}
 use Rattle.model_line.specs.Machine.{after}

@@ -8,7 +8,7 @@ use Rattle.lapd_frame.specs.declared.timers.Timer.TheVariants.{T200, T203}
 use Rattle.lapd_frame.specs.Reading.{reading, header_of, control_of, unnumbered_of}
 use Rattle.lapd_seq.specs.Numbers.{seq}
 use Rattle.lapd_tei.specs.Events as teis
-use Rattle.model_line.specs.Answer.{pull}
+use Rattle.model_line.specs.Event.{pull}
 use Rattle.model_line.specs.Laws.{orders_in}
 use Rattle.model_line.specs.Line.{Line, fresh_line}
 use Rattle.model_line.specs.Machine.{of_request, after, answer}

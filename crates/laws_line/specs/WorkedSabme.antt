@@ -8,7 +8,7 @@ use Rattle.lapd_seq.specs.Numbers.{seq}
 use Rattle.lapd_seq.specs.Circle.{distance_of, named}
 use Rattle.lapd_tei.specs.Events as teis
 use Rattle.laws_two_links.specs.Polls.{asked_of}
-use Rattle.model_line.specs.Answer.{octet, request}
+use Rattle.model_line.specs.Event.{octet, request}
 use Rattle.model_line.specs.Line.{Line, fresh_line, place_in}
 use Rattle.model_line.specs.Machine.{after}
 use Rattle.model_line.specs.Request.{Assign}

@@ -28,7 +28,5 @@ pub use laws::{
 };
 pub use management::messages_have_causes;
 pub use notes::{begun_is_true, notes_tell, nothing_else_is_noted};
-pub use progress::{
-    pulls_come_to_an_end, what_waits_is_begun, what_waits_is_begun_meanwhile,
-};
+pub use progress::{pulls_come_to_an_end, what_waits_is_begun, what_waits_is_begun_meanwhile};
 pub use timers::{pulls_leave_timers, timers_follow};

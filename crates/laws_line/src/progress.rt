@@ -7,7 +7,7 @@ ghost use Rattle.lapd_frame.specs.Grammar.{Parts};
 ghost use Rattle.model_link.specs.declared.frames.ControlFrame.{ControlFrame};
 ghost use Rattle.laws_two_links.specs.Polls.{IsPollWhileUp, asked_of};
 ghost use Rattle.model_line.specs.declared.config.Config.{Config};
-ghost use Rattle.model_line.specs.Answer.{Event, octet};
+ghost use Rattle.model_line.specs.Event.{Event, octet};
 ghost use Rattle.model_line.specs.Line.{Line, fresh_line, link_number, link_count, place_at, tei_at, link_at, link_in, terms};
 ghost use Rattle.model_line.specs.Machine.{after};
 ghost use Rattle.model_line.specs.Sound.{IsInRange, IsSound};

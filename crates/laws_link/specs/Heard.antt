@@ -6,7 +6,7 @@ use Rattle.model_link.specs.declared.terms.Terms.{Terms}
 use Rattle.model_link.specs.Deliveries.{Arrived, eligible}
 use Rattle.model_link.specs.Link.{Link}
 use Rattle.model_link.specs.Notes.{is_data, is_unit}
-use Rattle.model_link.specs.Told.{Told}
+use Rattle.model_link.specs.Told.{LinkTold}
 use Rattle.model_link.specs.Events.{frame, undefined, wrong_size, overlong, Event, received, expired, requested, offer, cleared}
 
 -- The information of an I-frame, and of a UI frame.
@@ -74,6 +74,6 @@ abbrev pub data_due : Terms → Event → Link → Option (List ℕ)
 data_due t e l = in_sequence l.r (eligible t e l)
 
 -- Contents that are delivered have one note of data, and unit data that is told has one; there is no other.
-pub record IsNotedOnce (t : Told) : Type 0 where
+pub record IsNotedOnce (t : LinkTold) : Type 0 where
   pub contents : count_by is_data t.notes ≡ length (option_to_list t.delivered)
   pub unit : count_by is_unit t.notes ≡ length (option_to_list t.unit)

@@ -11,7 +11,7 @@ use Rattle.model_link.specs.Link.{frame_of}
 use Rattle.model_link.specs.Words.{command, response}
 use Rattle.model_link.specs.Events.{Data, SetBusy, frame, Event, received, requested, offer}
 use Rattle.model_link.specs.Machine.{after_all}
-use Rattle.model_link.specs.Worked.{usual, up}
+use Rattle.model_link.specs.Samples.{usual, up}
 use Rattle.model_link.specs.TwoEnds.{Ends, asks, sends, receives, Doing, at_near, at_far, doing_all, StayUp}
 use Rattle.model_link.specs.WorkedEnds.{both}
 use Rattle.model_link.proofs.Premises.{begins}

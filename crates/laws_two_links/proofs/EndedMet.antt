@@ -9,7 +9,7 @@ use Rattle.model_link.specs.Link.{frame_of}
 use Rattle.model_link.specs.Words.{response}
 use Rattle.model_link.specs.Events.{Data, SetBusy, frame, received, requested, offer}
 use Rattle.model_link.specs.Machine.{after_all}
-use Rattle.model_link.specs.Worked.{usual, up}
+use Rattle.model_link.specs.Samples.{usual, up}
 use Rattle.model_link.specs.TwoEnds.{doing_all}
 use Rattle.model_link.proofs.Premises.{begins}
 use Rattle.model_link.proofs.SoundEvents.{sound-all}

@@ -5,8 +5,8 @@ use Rattle.std.specs.Option.{option_map_or}
 use Rattle.std.proofs.lemmas.Bool.{false≢true}
 use Rattle.lapd_bits.specs.Stream as stream
 use Rattle.lapd_frame.specs.declared.timers.Timer.{Timer}
-use Rattle.model_line.specs.Answer as happening
-use Rattle.model_line.specs.Answer.{octet, expiry, request, pull}
+use Rattle.model_line.specs.Event as line_event
+use Rattle.model_line.specs.Event.{octet, expiry, request, pull}
 use Rattle.model_line.specs.Counts as line
 use Rattle.model_line.specs.declared.config.Config.{Config}
 use Rattle.model_line.specs.Line.{Line}
@@ -87,7 +87,7 @@ pulls card number s within =
     (omega (arith, falls.0, sums), omega (arith, falls.1, sums)))
 
 -- any event
-any_event : (card : Card) (number : ℕ) (what : happening.Event) → IsSound card → number < card.config.lines → RisesBy number what card
+any_event : (card : Card) (number : ℕ) (what : line_event.Event) → IsSound card → number < card.config.lines → RisesBy number what card
 any_event card number (octet value) s within = octets card number value s within
 any_event card number (expiry timer) s within = expiries card number timer s within
 any_event card number (request r) s within = requests card number r s within

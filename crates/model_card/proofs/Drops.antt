@@ -2,7 +2,7 @@
 use Rattle.std.proofs.Common.{◌≡◌, ℕ, ◌<◌, Bool, true, false, Option, Some, None, IsSome, ap, sym, ◌∙◌, subst, arith}
 use Rattle.std.proofs.lemmas.Option.{none-some}
 use Rattle.lapd_bits.specs.declared.heard.Cause.{Cause}
-use Rattle.model_line.specs.Answer.{octet, told, dropped}
+use Rattle.model_line.specs.Event.{octet, told, dropped}
 use Rattle.model_line.specs.Counts as line
 use Rattle.model_line.specs.Laws.{cause_in}
 use Rattle.model_line.specs.Line.{Line}

@@ -5,7 +5,7 @@ use Rattle.std.proofs.lemmas.Bool.{leb-false, lt-leb, and_parts, true≢false, e
 use Rattle.std.proofs.lemmas.List.{get_or-set_same, get_or-set_other, get_or-replicate}
 use Rattle.std.proofs.lemmas.List.Sums.{get_or-le-sum_by, sum_by-set}
 use Rattle.lapd_frame.specs.declared.refusals.Refusal.TheVariants.{PoolFull}
-use Rattle.model_line.specs.Answer.{Answer, refused}
+use Rattle.model_line.specs.Event.{Answer, refused}
 use Rattle.model_line.specs.Counts.{is_pool_full}
 use Rattle.model_line.specs.Line.{Line, fresh_line}
 use Rattle.model_line.specs.Machine as lines

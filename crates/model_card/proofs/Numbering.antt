@@ -9,7 +9,7 @@ use Rattle.model_link.specs.Link.{Link}
 use Rattle.model_link.specs.Link.{fresh as fresh_link}
 use Rattle.model_link.proofs.Delivering.{delivery, counted_on}
 use Rattle.model_line.specs.declared.config.Config.{Config}
-use Rattle.model_line.specs.Answer.{Answer, refused}
+use Rattle.model_line.specs.Event.{Answer, refused}
 use Rattle.model_line.specs.Deliveries as line
 use Rattle.model_line.specs.Line.{Line, fresh_line, link_at, link_count}
 use Rattle.model_line.specs.Machine as lines

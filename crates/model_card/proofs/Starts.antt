@@ -1,7 +1,7 @@
 -- An expiry at a card starts at most one timer.
 use Rattle.std.proofs.Common.{ℕ, ◌≤◌}
 use Rattle.lapd_frame.specs.declared.timers.Timer.{Timer}
-use Rattle.model_line.specs.Answer.{expiry}
+use Rattle.model_line.specs.Event.{expiry}
 use Rattle.model_line.specs.Laws.{orders_in}
 use Rattle.model_link.specs.Told.{starts}
 use Rattle.model_line.specs.Machine as lines

@@ -9,7 +9,7 @@ use Rattle.lapd_tei.specs.declared.outcome.Change.{Change}
 use Rattle.lapd_tei.specs.declared.outcome.Change.TheVariants.{Gained, Left}
 use Rattle.lapd_tei.specs.Events as teis
 use Rattle.model_line.specs.declared.config.Config.{Config}
-use Rattle.model_line.specs.Answer.{Told, Event as LineEvent, octet, expiry, request, pull}
+use Rattle.model_line.specs.Event.{LineTold, Event as LineEvent, octet, expiry, request, pull}
 use Rattle.model_line.specs.Line.{Line, fresh_line}
 use Rattle.model_line.specs.Machine as lines
 use Rattle.model_line.specs.Machine.{unless_refused, unless_refused_told}
@@ -58,7 +58,7 @@ adds_both {a} {b} {c} {os} {ps} {fs} {gs} x y = record {
 }
 
 -- What an event is to the parts of a line leaves its items.
-changed_adds : (c : Config) (o : Option Change) (t : Told) (l : Line) → Adds l (of_change c o t l).line [] []
+changed_adds : (c : Config) (o : Option Change) (t : LineTold) (l : Line) → Adds l (of_change c o t l).line [] []
 changed_adds c None t l = adds_nothing l l refl refl
 changed_adds c (Some (Gained tei place)) t l = adds_nothing l _ refl refl
 changed_adds c (Some (Left tei place)) t l = adds_nothing l _ refl refl

@@ -1,8 +1,8 @@
 -- By how much each event lets rise what may be sent. The window k is the greater of both services.
 use Rattle.std.specs.Prelude.{◌≡◌, ℕ, ◌+◌, ◌*◌, ◌≤◌, List, All}
 use Rattle.lapd_frame.specs.declared.timers.Timer.{Timer}
-use Rattle.model_line.specs.Answer as happening
-use Rattle.model_line.specs.Answer.{octet, expiry, request, pull}
+use Rattle.model_line.specs.Event as line_event
+use Rattle.model_line.specs.Event.{octet, expiry, request, pull}
 use Rattle.model_line.specs.Counts.{one, hears, is_begun, is_accepted, rejects}
 use Rattle.model_line.specs.Expiry.{is_running}
 use Rattle.model_line.specs.Request.{Request}
@@ -42,7 +42,7 @@ FallsByPull number m =
     (begun + may_send (after e m) ≤ may_send m) × (may_send m ≤ may_send (after e m) + 2 * begun)
 
 -- Any of them, as a moment of a run; and every moment of a run.
-abbrev pub RisesBy : ℕ → happening.Event → Card → Type 0
+abbrev pub RisesBy : ℕ → line_event.Event → Card → Type 0
 RisesBy number (octet value) m = RisesByOctet number value m
 RisesBy number (expiry timer) m = RisesByExpiry number timer m
 RisesBy number (request r) m = RisesByRequest number r m

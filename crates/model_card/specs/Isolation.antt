@@ -1,6 +1,6 @@
 -- What a card does at one line, beside what happens at the others.
 use Rattle.std.specs.Prelude.{ℕ, ◌==◌, Bool, ◌&&◌, not, List, map, filter}
-use Rattle.model_line.specs.Answer.{Answer}
+use Rattle.model_line.specs.Event.{Answer}
 use Rattle.model_line.specs.Counts.{is_pool_full}
 use Rattle.model_card.specs.Event.{Event}
 use Rattle.model_card.specs.Run.{Moment}

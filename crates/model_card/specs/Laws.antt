@@ -3,7 +3,7 @@ use Rattle.std.specs.Prelude.{◌≡◌, ◌↔◌, ℕ, ◌+◌, ◌≤◌, ◌
 use Rattle.lapd_frame.specs.declared.refusals.Refusal.{Refusal}
 use Rattle.lapd_frame.specs.declared.timers.Timer.{Timer}
 use Rattle.model_line.specs.declared.config.Config.{Config}
-use Rattle.model_line.specs.Answer.{Answer, request, refused}
+use Rattle.model_line.specs.Event.{Answer, request, refused}
 use Rattle.model_line.specs.Request.{Request}
 use Rattle.model_line.specs.Refusal.{refusal}
 use Rattle.model_line.specs.Sound.{IsInRange}

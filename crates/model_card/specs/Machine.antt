@@ -1,7 +1,7 @@
 -- The machine of a card: what each event makes of it, and what it answers.
 use Rattle.std.specs.Prelude.{ℕ, Bool, ◌&&◌, List, set, if◌then◌else◌}
 use Rattle.lapd_frame.specs.declared.refusals.Refusal.TheVariants.{PoolFull}
-use Rattle.model_line.specs.Answer.{Answer, refused}
+use Rattle.model_line.specs.Event.{Answer, refused}
 use Rattle.model_line.specs.Line.{Line}
 use Rattle.model_line.specs.Machine as lines
 use Rattle.model_card.specs.Event.{Event}

@@ -2,7 +2,7 @@
 use Rattle.std.specs.Prelude.{◌≡◌, ℕ, ◌==◌, List, [], ◌∷◌, ◌++◌, flat_map, option_map, option_to_list, if◌then◌else◌}
 use Rattle.lapd_bits.specs.Sent.{Item, idle, frame}
 use Rattle.model_line.specs.declared.config.Config.{Config}
-use Rattle.model_line.specs.Answer.{Event, octet, expiry, request, pull, Answer, told, refused, pulled}
+use Rattle.model_line.specs.Event.{Event, octet, expiry, request, pull, Answer, told, refused, pulled}
 use Rattle.model_line.specs.Line.{Line}
 use Rattle.model_line.specs.Pull.{Taken, begun}
 use Rattle.model_line.specs.Sound.{IsTextOf}

@@ -1,6 +1,6 @@
 -- Whole lists of events.
 use Rattle.std.specs.Prelude.{ℕ, ◌<◌, List, [], ◌∷◌, ◌++◌, fold, All}
-use Rattle.model_line.specs.Answer.{Answer}
+use Rattle.model_line.specs.Event.{Answer}
 use Rattle.model_card.specs.Event.{Event}
 use Rattle.model_card.specs.Card.{Card}
 use Rattle.model_card.specs.Machine.{after, answer}

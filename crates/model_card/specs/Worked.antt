@@ -8,7 +8,7 @@ use Rattle.lapd_tei.specs.Events as teis
 use Rattle.model_line.specs.declared.config.Config.{Config}
 use Rattle.model_line.specs.declared.config.Field.TheVariants as field
 use Rattle.model_line.specs.Config.{first_fault}
-use Rattle.model_line.specs.Answer.{Answer, octet, request, pull, told, refused, pulled, nothing}
+use Rattle.model_line.specs.Event.{Answer, octet, request, pull, told, refused, pulled, nothing}
 use Rattle.model_line.specs.Request.{Request, Assign, Data, Unit}
 use Rattle.model_line.specs.Machine as lines
 use Rattle.model_card.specs.Event.{Event, at}

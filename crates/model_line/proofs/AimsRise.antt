@@ -24,7 +24,7 @@ use Rattle.lapd_tei.specs.declared.outcome.Change.TheVariants.{Gained, Left}
 use Rattle.lapd_tei.proofs.LawLemmas as tei_lemmas
 use Rattle.lapd_tei.proofs.Tables.{at-within}
 use Rattle.model_line.specs.declared.config.Config.{Config}
-use Rattle.model_line.specs.Answer.{Told}
+use Rattle.model_line.specs.Event.{LineTold}
 use Rattle.model_line.specs.Counts.{may_send, may_send_at_link}
 use Rattle.model_line.specs.Line.{Line, fresh_line, link_number, link_count, service_at, link_at, link_in, terms, terms_at}
 use Rattle.model_line.specs.Effect.{Aim, at_none, at_link, at_management, at_units, of_link, of_change, of_management, of_aim}
@@ -90,7 +90,7 @@ module _ (c : Config) (ranged : IsInRange c) where
       let second = one_changed c (set all call fresh) packet fresh (length-set all call fresh ∙ size) (number_within place c.terminals Packet within) in
       omega (arith, first, second)
 
-  change_rises : (l : Line) (m : Management) (new : Places) (change : Option Change) (told : Told) → IsSound c l
+  change_rises : (l : Line) (m : Management) (new : Places) (change : Option Change) (told : LineTold) → IsSound c l
       → tei.may_send m ≤ tei.may_send l.management + 1 → Moves l.management.places change new
       → may_send c (of_change c change told (record l { management = m })).line ≤ may_send c l + 1
   change_rises l m new None told s more moves = omega (arith, more)

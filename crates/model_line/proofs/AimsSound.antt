@@ -13,7 +13,7 @@ use Rattle.lapd_tei.specs.declared.outcome.Change.{Change}
 use Rattle.lapd_tei.specs.declared.outcome.Change.TheVariants.{Gained, Left}
 use Rattle.lapd_tei.proofs.LawLemmas as tei_laws_lemmas
 use Rattle.model_line.specs.declared.config.Config.{Config}
-use Rattle.model_line.specs.Answer.{Told}
+use Rattle.model_line.specs.Event.{LineTold}
 use Rattle.model_line.specs.Line.{Line, link_at, place_at}
 use Rattle.model_line.specs.Effect.{Aim, at_none, at_link, at_management, at_units, of_change, of_management, of_aim}
 use Rattle.model_line.specs.Sound.{IsInRange, IsSoundAt, IsSound, IsUnitData}
@@ -29,7 +29,7 @@ IsProper c l (at_units unit) = IsUnitData c unit × (length l.units < c.unit_que
 
 module _ (c : Config) (ranged : IsInRange c) where
   -- the links after a change of the table
-  links_moved : (l : Line) (new : Places) (change : Option Change) (m : Management) (told : Told) → IsSound c l → tei.IsSound m
+  links_moved : (l : Line) (new : Places) (change : Option Change) (m : Management) (told : LineTold) → IsSound c l → tei.IsSound m
       → m.places ≡ new → Moves l.management.places change new → IsSound c (of_change c change told (record l { management = m })).line
   links_moved l new None m told s ms is moves = record {
     management = ms;

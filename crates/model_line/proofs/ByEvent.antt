@@ -4,7 +4,7 @@ use Rattle.std.specs.Option.{option_map_or}
 use Rattle.std.proofs.lemmas.Bool.{false≢true}
 use Rattle.std.specs.Prelude.{count_by}
 use Rattle.model_line.specs.declared.config.Config.{Config}
-use Rattle.model_line.specs.Answer.{Event, octet, expiry, request, pull}
+use Rattle.model_line.specs.Event.{Event, octet, expiry, request, pull}
 use Rattle.model_line.specs.Counts.{one, is_frame, hears}
 use Rattle.model_line.specs.Expiry.{aim_of_expiry}
 use Rattle.model_line.specs.Laws.{Rises, IsHeardCounted, HearsOne, FallsByPull}

@@ -20,7 +20,7 @@ use Rattle.lapd_tei.specs.declared.outcome.Change.{Change}
 use Rattle.lapd_tei.specs.declared.outcome.Change.TheVariants.{Gained, Left}
 use Rattle.lapd_tei.proofs.LawLemmas as tei_lemmas
 use Rattle.model_line.specs.declared.config.Config.{Config}
-use Rattle.model_line.specs.Answer.{Told, octet, told, nothing, dropped}
+use Rattle.model_line.specs.Event.{LineTold, octet, told, nothing, dropped}
 use Rattle.model_line.specs.Counts.{may_send}
 use Rattle.model_line.specs.Laws.{cause_in, DropsChangeNothing}
 use Rattle.model_line.specs.Line.{Line, link_number, link_in, with_link, terms}
@@ -59,7 +59,7 @@ link_leaves c service tei place what l cause h =
     )
 
 -- what becomes of a TEI adds no cause
-cause_stays : (c : Config) (change : Option Change) (t : Told) (l : Line) → (of_change c change t l).told.cause ≡ t.cause
+cause_stays : (c : Config) (change : Option Change) (t : LineTold) (l : Line) → (of_change c change t l).told.cause ≡ t.cause
 cause_stays c None t l = refl
 cause_stays c (Some (Gained tei place)) t l = refl
 cause_stays c (Some (Left tei place)) t l = refl

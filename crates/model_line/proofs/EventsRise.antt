@@ -17,7 +17,7 @@ use Rattle.lapd_tei.specs.Rows.{expire_check}
 use Rattle.lapd_tei.specs.Words.{Course, begun}
 use Rattle.lapd_tei.specs.declared.check.Check as checks
 use Rattle.model_line.specs.declared.config.Config.{Config}
-use Rattle.model_line.specs.Answer.{Event, octet, expiry, request, pull}
+use Rattle.model_line.specs.Event.{Event, octet, expiry, request, pull}
 use Rattle.model_line.specs.Counts.{one, may_send, frames_heard, is_frame, is_running_expiry, rejects, is_accepted, is_begun, rejects_aimed}
 use Rattle.model_line.specs.Expiry.{at_timer, aim_of_expiry, runs_at}
 use Rattle.model_line.specs.Line.{Line, window, place_in, link_in, terms}

@@ -14,7 +14,7 @@ use Rattle.model_line.specs.Counts.{one, is_frame, frames_heard, is_long_frame, 
 use Rattle.model_line.specs.Line.{Line, window, link_in}
 use Rattle.model_line.specs.Octet.{gained, aim_of_heard, aim_of_octet, with_received}
 use Rattle.model_line.specs.Effect.{Aim, at_none, at_link, at_management, at_units, told_of_management, of_change, of_aim}
-use Rattle.model_line.specs.Answer.{Told, nothing}
+use Rattle.model_line.specs.Event.{LineTold, nothing}
 use Rattle.lapd_tei.specs.Events as teis
 use Rattle.lapd_tei.specs.declared.outcome.Change.{Change}
 use Rattle.lapd_tei.specs.declared.outcome.Change.TheVariants.{Gained, Left}
@@ -101,7 +101,7 @@ aim_received c (at_link service tei place event) l = refl
 aim_received c (at_management event) l =
     go (teis.told event l.management).change (told_of_management (teis.told event l.management)) (record l { management = teis.after event l.management })
   where
-    go : (change : Option Change) (told : Told) (m : Line) → (of_change c change told m).line.received ≡ m.received
+    go : (change : Option Change) (told : LineTold) (m : Line) → (of_change c change told m).line.received ≡ m.received
     go None told m = refl
     go (Some (Gained tei place)) told m = refl
     go (Some (Left tei place)) told m = refl

@@ -9,7 +9,7 @@ use Rattle.lapd_bits.specs.Sent.{idle, frame}
 use Rattle.model_link.specs.Link.{fresh}
 use Rattle.lapd_tei.proofs.LawLemmas.{sound-empty}
 use Rattle.model_line.specs.declared.config.Config.{Config}
-use Rattle.model_line.specs.Answer.{Event, octet, expiry, request, pull}
+use Rattle.model_line.specs.Event.{Event, octet, expiry, request, pull}
 use Rattle.model_line.specs.Line.{Line, link_count, place_at, fresh_line}
 use Rattle.model_line.specs.Machine.{after, unless_refused}
 use Rattle.model_line.specs.Octet.{aim_of_octet, with_received}

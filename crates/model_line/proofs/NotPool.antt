@@ -3,7 +3,7 @@ use Rattle.std.proofs.Common.{◌≡◌, ℕ, Bool, true, false, List, [], ◌�
 use Rattle.lapd_frame.specs.declared.refusals.Refusal.{Refusal}
 use Rattle.model_link.specs.Events as link
 use Rattle.model_line.specs.declared.config.Config.{Config}
-use Rattle.model_line.specs.Answer.{Event, octet, expiry, request, pull}
+use Rattle.model_line.specs.Event.{Event, octet, expiry, request, pull}
 use Rattle.model_line.specs.Counts.{is_pool, is_pool_full}
 use Rattle.model_line.specs.Line.{Line}
 use Rattle.model_line.specs.Machine.{answer, unless_refused_told, of_request}

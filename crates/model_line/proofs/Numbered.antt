@@ -28,7 +28,7 @@ use Rattle.lapd_tei.specs.declared.outcome.Change.{Change}
 use Rattle.lapd_tei.specs.declared.outcome.Change.TheVariants.{Gained, Left}
 use Rattle.lapd_tei.proofs.LawLemmas as tei_laws
 use Rattle.model_line.specs.declared.config.Config.{Config}
-use Rattle.model_line.specs.Answer.{Answer, Told, told, nothing}
+use Rattle.model_line.specs.Event.{Answer, LineTold, told, nothing}
 use Rattle.lapd_frame.specs.Services.{same_service}
 use Rattle.model_line.specs.Deliveries.{arrived_aimed, arrived, is_change_at, restarts_aimed, restarts, is_data_of, delivered_in, delivered_at, delivered}
 use Rattle.model_line.specs.Line.{Line, link_number, service_at, place_at, tei_at, link_at, link_in, terms, link_count}
@@ -99,7 +99,7 @@ no_data_of_others t (n ∷ ns) service tei other all =
 -- Deliveries, as an answer tells them.
 
 -- nothing is delivered by an answer with no contents
-none_in : (service : Service) (tei : ℕ) (t : Told) → t.contents ≡ None → delivered_in service tei (told t) ≡ None
+none_in : (service : Service) (tei : ℕ) (t : LineTold) → t.contents ≡ None → delivered_in service tei (told t) ≡ None
 none_in service tei t e = ap (λ o. cond (list_any (is_data_of service tei) t.notes) o None) e ∙ either (list_any (is_data_of service tei) t.notes)
   where
     either : (b : Bool) → cond {A = Option (List ℕ)} b None None ≡ None
@@ -233,7 +233,7 @@ module _ (c : Config) (l : Line) (s : IsSound c l) (received : List ℕ) (number
               apart (number_is number ∙ ap (λ p. link_number p (service_at number)) one_place ∙ ap (link_number place) same.0))
 
   -- an event of TEI management: both links of a place begin, and the others stay
-  place_parts : (place : ℕ) (r : Told) → place < length l.management.places → r.contents ≡ None → (b : Bool) → (place == place_at number) ≡ b
+  place_parts : (place : ℕ) (r : LineTold) → place < length l.management.places → r.contents ≡ None → (b : Bool) → (place == place_at number) ≡ b
       → Part (link_at number l).r None (get_or (set (set l.links (link_number place Call) fresh) (link_number place Packet) fresh) number fresh).r (delivered number l (told r)) b
   place_parts place r within none true here =
       let at = eqb-true place (place_at number) here in
@@ -247,7 +247,7 @@ module _ (c : Config) (l : Line) (s : IsSound c l) (received : List ℕ) (number
       quiet (link_at number l).r (get_or all number fresh).r None (delivered number l (told r)) false refl
       (ap (λ (y : Link). y.r) (begin_away l.links place number apart)) (none_at number l (told r) (λ service tei. none_in service tei r none)) refl
 
-  change_parts : (o : Option Change) (r : Told) (new : Places) (m : Management) → r.contents ≡ None → Moves l.management.places o new
+  change_parts : (o : Option Change) (r : LineTold) (new : Places) (m : Management) → r.contents ≡ None → Moves l.management.places o new
       → let of = of_change c o r (record now { management = m }) in
       Part (link_at number l).r None (link_at number of.line).r (delivered number l (told of.told)) (is_change_at (place_at number) o)
   change_parts None r new m none moves =

@@ -13,7 +13,7 @@ use Rattle.model_link.specs.Link.{Link, fresh}
 use Rattle.model_link.specs.Machine as links
 use Rattle.model_link.proofs.OwnNotes.{offer-keeps-r, transfer-goes-on}
 use Rattle.model_line.specs.declared.config.Config.{Config}
-use Rattle.model_line.specs.Answer.{Event, octet, expiry, request, pull, refused, nothing}
+use Rattle.model_line.specs.Event.{Event, octet, expiry, request, pull, refused, nothing}
 use Rattle.model_line.specs.Deliveries.{arrived_aimed, arrived, restarts_aimed, restarts, delivered}
 use Rattle.model_line.specs.Line.{Line, link_number, link_at, link_in, terms, terms_at, link_count, place_in}
 use Rattle.model_line.specs.Machine.{after, answer, takes_slot, unless_refused, unless_refused_told}

@@ -12,7 +12,7 @@ use Rattle.model_link.specs.Link.{Link, fresh, queue_of}
 use Rattle.model_link.specs.Requests.{serves, is_queue_full}
 use Rattle.lapd_tei.proofs.Tables.{place_of-is, at-within}
 use Rattle.model_line.specs.declared.config.Config.{Config}
-use Rattle.model_line.specs.Answer.{Event, octet, expiry, request, pull}
+use Rattle.model_line.specs.Event.{Event, octet, expiry, request, pull}
 use Rattle.model_line.specs.Line.{Line, link_number, link_count, place_at, place_in, tei_at, link_at, link_in, terms}
 use Rattle.model_line.specs.Machine.{takes_slot}
 use Rattle.model_line.specs.Refusal.{Row, first_that_holds, bad_tei, no_link, bad_tei_or_group, no_link_nor_group, wrong_state, too_long, queue_full, unit_queue_full, pool_full, refusal}

@@ -20,7 +20,7 @@ use Rattle.lapd_tei.specs.Machine as tei
 use Rattle.lapd_tei.specs.declared.outcome.Change.{Change}
 use Rattle.lapd_tei.specs.declared.outcome.Change.TheVariants.{Gained, Left}
 use Rattle.model_line.specs.declared.config.Config.{Config}
-use Rattle.model_line.specs.Answer.{Event, octet, expiry, request, pull, Told, nothing}
+use Rattle.model_line.specs.Event.{Event, octet, expiry, request, pull, LineTold, nothing}
 use Rattle.model_line.specs.Expiry.{at_timer, aim_of_expiry}
 use Rattle.model_line.specs.Laws.{notes_in, orders_in, AnswersAreShort}
 use Rattle.model_line.specs.Line.{Line, link_in, link_at, terms, terms_at, place_in}
@@ -35,7 +35,7 @@ use Rattle.lapd_tei.proofs.Brief.{IsBrief, told_brief}
 use Rattle.model_line.proofs.ProperAims.{heard_aims}
 use Rattle.model_line.proofs.Starts.{expiry_starts}
 
-record IsShort (t : Told) : Type 0 where
+record IsShort (t : LineTold) : Type 0 where
   notes : length t.notes ≤ 4
   orders : length t.orders ≤ 4
 
@@ -59,7 +59,7 @@ module _ (c : Config) where
       let front = length-append xs ys in
       omega (arith, whole, rest, other_whole, front, x, y, z)
 
-  change_short : (o : Option Change) (t : tei.Told) (l : Line) → IsBrief t → IsShort (of_change c o (told_of_management t) l).told
+  change_short : (o : Option Change) (t : tei.TeiTold) (l : Line) → IsBrief t → IsShort (of_change c o (told_of_management t) l).told
   change_short None t l h = record { notes = omega (arith, h.notes); orders = omega (arith, h.orders) }
   change_short (Some (Gained n place)) t l h = record { notes = omega (arith, h.notes); orders = omega (arith, h.orders) }
   change_short (Some (Left n place)) t l h =

@@ -31,7 +31,7 @@ use Rattle.lapd_tei.specs.declared.outcome.Change.TheVariants.{Gained, Left}
 use Rattle.lapd_tei.proofs.LawLemmas as tei_lemmas
 use Rattle.lapd_tei.proofs.Tables.{at-within}
 use Rattle.model_line.specs.declared.config.Config.{Config}
-use Rattle.model_line.specs.Answer.{Told, nothing, Event, octet, expiry, request, pull}
+use Rattle.model_line.specs.Event.{LineTold, nothing, Event, octet, expiry, request, pull}
 use Rattle.model_line.specs.Counts.{one}
 use Rattle.model_line.specs.Expiry.{at_timer, aim_of_expiry}
 use Rattle.model_line.specs.Line.{Line, fresh_line, link_number, link_count, service_at, place_at, place_in, tei_at, link_at, link_in, terms}
@@ -89,7 +89,7 @@ module _ (c : Config) (ranged : IsInRange c) where
       let second = one_kept c (set l.links call fresh) packet fresh (length-set l.links call fresh ∙ size) (number_within place c.terminals Packet within) in
       omega (arith, first, second)
 
-  change_grows : (l : Line) (m : Management) (new : Places) (change : Option Change) (told : Told) → IsSound c l
+  change_grows : (l : Line) (m : Management) (new : Places) (change : Option Change) (told : LineTold) → IsSound c l
       → Moves l.management.places change new → slots_of c (of_change c change told (record l { management = m })).line ≤ slots_of c l
   change_grows l m new None told s moves = omega arith
   change_grows l m new (Some (Gained tei place)) told s joined = omega (arith, begun_fewer l place s.count (omega (arith, joined.within, s.places)))

@@ -20,7 +20,7 @@ use Rattle.lapd_tei.specs.Machine as tei
 use Rattle.lapd_tei.specs.declared.outcome.Change.{Change}
 use Rattle.lapd_tei.specs.declared.outcome.Change.TheVariants.{Gained, Left}
 use Rattle.model_line.specs.declared.config.Config.{Config}
-use Rattle.model_line.specs.Answer.{expiry}
+use Rattle.model_line.specs.Event.{expiry}
 use Rattle.model_line.specs.Expiry.{at_timer, aim_of_expiry}
 use Rattle.model_line.specs.Laws.{orders_in}
 use Rattle.model_line.specs.Line.{Line, link_in, place_in, terms}
@@ -60,7 +60,7 @@ three xs ys zs x y z =
     omega (arith, before_starts xs (ys ++ zs) x, before_starts ys zs y, before_starts (xs ++ ys) zs none, starts_few zs, z)
 
 module _ (c : Config) where
-  change_starts : (o : Option Change) (t : tei.Told) (l : Line) → IsBrief t → starts (of_change c o (told_of_management t) l).told.orders ≤ 1
+  change_starts : (o : Option Change) (t : tei.TeiTold) (l : Line) → IsBrief t → starts (of_change c o (told_of_management t) l).told.orders ≤ 1
   change_starts None t l h = omega (arith, starts_few t.orders, h.orders)
   change_starts (Some (Gained n place)) t l h = omega (arith, starts_few t.orders, h.orders)
   change_starts (Some (Left n place)) t l h =

@@ -7,7 +7,7 @@ use Rattle.lapd_frame.specs.declared.refusals.Refusal.TheVariants as refusals
 use Rattle.model_link.specs.Rises as links
 use Rattle.lapd_tei.specs.Machine as tei
 use Rattle.model_line.specs.declared.config.Config.{Config}
-use Rattle.model_line.specs.Answer.{Event, octet, expiry, request, pull, Answer, told, refused, pulled}
+use Rattle.model_line.specs.Event.{Event, octet, expiry, request, pull, Answer, told, refused, pulled}
 use Rattle.model_line.specs.Line.{Line, terms_at, link_at, link_in}
 use Rattle.model_line.specs.Stored.{sum_of_links}
 use Rattle.model_line.specs.Expiry.{is_running}

@@ -11,7 +11,7 @@ use Rattle.lapd_tei.specs.Events as teis
 use Rattle.lapd_tei.specs.declared.outcome.Change.{Change}
 use Rattle.lapd_tei.specs.declared.outcome.Change.TheVariants.{Gained, Left}
 use Rattle.model_line.specs.declared.config.Config.{Config}
-use Rattle.model_line.specs.Answer.{Event, Answer, told, refused, pulled}
+use Rattle.model_line.specs.Event.{Event, Answer, told, refused, pulled}
 use Rattle.model_line.specs.Line.{Line, link_number, service_at, place_at, tei_at, terms, link_in}
 use Rattle.model_line.specs.Effect.{Aim, at_none, at_link, at_management, at_units}
 use Rattle.model_line.specs.Machine.{aim_of}

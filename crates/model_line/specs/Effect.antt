@@ -14,12 +14,12 @@ use Rattle.lapd_tei.specs.Machine as tei
 use Rattle.lapd_tei.specs.declared.outcome.Change.{Change}
 use Rattle.lapd_tei.specs.declared.outcome.Change.TheVariants.{Gained, Left}
 use Rattle.model_line.specs.declared.config.Config.{Config}
-use Rattle.model_line.specs.Answer.{Told, nothing}
+use Rattle.model_line.specs.Event.{LineTold, nothing}
 use Rattle.model_line.specs.Line.{Line, UnitData, link_number, link_in, with_link, terms}
 
 pub data Aim : Type 0 where
   -- no part is concerned
-  at_none : Told → Aim
+  at_none : LineTold → Aim
   -- the link of a service is, of the TEI at a place
   at_link : Service → ℕ → ℕ → link.Event → Aim
   -- TEI management is
@@ -30,13 +30,13 @@ pub data Aim : Type 0 where
 -- What an event leaves, and what is told of it.
 pub record Effect : Type 0 where
   pub line : Line
-  pub told : Told
+  pub told : LineTold
 
 abbrev pub unserved_cause : Bool → Option Cause
 unserved_cause unserved = if unserved then Some Unserved else None
 
 -- An event of a link.
-abbrev pub told_of_link : link_told.Told → Told
+abbrev pub told_of_link : link_told.LinkTold → LineTold
 told_of_link t = record {
   notes = t.notes;
   contents = option_or t.delivered t.unit;
@@ -56,18 +56,18 @@ of_link c service tei place event l =
 -- An event of TEI management. A TEI that comes to the line opens its two links. One that leaves clears them, that of
 -- call control first. What they tell comes after what TEI management tells, but for the order of T201, which is the
 -- last (profile).
-abbrev pub told_of_management : tei.Told → Told
+abbrev pub told_of_management : tei.TeiTold → LineTold
 told_of_management t =
     record { notes = t.notes; contents = None; cause = unserved_cause t.unserved; orders = t.orders; lost = t.lost }
 
 abbrev pub with_opened : ℕ → Line → Line
 with_opened place l = with_link (link_number place Packet) fresh (with_link (link_number place Call) fresh l)
 
-abbrev pub with_cleared : Told → Told → Told → Told
+abbrev pub with_cleared : LineTold → LineTold → LineTold → LineTold
 with_cleared call packet t =
     record t { notes = t.notes ++ call.notes ++ packet.notes; orders = call.orders ++ packet.orders ++ t.orders }
 
-abbrev pub of_change : Config → Option Change → Told → Line → Effect
+abbrev pub of_change : Config → Option Change → LineTold → Line → Effect
 of_change c None told l = record { line = l; told = told }
 of_change c (Some (Gained tei place)) told l = record { line = with_opened place l; told = told }
 of_change c (Some (Left tei place)) told l =

@@ -6,7 +6,7 @@ use Rattle.lapd_frame.specs.declared.timers.Order.{Order}
 use Rattle.lapd_frame.specs.declared.timers.Timer.{Timer}
 use Rattle.model_link.specs.Told.{starts}
 use Rattle.model_line.specs.declared.config.Config.{Config}
-use Rattle.model_line.specs.Answer.{Event, octet, expiry, pull, Answer, told, refused, pulled, dropped}
+use Rattle.model_line.specs.Event.{Event, octet, expiry, pull, Answer, told, refused, pulled, dropped}
 use Rattle.model_line.specs.Line.{Line, fresh_line}
 use Rattle.model_line.specs.Counts.{one, may_send, frames_heard, hears, long_frames_heard, is_octet, is_begun, is_accepted, is_running_expiry, rejects}
 use Rattle.model_line.specs.Machine.{after, answer}

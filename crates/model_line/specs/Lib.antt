@@ -1,7 +1,7 @@
 -- The machine of a line, and worked values of it.
 pub mod Config
 pub mod Request
-pub mod Answer
+pub mod Event
 pub mod Line
 pub mod Effect
 pub mod Octet

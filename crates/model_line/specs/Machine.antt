@@ -2,7 +2,7 @@
 use Rattle.std.specs.Prelude.{ℕ, Bool, false, ◌&&◌, not, Option, Some, None, is_some}
 use Rattle.lapd_frame.specs.declared.refusals.Refusal.{Refusal}
 use Rattle.model_line.specs.declared.config.Config.{Config}
-use Rattle.model_line.specs.Answer.{Event, octet, expiry, request, pull, Answer, told, refused, nothing}
+use Rattle.model_line.specs.Event.{Event, octet, expiry, request, pull, Answer, told, refused, nothing}
 use Rattle.model_line.specs.Request.{Request}
 use Rattle.model_line.specs.Line.{Line}
 use Rattle.model_line.specs.Effect.{Aim, at_none, Effect, of_aim}

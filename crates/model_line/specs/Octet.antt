@@ -19,7 +19,7 @@ use Rattle.lapd_frame.specs.Services.{service_of}
 use Rattle.model_link.specs.Events as link
 use Rattle.lapd_tei.specs.Events as teis
 use Rattle.model_line.specs.declared.config.Config.{Config}
-use Rattle.model_line.specs.Answer.{nothing, dropped}
+use Rattle.model_line.specs.Event.{nothing, dropped}
 use Rattle.model_line.specs.Line.{Line, place_in}
 use Rattle.model_line.specs.Effect.{Aim, at_none, at_link, at_management}
 

@@ -17,7 +17,7 @@ use Rattle.model_link.specs.Machine as links
 use Rattle.model_link.specs.Told.{Given}
 use Rattle.lapd_tei.specs.Events as teis
 use Rattle.model_line.specs.declared.config.Config.{Config}
-use Rattle.model_line.specs.Answer.{Answer, pulled}
+use Rattle.model_line.specs.Event.{Answer, pulled}
 use Rattle.model_line.specs.Line.{Line, UnitData, link_count, terms_at, link_at, with_link}
 
 -- What a pull takes: a frame, with orders for timers, and the line without it.

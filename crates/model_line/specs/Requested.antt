@@ -4,7 +4,7 @@ use Rattle.lapd_frame.specs.declared.services.Service.{Service}
 use Rattle.model_link.specs.Events as link
 use Rattle.lapd_tei.specs.Events as teis
 use Rattle.model_line.specs.Request.{Request, Establish, Release, Data, Unit, Assign, Remove, Check, SetBusy, ClearBusy}
-use Rattle.model_line.specs.Answer.{nothing}
+use Rattle.model_line.specs.Event.{nothing}
 use Rattle.model_line.specs.Line.{Line, place_in}
 use Rattle.model_line.specs.Effect.{Aim, at_none, at_link, at_management, at_units}
 

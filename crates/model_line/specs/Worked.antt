@@ -11,7 +11,7 @@ use Rattle.lapd_frame.specs.declared.timers.Timer.TheVariants.{T203}
 use Rattle.lapd_frame.specs.Reading.{reading, header_of, control_of, unnumbered_of}
 use Rattle.lapd_tei.specs.Events as teis
 use Rattle.model_line.specs.declared.config.Config.{Config}
-use Rattle.model_line.specs.Answer.{nothing, dropped}
+use Rattle.model_line.specs.Event.{nothing, dropped}
 use Rattle.model_line.specs.Request.{Request, Data, Unit, Assign, Remove, Check}
 use Rattle.model_line.specs.Line.{Line, fresh_line, state_of}
 use Rattle.model_line.specs.Effect.{Effect, of_aim}

@@ -21,7 +21,7 @@ pub mod Numbered
 pub mod Notes
 pub mod Known
 pub mod TwoEnds
-pub mod Worked
+pub mod Samples
 pub mod WorkedRelease
 pub mod WorkedTransfer
 pub mod WorkedRuns

@@ -11,7 +11,7 @@ use Rattle.model_link.specs.declared.timers.LinkTimer.TheVariants.{T200, T203}
 use Rattle.model_link.specs.declared.terms.Terms.{Terms}
 use Rattle.model_link.specs.Link.{Link}
 use Rattle.model_link.specs.Events.{Received, frame, undefined, wrong_size, overlong, Request, Event, received, expired, requested, offer, cleared}
-use Rattle.model_link.specs.Told.{Told, Given, runs, orders_for}
+use Rattle.model_link.specs.Told.{LinkTold, Given, runs, orders_for}
 use Rattle.model_link.specs.Steps.{Sent, Course, begun, Step, ◌then◌, nothing, depending_on}
 use Rattle.model_link.specs.Words.{release_indication, release_confirm, begin_anew}
 use Rattle.model_link.specs.TeiAssigned.{frame_in_4, malformed_in_4}
@@ -106,7 +106,7 @@ after_all t [] l = l
 after_all t (e ∷ es) l = after_all t es (after t e l)
 
 -- What it answers.
-abbrev pub told_of : Terms → Link → Course → Told
+abbrev pub told_of : Terms → Link → Course → LinkTold
 told_of t before c = record {
   notes = c.notes;
   delivered = c.delivered;
@@ -116,11 +116,11 @@ told_of t before c = record {
   unserved = c.unserved;
 }
 
-abbrev pub told : Terms → Event → Link → Told
+abbrev pub told : Terms → Event → Link → LinkTold
 told t e l = told_of t l (course t e l)
 
 -- What a request answers.
-abbrev pub answer_to_request : Terms → Request → Bool → Link → Result Told Refusal
+abbrev pub answer_to_request : Terms → Request → Bool → Link → Result LinkTold Refusal
 answer_to_request t request pool_is_full l =
     elim (refusal t l pool_is_full request) [ None ↦ Ok (told t (requested request pool_is_full) l) | Some r ↦ Err r ]
 

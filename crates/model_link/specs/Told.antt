@@ -11,7 +11,7 @@ use Rattle.model_link.specs.declared.frames.ControlFrame.{ControlFrame}
 use Rattle.model_link.specs.declared.terms.Terms.{Terms}
 
 -- What an event tells layer 3, layer management and the timers.
-pub record Told : Type 0 where
+pub record LinkTold : Type 0 where
   pub notes : List Note
   -- the contents of an I-frame, and of a UI frame
   pub delivered : Option (List ℕ)

@@ -9,7 +9,7 @@ use Rattle.lapd_clock.specs.Timers as clocks
 use Rattle.model_line.specs.declared.config.Config.{Config}
 use Rattle.model_line.specs.declared.config.Field.{Field}
 use Rattle.model_line.specs.Config as configs
-use Rattle.model_line.specs.Answer.{pull, expiry, request}
+use Rattle.model_line.specs.Event.{pull, expiry, request}
 use Rattle.model_line.specs.Sound.{IsInRange}
 use Rattle.model_card.specs.Event.{Event, at}
 use Rattle.model_card.specs.Card.{Card, fresh}
@@ -20,7 +20,7 @@ use Rattle.lapd_script.specs.declared.kind.FaultKind.TheVariants.{TooLong, BadCa
 use Rattle.lapd_script.specs.Meaning as line
 use Rattle.lapd_script.specs.Read.{read}
 use Rattle.model_sim.specs.Pieces.{pieces_of, line_in}
-use Rattle.model_sim.specs.Bench.{Bench, begun, terminal_at, octets_sent, after_sending, with_terminal}
+use Rattle.model_sim.specs.Setup.{Setup, begun, terminal_at, octets_sent, after_sending, with_terminal}
 use Rattle.model_sim.specs.Steps.{Scene, with_event, with_events, octets_at, Pulls, one_pull, pulls, expired, expiries, after_rx, after_in, after_pull, after_wait, with_card, without_card, is_frame, last_moment, request_for}
 use Rattle.model_sim.specs.Script.{Fault, Played, not_begun, played, faulty, is_too_long, after_scene, after_bench, after_reading, unless_faulty, one_more}
 use Rattle.model_sim.specs.Events.{expiry_events, events_until, meant_events, read_events, unless_fault, line_events, events_from, card_meant, first_card, ScriptsAreRuns}
@@ -38,12 +38,12 @@ config_stays card [] = refl
 config_stays card (e ∷ events) = config_stays (after e card) events
 
 -- Events, pulls and expiries.
-events_lead : (events : List Event) (s : Scene) → (with_events events s).bench.card ≡ after_all s.bench.card events
+events_lead : (events : List Event) (s : Scene) → (with_events events s).setup.card ≡ after_all s.setup.card events
 unfolding after_all
 events_lead [] s = refl
 events_lead (e ∷ events) s = events_lead events (with_event s e)
 
-pulls_lead : (count number : ℕ) (p : Pulls) → (pulls count number p).bench.card ≡ after_all p.bench.card (replicate count (at number pull))
+pulls_lead : (count number : ℕ) (p : Pulls) → (pulls count number p).setup.card ≡ after_all p.setup.card (replicate count (at number pull))
 unfolding after_all
 pulls_lead zero number p = refl
 pulls_lead (suc count) number p = pulls_lead count number (one_pull number p)
@@ -60,137 +60,137 @@ event_before : (card : Card) (e : Event) (events : List Event) → after_all (af
 unfolding after_all
 event_before card e events = refl
 
-expiries_lead : (most end : ℕ) (s : Scene) → (expiries most end s).bench.card ≡ after_all s.bench.card (expiry_events most end s)
-expiries_lead zero end s = no_event s.bench.card
-expiries_lead (suc most) end s = go (λ t. expiries_lead most end t) (clocks.due_at s.bench.clock end)
+expiries_lead : (most end : ℕ) (s : Scene) → (expiries most end s).setup.card ≡ after_all s.setup.card (expiry_events most end s)
+expiries_lead zero end s = no_event s.setup.card
+expiries_lead (suc most) end s = go (λ t. expiries_lead most end t) (clocks.due_at s.setup.clock end)
   where
-    go : ((t : Scene) → (expiries most end t).bench.card ≡ after_all t.bench.card (expiry_events most end t)) → (o : Option (ℕ × Timer))
-        → (elim o as (λ o. Scene) [ None ↦ s | Some due ↦ expiries most end (expired end due.0 due.1 s) ]).bench.card
-        ≡ after_all s.bench.card (elim o as (λ o. List Event) [ None ↦ [] | Some due ↦ at due.0 (expiry due.1) ∷ expiry_events most end (expired end due.0 due.1 s) ])
-    go more None = no_event s.bench.card
+    go : ((t : Scene) → (expiries most end t).setup.card ≡ after_all t.setup.card (expiry_events most end t)) → (o : Option (ℕ × Timer))
+        → (elim o as (λ o. Scene) [ None ↦ s | Some due ↦ expiries most end (expired end due.0 due.1 s) ]).setup.card
+        ≡ after_all s.setup.card (elim o as (λ o. List Event) [ None ↦ [] | Some due ↦ at due.0 (expiry due.1) ∷ expiry_events most end (expired end due.0 due.1 s) ])
+    go more None = no_event s.setup.card
     go more (Some due) =
         more (expired end due.0 due.1 s)
-        ∙ event_before s.bench.card (at due.0 (expiry due.1)) (expiry_events most end (expired end due.0 due.1 s))
+        ∙ event_before s.setup.card (at due.0 (expiry due.1)) (expiry_events most end (expired end due.0 due.1 s))
 
--- Events lead one bench to another; and where what each line keeps holds of the first, it holds of the other, and the
+-- Events lead one setup to another; and where what each line keeps holds of the first, it holds of the other, and the
 -- events are at lines of the card.
-pub record Led (before : Bench) (events : List Event) (after : Bench) : Type 0 where
+pub record Led (before : Setup) (events : List Event) (after : Setup) : Type 0 where
   pub card : after.card ≡ after_all before.card events
   pub kept : IsKept before → IsKept after × AreAtLines before.card events
 
-nothing_led : (b : Bench) → Led b [] b
+nothing_led : (b : Setup) → Led b [] b
 nothing_led b = record { card = no_event b.card; kept = λ k. (k, All-nil (IsAtLine b.card)) }
 
 -- A line, where there is a card.
-abbrev Leads : Bench → List Event → Result Scene FaultKind → Type 0
+abbrev Leads : Setup → List Event → Result Scene FaultKind → Type 0
 Leads b events (Err kind) = Unit {0}
-Leads b events (Ok s) = Led b events s.bench
+Leads b events (Ok s) = Led b events s.setup
 
-if_good : (good : Bool) (b : Bench) (events : List Event) (r : Result Scene FaultKind) (kind : FaultKind) → (good ≡ true → Leads b events r) → Leads b events (cond good r (Err kind))
+if_good : (good : Bool) (b : Setup) (events : List Event) (r : Result Scene FaultKind) (kind : FaultKind) → (good ≡ true → Leads b events r) → Leads b events (cond good r (Err kind))
 if_good true b events r kind h = h refl
 if_good false b events r kind h = tt
 
-octets_led : (number : ℕ) (octets : List ℕ) (s : Scene) → number < s.bench.card.config.lines → Led s.bench (octets_at number octets) (after_rx number octets s).bench
+octets_led : (number : ℕ) (octets : List ℕ) (s : Scene) → number < s.setup.card.config.lines → Led s.setup (octets_at number octets) (after_rx number octets s).setup
 octets_led number octets s within =
-    let at_lines = octets_within s.bench.card number octets within in
+    let at_lines = octets_within s.setup.card number octets within in
     record { card = events_lead (octets_at number octets) s; kept = λ k. (events_kept (octets_at number octets) s at_lines k, at_lines) }
 
-in_led : (number : ℕ) (octets : List ℕ) (s : Scene) → number < s.bench.card.config.lines
-    → Led s.bench (octets_at number (octets_sent octets (terminal_at number s.bench))) (after_in number octets s).bench
+in_led : (number : ℕ) (octets : List ℕ) (s : Scene) → number < s.setup.card.config.lines
+    → Led s.setup (octets_at number (octets_sent octets (terminal_at number s.setup))) (after_in number octets s).setup
 in_led number octets s within =
-    let terminal = terminal_at number s.bench in
-    let led = octets_led number (octets_sent octets terminal) (record s { bench = with_terminal number (after_sending octets terminal) s.bench }) within in
+    let terminal = terminal_at number s.setup in
+    let led = octets_led number (octets_sent octets terminal) (record s { setup = with_terminal number (after_sending octets terminal) s.setup }) within in
     record { card = led.card; kept = led.kept }
 
-pulls_led : (number count : ℕ) (s : Scene) → number < s.bench.card.config.lines → Led s.bench (replicate count (at number pull)) (after_pull number count s).bench
+pulls_led : (number count : ℕ) (s : Scene) → number < s.setup.card.config.lines → Led s.setup (replicate count (at number pull)) (after_pull number count s).setup
 pulls_led number count s within =
-    let start : Pulls = record { bench = s.bench; octets = [] } in
+    let start : Pulls = record { setup = s.setup; octets = [] } in
     record {
       card = pulls_lead count number start;
-      kept = λ k. (pulls_kept count number start within k, pulls_within s.bench.card number count within);
+      kept = λ k. (pulls_kept count number start within k, pulls_within s.setup.card number count within);
     }
 
-wait_led : (milliseconds : ℕ) (s : Scene) → Led s.bench (events_until (s.bench.now + milliseconds) s) (after_wait milliseconds s).bench
+wait_led : (milliseconds : ℕ) (s : Scene) → Led s.setup (events_until (s.setup.now + milliseconds) s) (after_wait milliseconds s).setup
 wait_led milliseconds s =
-    let end = s.bench.now + milliseconds in
-    let most = clocks.time_until end s.bench.clock in
+    let end = s.setup.now + milliseconds in
+    let most = clocks.time_until end s.setup.clock in
     let last = expiries most end s in
     record {
       card = expiries_lead most end s;
       kept = λ k.
           let waited = wait_ticks most end s k.ticks in
-          let none = drained most end s (clocks.due_at s.bench.clock end) refl (omega arith) in
-          let later = recursion_from_All (λ x. end < x.moment) last.bench.clock.running (none_later last.bench.clock.running end waited.ticks.in_order none) in
+          let none = drained most end s (clocks.due_at s.setup.clock end) refl (omega arith) in
+          let later = recursion_from_All (λ x. end < x.moment) last.setup.clock.running (none_later last.setup.clock.running end waited.ticks.in_order none) in
           (record { ticks = waited.ticks; later = later }, waited.within);
     }
 
-event_led : (e : Event) (s : Scene) → IsAtLine s.bench.card e → Led s.bench (e ∷ []) (with_event s e).bench
+event_led : (e : Event) (s : Scene) → IsAtLine s.setup.card e → Led s.setup (e ∷ []) (with_event s e).setup
 event_led e s within =
-    let at_lines = All-cons (IsAtLine s.bench.card) e [] within (All-nil (IsAtLine s.bench.card)) in
-    record { card = one_event s.bench.card e; kept = λ k. (events_kept (e ∷ []) s at_lines k, at_lines) }
+    let at_lines = All-cons (IsAtLine s.setup.card) e [] within (All-nil (IsAtLine s.setup.card)) in
+    record { card = one_event s.setup.card e; kept = λ k. (events_kept (e ∷ []) s at_lines k, at_lines) }
 
-meaning_leads : (m : line.Meaning) (s : Scene) → Leads s.bench (meant_events m s) (with_card m s)
-meaning_leads line.skip s = nothing_led s.bench
+meaning_leads : (m : line.Meaning) (s : Scene) → Leads s.setup (meant_events m s) (with_card m s)
+meaning_leads line.skip s = nothing_led s.setup
 meaning_leads (line.card config) s = tt
 meaning_leads (line.rx number octets) s =
-    if_good (nat_lt number s.bench.card.config.lines) s.bench (octets_at number octets) (Ok (after_rx number octets s)) BadLine
+    if_good (nat_lt number s.setup.card.config.lines) s.setup (octets_at number octets) (Ok (after_rx number octets s)) BadLine
     (λ good. octets_led number octets s (ltb-true _ _ good))
 meaning_leads (line.into number octets) s =
-    let events = octets_at number (octets_sent octets (terminal_at number s.bench)) in
-    if_good (nat_lt number s.bench.card.config.lines) s.bench events (cond (is_frame octets) (Ok (after_in number octets s)) (Err BadFrame)) BadLine
-    (λ good. if_good (is_frame octets) s.bench events (Ok (after_in number octets s)) BadFrame (λ _. in_led number octets s (ltb-true _ _ good)))
+    let events = octets_at number (octets_sent octets (terminal_at number s.setup)) in
+    if_good (nat_lt number s.setup.card.config.lines) s.setup events (cond (is_frame octets) (Ok (after_in number octets s)) (Err BadFrame)) BadLine
+    (λ good. if_good (is_frame octets) s.setup events (Ok (after_in number octets s)) BadFrame (λ _. in_led number octets s (ltb-true _ _ good)))
 meaning_leads (line.pull number count) s =
-    if_good (nat_lt number s.bench.card.config.lines) s.bench (replicate count (at number pull)) (Ok (after_pull number count s)) BadLine
+    if_good (nat_lt number s.setup.card.config.lines) s.setup (replicate count (at number pull)) (Ok (after_pull number count s)) BadLine
     (λ good. pulls_led number count s (ltb-true _ _ good))
 meaning_leads (line.wait milliseconds) s =
-    let end = s.bench.now + milliseconds in
-    if_good (nat_le end last_moment) s.bench (events_until end s) (Ok (after_wait milliseconds s)) TimeOver (λ _. wait_led milliseconds s)
-meaning_leads line.stored s = nothing_led s.bench
+    let end = s.setup.now + milliseconds in
+    if_good (nat_le end last_moment) s.setup (events_until end s) (Ok (after_wait milliseconds s)) TimeOver (λ _. wait_led milliseconds s)
+meaning_leads line.stored s = nothing_led s.setup
 meaning_leads (line.ask number tei what octets) s =
     let e : Event = at number (request (request_for what tei octets)) in
-    if_good (nat_lt number s.bench.card.config.lines) s.bench (e ∷ []) (Ok (with_event s e)) BadLine (λ good. event_led e s (ltb-true _ _ good))
+    if_good (nat_lt number s.setup.card.config.lines) s.setup (e ∷ []) (Ok (with_event s e)) BadLine (λ good. event_led e s (ltb-true _ _ good))
 
 -- Where there is a card before the line there is one after it.
-pub record Goes (before : Bench) (events : List Event) (q : Played) : Type 0 where
-  pub bench : Bench
-  pub there : q.bench ≡ Some bench
-  pub led : Led before (unless_fault q.fault events) bench
+pub record Goes (before : Setup) (events : List Event) (q : Played) : Type 0 where
+  pub setup : Setup
+  pub there : q.setup ≡ Some setup
+  pub led : Led before (unless_fault q.fault events) setup
 
-scene_goes : (piece : List ℕ) (b : Bench) (p : Played) (events : List Event) (r : Result Scene FaultKind) → p.bench ≡ Some b → p.fault ≡ None
+scene_goes : (piece : List ℕ) (b : Setup) (p : Played) (events : List Event) (r : Result Scene FaultKind) → p.setup ≡ Some b → p.fault ≡ None
     → Leads b events r → Goes b events (after_scene piece r p)
-scene_goes piece b p events (Err kind) e clear h = record { bench = b; there = e; led = nothing_led b }
+scene_goes piece b p events (Err kind) e clear h = record { setup = b; there = e; led = nothing_led b }
 scene_goes piece b p events (Ok s) e clear h = record {
-  bench = s.bench;
+  setup = s.setup;
   there = refl;
-  led = subst (λ f. Led b (unless_fault f events) s.bench) (sym clear) h;
+  led = subst (λ f. Led b (unless_fault f events) s.setup) (sym clear) h;
 }
 
-abbrev on : Option Bench → Option Fault → Played → Played
-on bench fault p = record p { bench = bench; fault = fault }
+abbrev on : Option Setup → Option Fault → Played → Played
+on setup fault p = record p { setup = setup; fault = fault }
 
-reading_goes : (piece : List ℕ) (b : Bench) (p : Played) (r : Result line.Meaning FaultKind)
+reading_goes : (piece : List ℕ) (b : Setup) (p : Played) (r : Result line.Meaning FaultKind)
     → Goes b (read_events r (Some b)) (after_reading piece r (on (Some b) None p))
-reading_goes piece b p (Err kind) = record { bench = b; there = refl; led = nothing_led b }
+reading_goes piece b p (Err kind) = record { setup = b; there = refl; led = nothing_led b }
 reading_goes piece b p (Ok m) =
-    let s : Scene = record { bench = b; text = [] } in
+    let s : Scene = record { setup = b; text = [] } in
     scene_goes piece b (on (Some b) None p) (meant_events m s) (with_card m s) refl refl (meaning_leads m s)
 
-line_goes : (piece : List ℕ) (b : Bench) (fault : Option Fault) (p : Played)
+line_goes : (piece : List ℕ) (b : Setup) (fault : Option Fault) (p : Played)
     → Goes b (read_events (read (line_in piece)) (Some b)) (one_more (on (Some b) fault p) piece)
-line_goes piece b (Some fault) p = record { bench = b; there = refl; led = nothing_led b }
+line_goes piece b (Some fault) p = record { setup = b; there = refl; led = nothing_led b }
 line_goes piece b None p = go (is_too_long piece (on (Some b) None p))
   where
     go : (long : Bool) → Goes b (read_events (read (line_in piece)) (Some b))
         (cond long (faulty TooLong (on (Some b) None p)) (after_reading piece (read (line_in piece)) (on (Some b) None p)))
-    go true = record { bench = b; there = refl; led = nothing_led b }
+    go true = record { setup = b; there = refl; led = nothing_led b }
     go false = reading_goes piece b p (read (line_in piece))
 
-pub one_goes : (piece : List ℕ) (b : Bench) (p : Played) → p.bench ≡ Some b → Goes b (read_events (read (line_in piece)) p.bench) (one_more p piece)
+pub one_goes : (piece : List ℕ) (b : Setup) (p : Played) → p.setup ≡ Some b → Goes b (read_events (read (line_in piece)) p.setup) (one_more p piece)
 one_goes piece b p e =
     subst (λ o. Goes b (read_events (read (line_in piece)) o) (one_more (on o p.fault p) piece)) (sym e) (line_goes piece b p.fault p)
 
 -- One list of events, and then another.
-led_then : (a b c : Bench) (xs ys : List Event) → Led a xs b → Led b ys c → Led a (xs ++ ys) c
+led_then : (a b c : Setup) (xs ys : List Event) → Led a xs b → Led b ys c → Led a (xs ++ ys) c
 led_then a b c xs ys first then = record {
   card = then.card ∙ ap (λ x. after_all x ys) first.card ∙ sym (after_all-append a.card xs ys);
   kept = λ k.
@@ -200,27 +200,27 @@ led_then a b c xs ys first then = record {
       (there.0, All-append (IsAtLine a.card) xs ys here.1 (subst (λ (x : Config). All (λ (e : Event). e.line < x.lines) ys) same there.1));
 }
 
-lines_go : (pieces : List (List ℕ)) (p : Played) (b : Bench) → p.bench ≡ Some b
-    → (last : Bench) → (fold one_more p pieces).bench ≡ Some last → Led b (events_from p pieces) last
+lines_go : (pieces : List (List ℕ)) (p : Played) (b : Setup) → p.setup ≡ Some b
+    → (last : Setup) → (fold one_more p pieces).setup ≡ Some last → Led b (events_from p pieces) last
 lines_go [] p b e last there =
     let same : b ≡ last = cc in
     subst (λ x. Led b [] x) same (nothing_led b)
 lines_go (piece ∷ pieces) p b e last there =
     let step = one_goes piece b p e in
     let next = one_more p piece in
-    led_then b step.bench last (line_events piece p) (events_from next pieces) step.led (lines_go pieces next step.bench step.there last there)
+    led_then b step.setup last (line_events piece p) (events_from next pieces) step.led (lines_go pieces next step.setup step.there last there)
 
 -- Where there is none before the line: none yet, none for good, or the one that begins.
 pub data Begins (r : Result line.Meaning FaultKind) (q : Played) : Type 0 where
-  waits : q.bench ≡ None → card_meant r ≡ None → Begins r q
-  stops : q.bench ≡ None → (fault : Fault) → q.fault ≡ Some fault → Begins r q
-  begins : (c : Config) → card_meant r ≡ Some c → q.bench ≡ Some (begun c) → IsInRange c → Begins r q
+  waits : q.setup ≡ None → card_meant r ≡ None → Begins r q
+  stops : q.setup ≡ None → (fault : Fault) → q.fault ≡ Some fault → Begins r q
+  begins : (c : Config) → card_meant r ≡ Some c → q.setup ≡ Some (begun c) → IsInRange c → Begins r q
 
-card_begins : (piece : List ℕ) (config : Config) (p : Played) → p.bench ≡ None → Begins (Ok (line.card config)) (after_bench piece (without_card (line.card config)) p)
+card_begins : (piece : List ℕ) (config : Config) (p : Played) → p.setup ≡ None → Begins (Ok (line.card config)) (after_bench piece (without_card (line.card config)) p)
 card_begins piece config p e = go (configs.first_fault config) refl
   where
     go : (o : Option Field) → configs.first_fault config ≡ o → Begins (Ok (line.card config))
-        (after_bench piece (elim o as (λ o. Result (Option Bench) FaultKind) [ None ↦ Ok (Some (begun config)) | Some field ↦ Err BadCard ]) p)
+        (after_bench piece (elim o as (λ o. Result (Option Setup) FaultKind) [ None ↦ Ok (Some (begun config)) | Some field ↦ Err BadCard ]) p)
     go None ranged = begins config refl refl ranged
     go (Some field) fault = stops e _ refl
 
@@ -243,7 +243,7 @@ line_begins piece None p = go (is_too_long piece (on None None p))
     go true = stops refl _ refl
     go false = reading_begins piece (read (line_in piece)) p
 
-pub one_begins : (piece : List ℕ) (p : Played) → p.bench ≡ None → Begins (read (line_in piece)) (one_more p piece)
+pub one_begins : (piece : List ℕ) (p : Played) → p.setup ≡ None → Begins (read (line_in piece)) (one_more p piece)
 one_begins piece p e = subst (λ o. Begins (read (line_in piece)) (one_more (on o p.fault p) piece)) (sym e) (line_begins piece p.fault p)
 
 nothing_read : (f : Option Fault) (r : Result line.Meaning FaultKind) → unless_fault f (read_events r None) ≡ []
@@ -251,20 +251,20 @@ nothing_read (Some fault) r = refl
 nothing_read None (Err kind) = refl
 nothing_read None (Ok m) = refl
 
-pub nothing_brought : (piece : List ℕ) (p : Played) → p.bench ≡ None → line_events piece p ≡ []
+pub nothing_brought : (piece : List ℕ) (p : Played) → p.setup ≡ None → line_events piece p ≡ []
 nothing_brought piece p e = ap (λ o. unless_fault (one_more p piece).fault (read_events (read (line_in piece)) o)) e ∙ nothing_read (one_more p piece).fault (read (line_in piece))
 
-pub stopped : (pieces : List (List ℕ)) (p : Played) (fault : Fault) → p.fault ≡ Some fault → (fold one_more p pieces).bench ≡ p.bench
+pub stopped : (pieces : List (List ℕ)) (p : Played) (fault : Fault) → p.fault ≡ Some fault → (fold one_more p pieces).setup ≡ p.setup
 stopped [] p fault e = refl
 stopped (piece ∷ pieces) p fault e =
     let same : one_more p piece ≡ p = ap (λ f. unless_faulty piece f p) e in
-    stopped pieces (one_more p piece) fault (ap (λ (q : Played). q.fault) same ∙ e) ∙ ap (λ (q : Played). q.bench) same
+    stopped pieces (one_more p piece) fault (ap (λ (q : Played). q.fault) same ∙ e) ∙ ap (λ (q : Played). q.setup) same
 
 -- On a card that has just begun, no timer runs.
 fresh_kept : (c : Config) → IsKept (begun c)
 fresh_kept c = record { ticks = record { in_order = tt; on_lines = tt }; later = tt }
 
-pub record Ran (p : Played) (pieces : List (List ℕ)) (last : Bench) : Type 0 where
+pub record Ran (p : Played) (pieces : List (List ℕ)) (last : Setup) : Type 0 where
   pub config : Config
   pub begun : first_card pieces ≡ Some config
   pub in_range : IsInRange config
@@ -272,7 +272,7 @@ pub record Ran (p : Played) (pieces : List (List ℕ)) (last : Bench) : Type 0 w
   pub card : last.card ≡ after_all (fresh config) (events_from p pieces)
   pub kept : IsKept last
 
-lines_run : (pieces : List (List ℕ)) (p : Played) (last : Bench) → p.bench ≡ None → (fold one_more p pieces).bench ≡ Some last → Ran p pieces last
+lines_run : (pieces : List (List ℕ)) (p : Played) (last : Setup) → p.setup ≡ None → (fold one_more p pieces).setup ≡ Some last → Ran p pieces last
 lines_run [] p last e there = absurd (none-some last (sym e ∙ there))
 lines_run (piece ∷ pieces) p last e there = go (λ f. lines_run pieces (one_more p piece) last f there) (one_begins piece p e)
   where
@@ -285,7 +285,7 @@ lines_run (piece ∷ pieces) p last e there = go (λ f. lines_run pieces (one_mo
     after_line : Option Config → Option Config
     after_line o = elim o [ None ↦ first_card pieces | Some c ↦ Some c ]
 
-    go : (next.bench ≡ None → Ran next pieces last) → Begins (read (line_in piece)) next → Ran p (piece ∷ pieces) last
+    go : (next.setup ≡ None → Ran next pieces last) → Begins (read (line_in piece)) next → Ran p (piece ∷ pieces) last
     go later (waits none no_card) =
         let ran = later none in
         record {
@@ -309,10 +309,10 @@ lines_run (piece ∷ pieces) p last e there = go (λ f. lines_run pieces (one_mo
           kept = kept.0;
         }
 
-pub script_ran : (text : List ℕ) (bench : Bench) → (played (pieces_of text)).bench ≡ Some bench → Ran not_begun (pieces_of text) bench
-script_ran text bench there = lines_run (pieces_of text) not_begun bench refl there
+pub script_ran : (text : List ℕ) (setup : Setup) → (played (pieces_of text)).setup ≡ Some setup → Ran not_begun (pieces_of text) setup
+script_ran text setup there = lines_run (pieces_of text) not_begun setup refl there
 
 pub scripts_are_runs : ScriptsAreRuns
-scripts_are_runs text bench there =
-    let ran = script_ran text bench there in
+scripts_are_runs text setup there =
+    let ran = script_ran text setup there in
     record { config = ran.config; begun = ran.begun; in_range = ran.in_range; at_lines = ran.at_lines; card = ran.card }

@@ -8,10 +8,10 @@ use Rattle.model_card.proofs.Starts.{expiry_starts}
 use Rattle.lapd_clock.proofs.TimeUntil.{time_until-due, time_until-stop, time_until-start}
 use Rattle.lapd_clock.specs.Timer.{Timer, T200, T203, T201, Order, Start, Stop, duration}
 use Rattle.lapd_clock.specs.Timers.{Expiry, Timers, with_order, first_due, due_at, after_due, next_moment, time_until}
-use Rattle.model_line.specs.Answer as happening
+use Rattle.model_line.specs.Event as line_event
 use Rattle.model_line.specs.Laws.{orders_in}
 use Rattle.model_link.specs.Told.{starts}
-use Rattle.model_sim.specs.Bench.{Bench, ordered, happened}
+use Rattle.model_sim.specs.Setup.{Setup, ordered, happened}
 use Rattle.model_sim.specs.Steps.{Scene, answer_text, at_expiry, expired, expiries, until, moment_of}
 
 -- ---- with each expiry, as it starts at most one timer, the time that is left falls
@@ -48,18 +48,18 @@ first_is_due e es end due is = go (nat_le e.moment end) refl is
     go true within is = grind (arith, nat_tests, within)
     go false within is = not_due _ due is
 
-pub expiry_lowers : (end line : ℕ) (timer : Timer) (due : ℕ × Timer) (b : Bench) → due_at b.clock end ≡ Some due
-    → time_until end (happened (at_expiry end b) (at line (happening.expiry timer))).clock < time_until end b.clock
+pub expiry_lowers : (end line : ℕ) (timer : Timer) (due : ℕ × Timer) (b : Setup) → due_at b.clock end ≡ Some due
+    → time_until end (happened (at_expiry end b) (at line (line_event.expiry timer))).clock < time_until end b.clock
 expiry_lowers end line timer due b is = go b.clock.running refl
   where
-    go : (running : List Expiry) → b.clock.running ≡ running → time_until end (happened (at_expiry end b) (at line (happening.expiry timer))).clock < time_until end b.clock
+    go : (running : List Expiry) → b.clock.running ≡ running → time_until end (happened (at_expiry end b) (at line (line_event.expiry timer))).clock < time_until end b.clock
     go [] none = not_due _ due (sym (ap (λ es. first_due es end) none) ∙ is)
     go (e ∷ es) some =
         let now = moment_of (next_moment b.clock) in
         let is_now : now ≡ e.moment = ap (λ es. moment_of (next_moment (record b.clock { running = es }))) some in
         let within = first_is_due e es end due (sym (ap (λ es. first_due es end) some) ∙ is) in
         let less = time_until-due b.clock e es end end some within in
-        let more = time_until-one end line now (orders_in (answer (at line (happening.expiry timer)) b.card)) (after_due b.clock end) (expiry_starts line timer b.card) in
+        let more = time_until-one end line now (orders_in (answer (at line (line_event.expiry timer)) b.card)) (after_due b.clock end) (expiry_starts line timer b.card) in
         omega (arith, is_now, within, less, more)
 
 -- ---- what falls due is applied one after the other, however often it is tried beyond that
@@ -67,62 +67,62 @@ expiry_lowers end line timer due b is = go b.clock.running refl
 abbrev next_by : ℕ → ℕ → Scene → Option (ℕ × Timer) → Scene
 next_by n end s o = elim o [ None ↦ s | Some due ↦ expiries n end (expired end due.0 due.1 s) ]
 
-none_left : (n end : ℕ) (s : Scene) → due_at s.bench.clock end ≡ None → expiries n end s ≡ s
+none_left : (n end : ℕ) (s : Scene) → due_at s.setup.clock end ≡ None → expiries n end s ≡ s
 none_left zero end s is = refl
 none_left (suc n) end s is = ap (next_by n end s) is
 
-one_left : (n end : ℕ) (s : Scene) (due : ℕ × Timer) → due_at s.bench.clock end ≡ Some due → expiries (suc n) end s ≡ expiries n end (expired end due.0 due.1 s)
+one_left : (n end : ℕ) (s : Scene) (due : ℕ × Timer) → due_at s.setup.clock end ≡ Some due → expiries (suc n) end s ≡ expiries n end (expired end due.0 due.1 s)
 one_left n end s due is = ap (next_by n end s) is
 
-one_more : (n end : ℕ) (s : Scene) (o : Option (ℕ × Timer)) → due_at s.bench.clock end ≡ o → time_until end s.bench.clock ≤ n → expiries (suc n) end s ≡ expiries n end s
+one_more : (n end : ℕ) (s : Scene) (o : Option (ℕ × Timer)) → due_at s.setup.clock end ≡ o → time_until end s.setup.clock ≤ n → expiries (suc n) end s ≡ expiries n end s
 one_more n end s None is h = none_left (suc n) end s is ∙ sym (none_left n end s is)
-one_more zero end s (Some due) is h = absurd (omega (arith, h, expiry_lowers end due.0 due.1 due s.bench is))
+one_more zero end s (Some due) is h = absurd (omega (arith, h, expiry_lowers end due.0 due.1 due s.setup is))
 one_more (suc n) end s (Some due) is h =
     let next = expired end due.0 due.1 s in
-    let lower = expiry_lowers end due.0 due.1 due s.bench is in
-    one_left (suc n) end s due is ∙ one_more n end next (due_at next.bench.clock end) refl (omega (arith, h, lower)) ∙ sym (one_left n end s due is)
+    let lower = expiry_lowers end due.0 due.1 due s.setup is in
+    one_left (suc n) end s due is ∙ one_more n end next (due_at next.setup.clock end) refl (omega (arith, h, lower)) ∙ sym (one_left n end s due is)
 
-more : (extra n end : ℕ) (s : Scene) → time_until end s.bench.clock ≤ n → expiries (extra + n) end s ≡ expiries n end s
+more : (extra n end : ℕ) (s : Scene) → time_until end s.setup.clock ≤ n → expiries (extra + n) end s ≡ expiries n end s
 more zero n end s h =
     let none : 0 + n ≡ n = omega arith in
     ap (λ k. expiries k end s) none
 more (suc extra) n end s h =
     let one : suc extra + n ≡ suc (extra + n) = omega arith in
-    ap (λ k. expiries k end s) one ∙ one_more (extra + n) end s (due_at s.bench.clock end) refl (omega (arith, h)) ∙ more extra n end s h
+    ap (λ k. expiries k end s) one ∙ one_more (extra + n) end s (due_at s.setup.clock end) refl (omega (arith, h)) ∙ more extra n end s h
 
 -- and it is tried often enough: none is due any more
-pub drained : (n end : ℕ) (s : Scene) (o : Option (ℕ × Timer)) → due_at s.bench.clock end ≡ o → time_until end s.bench.clock ≤ n → due_at (expiries n end s).bench.clock end ≡ None
-drained n end s None is h = ap (λ (x : Scene). due_at x.bench.clock end) (none_left n end s is) ∙ is
-drained zero end s (Some due) is h = absurd (omega (arith, h, expiry_lowers end due.0 due.1 due s.bench is))
+pub drained : (n end : ℕ) (s : Scene) (o : Option (ℕ × Timer)) → due_at s.setup.clock end ≡ o → time_until end s.setup.clock ≤ n → due_at (expiries n end s).setup.clock end ≡ None
+drained n end s None is h = ap (λ (x : Scene). due_at x.setup.clock end) (none_left n end s is) ∙ is
+drained zero end s (Some due) is h = absurd (omega (arith, h, expiry_lowers end due.0 due.1 due s.setup is))
 drained (suc n) end s (Some due) is h =
     let next = expired end due.0 due.1 s in
-    let lower = expiry_lowers end due.0 due.1 due s.bench is in
-    ap (λ (x : Scene). due_at x.bench.clock end) (one_left n end s due is) ∙ drained n end next (due_at next.bench.clock end) refl (omega (arith, h, lower))
+    let lower = expiry_lowers end due.0 due.1 due s.setup is in
+    ap (λ (x : Scene). due_at x.setup.clock end) (one_left n end s due is) ∙ drained n end next (due_at next.setup.clock end) refl (omega (arith, h, lower))
 
 -- the first that falls due may be applied before
-pub until-expired : (end : ℕ) (s : Scene) (due : ℕ × Timer) → due_at s.bench.clock end ≡ Some due → until end s ≡ until end (expired end due.0 due.1 s)
+pub until-expired : (end : ℕ) (s : Scene) (due : ℕ × Timer) → due_at s.setup.clock end ≡ Some due → until end s ≡ until end (expired end due.0 due.1 s)
 until-expired end s due is =
     let next = expired end due.0 due.1 s in
-    let all = time_until end s.bench.clock in
-    let rest = time_until end next.bench.clock in
-    let lower : rest < all = expiry_lowers end due.0 due.1 due s.bench is in
+    let all = time_until end s.setup.clock in
+    let rest = time_until end next.setup.clock in
+    let lower : rest < all = expiry_lowers end due.0 due.1 due s.setup is in
     let one : all ≡ suc (all - 1) = omega (arith, lower) in
     let others : all - 1 ≡ (all - 1 - rest) + rest = omega (arith, lower) in
     let same : expiries all end s ≡ expiries rest end next =
     ap (λ n. expiries n end s) one ∙ one_left (all - 1) end s due is
     ∙ ap (λ n. expiries n end next) others ∙ more (all - 1 - rest) rest end next (omega arith) in
-    ap (λ (x : Scene). record x { bench = record x.bench { now = end } }) same
+    ap (λ (x : Scene). record x { setup = record x.setup { now = end } }) same
 
 -- where none falls due, the end comes
-pub until-over : (end : ℕ) (s : Scene) → due_at s.bench.clock end ≡ None → until end s ≡ record s { bench = record s.bench { now = end } }
-until-over end s is = ap (λ (x : Scene). record x { bench = record x.bench { now = end } }) (none_left (time_until end s.bench.clock) end s is)
+pub until-over : (end : ℕ) (s : Scene) → due_at s.setup.clock end ≡ None → until end s ≡ record s { setup = record s.setup { now = end } }
+until-over end s is = ap (λ (x : Scene). record x { setup = record x.setup { now = end } }) (none_left (time_until end s.setup.clock) end s is)
 
 -- what is said comes after what has been said
-pub text_grows : (n end : ℕ) (s : Scene) (o : Option (ℕ × Timer)) → due_at s.bench.clock end ≡ o → (later : List ℕ) × ((expiries n end s).text ≡ s.text ++ later)
+pub text_grows : (n end : ℕ) (s : Scene) (o : Option (ℕ × Timer)) → due_at s.setup.clock end ≡ o → (later : List ℕ) × ((expiries n end s).text ≡ s.text ++ later)
 text_grows zero end s o is = ([], sym (append-nil s.text))
 text_grows (suc n) end s None is = ([], ap (λ (x : Scene). x.text) (none_left (suc n) end s is) ∙ sym (append-nil s.text))
 text_grows (suc n) end s (Some due) is =
     let next = expired end due.0 due.1 s in
-    let said = answer_text due.0 (answer (at due.0 (happening.expiry due.1)) s.bench.card) in
-    let later : (later : List ℕ) × ((expiries n end next).text ≡ next.text ++ later) = text_grows n end next (due_at next.bench.clock end) refl in
+    let said = answer_text due.0 (answer (at due.0 (line_event.expiry due.1)) s.setup.card) in
+    let later : (later : List ℕ) × ((expiries n end next).text ≡ next.text ++ later) = text_grows n end next (due_at next.setup.clock end) refl in
     (said ++ later.0, ap (λ (x : Scene). x.text) (one_left n end s due is) ∙ later.1 ∙ append_assoc s.text said later.0)

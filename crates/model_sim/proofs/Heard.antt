@@ -14,7 +14,7 @@ use Rattle.lapd_bits.proofs.BitLemmas.{bits-append, length-bits, low_bits-number
 use Rattle.lapd_bits.proofs.FramerStands.{line_text-push}
 use Rattle.lapd_bits.proofs.OneEvent.{one_event_an_octet}
 use Rattle.lapd_bits.proofs.RoundTripFrame.{frames_round_trip_lem}
-use Rattle.model_sim.specs.Bench.{Terminal, with_frame, sending, octets_sent, after_sending, frame_in, found}
+use Rattle.model_sim.specs.Setup.{Terminal, with_frame, sending, octets_sent, after_sending, frame_in, found}
 use Rattle.model_sim.specs.Heard.{all_sent, FramesAreHeard}
 
 -- ---- bits, cut into octets

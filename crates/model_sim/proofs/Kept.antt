@@ -11,13 +11,13 @@ use Rattle.lapd_clock.specs.Timers.{Expiry, Timers, is_before, without, finds_pl
 use Rattle.lapd_clock.proofs.Calls.{all_later}
 use Rattle.lapd_clock.proofs.Ordered.{All-put_in_order, All-filter, IsInOrder-put_in_order, IsInOrder-filter}
 use Rattle.lapd_clock.proofs.TimerOrder.{before_order}
-use Rattle.model_line.specs.Answer.{octet, pull, expiry}
+use Rattle.model_line.specs.Event.{octet, pull, expiry}
 use Rattle.model_line.specs.Laws.{orders_in}
 use Rattle.model_card.specs.Card.{Card}
 use Rattle.model_card.specs.Event.{Event, at}
 use Rattle.model_card.specs.Machine.{answer}
 use Rattle.model_card.specs.Run.{IsAtLine, AreAtLines}
-use Rattle.model_sim.specs.Bench.{Bench, ordered, happened}
+use Rattle.model_sim.specs.Setup.{Setup, ordered, happened}
 use Rattle.model_sim.specs.Steps.{Scene, with_event, with_events, octets_at, Pulls, one_pull, pulls, at_expiry, expired, expiries}
 use Rattle.model_sim.specs.Events.{expiry_events}
 use Rattle.model_sim.proofs.Expiries.{runs_long}
@@ -68,13 +68,13 @@ pub record Kept (c : Timers) (lines now : ℕ) : Type 0 where
   pub ticks : Ticks c lines
   pub later : AllByRecursion (λ (e : Expiry). now < e.moment) c.running
 
-abbrev pub TicksOn : Bench → Type 0
+abbrev pub TicksOn : Setup → Type 0
 TicksOn b = Ticks b.clock b.card.config.lines
 
-abbrev pub IsKept : Bench → Type 0
+abbrev pub IsKept : Setup → Type 0
 IsKept b = Kept b.clock b.card.config.lines b.now
 
-event_ticks : (b : Bench) (e : Event) → IsAtLine b.card e → TicksOn b → TicksOn (happened b e)
+event_ticks : (b : Setup) (e : Event) → IsAtLine b.card e → TicksOn b → TicksOn (happened b e)
 event_ticks b e within t =
     let orders = orders_in (answer e b.card) in
     record {
@@ -82,20 +82,20 @@ event_ticks b e within t =
       on_lines = orders_keep (λ x. x.line < b.card.config.lines) e.line b.now orders b.clock (λ timer. within) t.on_lines;
     }
 
-event_kept : (b : Bench) (e : Event) → IsAtLine b.card e → IsKept b → IsKept (happened b e)
+event_kept : (b : Setup) (e : Event) → IsAtLine b.card e → IsKept b → IsKept (happened b e)
 event_kept b e within k = record {
   ticks = event_ticks b e within k.ticks;
   later = orders_keep (λ x. b.now < x.moment) e.line b.now (orders_in (answer e b.card)) b.clock (λ timer. omega (arith, runs_long timer)) k.later;
 }
 
-pub events_kept : (events : List Event) (s : Scene) → AreAtLines s.bench.card events → IsKept s.bench → IsKept (with_events events s).bench
+pub events_kept : (events : List Event) (s : Scene) → AreAtLines s.setup.card events → IsKept s.setup → IsKept (with_events events s).setup
 events_kept [] s within k = k
 events_kept (e ∷ events) s within k =
-    events_kept events (with_event s e) (All-tail (IsAtLine s.bench.card) e events within) (event_kept s.bench e (All-head (IsAtLine s.bench.card) e events within) k)
+    events_kept events (with_event s e) (All-tail (IsAtLine s.setup.card) e events within) (event_kept s.setup e (All-head (IsAtLine s.setup.card) e events within) k)
 
-pub pulls_kept : (count number : ℕ) (p : Pulls) → number < p.bench.card.config.lines → IsKept p.bench → IsKept (pulls count number p).bench
+pub pulls_kept : (count number : ℕ) (p : Pulls) → number < p.setup.card.config.lines → IsKept p.setup → IsKept (pulls count number p).setup
 pulls_kept zero number p within k = k
-pulls_kept (suc count) number p within k = pulls_kept count number (one_pull number p) within (event_kept p.bench (at number pull) within k)
+pulls_kept (suc count) number p within k = pulls_kept count number (one_pull number p) within (event_kept p.setup (at number pull) within k)
 
 -- the events of a line are at it
 pub octets_within : (card : Card) (number : ℕ) (octets : List ℕ) → number < card.config.lines → AreAtLines card (octets_at number octets)
@@ -125,7 +125,7 @@ rest_sorted : (es : List Expiry) (end : ℕ) → IsInOrder is_before es → IsIn
 rest_sorted [] end h = h
 rest_sorted (e ∷ es) end h = elim (nat_le e.moment end) as (λ b. IsInOrder is_before (cond b es (e ∷ es))) [ true ↦ h.1 | false ↦ h ]
 
-due_ticks : (end : ℕ) (b : Bench) → TicksOn b → TicksOn (at_expiry end b)
+due_ticks : (end : ℕ) (b : Setup) → TicksOn b → TicksOn (at_expiry end b)
 due_ticks end b t = record {
   in_order = rest_sorted b.clock.running end t.in_order;
   on_lines = rest_have (λ x. x.line < b.card.config.lines) b.clock.running end t.on_lines;
@@ -133,37 +133,37 @@ due_ticks end b t = record {
 
 -- The events of a wait are at lines of the card, as its timers are.
 pub record Waited (most end : ℕ) (s : Scene) : Type 0 where
-  pub within : AreAtLines s.bench.card (expiry_events most end s)
-  pub ticks : TicksOn (expiries most end s).bench
+  pub within : AreAtLines s.setup.card (expiry_events most end s)
+  pub ticks : TicksOn (expiries most end s).setup
 
-pub wait_ticks : (most end : ℕ) (s : Scene) → TicksOn s.bench → Waited most end s
-wait_ticks zero end s t = record { within = All-nil (IsAtLine s.bench.card); ticks = t }
+pub wait_ticks : (most end : ℕ) (s : Scene) → TicksOn s.setup → Waited most end s
+wait_ticks zero end s t = record { within = All-nil (IsAtLine s.setup.card); ticks = t }
 wait_ticks (suc most) end s t =
-    let answer = go (λ next. wait_ticks most end next) (due_at s.bench.clock end) refl in
+    let answer = go (λ next. wait_ticks most end next) (due_at s.setup.clock end) refl in
     record { within = answer.0; ticks = answer.1 }
   where
-    go : ((next : Scene) → TicksOn next.bench → Waited most end next) → (o : Option (ℕ × Timer)) → due_at s.bench.clock end ≡ o
-        → AreAtLines s.bench.card (elim o as (λ o. List Event) [ None ↦ [] | Some due ↦ at due.0 (expiry due.1) ∷ expiry_events most end (expired end due.0 due.1 s) ])
-        × TicksOn (elim o as (λ o. Scene) [ None ↦ s | Some due ↦ expiries most end (expired end due.0 due.1 s) ]).bench
-    go more None is = (All-nil (IsAtLine s.bench.card), t)
+    go : ((next : Scene) → TicksOn next.setup → Waited most end next) → (o : Option (ℕ × Timer)) → due_at s.setup.clock end ≡ o
+        → AreAtLines s.setup.card (elim o as (λ o. List Event) [ None ↦ [] | Some due ↦ at due.0 (expiry due.1) ∷ expiry_events most end (expired end due.0 due.1 s) ])
+        × TicksOn (elim o as (λ o. Scene) [ None ↦ s | Some due ↦ expiries most end (expired end due.0 due.1 s) ]).setup
+    go more None is = (All-nil (IsAtLine s.setup.card), t)
     go more (Some due) is =
         let e : Event = at due.0 (expiry due.1) in
         let next = expired end due.0 due.1 s in
-        let here = first_has (λ line. line < s.bench.card.config.lines) s.bench.clock.running end due is t.on_lines in
-        let rest = more next (event_ticks (at_expiry end s.bench) e here (due_ticks end s.bench t)) in
-        (All-cons (IsAtLine s.bench.card) e (expiry_events most end next) here rest.within, rest.ticks)
+        let here = first_has (λ line. line < s.setup.card.config.lines) s.setup.clock.running end due is t.on_lines in
+        let rest = more next (event_ticks (at_expiry end s.setup) e here (due_ticks end s.setup t)) in
+        (All-cons (IsAtLine s.setup.card) e (expiry_events most end next) here rest.within, rest.ticks)
 
 -- they stay in order while it lasts
-pub wait_sorts : (most end : ℕ) (s : Scene) → IsInOrder is_before s.bench.clock.running → IsInOrder is_before (expiries most end s).bench.clock.running
+pub wait_sorts : (most end : ℕ) (s : Scene) → IsInOrder is_before s.setup.clock.running → IsInOrder is_before (expiries most end s).setup.clock.running
 wait_sorts zero end s h = h
-wait_sorts (suc most) end s h = go (λ next. wait_sorts most end next) (due_at s.bench.clock end)
+wait_sorts (suc most) end s h = go (λ next. wait_sorts most end next) (due_at s.setup.clock end)
   where
-    go : ((next : Scene) → IsInOrder is_before next.bench.clock.running → IsInOrder is_before (expiries most end next).bench.clock.running) → (o : Option (ℕ × Timer))
-        → IsInOrder is_before (elim o as (λ o. Scene) [ None ↦ s | Some due ↦ expiries most end (expired end due.0 due.1 s) ]).bench.clock.running
+    go : ((next : Scene) → IsInOrder is_before next.setup.clock.running → IsInOrder is_before (expiries most end next).setup.clock.running) → (o : Option (ℕ × Timer))
+        → IsInOrder is_before (elim o as (λ o. Scene) [ None ↦ s | Some due ↦ expiries most end (expired end due.0 due.1 s) ]).setup.clock.running
     go more None = h
     go more (Some due) =
-        let b = at_expiry end s.bench in
-        more (expired end due.0 due.1 s) (orders_sort due.0 b.now (orders_in (answer (at due.0 (expiry due.1)) b.card)) b.clock (rest_sorted s.bench.clock.running end h))
+        let b = at_expiry end s.setup in
+        more (expired end due.0 due.1 s) (orders_sort due.0 b.now (orders_in (answer (at due.0 (expiry due.1)) b.card)) b.clock (rest_sorted s.setup.clock.running end h))
 
 -- where none is due, all are later
 pub none_later : (es : List Expiry) (end : ℕ) → IsInOrder is_before es → first_due es end ≡ None → All (λ (e : Expiry). end < e.moment) es

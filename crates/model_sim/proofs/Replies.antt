@@ -5,7 +5,7 @@ use Rattle.std.proofs.lemmas.Option.{none-some}
 use Rattle.lapd_frame.specs.declared.timers.Timer.{Timer}
 use Rattle.lapd_clock.specs.Timers as clocks
 use Rattle.model_line.specs.declared.config.Config.{Config}
-use Rattle.model_line.specs.Answer.{pull, expiry}
+use Rattle.model_line.specs.Event.{pull, expiry}
 use Rattle.model_card.specs.Event.{Event, at}
 use Rattle.model_card.specs.Card.{Card, fresh}
 use Rattle.model_card.specs.Machine.{after, answer}
@@ -15,7 +15,7 @@ use Rattle.lapd_script.specs.declared.kind.FaultKind.TheVariants.{TooLong, BadLi
 use Rattle.lapd_script.specs.Meaning as line
 use Rattle.lapd_script.specs.Read.{read}
 use Rattle.model_sim.specs.Pieces.{pieces_of, line_in}
-use Rattle.model_sim.specs.Bench.{Bench, begun, terminal_at, octets_sent}
+use Rattle.model_sim.specs.Setup.{Setup, begun, terminal_at, octets_sent}
 use Rattle.model_sim.specs.Steps.{Scene, answer_text, octet_in, pulled_text, with_event, with_events, octets_at, Pulls, one_pull, pulls, expired, expiries, after_rx, after_in, after_pull, after_wait, with_card, without_card, is_frame, last_moment}
 use Rattle.model_sim.specs.Script.{Fault, Played, not_begun, faulty, is_too_long, after_scene, after_bench, after_reading, one_more}
 use Rattle.model_sim.specs.Events.{expiry_events, read_events, unless_fault, line_events, events_from, first_card}
@@ -37,38 +37,38 @@ unfolding moments
 first_moment card e events = refl
 
 -- Events, pulls and expiries.
-events_say : (events : List Event) (s : Scene) → (with_events events s).text ≡ s.text ++ replies_text (moments s.bench.card events)
+events_say : (events : List Event) (s : Scene) → (with_events events s).text ≡ s.text ++ replies_text (moments s.setup.card events)
 unfolding moments
 events_say [] s = sym (append-nil s.text)
 events_say (e ∷ events) s =
     events_say events (with_event s e)
-    ∙ append_assoc s.text (answer_text e.line (answer e s.bench.card)) (replies_text (moments (after e s.bench.card) events))
+    ∙ append_assoc s.text (answer_text e.line (answer e s.setup.card)) (replies_text (moments (after e s.setup.card) events))
 
-pulls_give : (count number : ℕ) (p : Pulls) → (pulls count number p).octets ≡ p.octets ++ map octet_given (moments p.bench.card (replicate count (at number pull)))
+pulls_give : (count number : ℕ) (p : Pulls) → (pulls count number p).octets ≡ p.octets ++ map octet_given (moments p.setup.card (replicate count (at number pull)))
 unfolding moments
 pulls_give zero number p = sym (append-nil p.octets)
 pulls_give (suc count) number p =
     pulls_give count number (one_pull number p)
-    ∙ append_assoc p.octets (octet_in (answer (at number pull) p.bench.card) ∷ []) (map octet_given (moments (after (at number pull) p.bench.card) (replicate count (at number pull))))
+    ∙ append_assoc p.octets (octet_in (answer (at number pull) p.setup.card) ∷ []) (map octet_given (moments (after (at number pull) p.setup.card) (replicate count (at number pull))))
 
-pulls_keep : (count number : ℕ) (p : Pulls) → (pulls count number p).bench.taken ≡ p.bench.taken
+pulls_keep : (count number : ℕ) (p : Pulls) → (pulls count number p).setup.taken ≡ p.setup.taken
 pulls_keep zero number p = refl
 pulls_keep (suc count) number p = pulls_keep count number (one_pull number p)
 
-expiries_say : (most end : ℕ) (s : Scene) → (expiries most end s).text ≡ s.text ++ replies_text (moments s.bench.card (expiry_events most end s))
-expiries_say zero end s = sym (ap (λ ms. s.text ++ replies_text ms) (no_moment s.bench.card) ∙ append-nil s.text)
-expiries_say (suc most) end s = go (λ t. expiries_say most end t) (clocks.due_at s.bench.clock end)
+expiries_say : (most end : ℕ) (s : Scene) → (expiries most end s).text ≡ s.text ++ replies_text (moments s.setup.card (expiry_events most end s))
+expiries_say zero end s = sym (ap (λ ms. s.text ++ replies_text ms) (no_moment s.setup.card) ∙ append-nil s.text)
+expiries_say (suc most) end s = go (λ t. expiries_say most end t) (clocks.due_at s.setup.clock end)
   where
-    go : ((t : Scene) → (expiries most end t).text ≡ t.text ++ replies_text (moments t.bench.card (expiry_events most end t))) → (o : Option (ℕ × Timer))
+    go : ((t : Scene) → (expiries most end t).text ≡ t.text ++ replies_text (moments t.setup.card (expiry_events most end t))) → (o : Option (ℕ × Timer))
         → (elim o as (λ o. Scene) [ None ↦ s | Some due ↦ expiries most end (expired end due.0 due.1 s) ]).text
-        ≡ s.text ++ replies_text (moments s.bench.card (elim o as (λ o. List Event) [ None ↦ [] | Some due ↦ at due.0 (expiry due.1) ∷ expiry_events most end (expired end due.0 due.1 s) ]))
-    go more None = sym (ap (λ ms. s.text ++ replies_text ms) (no_moment s.bench.card) ∙ append-nil s.text)
+        ≡ s.text ++ replies_text (moments s.setup.card (elim o as (λ o. List Event) [ None ↦ [] | Some due ↦ at due.0 (expiry due.1) ∷ expiry_events most end (expired end due.0 due.1 s) ]))
+    go more None = sym (ap (λ ms. s.text ++ replies_text ms) (no_moment s.setup.card) ∙ append-nil s.text)
     go more (Some due) =
         let e : Event = at due.0 (expiry due.1) in
         let rest = expiry_events most end (expired end due.0 due.1 s) in
         more (expired end due.0 due.1 s)
-        ∙ append_assoc s.text (answer_text due.0 (answer e s.bench.card)) (replies_text (moments (after e s.bench.card) rest))
-        ∙ ap (λ x. s.text ++ x) (sym (first_moment s.bench.card e rest))
+        ∙ append_assoc s.text (answer_text due.0 (answer e s.setup.card)) (replies_text (moments (after e s.setup.card) rest))
+        ∙ ap (λ x. s.text ++ x) (sym (first_moment s.setup.card e rest))
 
 -- A line, where there is a card.
 abbrev Says : List ℕ → Result Scene FaultKind → Type 0
@@ -79,10 +79,10 @@ if_good : (b : Bool) (text : List ℕ) (r : Result Scene FaultKind) (kind : Faul
 if_good true text r kind h = h
 if_good false text r kind h = tt
 
-abbrev scene_of : Bench → Scene
-scene_of b = record { bench = b; text = [] }
+abbrev scene_of : Setup → Scene
+scene_of b = record { setup = b; text = [] }
 
-meaning_says : (m : line.Meaning) (b : Bench) → Says (said m b (meant_moments m b)) (with_card m (scene_of b))
+meaning_says : (m : line.Meaning) (b : Setup) → Says (said m b (meant_moments m b)) (with_card m (scene_of b))
 meaning_says line.skip b = refl
 meaning_says (line.card config) b = tt
 meaning_says (line.rx number octets) b =
@@ -93,7 +93,7 @@ meaning_says (line.into number octets) b =
     if_good (nat_lt number b.card.config.lines) (replies_text (moments b.card events)) (cond (is_frame octets) (Ok (after_in number octets (scene_of b))) (Err BadFrame)) BadLine
     (if_good (is_frame octets) (replies_text (moments b.card events)) (Ok (after_in number octets (scene_of b))) BadFrame (events_say events _))
 meaning_says (line.pull number count) b =
-    let start : Pulls = record { bench = b; octets = [] } in
+    let start : Pulls = record { setup = b; octets = [] } in
     let text = said (line.pull number count) b (meant_moments (line.pull number count) b) in
     if_good (nat_lt number b.card.config.lines) text (Ok (after_pull number count (scene_of b))) BadLine
     (pulls_text number _ _ _ _ (pulls_keep count number start) (pulls_give count number start))
@@ -113,8 +113,8 @@ meaning_says (line.ask number tei what octets) b =
 abbrev Writes : List ℕ → List ℕ → Played → Type 0
 Writes before text q = q.written ≡ before ++ unless_fault q.fault text
 
-abbrev on : Option Bench → Option Fault → Played → Played
-on bench fault p = record p { bench = bench; fault = fault }
+abbrev on : Option Setup → Option Fault → Played → Played
+on setup fault p = record p { setup = setup; fault = fault }
 
 writes_nothing : (before : List ℕ) → before ≡ before ++ []
 writes_nothing before = sym (append-nil before)
@@ -123,7 +123,7 @@ scene_writes : (piece : List ℕ) (p : Played) (text : List ℕ) (r : Result Sce
 scene_writes piece p text (Err kind) clear h = writes_nothing p.written
 scene_writes piece p text (Ok s) clear h = ap (λ x. p.written ++ x) (h ∙ ap (λ f. unless_fault f text) (sym clear))
 
-without_writes : (piece : List ℕ) (p : Played) (r : Result (Option Bench) FaultKind) → Writes p.written [] (after_bench piece r p)
+without_writes : (piece : List ℕ) (p : Played) (r : Result (Option Setup) FaultKind) → Writes p.written [] (after_bench piece r p)
 without_writes piece p (Err kind) = writes_nothing p.written
 without_writes piece p (Ok b) = writes_nothing p.written ∙ ap (λ x. p.written ++ x) (nothing p.fault)
   where
@@ -131,14 +131,14 @@ without_writes piece p (Ok b) = writes_nothing p.written ∙ ap (λ x. p.written
     nothing None = refl
     nothing (Some fault) = refl
 
-reading_writes : (piece : List ℕ) (o : Option Bench) (p : Played) (r : Result line.Meaning FaultKind)
+reading_writes : (piece : List ℕ) (o : Option Setup) (p : Played) (r : Result line.Meaning FaultKind)
     → Writes p.written (read_text r o) (after_reading piece r (on o None p))
 reading_writes piece o p (Err kind) = writes_nothing p.written
 reading_writes piece None p (Ok m) = without_writes piece (on None None p) (without_card m)
 reading_writes piece (Some b) p (Ok m) =
     scene_writes piece (on (Some b) None p) (said m b (meant_moments m b)) (with_card m (scene_of b)) refl (meaning_says m b)
 
-line_writes : (piece : List ℕ) (o : Option Bench) (fault : Option Fault) (p : Played)
+line_writes : (piece : List ℕ) (o : Option Setup) (fault : Option Fault) (p : Played)
     → Writes p.written (read_text (read (line_in piece)) o) (one_more (on o fault p) piece)
 line_writes piece o (Some fault) p = writes_nothing p.written
 line_writes piece o None p = go (is_too_long piece (on o None p))
@@ -152,35 +152,35 @@ lines_write : (pieces : List (List ℕ)) (p : Played) → (fold one_more p piece
 lines_write [] p = writes_nothing p.written
 lines_write (piece ∷ pieces) p =
     lines_write pieces (one_more p piece)
-    ∙ ap (λ x. x ++ text_from (one_more p piece) pieces) (line_writes piece p.bench p.fault p)
+    ∙ ap (λ x. x ++ text_from (one_more p piece) pieces) (line_writes piece p.setup p.fault p)
     ∙ append_assoc p.written (line_text piece p) (text_from (one_more p piece) pieces)
 
 -- The moments, line after line.
-same_moments : (b : Bench) (fault : Option Fault) (r : Result line.Meaning FaultKind)
+same_moments : (b : Setup) (fault : Option Fault) (r : Result line.Meaning FaultKind)
     → moments b.card (unless_fault fault (read_events r (Some b))) ≡ unless_fault fault (read_moments r (Some b))
 same_moments b (Some fault) r = no_moment b.card
 same_moments b None (Err kind) = no_moment b.card
 same_moments b None (Ok m) = refl
 
-line_moments_are : (piece : List ℕ) (p : Played) (b : Bench) → p.bench ≡ Some b → moments b.card (line_events piece p) ≡ line_moments piece p
+line_moments_are : (piece : List ℕ) (p : Played) (b : Setup) → p.setup ≡ Some b → moments b.card (line_events piece p) ≡ line_moments piece p
 line_moments_are piece p b e =
     subst (λ o. moments b.card (unless_fault (one_more p piece).fault (read_events (read (line_in piece)) o)) ≡ unless_fault (one_more p piece).fault (read_moments (read (line_in piece)) o))
     (sym e) (same_moments b (one_more p piece).fault (read (line_in piece)))
 
-lines_moments : (pieces : List (List ℕ)) (p : Played) (b : Bench) → p.bench ≡ Some b → moments b.card (events_from p pieces) ≡ moments_from p pieces
+lines_moments : (pieces : List (List ℕ)) (p : Played) (b : Setup) → p.setup ≡ Some b → moments b.card (events_from p pieces) ≡ moments_from p pieces
 lines_moments [] p b e = no_moment b.card
 lines_moments (piece ∷ pieces) p b e =
     let step = one_goes piece b p e in
     moments-append b.card (line_events piece p) (events_from (one_more p piece) pieces)
     ∙ ap (λ ms. ms ++ moments (after_all b.card (line_events piece p)) (events_from (one_more p piece) pieces)) (line_moments_are piece p b e)
-    ∙ ap (λ ms. line_moments piece p ++ ms) (ap (λ c. moments c (events_from (one_more p piece) pieces)) (sym step.led.card) ∙ lines_moments pieces (one_more p piece) step.bench step.there)
+    ∙ ap (λ ms. line_moments piece p ++ ms) (ap (λ c. moments c (events_from (one_more p piece) pieces)) (sym step.led.card) ∙ lines_moments pieces (one_more p piece) step.setup step.there)
 
 nothing_met : (fault : Option Fault) (r : Result line.Meaning FaultKind) → unless_fault fault (read_moments r None) ≡ []
 nothing_met (Some fault) r = refl
 nothing_met None (Err kind) = refl
 nothing_met None (Ok m) = refl
 
-moments_run : (pieces : List (List ℕ)) (p : Played) (last : Bench) (c : Config) → p.bench ≡ None → (fold one_more p pieces).bench ≡ Some last
+moments_run : (pieces : List (List ℕ)) (p : Played) (last : Setup) (c : Config) → p.setup ≡ None → (fold one_more p pieces).setup ≡ Some last
     → first_card pieces ≡ Some c → moments (fresh c) (events_from p pieces) ≡ moments_from p pieces
 moments_run [] p last c e there is_card = absurd (none-some last (sym e ∙ there))
 moments_run (piece ∷ pieces) p last c e there is_card =
@@ -197,7 +197,7 @@ moments_run (piece ∷ pieces) p last c e there is_card =
     after_line : Option Config → Option Config
     after_line o = elim o [ None ↦ first_card pieces | Some d ↦ Some d ]
 
-    go : (next.bench ≡ None → first_card pieces ≡ Some c → moments (fresh c) (events_from next pieces) ≡ moments_from next pieces)
+    go : (next.setup ≡ None → first_card pieces ≡ Some c → moments (fresh c) (events_from next pieces) ≡ moments_from next pieces)
         → Begins (read (line_in piece)) next → moments (fresh c) (events_from next pieces) ≡ moments_from next pieces
     go more (waits none no_card) = more none (sym (ap after_line no_card) ∙ is_card)
     go more (stops none fault f) = absurd (none-some last (sym none ∙ sym (stopped pieces next fault f) ∙ there))
@@ -208,6 +208,6 @@ moments_run (piece ∷ pieces) p last c e there is_card =
 
 pub transcripts_are_replies : TranscriptsAreReplies
 transcripts_are_replies = record {
-  by_line = λ text bench c there is_card. moments_run (pieces_of text) not_begun bench c refl there is_card;
+  by_line = λ text setup c there is_card. moments_run (pieces_of text) not_begun setup c refl there is_card;
   text = λ text. lines_write (pieces_of text) not_begun;
 }

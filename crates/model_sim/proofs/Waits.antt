@@ -9,20 +9,20 @@ use Rattle.model_sim.proofs.Events.{script_ran}
 use Rattle.model_sim.proofs.Expiries.{drained}
 use Rattle.model_sim.proofs.Kept.{wait_sorts, none_later}
 
-none_due : (milliseconds : ℕ) (s : Scene) → due_at (after_wait milliseconds s).bench.clock (s.bench.now + milliseconds) ≡ None
+none_due : (milliseconds : ℕ) (s : Scene) → due_at (after_wait milliseconds s).setup.clock (s.setup.now + milliseconds) ≡ None
 none_due milliseconds s =
-    let end = s.bench.now + milliseconds in
-    drained (time_until end s.bench.clock) end s (due_at s.bench.clock end) refl (omega arith)
+    let end = s.setup.now + milliseconds in
+    drained (time_until end s.setup.clock) end s (due_at s.setup.clock end) refl (omega arith)
 
-all_later : (milliseconds : ℕ) (s : Scene) → IsInOrder is_before s.bench.clock.running → AllLater (s.bench.now + milliseconds) (after_wait milliseconds s).bench
+all_later : (milliseconds : ℕ) (s : Scene) → IsInOrder is_before s.setup.clock.running → AllLater (s.setup.now + milliseconds) (after_wait milliseconds s).setup
 all_later milliseconds s order =
-    let end = s.bench.now + milliseconds in
-    none_later _ end (wait_sorts (time_until end s.bench.clock) end s order) (none_due milliseconds s)
+    let end = s.setup.now + milliseconds in
+    none_later _ end (wait_sorts (time_until end s.setup.clock) end s order) (none_due milliseconds s)
 
 pub waits_leave_nothing_due : WaitsLeaveNothingDue
 waits_leave_nothing_due = record {
   ends = λ milliseconds s. refl;
   none_due = none_due;
   all_later = all_later;
-  of_scripts = λ text bench there. All-from_recursion (λ held. bench.now < held.moment) bench.clock.running (script_ran text bench there).kept.later;
+  of_scripts = λ text setup there. All-from_recursion (λ held. setup.now < held.moment) setup.clock.running (script_ran text setup there).kept.later;
 }

@@ -9,7 +9,7 @@ use Rattle.model_card.specs.Stored.{stored}
 use Rattle.model_line.specs.Sound.{IsInRange}
 use Rattle.model_card.proofs.CardSound.{cards_stay_sound}
 use Rattle.model_card.proofs.Stored.{stored_within_limit}
-use Rattle.model_sim.specs.Bench.{Bench}
+use Rattle.model_sim.specs.Setup.{Setup}
 use Rattle.model_sim.specs.Events.{script_events, HasRun}
 use Rattle.model_sim.specs.Within.{bound_of, ScriptsStayWithin}
 use Rattle.model_sim.proofs.Events.{config_stays, scripts_are_runs}
@@ -17,23 +17,23 @@ use Rattle.model_sim.proofs.Events.{config_stays, scripts_are_runs}
 run_within : (c : Config) (events : List Event) → IsInRange c → AreAtLines (fresh c) events → stored (after_all (fresh c) events) ≤ bound_of c
 run_within c events ranged within = stored_within_limit.always (fresh c) events (cards_stay_sound.begins c ranged) within
 
-module _ (text : List ℕ) (bench : Bench) (run : HasRun text bench) where
-  same_config : run.config ≡ bench.card.config
+module _ (text : List ℕ) (setup : Setup) (run : HasRun text setup) where
+  same_config : run.config ≡ setup.card.config
   same_config = sym (ap (λ (x : Card). x.config) run.card ∙ config_stays (fresh run.config) (script_events text))
 
-  always_within : (count : ℕ) → stored (after_all (fresh bench.card.config) (take count (script_events text))) ≤ bound_of bench.card.config
+  always_within : (count : ℕ) → stored (after_all (fresh setup.card.config) (take count (script_events text))) ≤ bound_of setup.card.config
   always_within count =
       subst (λ c. stored (after_all (fresh c) (take count (script_events text))) ≤ bound_of c) same_config
       (run_within run.config (take count (script_events text)) run.in_range (All-take (IsAtLine (fresh run.config)) count (script_events text) run.at_lines))
 
-  last_within : stored bench.card ≤ bound_of bench.card.config
+  last_within : stored setup.card ≤ bound_of setup.card.config
   last_within =
-      subst (λ c. stored bench.card ≤ bound_of c) same_config
+      subst (λ c. stored setup.card ≤ bound_of c) same_config
       (subst (λ card. stored card ≤ bound_of run.config) (sym run.card) (run_within run.config (script_events text) run.in_range run.at_lines))
 
 pub scripts_stay_within : ScriptsStayWithin
 scripts_stay_within = record {
-  always = λ text bench count there. always_within text bench (scripts_are_runs text bench there) count;
-  last = λ text bench there. last_within text bench (scripts_are_runs text bench there);
+  always = λ text setup count there. always_within text setup (scripts_are_runs text setup there) count;
+  last = λ text setup there. last_within text setup (scripts_are_runs text setup there);
   same = λ c. refl;
 }

@@ -1,8 +1,8 @@
--- The events at the card that a script brings, and what its bench has to do with them.
+-- The events at the card that a script brings, and what its setup has to do with them.
 use Rattle.std.specs.Prelude.{◌≡◌, ℕ, zero, suc, ◌+◌, List, [], ◌∷◌, ◌++◌, replicate, Option, None, Some, Result, Ok, Err}
 use Rattle.lapd_clock.specs.Timers as clocks
 use Rattle.model_line.specs.declared.config.Config.{Config}
-use Rattle.model_line.specs.Answer.{expiry, request, pull}
+use Rattle.model_line.specs.Event.{expiry, request, pull}
 use Rattle.model_line.specs.Sound.{IsInRange}
 use Rattle.model_card.specs.Event.{Event, at}
 use Rattle.model_card.specs.Card.{fresh}
@@ -11,34 +11,34 @@ use Rattle.lapd_script.specs.declared.kind.FaultKind.{FaultKind}
 use Rattle.lapd_script.specs.Meaning as line
 use Rattle.lapd_script.specs.Read.{read}
 use Rattle.model_sim.specs.Pieces.{pieces_of, line_in}
-use Rattle.model_sim.specs.Bench.{Bench, terminal_at, octets_sent}
+use Rattle.model_sim.specs.Setup.{Setup, terminal_at, octets_sent}
 use Rattle.model_sim.specs.Steps.{Scene, octets_at, expired, request_for}
 use Rattle.model_sim.specs.Script.{Fault, Played, not_begun, one_more, played}
 
 -- `wait`: the expiries that fall due up to its end, one after the other.
 abbrev pub expiry_events : ℕ → ℕ → Scene → List Event
 expiry_events zero end s = []
-expiry_events (suc more) end s = elim (clocks.due_at s.bench.clock end) [ None ↦ [] | Some due ↦ at due.0 (expiry due.1) ∷ expiry_events more end (expired end due.0 due.1 s) ]
+expiry_events (suc more) end s = elim (clocks.due_at s.setup.clock end) [ None ↦ [] | Some due ↦ at due.0 (expiry due.1) ∷ expiry_events more end (expired end due.0 due.1 s) ]
 
 abbrev pub events_until : ℕ → Scene → List Event
-events_until end s = expiry_events (clocks.time_until end s.bench.clock) end s
+events_until end s = expiry_events (clocks.time_until end s.setup.clock) end s
 
 -- What a line brings where there is a card.
 abbrev pub meant_events : line.Meaning → Scene → List Event
 meant_events line.skip s = []
 meant_events (line.card config) s = []
 meant_events (line.rx number octets) s = octets_at number octets
-meant_events (line.into number octets) s = octets_at number (octets_sent octets (terminal_at number s.bench))
+meant_events (line.into number octets) s = octets_at number (octets_sent octets (terminal_at number s.setup))
 meant_events (line.pull number count) s = replicate count (at number pull)
-meant_events (line.wait milliseconds) s = events_until (s.bench.now + milliseconds) s
+meant_events (line.wait milliseconds) s = events_until (s.setup.now + milliseconds) s
 meant_events line.stored s = []
 meant_events (line.ask number tei what octets) s = at number (request (request_for what tei octets)) ∷ []
 
 -- Before the card line, nothing.
-abbrev pub read_events : Result line.Meaning FaultKind → Option Bench → List Event
-read_events (Err kind) bench = []
+abbrev pub read_events : Result line.Meaning FaultKind → Option Setup → List Event
+read_events (Err kind) setup = []
 read_events (Ok m) None = []
-read_events (Ok m) (Some bench) = meant_events m (record { bench = bench; text = [] })
+read_events (Ok m) (Some setup) = meant_events m (record { setup = setup; text = [] })
 
 -- Nor does the faulty line bring anything, and no line after it.
 abbrev pub unless_fault : {X : Type 0} → Option Fault → List X → List X
@@ -46,7 +46,7 @@ unless_fault None xs = xs
 unless_fault (Some fault) xs = []
 
 abbrev pub line_events : List ℕ → Played → List Event
-line_events piece p = unless_fault (one_more p piece).fault (read_events (read (line_in piece)) p.bench)
+line_events piece p = unless_fault (one_more p piece).fault (read_events (read (line_in piece)) p.setup)
 
 -- Of lines, from where the script has been played to.
 abbrev pub events_from : Played → List (List ℕ) → List Event
@@ -72,14 +72,14 @@ abbrev pub first_card : List (List ℕ) → Option Config
 first_card [] = None
 first_card (piece ∷ pieces) = elim (card_meant (read (line_in piece))) [ None ↦ first_card pieces | Some c ↦ Some c ]
 
--- The card on the bench is that of the card line, fresh, after the script's events. Its configuration is one with which
+-- The card on the setup is that of the card line, fresh, after the script's events. Its configuration is one with which
 -- a card can be started, and the events are at its lines: so laws of runs hold of it.
-pub record HasRun (text : List ℕ) (bench : Bench) : Type 0 where
+pub record HasRun (text : List ℕ) (setup : Setup) : Type 0 where
   pub config : Config
   pub begun : first_card (pieces_of text) ≡ Some config
   pub in_range : IsInRange config
   pub at_lines : AreAtLines (fresh config) (script_events text)
-  pub card : bench.card ≡ after_all (fresh config) (script_events text)
+  pub card : setup.card ≡ after_all (fresh config) (script_events text)
 
 abbrev pub ScriptsAreRuns : Type 0
-ScriptsAreRuns = (text : List ℕ) (bench : Bench) → (played (pieces_of text)).bench ≡ Some bench → HasRun text bench
+ScriptsAreRuns = (text : List ℕ) (setup : Setup) → (played (pieces_of text)).setup ≡ Some setup → HasRun text setup

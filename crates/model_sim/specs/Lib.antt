@@ -1,5 +1,5 @@
 pub mod Pieces
-pub mod Bench
+pub mod Setup
 pub mod Steps
 pub mod Script
 pub mod Events

@@ -9,7 +9,7 @@ use Rattle.lapd_script.specs.Meaning as line
 use Rattle.lapd_script.specs.Read.{read}
 use Rattle.lapd_transcript.specs.Text.{stored_text}
 use Rattle.model_sim.specs.Pieces.{pieces_of, line_in}
-use Rattle.model_sim.specs.Bench.{Bench, taken_at}
+use Rattle.model_sim.specs.Setup.{Setup, taken_at}
 use Rattle.model_sim.specs.Steps.{answer_text, octet_in, pulled_text}
 use Rattle.model_sim.specs.Script.{Played, not_begun, one_more, played, transcript}
 use Rattle.model_sim.specs.Events.{meant_events, unless_fault, script_events, first_card}
@@ -26,7 +26,7 @@ octet_given m = octet_in m.answer
 
 -- What a line says, where its events have these answers: of the octets that it pulls, all together; `stored` shows the
 -- card.
-abbrev pub said : line.Meaning → Bench → List Moment → List ℕ
+abbrev pub said : line.Meaning → Setup → List Moment → List ℕ
 said line.skip b ms = []
 said (line.card config) b ms = []
 said (line.rx number octets) b ms = replies_text ms
@@ -37,24 +37,24 @@ said line.stored b ms = stored_text (stored b.card) (limit b.card.config)
 said (line.ask number tei what octets) b ms = replies_text ms
 
 -- The moments of a line, and what it says; before the card line, and from the first faulty line on, nothing.
-abbrev pub meant_moments : line.Meaning → Bench → List Moment
-meant_moments m b = moments b.card (meant_events m (record { bench = b; text = [] }))
+abbrev pub meant_moments : line.Meaning → Setup → List Moment
+meant_moments m b = moments b.card (meant_events m (record { setup = b; text = [] }))
 
-abbrev pub read_moments : Result line.Meaning FaultKind → Option Bench → List Moment
-read_moments (Err kind) bench = []
+abbrev pub read_moments : Result line.Meaning FaultKind → Option Setup → List Moment
+read_moments (Err kind) setup = []
 read_moments (Ok m) None = []
 read_moments (Ok m) (Some b) = meant_moments m b
 
-abbrev pub read_text : Result line.Meaning FaultKind → Option Bench → List ℕ
-read_text (Err kind) bench = []
+abbrev pub read_text : Result line.Meaning FaultKind → Option Setup → List ℕ
+read_text (Err kind) setup = []
 read_text (Ok m) None = []
 read_text (Ok m) (Some b) = said m b (meant_moments m b)
 
 abbrev pub line_moments : List ℕ → Played → List Moment
-line_moments piece p = unless_fault (one_more p piece).fault (read_moments (read (line_in piece)) p.bench)
+line_moments piece p = unless_fault (one_more p piece).fault (read_moments (read (line_in piece)) p.setup)
 
 abbrev pub line_text : List ℕ → Played → List ℕ
-line_text piece p = unless_fault (one_more p piece).fault (read_text (read (line_in piece)) p.bench)
+line_text piece p = unless_fault (one_more p piece).fault (read_text (read (line_in piece)) p.setup)
 
 -- Of lines, from where the script has been played to.
 abbrev pub moments_from : Played → List (List ℕ) → List Moment
@@ -68,6 +68,6 @@ text_from p (piece ∷ pieces) = line_text piece p ++ text_from (one_more p piec
 -- The moments of the lines, one after the other, are those of the run of the script's events from the fresh card on;
 -- and the transcript is what the lines say of them.
 pub record TranscriptsAreReplies : Type 0 where
-  pub by_line : (text : List ℕ) (bench : Bench) (c : Config) → (played (pieces_of text)).bench ≡ Some bench → first_card (pieces_of text) ≡ Some c
+  pub by_line : (text : List ℕ) (setup : Setup) (c : Config) → (played (pieces_of text)).setup ≡ Some setup → first_card (pieces_of text) ≡ Some c
       → moments (fresh c) (script_events text) ≡ moments_from not_begun (pieces_of text)
   pub text : (text : List ℕ) → transcript text ≡ text_from not_begun (pieces_of text)

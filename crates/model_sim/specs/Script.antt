@@ -5,7 +5,7 @@ use Rattle.lapd_script.specs.declared.kind.FaultKind.TheVariants.{TooLong}
 use Rattle.lapd_script.specs.Meaning.{Meaning}
 use Rattle.lapd_script.specs.Read.{read}
 use Rattle.model_sim.specs.Pieces.{pieces_of, line_in}
-use Rattle.model_sim.specs.Bench.{Bench}
+use Rattle.model_sim.specs.Setup.{Setup}
 use Rattle.model_sim.specs.Steps.{Scene, with_card, without_card}
 
 -- The first faulty line, counted from 1, and what is wrong with it.
@@ -13,17 +13,17 @@ pub record Fault : Type 0 where
   pub line : ℕ
   pub kind : FaultKind
 
--- How far a script has been played: the bench, where there is a card; how many lines and octets have been played; what
+-- How far a script has been played: the setup, where there is a card; how many lines and octets have been played; what
 -- has been written; and the fault, after which nothing more is played.
 pub record Played : Type 0 where
-  pub bench : Option Bench
+  pub setup : Option Setup
   pub lines : ℕ
   pub octets : ℕ
   pub written : List ℕ
   pub fault : Option Fault
 
 abbrev pub not_begun : Played
-not_begun = record { bench = None; lines = 0; octets = 0; written = []; fault = None }
+not_begun = record { setup = None; lines = 0; octets = 0; written = []; fault = None }
 
 -- A line, or the script up to and with it, is too long (profile).
 abbrev pub is_too_long : List ℕ → Played → Bool
@@ -37,19 +37,19 @@ counted piece p = record p { lines = p.lines + 1; octets = p.octets + length pie
 
 abbrev pub after_scene : List ℕ → Result Scene FaultKind → Played → Played
 after_scene piece (Err kind) p = faulty kind p
-after_scene piece (Ok s) p = record (counted piece p) { bench = Some s.bench; written = p.written ++ s.text }
+after_scene piece (Ok s) p = record (counted piece p) { setup = Some s.setup; written = p.written ++ s.text }
 
-abbrev pub after_bench : List ℕ → Result (Option Bench) FaultKind → Played → Played
+abbrev pub after_bench : List ℕ → Result (Option Setup) FaultKind → Played → Played
 after_bench piece (Err kind) p = faulty kind p
-after_bench piece (Ok bench) p = record (counted piece p) { bench = bench }
+after_bench piece (Ok setup) p = record (counted piece p) { setup = setup }
 
-abbrev pub after_meaning : List ℕ → Meaning → Option Bench → Played → Played
+abbrev pub after_meaning : List ℕ → Meaning → Option Setup → Played → Played
 after_meaning piece m None p = after_bench piece (without_card m) p
-after_meaning piece m (Some bench) p = after_scene piece (with_card m (record { bench = bench; text = [] })) p
+after_meaning piece m (Some setup) p = after_scene piece (with_card m (record { setup = setup; text = [] })) p
 
 abbrev pub after_reading : List ℕ → Result Meaning FaultKind → Played → Played
 after_reading piece (Err kind) p = faulty kind p
-after_reading piece (Ok m) p = after_meaning piece m p.bench p
+after_reading piece (Ok m) p = after_meaning piece m p.setup p
 
 abbrev pub after_piece : List ℕ → Played → Played
 after_piece piece p = if is_too_long piece p then faulty TooLong p else after_reading piece (read (line_in piece)) p

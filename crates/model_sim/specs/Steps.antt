@@ -1,10 +1,10 @@
--- What each line of a script makes of the bench, and what it says in the transcript.
+-- What each line of a script makes of the setup, and what it says in the transcript.
 use Rattle.std.specs.Prelude.{ℕ, zero, suc, ◌+◌, ◌-◌, ◌^◌, nat_lt, nat_le, Bool, ◌&&◌, if◌then◌else◌, List, [], ◌∷◌, ◌++◌, length, map, fold, flat_map, Option, None, Some, Result, Ok, Err}
 use Rattle.lapd_frame.specs.declared.timers.Timer.{Timer}
 use Rattle.lapd_clock.specs.Timers as clocks
 use Rattle.model_line.specs.declared.config.Config.{Config}
 use Rattle.model_line.specs.Config.{first_fault}
-use Rattle.model_line.specs.Answer.{Answer, told, refused, pulled, octet, expiry, request, pull}
+use Rattle.model_line.specs.Event.{Answer, told, refused, pulled, octet, expiry, request, pull}
 use Rattle.model_line.specs.Request as asking
 use Rattle.model_card.specs.Event.{Event, at}
 use Rattle.model_card.specs.Machine.{answer}
@@ -15,11 +15,11 @@ use Rattle.lapd_script.specs.declared.command.Asked.{Asked}
 use Rattle.lapd_script.specs.declared.command.Asked.TheVariants as asked
 use Rattle.lapd_script.specs.Meaning as line
 use Rattle.lapd_transcript.specs.Text.{report_text, refused_text, sent_text, frame_text, stored_text}
-use Rattle.model_sim.specs.Bench.{Bench, begun, happened, terminal_at, taken_at, octets_sent, after_sending, with_terminal, found, with_taken}
+use Rattle.model_sim.specs.Setup.{Setup, begun, happened, terminal_at, taken_at, octets_sent, after_sending, with_terminal, found, with_taken}
 
--- A scene: the bench, and what has been said.
+-- A scene: the setup, and what has been said.
 pub record Scene : Type 0 where
-  pub bench : Bench
+  pub setup : Setup
   pub text : List ℕ
 
 -- What an answer says. Octets that are pulled are told together, and timer orders are not told.
@@ -30,7 +30,7 @@ answer_text line (pulled value begins orders) = []
 
 -- An event, and events one after the other.
 abbrev pub with_event : Scene → Event → Scene
-with_event s e = record { bench = happened s.bench e; text = s.text ++ answer_text e.line (answer e s.bench.card) }
+with_event s e = record { setup = happened s.setup e; text = s.text ++ answer_text e.line (answer e s.setup.card) }
 
 abbrev pub with_events : List Event → Scene → Scene
 with_events events s = fold with_event s events
@@ -45,8 +45,8 @@ after_rx line octets s = with_events (octets_at line octets) s
 -- `in`: the terminal's octets come from the line.
 abbrev pub after_in : ℕ → List ℕ → Scene → Scene
 after_in line frame s =
-    let terminal = terminal_at line s.bench in
-    after_rx line (octets_sent frame terminal) (record s { bench = with_terminal line (after_sending frame terminal) s.bench })
+    let terminal = terminal_at line s.setup in
+    after_rx line (octets_sent frame terminal) (record s { setup = with_terminal line (after_sending frame terminal) s.setup })
 
 -- `pull`: the octets that the line takes, and the frames that are complete in them.
 abbrev pub octet_in : Answer → ℕ
@@ -55,11 +55,11 @@ octet_in (refused why) = 0
 octet_in (pulled value begins orders) = value
 
 pub record Pulls : Type 0 where
-  pub bench : Bench
+  pub setup : Setup
   pub octets : List ℕ
 
 abbrev pub one_pull : ℕ → Pulls → Pulls
-one_pull line p = record { bench = happened p.bench (at line pull); octets = p.octets ++ octet_in (answer (at line pull) p.bench.card) ∷ [] }
+one_pull line p = record { setup = happened p.setup (at line pull); octets = p.octets ++ octet_in (answer (at line pull) p.setup.card) ∷ [] }
 
 abbrev pub pulls : ℕ → ℕ → Pulls → Pulls
 pulls zero line p = p
@@ -69,10 +69,10 @@ abbrev pub pulled_text : ℕ → List ℕ → List ℕ → List ℕ
 pulled_text line before octets = sent_text line octets ++ flat_map (frame_text line) (found before octets)
 
 abbrev pub after_pulls : ℕ → Pulls → List ℕ → Scene
-after_pulls line p text = record { bench = with_taken line p.octets p.bench; text = text ++ pulled_text line (taken_at line p.bench) p.octets }
+after_pulls line p text = record { setup = with_taken line p.octets p.setup; text = text ++ pulled_text line (taken_at line p.setup) p.octets }
 
 abbrev pub after_pull : ℕ → ℕ → Scene → Scene
-after_pull line count s = after_pulls line (pulls count line (record { bench = s.bench; octets = [] })) s.text
+after_pull line count s = after_pulls line (pulls count line (record { setup = s.setup; octets = [] })) s.text
 
 -- `wait`: what falls due at or before the end, one after the other, each at its moment. A timer that expires is taken
 -- from the clock, and the orders of its event are applied at that moment. It ends: with each expiry, the time that the
@@ -81,23 +81,23 @@ abbrev pub moment_of : Option ℕ → ℕ
 moment_of None = 0
 moment_of (Some moment) = moment
 
-abbrev pub at_expiry : ℕ → Bench → Bench
+abbrev pub at_expiry : ℕ → Setup → Setup
 at_expiry end b = record b { now = moment_of (clocks.next_moment b.clock); clock = clocks.after_due b.clock end }
 
 abbrev pub expired : ℕ → ℕ → Timer → Scene → Scene
-expired end line timer s = with_event (record s { bench = at_expiry end s.bench }) (at line (expiry timer))
+expired end line timer s = with_event (record s { setup = at_expiry end s.setup }) (at line (expiry timer))
 
 abbrev pub expiries : ℕ → ℕ → Scene → Scene
 expiries zero end s = s
-expiries (suc more) end s = elim (clocks.due_at s.bench.clock end) [ None ↦ s | Some due ↦ expiries more end (expired end due.0 due.1 s) ]
+expiries (suc more) end s = elim (clocks.due_at s.setup.clock end) [ None ↦ s | Some due ↦ expiries more end (expired end due.0 due.1 s) ]
 
 abbrev pub until : ℕ → Scene → Scene
 until end s =
-    let after = expiries (clocks.time_until end s.bench.clock) end s in
-    record after { bench = record after.bench { now = end } }
+    let after = expiries (clocks.time_until end s.setup.clock) end s in
+    record after { setup = record after.setup { now = end } }
 
 abbrev pub after_wait : ℕ → Scene → Scene
-after_wait milliseconds s = until (s.bench.now + milliseconds) s
+after_wait milliseconds s = until (s.setup.now + milliseconds) s
 
 -- The requests.
 abbrev pub request_for : Asked → ℕ → List ℕ → asking.Request
@@ -116,11 +116,11 @@ after_request line tei what octets s = with_event s (at line (request (request_f
 
 -- `stored`: what the card holds, and its bound.
 abbrev pub after_stored : Scene → Scene
-after_stored s = record s { text = s.text ++ stored_text (stored s.bench.card) (limit s.bench.card.config) }
+after_stored s = record s { text = s.text ++ stored_text (stored s.setup.card) (limit s.setup.card.config) }
 
 -- What can be wrong with a line once there is a card: it is not there, the frame's length, the time.
 abbrev pub at_line : ℕ → Scene → Scene → Result Scene FaultKind
-at_line line s after = if nat_lt line s.bench.card.config.lines then Ok after else Err BadLine
+at_line line s after = if nat_lt line s.setup.card.config.lines then Ok after else Err BadLine
 
 abbrev pub is_frame : List ℕ → Bool
 is_frame octets = nat_le 3 (length octets) && nat_le (length octets) 1028
@@ -132,24 +132,24 @@ abbrev pub last_moment : ℕ
 last_moment = 2 ^ 63 - 1
 
 abbrev pub in_time : ℕ → Scene → Result Scene FaultKind
-in_time milliseconds s = if nat_le (s.bench.now + milliseconds) last_moment then Ok (after_wait milliseconds s) else Err TimeOver
+in_time milliseconds s = if nat_le (s.setup.now + milliseconds) last_moment then Ok (after_wait milliseconds s) else Err TimeOver
 
 -- What a line does where there is a card,
 abbrev pub with_card : line.Meaning → Scene → Result Scene FaultKind
 with_card line.skip s = Ok s
 with_card (line.card config) s = Err SecondCard
 with_card (line.rx number octets) s = at_line number s (after_rx number octets s)
-with_card (line.into number octets) s = if nat_lt number s.bench.card.config.lines then in_at_line number octets s else Err BadLine
+with_card (line.into number octets) s = if nat_lt number s.setup.card.config.lines then in_at_line number octets s else Err BadLine
 with_card (line.pull number count) s = at_line number s (after_pull number count s)
 with_card (line.wait milliseconds) s = in_time milliseconds s
 with_card line.stored s = Ok (after_stored s)
 with_card (line.ask number tei what octets) s = at_line number s (after_request number tei what octets s)
 
 -- and where there is none.
-abbrev pub begun_with : Config → Result (Option Bench) FaultKind
+abbrev pub begun_with : Config → Result (Option Setup) FaultKind
 begun_with c = elim (first_fault c) [ None ↦ Ok (Some (begun c)) | Some field ↦ Err BadCard ]
 
-abbrev pub without_card : line.Meaning → Result (Option Bench) FaultKind
+abbrev pub without_card : line.Meaning → Result (Option Setup) FaultKind
 without_card line.skip = Ok None
 without_card (line.card config) = begun_with config
 without_card (line.rx number octets) = Err NoCard

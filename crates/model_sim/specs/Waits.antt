@@ -3,19 +3,19 @@ use Rattle.std.specs.Prelude.{◌≡◌, ℕ, ◌+◌, ◌<◌, List, All, None,
 use Rattle.lapd_clock.specs.InOrder.{IsInOrder}
 use Rattle.lapd_clock.specs.Timers.{is_before, due_at}
 use Rattle.model_sim.specs.Pieces.{pieces_of}
-use Rattle.model_sim.specs.Bench.{Bench}
+use Rattle.model_sim.specs.Setup.{Setup}
 use Rattle.model_sim.specs.Steps.{Scene, after_wait}
 use Rattle.model_sim.specs.Script.{played}
 
 -- Every timer that runs falls due later than a moment.
-abbrev pub AllLater : ℕ → Bench → Type 0
+abbrev pub AllLater : ℕ → Setup → Type 0
 AllLater moment b = All (λ held. moment < held.moment) b.clock.running
 
 pub record WaitsLeaveNothingDue : Type 0 where
   -- From any scene: the moment is then the wait's end, and at that moment nothing is due.
-  pub ends : (milliseconds : ℕ) (s : Scene) → (after_wait milliseconds s).bench.now ≡ s.bench.now + milliseconds
-  pub none_due : (milliseconds : ℕ) (s : Scene) → due_at (after_wait milliseconds s).bench.clock (s.bench.now + milliseconds) ≡ None
+  pub ends : (milliseconds : ℕ) (s : Scene) → (after_wait milliseconds s).setup.now ≡ s.setup.now + milliseconds
+  pub none_due : (milliseconds : ℕ) (s : Scene) → due_at (after_wait milliseconds s).setup.clock (s.setup.now + milliseconds) ≡ None
   -- Where the clock has its timers in the order in which they fall due, as every clock has, all of them are later.
-  pub all_later : (milliseconds : ℕ) (s : Scene) → IsInOrder is_before s.bench.clock.running → AllLater (s.bench.now + milliseconds) (after_wait milliseconds s).bench
+  pub all_later : (milliseconds : ℕ) (s : Scene) → IsInOrder is_before s.setup.clock.running → AllLater (s.setup.now + milliseconds) (after_wait milliseconds s).setup
   -- A script's clock has: after each line, also after a wait, every timer that runs is later than the moment.
-  pub of_scripts : (text : List ℕ) (bench : Bench) → (played (pieces_of text)).bench ≡ Some bench → AllLater bench.now bench
+  pub of_scripts : (text : List ℕ) (setup : Setup) → (played (pieces_of text)).setup ≡ Some setup → AllLater setup.now setup

@@ -6,7 +6,7 @@ use Rattle.model_card.specs.Run.{after_all}
 use Rattle.model_card.specs.Stored.{stored, limit}
 use Rattle.lapd_script.specs.Bound.{bound}
 use Rattle.model_sim.specs.Pieces.{pieces_of}
-use Rattle.model_sim.specs.Bench.{Bench}
+use Rattle.model_sim.specs.Setup.{Setup}
 use Rattle.model_sim.specs.Script.{played}
 use Rattle.model_sim.specs.Events.{script_events}
 
@@ -16,8 +16,8 @@ bound_of c = bound c.lines c.terminals c.control c.slots c.n201
 
 -- A card stores no more after each of the script's events,
 pub record ScriptsStayWithin : Type 0 where
-  pub always : (text : List ℕ) (bench : Bench) (count : ℕ) → (played (pieces_of text)).bench ≡ Some bench
-      → stored (after_all (fresh bench.card.config) (take count (script_events text))) ≤ bound_of bench.card.config
+  pub always : (text : List ℕ) (setup : Setup) (count : ℕ) → (played (pieces_of text)).setup ≡ Some setup
+      → stored (after_all (fresh setup.card.config) (take count (script_events text))) ≤ bound_of setup.card.config
   -- and so after its last line. The limit that the line `stored` tells is the same number.
-  pub last : (text : List ℕ) (bench : Bench) → (played (pieces_of text)).bench ≡ Some bench → stored bench.card ≤ bound_of bench.card.config
+  pub last : (text : List ℕ) (setup : Setup) → (played (pieces_of text)).setup ≡ Some setup → stored setup.card ≤ bound_of setup.card.config
   pub same : (c : Config) → limit c ≡ bound_of c

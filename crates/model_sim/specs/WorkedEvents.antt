@@ -8,7 +8,7 @@ use Rattle.lapd_frame.specs.declared.services.Service.TheVariants.{Call}
 use Rattle.lapd_frame.specs.declared.timers.Timer.TheVariants.{T200}
 use Rattle.lapd_clock.specs.Timers.{with_order, finds_place}
 use Rattle.lapd_tei.specs.Events as teis
-use Rattle.model_line.specs.Answer.{octet, expiry, request, pull}
+use Rattle.model_line.specs.Event.{octet, expiry, request, pull}
 use Rattle.model_line.specs.Machine as lines
 use Rattle.model_line.specs.Request.{Assign, Establish}
 use Rattle.model_card.specs.Event.{at}

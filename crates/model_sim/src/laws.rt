@@ -29,7 +29,7 @@ pub fn transcripts_are_replies()
 /// A wait leaves nothing that is due. After it the moment, in milliseconds, is its end, and the clock has no timer to
 /// give at that moment (`none_due`): it is looked for one often enough, though each expiry may start a timer anew.
 /// Where the clock has its timers in order, every timer that still runs falls due later than the end (`all_later`). On
-/// the bench of every script, after each line, every timer that runs falls due later than the moment (`of_scripts`).
+/// the setup of every script, after each line, every timer that runs falls due later than the moment (`of_scripts`).
 pub fn waits_leave_nothing_due()
     ensures { WaitsLeaveNothingDue }
 {}

@@ -1,6 +1,6 @@
 -- A sink that takes one reply after the other, each at the end of what it keeps, keeps them all in order.
 use Rattle.std.proofs.Common.{◌≡◌, ℕ, List, [], ◌∷◌, ◌++◌, map, take, sym, ap, ◌∙◌, append_assoc, append-nil, Option, Some, None, slice_get}
-use Rattle.model_line.specs.Answer.{Answer}
+use Rattle.model_line.specs.Event.{Answer}
 use Rattle.model_card.specs.Card.{Card}
 use Rattle.model_card.specs.Event.{Event}
 use Rattle.model_card.specs.Laws.{reply_of, RunIsMoments}

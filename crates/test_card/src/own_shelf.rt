@@ -2,10 +2,10 @@
 
 use crate::refusals::{refuse_at_a_line, refuse_when_full};
 use crate::starts::USUAL;
-use test_shelf::ArrayShelf;
 use lapd_card::{Card, CardFault, Config, Request};
 use lapd_frame::{Refusal, Service};
 use std::test::Fail;
+use test_shelf::ArrayShelf;
 
 #[test]
 fn a_card_over_a_shelf_of_the_callers_own(rt: HostRuntime) -> Result<(), Fail> {

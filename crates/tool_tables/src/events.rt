@@ -4,8 +4,8 @@ ghost use Rattle.test_link.specs.Works.{Works};
 
 use lapd_frame::{Control, Refusal};
 use lapd_link::{Answer, LinkRequest, LinkTimer, Offer, Received};
-use test_link::Bench;
 use lapd_seq::Seq;
+use test_link::Bench;
 
 /// As many slots as the shelf of a link has.
 pub const SLOTS: u32 = 2;

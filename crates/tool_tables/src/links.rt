@@ -9,8 +9,8 @@ use crate::fault::Fault;
 use crate::words;
 use lapd_frame::Control;
 use lapd_link::{Answer, Offer};
-use test_link::Bench;
 use std::alloc::Global;
+use test_link::Bench;
 
 const HEAD: &str = "# What a card does, printed by itself
 

@@ -9,8 +9,8 @@ ghost use Rattle.lapd_link_steps.specs.Parts.{particulars, effect_of, supervised
 use crate::entity::Entity;
 use crate::told::Told;
 use lapd_frame::{Control, ErrorCode};
-use model_link::{LinkTimer, State, Terms};
 use lapd_seq::Seq;
+use model_link::{LinkTimer, State, Terms};
 
 impl Told {
     // UA, which no command asked for.

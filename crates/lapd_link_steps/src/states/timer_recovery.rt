@@ -12,8 +12,8 @@ use crate::entity::Entity;
 use crate::states::multiple_frame::Bearer;
 use crate::told::Told;
 use lapd_frame::ErrorCode;
-use model_link::{LinkTimer, State, Terms};
 use lapd_seq::Seq;
+use model_link::{LinkTimer, State, Terms};
 
 impl Entity {
     // What a valid N(R) does, by the frame that brought it.

@@ -8,10 +8,10 @@ use super::line_rows::LINE_ROWS;
 use super::link_rows::LINK_ROWS;
 use super::row::{CALL, Row, Step};
 use super::sink::FixedSink;
-use test_shelf::ArrayShelf;
 use lapd_card::{Card, Event};
 use std::alloc::Global;
 use std::test::Fail;
+use test_shelf::ArrayShelf;
 
 /// A card of one line, and what it has answered.
 #[derive(Drop)]

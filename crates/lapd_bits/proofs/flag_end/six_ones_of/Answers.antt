@@ -1,3 +1,4 @@
+-- Hand-written answers for `six_ones_of`.
 use Rattle.lapd_bits.proofs.FlagEnd.{six_ones_are, six_ones_fit}
 use Rattle.lapd_bits.proofs.flag_end.six_ones_of.Goals as goal
 

@@ -1,3 +1,4 @@
+-- Hand-written answers for `with_bit`.
 use Rattle.std.proofs.Common.{◌+◌, ◌++◌, ◌∷◌, [], ap, sym, ◌∙◌}
 use Rattle.lapd_bits.specs.Bits.{low_bits}
 use Rattle.lapd_bits.proofs.Assembly.{low_bits-with_one, low_bits-with_zero, bit_weight}

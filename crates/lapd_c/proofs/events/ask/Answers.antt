@@ -1,6 +1,7 @@
+-- Hand-written answers for `ask`.
 use Rattle.std.proofs.Common.{refl, sym, ap, subst, ◌∙◌}
 use Rattle.std.proofs.lemmas.Option.{none-some}
-use Rattle.model_line.specs.Answer as happening
+use Rattle.model_line.specs.Event as line_event
 use Rattle.model_line.specs.Request.{request_of}
 use Rattle.lapd_plain.specs.Requests.{read_of}
 use Rattle.lapd_card.specs.Reply.{answer_of_result}
@@ -13,7 +14,7 @@ pub returns-in-Ok-request-clause-served : goal.returns-in-Ok-request-clause-serv
 returns-in-Ok-request-clause-served c = λ m s w. if_ok _ _ (request_of c.in-Ok.asked) (sym c.request_in.ensures ∙ ap read_of c.in-Ok.is) (λ granted. (
   refl,
   c.request.ensures.after.stands m s,
-  shown m (at c.args.line (happening.request (request_of c.in-Ok.asked))) c.in-Ok-request.told _ _ c.show.new.self s.sound (ap answer_of_result (sym c.in-Ok-request.is) ∙ c.request.ensures.told m s) c.notes.ensures c.orders.ensures c.show.ensures,
+  shown m (at c.args.line (line_event.request (request_of c.in-Ok.asked))) c.in-Ok-request.told _ _ c.show.new.self s.sound (ap answer_of_result (sym c.in-Ok-request.is) ∙ c.request.ensures.told m s) c.notes.ensures c.orders.ensures c.show.ensures,
 ))
 
 pub returns-in-Err-request-clause-refused : goal.returns-in-Err-request-clause-refused

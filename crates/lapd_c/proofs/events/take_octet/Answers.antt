@@ -1,5 +1,6 @@
+-- Hand-written answers for `take_octet`.
 use Rattle.std.proofs.Common.{refl, ap, subst, ◌∙◌}
-use Rattle.model_line.specs.Answer as happening
+use Rattle.model_line.specs.Event as line_event
 use Rattle.model_card.specs.Event.{at}
 use Rattle.lapd_c.specs.Cards.{ShowsAnswer}
 use Rattle.lapd_c.proofs.Served.{shown}
@@ -16,5 +17,5 @@ pub returns-in-Some-clause-served : goal.returns-in-Some-clause-served
 returns-in-Some-clause-served c = λ m s w. (
   refl,
   c.hear.ensures.after.stands m s,
-  shown m (at c.args.line (happening.octet c.args.octet)) c.lend-told.result _ _ c.show.new.self s.sound (ap happening.told c.lend-told.ensures ∙ c.in-Some.ensures.told m s) c.notes.ensures c.orders.ensures c.show.ensures,
+  shown m (at c.args.line (line_event.octet c.args.octet)) c.lend-told.result _ _ c.show.new.self s.sound (ap line_event.told c.lend-told.ensures ∙ c.in-Some.ensures.told m s) c.notes.ensures c.orders.ensures c.show.ensures,
 )

@@ -1,3 +1,4 @@
+-- Hand-written answers for `line_count`.
 use Rattle.std.proofs.Common.{◌≡◌, ◌≤◌, ap, arith}
 use Rattle.model_line.specs.declared.config.Config.{Config}
 use Rattle.model_line.proofs.Ranges.{ranges_of}

@@ -1,3 +1,4 @@
+-- Hand-written answers for `orders_move_one_timer`.
 use Rattle.lapd_clock.proofs.Moments.{start_moves_one, stop_moves_one}
 use Rattle.lapd_clock.proofs.laws.orders_move_one_timer.Goals as goal
 

@@ -1,3 +1,4 @@
+-- Hand-written answers for `put_in`.
 use Rattle.std.proofs.Common.{◌≡◌, ℕ, ◌≤◌, true, cond, not, Some, None, unwrap_or, is_ok, length, ltb, ap, ◌∙◌, arith, rules}
 use Rattle.std.specs.List.{insert, position_or_len}
 use Rattle.std.proofs.lemmas.Bool.Decides.{nat_tests}

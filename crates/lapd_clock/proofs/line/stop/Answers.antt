@@ -1,3 +1,4 @@
+-- Hand-written answers for `stop`.
 use Rattle.std.proofs.Common.{rules, not}
 use Rattle.std.proofs.lemmas.Fn.{filter_same}
 use Rattle.lapd_clock.specs.Timer.{is_same}

@@ -1,3 +1,4 @@
+-- Hand-written answers for `one_spelling`.
 use Rattle.lapd_frame.proofs.Spelling.{one-spelling, reading-again, reading-found, fault-found, fault-again}
 use Rattle.lapd_frame.proofs.laws.one_spelling.Goals as goal
 

@@ -1,3 +1,4 @@
+-- Hand-written answers for `read_long`.
 use Rattle.std.proofs.Common.{◌≡◌, ◌+◌, ◌<◌, ◌++◌, length, length-append, arith}
 use Rattle.std.proofs.lemmas.List.Elements.{All-append}
 use Rattle.lapd_frame.proofs.Spelling.{are-octets, long-is}

@@ -1,3 +1,4 @@
+-- Hand-written answers for `parse`.
 use Rattle.std.proofs.Common.{◌≡◌, slice_index, Ok, ap, sym, ◌∙◌, arith, unwrap_or}
 use Rattle.lapd_frame.specs.Reading.{header_of}
 use Rattle.lapd_frame.proofs.Spelling.{are-octets, start-within}

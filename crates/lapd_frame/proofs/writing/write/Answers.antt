@@ -1,3 +1,4 @@
+-- Hand-written answers for `write`.
 use Rattle.std.proofs.Common.{◌≡◌, ◌+◌, ◌++◌, length, length-append, take, ap, ◌∙◌, arith}
 use Rattle.lapd_frame.specs.Grammar.{parts_of, head_of}
 use Rattle.lapd_frame.proofs.Spelling.{reading-again}

@@ -1,3 +1,4 @@
+-- Hand-written answers for `hear`.
 use Rattle.std.proofs.Common.{[], refl, sym, subst}
 use Rattle.model_link.specs.Machine.{received_step}
 use Rattle.lapd_link_steps.specs.Does.{Does}

@@ -1,3 +1,4 @@
+-- Hand-written answers for `take`.
 use Rattle.std.proofs.Common.{[], sym, subst}
 use Rattle.model_link.specs.Machine.{step}
 use Rattle.lapd_link_steps.specs.Done.{Took}

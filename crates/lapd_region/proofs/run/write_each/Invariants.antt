@@ -1,3 +1,4 @@
+-- The invariants of the loops of `write_each`.
 use Rattle.std.proofs.Common.{◌≡◌, ℕ, ◌+◌, ◌<◌, get_or, slice_get, None}
 use Rattle.lapd_region.specs.Region.{SameOutside}
 use Rattle.lapd_region.proofs.run.write_each.Given as goal

@@ -1,3 +1,4 @@
+-- Hand-written answers for `write_ends`.
 use Rattle.std.proofs.Common.{◌-◌, length, arith}
 use Rattle.lapd_region.proofs.Blocks.{both_ends}
 use Rattle.lapd_region.proofs.run.write_ends.Goals as goal

@@ -1,3 +1,4 @@
+-- Hand-written answers for `job`.
 use Rattle.lapd_script.proofs.JobLemmas.{no_frame, no_network, other_name, other_flag, no_limits, with_limits}
 use Rattle.lapd_script.proofs.arguments.job.Goals as goal
 use Rattle.lapd_script.proofs.arguments.job.Goals.{else-eq-3-via-then-eq-3+else-eq-4, else-eq-3-via-else-eq-3}

@@ -1,3 +1,4 @@
+-- Hand-written answers for `value`.
 use Rattle.std.proofs.Common.{sym, subst, List, ℕ}
 use Rattle.std.specs.Str.Parse.{ParsesUnsigned}
 use Rattle.lapd_script.proofs.NumberLemmas.{parsed, digits_text}

@@ -1,3 +1,4 @@
+-- Hand-written answers for `ask`.
 use Rattle.lapd_script.proofs.Rests.{third_kept}
 use Rattle.lapd_script.proofs.read.ask.Goals as goal
 

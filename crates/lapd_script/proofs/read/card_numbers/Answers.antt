@@ -1,3 +1,4 @@
+-- Hand-written answers for `card_numbers`.
 use Rattle.std.proofs.Common.{refl, ◌∙◌, Ok, Err}
 use Rattle.lapd_script.proofs.ReadLemmas.{ten_grouped, not_ten, err_is}
 use Rattle.lapd_script.proofs.read.card_numbers.Goals as goal

@@ -1,3 +1,4 @@
+-- Hand-written answers for `read_words`.
 use Rattle.std.proofs.Common.{Some, sym, ap, subst, ◌∙◌, length, ◌≤◌}
 use Rattle.std.specs.Prelude.{All}
 use Rattle.std.proofs.lemmas.List.Elements.{All-tail}

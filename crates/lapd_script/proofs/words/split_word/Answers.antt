@@ -1,3 +1,4 @@
+-- Hand-written answers for `split_word`.
 use Rattle.lapd_script.proofs.WordLemmas.{words_split, words_unsplit}
 use Rattle.lapd_script.proofs.words.split_word.Goals as goal
 

@@ -1,3 +1,4 @@
+-- Hand-written answers for `words_of`.
 use Rattle.std.proofs.Common.{ℕ, ◌≤◌, ◌++◌, List, [], ◌∷◌, length, Bor, arith, ap, sym, ◌∙◌}
 use Rattle.std.proofs.lemmas.List.Elements.{All-push}
 use Rattle.lapd_script.specs.Words.{words_of, texts}

@@ -1,3 +1,4 @@
+-- The invariants of the loops of `words_of`.
 use Rattle.std.proofs.Common.{◌≡◌, ◌≤◌, ◌++◌, List, ℕ, Bor, length}
 use Rattle.std.specs.Prelude.{All}
 use Rattle.lapd_script.specs.Words.{words_of, texts}

@@ -1,3 +1,4 @@
+-- Hand-written answers for `distance`.
 use Rattle.lapd_seq.specs.Circle.{distance_of}
 use Rattle.lapd_seq.proofs.Callers.{distance-plain, distance-named}
 use Rattle.lapd_seq.proofs.circle.distance.Goals as goal

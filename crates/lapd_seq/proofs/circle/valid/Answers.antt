@@ -1,3 +1,4 @@
+-- Hand-written answers for `valid`.
 use Rattle.std.proofs.Common.{◌+◌, arith}
 use Rattle.std.proofs.lemmas.Bool.{leb-true, le-leb}
 use Rattle.lapd_seq.specs.Circle.{distance_of, IsValid}

@@ -1,3 +1,4 @@
+-- Hand-written answers for `terminals`.
 use Rattle.std.proofs.Common.{[], arith, sym}
 use Rattle.lapd_sim.proofs.Eachs.{each_pushed}
 use Rattle.lapd_sim.specs.Stands.{Sends}

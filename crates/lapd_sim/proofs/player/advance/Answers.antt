@@ -1,3 +1,4 @@
+-- Hand-written answers for `advance`.
 use Rattle.std.proofs.Common.{Ok, [], sym, subst}
 use Rattle.lapd_transcript.specs.Streams.{output}
 use Rattle.lapd_transcript.proofs.Known.{puts_stuck}

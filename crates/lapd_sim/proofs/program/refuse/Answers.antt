@@ -1,3 +1,4 @@
+-- Hand-written answers for `refuse`.
 use Rattle.lapd_sim.proofs.program.refuse.Goals as goal
 
 pub returns-clause-told : goal.returns-clause-told

@@ -1,3 +1,4 @@
+-- Hand-written answers for `refuse_digits`.
 use Rattle.std.proofs.Common.{List, ℕ, subst}
 use Rattle.lapd_transcript.specs.Streams.{Writes}
 use Rattle.lapd_sim.proofs.program.refuse_digits.Goals as goal

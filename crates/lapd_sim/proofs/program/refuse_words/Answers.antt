@@ -1,3 +1,4 @@
+-- Hand-written answers for `refuse_words`.
 use Rattle.lapd_sim.proofs.program.refuse_words.Goals as goal
 
 pub returns-clause-told : goal.returns-clause-told

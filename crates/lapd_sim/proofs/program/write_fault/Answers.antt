@@ -1,3 +1,4 @@
+-- Hand-written answers for `write_fault`.
 use Rattle.std.proofs.Common.{sym, subst}
 use Rattle.lapd_transcript.specs.Streams.{Writes}
 use Rattle.lapd_sim.specs.declared.faults.PlayFault.{PlayFault}

@@ -1,3 +1,4 @@
+-- Hand-written answers for `octets_of`.
 use Rattle.std.proofs.Common.{sym, ◌∙◌, arith}
 use Rattle.lapd_sim.proofs.LongDigits.{long_digits, long_odd, long_others}
 use Rattle.lapd_sim.proofs.shown.octets_of.Goals as goal

@@ -1,3 +1,4 @@
+-- Hand-written answers for `on_line`.
 use Rattle.std.proofs.Common.{[], ◌∷◌, length, arith, subst, sym, ◌∙◌}
 use Rattle.lapd_bits.specs.Sent.{frame}
 use Rattle.lapd_sim.specs.OnLine.{HasPut}

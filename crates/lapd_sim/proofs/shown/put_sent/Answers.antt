@@ -1,3 +1,4 @@
+-- Hand-written answers for `put_sent`.
 use Rattle.std.proofs.Common.{List, arith, subst, sym}
 use Rattle.lapd_bits.specs.Sent.{Item}
 use Rattle.lapd_sim.specs.OnLine.{HasPut}

@@ -1,3 +1,4 @@
+-- The invariants of the loops of `put_sent`.
 use Rattle.std.proofs.Common.{◌*◌, ◌≤◌, List, length}
 use Rattle.lapd_bits.specs.Sent.{Item, line_text}
 use Rattle.lapd_sim.specs.OnLine.{HasPut}

@@ -1,3 +1,4 @@
+-- Hand-written answers for `show_frame`.
 use Rattle.std.proofs.Common.{take, refl, ◌∙◌}
 use Rattle.lapd_frame.specs.Grammar.{parts_of}
 use Rattle.lapd_transcript.specs.Shown.{shown_text, on_line_text}

@@ -1,3 +1,4 @@
+-- Hand-written answers for `give`.
 use Rattle.std.proofs.Common.{refl, ◌∙◌, Ok, Err}
 use Rattle.lapd_sim.specs.Stands.{Holds}
 use Rattle.lapd_sim.proofs.Terminals.{gives_none, gives_more}

@@ -1,3 +1,4 @@
+-- The invariants of the loops of `give`.
 use Rattle.std.proofs.Common.{◌≡◌, ℕ, List, Ok, length}
 use Rattle.lapd_bits.specs.Framer as framing
 use Rattle.lapd_bits.specs.Sent.{Item}

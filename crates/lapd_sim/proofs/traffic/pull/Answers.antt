@@ -1,3 +1,4 @@
+-- Hand-written answers for `pull`.
 use Rattle.std.proofs.Common.{◌+◌, ◌∙◌, sym, subst, arith}
 use Rattle.std.proofs.lemmas.List.{take_more_set}
 use Rattle.lapd_sim.proofs.Pulls.{Pulled, pulled_on}

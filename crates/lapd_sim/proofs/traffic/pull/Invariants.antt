@@ -1,12 +1,13 @@
+-- The invariants of the loops of `pull`.
 use Rattle.std.proofs.Common.{◌≡◌, take}
 use Rattle.lapd_sim.specs.Stands.{Holds}
 use Rattle.lapd_sim.proofs.Pulls.{Pulled}
-use Rattle.model_sim.specs.Bench as machine
+use Rattle.model_sim.specs.Setup as machine
 use Rattle.lapd_sim.proofs.traffic.pull.Given as goal
 
 -- the lines are the same, and the places so far have been filled
 abbrev pub invariant-loop-place : goal.invariant-loop-place
 invariant-loop-place l = record {
   config : l.exchange.config ≡ l.fn.exchange.config;
-  pulled : (m : machine.Bench) → Holds l.fn.exchange m → Pulled l.exchange l.line l.place-index (take l.place-index l.room) m;
+  pulled : (m : machine.Setup) → Holds l.fn.exchange m → Pulled l.exchange l.line l.place-index (take l.place-index l.room) m;
 }

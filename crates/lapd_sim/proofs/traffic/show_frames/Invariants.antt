@@ -1,3 +1,4 @@
+-- The invariants of the loops of `show_frames`.
 use Rattle.std.proofs.Common.{ℕ, List, take}
 use Rattle.lapd_sim.specs.Stands.{Hears}
 use Rattle.lapd_sim.proofs.Listeners.{Shown}

@@ -1,7 +1,8 @@
+-- Hand-written answers for `tell`.
 use Rattle.std.specs.List.{flat_map}
 use Rattle.lapd_transcript.proofs.Known.{puts_then, stuck_more}
 use Rattle.lapd_transcript.specs.Text.{sent_text, frame_text}
-use Rattle.model_sim.specs.Bench.{found}
+use Rattle.model_sim.specs.Setup.{found}
 use Rattle.lapd_transcript.specs.Streams.{output}
 use Rattle.lapd_sim.proofs.traffic.tell.Goals as goal
 

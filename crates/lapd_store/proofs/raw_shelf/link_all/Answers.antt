@@ -1,3 +1,4 @@
+-- Hand-written answers for `link_all`.
 use Rattle.std.proofs.Common.{◌+◌, ◌*◌, sym, subst, ◌∙◌, inl, inr, arith}
 use Rattle.std.proofs.lemmas.Bool.{cases_eq}
 use Rattle.lapd_region.specs.Region.{Holds}

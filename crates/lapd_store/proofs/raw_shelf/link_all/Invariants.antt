@@ -1,3 +1,4 @@
+-- The invariants of the loops of `link_all`.
 use Rattle.std.proofs.Common.{◌≡◌, ℕ, ◌+◌, ◌*◌, ◌<◌, length}
 use Rattle.lapd_region.specs.Region.{Holds}
 use Rattle.lapd_store.specs.RawStore.{link, or_end}

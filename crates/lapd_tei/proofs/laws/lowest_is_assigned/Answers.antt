@@ -1,3 +1,4 @@
+-- Hand-written answers for `lowest_is_assigned`.
 use Rattle.lapd_tei.proofs.LawLemmas.{lowest_is_assigned, new_is_assigned}
 use Rattle.lapd_tei.proofs.Pigeonholes.{one_is_free}
 use Rattle.lapd_tei.proofs.laws.lowest_is_assigned.Goals as goal

@@ -1,3 +1,4 @@
+-- Hand-written answers for `one_more_waits`.
 use Rattle.lapd_tei.proofs.LawLemmas.{one_more_waits, one_is_lost}
 use Rattle.lapd_tei.proofs.laws.one_more_waits.Goals as goal
 

@@ -1,3 +1,4 @@
+-- Hand-written answers for `orders_follow_the_check`.
 use Rattle.lapd_tei.proofs.Followed.{t201_follows, expired_t201_follows}
 use Rattle.lapd_tei.proofs.laws.orders_follow_the_check.Goals as goal
 

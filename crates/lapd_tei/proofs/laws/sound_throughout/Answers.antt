@@ -1,3 +1,4 @@
+-- Hand-written answers for `sound_throughout`.
 use Rattle.lapd_tei.proofs.LawLemmas.{sound_throughout}
 use Rattle.lapd_tei.proofs.laws.sound_throughout.Goals as goal
 

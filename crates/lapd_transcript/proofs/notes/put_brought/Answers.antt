@@ -1,3 +1,4 @@
+-- Hand-written answers for `put_brought`.
 use Rattle.std.proofs.Common.{Ok, Err, ◌++◌}
 use Rattle.std.specs.List.{flat_map}
 use Rattle.lapd_transcript.specs.Text.{note_text, dropped_text, lost_text}

@@ -1,3 +1,4 @@
+-- Hand-written answers for `put_note`.
 use Rattle.std.proofs.Common.{sym, subst}
 use Rattle.lapd_frame.specs.declared.notes.Note.{Note}
 use Rattle.lapd_transcript.specs.Streams.{Puts, output}

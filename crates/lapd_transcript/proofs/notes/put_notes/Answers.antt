@@ -1,3 +1,4 @@
+-- Hand-written answers for `put_notes`.
 use Rattle.lapd_transcript.specs.Text.{note_text}
 use Rattle.lapd_transcript.specs.Streams.{output}
 use Rattle.lapd_transcript.proofs.Known.{puts_stop}

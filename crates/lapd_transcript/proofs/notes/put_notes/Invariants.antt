@@ -1,3 +1,4 @@
+-- The invariants of the loops of `put_notes`.
 use Rattle.std.proofs.Common.{take}
 use Rattle.std.specs.List.{flat_map}
 use Rattle.lapd_transcript.specs.Streams.{output, IsPut}

@@ -1,3 +1,4 @@
+-- The invariants of the loops of `+decimal`.
 use Rattle.lapd_transcript.proofs.output.+decimal.Given as goal
 
 abbrev pub decreases-decimal : goal.decreases-decimal

@@ -1,3 +1,4 @@
+-- Hand-written answers for `digits_of`.
 use Rattle.std.proofs.Common.{refl, ap, ◌∙◌, List, ℕ, [], ◌∷◌, arith}
 use Rattle.std.specs.Prelude.{slice_index}
 use Rattle.std.specs.Char.{to_ascii_uppercase}

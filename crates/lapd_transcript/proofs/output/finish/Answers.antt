@@ -1,3 +1,4 @@
+-- Hand-written answers for `finish`.
 use Rattle.std.proofs.Common.{List, ℕ, [], Result, subst}
 use Rattle.lapd_transcript.specs.declared.streams.WriteFailed.{WriteFailed}
 use Rattle.lapd_transcript.specs.Streams.{Writes, Puts, output}

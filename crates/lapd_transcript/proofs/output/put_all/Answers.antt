@@ -1,3 +1,4 @@
+-- Hand-written answers for `put_all`.
 use Rattle.std.proofs.Common.{ℕ, List, Bor}
 use Rattle.lapd_transcript.specs.Streams.{output}
 use Rattle.lapd_transcript.proofs.Known.{puts_stop, nowhere}

@@ -1,3 +1,4 @@
+-- The invariants of the loops of `put_all`.
 use Rattle.std.proofs.Common.{take}
 use Rattle.lapd_transcript.specs.Streams.{joined, output, IsPut}
 use Rattle.lapd_transcript.proofs.output.put_all.Given as goal

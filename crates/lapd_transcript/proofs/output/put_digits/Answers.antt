@@ -1,3 +1,4 @@
+-- Hand-written answers for `put_digits`.
 use Rattle.std.proofs.Common.{ℕ, List, [], ◌∷◌, subst, take_all, ap, ◌∙◌}
 use Rattle.std.specs.List.{flat_map}
 use Rattle.hex.specs.Hex.{encode_upper}

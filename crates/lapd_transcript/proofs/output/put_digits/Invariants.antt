@@ -1,3 +1,4 @@
+-- The invariants of the loops of `put_digits`.
 use Rattle.std.proofs.Common.{take, [], ◌∷◌}
 use Rattle.std.specs.List.{flat_map}
 use Rattle.hex.specs.Hex.{encode_upper}

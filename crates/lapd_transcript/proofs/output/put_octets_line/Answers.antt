@@ -1,3 +1,4 @@
+-- Hand-written answers for `put_octets_line`.
 use Rattle.std.proofs.Common.{Ok, Err, ◌++◌, codes}
 use Rattle.lapd_transcript.specs.Streams.{joined, output}
 use Rattle.lapd_transcript.specs.Text.{octets_text}

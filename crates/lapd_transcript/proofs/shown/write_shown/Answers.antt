@@ -1,3 +1,4 @@
+-- Hand-written answers for `write_shown`.
 use Rattle.std.proofs.Common.{◌≡◌, [], ◌∷◌, ◌++◌, codes, decimal, if◌then◌else◌, refl, ◌∙◌, ap, append_assoc}
 use Rattle.std.specs.List.{flat_map}
 use Rattle.lapd_frame.specs.Grammar.{parts_of}

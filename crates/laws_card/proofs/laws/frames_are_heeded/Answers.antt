@@ -1,3 +1,4 @@
+-- Hand-written answers for `frames_are_heeded`.
 use Rattle.laws_card.proofs.Heeding.{heeded-all}
 use Rattle.laws_card.proofs.laws.frames_are_heeded.Goals as goal
 

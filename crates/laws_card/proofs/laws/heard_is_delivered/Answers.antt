@@ -1,3 +1,4 @@
+-- Hand-written answers for `heard_is_delivered`.
 use Rattle.laws_card.proofs.Hearing.{heard-all}
 use Rattle.laws_card.proofs.Receiving.{run-received, begins-unheard}
 use Rattle.laws_card.proofs.laws.heard_is_delivered.Goals as goal

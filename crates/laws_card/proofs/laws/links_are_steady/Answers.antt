@@ -1,3 +1,4 @@
+-- Hand-written answers for `links_are_steady`.
 use Rattle.laws_card.proofs.Happening.{steady-all}
 use Rattle.laws_card.proofs.laws.links_are_steady.Goals as goal
 

@@ -1,3 +1,4 @@
+-- Hand-written answers for `nothing_is_lost`.
 use Rattle.laws_card.proofs.Keeping.{kept, run-counted, begins-empty}
 use Rattle.laws_card.proofs.laws.nothing_is_lost.Goals as goal
 

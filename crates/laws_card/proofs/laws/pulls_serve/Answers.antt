@@ -1,3 +1,4 @@
+-- Hand-written answers for `pulls_serve`.
 use Rattle.laws_card.proofs.Serving.{served-in, units-all, turns-stay}
 use Rattle.laws_card.proofs.laws.pulls_serve.Goals as goal
 

@@ -1,3 +1,4 @@
+-- Hand-written answers for `requests_take_effect`.
 use Rattle.laws_card.proofs.Granting.{effect-all}
 use Rattle.laws_card.proofs.laws.requests_take_effect.Goals as goal
 

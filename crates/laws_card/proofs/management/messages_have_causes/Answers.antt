@@ -1,3 +1,4 @@
+-- Hand-written answers for `messages_have_causes`.
 use Rattle.laws_card.proofs.Causing.{caused-all, there-all, reasons-all}
 use Rattle.laws_card.proofs.management.messages_have_causes.Goals as goal
 

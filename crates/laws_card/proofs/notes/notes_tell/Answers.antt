@@ -1,3 +1,4 @@
+-- Hand-written answers for `notes_tell`.
 use Rattle.laws_card.proofs.Knowing.{up-known, on-known, down-at-first, one-place}
 use Rattle.laws_card.proofs.notes.notes_tell.Goals as goal
 

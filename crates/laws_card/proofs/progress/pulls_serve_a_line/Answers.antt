@@ -1,3 +1,4 @@
+-- Hand-written answers for `pulls_serve_a_line`.
 use Rattle.std.proofs.Common.{sym, ap, subst}
 use Rattle.laws_line.specs.Pulls.{HasNothing}
 use Rattle.model_card.specs.Card.{line_at}

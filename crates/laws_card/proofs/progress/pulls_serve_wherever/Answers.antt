@@ -1,3 +1,4 @@
+-- Hand-written answers for `pulls_serve_wherever`.
 use Rattle.laws_card.proofs.Enough.{enough-pulls}
 use Rattle.laws_card.proofs.Wherever.{answers-begun, come-to-an-end, few-to-go, begins-with-few}
 use Rattle.laws_card.proofs.progress.pulls_serve_wherever.Goals as goal

@@ -1,3 +1,4 @@
+-- Hand-written answers for `pulls_leave_timers`.
 use Rattle.laws_card.proofs.Restarting.{leaves-all}
 use Rattle.laws_card.proofs.timers.pulls_leave_timers.Goals as goal
 

@@ -1,3 +1,4 @@
+-- Hand-written answers for `timers_follow`.
 use Rattle.laws_card.proofs.TimersRun.{needed-run, needs-none, begins-timely-card, timely-after}
 use Rattle.laws_card.proofs.timers.timers_follow.Goals as goal
 

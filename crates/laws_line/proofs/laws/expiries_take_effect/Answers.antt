@@ -1,3 +1,4 @@
+-- Hand-written answers for `expiries_take_effect`.
 use Rattle.laws_line.proofs.Expiring.{expiry-takes-effect}
 use Rattle.laws_line.proofs.laws.expiries_take_effect.Goals as goal
 

@@ -1,3 +1,4 @@
+-- Hand-written answers for `frames_are_heeded`.
 use Rattle.laws_line.proofs.Heeding.{frame-heeded, malformed-followed}
 use Rattle.laws_line.proofs.laws.frames_are_heeded.Goals as goal
 

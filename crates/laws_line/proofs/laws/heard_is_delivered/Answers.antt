@@ -1,3 +1,4 @@
+-- Hand-written answers for `heard_is_delivered`.
 use Rattle.laws_line.proofs.Hearing.{one-event, malformed-event, overlong-event, no-event, dropped-stretch}
 use Rattle.laws_line.proofs.HandedOn.{due-is, contents-heard}
 use Rattle.laws_line.proofs.ToldOnce.{told-once}

@@ -1,3 +1,4 @@
+-- Hand-written answers for `links_are_steady`.
 use Rattle.laws_line.proofs.Happening.{event-happens}
 use Rattle.laws_line.proofs.laws.links_are_steady.Goals as goal
 

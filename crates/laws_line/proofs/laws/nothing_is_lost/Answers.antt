@@ -1,3 +1,4 @@
+-- Hand-written answers for `nothing_is_lost`.
 use Rattle.laws_line.proofs.Kept.{event-goes}
 use Rattle.laws_line.proofs.Asked.{asked-is}
 use Rattle.laws_line.proofs.Told.{loss-told}

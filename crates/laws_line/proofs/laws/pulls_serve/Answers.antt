@@ -1,3 +1,4 @@
+-- Hand-written answers for `pulls_serve`.
 use Rattle.laws_line.proofs.Serving.{served, units-wait, turn-stays}
 use Rattle.laws_line.proofs.laws.pulls_serve.Goals as goal
 

@@ -1,3 +1,4 @@
+-- Hand-written answers for `requests_take_effect`.
 use Rattle.laws_line.proofs.Granting.{link-takes-effect}
 use Rattle.laws_line.proofs.Managing.{management-takes-effect}
 use Rattle.laws_line.proofs.laws.requests_take_effect.Goals as goal

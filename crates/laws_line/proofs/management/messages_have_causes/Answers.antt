@@ -1,3 +1,4 @@
+-- Hand-written answers for `messages_have_causes`.
 use Rattle.laws_line.proofs.Causing.{have-causes}
 use Rattle.laws_line.proofs.Reasoning.{have-reasons}
 use Rattle.laws_line.proofs.Telling.{are-there}

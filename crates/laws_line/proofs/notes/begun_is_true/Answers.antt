@@ -1,3 +1,4 @@
+-- Hand-written answers for `begun_is_true`.
 use Rattle.laws_line.proofs.Beginning.{begins-as}
 use Rattle.laws_line.proofs.notes.begun_is_true.Goals as goal
 

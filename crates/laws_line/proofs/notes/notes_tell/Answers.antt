@@ -1,3 +1,4 @@
+-- Hand-written answers for `notes_tell`.
 use Rattle.laws_line.proofs.Knowing.{begins-down, known-up}
 use Rattle.laws_line.proofs.KnowingTeis.{begins-off, known-on}
 use Rattle.laws_line.proofs.notes.notes_tell.Goals as goal

@@ -1,3 +1,4 @@
+-- Hand-written answers for `pulls_come_to_an_end`.
 use Rattle.laws_line.proofs.Bounds.{bits-few, fresh-few, each-few}
 use Rattle.laws_line.proofs.Draining.{drains, idles}
 use Rattle.laws_line.proofs.Exact.{exactly-none}

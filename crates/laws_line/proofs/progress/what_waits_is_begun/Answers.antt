@@ -1,3 +1,4 @@
+-- Hand-written answers for `what_waits_is_begun`.
 use Rattle.std.proofs.Common.{◌≤◌, arith}
 use Rattle.laws_line.specs.Drains.{most_pulls_before}
 use Rattle.laws_line.proofs.Ordered.{enough-goes}

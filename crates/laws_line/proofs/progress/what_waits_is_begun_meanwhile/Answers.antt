@@ -1,3 +1,4 @@
+-- Hand-written answers for `what_waits_is_begun_meanwhile`.
 use Rattle.laws_line.proofs.Among.{begun-in, one-at-most, none-of-octet}
 use Rattle.laws_line.proofs.progress.what_waits_is_begun_meanwhile.Goals as goal
 

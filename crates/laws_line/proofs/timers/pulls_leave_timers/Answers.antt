@@ -1,3 +1,4 @@
+-- Hand-written answers for `pulls_leave_timers`.
 use Rattle.laws_line.proofs.Restarting.{pulls-leave}
 use Rattle.laws_line.proofs.timers.pulls_leave_timers.Goals as goal
 

@@ -1,3 +1,4 @@
+-- Hand-written answers for `timers_follow`.
 use Rattle.laws_line.proofs.TimersFollow.{timely-line, followed, begins-timely, begins-with-none}
 use Rattle.laws_line.proofs.timers.timers_follow.Goals as goal
 

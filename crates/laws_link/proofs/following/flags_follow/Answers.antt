@@ -1,3 +1,4 @@
+-- Hand-written answers for `flags_follow`.
 use Rattle.laws_link.proofs.Follows.{event-follows}
 use Rattle.laws_link.proofs.following.flags_follow.Goals as goal
 

@@ -1,3 +1,4 @@
+-- Hand-written answers for `frames_follow`.
 use Rattle.laws_link.proofs.Follows.{event-follows}
 use Rattle.laws_link.proofs.following.frames_follow.Goals as goal
 

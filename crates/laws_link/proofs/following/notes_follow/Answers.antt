@@ -1,3 +1,4 @@
+-- Hand-written answers for `notes_follow`.
 use Rattle.laws_link.proofs.Follows.{event-follows}
 use Rattle.laws_link.proofs.following.notes_follow.Goals as goal
 

@@ -1,3 +1,4 @@
+-- Hand-written answers for `ends_hold_what_was_accepted`.
 use Rattle.std.proofs.Common.{refl}
 use Rattle.laws_link.specs.Ends.{begun}
 use Rattle.laws_link.proofs.Facing.{near-all, far-all}

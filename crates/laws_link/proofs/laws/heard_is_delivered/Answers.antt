@@ -1,3 +1,4 @@
+-- Hand-written answers for `heard_is_delivered`.
 use Rattle.laws_link.proofs.Delivered.{delivered-was-heard}
 use Rattle.laws_link.proofs.Keeping.{event-unit}
 use Rattle.laws_link.proofs.Once.{data-is, noted-once}

@@ -1,3 +1,4 @@
+-- Hand-written answers for `nothing_is_lost`.
 use Rattle.laws_link.proofs.Counted.{kept-after, counted-after, counted-always}
 use Rattle.laws_link.proofs.laws.nothing_is_lost.Goals as goal
 

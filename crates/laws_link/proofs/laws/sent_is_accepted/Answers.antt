@@ -1,3 +1,4 @@
+-- Hand-written answers for `sent_is_accepted`.
 use Rattle.laws_link.proofs.Keeping.{event-done}
 use Rattle.laws_link.proofs.Offering.{given-is-offered}
 use Rattle.laws_link.proofs.laws.sent_is_accepted.Goals as goal

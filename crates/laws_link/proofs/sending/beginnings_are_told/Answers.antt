@@ -1,3 +1,4 @@
+-- Hand-written answers for `beginnings_are_told`.
 use Rattle.laws_link.proofs.Beginning.{beginning-seen}
 use Rattle.laws_link.proofs.sending.beginnings_are_told.Goals as goal
 

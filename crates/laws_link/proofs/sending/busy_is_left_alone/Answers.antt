@@ -1,3 +1,4 @@
+-- Hand-written answers for `busy_is_left_alone`.
 use Rattle.laws_link.proofs.Alone.{given-may-go}
 use Rattle.laws_link.proofs.sending.busy_is_left_alone.Goals as goal
 

@@ -1,3 +1,4 @@
+-- Hand-written answers for `deliveries_are_acknowledged`.
 use Rattle.laws_link.proofs.Owing.{acknowledged}
 use Rattle.laws_link.proofs.sending.deliveries_are_acknowledged.Goals as goal
 

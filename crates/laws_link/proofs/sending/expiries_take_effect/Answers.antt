@@ -1,3 +1,4 @@
+-- Hand-written answers for `expiries_take_effect`.
 use Rattle.laws_link.proofs.Expiries.{expires}
 use Rattle.laws_link.proofs.sending.expiries_take_effect.Goals as goal
 

@@ -1,3 +1,4 @@
+-- Hand-written answers for `rejected_is_sent_again`.
 use Rattle.laws_link.proofs.Alone.{offered-in-order}
 use Rattle.laws_link.proofs.GoingBack.{goes-back}
 use Rattle.laws_link.proofs.sending.rejected_is_sent_again.Goals as goal

@@ -1,3 +1,4 @@
+-- Hand-written answers for `requests_take_effect`.
 use Rattle.laws_link.proofs.Effects.{takes-effect}
 use Rattle.laws_link.proofs.sending.requests_take_effect.Goals as goal
 

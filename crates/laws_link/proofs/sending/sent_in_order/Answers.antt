@@ -1,3 +1,4 @@
+-- Hand-written answers for `sent_in_order`.
 use Rattle.laws_link.proofs.InOrder.{given-in-order}
 use Rattle.laws_link.proofs.sending.sent_in_order.Goals as goal
 

@@ -1,3 +1,4 @@
+-- Hand-written answers for `steady_unless_seen`.
 use Rattle.laws_link.proofs.Steady.{event-steady}
 use Rattle.laws_link.proofs.sending.steady_unless_seen.Goals as goal
 

@@ -1,3 +1,4 @@
+-- Hand-written answers for `gaps_are_rejected`.
 use Rattle.laws_two_links.proofs.Gapping.{gap-rejected, told-again}
 use Rattle.laws_two_links.proofs.gaps.gaps_are_rejected.Goals as goal
 

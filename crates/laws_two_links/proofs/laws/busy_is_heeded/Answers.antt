@@ -1,3 +1,4 @@
+-- Hand-written answers for `busy_is_heeded`.
 use Rattle.model_link.specs.Link.{fresh}
 use Rattle.laws_two_links.proofs.HeedingEvents.{heeds-fresh, heeds-after, heeds-all}
 use Rattle.laws_two_links.proofs.laws.busy_is_heeded.Goals as goal

@@ -1,3 +1,4 @@
+-- Hand-written answers for `contents_arrive`.
 use Rattle.laws_two_links.proofs.Arriving.{all-arrived}
 use Rattle.laws_two_links.proofs.laws.contents_arrive.Goals as goal
 

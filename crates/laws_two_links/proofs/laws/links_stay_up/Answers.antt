@@ -1,3 +1,4 @@
+-- Hand-written answers for `links_stay_up`.
 use Rattle.laws_two_links.proofs.TimelyRuns.{timely-up, timely-ahead, timely-agree, timely-recovered}
 use Rattle.laws_two_links.proofs.laws.links_stay_up.Goals as goal
 

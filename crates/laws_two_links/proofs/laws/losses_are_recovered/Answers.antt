@@ -1,3 +1,4 @@
+-- Hand-written answers for `losses_are_recovered`.
 use Rattle.laws_two_links.proofs.Recovery.{all-recovered}
 use Rattle.laws_two_links.proofs.Reached.{reached}
 use Rattle.laws_two_links.proofs.laws.losses_are_recovered.Goals as goal

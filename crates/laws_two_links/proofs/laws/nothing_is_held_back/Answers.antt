@@ -1,3 +1,4 @@
+-- Hand-written answers for `nothing_is_held_back`.
 use Rattle.laws_two_links.proofs.Waiting.{nothing-given, nothing-to_send, in-turn, in-the_end}
 use Rattle.laws_two_links.proofs.laws.nothing_is_held_back.Goals as goal
 

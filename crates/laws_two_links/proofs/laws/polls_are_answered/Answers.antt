@@ -1,3 +1,4 @@
+-- Hand-written answers for `polls_are_answered`.
 use Rattle.laws_two_links.proofs.Answering.{poll-answered, unnumbered-answered}
 use Rattle.laws_two_links.proofs.Unanswered.{poll-lost, unnumbered-lost}
 use Rattle.laws_two_links.proofs.FinalRows.{event-finals}

@@ -1,3 +1,4 @@
+-- Hand-written answers for `busy_ends_are_heard`.
 use Rattle.laws_two_links.proofs.BusyRounds.{from-near, from-far, paired-first, gets-through}
 use Rattle.laws_two_links.proofs.BusyBegun.{near-through, far-through}
 use Rattle.laws_two_links.proofs.own_busy.busy_ends_are_heard.Goals as goal

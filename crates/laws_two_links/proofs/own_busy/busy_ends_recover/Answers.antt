@@ -1,3 +1,4 @@
+-- Hand-written answers for `busy_ends_recover`.
 use Rattle.std.proofs.Common.{true, false}
 use Rattle.model_link.specs.TwoEnds.{doing_all}
 use Rattle.model_link.proofs.Joined.{ends-agree}

@@ -1,3 +1,4 @@
+-- Hand-written answers for `kept_contents_arrive`.
 use Rattle.std.proofs.Common.{true, false}
 use Rattle.model_link.specs.TwoEnds.{turned, doing_all}
 use Rattle.model_link.proofs.Joined.{ends-agree}

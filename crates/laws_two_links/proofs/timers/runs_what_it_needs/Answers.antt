@@ -1,3 +1,4 @@
+-- Hand-written answers for `runs_what_it_needs`.
 use Rattle.model_link.proofs.SoundEvents.{sound-after}
 use Rattle.laws_two_links.proofs.Needing.{timely-after, timely-fresh}
 use Rattle.laws_two_links.proofs.timers.runs_what_it_needs.Goals as goal

@@ -1,3 +1,4 @@
+-- Hand-written answers for `links_take_turns`.
 use Rattle.model_line.proofs.InTurn.{links_take_turns}
 use Rattle.model_line.proofs.laws.links_take_turns.Goals as goal
 

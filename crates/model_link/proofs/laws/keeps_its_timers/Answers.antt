@@ -1,3 +1,4 @@
+-- Hand-written answers for `keeps_its_timers`.
 use Rattle.model_link.specs.Link.{fresh}
 use Rattle.model_link.proofs.Obeying.{stays-in-step, comes-in-step, leaves-others}
 use Rattle.model_link.proofs.TimedRows.{timed-after, timed-all, timed-fresh}

@@ -1,3 +1,4 @@
+-- Hand-written answers for `layer_3_knows`.
 use Rattle.model_link.proofs.KnownRows
 use Rattle.model_link.proofs.OwnNotes.{notes-own}
 use Rattle.model_link.proofs.laws.layer_3_knows.Goals as goal

@@ -1,3 +1,4 @@
+-- Hand-written answers for `numbered`.
 use Rattle.model_link.proofs.Restarts.{establishes}
 use Rattle.model_link.specs.Link.{fresh}
 use Rattle.model_link.specs.Numbered.{nothing_yet}

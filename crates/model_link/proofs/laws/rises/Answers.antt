@@ -1,3 +1,4 @@
+-- Hand-written answers for `rises`.
 use Rattle.model_link.proofs.RiseEvents.{event-rises, offer-falls, all-rises}
 use Rattle.model_link.proofs.laws.rises.Goals as goal
 

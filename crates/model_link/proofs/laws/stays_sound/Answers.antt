@@ -1,3 +1,4 @@
+-- Hand-written answers for `stays_sound`.
 use Rattle.model_link.specs.Link.{fresh}
 use Rattle.model_link.proofs.SoundEvents.{sound-after, sound-fresh, sound-all}
 use Rattle.model_link.proofs.Slots.{queue-after}

@@ -1,3 +1,4 @@
+-- Hand-written answers for `tells_little`.
 use Rattle.model_link.proofs.TellRows.{event-tells, cleared-tells, two-orders, one-start, cleared-orders}
 use Rattle.model_link.proofs.Losing.{event-loses}
 use Rattle.model_link.proofs.laws.tells_little.Goals as goal

@@ -1,3 +1,4 @@
+-- Hand-written answers for `two_ends`.
 use Rattle.model_link.proofs.Joined.{ends-agree}
 use Rattle.model_link.proofs.laws.two_ends.Goals as goal
 

@@ -1,3 +1,4 @@
+-- Hand-written answers for `unserved_stays`.
 use Rattle.model_link.proofs.Unserved.{unserved-stays}
 use Rattle.model_link.proofs.laws.unserved_stays.Goals as goal
 

@@ -1,3 +1,4 @@
+-- The invariants of the loops of `order`.
 use Rattle.std.proofs.Common.{◌≡◌}
 use Rattle.test_card.proofs.example.order.Given as goal
 

@@ -1,3 +1,4 @@
+-- The invariants of the loops of `serve`.
 use Rattle.std.proofs.Common.{◌≡◌}
 use Rattle.lapd_card.specs.Card.{line_count}
 use Rattle.test_card.proofs.example.serve.Given as goal

@@ -1,3 +1,4 @@
+-- Hand-written answers for `keep_replies`.
 use Rattle.std.proofs.lemmas.Result.{on_ok_weaker, IfErr-weaker}
 use Rattle.test_card.proofs.Keeping.{keeps_moments, keeps_before}
 use Rattle.test_card.proofs.kept.keep_replies.Goals as goal

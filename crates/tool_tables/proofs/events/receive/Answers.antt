@@ -1,3 +1,4 @@
+-- Hand-written answers for `receive`.
 use Rattle.std.proofs.Common.{[], ◌∙◌}
 use Rattle.tool_tables.proofs.events.receive.Goals as goal
 

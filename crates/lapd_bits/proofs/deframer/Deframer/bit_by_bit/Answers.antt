@@ -1,3 +1,4 @@
+-- Hand-written answers for `Deframer::bit_by_bit`.
 use Rattle.std.proofs.Common.{◌≡◌, ◌++◌, ◌∷◌, ◌/◌, ◌^◌, nat_eq, bit_and, ◌+◌, sym, ◌∙◌, ap, subst, refl, inl, inr, arith, length, vec_len, option_to_list, append-nil}
 use Rattle.lapd_bits.specs.Stream.{heard_until, heard_at}
 use Rattle.lapd_bits.specs.Deframer.{HoldsPast}

@@ -1,3 +1,4 @@
+-- The invariants of the loops of `Deframer::bit_by_bit`.
 use Rattle.std.proofs.Common.{◌≡◌, ◌⊎◌, Bool, List, ◌++◌, length, vec_len, option_to_list}
 use Rattle.lapd_bits.specs.Stream.{heard_until}
 use Rattle.lapd_bits.specs.Deframer.{HoldsPast}

@@ -1,3 +1,4 @@
+-- Hand-written answers for `Deframer::closed`.
 use Rattle.std.proofs.Common.{subst, arith, ◌≤◌}
 use Rattle.lapd_bits.specs.Deframer.{HoldsGap, open_gap}
 use Rattle.lapd_bits.specs.Heard.{event_in}

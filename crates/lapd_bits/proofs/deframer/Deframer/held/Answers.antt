@@ -1,3 +1,4 @@
+-- Hand-written answers for `Deframer::held`.
 use Rattle.std.proofs.Common.{subst}
 use Rattle.std.proofs.Common.{reverse}
 use Rattle.lapd_bits.specs.Bits.{bits}

@@ -1,3 +1,4 @@
+-- Hand-written answers for `Deframer::one`.
 use Rattle.std.proofs.Common.{sym, ◌∙◌, ap, arith, length}
 use Rattle.lapd_bits.specs.Heard.{event_in}
 use Rattle.lapd_bits.specs.Deframer.{open_gap}

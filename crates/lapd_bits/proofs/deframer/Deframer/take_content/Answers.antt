@@ -1,3 +1,4 @@
+-- Hand-written answers for `Deframer::take_content`.
 use Rattle.std.proofs.Common.{subst}
 use Rattle.lapd_bits.specs.Bits.{low_bits}
 use Rattle.lapd_bits.specs.Deframer.{HoldsGap}

@@ -1,3 +1,4 @@
+-- Hand-written answers for `Deframer::take_flag_end`.
 use Rattle.std.proofs.Common.{length, refl}
 use Rattle.lapd_bits.specs.Ended.{ended_of}
 use Rattle.lapd_bits.specs.Heard.{event_in}

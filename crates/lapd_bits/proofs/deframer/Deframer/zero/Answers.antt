@@ -1,3 +1,4 @@
+-- Hand-written answers for `Deframer::zero`.
 use Rattle.std.proofs.Common.{sym, ◌∙◌, length}
 use Rattle.lapd_bits.specs.Deframer.{open_gap}
 use Rattle.lapd_bits.proofs.Hearing.{heard_at-zero}

@@ -1,3 +1,4 @@
+-- Hand-written answers for `Gap::begun`.
 use Rattle.lapd_bits.proofs.FlagEnd.{Assembles-begun}
 use Rattle.lapd_bits.proofs.gap.Gap.begun.Goals as goal
 

@@ -1,3 +1,4 @@
+-- Hand-written answers for `Gap::new`.
 use Rattle.lapd_bits.proofs.Assembly.{Assembles-none}
 use Rattle.lapd_bits.proofs.gap.Gap.new.Goals as goal
 

@@ -1,3 +1,4 @@
+-- Hand-written answers for `Gap::pass_over`.
 use Rattle.std.proofs.Common.{◌∙◌}
 use Rattle.lapd_bits.specs.Bits.{bits}
 use Rattle.lapd_bits.proofs.Assembly.{Keeps-beyond}

@@ -1,3 +1,4 @@
+-- Hand-written answers for `Card::drive`.
 use Rattle.std.proofs.Common.{sym, ◌∙◌}
 use Rattle.std.proofs.lemmas.Option.{slice_get-get_or}
 use Rattle.model_card.specs.declared.events.Event.TheVariants.{Octet}

@@ -1,3 +1,4 @@
+-- The invariants of the loops of `Card::drive`.
 use Rattle.std.proofs.Common.{◌≡◌, take}
 use Rattle.model_card.specs.Card as machine
 use Rattle.model_card.specs.Run.{run}

@@ -1,3 +1,4 @@
+-- Hand-written answers for `Card::limit`.
 use Rattle.std.proofs.Common.{sym, subst, ap, ◌∙◌}
 use Rattle.model_line.specs.Sound.{IsInRange}
 use Rattle.model_card.specs.Stored.{limit}

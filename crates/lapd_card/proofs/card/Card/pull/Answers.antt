@@ -1,5 +1,6 @@
+-- Hand-written answers for `Card::pull`.
 use Rattle.std.proofs.Common.{◌<◌, sym, subst}
-use Rattle.model_line.specs.Answer as happening
+use Rattle.model_line.specs.Event as line_event
 use Rattle.model_card.specs.ByEvent.{FallsByPull}
 use Rattle.model_card.specs.Event.{at}
 use Rattle.model_card.proofs.ByEvent.{frames_by_event}
@@ -10,13 +11,13 @@ use Rattle.lapd_card.proofs.OneEvent.{event_leads, event_told, past_after, has_r
 use Rattle.lapd_card.proofs.card.Card.pull.Goals as goal
 
 pub invariant_of-self : goal.invariant_of-self
-invariant_of-self g c = past_after g.S.Shelf.store (at c.args.line happening.pull) (record { config = c.self.inside.config; lines = c.self.inside.lines; shelf = c.self.inside.shelf }) _ (event_leads g.S.Shelf.store happening.pull c.args.line (record { config = c.self.inside.config; lines = c.self.inside.lines; shelf = c.self.inside.shelf }) c.pull.new.self c.pull.new.shelf (subst (λ card. c.args.line < line_count card) (sym c.self.view_is) c.requires) (λ m s. has_room (at c.args.line happening.pull) m (pull_takes m.config _)) c.pull.ensures.after) c.self.invariant
+invariant_of-self g c = past_after g.S.Shelf.store (at c.args.line line_event.pull) (record { config = c.self.inside.config; lines = c.self.inside.lines; shelf = c.self.inside.shelf }) _ (event_leads g.S.Shelf.store line_event.pull c.args.line (record { config = c.self.inside.config; lines = c.self.inside.lines; shelf = c.self.inside.shelf }) c.pull.new.self c.pull.new.shelf (subst (λ card. c.args.line < line_count card) (sym c.self.view_is) c.requires) (λ m s. has_room (at c.args.line line_event.pull) m (pull_takes m.config _)) c.pull.ensures.after) c.self.invariant
 
 pub returns-clause-told : goal.returns-clause-told
-returns-clause-told g c = λ m s. event_told g.S.Shelf.store happening.pull c.args.line (record { config = c.self.inside.config; lines = c.self.inside.lines; shelf = c.self.inside.shelf }) _ (λ m s. has_room (at c.args.line happening.pull) m (pull_takes m.config _)) c.pull.ensures.told m (subst (λ card. Stands g.S.Shelf.store card m) (sym c.self.view_is) s)
+returns-clause-told g c = λ m s. event_told g.S.Shelf.store line_event.pull c.args.line (record { config = c.self.inside.config; lines = c.self.inside.lines; shelf = c.self.inside.shelf }) _ (λ m s. has_room (at c.args.line line_event.pull) m (pull_takes m.config _)) c.pull.ensures.told m (subst (λ card. Stands g.S.Shelf.store card m) (sym c.self.view_is) s)
 
 pub returns-clause-after : goal.returns-clause-after
-returns-clause-after g c = subst (λ card. Leads g.S.Shelf.store (at c.args.line happening.pull) card (record { config = c.self.inside.config; lines = c.pull.new.self; shelf = c.pull.new.shelf })) c.self.view_is (event_leads g.S.Shelf.store happening.pull c.args.line (record { config = c.self.inside.config; lines = c.self.inside.lines; shelf = c.self.inside.shelf }) c.pull.new.self c.pull.new.shelf (subst (λ card. c.args.line < line_count card) (sym c.self.view_is) c.requires) (λ m s. has_room (at c.args.line happening.pull) m (pull_takes m.config _)) c.pull.ensures.after)
+returns-clause-after g c = subst (λ card. Leads g.S.Shelf.store (at c.args.line line_event.pull) card (record { config = c.self.inside.config; lines = c.pull.new.self; shelf = c.pull.new.shelf })) c.self.view_is (event_leads g.S.Shelf.store line_event.pull c.args.line (record { config = c.self.inside.config; lines = c.self.inside.lines; shelf = c.self.inside.shelf }) c.pull.new.self c.pull.new.shelf (subst (λ card. c.args.line < line_count card) (sym c.self.view_is) c.requires) (λ m s. has_room (at c.args.line line_event.pull) m (pull_takes m.config _)) c.pull.ensures.after)
 
 pub returns-clause-frames : goal.returns-clause-frames
 returns-clause-frames g c = at_line g.S.Shelf.store c.args.self.now c.args.line c.requires (FallsByPull c.args.line) (λ m s w. frames_by_event.pulls m c.args.line s w)

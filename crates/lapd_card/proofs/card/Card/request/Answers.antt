@@ -1,6 +1,7 @@
+-- Hand-written answers for `Card::request`.
 use Rattle.std.proofs.Common.{◌<◌, sym, subst, Some, None}
 use Rattle.std.proofs.lemmas.Result.{IfOk-weaker, IfErr-weaker}
-use Rattle.model_line.specs.Answer as happening
+use Rattle.model_line.specs.Event as line_event
 use Rattle.model_line.specs.Request.{request_of}
 use Rattle.model_card.specs.ByEvent.{RisesByRequest}
 use Rattle.model_card.specs.Event.{at}
@@ -12,7 +13,7 @@ use Rattle.lapd_card.proofs.OneEvent.{refusal_is, request_told, request_leads, p
 use Rattle.lapd_card.proofs.card.Card.request.Goals as goal
 
 pub invariant_of-self : goal.invariant_of-self
-invariant_of-self g c = past_after g.S.Shelf.store (at c.args.line (happening.request (request_of c.args.request))) (record { config = c.self.inside.config; lines = c.self.inside.lines; shelf = c.self.inside.shelf }) _ (request_leads g.S.Shelf.store (request_of c.args.request) c.args.line (record { config = c.self.inside.config; lines = c.self.inside.lines; shelf = c.self.inside.shelf }) c.request.new.self c.request.new.shelf c.request.result (subst (λ card. c.args.line < line_count card) (sym c.self.view_is) c.requires) (IfErr-weaker c.request.result _ _ (λ why. refusal_is g.S.Shelf.store (request_of c.args.request) c.args.line c.from.result (record { config = c.self.inside.config; lines = c.self.inside.lines; shelf = c.self.inside.shelf }) (Some why) c.from.ensures) c.request.ensures.refused) (IfOk-weaker c.request.result _ _ (λ report. refusal_is g.S.Shelf.store (request_of c.args.request) c.args.line c.from.result (record { config = c.self.inside.config; lines = c.self.inside.lines; shelf = c.self.inside.shelf }) None c.from.ensures) c.request.ensures.accepted) c.request.ensures.unchanged c.request.ensures.kept c.request.ensures.after) c.self.invariant
+invariant_of-self g c = past_after g.S.Shelf.store (at c.args.line (line_event.request (request_of c.args.request))) (record { config = c.self.inside.config; lines = c.self.inside.lines; shelf = c.self.inside.shelf }) _ (request_leads g.S.Shelf.store (request_of c.args.request) c.args.line (record { config = c.self.inside.config; lines = c.self.inside.lines; shelf = c.self.inside.shelf }) c.request.new.self c.request.new.shelf c.request.result (subst (λ card. c.args.line < line_count card) (sym c.self.view_is) c.requires) (IfErr-weaker c.request.result _ _ (λ why. refusal_is g.S.Shelf.store (request_of c.args.request) c.args.line c.from.result (record { config = c.self.inside.config; lines = c.self.inside.lines; shelf = c.self.inside.shelf }) (Some why) c.from.ensures) c.request.ensures.refused) (IfOk-weaker c.request.result _ _ (λ report. refusal_is g.S.Shelf.store (request_of c.args.request) c.args.line c.from.result (record { config = c.self.inside.config; lines = c.self.inside.lines; shelf = c.self.inside.shelf }) None c.from.ensures) c.request.ensures.accepted) c.request.ensures.unchanged c.request.ensures.kept c.request.ensures.after) c.self.invariant
 
 pub returns-clause-refused : goal.returns-clause-refused
 returns-clause-refused g c = IfErr-weaker c.request.result _ _ (λ why says m s. says m (subst (λ card. Stands g.S.Shelf.store card m) (sym c.self.view_is) s)) (IfErr-weaker c.request.result _ _ (λ why. refusal_is g.S.Shelf.store (request_of c.args.request) c.args.line c.from.result (record { config = c.self.inside.config; lines = c.self.inside.lines; shelf = c.self.inside.shelf }) (Some why) c.from.ensures) c.request.ensures.refused)
@@ -24,7 +25,7 @@ pub returns-clause-told : goal.returns-clause-told
 returns-clause-told g c = λ m s. request_told g.S.Shelf.store (request_of c.args.request) c.args.line (record { config = c.self.inside.config; lines = c.self.inside.lines; shelf = c.self.inside.shelf }) c.request.result (IfErr-weaker c.request.result _ _ (λ why. refusal_is g.S.Shelf.store (request_of c.args.request) c.args.line c.from.result (record { config = c.self.inside.config; lines = c.self.inside.lines; shelf = c.self.inside.shelf }) (Some why) c.from.ensures) c.request.ensures.refused) (IfOk-weaker c.request.result _ _ (λ report. refusal_is g.S.Shelf.store (request_of c.args.request) c.args.line c.from.result (record { config = c.self.inside.config; lines = c.self.inside.lines; shelf = c.self.inside.shelf }) None c.from.ensures) c.request.ensures.accepted) c.request.ensures.told m (subst (λ card. Stands g.S.Shelf.store card m) (sym c.self.view_is) s)
 
 pub returns-clause-after : goal.returns-clause-after
-returns-clause-after g c = subst (λ card. Leads g.S.Shelf.store (at c.args.line (happening.request (request_of c.args.request))) card (record { config = c.self.inside.config; lines = c.request.new.self; shelf = c.request.new.shelf })) c.self.view_is (request_leads g.S.Shelf.store (request_of c.args.request) c.args.line (record { config = c.self.inside.config; lines = c.self.inside.lines; shelf = c.self.inside.shelf }) c.request.new.self c.request.new.shelf c.request.result (subst (λ card. c.args.line < line_count card) (sym c.self.view_is) c.requires) (IfErr-weaker c.request.result _ _ (λ why. refusal_is g.S.Shelf.store (request_of c.args.request) c.args.line c.from.result (record { config = c.self.inside.config; lines = c.self.inside.lines; shelf = c.self.inside.shelf }) (Some why) c.from.ensures) c.request.ensures.refused) (IfOk-weaker c.request.result _ _ (λ report. refusal_is g.S.Shelf.store (request_of c.args.request) c.args.line c.from.result (record { config = c.self.inside.config; lines = c.self.inside.lines; shelf = c.self.inside.shelf }) None c.from.ensures) c.request.ensures.accepted) c.request.ensures.unchanged c.request.ensures.kept c.request.ensures.after)
+returns-clause-after g c = subst (λ card. Leads g.S.Shelf.store (at c.args.line (line_event.request (request_of c.args.request))) card (record { config = c.self.inside.config; lines = c.request.new.self; shelf = c.request.new.shelf })) c.self.view_is (request_leads g.S.Shelf.store (request_of c.args.request) c.args.line (record { config = c.self.inside.config; lines = c.self.inside.lines; shelf = c.self.inside.shelf }) c.request.new.self c.request.new.shelf c.request.result (subst (λ card. c.args.line < line_count card) (sym c.self.view_is) c.requires) (IfErr-weaker c.request.result _ _ (λ why. refusal_is g.S.Shelf.store (request_of c.args.request) c.args.line c.from.result (record { config = c.self.inside.config; lines = c.self.inside.lines; shelf = c.self.inside.shelf }) (Some why) c.from.ensures) c.request.ensures.refused) (IfOk-weaker c.request.result _ _ (λ report. refusal_is g.S.Shelf.store (request_of c.args.request) c.args.line c.from.result (record { config = c.self.inside.config; lines = c.self.inside.lines; shelf = c.self.inside.shelf }) None c.from.ensures) c.request.ensures.accepted) c.request.ensures.unchanged c.request.ensures.kept c.request.ensures.after)
 
 pub returns-clause-frames : goal.returns-clause-frames
 returns-clause-frames g c = at_line g.S.Shelf.store c.args.self.now c.args.line c.requires (RisesByRequest c.args.line (request_of c.args.request)) (λ m s w. frames_by_event.requests m c.args.line (request_of c.args.request) s w)

@@ -1,3 +1,4 @@
+-- Hand-written answers for `Card::start`.
 use Rattle.std.proofs.Common.{sym, ◌∙◌}
 use Rattle.model_card.specs.Card.{fresh}
 use Rattle.lapd_card.proofs.Begins.{fresh_stands}

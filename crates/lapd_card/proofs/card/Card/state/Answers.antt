@@ -1,3 +1,4 @@
+-- Hand-written answers for `Card::state`.
 use Rattle.std.proofs.Common.{◌<◌, sym, subst, ap, ◌∙◌}
 use Rattle.lapd_card.specs.Card.{line_count}
 use Rattle.lapd_card.specs.Stands.{Stands}

@@ -1,3 +1,4 @@
+-- The invariants of the loops of `Lines::held`.
 use Rattle.std.proofs.Common.{◌≡◌, ◌*◌, ◌≤◌, List, take}
 use Rattle.std.specs.List.{sum_by}
 use Rattle.model_line.specs.declared.config.Config.{Config}

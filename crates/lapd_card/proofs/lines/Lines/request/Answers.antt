@@ -1,6 +1,7 @@
+-- Hand-written answers for `Lines::request`.
 use Rattle.std.proofs.Common.{sym, nat_le, Some, None}
 use Rattle.std.proofs.lemmas.Result.{IfOk-weaker, IfErr-weaker}
-use Rattle.model_line.specs.Answer as happening
+use Rattle.model_line.specs.Event as line_event
 use Rattle.model_line.specs.Machine.{answer}
 use Rattle.model_line.specs.Refusal.{refusal}
 use Rattle.model_line.specs.Request.{request_of}
@@ -18,7 +19,7 @@ pub returns-clause-accepted : goal.returns-clause-accepted
 returns-clause-accepted g c = IfOk-weaker c.request.result _ _ (λ report says d ms stand. sym (one_says (λ d l. refusal d (nat_le c.args.slots (used_slots (g.S.Shelf.store c.args.shelf.now))) (request_of c.args.request) l) None _ c.args.self.now c.args.line c.index_mut.result.now (record { same = c.self.view_is; within = c.requires.within; is = c.index_mut.ensures.value }) _ (λ others l stands. sym (says others l stands)) d ms stand)) c.request.ensures.accepted
 
 pub returns-clause-told : goal.returns-clause-told
-returns-clause-told g c = IfOk-weaker c.request.result _ _ (λ report says. one_says (λ d l. answer d (happening.request (request_of c.args.request)) l) _ _ c.args.self.now c.args.line c.index_mut.result.now (record { same = c.self.view_is; within = c.requires.within; is = c.index_mut.ensures.value }) _ says) c.request.ensures.told
+returns-clause-told g c = IfOk-weaker c.request.result _ _ (λ report says. one_says (λ d l. answer d (line_event.request (request_of c.args.request)) l) _ _ c.args.self.now c.args.line c.index_mut.result.now (record { same = c.self.view_is; within = c.requires.within; is = c.index_mut.ensures.value }) _ says) c.request.ensures.told
 
 pub returns-clause-after : goal.returns-clause-after
-returns-clause-after g c = IfOk-weaker c.request.result _ _ (λ report. one_leads (happening.request (request_of c.args.request)) _ c.args.self.now c.args.line c.index_mut.result.now (record { same = c.self.view_is; within = c.requires.within; is = c.index_mut.ensures.value }) _ c.request.new.self _) c.request.ensures.after
+returns-clause-after g c = IfOk-weaker c.request.result _ _ (λ report. one_leads (line_event.request (request_of c.args.request)) _ c.args.self.now c.args.line c.index_mut.result.now (record { same = c.self.view_is; within = c.requires.within; is = c.index_mut.ensures.value }) _ c.request.new.self _) c.request.ensures.after

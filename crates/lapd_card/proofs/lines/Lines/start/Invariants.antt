@@ -1,3 +1,4 @@
+-- The invariants of the loops of `Lines::start`.
 use Rattle.std.proofs.Common.{◌≡◌, vec_len}
 use Rattle.std.specs.List.{AllByRecursion}
 use Rattle.lapd_card.specs.Lines.{IsFresh}

@@ -1,3 +1,4 @@
+-- Hand-written answers for `Lines::state`.
 use Rattle.model_line.specs.Line as machine
 use Rattle.lapd_card.proofs.OneLine.{one_says}
 use Rattle.lapd_card.proofs.lines.Lines.state.Goals as goal

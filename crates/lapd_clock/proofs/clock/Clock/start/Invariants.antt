@@ -1,3 +1,4 @@
+-- The invariants of the loops of `Clock::start`.
 use Rattle.std.proofs.Common.{◌≡◌, [], vec_len}
 use Rattle.std.specs.List.{AllByRecursion}
 use Rattle.lapd_clock.specs.Places.{IsLineKept}

@@ -1,3 +1,4 @@
+-- Hand-written answers for `Line::expire`.
 use Rattle.lapd_line.proofs.AnswerLaws.{starts_one}
 use Rattle.lapd_line.specs.Reports.{report_told}
 use Rattle.lapd_line.specs.Stands.{config_of}

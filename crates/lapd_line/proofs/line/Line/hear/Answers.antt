@@ -1,8 +1,9 @@
+-- Hand-written answers for `Line::hear`.
 use Rattle.std.proofs.Common.{◌≡◌, false, refl, sym, subst}
 use Rattle.std.proofs.lemmas.Bool.{false≢true}
 use Rattle.lapd_bits.specs.Deframer.{latest_of}
-use Rattle.model_line.specs.Answer as event
-use Rattle.model_line.specs.Answer.{told}
+use Rattle.model_line.specs.Event as line_event
+use Rattle.model_line.specs.Event.{told}
 use Rattle.model_line.specs.Machine.{answer}
 use Rattle.lapd_line.specs.declared.line.Line.{Line}
 use Rattle.lapd_line.specs.Reports.{told_in}
@@ -12,12 +13,12 @@ use Rattle.lapd_line.proofs.line.Line.hear.Goals as goal
 
 pub returns-in-Nothing-clause-told : goal.returns-in-Nothing-clause-told
 returns-in-Nothing-clause-told g c =
-    let new : Line = record { deframer = c.step.new.self; framer = c.args.self.now.framer; layer = c.args.self.now.layer; quiet = c.args.self.now.quiet } in
+    let new : Line = record { deframer = c.step.new.self; framer = c.args.self.now.framer; layer = c.args.self.now.layer; nothing_waits = c.args.self.now.nothing_waits } in
     (unheard c.args.self.now new (g.S.Shelf.store c.args.shelf.now) c.args.octet c.step.ensures.heard c.step.ensures.after refl refl refl (nothing_heard (latest_of c.step.new.self) c.in-Nothing.ensures.told)).1
 
 pub returns-in-Nothing-clause-after : goal.returns-in-Nothing-clause-after
 returns-in-Nothing-clause-after g c =
-    let new : Line = record { deframer = c.step.new.self; framer = c.args.self.now.framer; layer = c.args.self.now.layer; quiet = c.args.self.now.quiet } in
+    let new : Line = record { deframer = c.step.new.self; framer = c.args.self.now.framer; layer = c.args.self.now.layer; nothing_waits = c.args.self.now.nothing_waits } in
     (unheard c.args.self.now new (g.S.Shelf.store c.args.shelf.now) c.args.octet c.step.ensures.heard c.step.ensures.after refl refl refl (nothing_heard (latest_of c.step.new.self) c.in-Nothing.ensures.told)).0
 
 pub returns-in-Dropped : goal.returns-in-Dropped
@@ -25,12 +26,12 @@ returns-in-Dropped g c =
     let old = c.args.self.now in
     let s = g.S.Shelf.store c.args.shelf.now in
     let t = g.S.Shelf.store c.serve.new.shelf in
-    let new : Line = record { deframer = c.step.new.self; framer = old.framer; layer = c.serve.new.self.layer; quiet = false } in
+    let new : Line = record { deframer = c.step.new.self; framer = old.framer; layer = c.serve.new.self.layer; nothing_waits = false } in
     record {
       told = λ others m st.
-          subst (λ l. told (told_in (latest_frame l) c.serve.result) ≡ answer (config_of old) (event.octet c.args.octet) m) (sym c.serve.ensures.line)
+          subst (λ l. told (told_in (latest_frame l) c.serve.result) ≡ answer (config_of old) (line_event.octet c.args.octet) m) (sym c.serve.ensures.line)
           (step_told old new s t c.args.octet c.serve.result c.step.ensures.heard c.serve.ensures.served others m st);
       after =
-          subst (λ l. Leads (event.octet c.args.octet) old s l t) (sym c.serve.ensures.line)
+          subst (λ l. Leads (line_event.octet c.args.octet) old s l t) (sym c.serve.ensures.line)
           (stepped old new s t c.args.octet c.serve.result c.step.ensures.heard c.step.ensures.after refl (λ on. absurd (false≢true on)) c.serve.ensures.served);
     }

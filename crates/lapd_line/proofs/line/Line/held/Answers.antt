@@ -1,3 +1,4 @@
+-- Hand-written answers for `Line::held`.
 use Rattle.std.proofs.Common.{sym, ap, ◌∙◌, arith}
 use Rattle.lapd_bits.specs.Framer.{still_held, last_octets}
 use Rattle.model_line.specs.Stored.{held_received, held_sent, held_by_link, sum_of_links}

@@ -1,5 +1,6 @@
+-- Hand-written answers for `Line::octet`.
 use Rattle.std.proofs.Common.{refl, ap, ◌∙◌}
-use Rattle.model_line.specs.Answer.{told}
+use Rattle.model_line.specs.Event.{told}
 use Rattle.lapd_line.specs.Reports.{report_told}
 use Rattle.lapd_line.specs.Stands.{config_of}
 use Rattle.lapd_line.proofs.AnswerLaws.{drop_leaves}

@@ -1,3 +1,4 @@
+-- Hand-written answers for `Line::pull`.
 use Rattle.std.proofs.Common.{None, refl, ◌∙◌}
 use Rattle.lapd_frame.specs.declared.short_lists.ShortList.TheVariants as short
 use Rattle.lapd_line.proofs.PullSteps.{Gives, pulls, pull_told}

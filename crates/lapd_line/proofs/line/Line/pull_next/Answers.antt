@@ -1,3 +1,4 @@
+-- Hand-written answers for `Line::pull_next`.
 use Rattle.lapd_line.proofs.PullSteps.{Gives, pulls, pull_told}
 use Rattle.lapd_line.proofs.line.Line.pull_next.Goals as goal
 

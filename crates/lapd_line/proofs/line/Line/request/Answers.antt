@@ -1,3 +1,4 @@
+-- Hand-written answers for `Line::request`.
 use Rattle.std.proofs.Common.{ap, nat_le}
 use Rattle.lapd_store.specs.Store.{used_slots}
 use Rattle.model_line.specs.Request.{request_of}

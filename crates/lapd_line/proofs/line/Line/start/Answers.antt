@@ -1,3 +1,4 @@
+-- Hand-written answers for `Line::start`.
 use Rattle.std.proofs.Common.{[], sym, ap, subst, ◌∙◌}
 use Rattle.std.proofs.lemmas.Bool.{false≢true}
 use Rattle.lapd_bits.specs.Deframer as deframer
@@ -9,5 +10,5 @@ returns-clause-fresh c = λ store others wide held. record {
   sent = c.in_ok-framer.ensures.stands;
   room = ap (λ f. f.room) c.in_ok-framer.ensures.begins ∙ ap (λ k. k.n201) (sym c.in_ok-layer.ensures.config);
   layer = c.in_ok-layer.ensures.fresh store others wide held;
-  quiet = λ is. absurd (false≢true is);
+  nothing_waits = λ is. absurd (false≢true is);
 }

@@ -1,3 +1,4 @@
+-- Hand-written answers for `Line::state`.
 use Rattle.lapd_line.proofs.line.Line.state.Goals as goal
 
 pub returns : goal.returns

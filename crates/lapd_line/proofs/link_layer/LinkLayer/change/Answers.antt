@@ -1,4 +1,5 @@
-use Rattle.lapd_line.proofs.ChangeSteps.{unmoved}
+-- Hand-written answers for `LinkLayer::change`.
+use Rattle.lapd_line.proofs.TeiChangeSteps.{unmoved}
 use Rattle.lapd_line.proofs.link_layer.LinkLayer.change.Goals as goal
 
 pub returns-in-None : goal.returns-in-None

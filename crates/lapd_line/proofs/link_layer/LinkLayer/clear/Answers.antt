@@ -1,3 +1,4 @@
+-- Hand-written answers for `LinkLayer::clear`.
 use Rattle.std.proofs.Common.{◌≡◌, ◌<◌, [], length, set, slice_get, Some, sym, ap, subst, ◌∙◌, arith}
 use Rattle.lapd_frame.specs.declared.services.Service.TheVariants.{Call, Packet}
 use Rattle.model_link.specs.Events as event
@@ -6,11 +7,11 @@ use Rattle.model_link.proofs.TellRows.{cleared-tells, cleared-orders}
 use Rattle.model_line.specs.Line.{terms}
 use Rattle.model_line.specs.Effect.{told_of_link, with_cleared}
 use Rattle.lapd_link.specs.Outcome.{told_with}
-use Rattle.lapd_line.specs.Changes.{with_management}
+use Rattle.lapd_line.specs.TeiChanges.{with_management}
 use Rattle.lapd_line.specs.Links as links
 use Rattle.lapd_line.specs.Links.{HasTerms, LinksStand, machine_at, terms_in}
 use Rattle.lapd_line.proofs.LayerSteps.{beside_links, links_part, named}
-use Rattle.lapd_line.proofs.ChangeSteps.{has_left, left, as_many, link_within, exact}
+use Rattle.lapd_line.proofs.TeiChangeSteps.{has_left, left, as_many, link_within, exact}
 use Rattle.lapd_line.proofs.link_layer.LinkLayer.clear.Goals as goal
 
 pub clear-call-requires-clause-within : goal.clear-call-requires-clause-within

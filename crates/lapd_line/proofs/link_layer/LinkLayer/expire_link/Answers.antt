@@ -1,3 +1,4 @@
+-- Hand-written answers for `LinkLayer::expire_link`.
 use Rattle.std.proofs.Common.{[], refl, ◌<◌, length, subst, sym}
 use Rattle.model_link.specs.Events as event
 use Rattle.lapd_line.specs.Awake.{Wakes}

@@ -1,3 +1,4 @@
+-- Hand-written answers for `LinkLayer::has_receiver`.
 use Rattle.std.proofs.Common.{◌||◌, sym, ap, ◌∙◌}
 use Rattle.std.proofs.lemmas.Bool.{ne_eqb}
 use Rattle.std.specs.Option.{is_some}

@@ -1,3 +1,4 @@
+-- Hand-written answers for `LinkLayer::held_by_links`.
 use Rattle.std.proofs.Common.{◌≡◌, ◌<◌, refl, ap, ◌∙◌, arith}
 use Rattle.std.specs.List.{sum_by, range_with_len}
 use Rattle.model_line.specs.Line.{link_count}

@@ -1,3 +1,4 @@
+-- The invariants of the loops of `LinkLayer::held_by_links`.
 use Rattle.std.proofs.Common.{◌≡◌, ◌*◌, ◌≤◌, List}
 use Rattle.std.specs.List.{sum_by, range_with_len}
 use Rattle.lapd_store.specs.Ownership.{Owned}

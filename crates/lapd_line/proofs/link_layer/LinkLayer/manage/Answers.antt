@@ -1,6 +1,7 @@
+-- Hand-written answers for `LinkLayer::manage`.
 use Rattle.std.proofs.Common.{[], arith}
-use Rattle.lapd_line.specs.Asks.{event_of}
-use Rattle.lapd_line.proofs.AskSteps.{managed}
+use Rattle.lapd_line.specs.Requests.{event_of}
+use Rattle.lapd_line.proofs.LayerRequests.{managed}
 use Rattle.lapd_line.proofs.link_layer.LinkLayer.manage.Goals as goal
 
 pub returns-in-Ok-clause-granted : goal.returns-in-Ok-clause-granted

@@ -1,7 +1,8 @@
+-- Hand-written answers for `LinkLayer::message`.
 use Rattle.std.proofs.Common.{◌≡◌, true}
 use Rattle.lapd_tei.specs.Events as teis
-use Rattle.lapd_line.specs.Aims.{is_ui}
-use Rattle.lapd_line.proofs.AimSteps.{serves_as, message_of_ui}
+use Rattle.lapd_line.specs.Addressing.{is_ui}
+use Rattle.lapd_line.proofs.AddressSteps.{serves_as, message_of_ui}
 use Rattle.lapd_line.proofs.link_layer.LinkLayer.message.Goals as goal
 
 pub returns : goal.returns

@@ -1,6 +1,7 @@
+-- Hand-written answers for `LinkLayer::overlong`.
 use Rattle.std.proofs.Common.{[], sym, ap, ◌∙◌, Ok, arith}
 use Rattle.model_line.specs.Octet.{aim_of_long}
-use Rattle.lapd_line.proofs.AimSteps.{serves_as, long_fault}
+use Rattle.lapd_line.proofs.AddressSteps.{serves_as, long_fault}
 use Rattle.lapd_line.proofs.link_layer.LinkLayer.overlong.Goals as goal
 
 pub returns-in-Ok-Information : goal.returns-in-Ok-Information

@@ -1,3 +1,4 @@
+-- Hand-written answers for `LinkLayer::receive`.
 use Rattle.std.proofs.Common.{◌<◌, length, subst, sym}
 use Rattle.model_link.specs.Events as event
 use Rattle.lapd_link.specs.Events.{received_of, info_of}

@@ -1,8 +1,9 @@
+-- Hand-written answers for `LinkLayer::spelled`.
 use Rattle.std.proofs.Common.{drop, sym, ap, ◌∙◌}
 use Rattle.lapd_frame.specs.Grammar.{parts_of}
 use Rattle.model_link.specs.Events as link
 use Rattle.model_line.specs.Octet.{message_of}
-use Rattle.lapd_line.proofs.AimSteps.{aimed, serves_as, serves_none}
+use Rattle.lapd_line.proofs.AddressSteps.{aimed, serves_as, serves_none}
 use Rattle.lapd_line.proofs.link_layer.LinkLayer.spelled.Goals as goal
 
 pub returns-in-Management : goal.returns-in-Management

@@ -1,3 +1,4 @@
+-- Hand-written answers for `LinkLayer::start`.
 use Rattle.std.proofs.Common.{ap, ◌∙◌}
 use Rattle.lapd_tei.specs.Machine.{empty}
 use Rattle.lapd_line.specs.Units.{empty_ring}

@@ -1,3 +1,4 @@
+-- Hand-written answers for `LinkLayer::state`.
 use Rattle.std.proofs.Common.{sym}
 use Rattle.lapd_line.proofs.LayerSteps.{state_is, beside_links}
 use Rattle.lapd_line.proofs.link_layer.LinkLayer.state.Goals as goal

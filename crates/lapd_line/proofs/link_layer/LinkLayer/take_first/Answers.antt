@@ -1,6 +1,7 @@
+-- Hand-written answers for `LinkLayer::take_first`.
 use Rattle.std.proofs.Common.{◌<◌, length, ap, sym, subst, ◌∙◌, arith}
 use Rattle.model_line.specs.Line.{link_count}
-use Rattle.lapd_line.proofs.TakeStepsLinks.{none_among, one_more, found, passed, none_stands}
+use Rattle.lapd_line.proofs.PullTakesLinks.{none_among, one_more, found, passed, none_stands}
 use Rattle.lapd_line.proofs.link_layer.LinkLayer.take_first.Goals as goal
 
 pub loop-number-init : goal.loop-number-init

@@ -1,3 +1,4 @@
+-- Hand-written answers for `Links::expire`.
 use Rattle.std.proofs.Common.{◌≡◌, [], get_or, set, sym, subst}
 use Rattle.model_link.specs.Events as event
 use Rattle.lapd_line.specs.Links.{Serves, machine_at}

@@ -1,3 +1,4 @@
+-- Hand-written answers for `Links::held`.
 use Rattle.std.proofs.Common.{◌≡◌, get_or, ap, subst, ◌∙◌, arith}
 use Rattle.model_link.specs.Rises.{held}
 use Rattle.lapd_line.specs.Links.{machine_at}

@@ -1,3 +1,4 @@
+-- Hand-written answers for `Links::offer`.
 use Rattle.std.proofs.Common.{◌≡◌, get_or, set, sym, subst}
 use Rattle.lapd_line.specs.Links.{Offers, machine_at}
 use Rattle.lapd_line.proofs.LinkSteps.{take_link, offers}

@@ -1,3 +1,4 @@
+-- Hand-written answers for `Links::open`.
 use Rattle.std.proofs.Common.{◌≡◌, ◌≤◌, get_or, set, refl, sym, ap, subst, ◌∙◌, arith}
 use Rattle.std.proofs.lemmas.List.{map-set}
 use Rattle.lapd_link.specs.Stands.{terms_of}

@@ -1,3 +1,4 @@
+-- Hand-written answers for `Links::request`.
 use Rattle.std.proofs.Common.{◌≡◌, [], get_or, set, nat_le, Some, None, IfOk, sym, ap, subst, ◌∙◌}
 use Rattle.lapd_store.specs.Store.{used_slots}
 use Rattle.model_link.specs.Events as event

@@ -1,3 +1,4 @@
+-- Hand-written answers for `Links::start`.
 use Rattle.std.proofs.Common.{[], ◌∷◌, ◌+◌, sym, ap, subst, ◌∙◌}
 use Rattle.std.proofs.lemmas.List.Elements.{All-nil, All-cons, All-append}
 use Rattle.std.specs.List.{All}

@@ -1,3 +1,4 @@
+-- The invariants of the loops of `Links::start`.
 use Rattle.std.proofs.Common.{◌≡◌, vec_len}
 use Rattle.std.specs.List.{All}
 use Rattle.std.specs.Prelude.{vec_capacity}

@@ -1,3 +1,4 @@
+-- Hand-written answers for `Links::state`.
 use Rattle.std.proofs.Common.{◌≡◌, Some, get_or, ap, subst, ◌∙◌}
 use Rattle.lapd_line.specs.Links.{machine_at}
 use Rattle.lapd_line.proofs.LinkSteps.{take_link}

@@ -1,7 +1,8 @@
+-- Hand-written answers for `Link::frame`.
 use Rattle.std.proofs.Common.{sym, ap, ◌∙◌}
-use Rattle.model_link.specs.Told.{Told}
+use Rattle.model_link.specs.Told.{LinkTold}
 use Rattle.lapd_link.proofs.link.Link.frame.Goals as goal
 
 pub returns-clause-unserved : goal.returns-clause-unserved
 returns-clause-unserved g c = λ others m s is.
-    c.receive.ensures.unserved others m s (sym (ap (λ (t : Told). t.unserved) c.lend.ensures) ∙ is)
+    c.receive.ensures.unserved others m s (sym (ap (λ (t : LinkTold). t.unserved) c.lend.ensures) ∙ is)

@@ -1,3 +1,4 @@
+-- Hand-written answers for `Link::grant`.
 use Rattle.std.proofs.Common.{[], ap, subst, ◌∙◌}
 use Rattle.model_link.specs.Requests.{granted}
 use Rattle.model_link.specs.Steps.{begun}

@@ -1,3 +1,4 @@
+-- Hand-written answers for `Link::keep`.
 use Rattle.std.proofs.Common.{ℕ, List, [], ◌∷◌, ◌++◌, sym, ap, subst}
 use Rattle.lapd_store.specs.Ownership.{Keeps}
 use Rattle.lapd_store.specs.SlotRing.{SlotRing}

@@ -1,3 +1,4 @@
+-- Hand-written answers for `Link::offer`.
 use Rattle.std.proofs.Common.{Option, sym, ap, ◌∙◌}
 use Rattle.model_link.specs.declared.timers.LinkTimer.{LinkTimer}
 use Rattle.model_link.specs.Link.{queue_of}

@@ -1,3 +1,4 @@
+-- Hand-written answers for `Link::refusal`.
 use Rattle.std.proofs.Common.{◌≡◌, true, refl, sym, ap, subst, ◌∙◌}
 use Rattle.std.specs.Prelude.{IfNone}
 use Rattle.model_link.specs.declared.states.State.{State}

@@ -1,3 +1,4 @@
+-- Hand-written answers for `Link::request`.
 use Rattle.model_link.proofs.RiseEvents.{event-rises}
 use Rattle.std.proofs.Common.{◌≡◌, ℕ, [], None, sym, ap, subst, ◌∙◌}
 use Rattle.std.specs.Prelude.{nat_le}

@@ -1,3 +1,4 @@
+-- Hand-written answers for `Link::settle`.
 use Rattle.std.proofs.Common.{ℕ, ◌≤◌, List, sym, subst}
 use Rattle.lapd_frame.specs.declared.timers.Order.{Order}
 use Rattle.model_link.specs.Told.{starts}

@@ -1,3 +1,4 @@
+-- Hand-written answers for `Link::undergo`.
 use Rattle.model_link.proofs.RiseEvents.{event-rises}
 use Rattle.std.proofs.Common.{◌∙◌}
 use Rattle.model_link.specs.Link.{queue_of}

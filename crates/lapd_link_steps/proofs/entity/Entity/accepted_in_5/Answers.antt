@@ -1,3 +1,4 @@
+-- Hand-written answers for `Entity::accepted_in_5`.
 use Rattle.lapd_link_steps.proofs.Steps.{◌▹◌}
 use Rattle.lapd_link_steps.proofs.entity.Entity.accepted_in_5.Goals as goal
 

@@ -1,3 +1,4 @@
+-- Hand-written answers for `Entity::acknowledge`.
 use Rattle.std.proofs.Common.{refl, ap, drop, ◌∙◌}
 use Rattle.lapd_link_steps.proofs.Queue.{released_more}
 use Rattle.lapd_link_steps.proofs.entity.Entity.acknowledge.Goals as goal

@@ -1,3 +1,4 @@
+-- Hand-written answers for `Entity::acknowledged_by_information_in_7`.
 use Rattle.model_link.specs.Link.{is_peer_busy}
 use Rattle.model_link.specs.Words.{acknowledge}
 use Rattle.model_link.specs.Established as row

@@ -1,3 +1,4 @@
+-- Hand-written answers for `Entity::acknowledged_by_rej_in_7`.
 use Rattle.lapd_link_steps.proofs.Steps.{acknowledged_then, by_then}
 use Rattle.lapd_link_steps.proofs.entity.Entity.acknowledged_by_rej_in_7.Goals as goal
 

@@ -1,3 +1,4 @@
+-- Hand-written answers for `Entity::acknowledged_by_rr_in_7`.
 use Rattle.std.proofs.Common.{sym, ◌∙◌, true≢false, arith}
 use Rattle.std.proofs.lemmas.Bool.{eq-eqb, lt-ltb, le-ltb}
 use Rattle.model_link.specs.declared.timers.LinkTimer.TheVariants.{T200, T203}

@@ -1,3 +1,4 @@
+-- Hand-written answers for `Entity::answered`.
 use Rattle.model_link.specs.Steps.{nothing}
 use Rattle.lapd_link_steps.proofs.Steps.{bit_yes}
 use Rattle.lapd_link_steps.proofs.entity.Entity.answered.Goals as goal

@@ -1,3 +1,4 @@
+-- Hand-written answers for `Entity::await_acknowledgement`.
 use Rattle.std.proofs.Common.{sym, ◌∙◌}
 use Rattle.model_link.specs.Steps.{nothing}
 use Rattle.model_link.specs.Offers.{is_awaiting_acknowledgement}

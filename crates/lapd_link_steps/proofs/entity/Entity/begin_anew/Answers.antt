@@ -1,3 +1,4 @@
+-- Hand-written answers for `Entity::begin_anew`.
 use Rattle.std.proofs.Common.{[], ap, ◌∙◌}
 use Rattle.model_link.specs.Link.{Link}
 use Rattle.model_link.specs.Words.{begin_anew}

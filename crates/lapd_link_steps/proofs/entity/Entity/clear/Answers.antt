@@ -1,3 +1,4 @@
+-- Hand-written answers for `Entity::clear`.
 use Rattle.lapd_link_steps.proofs.Steps.{◌▹◌}
 use Rattle.lapd_link_steps.proofs.entity.Entity.clear.Goals as goal
 

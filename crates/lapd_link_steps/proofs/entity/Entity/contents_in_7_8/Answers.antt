@@ -1,3 +1,4 @@
+-- Hand-written answers for `Entity::contents_in_7_8`.
 use Rattle.std.proofs.Common.{sym, ap, ◌∙◌}
 use Rattle.std.proofs.lemmas.Bool.{eq-eqb}
 use Rattle.lapd_seq.specs.declared.numbers.Seq.{Seq}

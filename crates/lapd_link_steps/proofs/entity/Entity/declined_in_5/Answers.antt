@@ -1,3 +1,4 @@
+-- Hand-written answers for `Entity::declined_in_5`.
 use Rattle.lapd_link_steps.proofs.Steps.{◌▹◌}
 use Rattle.lapd_link_steps.proofs.entity.Entity.declined_in_5.Goals as goal
 

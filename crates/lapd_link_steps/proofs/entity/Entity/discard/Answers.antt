@@ -1,3 +1,4 @@
+-- Hand-written answers for `Entity::discard`.
 use Rattle.std.proofs.Common.{refl, arith}
 use Rattle.lapd_link_steps.proofs.Queue.{discarded}
 use Rattle.lapd_link_steps.proofs.entity.Entity.discard.Goals as goal

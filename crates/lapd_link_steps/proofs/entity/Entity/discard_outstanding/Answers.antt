@@ -1,3 +1,4 @@
+-- Hand-written answers for `Entity::discard_outstanding`.
 use Rattle.std.proofs.Common.{sym, ◌∙◌, true≢false}
 use Rattle.model_link.specs.Link.{has_outstanding}
 use Rattle.model_link.specs.Steps.{nothing}

@@ -1,3 +1,4 @@
+-- Hand-written answers for `Entity::dm_in_7_8`.
 use Rattle.std.proofs.Common.{true, false}
 use Rattle.lapd_link_steps.specs.Parts.{particulars}
 use Rattle.lapd_link_steps.proofs.Steps.{with_known}

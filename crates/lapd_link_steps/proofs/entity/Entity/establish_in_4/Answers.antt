@@ -1,3 +1,4 @@
+-- Hand-written answers for `Entity::establish_in_4`.
 use Rattle.lapd_link_steps.proofs.Steps.{◌▹◌}
 use Rattle.lapd_link_steps.proofs.entity.Entity.establish_in_4.Goals as goal
 

@@ -1,3 +1,4 @@
+-- Hand-written answers for `Entity::expire`.
 use Rattle.std.proofs.Common.{sym, ◌∙◌}
 use Rattle.model_link.specs.Steps.{nothing}
 use Rattle.model_link.specs.Machine.{is_running}

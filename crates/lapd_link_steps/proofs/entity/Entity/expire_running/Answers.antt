@@ -1,3 +1,4 @@
+-- Hand-written answers for `Entity::expire_running`.
 use Rattle.model_link.specs.declared.states.State.TheVariants.{AwaitingEstablishment, AwaitingRelease, Established, TimerRecovery}
 use Rattle.model_link.specs.declared.timers.LinkTimer.TheVariants.{T200}
 use Rattle.model_link.specs.Machine.{expired_in}

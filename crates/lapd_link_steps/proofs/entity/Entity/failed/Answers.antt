@@ -1,3 +1,4 @@
+-- Hand-written answers for `Entity::failed`.
 use Rattle.lapd_link_steps.proofs.Steps.{◌▹◌}
 use Rattle.lapd_link_steps.proofs.entity.Entity.failed.Goals as goal
 

@@ -1,3 +1,4 @@
+-- Hand-written answers for `Entity::frame_in_4`.
 use Rattle.model_link.specs.TeiAssigned as row
 use Rattle.lapd_link_steps.proofs.Steps.{with_known}
 use Rattle.lapd_link_steps.proofs.entity.Entity.frame_in_4.Goals as goal

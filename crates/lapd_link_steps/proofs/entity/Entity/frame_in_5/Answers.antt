@@ -1,3 +1,4 @@
+-- Hand-written answers for `Entity::frame_in_5`.
 use Rattle.std.proofs.Common.{ap, ◌∙◌, true}
 use Rattle.lapd_frame.specs.declared.controls.Control.TheVariants.{Ua}
 use Rattle.model_link.specs.AwaitingEstablishment as row

@@ -1,3 +1,4 @@
+-- Hand-written answers for `Entity::frame_in_6`.
 use Rattle.model_link.specs.AwaitingRelease as row
 use Rattle.lapd_link_steps.proofs.Steps.{with_known}
 use Rattle.lapd_link_steps.proofs.entity.Entity.frame_in_6.Goals as goal

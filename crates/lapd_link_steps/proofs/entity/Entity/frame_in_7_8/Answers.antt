@@ -1,3 +1,4 @@
+-- Hand-written answers for `Entity::frame_in_7_8`.
 use Rattle.std.proofs.Common.{ap, sym, ◌∙◌, false, length, arith}
 use Rattle.std.proofs.lemmas.Bool.{lt-ltb, le-ltb}
 use Rattle.lapd_frame.specs.declared.controls.Control.TheVariants.{Dm}

@@ -1,3 +1,4 @@
+-- The invariants of the loops of `Entity::held`.
 use Rattle.std.proofs.Common.{◌≡◌, ◌*◌, ◌≤◌, take}
 use Rattle.std.specs.Prelude.{sum_by}
 use Rattle.lapd_frame.specs.Reading.{start_of}

@@ -1,3 +1,4 @@
+-- Hand-written answers for `Entity::in_sequence`.
 use Rattle.std.proofs.Common.{true}
 use Rattle.model_link.specs.Words as word
 use Rattle.lapd_link_steps.proofs.Steps.{◌▹◌, bit_yes, bit_no}

@@ -1,3 +1,4 @@
+-- Hand-written answers for `Entity::next_information`.
 use Rattle.std.proofs.Common.{ℕ, ◌+◌, List, Option, Some, false, ap, ◌∙◌}
 use Rattle.std.specs.List.{slice_get}
 use Rattle.lapd_seq.specs.declared.numbers.Seq.{Seq}

@@ -1,3 +1,4 @@
+-- Hand-written answers for `Entity::number`.
 use Rattle.std.proofs.Common.{true, false}
 use Rattle.model_link.specs.Words.{by_number}
 use Rattle.lapd_link_steps.specs.Parts.{particulars, effect_of}

@@ -1,3 +1,4 @@
+-- Hand-written answers for `Entity::offer`.
 use Rattle.std.proofs.Common.{sym, ◌∙◌}
 use Rattle.lapd_link_steps.proofs.Giving.{gives_empty}
 use Rattle.lapd_link_steps.proofs.Queue.{nothing_first}

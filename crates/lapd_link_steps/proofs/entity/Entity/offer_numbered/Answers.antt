@@ -1,3 +1,4 @@
+-- Hand-written answers for `Entity::offer_numbered`.
 use Rattle.std.proofs.Common.{sym, ◌∙◌}
 use Rattle.model_link.specs.Steps.{nothing, depending_on}
 use Rattle.model_link.specs.Offers.{may_send_information, is_pending, send_acknowledgement}

@@ -1,3 +1,4 @@
+-- Hand-written answers for `Entity::out_of_sequence`.
 use Rattle.std.proofs.Common.{true}
 use Rattle.model_link.specs.Link.{is_rejecting}
 use Rattle.model_link.specs.Steps.{◌then◌}

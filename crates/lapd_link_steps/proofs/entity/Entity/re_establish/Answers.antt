@@ -1,3 +1,4 @@
+-- Hand-written answers for `Entity::re_establish`.
 use Rattle.lapd_link_steps.proofs.Steps.{◌▹◌}
 use Rattle.lapd_link_steps.proofs.entity.Entity.re_establish.Goals as goal
 

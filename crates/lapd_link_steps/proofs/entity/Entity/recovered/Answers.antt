@@ -1,3 +1,4 @@
+-- Hand-written answers for `Entity::recovered`.
 use Rattle.lapd_link_steps.proofs.Steps.{◌▹◌, by_then}
 use Rattle.lapd_link_steps.proofs.entity.Entity.recovered.Goals as goal
 

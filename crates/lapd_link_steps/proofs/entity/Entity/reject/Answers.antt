@@ -1,3 +1,4 @@
+-- Hand-written answers for `Entity::reject`.
 use Rattle.std.proofs.Common.{false, ap}
 use Rattle.lapd_seq.specs.declared.numbers.Seq.{Seq}
 use Rattle.lapd_frame.specs.declared.controls.Control.TheVariants.{Reject}

@@ -1,3 +1,4 @@
+-- Hand-written answers for `Entity::released_in_6`.
 use Rattle.lapd_link_steps.proofs.Steps.{◌▹◌}
 use Rattle.lapd_link_steps.proofs.entity.Entity.released_in_6.Goals as goal
 

@@ -1,3 +1,4 @@
+-- Hand-written answers for `Entity::report_ready`.
 use Rattle.std.proofs.Common.{false, ap}
 use Rattle.lapd_frame.specs.declared.controls.Control.{Control}
 use Rattle.model_link.specs.Steps.{◌then◌}

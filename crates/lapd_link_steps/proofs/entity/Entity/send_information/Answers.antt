@@ -1,3 +1,4 @@
+-- Hand-written answers for `Entity::send_information`.
 use Rattle.std.proofs.Common.{Some, sym, ◌∙◌}
 use Rattle.model_link.specs.Offers as offers
 use Rattle.lapd_link_steps.specs.Past.{course_of}

@@ -1,3 +1,4 @@
+-- Hand-written answers for `Entity::supervised`.
 use Rattle.std.proofs.Common.{true, false, sym}
 use Rattle.model_link.specs.Established.{unsolicited}
 use Rattle.lapd_link_steps.specs.Parts.{particulars, supervised}

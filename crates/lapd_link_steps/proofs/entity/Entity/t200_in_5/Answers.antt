@@ -1,3 +1,4 @@
+-- Hand-written answers for `Entity::t200_in_5`.
 use Rattle.std.proofs.Common.{true}
 use Rattle.std.proofs.lemmas.Bool.{lt-ltb, le-ltb}
 use Rattle.lapd_frame.specs.declared.controls.Control.TheVariants.{Sabme}

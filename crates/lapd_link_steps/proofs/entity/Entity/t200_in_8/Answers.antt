@@ -1,3 +1,4 @@
+-- Hand-written answers for `Entity::t200_in_8`.
 use Rattle.std.proofs.lemmas.Bool.{lt-ltb, le-ltb}
 use Rattle.lapd_frame.specs.declared.notes.ErrorCode.TheVariants as code
 use Rattle.model_link.specs.declared.timers.LinkTimer.TheVariants.{T200}

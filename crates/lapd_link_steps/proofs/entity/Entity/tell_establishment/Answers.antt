@@ -1,3 +1,4 @@
+-- Hand-written answers for `Entity::tell_establishment`.
 use Rattle.model_link.specs.Link.{is_asked}
 use Rattle.model_link.specs.Words as word
 use Rattle.lapd_link_steps.specs.Parts.{renewed}

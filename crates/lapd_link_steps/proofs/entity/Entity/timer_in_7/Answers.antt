@@ -1,3 +1,4 @@
+-- Hand-written answers for `Entity::timer_in_7`.
 use Rattle.lapd_link_steps.proofs.Steps.{◌▹◌}
 use Rattle.lapd_link_steps.proofs.entity.Entity.timer_in_7.Goals as goal
 

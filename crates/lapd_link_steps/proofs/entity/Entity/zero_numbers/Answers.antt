@@ -1,3 +1,4 @@
+-- Hand-written answers for `Entity::zero_numbers`.
 use Rattle.std.proofs.Common.{refl, ap, drop, ◌∙◌}
 use Rattle.lapd_link_steps.proofs.Queue.{released_more}
 use Rattle.lapd_link_steps.proofs.entity.Entity.zero_numbers.Goals as goal

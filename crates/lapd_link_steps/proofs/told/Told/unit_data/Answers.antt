@@ -1,3 +1,4 @@
+-- Hand-written answers for `Told::unit_data`.
 use Rattle.std.proofs.Common.{length, arith}
 use Rattle.std.proofs.lemmas.Bool.{lt-ltb, le-ltb}
 use Rattle.model_link.specs.Words.{deliver_unit, leave_unserved}

@@ -1,3 +1,4 @@
+-- Hand-written answers for `Told::unsolicited`.
 use Rattle.lapd_frame.specs.declared.notes.ErrorCode.TheVariants as code
 use Rattle.model_link.specs.Steps.{nothing}
 use Rattle.model_link.specs.Words.{error}

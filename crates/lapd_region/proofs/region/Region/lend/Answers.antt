@@ -1,3 +1,4 @@
+-- Hand-written answers for `Region::lend`.
 use Rattle.std.proofs.Common.{◌≡◌, ◌+◌, ◌≤◌, map, length, take, drop, Some, sym, subst, arith}
 use Rattle.lapd_region.specs.Region.{Holds}
 use Rattle.lapd_region.proofs.Runs.{run_of, holds_run}

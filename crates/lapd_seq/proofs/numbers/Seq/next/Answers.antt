@@ -1,3 +1,4 @@
+-- Hand-written answers for `Seq::next`.
 use Rattle.std.proofs.Common.{refl}
 use Rattle.lapd_seq.proofs.Callers.{is_seq}
 use Rattle.lapd_seq.proofs.Remainders.{seq-next}

@@ -1,3 +1,4 @@
+-- Hand-written answers for `Window::acknowledge`.
 use Rattle.lapd_seq.proofs.Remainders.{first-valid, distance-parts}
 use Rattle.lapd_seq.proofs.windows.Window.acknowledge.Goals as goal
 

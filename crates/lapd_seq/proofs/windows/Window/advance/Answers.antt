@@ -1,3 +1,4 @@
+-- Hand-written answers for `Window::advance`.
 use Rattle.lapd_seq.proofs.Remainders.{numbers-advance, distance-next}
 use Rattle.lapd_seq.proofs.windows.Window.advance.Goals as goal
 

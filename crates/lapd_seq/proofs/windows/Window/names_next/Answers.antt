@@ -1,3 +1,4 @@
+-- Hand-written answers for `Window::names_next`.
 use Rattle.std.proofs.Common.{◌∙◌, sym}
 use Rattle.std.proofs.lemmas.Bool.{eqb-true, eq-eqb}
 use Rattle.lapd_seq.proofs.Remainders.{named-next}

@@ -1,3 +1,4 @@
+-- Hand-written answers for `Window::new`.
 use Rattle.std.proofs.Common.{◌≡◌, ◌+◌, arith}
 use Rattle.lapd_seq.specs.Circle.{distance_of}
 use Rattle.lapd_seq.proofs.Callers.{distance-plain}

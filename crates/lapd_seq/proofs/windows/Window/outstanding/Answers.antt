@@ -1,3 +1,4 @@
+-- Hand-written answers for `Window::outstanding`.
 use Rattle.std.proofs.Common.{◌+◌, subst, sym, arith}
 use Rattle.lapd_seq.specs.Circle.{AreNumbers}
 use Rattle.lapd_seq.proofs.Remainders.{numbers-of}

@@ -1,3 +1,4 @@
+-- Hand-written answers for `Window::va`.
 use Rattle.lapd_seq.proofs.Remainders.{first-valid}
 use Rattle.lapd_seq.proofs.windows.Window.va.Goals as goal
 

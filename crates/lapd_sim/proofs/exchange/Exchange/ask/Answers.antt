@@ -1,7 +1,8 @@
+-- Hand-written answers for `Exchange::ask`.
 use Rattle.std.proofs.Common.{ap, ◌∙◌}
 use Rattle.model_card.specs.Event.{at}
 use Rattle.model_line.specs.declared.config.Config.{Config}
-use Rattle.model_line.specs.Answer as happening
+use Rattle.model_line.specs.Event as line_event
 use Rattle.model_line.specs.Request.{request_of}
 use Rattle.lapd_sim.proofs.Exchanges.{past_on}
 use Rattle.lapd_sim.proofs.Refusing.{refused-told, refused-clock}
@@ -11,7 +12,7 @@ pub invariant_of-self : goal.invariant_of-self
 invariant_of-self g c = record {
   in_range = c.args.self.now.in_range;
   same_lines = ap (λ (x : Config). x.lines) c.request.ensures.after.config ∙ c.args.self.now.same_lines;
-  past = past_on c.args.self.now.config (at c.args.line (happening.request (request_of c.args.request))) c.args.self.now.card c.request.new.self c.request.ensures.after c.args.self.now.past;
+  past = past_on c.args.self.now.config (at c.args.line (line_event.request (request_of c.args.request))) c.args.self.now.card c.request.new.self c.request.ensures.after c.args.self.now.past;
   clock_lines = c.carry_out.ensures.lines ∙ c.args.self.now.clock_lines;
   in_time = c.args.self.now.in_time;
 }
@@ -20,14 +21,14 @@ pub invariant_of-self-in-Err-1 : goal.invariant_of-self-in-Err-1
 invariant_of-self-in-Err-1 g c = record {
   in_range = c.args.self.now.in_range;
   same_lines = ap (λ (x : Config). x.lines) c.request.ensures.after.config ∙ c.args.self.now.same_lines;
-  past = past_on c.args.self.now.config (at c.args.line (happening.request (request_of c.args.request))) c.args.self.now.card c.request.new.self c.request.ensures.after c.args.self.now.past;
+  past = past_on c.args.self.now.config (at c.args.line (line_event.request (request_of c.args.request))) c.args.self.now.card c.request.new.self c.request.ensures.after c.args.self.now.past;
   clock_lines = c.args.self.now.clock_lines;
   in_time = c.args.self.now.in_time;
 }
 
 pub returns-in-Err-clause-told : goal.returns-in-Err-clause-told
 returns-in-Err-clause-told g c = λ m h.
-    let e = at c.args.line (happening.request (request_of c.args.request)) in
+    let e = at c.args.line (line_event.request (request_of c.args.request)) in
     let is = c.in-Err.ensures.told m.card h.card in
     refused-told c.put_refused.result _ _ c.in-Err.refusal m e _ is c.put_refused.ensures (record {
       config = h.config;

@@ -1,7 +1,8 @@
+-- Hand-written answers for `Exchange::octet`.
 use Rattle.std.proofs.Common.{ap, ◌∙◌}
 use Rattle.model_card.specs.Event.{at}
 use Rattle.model_line.specs.declared.config.Config.{Config}
-use Rattle.model_line.specs.Answer as happening
+use Rattle.model_line.specs.Event as line_event
 use Rattle.lapd_sim.proofs.Exchanges.{past_on}
 use Rattle.lapd_sim.proofs.exchange.Exchange.octet.Goals as goal
 
@@ -9,7 +10,7 @@ pub invariant_of-self : goal.invariant_of-self
 invariant_of-self g c = record {
   in_range = c.args.self.now.in_range;
   same_lines = ap (λ (x : Config). x.lines) c.octet.follows.holds-at-none.config ∙ c.args.self.now.same_lines;
-  past = past_on c.args.self.now.config (at c.args.line (happening.octet c.args.octet)) c.args.self.now.card c.octet.follows.lender-at-none c.octet.follows.holds-at-none c.args.self.now.past;
+  past = past_on c.args.self.now.config (at c.args.line (line_event.octet c.args.octet)) c.args.self.now.card c.octet.follows.lender-at-none c.octet.follows.holds-at-none c.args.self.now.past;
   clock_lines = c.carry_out.ensures.lines ∙ c.args.self.now.clock_lines;
   in_time = c.args.self.now.in_time;
 }

@@ -1,3 +1,4 @@
+-- Hand-written answers for `Exchange::until`.
 use Rattle.std.proofs.Common.{refl, ap, ◌∙◌}
 use Rattle.lapd_sim.proofs.Waits.{waits_begins, waits_on, waits_in_vain, waits_over, wait_lowers}
 use Rattle.lapd_sim.specs.declared.exchange.Exchange.{Exchange}
@@ -16,7 +17,7 @@ returns-in-Err-clause-told g c = λ m h.
     let w = c.loop-line.invariant.waits m h in
     waits_in_vain c.loop-line.self c.expire.new.self (output (g.T.Target.taken c.args.target.now) c.args.page.now.items) (output (g.T.Target.taken c.loop-line.target) c.loop-line.page.items) (output (g.T.Target.taken c.expire.new.target) c.expire.new.page.items)
     c.args.end m (c.in-Some.line, c.in-Some.timer) c.in-Some.ensures.due w c.in-Err.field-0
-    (c.in-Err.ensures.told (at_expiry c.args.end w.by_now.bench) (c.in-Some.ensures.after w.by_now.bench w.holds))
+    (c.in-Err.ensures.told (at_expiry c.args.end w.by_now.setup) (c.in-Some.ensures.after w.by_now.setup w.holds))
 
 pub loop-line-smaller : goal.loop-line-smaller
 loop-line-smaller g c =
@@ -30,7 +31,7 @@ loop-line-preserved g c = record {
       let w = c.loop-line.invariant.waits m h in
       waits_on c.loop-line.self c.expire.new.self (output (g.T.Target.taken c.args.target.now) c.args.page.now.items) (output (g.T.Target.taken c.loop-line.target) c.loop-line.page.items) (output (g.T.Target.taken c.expire.new.target) c.expire.new.page.items)
       c.args.end m (c.in-Some.line, c.in-Some.timer) c.in-Some.ensures.due w c.in_default-expire.field-0
-      (c.in_default-expire.ensures.told (at_expiry c.args.end w.by_now.bench) (c.in-Some.ensures.after w.by_now.bench w.holds));
+      (c.in_default-expire.ensures.told (at_expiry c.args.end w.by_now.setup) (c.in-Some.ensures.after w.by_now.setup w.holds));
 }
 
 pub returns-clause-told : goal.returns-clause-told

@@ -1,16 +1,17 @@
+-- The invariants of the loops of `Exchange::until`.
 use Rattle.std.proofs.Common.{◌≡◌}
 use Rattle.lapd_clock.specs.Timers.{time_until}
 use Rattle.lapd_sim.specs.Stands.{Holds}
 use Rattle.lapd_sim.proofs.Waits.{Waits}
-use Rattle.model_sim.specs.Bench as machine
+use Rattle.model_sim.specs.Setup as machine
 use Rattle.lapd_transcript.specs.Streams.{output}
 use Rattle.lapd_sim.proofs.exchange.Exchange.until.Given as goal
 
--- from every bench for which the exchange stood, some timers have expired
+-- from every setup for which the exchange stood, some timers have expired
 abbrev pub invariant-loop-line : goal.invariant-loop-line
 invariant-loop-line g l = record {
   config : l.self.config ≡ l.fn.self.config;
-  waits : (m : machine.Bench) → Holds l.fn.self m → Waits l.self (output (g.T.Target.taken l.fn.target) l.fn.page.items) (output (g.T.Target.taken l.target) l.page.items) l.end m;
+  waits : (m : machine.Setup) → Holds l.fn.self m → Waits l.self (output (g.T.Target.taken l.fn.target) l.fn.page.items) (output (g.T.Target.taken l.target) l.page.items) l.end m;
 }
 
 -- each expiry lowers the time that is left

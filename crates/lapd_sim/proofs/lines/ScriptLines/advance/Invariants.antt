@@ -1,3 +1,4 @@
+-- The invariants of the loops of `ScriptLines::advance`.
 use Rattle.std.proofs.Common.{◌≡◌, ◌≢◌, ◌≤◌, false, List, ℕ}
 use Rattle.std.specs.List.{AllWithin}
 use Rattle.lapd_sim.specs.ScriptLines.{left_to_read, AreLeft}

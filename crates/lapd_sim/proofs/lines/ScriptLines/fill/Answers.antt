@@ -1,3 +1,4 @@
+-- Hand-written answers for `ScriptLines::fill`.
 use Rattle.std.proofs.Common.{◌+◌, ◌-◌, [], arith, refl, sym, take, ◌∙◌}
 use Rattle.std.proofs.lemmas.Bool.{false≢true}
 use Rattle.std.proofs.lemmas.List.{append-nil}

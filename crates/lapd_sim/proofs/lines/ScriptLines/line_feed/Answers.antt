@@ -1,3 +1,4 @@
+-- Hand-written answers for `ScriptLines::line_feed`.
 use Rattle.std.proofs.Common.{◌≡◌, List, None, Some, ℕ, arith, subst, sym, ◌∙◌}
 use Rattle.std.specs.List.{position}
 use Rattle.lapd_sim.proofs.Reading.{is_line_feed, line_feed_at, line_feed_first, no_line_feed, part}

@@ -1,3 +1,4 @@
+-- Hand-written answers for `ScriptLines::ready`.
 use Rattle.std.proofs.Common.{refl, arith, Ok, Err, ◌≡◌, false}
 use Rattle.std.specs.Prelude.{IfOk}
 use Rattle.lapd_sim.proofs.Advancing.{ready_found, ready_is}

@@ -1,3 +1,4 @@
+-- Hand-written answers for `Player::play`.
 use Rattle.std.proofs.Common.{[], ◌++◌, ◌∙◌, None, Ok, Err, refl, sym, ap, subst}
 use Rattle.model_sim.specs.Script.{played}
 use Rattle.lapd_sim.specs.Faults.{fault_at}
@@ -53,12 +54,12 @@ returns-in-Err-obey-clause-played g c = λ text left.
     let before = c.loop-fault.invariant.3 text left in
     let p = played_on _ _ _ text (output (g.T.Target.taken c.args.target.now) c.args.page.now.items) (output (g.T.Target.taken c.loop-fault.target) c.loop-fault.page.items) (output (g.T.Target.taken c.advance.new.target) c.advance.new.page.items) before c.in-Ok-true.ensures.put in
     let n = next c.in-Ok-true.field-0 _ _ _ p.left c.in-Ok-true.field-0-test (c.in-Ok-true.ensures.read p.left p.unread) in
-    let bench = (played p.done).bench in
-    let does = subst (λ line. Does (Err c.in-Err-obey.fault) (output (g.T.Target.taken c.advance.new.target) c.advance.new.page.items) (output (g.T.Target.taken c.obey.new.target) c.obey.new.page.items) bench (Has c.obey.new.self.bench) (said line bench))
-    (c.line.ensures.current ∙ n.line) (c.in-Err-obey.ensures bench p.has) in
+    let setup = (played p.done).setup in
+    let does = subst (λ line. Does (Err c.in-Err-obey.fault) (output (g.T.Target.taken c.advance.new.target) c.advance.new.page.items) (output (g.T.Target.taken c.obey.new.target) c.obey.new.page.items) setup (Has c.obey.new.self.setup) (said line setup))
+    (c.line.ensures.current ∙ n.line) (c.in-Err-obey.ensures setup p.has) in
     subst (λ fault. PlaysOn (Err fault) text (g.S.Source.remaining c.advance.new.source) (output (g.T.Target.taken c.args.target.now) c.args.page.now.items) (output (g.T.Target.taken c.obey.new.target) c.obey.new.page.items))
     (sym (c.at.ensures.fault ∙ ap (fault_at c.in-Err-obey.fault) c.number.ensures))
-    (stops c.in-Err-obey.fault _ c.advance.new.lines _ _ _ text _ _ _ (Has c.obey.new.self.bench) p n c.advance.new.lines.bounded does)
+    (stops c.in-Err-obey.fault _ c.advance.new.lines _ _ _ text _ _ _ (Has c.obey.new.self.setup) p n c.advance.new.lines.bounded does)
 
 pub loop-fault-preserved : goal.loop-fault-preserved
 loop-fault-preserved g c =
@@ -67,14 +68,14 @@ loop-fault-preserved g c =
     let done = does_ok tt _ _ m.0 _ _ (c.in_default.ensures m.0 m.1) in (
       c.in-Ok-true.ensures.reads ∙ c.loop-fault.invariant.0,
       ((so_far.0 ++ []) ++ done.0.text, puts_then (Ok tt) (output (g.T.Target.taken c.args.target.now) c.args.page.now.items) (output (g.T.Target.taken c.advance.new.target) c.advance.new.page.items) (output (g.T.Target.taken c.obey.new.target) c.obey.new.page.items) (so_far.0 ++ []) done.0.text (puts_then (Ok tt) (output (g.T.Target.taken c.args.target.now) c.args.page.now.items) (output (g.T.Target.taken c.loop-fault.target) c.loop-fault.page.items) (output (g.T.Target.taken c.advance.new.target) c.advance.new.page.items) so_far.0 [] so_far.1 c.in-Ok-true.ensures.put) done.2),
-      (done.0.bench, done.3),
+      (done.0.setup, done.3),
       λ text left.
           let before = c.loop-fault.invariant.3 text left in
           let p = played_on _ _ _ text (output (g.T.Target.taken c.args.target.now) c.args.page.now.items) (output (g.T.Target.taken c.loop-fault.target) c.loop-fault.page.items) (output (g.T.Target.taken c.advance.new.target) c.advance.new.page.items) before c.in-Ok-true.ensures.put in
           let n = next c.in-Ok-true.field-0 _ _ _ p.left c.in-Ok-true.field-0-test (c.in-Ok-true.ensures.read p.left p.unread) in
-          let bench = (played p.done).bench in
-          let does = subst (λ line. Does (Ok tt) (output (g.T.Target.taken c.advance.new.target) c.advance.new.page.items) (output (g.T.Target.taken c.obey.new.target) c.obey.new.page.items) bench (Has c.obey.new.self.bench) (said line bench))
-          (c.line.ensures.current ∙ n.line) (c.in_default.ensures bench p.has) in
-          let here = does_ok tt _ _ bench _ _ does in
-          goes_on _ c.advance.new.lines _ c.obey.new.self.bench _ _ text _ _ _ p n c.advance.new.lines.bounded here.0 here.1 here.2 here.3,
+          let setup = (played p.done).setup in
+          let does = subst (λ line. Does (Ok tt) (output (g.T.Target.taken c.advance.new.target) c.advance.new.page.items) (output (g.T.Target.taken c.obey.new.target) c.obey.new.page.items) setup (Has c.obey.new.self.setup) (said line setup))
+          (c.line.ensures.current ∙ n.line) (c.in_default.ensures setup p.has) in
+          let here = does_ok tt _ _ setup _ _ does in
+          goes_on _ c.advance.new.lines _ c.obey.new.self.setup _ _ text _ _ _ p n c.advance.new.lines.bounded here.0 here.1 here.2 here.3,
     )

@@ -1,20 +1,21 @@
+-- The invariants of the loops of `Player::play`.
 use Rattle.std.proofs.Common.{◌≡◌, ◌-◌, ◌^◌, ℕ, List, Option}
-use Rattle.model_sim.specs.Bench as machine
+use Rattle.model_sim.specs.Setup as machine
 use Rattle.lapd_sim.specs.ScriptLines.{AreLeft}
 use Rattle.lapd_sim.specs.Stands.{Has}
 use Rattle.lapd_sim.proofs.Playing.{IsPlayed}
 use Rattle.lapd_transcript.specs.Streams.{output, IsPut}
 use Rattle.lapd_sim.proofs.player.Player.play.Given as goal
 
--- no read has failed; some text has been put; there is a bench that is stood for; and these lines of the text that was
+-- no read has failed; some text has been put; there is a setup that is stood for; and these lines of the text that was
 -- left have been played
 abbrev pub invariant-loop-fault : goal.invariant-loop-fault
 invariant-loop-fault g l =
     (g.S.Source.failures l.source ≡ g.S.Source.failures l.fn.source)
     × ((text : List ℕ) × IsPut (output (g.T.Target.taken l.fn.target) l.fn.page.items) (output (g.T.Target.taken l.target) l.page.items) text)
-    × ((m : Option machine.Bench) × Has l.self.bench m)
+    × ((m : Option machine.Setup) × Has l.self.setup m)
     × ((text : List ℕ) → AreLeft l.fn.lines (g.S.Source.remaining l.fn.source) text
-    → IsPlayed l.lines l.self.bench (g.S.Source.remaining l.source) text (output (g.T.Target.taken l.fn.target) l.fn.page.items) (output (g.T.Target.taken l.target) l.page.items))
+    → IsPlayed l.lines l.self.setup (g.S.Source.remaining l.source) text (output (g.T.Target.taken l.fn.target) l.fn.page.items) (output (g.T.Target.taken l.target) l.page.items))
 
 -- the octets that a script can still have
 abbrev pub decreases-loop-fault : goal.decreases-loop-fault

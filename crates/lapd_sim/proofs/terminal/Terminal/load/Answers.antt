@@ -1,3 +1,4 @@
+-- Hand-written answers for `Terminal::load`.
 use Rattle.std.proofs.Common.{◌≡◌, ◌∷◌, [], ◌++◌, take, ap, ◌∙◌, subst}
 use Rattle.std.proofs.lemmas.List.{take-append-drop}
 use Rattle.lapd_bits.specs.Framer as framing

@@ -1,3 +1,4 @@
+-- Hand-written answers for `RawShelf::start`.
 use Rattle.std.proofs.Common.{◌+◌, ◌*◌, None, length, refl, ap, subst, ◌∙◌}
 use Rattle.std.proofs.lemmas.List.{length-replicate}
 use Rattle.lapd_region.specs.Region.{Holds}

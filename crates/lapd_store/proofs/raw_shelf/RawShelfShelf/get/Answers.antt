@@ -1,3 +1,4 @@
+-- Hand-written answers for `RawShelfShelf::get`.
 use Rattle.std.proofs.Common.{◌+◌, ◌*◌, ◌^◌, ◌<◌, ◌≤◌, length, sym, subst, ◌∙◌, arith}
 use Rattle.lapd_region.specs.Region.{Holds}
 use Rattle.lapd_store.proofs.RawLemmas.{used_within, read_length}

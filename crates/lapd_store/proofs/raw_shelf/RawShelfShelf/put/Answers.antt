@@ -1,3 +1,4 @@
+-- Hand-written answers for `RawShelfShelf::put`.
 use Rattle.std.proofs.Common.{◌+◌, ◌*◌, ◌≤◌, length, refl, sym, ap, subst, ◌∙◌, arith}
 use Rattle.std.specs.Vec.{with_item}
 use Rattle.lapd_region.specs.Region.{Holds}

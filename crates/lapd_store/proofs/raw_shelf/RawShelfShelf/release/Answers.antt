@@ -1,3 +1,4 @@
+-- Hand-written answers for `RawShelfShelf::release`.
 use Rattle.std.proofs.Common.{◌≡◌, ◌+◌, ◌-◌, ◌*◌, ◌^◌, ◌<◌, ◌≤◌, length, get_or, refl, sym, subst, arith}
 use Rattle.std.specs.Vec.{with_item}
 use Rattle.lapd_store.specs.RawStore.{free_mark}

@@ -1,3 +1,4 @@
+-- Hand-written answers for `SlabShelfShelf::get`.
 use Rattle.std.proofs.Common.{◌≡◌, ◌≤◌, Some, length, sym, ap, subst, ◌∙◌}
 use Rattle.std.specs.Option.{option_map}
 use Rattle.lapd_store.specs.SlabStore.{slab_store}

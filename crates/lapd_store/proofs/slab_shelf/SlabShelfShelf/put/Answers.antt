@@ -1,3 +1,4 @@
+-- Hand-written answers for `SlabShelfShelf::put`.
 use Rattle.std.proofs.Common.{◌≡◌, ◌+◌, ◌≤◌, ◌<◌, length, sym, ap, subst, ◌∙◌, arith}
 use Rattle.lapd_store.specs.SlabStore.{slab_store, IsSound}
 use Rattle.lapd_store.specs.Store.{used_slots, contents_of, IsFree, with_contents}

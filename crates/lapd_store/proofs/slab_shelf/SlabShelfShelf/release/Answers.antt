@@ -1,3 +1,4 @@
+-- Hand-written answers for `SlabShelfShelf::release`.
 use Rattle.std.proofs.Common.{◌-◌, sym, ap, subst, ◌∙◌, arith}
 use Rattle.std.specs.Option.{option_map}
 use Rattle.lapd_store.specs.SlabStore.{slab_store, IsSound}

@@ -1,3 +1,4 @@
+-- Hand-written answers for `SlabShelfShelf::used`.
 use Rattle.std.proofs.Common.{arith}
 use Rattle.lapd_store.proofs.slab_shelf.SlabShelfShelf.used.Goals as goal
 

@@ -1,3 +1,4 @@
+-- The invariants of the loops of `SlotQueue::release_oldest`.
 use Rattle.std.proofs.Common.{◌≡◌, ℕ, List, drop}
 use Rattle.lapd_store.specs.Ownership.{Owned, Keeps}
 use Rattle.lapd_store.specs.SlotRing.{without_oldest_ones}

@@ -1,3 +1,4 @@
+-- Hand-written answers for `Memory::forget`.
 use Rattle.std.proofs.Common.{rules, ◌∙◌, ap}
 use Rattle.std.specs.List.{filter}
 use Rattle.lapd_tei.specs.Words.{is_of_other}

@@ -1,3 +1,4 @@
+-- Hand-written answers for `Teis::ask_again`.
 use Rattle.std.proofs.Common.{◌≡◌, IfSome, Some, sym, subst, ap, ◌∙◌, arith}
 use Rattle.lapd_tei.specs.Sound.{IsSoundCheck, IsSoundQueue}
 use Rattle.lapd_tei.proofs.Tables.{on-range}

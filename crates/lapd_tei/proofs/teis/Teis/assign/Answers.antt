@@ -1,3 +1,4 @@
+-- Hand-written answers for `Teis::assign`.
 use Rattle.std.proofs.Common.{IfSome, sym, subst, ◌∙◌}
 use Rattle.lapd_tei.specs.Sound.{IsSoundTable, IsSoundMemory, IsSoundCheck}
 use Rattle.lapd_tei.proofs.Tables.{table-put}

@@ -1,3 +1,4 @@
+-- Hand-written answers for `Teis::doubled`.
 use Rattle.std.proofs.Common.{◌≡◌, true, sym, subst, arith}
 use Rattle.lapd_tei.specs.Table.{is_on}
 use Rattle.lapd_tei.specs.Sound.{IsSoundQueue}

@@ -1,3 +1,4 @@
+-- Hand-written answers for `Teis::leave`.
 use Rattle.std.proofs.Common.{◌≡◌, IfSome, false, sym, subst}
 use Rattle.lapd_tei.specs.Rows.{is_checked}
 use Rattle.lapd_tei.specs.Sound.{IsSoundTable, IsSoundMemory, IsSoundCheck}

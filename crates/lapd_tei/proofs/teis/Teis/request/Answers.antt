@@ -1,3 +1,4 @@
+-- Hand-written answers for `Teis::request`.
 use Rattle.std.proofs.Common.{IfSome, sym, subst, ◌∙◌, arith}
 use Rattle.lapd_tei.specs.Sound.{IsSoundTable, IsSoundMemory, IsSoundCheck, IsSoundQueue}
 use Rattle.lapd_tei.proofs.Tables.{table-put, on-newcomer, free_tei-is}

@@ -1,3 +1,4 @@
+-- Hand-written answers for `Teis::start`.
 use Rattle.std.proofs.Common.{rules, sym, subst}
 use Rattle.lapd_tei.specs.Sound.{IsSoundTable, IsSoundMemory}
 use Rattle.lapd_tei.proofs.SoundWords.{table-empty, memory-empty, queue-empty}

@@ -1,3 +1,4 @@
+-- The invariants of the loops of `ReadFrom::read_once`.
 use Rattle.std.proofs.Common.{◌≡◌}
 use Rattle.std.specs.Io.KnownBytes.{Keeps}
 use Rattle.lapd_transcript.proofs.read_from.ReadFrom.read_once.Given as goal

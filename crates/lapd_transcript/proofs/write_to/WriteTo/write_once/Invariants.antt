@@ -1,3 +1,4 @@
+-- The invariants of the loops of `WriteTo::write_once`.
 use Rattle.std.proofs.Common.{◌≡◌}
 use Rattle.std.specs.Io.KnownBytes.{Keeps}
 use Rattle.lapd_transcript.proofs.write_to.WriteTo.write_once.Given as goal

@@ -1,3 +1,4 @@
+-- Hand-written answers for `Bench::clear`.
 use Rattle.std.proofs.Common.{[], ◌∙◌}
 use Rattle.test_link.proofs.bench.Bench.clear.Goals as goal
 

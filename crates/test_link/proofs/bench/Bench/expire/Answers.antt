@@ -1,3 +1,4 @@
+-- Hand-written answers for `Bench::expire`.
 use Rattle.std.proofs.Common.{[], ◌∙◌}
 use Rattle.test_link.proofs.bench.Bench.expire.Goals as goal
 

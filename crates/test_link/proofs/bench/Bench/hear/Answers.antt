@@ -1,3 +1,4 @@
+-- Hand-written answers for `Bench::hear`.
 use Rattle.std.proofs.Common.{[], ◌∙◌}
 use Rattle.test_link.proofs.bench.Bench.hear.Goals as goal
 

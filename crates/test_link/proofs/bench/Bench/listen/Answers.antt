@@ -1,3 +1,4 @@
+-- Hand-written answers for `Bench::listen`.
 use Rattle.std.proofs.Common.{[], ◌∙◌}
 use Rattle.test_link.proofs.bench.Bench.listen.Goals as goal
 

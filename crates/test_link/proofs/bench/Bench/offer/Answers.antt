@@ -1,3 +1,4 @@
+-- Hand-written answers for `Bench::offer`.
 use Rattle.std.proofs.Common.{[]}
 use Rattle.test_link.proofs.bench.Bench.offer.Goals as goal
 

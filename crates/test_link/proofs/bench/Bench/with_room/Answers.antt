@@ -1,3 +1,4 @@
+-- Hand-written answers for `Bench::with_room`.
 use Rattle.std.proofs.Common.{◌≡◌, [], refl, sym, ap, subst, arith}
 use Rattle.lapd_store.specs.Store.{Store, empty_store}
 use Rattle.lapd_store.proofs.Ownership.{Holds-empty}

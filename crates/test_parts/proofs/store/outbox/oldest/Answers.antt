@@ -1,3 +1,4 @@
+-- Hand-written answers for `oldest`.
 use Rattle.std.proofs.Common.{sym, ◌∙◌}
 use Rattle.lapd_store.proofs.Queues.{IsUsed-queue, contents_of-queue}
 use Rattle.test_parts.proofs.store.outbox.oldest.Goals as goal

@@ -1,3 +1,4 @@
+-- Hand-written answers for `post`.
 use Rattle.std.proofs.Common.{[], ◌∷◌, arith, length-append}
 use Rattle.lapd_store.proofs.Queues.{Holds-queue_put}
 use Rattle.test_parts.proofs.store.outbox.post.Goals as goal

@@ -1,3 +1,4 @@
+-- Hand-written answers for `retire`.
 use Rattle.std.proofs.Common.{sym, arith, length-drop}
 use Rattle.lapd_store.proofs.Queues.{IsUsed-queue, Holds-queue_release}
 use Rattle.test_parts.proofs.store.outbox.retire.Goals as goal

@@ -1,3 +1,4 @@
+-- The invariants of the loops of `fill`.
 use Rattle.std.proofs.Common.{◌≤◌}
 use Rattle.lapd_store.specs.Store.{SameLimits}
 use Rattle.test_parts.specs.Outbox.{Shares}

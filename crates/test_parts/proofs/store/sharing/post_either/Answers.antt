@@ -1,3 +1,4 @@
+-- Hand-written answers for `post_either`.
 use Rattle.test_parts.proofs.SharedShelf.{first_waits, second_waits, with_first, with_second}
 use Rattle.test_parts.proofs.store.sharing.post_either.Goals as goal
 

@@ -1,3 +1,4 @@
+-- Hand-written answers for `serve`.
 use Rattle.std.proofs.Common.{[], refl}
 use Rattle.lapd_store.proofs.Ownership.{Holds-empty}
 use Rattle.test_parts.proofs.store.sharing.serve.Goals as goal

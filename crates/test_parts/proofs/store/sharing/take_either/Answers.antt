@@ -1,3 +1,4 @@
+-- Hand-written answers for `take_either`.
 use Rattle.lapd_store.specs.Ownership.{pairs_of}
 use Rattle.test_parts.proofs.SharedShelf.{first_waits, second_waits, with_first, with_second}
 use Rattle.test_parts.proofs.store.sharing.take_either.Goals as goal

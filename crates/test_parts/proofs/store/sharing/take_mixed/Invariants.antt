@@ -1,3 +1,4 @@
+-- The invariants of the loops of `take_mixed`.
 use Rattle.lapd_store.specs.Store.{SameLimits}
 use Rattle.test_parts.specs.Outbox.{Shares}
 use Rattle.test_parts.proofs.store.sharing.take_mixed.Given as goal

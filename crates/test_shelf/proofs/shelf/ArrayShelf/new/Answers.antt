@@ -1,3 +1,4 @@
+-- Hand-written answers for `ArrayShelf::new`.
 use Rattle.test_shelf.proofs.ShelfLemmas.{start_store, start_sound}
 use Rattle.test_shelf.proofs.shelf.ArrayShelf.new.Goals as goal
 

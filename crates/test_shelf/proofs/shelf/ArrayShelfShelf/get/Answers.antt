@@ -1,3 +1,4 @@
+-- Hand-written answers for `ArrayShelfShelf::get`.
 use Rattle.std.proofs.Common.{◌∙◌, arith}
 use Rattle.test_shelf.proofs.ShelfLemmas.{used_slot, contents_of-array}
 use Rattle.test_shelf.proofs.shelf.ArrayShelfShelf.get.Goals as goal

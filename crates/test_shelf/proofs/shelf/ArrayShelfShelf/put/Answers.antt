@@ -1,3 +1,4 @@
+-- Hand-written answers for `ArrayShelfShelf::put`.
 use Rattle.std.proofs.Common.{◌≡◌, ℕ, ◌≤◌, Some, length, refl, sym, ap, subst, ◌∙◌}
 use Rattle.std.specs.List.{position}
 use Rattle.test_shelf.specs.Places.{is_free}

@@ -1,3 +1,4 @@
+-- Hand-written answers for `ArrayShelfShelf::release`.
 use Rattle.std.proofs.Common.{arith}
 use Rattle.test_shelf.proofs.ShelfLemmas.{used_slot, release_counts, release_stored, release_sound}
 use Rattle.test_shelf.proofs.shelf.ArrayShelfShelf.release.Goals as goal

@@ -42,10 +42,10 @@ use Rattle.lapd_line.specs.LinkLayer.{Stands, Standing}
 use Rattle.lapd_line.specs.Awake.{IsAwake, IsAsleep, FallsAsleep, NoneMissed}
 use Rattle.lapd_line.specs.Links.{LinksStand, HasTerms, IsGiven, Offers, links_pairs, terms_in}
 use Rattle.lapd_line.specs.Units.{unit_pairs}
-use Rattle.lapd_line.specs.Takes.{HasTaken, Took, Takes}
+use Rattle.lapd_line.specs.Pulls.{HasTaken, Took, Takes}
 use Rattle.lapd_line.proofs.AwakeSteps.{none_missed_at, none_missed_asleep}
 use Rattle.lapd_line.proofs.LayerSteps.{beside_links, links_part, links_back}
-use Rattle.lapd_line.proofs.TakeSteps.{takes_or, takes_first, takes_as}
+use Rattle.lapd_line.proofs.PullTakes.{takes_or, takes_first, takes_as}
 
 -- an I-frame that may be sent is given
 abbrev before_timer : machine.Link → Course

@@ -3,7 +3,7 @@
 ghost use Rattle.std.specs.Prelude.{◌≡◌, ◌<◌, ◌≤◌, length, vec_len, MatchResult};
 ghost use Rattle.lapd_script.specs.Meaning as meaning;
 ghost use Rattle.lapd_script.specs.declared.kind.FaultKind.TheVariants.{BadLine};
-ghost use Rattle.model_sim.specs.Bench as machine;
+ghost use Rattle.model_sim.specs.Setup as machine;
 ghost use Rattle.model_sim.specs.Steps.{with_card};
 ghost use Rattle.lapd_transcript.specs.Streams.{output};
 
@@ -20,7 +20,7 @@ use std::alloc::Global;
 
 /// The card with its clock, and for each line the terminal that sends, and what listens to the octets that are pulled.
 #[derive(Drop)]
-pub(crate) struct Bench {
+pub(crate) struct Setup {
     exchange: Exchange,
     terminals: Vec<Terminal>,
     listeners: Vec<Deframer>,
@@ -28,17 +28,17 @@ pub(crate) struct Bench {
     ghost each_listens: { vec_len listeners ≡ exchange.config.lines },
 }
 
-impl Bench {
+impl Setup {
     ghost use Rattle.lapd_sim.specs.Obeyed.{scene, Obeys, Begins};
     ghost use Rattle.lapd_sim.specs.Stands.{Stands};
 
-    pub(crate) fn start(alloc: Global, config: Config) -> Result<Bench, LineFault>
+    pub(crate) fn start(alloc: Global, config: Config) -> Result<Setup, LineFault>
         ensures { Begins result config Stands }
     {
         let exchange = Exchange::start(alloc, config)?;
         let terminals = terminals(alloc, exchange.lines())?;
         let listeners = listeners(alloc, exchange.lines())?;
-        Ok(Bench {
+        Ok(Setup {
             exchange,
             terminals,
             listeners,
@@ -66,7 +66,7 @@ impl Bench {
         target: &mut T,
         page: &mut Page,
     ) -> Result<(), LineFault>
-        ensures { (m : machine.Bench) → Stands self.old m
+        ensures { (m : machine.Setup) → Stands self.old m
             → Obeys result (output (T.taken target.old) page.old.items) (output (T.taken target.new) page.new.items) (Stands self.new) (with_card (meaning.rx line octets.now) (scene m)) }
     {
         let line = self.line(line)?;
@@ -84,7 +84,7 @@ impl Bench {
         target: &mut T,
         page: &mut Page,
     ) -> Result<(), LineFault>
-        ensures { (m : machine.Bench) → Stands self.old m
+        ensures { (m : machine.Setup) → Stands self.old m
             → Obeys result (output (T.taken target.old) page.old.items) (output (T.taken target.new) page.new.items) (Stands self.new) (with_card (meaning.into line frame.now) (scene m)) }
     {
         let line = self.line(line)?;
@@ -114,7 +114,7 @@ impl Bench {
         page: &mut Page,
     ) -> Result<(), LineFault>
         requires { count ≤ length room.old }
-        ensures { (m : machine.Bench) → Stands self.old m
+        ensures { (m : machine.Setup) → Stands self.old m
             → Obeys result (output (T.taken target.old) page.old.items) (output (T.taken target.new) page.new.items) (Stands self.new) (with_card (meaning.pull line count) (scene m)) }
     {
         let line = self.line(line)?;
@@ -136,7 +136,7 @@ impl Bench {
         target: &mut T,
         page: &mut Page,
     ) -> Result<(), LineFault>
-        ensures { (m : machine.Bench) → Stands self.old m
+        ensures { (m : machine.Setup) → Stands self.old m
             → Obeys result (output (T.taken target.old) page.old.items) (output (T.taken target.new) page.new.items) (Stands self.new) (with_card (meaning.ask line tei what octets.now) (scene m)) }
     {
         let line = self.line(line)?;
@@ -156,7 +156,7 @@ impl Bench {
         target: &mut T,
         page: &mut Page,
     ) -> Result<(), LineFault>
-        ensures { (m : machine.Bench) → Stands self.old m
+        ensures { (m : machine.Setup) → Stands self.old m
             → Obeys result (output (T.taken target.old) page.old.items) (output (T.taken target.new) page.new.items) (Stands self.new) (with_card (meaning.wait milliseconds) (scene m)) }
     {
         self.exchange.wait(milliseconds, target, page)
@@ -168,7 +168,7 @@ impl Bench {
         target: &mut T,
         page: &mut Page,
     ) -> Result<(), LineFault>
-        ensures { (m : machine.Bench) → Stands self.old m
+        ensures { (m : machine.Setup) → Stands self.old m
             → Obeys result (output (T.taken target.old) page.old.items) (output (T.taken target.new) page.new.items) (Stands self.new) (with_card meaning.stored (scene m)) }
     {
         match self.exchange.show_stored(target, page) {

@@ -1,32 +1,33 @@
+-- Hand-written answers for `Bench::pull`.
 use Rattle.std.proofs.Common.{◌≡◌, ◌<◌, ◌++◌, [], length, take, get_or, sym, ap, subst, arith}
 use Rattle.std.proofs.lemmas.List.{length-take}
 use Rattle.lapd_transcript.specs.Streams.{IsPut, IsStuck, output}
-use Rattle.model_sim.specs.Bench.{taken_at}
+use Rattle.model_sim.specs.Setup.{taken_at}
 use Rattle.model_sim.specs.Steps.{pulls, pulled_text}
 use Rattle.lapd_sim.specs.Stands.{Stands, Holds, Each, Hears, Sends}
 use Rattle.lapd_sim.proofs.Eachs.{each_at, each_set}
 use Rattle.lapd_sim.proofs.Scenes.{pulls_keep, pull_obeyed, pull_broken}
-use Rattle.lapd_sim.proofs.bench.Bench.pull.Goals as goal
+use Rattle.lapd_sim.proofs.setup.Setup.pull.Goals as goal
 
 pub returns-in-Ok : goal.returns-in-Ok
 returns-in-Ok g c = λ m h.
     let line = c.in_ok-line.line in
     let count : length (take c.args.count c.args.room.now) ≡ c.args.count = omega (arith, length-take c.args.count c.args.room.now, c.requires) in
-    let p = pulls c.args.count line (record { bench = m; octets = [] }) in
-    let keep = pulls_keep c.args.count line (record { bench = m; octets = [] }) in
-    let octets = subst (λ n. c.pull.new.room ≡ (pulls n line (record { bench = m; octets = [] })).octets) count (c.pull.ensures.pulled m h.exchange) in
-    let holds = subst (λ n. Holds c.pull.new.exchange (pulls n line (record { bench = m; octets = [] })).bench) count (c.pull.ensures.after m h.exchange) in
+    let p = pulls c.args.count line (record { setup = m; octets = [] }) in
+    let keep = pulls_keep c.args.count line (record { setup = m; octets = [] }) in
+    let octets = subst (λ n. c.pull.new.room ≡ (pulls n line (record { setup = m; octets = [] })).octets) count (c.pull.ensures.pulled m h.exchange) in
+    let holds = subst (λ n. Holds c.pull.new.exchange (pulls n line (record { setup = m; octets = [] })).setup) count (c.pull.ensures.after m h.exchange) in
     let bound : line < length c.args.self.now.listeners.items = omega (arith, c.args.self.now.listeners.ok.0, c.args.self.now.each_listens, c.in_ok-line.ensures.1) in
     let hears = subst (λ d. Hears d (get_or m.taken line [])) (sym c.index_mut.ensures.value)
     (each_at Hears c.args.self.now.listeners.items m.taken line c.index_mut.result.now [] bound h.listeners) in
     let past = subst (λ taken. Hears c.index_mut.result.now (get_or taken line [])) (sym keep.1) hears in
     pull_obeyed _ _ _ c.in_ok-line.ensures.0 c.args.count m (subst (λ n. line < n) (sym (ap (λ config. config.lines) h.exchange.config)) c.in_ok-line.ensures.1)
-    (subst (λ xs. IsPut (output (g.T.Target.taken c.args.target.now) c.args.page.now.items) (output (g.T.Target.taken c.tell.new.target) c.tell.new.page.items) (pulled_text line (taken_at line p.bench) xs)) octets (c.in-Ok.ensures.told (taken_at line p.bench) past))
+    (subst (λ xs. IsPut (output (g.T.Target.taken c.args.target.now) c.args.page.now.items) (output (g.T.Target.taken c.tell.new.target) c.tell.new.page.items) (pulled_text line (taken_at line p.setup) xs)) octets (c.in-Ok.ensures.told (taken_at line p.setup) past))
     (record {
       exchange = record { config = holds.config; card = holds.card; clock = holds.clock; now = holds.now };
       terminals = subst (λ ts. Each Sends c.args.self.now.terminals.items ts) (sym keep.0) h.terminals;
-      listeners = each_set Hears c.args.self.now.listeners.items p.bench.taken line c.tell.new.listener (taken_at line p.bench ++ p.octets)
-          (subst (λ xs. Hears c.tell.new.listener (taken_at line p.bench ++ xs)) octets (c.in-Ok.ensures.after (taken_at line p.bench) past))
+      listeners = each_set Hears c.args.self.now.listeners.items p.setup.taken line c.tell.new.listener (taken_at line p.setup ++ p.octets)
+          (subst (λ xs. Hears c.tell.new.listener (taken_at line p.setup ++ xs)) octets (c.in-Ok.ensures.after (taken_at line p.setup) past))
           (subst (λ ts. Each Hears c.args.self.now.listeners.items ts) (sym keep.1) h.listeners);
     })
 
@@ -34,12 +35,12 @@ pub returns-in-Err : goal.returns-in-Err
 returns-in-Err g c = λ m h.
     let line = c.in_ok-line.line in
     let count : length (take c.args.count c.args.room.now) ≡ c.args.count = omega (arith, length-take c.args.count c.args.room.now, c.requires) in
-    let p = pulls c.args.count line (record { bench = m; octets = [] }) in
-    let keep = pulls_keep c.args.count line (record { bench = m; octets = [] }) in
-    let octets = subst (λ n. c.pull.new.room ≡ (pulls n line (record { bench = m; octets = [] })).octets) count (c.pull.ensures.pulled m h.exchange) in
+    let p = pulls c.args.count line (record { setup = m; octets = [] }) in
+    let keep = pulls_keep c.args.count line (record { setup = m; octets = [] }) in
+    let octets = subst (λ n. c.pull.new.room ≡ (pulls n line (record { setup = m; octets = [] })).octets) count (c.pull.ensures.pulled m h.exchange) in
     let bound : line < length c.args.self.now.listeners.items = omega (arith, c.args.self.now.listeners.ok.0, c.args.self.now.each_listens, c.in_ok-line.ensures.1) in
     let hears = subst (λ d. Hears d (get_or m.taken line [])) (sym c.index_mut.ensures.value)
     (each_at Hears c.args.self.now.listeners.items m.taken line c.index_mut.result.now [] bound h.listeners) in
     let past = subst (λ taken. Hears c.index_mut.result.now (get_or taken line [])) (sym keep.1) hears in
     pull_broken _ _ (Stands c.args.self.now) c.in_ok-line.ensures.0 c.args.count m (subst (λ n. line < n) (sym (ap (λ config. config.lines) h.exchange.config)) c.in_ok-line.ensures.1)
-    (subst (λ xs. IsStuck (output (g.T.Target.taken c.args.target.now) c.args.page.now.items) (output (g.T.Target.taken c.tell.new.target) c.tell.new.page.items) (pulled_text line (taken_at line p.bench) xs)) octets (c.in-Err.ensures.told (taken_at line p.bench) past))
+    (subst (λ xs. IsStuck (output (g.T.Target.taken c.args.target.now) c.args.page.now.items) (output (g.T.Target.taken c.tell.new.target) c.tell.new.page.items) (pulled_text line (taken_at line p.setup) xs)) octets (c.in-Err.ensures.told (taken_at line p.setup) past))

@@ -1,3 +1,4 @@
+-- Hand-written answers for `Bench::wait`.
 use Rattle.std.proofs.Common.{◌+◌, sym, subst, nat_le}
 use Rattle.lapd_clock.specs.Timers.{time_until}
 use Rattle.lapd_script.specs.declared.kind.FaultKind.TheVariants.{TimeOver}
@@ -5,7 +6,7 @@ use Rattle.model_sim.specs.Steps.{after_wait, last_moment}
 use Rattle.lapd_sim.specs.Obeyed.{scene}
 use Rattle.lapd_sim.specs.Stands.{Stands, Each, Hears, Holds, Sends}
 use Rattle.lapd_sim.proofs.Scenes.{obeyed_at, expiries_keep}
-use Rattle.lapd_sim.proofs.bench.Bench.wait.Goals as goal
+use Rattle.lapd_sim.proofs.setup.Setup.wait.Goals as goal
 
 pub returns : goal.returns
 returns g c = λ m h.

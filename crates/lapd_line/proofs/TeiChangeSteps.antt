@@ -34,7 +34,7 @@ use Rattle.lapd_line.specs.Units.{unit_pairs}
 use Rattle.lapd_line.specs.Awake.{NoneMissed}
 use Rattle.lapd_line.specs.Links.{LinksStand, HasTerms, links_pairs, terms_in, machine_at}
 use Rattle.lapd_line.specs.LinkLayer.{Stands, Serves, always}
-use Rattle.lapd_line.specs.Changes.{IsAnswerTo, with_management}
+use Rattle.lapd_line.specs.TeiChanges.{IsAnswerTo, with_management}
 use Rattle.lapd_line.specs.Links as links
 use Rattle.lapd_line.proofs.AwakeSteps.{none_missed_fresh}
 use Rattle.lapd_line.proofs.LayerSteps.{links_part, named, few_places}

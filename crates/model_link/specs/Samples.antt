@@ -10,7 +10,7 @@ use Rattle.lapd_frame.specs.Reading.{reading}
 use Rattle.model_link.specs.declared.terms.Terms.{Terms}
 use Rattle.model_link.specs.Link.{Link, fresh, frame_of}
 use Rattle.model_link.specs.Events.{Received, frame, undefined, wrong_size, Request, Event, received, requested, offer}
-use Rattle.model_link.specs.Told.{Told, Given}
+use Rattle.model_link.specs.Told.{LinkTold, Given}
 use Rattle.model_link.specs.Machine.{after, after_all, told, given}
 
 -- TEI 64 with k 7, N201 260, N200 3, room for 8 contents and for 4 control frames; and the same with other numbers.
@@ -74,7 +74,7 @@ unfoldable pub lost : Terms → List Event → Link → ℕ
 lost t [] l = 0
 lost t (e ∷ es) l = (told t e l).lost + lost t es (after t e l)
 
-abbrev pub told_after : Terms → List Event → Event → Link → Told
+abbrev pub told_after : Terms → List Event → Event → Link → LinkTold
 told_after t es e l = told t e (after_all t es l)
 
 -- A link that the terminal has established, its UA sent.

@@ -11,8 +11,8 @@ use Rattle.lapd_tei.specs.Machine.{Management, place}
 use Rattle.lapd_tei.specs.Sound.{IsAt}
 use Rattle.model_line.specs.Octet.{management_sapi, group_tei, drop_for}
 use Rattle.model_line.specs.Effect.{Aim, at_link}
-use Rattle.lapd_line.specs.declared.aims.Addressee.{Addressee}
-use Rattle.lapd_line.specs.declared.aims.Addressee.TheVariants as to
+use Rattle.lapd_line.specs.declared.addressing.Addressee.{Addressee}
+use Rattle.lapd_line.specs.declared.addressing.Addressee.TheVariants as to
 
 abbrev pub at_place : Service → ℕ → Option ℕ → Addressee
 at_place service tei None = to.Nobody Tei

@@ -8,7 +8,7 @@ ghost use Rattle.lapd_frame.specs.Reading.{reading, long_reading, start_of};
 ghost use Rattle.lapd_bits.specs.declared.heard.Cause.TheVariants.{Unserved};
 ghost use Rattle.model_link.specs.Events as link;
 ghost use Rattle.model_line.specs.Octet.{addressed, aim_of_long, aim_of_reading, drop_for, message_of, unless_at_link};
-ghost use Rattle.lapd_line.specs.Aims.{is_ui};
+ghost use Rattle.lapd_line.specs.Addressing.{is_ui};
 
 use crate::link_layer::LinkLayer;
 use crate::reports::BareReport;
@@ -47,7 +47,7 @@ fn is_ui(control: Control) -> bool
 
 impl LinkLayer {
     ghost use Rattle.lapd_link.specs.Events.{received_of, info_of};
-    ghost use Rattle.lapd_line.specs.Aims.{addressee, IsAtPlace};
+    ghost use Rattle.lapd_line.specs.Addressing.{addressee, IsAtPlace};
     ghost use Rattle.lapd_line.specs.LinkLayer.{Standing, Serves, always, aim_of_event};
     ghost use Rattle.lapd_line.specs.Reports.{octets_of};
 

@@ -40,7 +40,7 @@ use Rattle.lapd_line.specs.Links as all
 use Rattle.lapd_line.specs.Links.{HasTerms, Refuses, machine_at}
 use Rattle.lapd_line.specs.Reports.{told_in}
 use Rattle.lapd_line.proofs.LayerSteps.{beside_links, links_part, named, numbered, at_link_serves}
-use Rattle.lapd_line.specs.Asks.{link_refusal, management_refusal}
+use Rattle.lapd_line.specs.Requests.{link_refusal, management_refusal}
 
 -- a test that refuses, and its opposite
 turned : {X : Type 0} (b : Bool) (x y : X) → cond (not b) x y ≡ cond b y x

@@ -14,16 +14,16 @@ use Rattle.lapd_tei.specs.Events as teis
 use Rattle.std.proofs.lemmas.Bool.{false≢true}
 use Rattle.lapd_store.specs.Ownership.{Owned}
 use Rattle.lapd_store.specs.Store.{Store}
-use Rattle.model_line.specs.Answer.{Told}
+use Rattle.model_line.specs.Event.{LineTold}
 use Rattle.model_line.specs.Line.{Line, place_in}
 use Rattle.model_line.specs.Octet.{addressed, at_place, to_service, management_sapi, group_tei, drop_for, message_of, aim_of_long, aim_of_reading}
 use Rattle.model_line.specs.Effect.{Aim, at_none, at_management, of_aim}
-use Rattle.lapd_line.specs.declared.aims.Addressee.{Addressee}
-use Rattle.lapd_line.specs.declared.aims.Addressee.TheVariants as to
+use Rattle.lapd_line.specs.declared.addressing.Addressee.{Addressee}
+use Rattle.lapd_line.specs.declared.addressing.Addressee.TheVariants as to
 use Rattle.lapd_line.specs.declared.link_layer.LinkLayer.{LinkLayer}
 use Rattle.lapd_line.specs.declared.reports.BareReport.{BareReport}
-use Rattle.lapd_line.specs.Aims as aims
-use Rattle.lapd_line.specs.Aims.{addressee, of_service, aim_at, is_ui}
+use Rattle.lapd_line.specs.Addressing as aims
+use Rattle.lapd_line.specs.Addressing.{addressee, of_service, aim_at, is_ui}
 use Rattle.lapd_line.specs.LinkLayer.{Stands, Serves, always}
 use Rattle.lapd_line.specs.Reports.{told_in}
 
@@ -38,7 +38,7 @@ serves_as {aim'} {aim} {octets} {e} {new} {s} {t} {o} same h = record {
 }
 
 -- nothing changes, and something is told
-pub serves_none : (e : LinkLayer) (s : Store) (octets : List ℕ) (o : BareReport) (told : Told) → told_in octets o ≡ told → Serves (always (at_none told)) octets e s e s o
+pub serves_none : (e : LinkLayer) (s : Store) (octets : List ℕ) (o : BareReport) (told : LineTold) → told_in octets o ≡ told → Serves (always (at_none told)) octets e s e s o
 serves_none e s octets o told is = record {
   config = refl;
   limits = record { slots = refl; width = refl };

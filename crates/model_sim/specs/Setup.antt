@@ -17,7 +17,7 @@ pub record Terminal : Type 0 where
   pub given : ℕ
 
 -- The moment is in milliseconds; the octets of a line are all that it has taken.
-pub record Bench : Type 0 where
+pub record Setup : Type 0 where
   pub card : Card
   pub clock : clocks.Timers
   pub now : ℕ
@@ -25,7 +25,7 @@ pub record Bench : Type 0 where
   pub taken : List (List ℕ)
 
 -- As a card line sets it up.
-abbrev pub begun : Config → Bench
+abbrev pub begun : Config → Setup
 begun c = record {
   card = fresh c;
   clock = clocks.idle c.lines c.terminals;
@@ -34,17 +34,17 @@ begun c = record {
   taken = replicate c.lines [];
 }
 
-abbrev pub terminal_at : ℕ → Bench → Terminal
+abbrev pub terminal_at : ℕ → Setup → Terminal
 terminal_at line b = get_or b.terminals line (record { items = []; given = 0 })
 
-abbrev pub taken_at : ℕ → Bench → List ℕ
+abbrev pub taken_at : ℕ → Setup → List ℕ
 taken_at line b = get_or b.taken line []
 
 -- An event at the card: the orders that it gives are applied at the moment.
 abbrev pub ordered : ℕ → ℕ → clocks.Timers → Order → clocks.Timers
 ordered line now clock order = clocks.with_order clock line order now
 
-abbrev pub happened : Bench → Event → Bench
+abbrev pub happened : Setup → Event → Setup
 happened b e = record b {
   card = after e b.card;
   clock = fold (ordered e.line b.now) b.clock (orders_in (answer e b.card));
@@ -67,7 +67,7 @@ octets_sent octets t = octets_of (drop (8 * t.given) (line_text (sending octets 
 abbrev pub after_sending : List ℕ → Terminal → Terminal
 after_sending octets t = record { items = sending octets t; given = t.given + length (octets_sent octets t) }
 
-abbrev pub with_terminal : ℕ → Terminal → Bench → Bench
+abbrev pub with_terminal : ℕ → Terminal → Setup → Setup
 with_terminal line t b = record b { terminals = set b.terminals line t }
 
 -- A listener finds the frames that end in what a line takes.
@@ -79,5 +79,5 @@ frame_in (stream.dropped cause) = None
 abbrev pub found : List ℕ → List ℕ → List (List ℕ)
 found before octets = filter_map frame_in (drop (length (stream.heard_in 1024 before)) (stream.heard_in 1024 (before ++ octets)))
 
-abbrev pub with_taken : ℕ → List ℕ → Bench → Bench
+abbrev pub with_taken : ℕ → List ℕ → Setup → Setup
 with_taken line octets b = record b { taken = set b.taken line (taken_at line b ++ octets) }

@@ -12,7 +12,7 @@ ghost use Rattle.lapd_link.specs.Outcome.{contents_in};
 ghost use Rattle.model_line.specs.Line.{link_count};
 ghost use Rattle.model_line.specs.Pull.{message_taken, unit_taken, link_taken, first_taken, taken};
 ghost use Rattle.lapd_line.specs.Awake.{IsAwake};
-ghost use Rattle.lapd_line.specs.Takes.{Takes, orders_taken};
+ghost use Rattle.lapd_line.specs.Pulls.{Takes, orders_taken};
 
 use crate::link_layer::LinkLayer;
 use lapd_bits::Framer;

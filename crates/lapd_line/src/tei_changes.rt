@@ -8,7 +8,7 @@ ghost use Rattle.lapd_tei.specs.Machine.{Management};
 ghost use Rattle.lapd_tei.specs.declared.outcome.Change.TheVariants.{Gained, Left};
 ghost use Rattle.lapd_tei.specs.Outcome.{told_of, IsShort};
 ghost use Rattle.model_line.specs.Effect.{at_management, told_of_link, told_of_management, with_cleared};
-ghost use Rattle.lapd_line.specs.Changes.{IsAnswerTo, Changing, with_management};
+ghost use Rattle.lapd_line.specs.TeiChanges.{IsAnswerTo, Changing, with_management};
 
 use crate::link_layer::{LinkLayer, link_number};
 use crate::reports::BareReport;

@@ -8,8 +8,8 @@ use Rattle.model_link.specs.Requests as links
 use Rattle.lapd_tei.specs.Events as teis
 use Rattle.model_line.specs.declared.config.Config.{Config}
 use Rattle.model_line.specs.Line.{Line, has_tei, link_of, terms}
-use Rattle.lapd_line.specs.declared.asks.TeiRequest.{TeiRequest}
-use Rattle.lapd_line.specs.declared.asks.TeiRequest.TheVariants as tei_request
+use Rattle.lapd_line.specs.declared.requests.TeiRequest.{TeiRequest}
+use Rattle.lapd_line.specs.declared.requests.TeiRequest.TheVariants as tei_request
 
 -- The TEI has to be one of a terminal, and on the line; then the link refuses, or not.
 abbrev pub link_refusal : Config → Bool → Service → ℕ → link.Request → Line → Option Refusal

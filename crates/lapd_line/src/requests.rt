@@ -15,17 +15,17 @@ ghost use Rattle.model_line.specs.Refusal.{refusal};
 ghost use Rattle.model_line.specs.Request as asked;
 ghost use Rattle.model_line.specs.Request.{request_of};
 ghost use Rattle.model_line.specs.Requested.{aim_of_request, at_requested};
-ghost use Rattle.lapd_line.specs.Asks.{event_of, link_refusal, management_refusal};
+ghost use Rattle.lapd_line.specs.Requests.{event_of, link_refusal, management_refusal};
 
-use crate::aims::GROUP;
+use crate::addressing::GROUP;
 use crate::link_layer::{LinkLayer, link_number};
 use crate::reports::BareReport;
 use crate::units::QueuedUnit;
 use lapd_frame::{Refusal, Service};
-use model_line::Request;
 use lapd_link::LinkRequest;
 use lapd_store::Shelf;
 use lapd_tei::{TeiOutcome, Teis};
+use model_line::Request;
 
 /// The greatest TEI of a terminal (Q.921 clause 3.3.4).
 const LAST_TEI: u8 = 126;

@@ -18,7 +18,7 @@ pub data Event : Type 0 where
 -- What an octet, an expiry or an accepted request is answered with: notes for layer 3 and management, the
 -- contents that a frame brought, why something was dropped, timer orders, and how many frames found no place to
 -- wait.
-pub record Told : Type 0 where
+pub record LineTold : Type 0 where
   pub notes : List Note
   pub contents : Option (List ℕ)
   pub cause : Option Cause
@@ -27,14 +27,14 @@ pub record Told : Type 0 where
 
 -- The answer to an event. A pull is answered with the octet, whether the pull began a frame, and timer orders.
 pub data Answer : Type 0 where
-  told : Told → Answer
+  told : LineTold → Answer
   refused : Refusal → Answer
   pulled : ℕ → Bool → List Order → Answer
 
 -- Nothing happened.
-abbrev pub nothing : Told
+abbrev pub nothing : LineTold
 nothing = record { notes = []; contents = None; cause = None; orders = []; lost = 0 }
 
 -- Something was dropped without effect.
-abbrev pub dropped : Cause → Told
+abbrev pub dropped : Cause → LineTold
 dropped cause = record nothing { cause = Some cause }

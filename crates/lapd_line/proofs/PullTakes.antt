@@ -19,7 +19,7 @@ use Rattle.model_line.specs.Line.{Line}
 use Rattle.model_line.specs.Pull.{Taken, with_message, message_taken}
 use Rattle.lapd_line.specs.declared.link_layer.LinkLayer.{LinkLayer}
 use Rattle.lapd_line.specs.LinkLayer.{Stands}
-use Rattle.lapd_line.specs.Takes.{HasTaken, Took, Takes}
+use Rattle.lapd_line.specs.Pulls.{HasTaken, Took, Takes}
 
 pub append_none : {A : Type 0} (xs : List A) → xs ++ [] ≡ xs
 append_none [] = refl

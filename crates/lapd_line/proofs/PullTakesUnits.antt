@@ -25,7 +25,7 @@ use Rattle.lapd_line.specs.declared.units.QueuedUnit.{QueuedUnit}
 use Rattle.lapd_line.specs.LinkLayer.{Stands}
 use Rattle.lapd_line.specs.Links.{links_pairs}
 use Rattle.lapd_line.specs.Units.{AreFor, slots_of, messages_of, unit_pairs, without_oldest}
-use Rattle.lapd_line.specs.Takes.{HasTaken, Took, Takes}
+use Rattle.lapd_line.specs.Pulls.{HasTaken, Took, Takes}
 
 -- as many wait as the machine has
 pub as_many : (us : List QueuedUnit) (ds : List UnitData) → AreFor us ds → length (slots_of us) ≡ length (messages_of ds)

@@ -1,4 +1,17 @@
 -- What a deframer holds of the octets that a line has brought so far.
+--
+-- A deframer keeps no past: `Stands` says what its fields are after these octets. At the start `ones` is 7: with no
+-- bit before, no flag can be on its way.
+--
+-- The bits of the flag that closes a gap are taken in as they come, since a flag is known only at its last bit. So
+-- at that bit the bits over are exactly the first seven of a flag if and only if the gap was whole octets, stuffed
+-- as a sender does. This one test decides `Ragged`, also where the closing flag's first 0 could be taken for a
+-- stuffed one.
+--
+-- A caller keeps in its own invariant that the deframer stands for the octets of its line so far, beginning with
+-- none. Each call of `octet` takes that from `past` to `past ++ octet ∷ []`, and its clause `heard` adds the answer
+-- to what was heard. So the answers that are events are, in order, `heard_in` of all octets, however the calls are
+-- grouped.
 use Rattle.std.specs.Prelude.{◌≡◌, ℕ, ◌+◌, ◌<◌, ◌/◌, Bool, true, false, List, [], ◌∷◌, ◌++◌, length, take, reverse, min, All, Option, Some, None, IfSome, is_some, option_and_then, option_to_list, nat_lt, if◌then◌else◌}
 use Rattle.std.specs.Option.{option_map_or}
 use Rattle.lapd_bits.specs.Bits.{low_bits, bits}

@@ -1,5 +1,7 @@
 -- Laws that tie what is heard to the places of flags, without the walk over all places. A place is the list of the
 -- bits up to it, the latest first, so `reverse gap` is how a gap lies there, and a flag reads the same either way.
+--
+-- So `heard_at`, which walks back place by place, pairs the flags as a reader would.
 use Rattle.std.specs.Prelude.{◌≡◌, ℕ, Bool, true, false, List, [], ◌∷◌, ◌++◌, drop, take, reverse, Option, Some, None, if◌then◌else◌}
 use Rattle.lapd_bits.specs.Bits.{flag}
 use Rattle.lapd_bits.specs.Stream.{Event, dropped, ends_flag, has_abort, gap_event, heard_at}

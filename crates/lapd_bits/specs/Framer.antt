@@ -1,5 +1,9 @@
 -- A framer as its callers see it, and what it stands for: the items that were put on a line up to now, and the
 -- octets of them that were given.
+--
+-- A framer begins with no items; the opening flag belongs to the line. `load` adds a frame to the items, and `octet`
+-- an idle flag where the bits run low. So the octets given are a beginning of the bits of the items at all times:
+-- nothing is left out, put in or changed.
 use Rattle.std.specs.Prelude.{◌≡◌, ℕ, nat_lt, Bool, List, [], ◌∷◌, ◌++◌, length, if◌then◌else◌}
 use Rattle.lapd_bits.specs.Bits.{bits, flag}
 use Rattle.lapd_bits.specs.Sent.{Item, idle, frame, line_text}

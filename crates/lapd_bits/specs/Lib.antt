@@ -1,3 +1,7 @@
+-- The bits of a line. Read in this order: Bits, Stuffing, Check, Stream (what is heard in a line's bits), Sent (what
+-- goes out) and Vectors, their worked values; then Heard, Deframer and Framer, what a deframer and a framer stand
+-- for; and the laws, CheckLaws, StuffingLaws, StreamLaws, FlagLaws and RoundTrip. The definitions go bit by bit over
+-- whole lists and know no register, counter or buffer. The other files are named by private functions alone.
 pub mod Bits
 pub mod Stuffing
 pub mod StuffingLaws

@@ -1,4 +1,8 @@
 -- What the register of the frame check holds. No public call names this.
+--
+-- The check goes by tables, eight octets a step (`check.rt`): what the long division leaves of an octet, and of an
+-- octet with one to seven octets of 0s after it. These tables and those of Unstuffer and FlagEnd are proved by
+-- computing: each is the list of what the definition gives for every octet, so one wrong entry is refused.
 use Rattle.std.specs.Prelude.{◌≡◌, ℕ, Bool, List}
 use Rattle.lapd_bits.specs.Bits.{low_bits}
 use Rattle.lapd_bits.specs.Check.{remainder, dividend}

@@ -1,4 +1,9 @@
 -- What goes out on a line is heard at its other end.
+--
+-- It joins Sent and Stream, which do not name each other: most mistakes in one of them alone would break it. Once
+-- `octet` of a framer was called with fewer than eight bits left, the octets given meet its premise; so a deframer
+-- that takes them answers exactly the frames that were loaded, where it takes each for whole. `tests/streams` has
+-- one more reading of clause 2, in Python, over the whole list of a stream's bits, and compares the program with it.
 use Rattle.std.specs.Prelude.{◌≡◌, ℕ, ◌+◌, ◌<◌, ◌≤◌, ◌%◌, ◌⊎◌, List, [], ◌∷◌, ◌++◌, length, take, slice_index}
 use Rattle.lapd_bits.specs.Bits.{bits, flag}
 use Rattle.lapd_bits.specs.StuffingLaws.{AreOctets}

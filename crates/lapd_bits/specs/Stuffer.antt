@@ -1,4 +1,8 @@
 -- What bits make of themselves on a line, all at once (Q.921 clause 2.6). No public call names this.
+--
+-- A framer stuffs without tables: `stuffer.rt` finds the places in up to 40 bits, and the latest four before them,
+-- where five 1s begin, and puts a 0 after the lowest five, then after the next five behind that 0, until there are
+-- none. That this is `stuffed` is proved bit by bit (`proofs/Fives.antt`) and 0 by 0 (`proofs/Underway.antt`).
 use Rattle.std.specs.Prelude.{◌≡◌, ℕ, suc, bit_and, ◌/◌, Bool, true, List, ◌∷◌, ◌++◌, drop, replicate, reverse}
 use Rattle.lapd_bits.specs.Bits.{low_bits}
 use Rattle.lapd_bits.specs.Stuffing.{stuffed}

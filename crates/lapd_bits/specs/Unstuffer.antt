@@ -1,4 +1,8 @@
 -- What an octet brings to a gap all at once, where it ends nothing. No public call names this.
+--
+-- The table has, for an octet after 0 to 7 contiguous 1s, what stays of it where stuffed 0s are taken out, and the
+-- 1s at its end; it has none exactly where six 1s in a row would come: a flag, an abort, or bits of no sender. These
+-- go by `flag_end.rt`, or bit by bit.
 use Rattle.std.specs.Prelude.{◌≡◌, ℕ, Bool, true, false, ◌||◌, List, [], ◌∷◌, ◌++◌, replicate, reverse, Option, IfSome}
 use Rattle.lapd_bits.specs.Bits.{low_bits}
 use Rattle.lapd_bits.specs.Stuffing.{unstuffed}

@@ -1,4 +1,11 @@
 -- Whole lists of events, and what a sink takes of them.
+--
+-- `drive` comes to its clauses in four steps. One line: its contract speaks of every past and of every list of what
+-- others own on the shelf, so it is taken out of the list of lines, changed, and put back (`proofs/OneLine.antt`).
+-- One event: it is one of its line; where it finds the pool full, the slots in use on the shelf are those that the
+-- machine counts (`proofs/OneEvent.antt`). A list: the loop keeps that the configuration stays, that the sink has
+-- not failed, that the card stands for the machine of the run so far, and that the sink has taken the replies of
+-- that run. The laws: they speak of the machine alone, and the card stands for it.
 use Rattle.std.specs.Prelude.{◌≡◌, ℕ, List, [], ◌∷◌, map, take, slice_get, Option, Some, None}
 use Rattle.model_line.specs.Event.{Answer}
 use Rattle.model_card.specs.declared.events.Event as rust

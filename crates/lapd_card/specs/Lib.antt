@@ -1,4 +1,7 @@
 -- What a card's contracts say.
+--
+-- Read after those of `model_card`, in this order: Start; Reply; Sink and Drive, what a sink has taken; Kept, the
+-- sink of this crate; and for a card in the middle of its life Card, Lines and Stands.
 pub mod Reply
 pub mod Kept
 pub mod Sink

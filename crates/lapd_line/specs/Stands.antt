@@ -1,4 +1,12 @@
 -- What a line holds of its past.
+--
+-- A call comes to its clauses so. An octet: what the deframer has heard is what the machine calls `gained`, and
+-- `serve` takes it to whom it is for, by one small function for each row. One link of many: a call takes the link
+-- out of the list; what the other links, the units and the other lines own are then its `others`, which its own
+-- contract keeps (`proofs/LinkSteps.antt`). A TEI that comes or leaves: `lapd_tei` tells the change, and the two
+-- links of that place begin or are cleared, that of call control first. A pull: where fewer than eight bits are
+-- left, the first that has a frame gives it: TEI management, the unit data, then the links in turn. It is copied
+-- into the framer before its slot can be freed, so no later acknowledgement changes a frame that is on its way.
 use Rattle.std.specs.Prelude.{◌≡◌, List, ℕ, ◌++◌, true, false, None}
 use Rattle.lapd_bits.specs.Deframer as deframer
 use Rattle.lapd_bits.specs.Framer as framer
@@ -38,7 +46,7 @@ pub record Stands (line : Line) (store : Store) (others : List Owned) (m : machi
   pub sent : framer.Stands line.framer m.items m.given
   pub room : line.framer.room ≡ (config_of line).n201
   pub layer : layer.Stands line.layer store others m
-  -- where it is known to be nothing_waits, there is nothing that a pull could take
+  -- where the line takes it for known that nothing waits, there is nothing that a pull could take
   pub nothing_waits : line.nothing_waits ≡ true → taken (config_of line) m ≡ None
 
 -- An event leads a line and its shelf from one value to another: for every past, and every list of what others own, for

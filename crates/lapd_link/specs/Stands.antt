@@ -1,4 +1,9 @@
 -- What a link stands for.
+--
+-- Every clause of a call is said for every machine and every list of what others own for which the link stands. A
+-- row frees nothing on the shelf: it counts the contents that are to go, and `settle` then releases so many, the
+-- oldest first, and puts the answer together (`Reaches`). That the machine's link stays sound is the law
+-- `stays_sound`, and needs no code.
 use Rattle.std.specs.Prelude.{◌≡◌, ℕ, ◌<◌, ◌≤◌, Bool, false, List, length}
 use Rattle.lapd_store.specs.Store.{Store, used_slots}
 use Rattle.lapd_store.specs.Ownership.{Owned, Keeps}

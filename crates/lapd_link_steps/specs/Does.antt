@@ -1,4 +1,8 @@
 -- What it means that a call does a step of the machine.
+--
+-- A method is one row of the tables, or one word of it, and its clause `Does` says that it is the row's own equation
+-- of the machine. So words compose to rows as they do in the definitions, and rows to the machine's step of an
+-- event, by state and by frame.
 use Rattle.std.specs.Prelude.{◌≡◌, ℕ, ◌+◌, ◌≤◌, List, length}
 use Rattle.lapd_seq.specs.declared.numbers.Seq.{Seq}
 use Rattle.lapd_seq.specs.Circle.{IsNamed}

@@ -1,4 +1,9 @@
 -- What the memory of a region owns and lends. No public clause cites this file.
+--
+-- An octet that was written is owned with its value; one that was not is room for one, and a `&` to that room holds nothing,
+-- so it cannot be read. The right to free a block is a value that cannot be copied or dropped, so giving a block back twice
+-- is refused before any proof. A wrong body inside the four functions of `octets.rt` is refused by the shape of its proof;
+-- must-fail edits are therefore one level up, in `Region`.
 use Rattle.std.specs.Prelude.{ℕ, ◌+◌, List, [], ◌∷◌, Option, Some, None}
 use Rattle.std.specs.Borrow.{full_share, u8}
 use base.Fml.{Lft, Fml, ftrue, ffalse, fsep, froom}

@@ -1,4 +1,8 @@
 -- What a script that was played has written, and why it ended.
+--
+-- The loop of `play` keeps that the lines so far have been played, that what has been put is what they say, and that
+-- the rest of the text is still to be read (`proofs/Playing.antt`). A `wait` ends because the time that running
+-- timers still run until its end falls with each expiry, which starts one timer at most (`proofs/Waits.antt`).
 use Rattle.std.specs.Prelude.{◌≡◌, ℕ, ◌<◌, ◌==◌, ◌⊎◌, List, [], ◌∷◌, ◌++◌, length, take, filter, Bool, Option, None, Some, Result, Ok, Err}
 use Rattle.std.specs.List.{list_any}
 use Rattle.lapd_transcript.specs.Streams.{Taken, IsWritten, IsBroken, Output, IsPut, IsStuck}

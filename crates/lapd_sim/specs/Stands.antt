@@ -1,4 +1,7 @@
 -- What the parts of a simulator stand for: the setup of the machine that a script is played on.
+--
+-- Each part of the simulator stands for a part of the setup: `Holds` is the card with clock and moment, `Sends` a
+-- terminal, `Hears` a listener.
 use Rattle.std.specs.Prelude.{◌≡◌, ℕ, List, [], ◌∷◌, length, Option, None, Some}
 use Rattle.lapd_bits.specs.Framer as framing
 use Rattle.lapd_bits.specs.Deframer as deframing

@@ -1,4 +1,7 @@
 -- The machine of a card.
+--
+-- Read in this order: Event, Card, Machine, Run. Stored, Counts, ByEvent, Drops, Numbered, Pulled, Isolation and
+-- Sound are the words of the laws, Promises and Laws their statements.
 pub mod Event
 pub mod Card
 pub mod Machine

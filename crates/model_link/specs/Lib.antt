@@ -1,4 +1,10 @@
 -- The machine of a data link, and worked values of it.
+--
+-- Read beside docs/MACHINE.md, in this order: Link, Events, Told; Steps and Words, of which rows are made (a test or
+-- an N(R) in the middle of a row is read at that moment); the states, one equation a row: TeiAssigned,
+-- AwaitingEstablishment, AwaitingRelease, MultipleFrame, Established, TimerRecovery; Requests and Offers; Machine. A
+-- link keeps all contents since its numbers were zero, and plain numbers that never wrap. Sound, Notes, Rises,
+-- Timed, Known, Deliveries, Numbered and TwoEnds are the words of the laws.
 pub mod Link
 pub mod Events
 pub mod Told

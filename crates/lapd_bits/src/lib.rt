@@ -13,6 +13,15 @@
 //! - `start_fault`: why neither could be started.
 //! - `check`: the frame check sequence.
 //! - `stuffing`, `one_event`, `heard_within`, `flag_places`, `round_trip`: laws, as functions with no effect.
+//!
+//! # Only tested
+//!
+//! Starts with n201 of 0, 260 and 1,024; worked frames at every bit offset; streams in no order, against another
+//! reading of clause 2 (`tests/streams`).
+//!
+//! # Open
+//!
+//! Which errors on a line the frame check misses.
 #![tactic(auto)]
 
 mod check;

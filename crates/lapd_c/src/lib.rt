@@ -1,14 +1,24 @@
 //! The card for C: what `include/lapd.h` declares. Each function there is an export here, with its contract.
 //!
-//! A card or a clock lies in memory of the library, at an address that stands in a struct of the caller's. A call takes it
-//! from there, serves, and puts it back; a ghost field says which card it is, so that the contracts speak of the card's
-//! machine (`model_card`) and of the clock's timers (`lapd_clock`).
+//! A card or a clock lies in memory of the library, at an address that stands in a struct of the caller's. A call takes
+//! it from there, serves, and puts it back; a ghost field says which card it is, so that the contracts speak of the
+//! card's machine (`model_card`) and of the clock's timers (`lapd_clock`).
 //!
 //! - `card`: a card in C, how it begins and ends; `card_slot`, where it lies; `events`, what happens at it; `exchange`,
 //!   octets taken and given in turn; `questions`, what it answers about itself.
 //! - `clock`: a clock in C, and its exports; `clock_reports`, the orders of a report; `clock_slot`, where it lies.
 //! - `laws`: what holds of the machine's answers, so that a report has room for each.
 //! - `loose`: a box as the address of its block.
+//!
+//! # Only tested
+//!
+//! `tests/c/run` and `tests/c/declared`: starts; that all memory is given back; that structs, prototypes and
+//! statuses are as `lapd.h` has them, and its inline functions; every stored script, call by call and by
+//! `lapd_exchange`. On demand, a terminal that nobody here wrote (`tests/interop`).
+//!
+//! # Open
+//!
+//! What a C compiler makes of `lapd.h`; what becomes of a caller that breaks the conditions at its top.
 #![tactic(auto)]
 
 mod card;

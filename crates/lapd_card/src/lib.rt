@@ -32,6 +32,10 @@
 //! `model_link`, those of TEI management in `lapd_tei`, the refusals of a line in `model_line`
 //! (`specs/Refusal`) and of a link in `model_link` (`specs/Requests`). The types of notes and refusals stand in
 //! `lapd_frame`, the words of a script in `lapd_script`.
+//!
+//! # Only tested
+//!
+//! Starts, with each fault; an answer that is kept has its contents; single events and long runs (`test_card`).
 #![tactic(auto)]
 
 mod card;

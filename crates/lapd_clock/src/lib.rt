@@ -21,6 +21,10 @@
 //! `due` look at the first timer of each line, and `due` then moves the other timers of the line
 //! whose timer it takes out. So `apply` is linear in the places of a line, `next` in the lines, and
 //! `due` in the places of a line plus the lines.
+//!
+//! # Only tested
+//!
+//! Starts with 1 and 64 lines of 1 and of 8 terminals.
 #![tactic(auto)]
 
 mod clock;

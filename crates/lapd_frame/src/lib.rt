@@ -14,6 +14,10 @@
 //!
 //! The grammar stands in `specs/Grammar.antt`, one equation for each row of table 5. No call takes
 //! memory. Octets of frames are copied by `write` alone; a `ShortList` copies its items.
+//!
+//! # Only tested
+//!
+//! Every control octet, against table 5 of the standard typed by hand.
 #![tactic(auto)]
 
 mod addresses;

@@ -7,11 +7,15 @@
 //! - `line`: the calls: an octet that comes, a timer that expires, a request, and an octet that goes out; and the state
 //!   of a link, and how many octets the line stores.
 //! - `link_layer`: what the calls change beside the bits: TEI management, links and units; `starts`, how they begin;
-//!   `addressing`, what is heard; `expiries`, timers; `tei_changes`, links that open and are cleared; `requests`, what is requested
-//!   of a link, of TEI management and as unit data; `pulls`, what goes out; `held`, what they store.
+//!   `addressing`, what is heard; `expiries`, timers; `tei_changes`, links that open and are cleared; `requests`, what
+//!   is requested of a link, of TEI management and as unit data; `pulls`, what goes out; `held`, what they store.
 //! - `links`, `units`: the links of all places of the TEI table, and the unit data that waits; `awake`, which links may
 //!   have something to give.
 //! - `reports`, `pulled`: the answers; `fault`: why a line can't be started.
+//!
+//! # Only tested
+//!
+//! Starts, through the tests of the card.
 #![tactic(auto)]
 
 mod addressing;

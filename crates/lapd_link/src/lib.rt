@@ -14,6 +14,11 @@
 //! What it is proved to be is the machine of `model_link`: `specs/Stands.antt` says what a link stands for. The
 //! contents that layer 3 gives lie in slots of a shelf that other links use too. They are copied there once, and freed
 //! when they are acknowledged or given up. After the start no call takes memory.
+//!
+//! # Only tested
+//!
+//! Starts with queues of 1 and 127 contents and rings of 2 and 16 control frames; a link's life, each refusal, and
+//! a lost frame that comes again after REJ (`test_link`).
 #![tactic(auto)]
 
 mod events;

@@ -10,6 +10,15 @@
 //! - `faults`: why a script is not played to its end.
 //! - `shown`: shows one frame.
 //! - `program`: the program's words, fault lines and exit status.
+//!
+//! # Only tested
+//!
+//! That the answer to each line is written before more is read than that line needs; that `play_octets` and
+//! `frame` succeed where there is memory; the texts that `PlayFault` shows of itself.
+//!
+//! # Open
+//!
+//! Scripts of more than 2^63 octets; what the system's own streams hold, since they tell nothing of it.
 #![tactic(auto)]
 
 mod exchange;

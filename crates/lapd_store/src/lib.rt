@@ -14,6 +14,10 @@
 //! - `specs/Store.antt`: a shelf as a finite map, with which the contracts speak of it;
 //! - `specs/Ownership.antt`: how several owners share a shelf, with its laws in `proofs/Ownership.antt`; for an owner
 //!   that is a queue of slots in `proofs/Queues.antt`, and for one of many owners in `proofs/Focus.antt`.
+//!
+//! # Only tested
+//!
+//! Starts with 0, 1 and 8,192 slots of 8 and of 260 octets.
 #![tactic(auto)]
 
 mod fault;

@@ -12,6 +12,10 @@
 //!
 //! The events and their effects stand in `specs/Rows.antt` and `specs/Events.antt`, one equation for each row, and in
 //! our words in `docs/MACHINE.md`. No call but `Teis::start` takes memory.
+//!
+//! # Only tested
+//!
+//! Starts; worked rows through the code (`test_parts`).
 #![tactic(auto)]
 
 mod check;

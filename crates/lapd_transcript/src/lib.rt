@@ -8,6 +8,15 @@
 //! - `notes`: what an event brought.
 //! - `shown`: what a frame says, octets of a line, and the bound of a card.
 //! - `names`: the names that stand in them.
+//!
+//! # Only tested
+//!
+//! That `ReadFrom` and `WriteTo` fail only where their reader or writer did, try interrupted calls again, and
+//! flush.
+//!
+//! # Open
+//!
+//! What `Debug` shows.
 #![tactic(auto)]
 
 mod lines;

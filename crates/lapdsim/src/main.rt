@@ -1,6 +1,12 @@
 //! `lapdsim run` plays the script on its standard input, and writes the transcript to its standard output.
 //! `lapdsim frame` shows one frame, and `lapdsim limits` how many octets a card stores at most; `docs/FORMAT.md` has
 //! the words and what they answer. `lapdsim --help` and `lapdsim --version` say what the program is.
+//!
+//! # Only tested
+//!
+//! A stored run, and the program on real streams (`tests/program`): scripts for every word, every kind of fault
+//! but `time over`, and every row of the tables that a script can show; devices that fail (`tests/devices`);
+//! hostile streams (`tests/hostile`).
 #![tactic(auto)]
 
 ghost use Rattle.std.specs.Prelude.{◌≡◌};

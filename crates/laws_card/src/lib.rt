@@ -4,11 +4,11 @@
 //! The machine itself, and the laws that say what a card never does, stand in `model_card`; the laws of a line in
 //! `laws_line`, and those of a link in `laws_link`. `specs/` has the contents of the links from moment to moment
 //! (`Contents`), what holds in a moment (`Faithful`, `Heard`), what is promised of a list of events (`Promises`), which
-//! timers a caller runs (`Timers`), what a line comes to by its pulls (`Among`, `PromisesOfPulls`), what notes tell (`Knowledge`), which frames pulls begin (`Begun`), which octets come to
-//! a line (`Received`), why messages of TEI management come to wait (`Messages`), the laws, which say of which cards and
-//! lists (`Laws`), and worked values (`Worked`, `WorkedTimers`, `WorkedNotes`, `WorkedBegun`, `WorkedPlaces`,
-//! `WorkedReceived`, `WorkedReasons`). Each law is the contract of a call that does nothing. `laws_promises` has all
-//! promises of a list of events in one record.
+//! timers a caller runs (`Timers`), what a line comes to by its pulls (`Among`, `PromisesOfPulls`), what notes tell
+//! (`Knowledge`), which frames pulls begin (`Begun`), which octets come to a line (`Received`), why messages of TEI
+//! management come to wait (`Messages`), the laws, which say of which cards and lists (`Laws`), and worked values
+//! (`Worked`, `WorkedTimers`, `WorkedNotes`, `WorkedBegun`, `WorkedPlaces`, `WorkedReceived`, `WorkedReasons`). Each
+//! law is the contract of a call that does nothing. `laws_promises` has all promises of a list of events in one record.
 //!
 //! - `laws`, `timers`, `notes`, `management`, `progress`: the laws.
 #![tactic(auto)]

@@ -1,19 +1,24 @@
-//! Laws of the machine of a line that say what it does: what becomes of what layer 3 gave, what pulls begin, what comes of
-//! what was heard, and what a line comes to by its pulls.
+//! Laws of the machine of a line that say what it does: what becomes of what layer 3 gave, what pulls begin, what comes
+//! of what was heard, and what a line comes to by its pulls.
 //!
-//! The machine itself, and the laws that say what a line never does, stand in `model_line`; the laws of a single
-//! link in `laws_link`. `specs/` has the words of these laws: what an event is to the contents of one link
-//! (`Share`), how layer 3 learns that a link keeps nothing (`Loss`), what a pull begins (`Pulls`), what an octet brings
-//! (`Heard`), what a frame makes of its link (`Frames`), which timers are needed, run and started (`Timers`),
-//! what comes of a request that is granted (`Requests`), what an event may change of a link (`Steady`), what notes tell
-//! (`Knowledge`), which frames pulls begin (`Begun`), what TEI management does, row by row (`Messages`), and which event is
-//! the cause (`Causes`) and the reason of a note (`Reasons`), all that an answer notes (`Noted`), the laws (`Laws`), and
-//! worked values (`Worked`, `WorkedPulls`, `WorkedHeard`, `WorkedLinks`, `WorkedMessages`, `WorkedNoted`). `Drains` and `Among` say
-//! what a line comes to with pulls, or with other events between them; their bounds are numbers of pulls, which are octets
-//! of the line, and speak of no time (`docs/PROGRESS.md` has numbers for usual configurations). Each law is the contract of
-//! a call that does nothing.
+//! The machine itself, and the laws that say what a line never does, stand in `model_line`; the laws of a single link
+//! in `laws_link`. `specs/` has the words of these laws: what an event is to the contents of one link (`Share`), how
+//! layer 3 learns that a link keeps nothing (`Loss`), what a pull begins (`Pulls`), what an octet brings (`Heard`),
+//! what a frame makes of its link (`Frames`), which timers are needed, run and started (`Timers`), what comes of a
+//! request that is granted (`Requests`), what an event may change of a link (`Steady`), what notes tell (`Knowledge`),
+//! which frames pulls begin (`Begun`), what TEI management does, row by row (`Messages`), and which event is the cause
+//! (`Causes`) and the reason of a note (`Reasons`), all that an answer notes (`Noted`), the laws (`Laws`), and worked
+//! values (`Worked`, `WorkedPulls`, `WorkedHeard`, `WorkedLinks`, `WorkedMessages`, `WorkedNoted`). `Drains` and
+//! `Among` say what a line comes to with pulls, or with other events between them; their bounds are numbers of pulls,
+//! which are octets of the line, and speak of no time (`docs/PROGRESS.md` has numbers for usual configurations). Each
+//! law is the contract of a call that does nothing.
 //!
 //! - `laws`, `timers`, `notes`, `management`, `progress`: the laws.
+//!
+//! # Open
+//!
+//! When I-frames and unit data go, one by one; when nothing waits any more where other events of the line come
+//! between its pulls.
 #![tactic(auto)]
 
 mod laws;

@@ -1,18 +1,23 @@
 //! Laws of the machine of a data link that say what it does: what becomes of contents that layer 3 gave, what is sent,
 //! and what is delivered.
 //!
-//! The machine itself, and the laws that say what a link never does, stand in `model_link`. `specs/` has the words
-//! of these laws: what an event accepts, acknowledges and empties (`Accepted`), what was accepted since the numbers
-//! began (`History`), what an offer gives (`Offered`) and which timers it starts (`Starting`), what a frame that is heard brings (`Heard`), what two links that
-//! face each other have accepted (`Ends`), when an I-frame goes and from where it goes again (`Sending`), what follows a
-//! delivery (`Owing`), what is told where the numbers begin anew (`Beginning`), to which state an event leads (`States`),
-//! which frames it puts behind those that wait (`Waiting`), what it leaves of the flags (`Flags`), what it tells
-//! (`Telling`), all of these together (`Following`), and worked values (`Worked`, `WorkedSending`, `WorkedEnds`,
-//! `WorkedBeginning`, `WorkedFollowing`, `WorkedExpiries`). Each law is the contract of a call that does nothing.
+//! The machine itself, and the laws that say what a link never does, stand in `model_link`. `specs/` has the words of
+//! these laws: what an event accepts, acknowledges and empties (`Accepted`), what was accepted since the numbers began
+//! (`History`), what an offer gives (`Offered`) and which timers it starts (`Starting`), what a frame that is heard
+//! brings (`Heard`), what two links that face each other have accepted (`Ends`), when an I-frame goes and from where it
+//! goes again (`Sending`), what follows a delivery (`Owing`), what is told where the numbers begin anew (`Beginning`),
+//! to which state an event leads (`States`), which frames it puts behind those that wait (`Waiting`), what it leaves of
+//! the flags (`Flags`), what it tells (`Telling`), all of these together (`Following`), and worked values (`Worked`,
+//! `WorkedSending`, `WorkedEnds`, `WorkedBeginning`, `WorkedFollowing`, `WorkedExpiries`). Each law is the contract of
+//! a call that does nothing.
 //!
 //! - `laws`: what becomes of contents;
 //! - `sending`: when an I-frame goes, from where it is sent again, and what follows a delivery;
 //! - `following`: what an event leaves of a link, its state, its flags and what waits, and what it tells.
+//!
+//! # Open
+//!
+//! `ends_hold_what_was_accepted` speaks of two links that face each other; no law says it of a line or a card.
 #![tactic(auto)]
 
 mod following;

@@ -2,18 +2,22 @@
 //! each other. There is nothing to call: each law is the contract of a function that does nothing.
 //!
 //! `specs/` has the statements: what waits and what goes (`Waits`), polls and their answers (`Polls`), I-frames out of
-//! sequence (`Gaps`), a busy terminal (`Heeds`), the timer that a link needs (`Needed`), two ends in rounds (`Rounds`) and
-//! in turns of any order (`AnyOrder`), two ends whose frames were lost (`CutOff`), an end that is busy itself (`OwnBusy`) and
-//! is no more (`BusyOver`),
-//! what keeps two links up (`Ahead`, `Timely`); and worked values that compute (`WorkedPolls`, `WorkedGaps`,
-//! `WorkedRounds`, `WorkedAnyOrder`, `WorkedOwnBusy`, `WorkedTimely`, and `WorkedUntimely`, a run in which T200 is too
-//! short). `docs/PROGRESS.md` says it in words.
+//! sequence (`Gaps`), a busy terminal (`Heeds`), the timer that a link needs (`Needed`), two ends in rounds (`Rounds`)
+//! and in turns of any order (`AnyOrder`), two ends whose frames were lost (`CutOff`), an end that is busy itself
+//! (`OwnBusy`) and is no more (`BusyOver`), what keeps two links up (`Ahead`, `Timely`); and worked values that compute
+//! (`WorkedPolls`, `WorkedGaps`, `WorkedRounds`, `WorkedAnyOrder`, `WorkedOwnBusy`, `WorkedTimely`, and
+//! `WorkedUntimely`, a run in which T200 is too short). `docs/PROGRESS.md` says it in words.
 //!
 //! - `laws`: what waits, polls, and two links that face each other;
 //! - `gaps`: what a link does where I-frames are missing;
 //! - `any_order`: two links whose turns come in any order;
 //! - `own_busy`: two links of which one is busy itself;
 //! - `timers`: which timer a link runs.
+//!
+//! # Open
+//!
+//! How long a round takes, and so whether a given T200 is timely; that frames get through; that own busy ends; two
+//! links over a line or a card.
 #![tactic(auto)]
 
 mod any_order;

@@ -3,7 +3,7 @@
 //!
 //! A line joins what is heard in its octets, TEI management, a link of each service for each TEI, unit data that
 //! waits, and the bits that go out. `specs/` has the machine and worked values of it. It reads from the line and its
-//! events (`Line`, `Answer`, `Request`) by what an event is to the parts (`Effect`; `Octet`, `Expiry`, `Requested`),
+//! events (`Line`, `Event`, `Request`) by what an event is to the parts (`Effect`; `Octet`, `Expiry`, `Requested`),
 //! why a request is refused (`Refusal`) and what a pull takes (`Pull`) to the whole (`Machine`). `Stored`, `Counts` and
 //! `Deliveries` say what is counted of a line.
 //!

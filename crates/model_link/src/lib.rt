@@ -17,6 +17,10 @@
 //! - `terms`: `Terms`, the parameters of a link.
 //!
 //! - `laws`: what holds of the machine itself.
+//!
+//! # Open
+//!
+//! What two links agree on across a new establishment.
 #![tactic(auto)]
 
 mod frames;

@@ -2,6 +2,10 @@
 //! were and how many octets the workers held at most. Its time is taken outside, by `tests/bench`.
 //!
 //! `WORK` is the name of one of the works (`Work::name`), or `all`, which does each of them in turn.
+//!
+//! # Only tested
+//!
+//! A small run; its counts and sums, against those that another program worked out.
 #![tactic(auto)]
 
 mod busy;

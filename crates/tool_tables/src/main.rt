@@ -7,6 +7,10 @@
 //! - `teis`: the same of TEI management.
 //! - `words`: the words in which they are told.
 //! - `fault`: why the page was not printed.
+//!
+//! # Only tested
+//!
+//! That docs/TABLES.md is what it prints.
 #![tactic(auto)]
 
 mod cases;

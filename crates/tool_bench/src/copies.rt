@@ -49,13 +49,19 @@ fn copy_all(contents: &[u8; 260], window: &Window) -> u64 {
     sum
 }
 
-fn spread(alloc: Global, lengths: Lengths, rounds: u32) -> Result<Done, Fault> {
-    let contents = information();
-    let windows = lengths.windows(alloc)?;
+/// As much room as the slots of the shelves have.
+fn blocks(alloc: Global) -> Result<Vec<Vec<u8>>, Fault> {
     let mut blocks = Vec::with_capacity(alloc, SHELVES)?;
     for _ in 0..SHELVES {
         blocks.push(Vec::from_elem(alloc, 0u8, SLOTS * usize::from(WIDTH))?)?;
     }
+    Ok(blocks)
+}
+
+fn spread(alloc: Global, lengths: Lengths, rounds: u32) -> Result<Done, Fault> {
+    let contents = information();
+    let windows = lengths.windows(alloc)?;
+    let mut blocks = blocks(alloc)?;
     let mut done = Done::new();
     for window in windows.iter().cycle().take(rounds as usize) {
         spread_all(&mut blocks, &contents, window);

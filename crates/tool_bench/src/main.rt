@@ -38,20 +38,25 @@ fn report(
     Ok(())
 }
 
+/// Does the works of this word.
+fn report_all(rt: &impl Print, alloc: Global, name: &str, rounds: u32) -> Result<(), Fault> {
+    let mut is_known = false;
+    for (word, work) in works() {
+        if name == "all" || name == *word {
+            is_known = true;
+            report(rt, alloc, word, *work, rounds)?;
+        }
+    }
+    if is_known { Ok(()) } else { Err(Fault::Words) }
+}
+
 fn main(rt: HostRuntime) -> Result<(), Fault> {
     let words = env::args(&rt)?.skip(1).collect::<Vec<String>>(rt.alloc())?;
     let [name, rounds] = words.as_slice() else {
         return Err(Fault::Words);
     };
-    let Ok(rounds) = rounds.parse::<u32>() else {
-        return Err(Fault::Words);
-    };
-    let mut is_known = false;
-    for (word, work) in works() {
-        if name.as_str() == "all" || name.as_str() == *word {
-            is_known = true;
-            report(&rt, rt.alloc(), word, *work, rounds)?;
-        }
+    match rounds.parse::<u32>() {
+        Ok(rounds) => report_all(&rt, rt.alloc(), name.as_str(), rounds),
+        Err(_) => Err(Fault::Words),
     }
-    if is_known { Ok(()) } else { Err(Fault::Words) }
 }

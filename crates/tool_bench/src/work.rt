@@ -261,11 +261,11 @@ impl Work {
     pub fn run(self, alloc: Global, rounds: u32) -> Result<Done, Fault> {
         match self {
             Work::Check => check(alloc, rounds),
-            Work::HearShort => hear(alloc, &framed(alloc, SHORT)?, rounds),
-            Work::HearLong => hear(alloc, &framed(alloc, LONG)?, rounds),
-            Work::HearShuffled => hear(alloc, &in_no_order(alloc)?, rounds),
-            Work::HearFlags => hear(alloc, &repeated(alloc, 0x7E)?, rounds),
-            Work::HearOnes => hear(alloc, &repeated(alloc, 0xFF)?, rounds),
+            Work::HearShort => hear(alloc, framed(alloc, SHORT), rounds),
+            Work::HearLong => hear(alloc, framed(alloc, LONG), rounds),
+            Work::HearShuffled => hear(alloc, in_no_order(alloc), rounds),
+            Work::HearFlags => hear(alloc, repeated(alloc, 0x7E), rounds),
+            Work::HearOnes => hear(alloc, repeated(alloc, 0xFF), rounds),
             Work::SendShort => send(alloc, SHORT, rounds),
             Work::SendLong => send(alloc, LONG, rounds),
             Work::Card(traffic, lines) => exchange(alloc, traffic, lines, rounds),
@@ -298,11 +298,12 @@ fn frames_checked(line: &[u8]) -> u64 {
 }
 
 /// Hears a line over and over.
-fn hear(alloc: Global, line: &[u8], rounds: u32) -> Result<Done, Fault> {
+fn hear(alloc: Global, line: Result<Vec<u8>, Fault>, rounds: u32) -> Result<Done, Fault> {
+    let line = line?;
     let mut deframer = Deframer::start(alloc, N201)?;
     let mut done = Done::new();
     for _ in 0..rounds {
-        let frames = frames_heard(&mut deframer, line);
+        let frames = frames_heard(&mut deframer, &line);
         done.count(line.len(), frames, deframer.held());
     }
     Ok(done)

@@ -125,17 +125,17 @@ fn answer_all(rt: &impl Abort, benches: &mut [Bench], rows: &[Row]) {
 /// `tests/memory` counts the allocations of the starts by this test, and refuses all others in the next.
 #[test]
 fn the_starts(rt: HostRuntime) -> Result<(), Fail> {
-    let of_lines = benches(rt.alloc(), line_rows())?;
-    let of_links = benches(rt.alloc(), link_rows())?;
+    let of_lines = benches(rt.alloc(), &line_rows())?;
+    let of_links = benches(rt.alloc(), &link_rows())?;
     assert!(rt; of_lines.len() == 11 && of_links.len() == 13);
     Ok(())
 }
 
 #[test]
 fn each_row(rt: HostRuntime) -> Result<(), Fail> {
-    let mut of_lines = benches(rt.alloc(), line_rows())?;
-    let mut of_links = benches(rt.alloc(), link_rows())?;
-    answer_all(&rt, &mut of_lines, line_rows());
-    answer_all(&rt, &mut of_links, link_rows());
+    let mut of_lines = benches(rt.alloc(), &line_rows())?;
+    let mut of_links = benches(rt.alloc(), &link_rows())?;
+    answer_all(&rt, &mut of_lines, &line_rows());
+    answer_all(&rt, &mut of_links, &link_rows());
     Ok(())
 }

@@ -9,8 +9,8 @@ use lapd_card::Request;
 use lapd_frame::{Note, Order, Timer};
 
 /// The rows.
-pub fn line_rows() -> &'static [Row] {
-    &LINE_ROWS
+pub fn line_rows() -> [Row; 11] {
+    LINE_ROWS
 }
 
 const LINE_ROWS: [Row; 11] = [

@@ -25,8 +25,8 @@ const NARROW: Config = Config {
 const ONE_SLOT: Config = Config { slots: 1, ..USUAL };
 
 /// The rows.
-pub fn link_rows() -> &'static [Row] {
-    &LINK_ROWS
+pub fn link_rows() -> [Row; 13] {
+    LINK_ROWS
 }
 
 const LINK_ROWS: [Row; 13] = [

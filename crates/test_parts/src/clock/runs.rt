@@ -54,20 +54,12 @@ fn play(rt: &impl Abort, clock: &mut Clock, steps: &[Step]) {
 }
 
 /// Plays the steps on a clock of these sizes.
-fn run(
-    rt: &impl Abort,
-    alloc: Global,
-    lines: usize,
-    terminals: usize,
-    steps: &[Step],
-) -> Result<(), Fail>
+fn run(rt: &impl Abort, alloc: Global, lines: usize, terminals: usize, steps: &[Step])
     requires lines { 1 ≤ lines × lines ≤ 64 }
     requires terminals { 1 ≤ terminals × terminals ≤ 8 }
 {
-    let mut clock = Clock::start(alloc, lines, terminals)?;
-    assert!(rt; clock.lines() == lines);
+    let mut clock = Clock::start(alloc, lines, terminals).expect(rt, "memory");
     play(rt, &mut clock, steps);
-    Ok(())
 }
 
 /// Twelve timers of three lines, started in no order; all fall due at 10,000 but the last two.
@@ -106,7 +98,9 @@ const IN_ORDER: [Step; 30] = [
 
 #[test]
 fn first_by_moment_then_line_then_timer(rt: HostRuntime) -> Result<(), Fail> {
-    run(&rt, rt.alloc(), 3, 3, &IN_ORDER)
+    let mut clock = Clock::start(rt.alloc(), 3, 3)?;
+    play(&rt, &mut clock, &IN_ORDER);
+    Ok(())
 }
 
 /// A timer that is started again has its new moment alone. Stopped, it is not due, and the other service's is.
@@ -125,11 +119,6 @@ const ONE_MOMENT: [Step; 13] = [
     Step::Due(u64::MAX, 0, Timer::T200(Service::Packet, 64)),
     Step::None(u64::MAX),
 ];
-
-#[test]
-fn a_timer_has_one_moment(rt: HostRuntime) -> Result<(), Fail> {
-    run(&rt, rt.alloc(), 2, 1, &ONE_MOMENT)
-}
 
 /// A timer that runs keeps its place, a stopped one frees it, and the other line has its own.
 const FULL_LINE: [Step; 18] = [
@@ -153,11 +142,6 @@ const FULL_LINE: [Step; 18] = [
     Step::Idle,
 ];
 
-#[test]
-fn a_full_line_takes_no_other_timer(rt: HostRuntime) -> Result<(), Fail> {
-    run(&rt, rt.alloc(), 2, 1, &FULL_LINE)
-}
-
 /// The greatest moment at which an order may come.
 const GREATEST: u64 = 1 << 63;
 
@@ -172,11 +156,6 @@ const GREATEST_MOMENTS: [Step; 8] = [
     Step::None(GREATEST + 9_999),
     Step::Due(GREATEST + 10_000, 63, Timer::T203(Service::Packet, 126)),
 ];
-
-#[test]
-fn moments_go_up_to_the_greatest(rt: HostRuntime) -> Result<(), Fail> {
-    run(&rt, rt.alloc(), 64, 8, &GREATEST_MOMENTS)
-}
 
 /// A link that hears nothing: T203 expires, then T200 for each enquiry, three of them repeats, and for the SABME.
 const SILENT_LINK: [Step; 18] = [
@@ -200,16 +179,17 @@ const SILENT_LINK: [Step; 18] = [
     Step::Next(15_000),
 ];
 
-#[test]
-fn a_silent_link(rt: HostRuntime) -> Result<(), Fail> {
-    run(&rt, rt.alloc(), 1, 8, &SILENT_LINK)
-}
+/// The first timer of a clock.
+const FIRST: [Step; 1] = [Step::Start(0, Timer::T201, 0)];
 
 #[test]
-fn starts_at_the_ends_of_the_ranges(rt: HostRuntime) -> Result<(), Fail> {
-    let first = [Step::Start(0, Timer::T201, 0)];
-    run(&rt, rt.alloc(), 1, 1, &first)?;
-    run(&rt, rt.alloc(), 64, 1, &first)
+fn runs_of_other_clocks(rt: HostRuntime) {
+    run(&rt, rt.alloc(), 2, 1, &ONE_MOMENT);
+    run(&rt, rt.alloc(), 2, 1, &FULL_LINE);
+    run(&rt, rt.alloc(), 64, 8, &GREATEST_MOMENTS);
+    run(&rt, rt.alloc(), 1, 8, &SILENT_LINK);
+    run(&rt, rt.alloc(), 1, 1, &FIRST);
+    run(&rt, rt.alloc(), 64, 1, &FIRST);
 }
 
 /// Two timers are started; one is stopped, and one falls due.

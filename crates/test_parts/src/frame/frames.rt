@@ -45,30 +45,42 @@ fn i_frames(rt: HostRuntime) {
     );
 }
 
-// Unnumbered frames, with information and without.
-#[test]
-fn unnumbered_frames(rt: HostRuntime) {
-    expect_command(&rt, &[0x00, 0x81, 0x7F], Control::Sabme { pf: true }, &[]);
-    expect_command(&rt, &[0x00, 0x81, 0x6F], Control::Sabme { pf: false }, &[]);
-    expect_command(&rt, &[0x00, 0x81, 0x53], Control::Disc { pf: true }, &[]);
-    expect_command(
-        &rt,
+/// Unnumbered commands and responses, with information and without.
+const COMMANDS: [(&[u8], Control, &[u8]); 5] = [
+    (&[0x00, 0x81, 0x7F], Control::Sabme { pf: true }, &[]),
+    (&[0x00, 0x81, 0x6F], Control::Sabme { pf: false }, &[]),
+    (&[0x00, 0x81, 0x53], Control::Disc { pf: true }, &[]),
+    (
         &[0x00, 0x81, 0x03, 0xCB],
         Control::Ui { pf: false },
         &[0xCB],
-    );
-    expect_command(&rt, &[0x00, 0x81, 0xBF], Control::Xid { pf: true }, &[]);
-    expect_response(&rt, &[0x02, 0x81, 0x73], Control::Ua { pf: true }, &[]);
-    expect_response(&rt, &[0x02, 0x81, 0x0F], Control::Dm { pf: false }, &[]);
-    let reason = [0x11, 0x22, 0x33, 0x44, 0x55];
-    let rejection = [0x02, 0x81, 0x97, 0x11, 0x22, 0x33, 0x44, 0x55];
-    expect_response(&rt, &rejection, Control::Frmr { pf: true }, &reason);
-    expect_response(
-        &rt,
+    ),
+    (&[0x00, 0x81, 0xBF], Control::Xid { pf: true }, &[]),
+];
+
+const RESPONSES: [(&[u8], Control, &[u8]); 4] = [
+    (&[0x02, 0x81, 0x73], Control::Ua { pf: true }, &[]),
+    (&[0x02, 0x81, 0x0F], Control::Dm { pf: false }, &[]),
+    (
+        &[0x02, 0x81, 0x97, 0x11, 0x22, 0x33, 0x44, 0x55],
+        Control::Frmr { pf: true },
+        &[0x11, 0x22, 0x33, 0x44, 0x55],
+    ),
+    (
         &[0x02, 0x81, 0xAF, 0x82],
         Control::Xid { pf: false },
         &[0x82],
-    );
+    ),
+];
+
+#[test]
+fn unnumbered_frames(rt: HostRuntime) {
+    for (octets, control, info) in COMMANDS.iter() {
+        expect_command(&rt, octets, *control, info);
+    }
+    for (octets, control, info) in RESPONSES.iter() {
+        expect_response(&rt, octets, *control, info);
+    }
 }
 
 #[test]
@@ -110,55 +122,46 @@ fn addresses_of_both_sides(rt: HostRuntime) {
     );
 }
 
-#[test]
-fn faults_in_their_order(rt: HostRuntime) {
-    expect_fault(&rt, &[], ReadFault::Short);
-    expect_fault(&rt, &[0x00, 0x81], ReadFault::Short);
-    expect_fault(&rt, &[0x00, 0x81, 0x01], ReadFault::Short);
-    expect_fault(&rt, &[0x00, 0x81, 0x02], ReadFault::Short);
+/// Octets of a terminal that are no frame, and why.
+const FAULTS: [(&[u8], ReadFault); 16] = [
+    (&[], ReadFault::Short),
+    (&[0x00, 0x81], ReadFault::Short),
+    (&[0x00, 0x81, 0x01], ReadFault::Short),
+    (&[0x00, 0x81, 0x02], ReadFault::Short),
     // Too few octets come before a wrong extension bit, and that before all others.
-    expect_fault(&rt, &[0x01, 0x80, 0x02], ReadFault::Short);
-    expect_fault(&rt, &[0x01, 0x81, 0x7F], ReadFault::BadExtension);
-    expect_fault(&rt, &[0x00, 0x80, 0x7F], ReadFault::BadExtension);
-    expect_fault(&rt, &[0x01, 0x81, 0x11, 0x00], ReadFault::BadExtension);
+    (&[0x01, 0x80, 0x02], ReadFault::Short),
+    (&[0x01, 0x81, 0x7F], ReadFault::BadExtension),
+    (&[0x00, 0x80, 0x7F], ReadFault::BadExtension),
+    (&[0x01, 0x81, 0x11, 0x00], ReadFault::BadExtension),
     // A SABME as a response, a UA as a command, a reserved bit.
-    expect_fault(&rt, &[0x02, 0x81, 0x7F], ReadFault::Undefined(ANSWER));
-    expect_fault(&rt, &[0x00, 0x81, 0x73], ReadFault::Undefined(TERMINAL));
-    expect_fault(
-        &rt,
-        &[0x00, 0x81, 0x11, 0x00],
-        ReadFault::Undefined(TERMINAL),
-    );
-}
-
-#[test]
-fn frames_of_wrong_size(rt: HostRuntime) {
+    (&[0x02, 0x81, 0x7F], ReadFault::Undefined(ANSWER)),
+    (&[0x00, 0x81, 0x73], ReadFault::Undefined(TERMINAL)),
+    (&[0x00, 0x81, 0x11, 0x00], ReadFault::Undefined(TERMINAL)),
     // An undefined frame is not of wrong size, whatever its length.
-    expect_fault(
-        &rt,
+    (
         &[0x02, 0x81, 0x7F, 0x00, 0x00],
         ReadFault::Undefined(ANSWER),
-    );
-    expect_fault(
-        &rt,
+    ),
+    (
         &[0x00, 0x81, 0x01, 0x02, 0x00],
         ReadFault::WrongSize(TERMINAL),
-    );
-    expect_fault(
-        &rt,
-        &[0x00, 0x81, 0x7F, 0x00],
-        ReadFault::WrongSize(TERMINAL),
-    );
-    expect_fault(
-        &rt,
+    ),
+    (&[0x00, 0x81, 0x7F, 0x00], ReadFault::WrongSize(TERMINAL)),
+    (
         &[0x02, 0x81, 0x87, 0, 0, 0, 0],
         ReadFault::WrongSize(ANSWER),
-    );
-    expect_fault(
-        &rt,
+    ),
+    (
         &[0x02, 0x81, 0x87, 0, 0, 0, 0, 0, 0],
         ReadFault::WrongSize(ANSWER),
-    );
+    ),
+];
+
+#[test]
+fn faults_in_their_order(rt: HostRuntime) {
+    for (octets, fault) in FAULTS.iter() {
+        assert!(rt; read(Side::User, octets) == Err(*fault));
+    }
 }
 
 #[test]
@@ -266,7 +269,7 @@ fn expect(
             assert!(rt; frame.info == info);
             expect_written(rt, side, &frame, octets);
         }
-        Err(fault) => panic!(rt; "{fault:?}"),
+        Err(_) => panic!(rt; "not read"),
     }
 }
 
@@ -276,15 +279,7 @@ fn expect_written(rt: &impl Abort, side: Side, frame: &Frame<'_>, octets: &[u8])
     let mut out = [0xEE; 12];
     assert!(rt; octets.len() <= 12);
     let len = write(side, frame, &mut out);
-    assert!(rt; out.get(..len) == Some(octets));
-    assert!(rt; out[len..].iter().all(|octet| *octet == 0xEE));
-}
-
-fn expect_fault(rt: &impl Abort, octets: &[u8], fault: ReadFault) {
-    match read(Side::User, octets) {
-        Ok(_) => panic!(rt; "read"),
-        Err(found) => assert!(rt; found == fault),
-    }
+    assert!(rt; &out[..len] == octets);
 }
 
 fn expect_long(rt: &impl Abort, octets: &[u8; 4], wanted: Result<Long, ReadFault>) {

@@ -4,8 +4,10 @@ ghost use Rattle.std.specs.Prelude.{◌≡◌, ◌≤◌, IfOk};
 ghost use Rattle.lapd_card.specs.Card.{line_count};
 
 use lapd_card::{Card, CardFault, Config, Field, limit};
+use lapd_line::StartFault;
 use lapd_store::{Shelf, SlabShelf};
 use std::alloc::Global;
+use std::fmt::Display;
 use std::process::Abort;
 use std::test::Fail;
 
@@ -120,7 +122,7 @@ const WORDS: [(CardFault, &str); 4] = [
     (CardFault::OutOfMemory, "out of memory"),
 ];
 
-fn says(rt: &impl Abort, alloc: Global, fault: CardFault, words: &str) {
+fn says(rt: &impl Abort, alloc: Global, fault: &impl Display, words: &str) {
     let shown = fault.to_string(alloc).expect(rt, "memory");
     assert!(rt; shown.as_str() == words);
 }
@@ -128,8 +130,9 @@ fn says(rt: &impl Abort, alloc: Global, fault: CardFault, words: &str) {
 #[test]
 fn faults_in_words(rt: HostRuntime) {
     for (fault, words) in WORDS.iter() {
-        says(&rt, rt.alloc(), *fault, words);
+        says(&rt, rt.alloc(), fault, words);
     }
+    says(&rt, rt.alloc(), &StartFault::OutOfMemory, "out of memory");
 }
 
 const LEAST: Config = Config {

@@ -29,6 +29,30 @@ fn one_slot_holds_one_message(rt: HostRuntime) -> Result<(), Fail> {
     Ok(())
 }
 
+// Octets of which no two that lie near each other are the same.
+fn rising() -> [u8; 260] {
+    let mut octets = [0u8; 260];
+    for at in 0..260 {
+        octets[at] = (at * 7 % 251) as u8;
+    }
+    octets
+}
+
+fn holds_every_length<S: Shelf>(rt: &impl Abort, shelf: &mut S, octets: &[u8; 260]) {
+    for len in 0..261 {
+        holds_one(rt, shelf, &octets[..len]);
+    }
+}
+
+#[test]
+fn contents_of_every_length_come_back(rt: HostRuntime) -> Result<(), Fail> {
+    let mut slab = SlabShelf::start(rt.alloc(), 1, 260)?;
+    holds_every_length(&rt, &mut slab, &rising());
+    let mut raw = RawShelf::start(rt.alloc(), 1, 260)?;
+    holds_every_length(&rt, &mut raw, &rising());
+    Ok(())
+}
+
 // A shelf takes one content for each of its slots, and no more.
 fn takes<S: Shelf>(mut shelf: S, slots: u32, width: u16) -> bool {
     let is_told = shelf.slots() == slots && shelf.width() == width && shelf.used() == 0;

@@ -12,8 +12,6 @@
 
 mod circle;
 mod numbers;
-#[cfg(test)]
-mod tests;
 mod windows;
 
 pub use circle::{distance, valid};

@@ -7,7 +7,7 @@ use lapd_frame::{Refusal, Service};
 use std::test::Fail;
 
 /// What a reply says, in short.
-#[derive(Clone, Copy, PartialEq, Eq, Debug)]
+#[derive(Clone, Copy, PartialEq)]
 enum Kind {
     /// A report with neither a note nor a cause.
     Silent,

@@ -7,6 +7,8 @@ use lapd_card::{Card, CardFault, Config, Field, limit};
 use lapd_line::StartFault;
 use lapd_store::{Shelf, SlabShelf};
 use std::alloc::Global;
+use std::fmt::Display;
+use std::process::Abort;
 use std::test::Fail;
 
 pub const USUAL: Config = Config {
@@ -97,23 +99,6 @@ fn each_field_has_its_range(rt: HostRuntime) -> Result<(), Fail> {
 }
 
 #[test]
-fn the_first_of_two_fields_is_told(rt: HostRuntime) -> Result<(), Fail> {
-    let both = Config {
-        n200: 11,
-        ..with(Field::N201, 261)
-    };
-    assert!(rt; is_told(rt.alloc(), with(Field::K, 9), Field::Queue)?);
-    assert!(rt; is_told(rt.alloc(), with(Field::K16, 9), Field::Queue)?);
-    assert!(rt; is_told(rt.alloc(), both, Field::N201)?);
-    let wide = Config {
-        queue: 127,
-        ..with(Field::K, 128)
-    };
-    assert!(rt; is_told(rt.alloc(), wide, Field::K)?);
-    Ok(())
-}
-
-#[test]
 fn a_shelf_that_is_too_small(rt: HostRuntime) -> Result<(), Fail> {
     assert!(rt; fault(rt.alloc(), USUAL, 64, 260)?.is_none());
     for (slots, width) in [(63, 260), (64, 259), (0, 8)] {
@@ -123,13 +108,6 @@ fn a_shelf_that_is_too_small(rt: HostRuntime) -> Result<(), Fail> {
     let mut shelf = SlabShelf::start(rt.alloc(), 64, 260)?;
     assert!(rt; shelf.put(&[]).is_some());
     assert!(rt; Card::start(rt.alloc(), USUAL, shelf).err() == Some(CardFault::ShelfTooSmall));
-    Ok(())
-}
-
-#[test]
-fn a_field_is_told_before_the_shelf(rt: HostRuntime) -> Result<(), Fail> {
-    let found = fault(rt.alloc(), with(Field::N201, 261), 1, 8)?;
-    assert!(rt; found == Some(CardFault::BadConfig(Field::N201)));
     Ok(())
 }
 
@@ -144,15 +122,17 @@ const WORDS: [(CardFault, &str); 4] = [
     (CardFault::OutOfMemory, "out of memory"),
 ];
 
+fn says(rt: &impl Abort, alloc: Global, fault: &impl Display, words: &str) {
+    let shown = fault.to_string(alloc).expect(rt, "memory");
+    assert!(rt; shown.as_str() == words);
+}
+
 #[test]
-fn faults_in_words(rt: HostRuntime) -> Result<(), Fail> {
+fn faults_in_words(rt: HostRuntime) {
     for (fault, words) in WORDS.iter() {
-        let shown = format!(in rt.alloc(); "{fault}")?;
-        assert!(rt; shown.as_str() == *words, "{words}");
+        says(&rt, rt.alloc(), fault, words);
     }
-    let of_a_line = format!(in rt.alloc(); "{}", StartFault::OutOfMemory)?;
-    assert!(rt; of_a_line.as_str() == "out of memory");
-    Ok(())
+    says(&rt, rt.alloc(), &StartFault::OutOfMemory, "out of memory");
 }
 
 const LEAST: Config = Config {

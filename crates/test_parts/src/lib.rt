@@ -2,7 +2,8 @@
 //! of their own, so that what they test isn't proved again for them.
 //!
 //! - `frame`: the grammar of frames. `clock`: when timers fall due. `store`: shelves, and queues of slots over them.
-//! - `tei`: TEI management.
+//! - `tei`: TEI management. `seq`: sequence numbers, and the window of what was sent.
+//! - `texts`: what the faults of these crates say.
 #![tactic(auto)]
 
 #[cfg(test)]
@@ -10,6 +11,10 @@ mod clock;
 #[cfg(test)]
 mod frame;
 #[cfg(test)]
+mod seq;
+#[cfg(test)]
 mod store;
 #[cfg(test)]
 mod tei;
+#[cfg(test)]
+mod texts;

@@ -8,7 +8,7 @@ use crate::shelves::{SHELVES, SLOTS, WIDTH};
 use std::alloc::Global;
 
 /// Where contents are copied to.
-#[derive(Clone, Copy, PartialEq, Eq, Debug)]
+#[derive(Clone, Copy)]
 pub enum Copying {
     /// Into one array, over and over.
     Here(Lengths),
@@ -17,26 +17,6 @@ pub enum Copying {
 }
 
 impl Copying {
-    /// Its word on the command line.
-    pub fn name(self) -> &'static str {
-        match self {
-            Copying::Here(lengths) => lengths.pick(
-                ["copy-8", "copy-20", "copy-64", "copy-128", "copy-260"],
-                "copy-mixed",
-            ),
-            Copying::Apart(lengths) => lengths.pick(
-                [
-                    "spread-8",
-                    "spread-20",
-                    "spread-64",
-                    "spread-128",
-                    "spread-260",
-                ],
-                "spread-mixed",
-            ),
-        }
-    }
-
     /// Does so many rounds of it.
     pub fn run(self, alloc: Global, rounds: u32) -> Result<Done, Fault> {
         match self {
@@ -69,13 +49,19 @@ fn copy_all(contents: &[u8; 260], window: &Window) -> u64 {
     sum
 }
 
-fn spread(alloc: Global, lengths: Lengths, rounds: u32) -> Result<Done, Fault> {
-    let contents = information();
-    let windows = lengths.windows(alloc)?;
+/// As much room as the slots of the shelves have.
+fn blocks(alloc: Global) -> Result<Vec<Vec<u8>>, Fault> {
     let mut blocks = Vec::with_capacity(alloc, SHELVES)?;
     for _ in 0..SHELVES {
         blocks.push(Vec::from_elem(alloc, 0u8, SLOTS * usize::from(WIDTH))?)?;
     }
+    Ok(blocks)
+}
+
+fn spread(alloc: Global, lengths: Lengths, rounds: u32) -> Result<Done, Fault> {
+    let contents = information();
+    let windows = lengths.windows(alloc)?;
+    let mut blocks = blocks(alloc)?;
     let mut done = Done::new();
     for window in windows.iter().cycle().take(rounds as usize) {
         spread_all(&mut blocks, &contents, window);

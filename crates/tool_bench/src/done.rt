@@ -1,7 +1,7 @@
 //! What a work has done.
 
 /// How much there was of it.
-#[derive(Clone, Copy, Debug)]
+#[derive(Clone, Copy)]
 pub struct Done {
     /// The octets that were gone over.
     pub octets: u64,

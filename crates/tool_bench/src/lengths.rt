@@ -12,7 +12,7 @@ pub const CONTENTS: usize = 128;
 const WINDOWS: usize = 64;
 
 /// The lengths of contents, one after the other.
-#[derive(Clone, Copy, PartialEq, Eq, Debug)]
+#[derive(Clone, Copy)]
 pub enum Lengths {
     /// All of one length.
     Equal(Size),
@@ -21,7 +21,7 @@ pub enum Lengths {
 }
 
 /// The lengths of a round.
-#[derive(Clone, Copy, Drop, Debug)]
+#[derive(Clone, Copy, Drop)]
 pub struct Window {
     /// One for each of its contents, at most 260.
     pub lengths: [u16; 128],
@@ -30,14 +30,6 @@ pub struct Window {
 }
 
 impl Lengths {
-    /// Its word of six.
-    pub fn pick(self, words: [&'static str; 5], mixed: &'static str) -> &'static str {
-        match self {
-            Lengths::Equal(size) => size.pick(words),
-            Lengths::Mixed => mixed,
-        }
-    }
-
     /// The lengths of the rounds, which come again from the first on.
     pub fn windows(self, alloc: Global) -> Result<Vec<Window>, Fault> {
         let mut shuffled = Shuffled::new();

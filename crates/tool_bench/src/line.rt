@@ -4,13 +4,13 @@ ghost use Rattle.std.specs.Prelude.{◌≤◌};
 
 use crate::fault::Fault;
 use crate::sender::Sender;
-use std::alloc::{AllocError, Global};
+use std::alloc::Global;
 
 /// How many octets a round has.
 pub const ROUND: usize = 65_000;
 
 /// Octets in no order, the same in each run: the high octets of a linear congruence.
-#[derive(Clone, Copy, Debug)]
+#[derive(Clone, Copy)]
 pub struct Shuffled {
     state: u32,
 }
@@ -32,12 +32,12 @@ impl Shuffled {
 }
 
 /// A round of one octet over and over.
-pub fn repeated(alloc: Global, octet: u8) -> Result<Vec<u8>, AllocError> {
-    vec![in alloc; octet; ROUND]
+pub fn repeated(alloc: Global, octet: u8) -> Result<Vec<u8>, Fault> {
+    Ok(vec![in alloc; octet; ROUND]?)
 }
 
 /// A round of octets in no order.
-pub fn in_no_order(alloc: Global) -> Result<Vec<u8>, AllocError> {
+pub fn in_no_order(alloc: Global) -> Result<Vec<u8>, Fault> {
     let mut shuffled = Shuffled::new();
     let mut line = Vec::with_capacity(alloc, ROUND)?;
     for _ in 0..ROUND {

@@ -28,7 +28,7 @@ const PULLED: usize = 80;
 const INFORMATION: [u8; 64] = [0x5A; 64];
 
 /// What the terminals do.
-#[derive(Clone, Copy, PartialEq, Eq, Debug)]
+#[derive(Clone, Copy)]
 pub enum Traffic {
     /// Flags alone.
     Idle,
@@ -68,7 +68,7 @@ pub fn exchange(alloc: Global, traffic: Traffic, lines: u16, rounds: u32) -> Res
     let mut done = Done::new();
     for _ in 0..rounds {
         for text in &texts {
-            if traffic == Traffic::Outward {
+            if let Traffic::Outward = traffic {
                 ask(&mut card, &INFORMATION);
                 pull_all(&mut card, &mut done);
             }
@@ -80,29 +80,9 @@ pub fn exchange(alloc: Global, traffic: Traffic, lines: u16, rounds: u32) -> Res
 }
 
 impl Traffic {
-    /// Its word on the command line, on one line or on 64.
-    pub fn name(self, is_one: bool) -> &'static str {
-        match self {
-            Traffic::Idle if is_one => "idle-1",
-            Traffic::Idle => "idle-64",
-            Traffic::Turns if is_one => "turns-1",
-            Traffic::Turns => "turns-64",
-            Traffic::Inward if is_one => "frames-in-1",
-            Traffic::Inward => "frames-in-64",
-            Traffic::Outward if is_one => "frames-out-1",
-            Traffic::Outward => "frames-out-64",
-            Traffic::Polls if is_one => "polls-1",
-            Traffic::Polls => "polls-64",
-            Traffic::Sabme if is_one => "sabme-1",
-            Traffic::Sabme => "sabme-64",
-            Traffic::Faulty if is_one => "faulty-1",
-            Traffic::Faulty => "faulty-64",
-        }
-    }
-
     // Whether each octet that comes is followed by one that is pulled.
     fn is_answered(self) -> bool {
-        self == Traffic::Turns || self == Traffic::Inward || self == Traffic::Polls
+        matches!(self, Traffic::Turns | Traffic::Inward | Traffic::Polls)
     }
 }
 

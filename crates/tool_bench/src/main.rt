@@ -1,7 +1,7 @@
 //! `tool_bench WORK ROUNDS` does one kind of work so many times, and prints how many octets and frames, or contents, there
 //! were and how many octets the workers held at most. Its time is taken outside, by `tests/bench`.
 //!
-//! `WORK` is the name of one of the works (`Work::name`), or `all`, which does each of them in turn.
+//! `WORK` is the word of one of the works (`work::works`), or `all`, which does each of them in turn.
 //!
 //! # Only tested
 //!
@@ -22,22 +22,36 @@ mod terminal;
 mod work;
 
 use crate::fault::Fault;
-use crate::work::{WORKS, Work};
+use crate::work::{Work, works};
 use std::alloc::Global;
 use std::env;
 
 /// Does one kind of work, and prints how much it was.
-fn report(rt: &impl Print, alloc: Global, work: Work, rounds: u32) -> Result<(), Fault> {
+fn report(
+    rt: &impl Print,
+    alloc: Global,
+    name: &str,
+    work: Work,
+    rounds: u32,
+) -> Result<(), Fault> {
     let done = work.run(alloc, rounds)?;
     println!(rt;
         "{} {} octets {} frames {} held sum {}",
-        work.name(),
-        done.octets,
-        done.frames,
-        done.held,
-        done.sum
+        name, done.octets, done.frames, done.held, done.sum
     )?;
     Ok(())
+}
+
+/// Does the works of this word.
+fn report_all(rt: &impl Print, alloc: Global, name: &str, rounds: u32) -> Result<(), Fault> {
+    let mut is_known = false;
+    for (word, work) in works() {
+        if name == "all" || name == *word {
+            is_known = true;
+            report(rt, alloc, word, *work, rounds)?;
+        }
+    }
+    if is_known { Ok(()) } else { Err(Fault::Words) }
 }
 
 fn main(rt: HostRuntime) -> Result<(), Fault> {
@@ -45,15 +59,8 @@ fn main(rt: HostRuntime) -> Result<(), Fault> {
     let [name, rounds] = words.as_slice() else {
         return Err(Fault::Words);
     };
-    let Ok(rounds) = rounds.parse::<u32>() else {
-        return Err(Fault::Words);
-    };
-    let mut is_known = false;
-    for work in WORKS {
-        if name.as_str() == "all" || name.as_str() == work.name() {
-            is_known = true;
-            report(&rt, rt.alloc(), work, rounds)?;
-        }
+    match rounds.parse::<u32>() {
+        Ok(rounds) => report_all(&rt, rt.alloc(), name.as_str(), rounds),
+        Err(_) => Err(Fault::Words),
     }
-    if is_known { Ok(()) } else { Err(Fault::Words) }
 }

@@ -24,7 +24,7 @@ pub const SLOTS: usize = CONTENTS / SHELVES;
 pub const WIDTH: u16 = 260;
 
 /// The kinds of shelves.
-#[derive(Clone, Copy, PartialEq, Eq, Debug)]
+#[derive(Clone, Copy)]
 pub enum Shelves {
     /// `RawShelf`.
     Raw,
@@ -33,7 +33,7 @@ pub enum Shelves {
 }
 
 /// What is done with contents.
-#[derive(Clone, Copy, PartialEq, Eq, Debug)]
+#[derive(Clone, Copy)]
 pub enum Keeping {
     /// A shelf is started and dropped.
     Start(Shelves),
@@ -63,62 +63,6 @@ impl Started for SlabShelf {
 }
 
 impl Keeping {
-    /// Its word on the command line.
-    pub fn name(self) -> &'static str {
-        match self {
-            Keeping::Start(Shelves::Raw) => "raw-start",
-            Keeping::Start(Shelves::Slab) => "slab-start",
-            Keeping::Fill(Shelves::Raw, lengths) => lengths.pick(
-                [
-                    "raw-fill-8",
-                    "raw-fill-20",
-                    "raw-fill-64",
-                    "raw-fill-128",
-                    "raw-fill-260",
-                ],
-                "raw-fill-mixed",
-            ),
-            Keeping::Fill(Shelves::Slab, lengths) => lengths.pick(
-                [
-                    "slab-fill-8",
-                    "slab-fill-20",
-                    "slab-fill-64",
-                    "slab-fill-128",
-                    "slab-fill-260",
-                ],
-                "slab-fill-mixed",
-            ),
-            Keeping::Keep(Shelves::Raw, size) => size.pick([
-                "raw-keep-8",
-                "raw-keep-20",
-                "raw-keep-64",
-                "raw-keep-128",
-                "raw-keep-260",
-            ]),
-            Keeping::Keep(Shelves::Slab, size) => size.pick([
-                "slab-keep-8",
-                "slab-keep-20",
-                "slab-keep-64",
-                "slab-keep-128",
-                "slab-keep-260",
-            ]),
-            Keeping::Lend(Shelves::Raw, size) => size.pick([
-                "raw-lend-8",
-                "raw-lend-20",
-                "raw-lend-64",
-                "raw-lend-128",
-                "raw-lend-260",
-            ]),
-            Keeping::Lend(Shelves::Slab, size) => size.pick([
-                "slab-lend-8",
-                "slab-lend-20",
-                "slab-lend-64",
-                "slab-lend-128",
-                "slab-lend-260",
-            ]),
-        }
-    }
-
     /// Does so many rounds of it.
     pub fn run(self, alloc: Global, rounds: u32) -> Result<Done, Fault> {
         match self {

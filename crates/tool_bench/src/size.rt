@@ -3,7 +3,7 @@
 ghost use Rattle.std.specs.Prelude.{◌≤◌};
 
 /// How long contents are that are kept or copied.
-#[derive(Clone, Copy, PartialEq, Eq, Debug)]
+#[derive(Clone, Copy)]
 pub enum Size {
     /// 8 octets, the narrowest width of a slot.
     Narrow,
@@ -28,18 +28,6 @@ impl Size {
             Size::Middle => 64,
             Size::Long => 128,
             Size::Wide => 260,
-        }
-    }
-
-    /// Its word of five.
-    pub fn pick(self, words: [&'static str; 5]) -> &'static str {
-        let [narrow, short, middle, long, wide] = words;
-        match self {
-            Size::Narrow => narrow,
-            Size::Short => short,
-            Size::Middle => middle,
-            Size::Long => long,
-            Size::Wide => wide,
         }
     }
 }

@@ -25,7 +25,7 @@ const LONG: usize = 254;
 const CHECKED: usize = 260;
 
 /// One kind of work.
-#[derive(Clone, Copy, PartialEq, Eq, Debug)]
+#[derive(Clone, Copy)]
 pub enum Work {
     /// The frame check over 260 octets.
     Check,
@@ -53,107 +53,219 @@ pub enum Work {
     Copy(Copying),
 }
 
-/// All of them.
-pub const WORKS: [Work; 69] = [
-    Work::Check,
-    Work::HearShort,
-    Work::HearLong,
-    Work::HearShuffled,
-    Work::HearFlags,
-    Work::HearOnes,
-    Work::SendShort,
-    Work::SendLong,
-    Work::Card(Traffic::Idle, 1),
-    Work::Card(Traffic::Idle, 64),
-    Work::Card(Traffic::Turns, 1),
-    Work::Card(Traffic::Turns, 64),
-    Work::Card(Traffic::Inward, 1),
-    Work::Card(Traffic::Inward, 64),
-    Work::Card(Traffic::Outward, 1),
-    Work::Card(Traffic::Outward, 64),
-    Work::Card(Traffic::Polls, 1),
-    Work::Card(Traffic::Polls, 64),
-    Work::Card(Traffic::Sabme, 1),
-    Work::Card(Traffic::Sabme, 64),
-    Work::Card(Traffic::Faulty, 1),
-    Work::Card(Traffic::Faulty, 64),
-    Work::Busy,
-    Work::Keep(Keeping::Start(Shelves::Raw)),
-    Work::Keep(Keeping::Fill(Shelves::Raw, Lengths::Equal(Size::Narrow))),
-    Work::Keep(Keeping::Fill(Shelves::Raw, Lengths::Equal(Size::Short))),
-    Work::Keep(Keeping::Fill(Shelves::Raw, Lengths::Equal(Size::Middle))),
-    Work::Keep(Keeping::Fill(Shelves::Raw, Lengths::Equal(Size::Long))),
-    Work::Keep(Keeping::Fill(Shelves::Raw, Lengths::Equal(Size::Wide))),
-    Work::Keep(Keeping::Fill(Shelves::Raw, Lengths::Mixed)),
-    Work::Keep(Keeping::Keep(Shelves::Raw, Size::Narrow)),
-    Work::Keep(Keeping::Keep(Shelves::Raw, Size::Short)),
-    Work::Keep(Keeping::Keep(Shelves::Raw, Size::Middle)),
-    Work::Keep(Keeping::Keep(Shelves::Raw, Size::Long)),
-    Work::Keep(Keeping::Keep(Shelves::Raw, Size::Wide)),
-    Work::Keep(Keeping::Lend(Shelves::Raw, Size::Narrow)),
-    Work::Keep(Keeping::Lend(Shelves::Raw, Size::Short)),
-    Work::Keep(Keeping::Lend(Shelves::Raw, Size::Middle)),
-    Work::Keep(Keeping::Lend(Shelves::Raw, Size::Long)),
-    Work::Keep(Keeping::Lend(Shelves::Raw, Size::Wide)),
-    Work::Keep(Keeping::Start(Shelves::Slab)),
-    Work::Keep(Keeping::Fill(Shelves::Slab, Lengths::Equal(Size::Narrow))),
-    Work::Keep(Keeping::Fill(Shelves::Slab, Lengths::Equal(Size::Short))),
-    Work::Keep(Keeping::Fill(Shelves::Slab, Lengths::Equal(Size::Middle))),
-    Work::Keep(Keeping::Fill(Shelves::Slab, Lengths::Equal(Size::Long))),
-    Work::Keep(Keeping::Fill(Shelves::Slab, Lengths::Equal(Size::Wide))),
-    Work::Keep(Keeping::Fill(Shelves::Slab, Lengths::Mixed)),
-    Work::Keep(Keeping::Keep(Shelves::Slab, Size::Narrow)),
-    Work::Keep(Keeping::Keep(Shelves::Slab, Size::Short)),
-    Work::Keep(Keeping::Keep(Shelves::Slab, Size::Middle)),
-    Work::Keep(Keeping::Keep(Shelves::Slab, Size::Long)),
-    Work::Keep(Keeping::Keep(Shelves::Slab, Size::Wide)),
-    Work::Keep(Keeping::Lend(Shelves::Slab, Size::Narrow)),
-    Work::Keep(Keeping::Lend(Shelves::Slab, Size::Short)),
-    Work::Keep(Keeping::Lend(Shelves::Slab, Size::Middle)),
-    Work::Keep(Keeping::Lend(Shelves::Slab, Size::Long)),
-    Work::Keep(Keeping::Lend(Shelves::Slab, Size::Wide)),
-    Work::Copy(Copying::Here(Lengths::Equal(Size::Narrow))),
-    Work::Copy(Copying::Here(Lengths::Equal(Size::Short))),
-    Work::Copy(Copying::Here(Lengths::Equal(Size::Middle))),
-    Work::Copy(Copying::Here(Lengths::Equal(Size::Long))),
-    Work::Copy(Copying::Here(Lengths::Equal(Size::Wide))),
-    Work::Copy(Copying::Here(Lengths::Mixed)),
-    Work::Copy(Copying::Apart(Lengths::Equal(Size::Narrow))),
-    Work::Copy(Copying::Apart(Lengths::Equal(Size::Short))),
-    Work::Copy(Copying::Apart(Lengths::Equal(Size::Middle))),
-    Work::Copy(Copying::Apart(Lengths::Equal(Size::Long))),
-    Work::Copy(Copying::Apart(Lengths::Equal(Size::Wide))),
-    Work::Copy(Copying::Apart(Lengths::Mixed)),
+/// All of them, each with its word on the command line.
+pub fn works() -> &'static [(&'static str, Work)] {
+    &WORKS
+}
+
+const WORKS: [(&str, Work); 69] = [
+    ("check", Work::Check),
+    ("hear-short", Work::HearShort),
+    ("hear-long", Work::HearLong),
+    ("hear-shuffled", Work::HearShuffled),
+    ("hear-flags", Work::HearFlags),
+    ("hear-ones", Work::HearOnes),
+    ("send-short", Work::SendShort),
+    ("send-long", Work::SendLong),
+    ("idle-1", Work::Card(Traffic::Idle, 1)),
+    ("idle-64", Work::Card(Traffic::Idle, 64)),
+    ("turns-1", Work::Card(Traffic::Turns, 1)),
+    ("turns-64", Work::Card(Traffic::Turns, 64)),
+    ("frames-in-1", Work::Card(Traffic::Inward, 1)),
+    ("frames-in-64", Work::Card(Traffic::Inward, 64)),
+    ("frames-out-1", Work::Card(Traffic::Outward, 1)),
+    ("frames-out-64", Work::Card(Traffic::Outward, 64)),
+    ("polls-1", Work::Card(Traffic::Polls, 1)),
+    ("polls-64", Work::Card(Traffic::Polls, 64)),
+    ("sabme-1", Work::Card(Traffic::Sabme, 1)),
+    ("sabme-64", Work::Card(Traffic::Sabme, 64)),
+    ("faulty-1", Work::Card(Traffic::Faulty, 1)),
+    ("faulty-64", Work::Card(Traffic::Faulty, 64)),
+    ("busy-64", Work::Busy),
+    ("raw-start", Work::Keep(Keeping::Start(Shelves::Raw))),
+    (
+        "raw-fill-8",
+        Work::Keep(Keeping::Fill(Shelves::Raw, Lengths::Equal(Size::Narrow))),
+    ),
+    (
+        "raw-fill-20",
+        Work::Keep(Keeping::Fill(Shelves::Raw, Lengths::Equal(Size::Short))),
+    ),
+    (
+        "raw-fill-64",
+        Work::Keep(Keeping::Fill(Shelves::Raw, Lengths::Equal(Size::Middle))),
+    ),
+    (
+        "raw-fill-128",
+        Work::Keep(Keeping::Fill(Shelves::Raw, Lengths::Equal(Size::Long))),
+    ),
+    (
+        "raw-fill-260",
+        Work::Keep(Keeping::Fill(Shelves::Raw, Lengths::Equal(Size::Wide))),
+    ),
+    (
+        "raw-fill-mixed",
+        Work::Keep(Keeping::Fill(Shelves::Raw, Lengths::Mixed)),
+    ),
+    (
+        "raw-keep-8",
+        Work::Keep(Keeping::Keep(Shelves::Raw, Size::Narrow)),
+    ),
+    (
+        "raw-keep-20",
+        Work::Keep(Keeping::Keep(Shelves::Raw, Size::Short)),
+    ),
+    (
+        "raw-keep-64",
+        Work::Keep(Keeping::Keep(Shelves::Raw, Size::Middle)),
+    ),
+    (
+        "raw-keep-128",
+        Work::Keep(Keeping::Keep(Shelves::Raw, Size::Long)),
+    ),
+    (
+        "raw-keep-260",
+        Work::Keep(Keeping::Keep(Shelves::Raw, Size::Wide)),
+    ),
+    (
+        "raw-lend-8",
+        Work::Keep(Keeping::Lend(Shelves::Raw, Size::Narrow)),
+    ),
+    (
+        "raw-lend-20",
+        Work::Keep(Keeping::Lend(Shelves::Raw, Size::Short)),
+    ),
+    (
+        "raw-lend-64",
+        Work::Keep(Keeping::Lend(Shelves::Raw, Size::Middle)),
+    ),
+    (
+        "raw-lend-128",
+        Work::Keep(Keeping::Lend(Shelves::Raw, Size::Long)),
+    ),
+    (
+        "raw-lend-260",
+        Work::Keep(Keeping::Lend(Shelves::Raw, Size::Wide)),
+    ),
+    ("slab-start", Work::Keep(Keeping::Start(Shelves::Slab))),
+    (
+        "slab-fill-8",
+        Work::Keep(Keeping::Fill(Shelves::Slab, Lengths::Equal(Size::Narrow))),
+    ),
+    (
+        "slab-fill-20",
+        Work::Keep(Keeping::Fill(Shelves::Slab, Lengths::Equal(Size::Short))),
+    ),
+    (
+        "slab-fill-64",
+        Work::Keep(Keeping::Fill(Shelves::Slab, Lengths::Equal(Size::Middle))),
+    ),
+    (
+        "slab-fill-128",
+        Work::Keep(Keeping::Fill(Shelves::Slab, Lengths::Equal(Size::Long))),
+    ),
+    (
+        "slab-fill-260",
+        Work::Keep(Keeping::Fill(Shelves::Slab, Lengths::Equal(Size::Wide))),
+    ),
+    (
+        "slab-fill-mixed",
+        Work::Keep(Keeping::Fill(Shelves::Slab, Lengths::Mixed)),
+    ),
+    (
+        "slab-keep-8",
+        Work::Keep(Keeping::Keep(Shelves::Slab, Size::Narrow)),
+    ),
+    (
+        "slab-keep-20",
+        Work::Keep(Keeping::Keep(Shelves::Slab, Size::Short)),
+    ),
+    (
+        "slab-keep-64",
+        Work::Keep(Keeping::Keep(Shelves::Slab, Size::Middle)),
+    ),
+    (
+        "slab-keep-128",
+        Work::Keep(Keeping::Keep(Shelves::Slab, Size::Long)),
+    ),
+    (
+        "slab-keep-260",
+        Work::Keep(Keeping::Keep(Shelves::Slab, Size::Wide)),
+    ),
+    (
+        "slab-lend-8",
+        Work::Keep(Keeping::Lend(Shelves::Slab, Size::Narrow)),
+    ),
+    (
+        "slab-lend-20",
+        Work::Keep(Keeping::Lend(Shelves::Slab, Size::Short)),
+    ),
+    (
+        "slab-lend-64",
+        Work::Keep(Keeping::Lend(Shelves::Slab, Size::Middle)),
+    ),
+    (
+        "slab-lend-128",
+        Work::Keep(Keeping::Lend(Shelves::Slab, Size::Long)),
+    ),
+    (
+        "slab-lend-260",
+        Work::Keep(Keeping::Lend(Shelves::Slab, Size::Wide)),
+    ),
+    (
+        "copy-8",
+        Work::Copy(Copying::Here(Lengths::Equal(Size::Narrow))),
+    ),
+    (
+        "copy-20",
+        Work::Copy(Copying::Here(Lengths::Equal(Size::Short))),
+    ),
+    (
+        "copy-64",
+        Work::Copy(Copying::Here(Lengths::Equal(Size::Middle))),
+    ),
+    (
+        "copy-128",
+        Work::Copy(Copying::Here(Lengths::Equal(Size::Long))),
+    ),
+    (
+        "copy-260",
+        Work::Copy(Copying::Here(Lengths::Equal(Size::Wide))),
+    ),
+    ("copy-mixed", Work::Copy(Copying::Here(Lengths::Mixed))),
+    (
+        "spread-8",
+        Work::Copy(Copying::Apart(Lengths::Equal(Size::Narrow))),
+    ),
+    (
+        "spread-20",
+        Work::Copy(Copying::Apart(Lengths::Equal(Size::Short))),
+    ),
+    (
+        "spread-64",
+        Work::Copy(Copying::Apart(Lengths::Equal(Size::Middle))),
+    ),
+    (
+        "spread-128",
+        Work::Copy(Copying::Apart(Lengths::Equal(Size::Long))),
+    ),
+    (
+        "spread-260",
+        Work::Copy(Copying::Apart(Lengths::Equal(Size::Wide))),
+    ),
+    ("spread-mixed", Work::Copy(Copying::Apart(Lengths::Mixed))),
 ];
 
 impl Work {
-    /// Its word on the command line.
-    pub fn name(self) -> &'static str {
-        match self {
-            Work::Check => "check",
-            Work::HearShort => "hear-short",
-            Work::HearLong => "hear-long",
-            Work::HearShuffled => "hear-shuffled",
-            Work::HearFlags => "hear-flags",
-            Work::HearOnes => "hear-ones",
-            Work::SendShort => "send-short",
-            Work::SendLong => "send-long",
-            Work::Card(traffic, lines) => traffic.name(lines == 1),
-            Work::Busy => "busy-64",
-            Work::Keep(keeping) => keeping.name(),
-            Work::Copy(copying) => copying.name(),
-        }
-    }
-
     /// Does so many rounds of it.
     pub fn run(self, alloc: Global, rounds: u32) -> Result<Done, Fault> {
         match self {
             Work::Check => check(alloc, rounds),
-            Work::HearShort => hear(alloc, &framed(alloc, SHORT)?, rounds),
-            Work::HearLong => hear(alloc, &framed(alloc, LONG)?, rounds),
-            Work::HearShuffled => hear(alloc, &in_no_order(alloc)?, rounds),
-            Work::HearFlags => hear(alloc, &repeated(alloc, 0x7E)?, rounds),
-            Work::HearOnes => hear(alloc, &repeated(alloc, 0xFF)?, rounds),
+            Work::HearShort => hear(alloc, framed(alloc, SHORT), rounds),
+            Work::HearLong => hear(alloc, framed(alloc, LONG), rounds),
+            Work::HearShuffled => hear(alloc, in_no_order(alloc), rounds),
+            Work::HearFlags => hear(alloc, repeated(alloc, 0x7E), rounds),
+            Work::HearOnes => hear(alloc, repeated(alloc, 0xFF), rounds),
             Work::SendShort => send(alloc, SHORT, rounds),
             Work::SendLong => send(alloc, LONG, rounds),
             Work::Card(traffic, lines) => exchange(alloc, traffic, lines, rounds),
@@ -186,11 +298,12 @@ fn frames_checked(line: &[u8]) -> u64 {
 }
 
 /// Hears a line over and over.
-fn hear(alloc: Global, line: &[u8], rounds: u32) -> Result<Done, Fault> {
+fn hear(alloc: Global, line: Result<Vec<u8>, Fault>, rounds: u32) -> Result<Done, Fault> {
+    let line = line?;
     let mut deframer = Deframer::start(alloc, N201)?;
     let mut done = Done::new();
     for _ in 0..rounds {
-        let frames = frames_heard(&mut deframer, line);
+        let frames = frames_heard(&mut deframer, &line);
         done.count(line.len(), frames, deframer.held());
     }
     Ok(done)

@@ -26,7 +26,11 @@ const REJECT: Event = Event::Command(Kind::OtherInformation, 0, false);
 const ENQUIRY: Event = Event::Command(Kind::Ready, 0, true);
 
 /// States 4, 5 and 6.
-pub const DOWN: [Case; 7] = [
+pub fn down() -> [Case; 7] {
+    DOWN
+}
+
+const DOWN: [Case; 7] = [
     Case {
         name: "4",
         events: &[],
@@ -65,7 +69,11 @@ pub const DOWN: [Case; 7] = [
 ];
 
 /// State 7 while nobody is busy.
-pub const UP: [Case; 4] = [
+pub fn up() -> [Case; 4] {
+    UP
+}
+
+const UP: [Case; 4] = [
     Case {
         name: "7, nothing outstanding",
         events: &[SABME],
@@ -89,7 +97,11 @@ pub const UP: [Case; 4] = [
 ];
 
 /// State 7 while someone is busy, or no control frame finds room.
-pub const UP_BUSY: [Case; 5] = [
+pub fn up_busy() -> [Case; 5] {
+    UP_BUSY
+}
+
+const UP_BUSY: [Case; 5] = [
     Case {
         name: "7, own busy",
         events: &[SABME, OWN_BUSY],
@@ -118,7 +130,11 @@ pub const UP_BUSY: [Case; 5] = [
 ];
 
 /// State 8 while nobody is busy.
-pub const RECOVERY: [Case; 4] = [
+pub fn recovery() -> [Case; 4] {
+    RECOVERY
+}
+
+const RECOVERY: [Case; 4] = [
     Case {
         name: "8, nothing outstanding",
         events: &[SABME, T203],
@@ -142,7 +158,11 @@ pub const RECOVERY: [Case; 4] = [
 ];
 
 /// State 8 while someone is busy, or no control frame finds room.
-pub const RECOVERY_BUSY: [Case; 5] = [
+pub fn recovery_busy() -> [Case; 5] {
+    RECOVERY_BUSY
+}
+
+const RECOVERY_BUSY: [Case; 5] = [
     Case {
         name: "8, own busy",
         events: &[SABME, OWN_BUSY, T203],
@@ -171,7 +191,11 @@ pub const RECOVERY_BUSY: [Case; 5] = [
 ];
 
 /// Frames without numbers, and what is no frame of the exchange.
-pub const UNNUMBERED: [(&str, Event); 14] = [
+pub fn unnumbered() -> [(&'static str, Event); 14] {
+    UNNUMBERED
+}
+
+const UNNUMBERED: [(&str, Event); 14] = [
     ("SABME P=1", SABME),
     ("SABME P=0", Event::Plain(Unnumbered::Sabme, false)),
     ("DISC P=1", Event::Plain(Unnumbered::Disc, true)),
@@ -195,7 +219,11 @@ pub const UNNUMBERED: [(&str, Event); 14] = [
 ];
 
 /// Frames with numbers, where no link is up: the numbers do not matter.
-pub const NUMBERED_DOWN: [(&str, Event); 7] = [
+pub fn numbered_down() -> [(&'static str, Event); 7] {
+    NUMBERED_DOWN
+}
+
+const NUMBERED_DOWN: [(&str, Event); 7] = [
     ("I P=1", Event::Command(Kind::NextInformation, 0, true)),
     ("RR P=1", ENQUIRY),
     ("RR F=1", Event::Response(Kind::Ready, 0, true)),
@@ -206,7 +234,11 @@ pub const NUMBERED_DOWN: [(&str, Event); 7] = [
 ];
 
 /// Frames with numbers.
-pub const NUMBERED: [(&str, Event); 26] = [
+pub fn numbered() -> [(&'static str, Event); 26] {
+    NUMBERED
+}
+
+const NUMBERED: [(&str, Event); 26] = [
     (
         "I P=0 N(S)=0 N(R)=0",
         Event::Command(Kind::NextInformation, 0, false),
@@ -257,7 +289,11 @@ pub const NUMBERED: [(&str, Event); 26] = [
 ];
 
 /// Timers and requests, and the end of the TEI.
-pub const OTHERS: [(&str, Event); 9] = [
+pub fn others() -> [(&'static str, Event); 9] {
+    OTHERS
+}
+
+const OTHERS: [(&str, Event); 9] = [
     ("T200 expires", T200),
     ("T203 expires", T203),
     ("establish request", ESTABLISH),

@@ -2,7 +2,7 @@
 //! and the state after.
 
 use crate::cases::{
-    DOWN, NUMBERED, NUMBERED_DOWN, OTHERS, RECOVERY, RECOVERY_BUSY, UNNUMBERED, UP, UP_BUSY,
+    down, numbered, numbered_down, others, recovery, recovery_busy, unnumbered, up, up_busy,
 };
 use crate::events::{Case, Event, Led, SLOTS, lead};
 use crate::fault::Fault;
@@ -39,8 +39,16 @@ const DOWN_HEAD: &str = "### States 4, 5 and 6
 The numbers of a frame, and P and F of those that are not served, do not matter here.
 ";
 
+const UP_HEAD: &str = "
+### State 7
+";
+
 const UP_BUSY_HEAD: &str = "
 ### State 7, where someone is busy or no control frame finds room
+";
+
+const RECOVERY_HEAD: &str = "
+### State 8
 ";
 
 const RECOVERY_BUSY_HEAD: &str = "
@@ -50,48 +58,25 @@ const RECOVERY_BUSY_HEAD: &str = "
 /// Prints the tables of a link.
 pub fn print(rt: &impl Print, alloc: Global) -> Result<(), Fault> {
     println!(rt; "{}", HEAD)?;
-    down(rt, alloc)?;
-    up(rt, alloc)?;
-    up_busy(rt, alloc)?;
-    recovery(rt, alloc)?;
-    recovery_busy(rt, alloc)
-}
-
-fn down(rt: &impl Print, alloc: Global) -> Result<(), Fault> {
-    println!(rt; "{}", DOWN_HEAD)?;
-    table(rt, alloc, &DOWN, &NUMBERED_DOWN)
-}
-
-fn up(rt: &impl Print, alloc: Global) -> Result<(), Fault> {
-    println!(rt; "\n### State 7\n")?;
-    table(rt, alloc, &UP, &NUMBERED)
-}
-
-fn up_busy(rt: &impl Print, alloc: Global) -> Result<(), Fault> {
-    println!(rt; "{}", UP_BUSY_HEAD)?;
-    table(rt, alloc, &UP_BUSY, &NUMBERED)
-}
-
-fn recovery(rt: &impl Print, alloc: Global) -> Result<(), Fault> {
-    println!(rt; "\n### State 8\n")?;
-    table(rt, alloc, &RECOVERY, &NUMBERED)
-}
-
-fn recovery_busy(rt: &impl Print, alloc: Global) -> Result<(), Fault> {
-    println!(rt; "{}", RECOVERY_BUSY_HEAD)?;
-    table(rt, alloc, &RECOVERY_BUSY, &NUMBERED)
+    table(rt, alloc, DOWN_HEAD, &down(), &numbered_down())?;
+    table(rt, alloc, UP_HEAD, &up(), &numbered())?;
+    table(rt, alloc, UP_BUSY_HEAD, &up_busy(), &numbered())?;
+    table(rt, alloc, RECOVERY_HEAD, &recovery(), &numbered())?;
+    table(rt, alloc, RECOVERY_BUSY_HEAD, &recovery_busy(), &numbered())
 }
 
 fn table(
     rt: &impl Print,
     alloc: Global,
+    head: &str,
     cases: &[Case],
     numbered: &[(&str, Event)],
 ) -> Result<(), Fault> {
+    println!(rt; "{}", head)?;
     titles(rt, cases)?;
-    rows(rt, alloc, cases, &UNNUMBERED)?;
+    rows(rt, alloc, cases, &unnumbered())?;
     rows(rt, alloc, cases, numbered)?;
-    rows(rt, alloc, cases, &OTHERS)?;
+    rows(rt, alloc, cases, &others())?;
     println!(rt; "")?;
     Ok(())
 }
@@ -161,15 +146,7 @@ fn frame(rt: &impl Print, offer: &Offer) -> Result<(), Fault> {
 }
 
 fn told(rt: &impl Print, answer: &Answer) -> Result<(), Fault> {
-    if answer.lost > 0 {
-        print!(rt; "{} lost; ", answer.lost)?;
-    }
-    if answer.unserved {
-        print!(rt; "unserved; ")?;
-    }
-    for note in answer.notes.as_slice() {
-        words::note(rt, *note)?;
-    }
+    words::told(rt, answer.lost, answer.unserved, answer.notes.as_slice())?;
     words::orders(rt, answer.orders.as_slice())
 }
 

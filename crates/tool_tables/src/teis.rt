@@ -48,6 +48,10 @@ const RESPONSE: Event = Event::Message(0, 5, 64);
 
 const CHECK: Event = Event::Check(false);
 
+fn cases() -> [Case; 8] {
+    CASES
+}
+
 const CASES: [Case; 8] = [
     Case {
         name: "no TEI",
@@ -91,6 +95,10 @@ const CASES: [Case; 8] = [
     },
 ];
 
+fn events() -> [(&'static str, Event); 15] {
+    EVENTS
+}
+
 const EVENTS: [(&str, Event); 15] = [
     ("identity request, Ri 1", FIRST),
     ("identity request, Ri 2", SECOND),
@@ -113,9 +121,9 @@ const EVENTS: [(&str, Event); 15] = [
 pub fn print(rt: &impl Print, alloc: Global) -> Result<(), Fault> {
     println!(rt; "{}", HEAD)?;
     titles(rt)?;
-    for (name, event) in EVENTS {
+    for (name, event) in &events() {
         print!(rt; "\n| {} |", name)?;
-        row(rt, alloc, event)?;
+        row(rt, alloc, *event)?;
     }
     println!(rt; "")?;
     Ok(())
@@ -123,18 +131,18 @@ pub fn print(rt: &impl Print, alloc: Global) -> Result<(), Fault> {
 
 fn titles(rt: &impl Print) -> Result<(), Fault> {
     print!(rt; "| Event |")?;
-    for case in &CASES {
+    for case in &cases() {
         print!(rt; " {} |", case.name)?;
     }
     print!(rt; "\n|---|")?;
-    for _ in 0..CASES.len() {
+    for _ in 0..cases().len() {
         print!(rt; "---|")?;
     }
     Ok(())
 }
 
 fn row(rt: &impl Print, alloc: Global, event: Event) -> Result<(), Fault> {
-    for case in &CASES {
+    for case in &cases() {
         print!(rt; " ")?;
         cell(rt, alloc, *case, event)?;
         print!(rt; " |")?;
@@ -201,15 +209,7 @@ fn tell(rt: &impl Print, outcome: &TeiOutcome, sent: Option<[u8; 8]>) -> Result<
     if let Some(frame) = sent {
         message(rt, frame)?;
     }
-    if outcome.lost > 0 {
-        print!(rt; "{} lost; ", outcome.lost)?;
-    }
-    if outcome.unserved {
-        print!(rt; "unserved; ")?;
-    }
-    for note in outcome.notes.as_slice() {
-        words::note(rt, *note)?;
-    }
+    words::told(rt, outcome.lost, outcome.unserved, outcome.notes.as_slice())?;
     words::orders(rt, outcome.orders.as_slice())?;
     match outcome.change {
         Some(Change::Gained { tei, .. }) => print!(rt; "+{}", tei)?,

@@ -2,61 +2,84 @@
 
 use crate::fault::Fault;
 use lapd_frame::{Control, Note, Order, Refusal, Timer};
+use lapd_seq::Seq;
 use model_link::ControlFrame;
 
 /// A frame that is sent, with its numbers and P or F.
 pub fn frame(rt: &impl Print, frame: ControlFrame) -> Result<(), Fault> {
     let bit = if frame.command { "P" } else { "F" };
-    match frame.control {
-        Control::Information { ns, nr, pf } => {
-            print!(rt;
-                "I {}={} N(S)={} N(R)={}; ",
-                bit,
-                u8::from(pf),
-                ns.value,
-                nr.value
-            )?
-        }
-        Control::ReceiveReady { nr, pf } => numbered(rt, "RR", bit, pf, nr.value)?,
-        Control::ReceiveNotReady { nr, pf } => numbered(rt, "RNR", bit, pf, nr.value)?,
-        Control::Reject { nr, pf } => numbered(rt, "REJ", bit, pf, nr.value)?,
-        Control::Sabme { pf } => plain(rt, "SABME", bit, pf)?,
-        Control::Disc { pf } => plain(rt, "DISC", bit, pf)?,
-        Control::Ua { pf } => plain(rt, "UA", bit, pf)?,
-        Control::Dm { pf } => plain(rt, "DM", bit, pf)?,
-        Control::Frmr { pf } => plain(rt, "FRMR", bit, pf)?,
-        Control::Ui { pf } => plain(rt, "UI", bit, pf)?,
-        Control::Xid { pf } => plain(rt, "XID", bit, pf)?,
+    let (name, pf, nr) = parts_of(frame.control);
+    print!(rt; "{} {}={}", name, bit, u8::from(pf))?;
+    if let Control::Information { ns, .. } = frame.control {
+        print!(rt; " N(S)={}", ns.value)?;
     }
+    if let Some(nr) = nr {
+        print!(rt; " N(R)={}", nr.value)?;
+    }
+    print!(rt; "; ")?;
     Ok(())
 }
 
-fn plain(rt: &impl Print, name: &str, bit: &str, pf: bool) -> Result<(), Fault> {
-    print!(rt; "{} {}={}; ", name, bit, u8::from(pf))?;
-    Ok(())
+/// A frame's name, its P or F, and its N(R) if it has one.
+fn parts_of(control: Control) -> (&'static str, bool, Option<Seq>) {
+    match control {
+        Control::Information { nr, pf, .. } => ("I", pf, Some(nr)),
+        Control::ReceiveReady { nr, pf } => ("RR", pf, Some(nr)),
+        Control::ReceiveNotReady { nr, pf } => ("RNR", pf, Some(nr)),
+        Control::Reject { nr, pf } => ("REJ", pf, Some(nr)),
+        Control::Sabme { pf } => ("SABME", pf, None),
+        Control::Disc { pf } => ("DISC", pf, None),
+        Control::Ua { pf } => ("UA", pf, None),
+        Control::Dm { pf } => ("DM", pf, None),
+        Control::Frmr { pf } => ("FRMR", pf, None),
+        Control::Ui { pf } => ("UI", pf, None),
+        Control::Xid { pf } => ("XID", pf, None),
+    }
 }
 
-fn numbered(rt: &impl Print, name: &str, bit: &str, pf: bool, nr: u8) -> Result<(), Fault> {
-    print!(rt; "{} {}={} N(R)={}; ", name, bit, u8::from(pf), nr)?;
+/// How many answers found no room, whether the event is not served, and what is told.
+pub fn told(rt: &impl Print, lost: u8, unserved: bool, notes: &[Note]) -> Result<(), Fault> {
+    if lost > 0 {
+        print!(rt; "{} lost; ", lost)?;
+    }
+    if unserved {
+        print!(rt; "unserved; ")?;
+    }
+    for given in notes {
+        note(rt, *given)?;
+    }
     Ok(())
 }
 
 /// What layer 3 or layer management is told.
-pub fn note(rt: &impl Print, note: Note) -> Result<(), Fault> {
+fn note(rt: &impl Print, note: Note) -> Result<(), Fault> {
     match note {
         Note::Error(_, _, code) => print!(rt; "error {}; ", code.letter())?,
-        Note::Assigned(tei) => print!(rt; "assigned {}; ", tei)?,
-        Note::Removed(tei) => print!(rt; "removed {}; ", tei)?,
-        Note::Doubled(tei) => print!(rt; "doubled {}; ", tei)?,
-        Note::EstablishIndication(_, _) => print!(rt; "establish indication; ")?,
-        Note::EstablishConfirm(_, _) => print!(rt; "establish confirm; ")?,
-        Note::ReleaseIndication(_, _) => print!(rt; "release indication; ")?,
-        Note::ReleaseConfirm(_, _) => print!(rt; "release confirm; ")?,
-        Note::Data(_, _) => print!(rt; "data indication; ")?,
-        Note::Unit(_, _) => print!(rt; "unit data indication; ")?,
-        Note::Xid(_, _) => print!(rt; "XID indication; ")?,
+        Note::Assigned(tei) => of_tei(rt, "assigned", tei)?,
+        Note::Removed(tei) => of_tei(rt, "removed", tei)?,
+        Note::Doubled(tei) => of_tei(rt, "doubled", tei)?,
+        _ => print!(rt; "{}; ", note_name(note))?,
     }
     Ok(())
+}
+
+fn of_tei(rt: &impl Print, name: &str, tei: u8) -> Result<(), Fault> {
+    print!(rt; "{} {}; ", name, tei)?;
+    Ok(())
+}
+
+/// The name of a note of a link.
+fn note_name(note: Note) -> &'static str {
+    match note {
+        Note::EstablishIndication(_, _) => "establish indication",
+        Note::EstablishConfirm(_, _) => "establish confirm",
+        Note::ReleaseIndication(_, _) => "release indication",
+        Note::ReleaseConfirm(_, _) => "release confirm",
+        Note::Data(_, _) => "data indication",
+        Note::Unit(_, _) => "unit data indication",
+        Note::Xid(_, _) => "XID indication",
+        Note::Error(_, _, _) | Note::Assigned(_) | Note::Removed(_) | Note::Doubled(_) => "",
+    }
 }
 
 /// What is ordered of timers.

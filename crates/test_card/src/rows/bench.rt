@@ -4,12 +4,13 @@ ghost use Rattle.std.specs.Prelude.{◌≡◌, ◌<◌, All};
 ghost use Rattle.lapd_card.specs.Card.{line_count};
 ghost use Rattle.lapd_card.specs.Drive.{line_of};
 
-use super::line_rows::LINE_ROWS;
-use super::link_rows::LINK_ROWS;
+use super::line_rows::line_rows;
+use super::link_rows::link_rows;
 use super::row::{CALL, Row, Step};
 use super::sink::FixedSink;
 use lapd_card::{Card, Event};
 use std::alloc::Global;
+use std::process::Abort;
 use std::test::Fail;
 use test_shelf::ArrayShelf;
 
@@ -113,32 +114,28 @@ fn benches(alloc: Global, rows: &[Row]) -> Result<Vec<Bench>, Fail> {
     Ok(benches)
 }
 
-/// The first row that is not answered as it wants, each by a card of its own from its start.
-fn fault(benches: &mut [Bench], rows: &[Row]) -> Option<usize> {
-    if benches.len() != rows.len() {
-        return Some(rows.len());
-    }
+/// Each row is answered as it wants, by a card of its own from its start.
+fn answer_all(rt: &impl Abort, benches: &mut [Bench], rows: &[Row]) {
+    assert!(rt; benches.len() == rows.len());
     for (place, bench) in benches.iter_mut().enumerate() {
-        if !bench.answers(&rows[place]) {
-            return Some(place);
-        }
+        assert!(rt; bench.answers(&rows[place]), "row {place}");
     }
-    None
 }
 
 /// `tests/memory` counts the allocations of the starts by this test, and refuses all others in the next.
 #[test]
 fn the_starts(rt: HostRuntime) -> Result<(), Fail> {
-    assert!(rt; benches(rt.alloc(), &LINE_ROWS)?.len() == 11);
-    assert!(rt; benches(rt.alloc(), &LINK_ROWS)?.len() == 13);
+    let of_lines = benches(rt.alloc(), &line_rows())?;
+    let of_links = benches(rt.alloc(), &link_rows())?;
+    assert!(rt; of_lines.len() == 11 && of_links.len() == 13);
     Ok(())
 }
 
 #[test]
 fn each_row(rt: HostRuntime) -> Result<(), Fail> {
-    let mut of_lines = benches(rt.alloc(), &LINE_ROWS)?;
-    let mut of_links = benches(rt.alloc(), &LINK_ROWS)?;
-    assert_eq!(rt; fault(&mut of_lines, &LINE_ROWS), None);
-    assert_eq!(rt; fault(&mut of_links, &LINK_ROWS), None);
+    let mut of_lines = benches(rt.alloc(), &line_rows())?;
+    let mut of_links = benches(rt.alloc(), &link_rows())?;
+    answer_all(&rt, &mut of_lines, &line_rows());
+    answer_all(&rt, &mut of_links, &link_rows());
     Ok(())
 }

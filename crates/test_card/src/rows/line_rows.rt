@@ -8,7 +8,12 @@ use lapd_bits::Cause;
 use lapd_card::Request;
 use lapd_frame::{Note, Order, Timer};
 
-pub const LINE_ROWS: [Row; 11] = [
+/// The rows.
+pub fn line_rows() -> [Row; 11] {
+    LINE_ROWS
+}
+
+const LINE_ROWS: [Row; 11] = [
     // SABME is answered by UA.
     Row {
         config: USUAL,

@@ -24,7 +24,12 @@ const NARROW: Config = Config {
 /// One slot for all contents.
 const ONE_SLOT: Config = Config { slots: 1, ..USUAL };
 
-pub const LINK_ROWS: [Row; 13] = [
+/// The rows.
+pub fn link_rows() -> [Row; 13] {
+    LINK_ROWS
+}
+
+const LINK_ROWS: [Row; 13] = [
     // 129 I-frames, each answered: after number 127 comes 0.
     Row {
         config: USUAL,

@@ -26,7 +26,7 @@ pub enum Step {
 }
 
 /// What an answer says, but for octets and for data.
-#[derive(Clone, Copy, PartialEq, Eq, Debug)]
+#[derive(Clone, Copy, PartialEq)]
 pub enum Said {
     Note(Note),
     Dropped(Cause),
@@ -41,7 +41,7 @@ impl Default for Said {
 }
 
 /// Octets, by their number and their check.
-#[derive(Clone, Copy, PartialEq, Eq, Debug)]
+#[derive(Clone, Copy, PartialEq)]
 pub struct Text(pub usize, pub u16);
 
 pub fn text_of(octets: &[u8]) -> Text {

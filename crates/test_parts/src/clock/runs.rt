@@ -2,7 +2,7 @@
 
 ghost use Rattle.std.specs.Prelude.{◌≤◌};
 
-use lapd_clock::{Clock, StartFault};
+use lapd_clock::Clock;
 use lapd_frame::{Order, Service, Timer};
 use std::alloc::Global;
 use std::process::Abort;
@@ -51,6 +51,15 @@ fn play(rt: &impl Abort, clock: &mut Clock, steps: &[Step]) {
     for step in steps {
         assert!(rt; holds(rt, clock, *step));
     }
+}
+
+/// Plays the steps on a clock of these sizes.
+fn run(rt: &impl Abort, alloc: Global, lines: usize, terminals: usize, steps: &[Step])
+    requires lines { 1 ≤ lines × lines ≤ 64 }
+    requires terminals { 1 ≤ terminals × terminals ≤ 8 }
+{
+    let mut clock = Clock::start(alloc, lines, terminals).expect(rt, "memory");
+    play(rt, &mut clock, steps);
 }
 
 /// Twelve timers of three lines, started in no order; all fall due at 10,000 but the last two.
@@ -111,13 +120,6 @@ const ONE_MOMENT: [Step; 13] = [
     Step::None(u64::MAX),
 ];
 
-#[test]
-fn a_timer_has_one_moment(rt: HostRuntime) -> Result<(), Fail> {
-    let mut clock = Clock::start(rt.alloc(), 2, 1)?;
-    play(&rt, &mut clock, &ONE_MOMENT);
-    Ok(())
-}
-
 /// A timer that runs keeps its place, a stopped one frees it, and the other line has its own.
 const FULL_LINE: [Step; 18] = [
     Step::Start(1, Timer::T200(Service::Call, 64), 0),
@@ -140,13 +142,6 @@ const FULL_LINE: [Step; 18] = [
     Step::Idle,
 ];
 
-#[test]
-fn a_full_line_takes_no_other_timer(rt: HostRuntime) -> Result<(), Fail> {
-    let mut clock = Clock::start(rt.alloc(), 2, 1)?;
-    play(&rt, &mut clock, &FULL_LINE);
-    Ok(())
-}
-
 /// The greatest moment at which an order may come.
 const GREATEST: u64 = 1 << 63;
 
@@ -161,13 +156,6 @@ const GREATEST_MOMENTS: [Step; 8] = [
     Step::None(GREATEST + 9_999),
     Step::Due(GREATEST + 10_000, 63, Timer::T203(Service::Packet, 126)),
 ];
-
-#[test]
-fn moments_go_up_to_the_greatest(rt: HostRuntime) -> Result<(), Fail> {
-    let mut clock = Clock::start(rt.alloc(), 64, 8)?;
-    play(&rt, &mut clock, &GREATEST_MOMENTS);
-    Ok(())
-}
 
 /// A link that hears nothing: T203 expires, then T200 for each enquiry, three of them repeats, and for the SABME.
 const SILENT_LINK: [Step; 18] = [
@@ -191,31 +179,17 @@ const SILENT_LINK: [Step; 18] = [
     Step::Next(15_000),
 ];
 
-#[test]
-fn a_silent_link(rt: HostRuntime) -> Result<(), Fail> {
-    let mut clock = Clock::start(rt.alloc(), 1, 8)?;
-    play(&rt, &mut clock, &SILENT_LINK);
-    Ok(())
-}
-
-/// A clock of these sizes has its lines, and room for a timer on the last.
-fn starts_with(rt: &impl Abort, alloc: Global, lines: usize, terminals: usize) -> Result<(), Fail>
-    requires lines { 1 ≤ lines × lines ≤ 64 }
-    requires terminals { 1 ≤ terminals × terminals ≤ 8 }
-{
-    let mut clock = Clock::start(alloc, lines, terminals)?;
-    assert!(rt; clock.lines() == lines);
-    assert!(rt; holds(rt, &mut clock, Step::Start(lines - 1, Timer::T201, 0)));
-    Ok(())
-}
+/// The first timer of a clock.
+const FIRST: [Step; 1] = [Step::Start(0, Timer::T201, 0)];
 
 #[test]
-fn starts_at_the_ends_of_the_ranges(rt: HostRuntime) -> Result<(), Fail> {
-    for lines in [1, 64] {
-        starts_with(&rt, rt.alloc(), lines, 1)?;
-        starts_with(&rt, rt.alloc(), lines, 8)?;
-    }
-    Ok(())
+fn runs_of_other_clocks(rt: HostRuntime) {
+    run(&rt, rt.alloc(), 2, 1, &ONE_MOMENT);
+    run(&rt, rt.alloc(), 2, 1, &FULL_LINE);
+    run(&rt, rt.alloc(), 64, 8, &GREATEST_MOMENTS);
+    run(&rt, rt.alloc(), 1, 8, &SILENT_LINK);
+    run(&rt, rt.alloc(), 1, 1, &FIRST);
+    run(&rt, rt.alloc(), 64, 1, &FIRST);
 }
 
 /// Two timers are started; one is stopped, and one falls due.
@@ -244,12 +218,4 @@ fn ten_orders(rt: HostRuntime) -> Result<(), Fail> {
 #[test]
 fn ten_thousand_orders(rt: HostRuntime) -> Result<(), Fail> {
     orders(&rt, rt.alloc(), 10_000)
-}
-
-#[test]
-fn a_fault_says_what_is_missing(rt: HostRuntime) -> Result<(), Fail> {
-    let text = format!(in rt.alloc(); "{}", StartFault::OutOfMemory)?;
-    assert!(rt; text.as_str() == "out of memory");
-    assert!(rt; StartFault::OutOfMemory as u8 == 1);
-    Ok(())
 }

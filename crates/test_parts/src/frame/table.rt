@@ -5,7 +5,7 @@ use lapd_seq::Seq;
 use std::process::Abort;
 
 // The names of table 5.
-#[derive(Clone, Copy, PartialEq, Eq, Debug)]
+#[derive(Clone, Copy, PartialEq)]
 enum Name {
     I,
     Rr,
@@ -94,7 +94,7 @@ fn row_of(octet: u8, command: bool) -> Option<Row> {
 }
 
 // What a control field says: its row, N(S) and N(R) where it has them, and P/F.
-#[derive(Clone, Copy, PartialEq, Eq, Debug)]
+#[derive(Clone, Copy, PartialEq)]
 struct Fields {
     name: Name,
     ns: Option<u8>,
@@ -196,7 +196,7 @@ fn expect_table(rt: &impl Abort, side: Side, command: bool, first: u8) {
             let octets = [first, 0x81, octet, second, 1, 2, 3, 4, 5, 6, 7, 8];
             for len in 0..13usize {
                 let agrees = is_as_table_says(side, command, &octets[..len], octet, second);
-                assert!(rt; agrees, "octet {octet} length {len}");
+                assert!(rt; agrees);
             }
         }
     }

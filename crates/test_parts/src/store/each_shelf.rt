@@ -1,6 +1,5 @@
 //! The same tests of each shelf, through the trait.
-ghost use Rattle.std.specs.Prelude.{◌≡◌, ◌≤◌, length};
-ghost use Rattle.lapd_store.specs.Store.{empty_store};
+ghost use Rattle.std.specs.Prelude.{◌≤◌};
 
 use lapd_store::{RawShelf, Shelf, SlabShelf};
 use std::alloc::Global;
@@ -9,58 +8,25 @@ use std::test::Fail;
 
 const PATTERN: [u8; 8] = [0xFF, 0x00, 0x7E, 0xFF, 0xFF, 0x01, 0x80, 0x55];
 
-// A shelf of one slot holds one message, and another once it was released.
-fn holds_one<S: Shelf>(rt: &impl Abort, mut shelf: S) -> Result<(), Fail>
-    requires { S.store shelf ≡ empty_store 1 8 }
-{
-    let slot = shelf.put(PATTERN.as_slice()).ok_or("no slot")?;
-    assert!(rt; shelf.put(b"D".as_slice()).is_none());
-    assert!(rt; shelf.used() == 1 && shelf.octets() == 8);
-    assert!(rt; shelf.get(&slot) == PATTERN.as_slice());
+// A shelf of one free slot holds one message, until it is released.
+fn holds_one<S: Shelf>(rt: &impl Abort, shelf: &mut S, octets: &[u8]) {
+    assert!(rt; octets.len() <= usize::from(shelf.width()));
+    let slot = shelf.put(octets).expect(rt, "a slot");
+    assert!(rt; shelf.put(&[]).is_none());
+    assert!(rt; shelf.get(&slot) == octets);
     shelf.release(slot);
     assert!(rt; shelf.used() == 0 && shelf.octets() == 0);
-    let again = shelf.put(b"ABC".as_slice()).ok_or("no slot")?;
-    assert!(rt; shelf.get(&again) == b"ABC".as_slice());
-    Ok(())
 }
 
 #[test]
 fn one_slot_holds_one_message(rt: HostRuntime) -> Result<(), Fail> {
-    let slab = SlabShelf::start(rt.alloc(), 1, 8)?;
-    holds_one(&rt, slab)?;
-    let raw = RawShelf::start(rt.alloc(), 1, 8)?;
-    holds_one(&rt, raw)
-}
-
-// What was put comes back.
-fn gives_back<S: Shelf>(mut shelf: S, octets: &[u8]) -> bool
-    requires { length octets.now ≤ (S.store shelf).width }
-{
-    let Some(slot) = shelf.put(octets) else {
-        return false;
-    };
-    shelf.get(&slot) == octets && shelf.octets() == octets.len() as u64
-}
-
-// Contents of some lengths come back from each shelf of a width.
-fn each_gives_back(alloc: Global, width: u16, octets: &[u8]) -> Result<bool, Fail>
-    requires least { 8 ≤ width }
-    requires most { width ≤ 260 }
-    requires fits { length octets.now ≤ width }
-{
-    let slab = SlabShelf::start(alloc, 3, width)?;
-    let raw = RawShelf::start(alloc, 3, width)?;
-    Ok(gives_back(slab, octets) && gives_back(raw, octets))
-}
-
-// The first octets of some come back, for every number of them.
-fn every_length_comes_back(alloc: Global, octets: &[u8; 260]) -> Result<bool, Fail> {
-    for len in 0..261 {
-        if !each_gives_back(alloc, 260, &octets[..len])? {
-            return Ok(false);
-        }
-    }
-    Ok(true)
+    let mut slab = SlabShelf::start(rt.alloc(), 1, 8)?;
+    holds_one(&rt, &mut slab, PATTERN.as_slice());
+    holds_one(&rt, &mut slab, b"ABC".as_slice());
+    let mut raw = RawShelf::start(rt.alloc(), 1, 8)?;
+    holds_one(&rt, &mut raw, PATTERN.as_slice());
+    holds_one(&rt, &mut raw, b"ABC".as_slice());
+    Ok(())
 }
 
 // Octets of which no two that lie near each other are the same.
@@ -72,12 +38,18 @@ fn rising() -> [u8; 260] {
     octets
 }
 
+fn holds_every_length<S: Shelf>(rt: &impl Abort, shelf: &mut S, octets: &[u8; 260]) {
+    for len in 0..261 {
+        holds_one(rt, shelf, &octets[..len]);
+    }
+}
+
 #[test]
 fn contents_of_every_length_come_back(rt: HostRuntime) -> Result<(), Fail> {
-    assert!(rt; each_gives_back(rt.alloc(), 8, &[])?);
-    assert!(rt; each_gives_back(rt.alloc(), 8, &PATTERN[..7])?);
-    assert!(rt; each_gives_back(rt.alloc(), 8, PATTERN.as_slice())?);
-    assert!(rt; every_length_comes_back(rt.alloc(), &rising())?);
+    let mut slab = SlabShelf::start(rt.alloc(), 1, 260)?;
+    holds_every_length(&rt, &mut slab, &rising());
+    let mut raw = RawShelf::start(rt.alloc(), 1, 260)?;
+    holds_every_length(&rt, &mut raw, &rising());
     Ok(())
 }
 
@@ -87,20 +59,21 @@ fn takes<S: Shelf>(mut shelf: S, slots: u32, width: u16) -> bool {
     is_told && shelf.put(&[]).is_some() == (slots > 0)
 }
 
-fn each_starts(alloc: Global, slots: u32, width: u16) -> Result<bool, Fail>
+fn each_starts(rt: &impl Abort, alloc: Global, slots: u32, width: u16)
     requires few { slots ≤ 8192 }
     requires least { 8 ≤ width }
     requires most { width ≤ 260 }
 {
-    let slab = SlabShelf::start(alloc, slots, width)?;
-    let raw = RawShelf::start(alloc, slots, width)?;
-    Ok(takes(slab, slots, width) && takes(raw, slots, width))
+    let slab = SlabShelf::start(alloc, slots, width).expect(rt, "memory");
+    assert!(rt; takes(slab, slots, width));
+    let raw = RawShelf::start(alloc, slots, width).expect(rt, "memory");
+    assert!(rt; takes(raw, slots, width));
 }
 
 #[test]
-fn starts_at_the_ends_of_the_ranges(rt: HostRuntime) -> Result<(), Fail> {
-    assert!(rt; each_starts(rt.alloc(), 0, 8)? && each_starts(rt.alloc(), 0, 260)?);
-    assert!(rt; each_starts(rt.alloc(), 1, 8)? && each_starts(rt.alloc(), 1, 260)?);
-    assert!(rt; each_starts(rt.alloc(), 8192, 8)? && each_starts(rt.alloc(), 8192, 260)?);
-    Ok(())
+fn starts_at_the_ends_of_the_ranges(rt: HostRuntime) {
+    each_starts(&rt, rt.alloc(), 0, 8);
+    each_starts(&rt, rt.alloc(), 0, 260);
+    each_starts(&rt, rt.alloc(), 1, 8);
+    each_starts(&rt, rt.alloc(), 8192, 260);
 }

@@ -4,5 +4,4 @@
 mod each_shelf;
 mod outbox;
 mod sharing;
-mod slab_shelf;
 mod slot_queue;

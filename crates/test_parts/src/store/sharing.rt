@@ -139,42 +139,40 @@ fn take_mixed<S: Shelf>(
     }
 }
 
-// Fills the 8192 slots of a shelf, frees some of them in a mixed order, fills them again, and frees all.
-fn serves_again<S: Shelf>(rt: &impl Abort, alloc: Global, mut shelf: S) -> Result<(), Fail>
+// Posts so many messages on a shelf through two queues, takes some of them in a mixed order, posts as many again, and takes
+// all.
+fn serve<S: Shelf>(
+    rt: &impl Abort,
+    alloc: Global,
+    mut shelf: S,
+    count: u16,
+    again: u16,
+) -> Result<(), Fail>
     requires { S.store shelf ≡ empty_store 8192 8 }
 {
     let mut first = SlotQueue::start(alloc, 8192)?;
     let mut second = SlotQueue::start(alloc, 8192)?;
     let mut expected = Expected::new();
-    fill(rt, &mut first, &mut second, &mut shelf, 0, 8192);
-    assert!(rt; shelf.used() == 8192 && shelf.octets() == 4 * 8192);
-    assert!(rt; shelf.put(b"more".as_slice()).is_none());
-    take_mixed(rt, &mut first, &mut second, &mut shelf, &mut expected, 3000);
-    assert!(rt; shelf.used() == 5192);
-    fill(rt, &mut first, &mut second, &mut shelf, 8192, 11192);
-    assert!(rt; shelf.used() == 8192);
-    assert!(rt; shelf.put(b"more".as_slice()).is_none());
-    take_mixed(rt, &mut first, &mut second, &mut shelf, &mut expected, 8192);
-    assert!(rt; shelf.used() == 0 && shelf.octets() == 0);
-    Ok(())
-}
-
-#[test]
-fn every_slot_serves_again_whatever_the_order(rt: HostRuntime) -> Result<(), Fail> {
-    let slab = SlabShelf::start(rt.alloc(), 8192, 8)?;
-    serves_again(&rt, rt.alloc(), slab)?;
-    let raw = RawShelf::start(rt.alloc(), 8192, 8)?;
-    serves_again(&rt, rt.alloc(), raw)
-}
-
-// Posts so many messages on a shelf through two queues, and takes them all.
-fn serve<S: Shelf>(rt: &impl Abort, alloc: Global, mut shelf: S, count: u32) -> Result<(), Fail>
-    requires { S.store shelf ≡ empty_store 8192 8 }
-{
-    let mut first = SlotQueue::start(alloc, 8192)?;
-    let mut second = SlotQueue::start(alloc, 8192)?;
-    let mut expected = Expected::new();
+    let (count, again) = (u32::from(count), u32::from(again));
     fill(rt, &mut first, &mut second, &mut shelf, 0, count);
+    assert!(rt; shelf.used() == count);
+    take_mixed(
+        rt,
+        &mut first,
+        &mut second,
+        &mut shelf,
+        &mut expected,
+        again,
+    );
+    fill(
+        rt,
+        &mut first,
+        &mut second,
+        &mut shelf,
+        count,
+        count + again,
+    );
+    assert!(rt; shelf.used() == count);
     take_mixed(
         rt,
         &mut first,
@@ -187,28 +185,36 @@ fn serve<S: Shelf>(rt: &impl Abort, alloc: Global, mut shelf: S, count: u32) -> 
     Ok(())
 }
 
+#[test]
+fn every_slot_serves_again_whatever_the_order(rt: HostRuntime) -> Result<(), Fail> {
+    let slab = SlabShelf::start(rt.alloc(), 8192, 8)?;
+    serve(&rt, rt.alloc(), slab, 8192, 3000)?;
+    let raw = RawShelf::start(rt.alloc(), 8192, 8)?;
+    serve(&rt, rt.alloc(), raw, 8192, 3000)
+}
+
 /// `tests/memory` has this test and the next make the same number of allocations.
 #[test]
 fn ten_messages(rt: HostRuntime) -> Result<(), Fail> {
     let shelf = SlabShelf::start(rt.alloc(), 8192, 8)?;
-    serve(&rt, rt.alloc(), shelf, 10)
+    serve(&rt, rt.alloc(), shelf, 10, 0)
 }
 
 #[test]
 fn eight_thousand_messages(rt: HostRuntime) -> Result<(), Fail> {
     let shelf = SlabShelf::start(rt.alloc(), 8192, 8)?;
-    serve(&rt, rt.alloc(), shelf, 8000)
+    serve(&rt, rt.alloc(), shelf, 8000, 0)
 }
 
 /// `tests/memory` does the same with this test and the next.
 #[test]
 fn ten_messages_in_a_region(rt: HostRuntime) -> Result<(), Fail> {
     let shelf = RawShelf::start(rt.alloc(), 8192, 8)?;
-    serve(&rt, rt.alloc(), shelf, 10)
+    serve(&rt, rt.alloc(), shelf, 10, 0)
 }
 
 #[test]
 fn eight_thousand_messages_in_a_region(rt: HostRuntime) -> Result<(), Fail> {
     let shelf = RawShelf::start(rt.alloc(), 8192, 8)?;
-    serve(&rt, rt.alloc(), shelf, 8000)
+    serve(&rt, rt.alloc(), shelf, 8000, 0)
 }

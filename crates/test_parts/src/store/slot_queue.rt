@@ -1,38 +1,40 @@
 //! A queue of slots.
-use lapd_store::{Shelf, SlabShelf, SlotQueue};
+use lapd_store::{Shelf, SlabShelf, Slot, SlotQueue};
+use std::alloc::Global;
+use std::process::Abort;
 use std::test::Fail;
 
-#[test]
-fn a_queue_gives_its_slots_in_their_order(rt: HostRuntime) -> Result<(), Fail> {
-    let mut shelf = SlabShelf::start(rt.alloc(), 3, 8)?;
-    let first = shelf.put(b"A".as_slice()).ok_or("no slot")?;
-    let second = shelf.put(b"B".as_slice()).ok_or("no slot")?;
-    let third = shelf.put(b"C".as_slice()).ok_or("no slot")?;
-    let mut queue = SlotQueue::start(rt.alloc(), 2)?;
-    assert!(rt; queue.is_empty());
-    assert!(rt; queue.capacity() == 2);
-    assert!(rt; queue.pop() == None);
+// An empty queue of two places gives what it was given first.
+fn gives_in_order(rt: &impl Abort, queue: &mut SlotQueue, first: Slot, second: Slot) {
+    assert!(rt; !queue.is_full());
     queue.push(first);
+    assert!(rt; !queue.is_full());
     queue.push(second);
-    assert!(rt; queue.is_full());
+    assert!(rt; queue.is_full() && queue.len() == 2);
+    assert!(rt; queue.get(1) == Some(second));
     assert!(rt; queue.pop() == Some(first));
-    queue.push(third);
-    assert!(rt; queue.len() == 2);
-    assert!(rt; queue.get(0) == Some(second));
-    assert!(rt; queue.get(1) == Some(third));
-    assert!(rt; queue.get(2) == None);
-    assert!(rt; queue.pop() == Some(second));
-    assert!(rt; queue.pop() == Some(third));
-    assert!(rt; queue.is_empty());
-    Ok(())
 }
 
 #[test]
-fn starts_at_the_ends_of_the_range(rt: HostRuntime) -> Result<(), Fail> {
-    for capacity in [0, 1, 8192] {
-        let queue = SlotQueue::start(rt.alloc(), capacity)?;
-        assert!(rt; queue.capacity() == capacity && queue.is_empty());
-        assert!(rt; queue.is_full() == (capacity == 0));
-    }
+fn a_queue_gives_its_slots_in_their_order(rt: HostRuntime) -> Result<(), Fail> {
+    let mut shelf = SlabShelf::start(rt.alloc(), 2, 8)?;
+    let mut queue = SlotQueue::start(rt.alloc(), 2)?;
+    let first = shelf.put(b"A".as_slice()).expect(&rt, "a slot");
+    let second = shelf.put(b"B".as_slice()).expect(&rt, "a slot");
+    gives_in_order(&rt, &mut queue, first, second);
     Ok(())
+}
+
+// A queue starts empty, with this capacity.
+fn starts(rt: &impl Abort, alloc: Global, capacity: usize) {
+    let queue = SlotQueue::start(alloc, capacity).expect(rt, "memory");
+    assert!(rt; queue.capacity() == capacity);
+    assert!(rt; queue.is_empty());
+}
+
+#[test]
+fn starts_at_the_ends_of_the_range(rt: HostRuntime) {
+    starts(&rt, rt.alloc(), 0);
+    starts(&rt, rt.alloc(), 1);
+    starts(&rt, rt.alloc(), 8192);
 }

@@ -9,8 +9,3 @@ pub fn request(low: u8) -> [u8; 5] {
 pub fn response(last: u8) -> [u8; 5] {
     [0x0F, 0x00, 0x01, 0x05, last]
 }
-
-/// An identity verify.
-pub fn verify(last: u8) -> [u8; 5] {
-    [0x0F, 0x12, 0x34, 0x07, last]
-}

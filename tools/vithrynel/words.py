@@ -6,7 +6,7 @@ from typing import Callable, List
 from .program import Fault
 
 HELP_OF_SCRIPT = "a script of docs/FORMAT.md, or - for standard input"
-HELP_OF_PROGRAM = "the program lapdsim; else crates/lapdsim/out/lapdsim"
+HELP_OF_PROGRAM = "the program lapdsim; by default crates/lapdsim/out/lapdsim, which `rt run` there builds"
 
 
 def name_of(path: str) -> str:

@@ -7,7 +7,7 @@ use Rattle.lapd_seq.specs.Numbers.{seq}
 unfoldable pub distance_of : Seq → Seq → ℕ
 distance_of from to = (128 + to.value - from.value) % 128
 
--- V(A) and V(S) stand for the plain numbers a <= s, which are at most 127 apart (Q.921 clauses 3.5.2.2 and 3.5.2.3).
+-- V(A) and V(S) stand for the plain numbers a <= s, which are at most 127 apart (Q.921 clauses 3.5.2.3 and 3.5.2.2).
 pub record AreNumbers (va vs : Seq) (a s : ℕ) : Type 0 where
   pub ordered : a ≤ s
   pub within : s ≤ a + 127

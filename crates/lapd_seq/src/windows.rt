@@ -8,7 +8,7 @@ ghost use Rattle.lapd_seq.specs.Windows.{va_of, vs_of, outstanding_of, Stands};
 use crate::circle::distance;
 use crate::numbers::Seq;
 
-/// The variables V(A) and V(S) of one link (Q.921 clauses 3.5.2.2 and 3.5.2.3).
+/// The variables V(A) and V(S) of one link (Q.921 clauses 3.5.2.3 and 3.5.2.2).
 ///
 /// It stands for two plain numbers, which count from 0 since the link was established: the first
 /// `a` I-frames are acknowledged and the first `s` are sent, with `a <= s`, at most 127 apart. V(A)

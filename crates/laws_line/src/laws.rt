@@ -59,7 +59,7 @@ pub fn requests_take_effect()
 /// link is established anew; only a poll puts a response with F=1 behind what waits; a loss is told only of SABME, DISC, UA
 /// or DM, the expiry of T200 and a release; and the numbers begin anew only where it is told, or at the end of an
 /// establishment that this side began itself. And what it leaves follows: the state by the table of moves, what waits and
-/// what is put behind it, what is lost, the flags, and what is told (Q.921 clauses 3.5.2.3, 5.5 to 5.8 and 5.10.3).
+/// what is put behind it, what is lost, the flags, and what is told (Q.921 clauses 3.5.2.2, 5.5 to 5.8 and 5.10.3).
 pub fn links_are_steady()
     ensures { LinksAreSteady }
 {}

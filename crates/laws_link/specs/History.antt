@@ -58,7 +58,7 @@ unfoldable pub with_all : Terms → List Event → Link → History → History
 with_all t [] l h = h
 with_all t (e ∷ es) l h = with_all t es (after t e l) (with_share h (share t e l))
 
--- A link holds the contents of its history, and V(A) counts those that are acknowledged (Q.921 clause 3.5.2.2).
+-- A link holds the contents of its history, and V(A) counts those that are acknowledged (Q.921 clause 3.5.2.3).
 pub record IsCounted (h : History) (l : Link) : Type 0 where
   pub accepted : l.contents ≡ h.accepted
   pub acknowledged : l.a ≡ h.acknowledged

@@ -54,6 +54,6 @@ i_frames t cleared l = 0
 
 -- V(S) goes on by each I-frame that is given. An event that gives none leaves it, or takes it back to V(A): I-frames
 -- carry contents one after the other, but where all that is not acknowledged is sent again, or goes, or the numbers begin
--- anew (Q.921 clauses 3.5.2.3, 5.6.4 and 5.6.7).
+-- anew (Q.921 clauses 3.5.2.2, 5.6.4 and 5.6.7).
 abbrev pub GoesOn : ℕ → Link → Link → Type 0
 GoesOn i_frames before after = (after.s ≡ before.s + i_frames) ⊎ ((i_frames ≡ 0) × (after.s ≡ after.a))

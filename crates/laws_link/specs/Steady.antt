@@ -29,7 +29,7 @@ pub record AsksFrom (e : Event) (l : Link) (n : ℕ) : Type 0 where
   pub names : named l.a l.s nr ≡ Some n
 
 -- V(S) stays; or it goes on by the I-frame that is given; or it goes back to the number from which the terminal asks; or
--- to V(A), where all that is kept goes; or to 0, where the numbers begin anew (clauses 3.5.2.3 and 5.6.1).
+-- to V(A), where all that is kept goes; or to 0, where the numbers begin anew (clauses 3.5.2.2 and 5.6.1).
 abbrev pub MovesSent : Terms → Event → Link → Link → Type 0
 MovesSent t e before after =
     (after.s ≡ before.s) ⊎ ((e ≡ offer) × (after.s ≡ before.s + 1)) ⊎ AsksFrom e before after.s

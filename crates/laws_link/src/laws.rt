@@ -30,7 +30,7 @@ pub fn nothing_is_lost()
 
 /// What is sent is what was accepted. An I-frame that an offer gives carries the link's contents number V(S), whole, and
 /// its N(S) is that number modulo 128; no other frame carries contents. V(S) goes on by each I-frame, or goes back to
-/// V(A), where what is not acknowledged is sent again (Q.921 clauses 3.5.2.3, 5.6.1, 5.6.4 and 5.6.7).
+/// V(A), where what is not acknowledged is sent again (Q.921 clauses 3.5.2.2, 5.6.1, 5.6.4 and 5.6.7).
 pub fn sent_is_accepted()
     ensures offered { (t : Terms) (l : Link) → IsInRange t → IsSound t l
         → IfSome (given t l) (λ g. IsOffered l.contents l.s g.frame g.contents) }

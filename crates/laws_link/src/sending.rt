@@ -77,7 +77,7 @@ pub fn beginnings_are_told()
 /// anew, to 0. Own busy begins by SetBusy, and ends by ClearBusy, by an establishment that layer 3 asks for or that is told
 /// (an establishment indication, or an error after which the link is established anew), and where the TEI leaves. And all
 /// that is kept goes only by SABME, DISC, UA or DM of the terminal, by the expiry of T200, by a release that layer 3 asks
-/// for, and where the TEI leaves (Q.921 clauses 3.5.2.3, 5.5.1 to 5.5.3, 5.6.1, 5.6.4, 5.6.6, 5.6.7 and 5.7).
+/// for, and where the TEI leaves (Q.921 clauses 3.5.2.2, 5.5.1 to 5.5.3, 5.6.1, 5.6.4, 5.6.6, 5.6.7 and 5.7).
 pub fn steady_unless_seen()
     ensures sent { (t : Terms) (e : Event) (l : Link) → MovesSent t e l (after t e l) }
     ensures busy { (t : Terms) (e : Event) (l : Link) → MovesBusy e l (after t e l) (told t e l).notes }

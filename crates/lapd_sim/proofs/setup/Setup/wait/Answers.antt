@@ -1,4 +1,4 @@
--- Hand-written answers for `Bench::wait`.
+-- Hand-written answers for `Setup::wait`.
 use Rattle.std.proofs.Common.{◌+◌, sym, subst, nat_le}
 use Rattle.lapd_clock.specs.Timers.{time_until}
 use Rattle.lapd_script.specs.declared.kind.FaultKind.TheVariants.{TimeOver}

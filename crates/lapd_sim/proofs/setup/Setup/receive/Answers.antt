@@ -1,4 +1,4 @@
--- Hand-written answers for `Bench::receive`.
+-- Hand-written answers for `Setup::receive`.
 use Rattle.std.proofs.Common.{◌<◌, sym, subst, ap}
 use Rattle.lapd_transcript.specs.Streams.{IsPut, output}
 use Rattle.model_sim.specs.Steps.{after_rx, octets_at}

@@ -1,4 +1,4 @@
--- Hand-written answers for `Bench::pull`.
+-- Hand-written answers for `Setup::pull`.
 use Rattle.std.proofs.Common.{◌≡◌, ◌<◌, ◌++◌, [], length, take, get_or, sym, ap, subst, arith}
 use Rattle.std.proofs.lemmas.List.{length-take}
 use Rattle.lapd_transcript.specs.Streams.{IsPut, IsStuck, output}

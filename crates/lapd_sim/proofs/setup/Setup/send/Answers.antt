@@ -1,4 +1,4 @@
--- Hand-written answers for `Bench::send`.
+-- Hand-written answers for `Setup::send`.
 use Rattle.std.proofs.Common.{◌<◌, [], length, set, sym, ap, subst, arith}
 use Rattle.model_sim.specs.Setup.{terminal_at, octets_sent, after_sending, with_terminal}
 use Rattle.model_sim.specs.Steps.{octets_at}

@@ -117,6 +117,7 @@ impl Clock {
         ensures refused { result ≡ false → self.new ≡ self.old }
 
         ensures lines { self.new.lines ≡ self.old.lines }
+        ensures lengths { self.new.lengths ≡ self.old.lengths }
         ensures sound { IsSound self.new }
     {
         match order {
@@ -147,6 +148,7 @@ impl Clock {
 
         ensures line { IfSome result (λ due. due.0 < self.old.lines) }
         ensures lines { self.new.lines ≡ self.old.lines }
+        ensures lengths { self.new.lengths ≡ self.old.lengths }
         ensures sound { IsSound self.new }
     {
         let (line, held) = first_of(&self.lines)?;

@@ -10,7 +10,7 @@ use Rattle.model_line.proofs.Ranges.{ranges_of}
 use Rattle.model_card.specs.Card.{Card}
 use Rattle.model_card.specs.Event.{Event}
 use Rattle.model_card.specs.Machine.{answer}
-use Rattle.model_card.specs.Sound.{IsSound}
+use Rattle.model_card.specs.Reached.{IsReached}
 use Rattle.lapd_plain.specs.declared.reports.PlainReport.{PlainReport}
 use Rattle.lapd_plain.specs.Reports.{Shows, told_by, contents_of}
 use Rattle.lapd_c.specs.Cards.{ShowsAnswer}
@@ -26,20 +26,20 @@ pub if_some : {X : Type 0} (P : X → Type 0) (o : Option X) (x : X) → o ≡ S
 if_some P o x e p = subst (λ r. IfSome r P) (sym e) p
 
 -- contents of an answer have room in a report
-pub small : (m : Card) (e : Event) (t : LineTold) → IsSound m → told t ≡ answer e m → length (contents_of t.contents) ≤ 260
-small m e t sound is =
+pub small : (m : Card) (e : Event) (t : LineTold) → IsReached m → told t ≡ answer e m → length (contents_of t.contents) ≤ 260
+small m e t reached is =
     let fits : length (contents_of (contents_in (told t))) ≤ m.config.n201 = subst (λ a. length (contents_of (contents_in a)) ≤ m.config.n201) (sym is) (contents_fit m e) in
-    let most : m.config.n201 ≤ 260 = (ranges_of m.config sound.config).n201.most in
+    let most : m.config.n201 ≤ 260 = (ranges_of m.config reached.config).n201.most in
     omega arith
 
 -- the parts of a report of the card, one by one
-pub shown : (m : Card) (e : Event) (r : Report) (notes : List Note) (orders : List Order) (p : PlainReport) → IsSound m → told (report_told r) ≡ answer e m
+pub shown : (m : Card) (e : Event) (r : Report) (notes : List Note) (orders : List Order) (p : PlainReport) → IsReached m → told (report_told r) ≡ answer e m
     → notes ≡ (report_told r).notes → orders ≡ (report_told r).orders
     → (length (contents_of (option_copied r.delivered)) ≤ 260 → Shows p (told_by notes orders r.cause r.lost (option_copied r.delivered)))
     → ShowsAnswer p (answer e m)
-shown m e r notes orders p sound is same_notes same_orders h =
+shown m e r notes orders p reached is same_notes same_orders h =
     let t = report_told r in
-    let all = h (small m e t sound is) in
+    let all = h (small m e t reached is) in
     let with_notes = subst (λ (n : List Note). Shows p (told_by n orders r.cause r.lost (option_copied r.delivered))) same_notes all in
     subst (ShowsAnswer p) is (subst (λ (o : List Order). Shows p (told_by t.notes o r.cause r.lost (option_copied r.delivered))) same_orders with_notes)
 

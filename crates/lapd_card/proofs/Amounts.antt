@@ -10,8 +10,9 @@ use Rattle.model_line.specs.Sound.{IsInRange}
 use Rattle.model_line.specs.Stored.{held_in, octets_of, stored_in}
 use Rattle.model_line.proofs.Ranges.{ranges_of}
 use Rattle.model_card.specs.Card.{Card}
-use Rattle.model_card.specs.Sound.{IsSound}
+use Rattle.model_card.specs.Reached.{IsReached}
 use Rattle.model_card.specs.Stored.{stored, limit}
+use Rattle.model_card.proofs.Reaching.{reached-sound}
 use Rattle.model_card.proofs.Stored.{stored_within_limit}
 use Rattle.lapd_store.specs.Store.{Store, stored_octets}
 use Rattle.lapd_card.specs.Card.{Held}
@@ -61,8 +62,8 @@ limit_small c range =
     let r = ranges_of c range in
     limit_most c.lines c.terminals c.control c.slots c.n201 r.lines.most r.terminals.most r.control.most r.slots.most r.n201.most
 
-pub stored_small : (m : Card) → IsSound m → stored m ≤ 2232192
-stored_small m sound = omega (arith, stored_within_limit.now m sound, limit_small m.config sound.config)
+pub stored_small : (m : Card) → IsReached m → stored m ≤ 2232192
+stored_small m reached = omega (arith, stored_within_limit.now m (reached-sound m reached), limit_small m.config reached.config)
 
 pub fits_32 : (n : ℕ) → n ≤ 2232192 → Fits w32 n
 fits_32 n small = grind (arith, small)

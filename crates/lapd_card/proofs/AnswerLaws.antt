@@ -9,6 +9,7 @@ use Rattle.model_card.specs.Counts.{may_send}
 use Rattle.model_card.specs.Event.{at}
 use Rattle.model_card.specs.Machine.{after, answer}
 use Rattle.model_card.proofs.Drops.{drop_costs_nothing}
+use Rattle.model_card.proofs.Reaching.{reached-sound}
 use Rattle.model_card.proofs.Starts.{expiry_starts}
 use Rattle.lapd_store.specs.Store.{Store}
 use Rattle.lapd_card.specs.Card.{Held, line_count}
@@ -24,4 +25,4 @@ pub drop_leaves : {S : Type 0} (store : S → Store) (card : Held S) (line value
     → ((m : machine.Card) → Stands store card m → told t ≡ answer (at line (octet value)) m)
     → (m : machine.Card) → Stands store card m → IsSome t.cause → may_send (after (at line (octet value)) m) ≡ may_send m
 drop_leaves store card line value within t is m s some =
-    drop_costs_nothing m line value s.sound (subst (λ c. line < c.lines) (sym s.config) within) (subst (λ a. IsSome (cause_in a)) (is m s) some)
+    drop_costs_nothing m line value (reached-sound m s.reached) (subst (λ c. line < c.lines) (sym s.config) within) (subst (λ a. IsSome (cause_in a)) (is m s) some)

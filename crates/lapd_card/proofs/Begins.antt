@@ -10,9 +10,8 @@ use Rattle.lapd_line.proofs.Stood.{held_of}
 use Rattle.model_line.specs.declared.config.Config.{Config}
 use Rattle.model_line.specs.Config.{first_fault}
 use Rattle.model_line.specs.Line.{fresh_line}
-use Rattle.laws_card.proofs.TimersRun.{begins-timely-card}
 use Rattle.model_card.specs.Card.{fresh}
-use Rattle.model_card.proofs.CardSound.{cards_stay_sound}
+use Rattle.model_card.proofs.Reaching.{reached-fresh}
 use Rattle.lapd_store.specs.Ownership.{Holds}
 use Rattle.lapd_store.specs.Store.{Store, used_slots}
 use Rattle.lapd_store.proofs.Ownership.{Holds-unused, used_slots-held}
@@ -66,6 +65,5 @@ fresh_stands store c ls shelf range room all =
             (subst (λ ps. Holds s (ps ++ [])) (sym (fresh_owned c ls s wide none all.each)) none);
       };
       slots = slots;
-      sound = cards_stay_sound.begins c range;
-      timers = begins-timely-card c;
+      reached = reached-fresh c range;
     }

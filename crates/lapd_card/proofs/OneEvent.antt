@@ -1,5 +1,5 @@
 -- An event at a card is one at one of its lines.
-use Rattle.std.proofs.Common.{if◌then◌else◌, ◌≡◌, ℕ, ◌≤◌, ◌<◌, Bool, true, false, ◌&&◌, List, [], ◌++◌, length, nat_le, refl, sym, ap, subst, ◌∙◌, Some, None, IsSome, Option, Ok, Err, Result, IfOk, IfErr, OnErr}
+use Rattle.std.proofs.Common.{if◌then◌else◌, ◌≡◌, ℕ, ◌≤◌, ◌<◌, Bool, true, false, ◌&&◌, List, [], ◌++◌, length, nat_le, refl, sym, ap, subst, ◌∙◌, Some, None, IsSome, Option, arith, Ok, Err, Result, IfOk, IfErr, OnErr}
 use Rattle.std.proofs.lemmas.Bool.{lt-ltb}
 use Rattle.std.proofs.lemmas.List.{append-nil}
 use Rattle.std.proofs.lemmas.Option.{none-some}
@@ -18,13 +18,12 @@ use Rattle.model_line.specs.Machine as lines
 use Rattle.model_line.specs.Refusal.{refusal}
 use Rattle.model_line.specs.Request.{Request}
 use Rattle.model_line.specs.Stored.{slots_of, octets_of}
+use Rattle.model_line.proofs.Ranges.{ranges_of}
 use Rattle.model_card.specs.Card.{Card, line_at, used, is_full, state}
 use Rattle.model_card.specs.Event.{Event, at}
 use Rattle.model_card.specs.Machine.{wants_room, after, answer}
-use Rattle.model_card.specs.Sound.{IsSound}
-use Rattle.laws_card.specs.Timers.{AllHaveTheirTimers}
-use Rattle.laws_card.proofs.TimersRun.{timely-after}
-use Rattle.model_card.proofs.CardSound.{cards_stay_sound}
+use Rattle.model_card.specs.Reached.{IsReached}
+use Rattle.model_card.proofs.Reaching.{reached-after, reached-sound}
 use Rattle.model_card.proofs.Refusals.{refused_by_the_table}
 use Rattle.lapd_store.specs.Ownership.{owned_octets}
 use Rattle.lapd_store.specs.Store.{Store, used_slots, stored_octets}
@@ -58,6 +57,18 @@ pub pull_takes : (c : Config) (l : line.Line) → lines.takes_slot c line_event.
 unfolding lines.takes_slot
 pull_takes c l = refl
 
+-- a card has as many lines as its configuration says
+pub lines-all : {S : Type 0} (store : S → Store) (card : Held S) → HasPast store card → length card.lines ≡ line_count card
+lines-all store card (m, s) = s.lines.count ∙ (reached-sound m s.reached).count ∙ ap (λ c. c.lines) s.config
+
+pub line-there : {S : Type 0} (store : S → Store) (card : Held S) (number : ℕ) → HasPast store card → number < line_count card → number < length card.lines
+line-there store card number past within = subst (λ n. number < n) (sym (lines-all store card past)) within
+
+pub few-lines : {S : Type 0} (store : S → Store) (card : Held S) → HasPast store card → length card.lines ≤ 64
+few-lines store card (m, s) =
+    let few : m.config.lines ≤ 64 = (ranges_of m.config s.reached.config).lines.most in
+    omega (arith, few, s.lines.count, (reached-sound m s.reached).count)
+
 -- what the lines do, the card does
 pub event_leads : {S : Type 0} (store : S → Store) (what : line_event.Event) (number : ℕ) (old : Held S) (ls : List Line) (shelf : S) → number < line_count old → ((m : Card) → Stands store old m → wants_room (at number what) m ≡ false) → Lead number what old.lines (store old.shelf) ls (store shelf) → Leads store (at number what) old (record { config = old.config; lines = ls; shelf = shelf })
 event_leads {S} store what number old ls shelf within room lead =
@@ -70,8 +81,7 @@ event_leads {S} store what number old ls shelf within room lead =
             config = s.config;
             lines = subst (λ c. Stand old.config ls (store shelf) (after_event c number what m.lines)) (sym s.config) (lead.stand old.config m.lines s.lines);
             slots = subst (λ n. old.config.slots ≤ n) (sym lead.limits.slots) s.slots;
-            sound = subst IsSound is (cards_stay_sound.stays m (at number what) s.sound (subst (λ c. number < c.lines) (sym s.config) within));
-            timers = subst AllHaveTheirTimers is (timely-after m (at number what) s.sound s.timers (subst (λ c. number < c.lines) (sym s.config) within));
+            reached = subst IsReached is (reached-after m (at number what) s.reached (subst (λ c. number < c.lines) (sym s.config) within));
           });
     }
 

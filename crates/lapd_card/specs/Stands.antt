@@ -3,21 +3,18 @@ use Rattle.std.specs.Prelude.{◌≡◌, ◌≤◌}
 use Rattle.model_card.specs.Card as machine
 use Rattle.model_card.specs.Event.{Event}
 use Rattle.model_card.specs.Machine.{after}
-use Rattle.model_card.specs.Sound.{IsSound}
-use Rattle.laws_card.specs.Timers.{AllHaveTheirTimers}
+use Rattle.model_card.specs.Reached.{IsReached}
 use Rattle.lapd_card.specs.Card.{Held}
 use Rattle.lapd_card.specs.Lines as lines
 use Rattle.lapd_store.specs.Store.{Store}
 
 -- A card stands for a machine: it has its configuration, and its lines stand for the machine's over its shelf, which
--- has as many slots as the configuration says, or more; and the machine is sound, and each of its links runs the timer
--- that it needs.
+-- has as many slots as the configuration says, or more; and the machine is one that a list of events reaches.
 pub record Stands {S : Type 0} (store : S → Store) (card : Held S) (m : machine.Card) : Type 0 where
   pub config : m.config ≡ card.config
   pub lines : lines.Stand card.config card.lines (store card.shelf) m.lines
   pub slots : card.config.slots ≤ (store card.shelf).slots
-  pub sound : IsSound m
-  pub timers : AllHaveTheirTimers m
+  pub reached : IsReached m
 
 -- There is a machine for which it stands.
 abbrev pub HasPast : {S : Type 0} → (S → Store) → Held S → Type 0

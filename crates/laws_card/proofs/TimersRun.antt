@@ -16,9 +16,10 @@ use Rattle.laws_line.proofs.TimersFollow.{timely-line, followed, begins-timely, 
 use Rattle.model_card.specs.Event.{Event}
 use Rattle.model_card.specs.Card.{Card, fresh, line_at, is_full}
 use Rattle.model_card.specs.Machine.{after, answer}
+use Rattle.model_card.specs.Reached.{IsReached}
 use Rattle.model_card.specs.Run.{moments, after_all, IsAtLine, AreAtLines}
 use Rattle.model_card.specs.Sound.{IsSound}
-use Rattle.model_card.proofs.CardSound.{after_is_sound}
+use Rattle.model_card.proofs.CardSound.{after_is_sound, fresh_is_sound}
 use Rattle.model_card.proofs.EachMoment.{moment_of}
 use Rattle.model_card.proofs.Steps.{has_lines, by_room, line_sound}
 use Rattle.laws_card.specs.Promises.{RunsWhatIsNeeded, NeedsNone}
@@ -103,3 +104,9 @@ pub begins-timely-card : (c : Config) → AllHaveTheirTimers (fresh c)
 begins-timely-card c = record {
   lines = λ line within. subst (λ (l : Line). HaveTheirTimers l) (sym (get_or-replicate c.lines line (fresh_line c) (fresh_line c) within)) (begins-timely c);
 }
+
+-- so each link of a card that is reached runs the timer that it needs
+pub reached-timely : (card : Card) → IsReached card → AllHaveTheirTimers card
+reached-timely card r =
+    subst AllHaveTheirTimers (sym r.same)
+    (timely-all (fresh card.config) r.events (fresh_is_sound card.config r.config) (begins-timely-card card.config) r.at_lines)

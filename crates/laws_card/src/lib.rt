@@ -7,8 +7,8 @@
 //! timers a caller runs (`Timers`), what a line comes to by its pulls (`Among`, `PromisesOfPulls`), what notes tell (`Knowledge`), which frames pulls begin (`Begun`), which octets come to
 //! a line (`Received`), why messages of TEI management come to wait (`Messages`), the laws, which say of which cards and
 //! lists (`Laws`), and worked values (`Worked`, `WorkedTimers`, `WorkedNotes`, `WorkedBegun`, `WorkedPlaces`,
-//! `WorkedReceived`, `WorkedReasons`). Each law is the contract of a call that does nothing, and the call of a card that
-//! runs a list of events cites the promises.
+//! `WorkedReceived`, `WorkedReasons`). Each law is the contract of a call that does nothing. `laws_promises` has all
+//! promises of a list of events in one record.
 //!
 //! - `laws`, `timers`, `notes`, `management`, `progress`: the laws.
 #![tactic(auto)]

@@ -1,5 +1,5 @@
 -- What is dropped changes nothing, and costs nothing.
-use Rattle.std.proofs.Common.{◌≡◌, ℕ, ◌<◌, Bool, true, false, Option, Some, None, IsSome, ap, sym, ◌∙◌, subst, arith}
+use Rattle.std.proofs.Common.{◌≡◌, ℕ, ◌<◌, Some, IsSome, ap, sym, ◌∙◌, subst, arith}
 use Rattle.std.proofs.lemmas.Option.{none-some}
 use Rattle.lapd_bits.specs.declared.heard.Cause.{Cause}
 use Rattle.model_line.specs.Event.{octet, told, dropped}

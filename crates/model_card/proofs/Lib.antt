@@ -9,6 +9,7 @@ pub mod Stored
 pub mod Fold
 pub mod Refusals
 pub mod CardSound
+pub mod Reaching
 pub mod TextGoesOn
 pub mod NumberedForms
 pub mod Numbering

@@ -11,8 +11,9 @@ use Rattle.model_card.specs.Event.{Event, at}
 use Rattle.model_card.specs.Card.{Card, fresh, line_at, is_full}
 use Rattle.model_card.specs.Counts.{frames_heard, heard}
 use Rattle.model_card.specs.Machine.{after, answer}
-use Rattle.model_card.specs.Run.{Moment, run, moments, after_all, AreAtLines}
+use Rattle.model_card.specs.Run.{Moment, run, moments, after_all, IsAtLine, AreAtLines}
 use Rattle.model_card.specs.Sound.{IsSound}
+use Rattle.model_card.specs.Reached.{IsReached}
 use Rattle.model_card.specs.Stored.{stored, limit}
 use Rattle.model_card.specs.ByEvent.{RisesByOctet, RisesByExpiry, RisesByRequest, FallsByPull, ArePriced}
 use Rattle.model_card.specs.Drops.{AreDropsWithoutCost, AreDropsWithoutEffect}
@@ -31,6 +32,12 @@ pub record CardsStaySound : Type 0 where
   pub begins : (c : Config) → IsInRange c → IsSound (fresh c)
   pub stays : (card : Card) (e : Event) → IsSound card → e.line < card.config.lines → IsSound (after e card)
   pub always : (card : Card) (events : List Event) → IsSound card → AreAtLines card events → IsSound (after_all card events)
+
+-- A card is reached as it begins, and after each event at one of its lines; and each card that is reached is sound.
+pub record CardsAreReached : Type 0 where
+  pub begins : (c : Config) → IsInRange c → IsReached (fresh c)
+  pub goes_on : (card : Card) (e : Event) → IsReached card → IsAtLine card e → IsReached (after e card)
+  pub sound : (card : Card) → IsReached card → IsSound card
 
 -- It never stores more octets than its limit.
 pub record StoredWithinLimit : Type 0 where

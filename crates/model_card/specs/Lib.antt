@@ -4,6 +4,7 @@ pub mod Card
 pub mod Machine
 pub mod Run
 pub mod Sound
+pub mod Reached
 pub mod Stored
 pub mod Counts
 pub mod ByEvent

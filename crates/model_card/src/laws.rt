@@ -1,7 +1,7 @@
 //! What holds of whole runs of the machine. Each law is the contract of a call that does nothing; it holds for every
 //! list of events, and so for every front of a list.
 
-ghost use Rattle.model_card.specs.Laws.{CardsStaySound, DeliveriesNumbered, DropsChangeNothing, DropsCostNothing, FramesAmortised, FramesByEvent, FramesCounted, FramesLinear, LinesIsolated, PoolNeverFull, RefusedByTheTable, RunIsMoments, StoredWithinLimit, TextGoesOn};
+ghost use Rattle.model_card.specs.Laws.{CardsAreReached, CardsStaySound, DeliveriesNumbered, DropsChangeNothing, DropsCostNothing, FramesAmortised, FramesByEvent, FramesCounted, FramesLinear, LinesIsolated, PoolNeverFull, RefusedByTheTable, RunIsMoments, StoredWithinLimit, TextGoesOn};
 
 /// A run as one fold is its moments, one after the other.
 pub fn run_is_moments()
@@ -11,6 +11,12 @@ pub fn run_is_moments()
 /// A card is sound as it begins, and each event keeps it so: each line is, and no more slots are in use than there are.
 pub fn cards_stay_sound()
     ensures { CardsStaySound }
+{}
+
+/// A card that begins is reached, and each event at a line of a card that is reached leads to another; and each card that
+/// is reached is sound.
+pub fn cards_are_reached()
+    ensures { CardsAreReached }
 {}
 
 /// A sound card never stores more octets than its limit, which its configuration alone tells.

@@ -2,10 +2,10 @@
 //! pool of slots for contents (profile).
 //!
 //! `specs/` has the card and its events (`Card`, `Event`), what each event makes of it and what it answers
-//! (`Machine`), whole lists of events (`Run`), what is counted of them (`Counts`, `Stored`), of single events too
-//! (`ByEvent`, `Drops`), what a link delivers (`Numbered`), what pulls give (`Pulled`), one line beside the others
-//! (`Isolation`), what is promised of whole lists of events (`Promises`), and the laws, which say of which cards and
-//! lists (`Laws`).
+//! (`Machine`), whole lists of events (`Run`), which cards come about (`Reached`), what is counted of them (`Counts`,
+//! `Stored`), of single events too (`ByEvent`, `Drops`), what a link delivers (`Numbered`), what pulls give (`Pulled`),
+//! one line beside the others (`Isolation`), what is promised of whole lists of events (`Promises`), and the laws, which
+//! say of which cards and lists (`Laws`).
 //!
 //! The code of a card stands above, in another crate. Here is the type that it shares with the definitions:
 //!
@@ -18,7 +18,8 @@ mod laws;
 
 pub use events::Event;
 pub use laws::{
-    cards_stay_sound, deliveries_numbered, drops_change_nothing, drops_cost_nothing,
-    frames_amortised, frames_by_event, frames_counted, frames_linear, lines_isolated,
-    pool_never_full, refused_by_the_table, run_is_moments, stored_within_limit, text_goes_on,
+    cards_are_reached, cards_stay_sound, deliveries_numbered, drops_change_nothing,
+    drops_cost_nothing, frames_amortised, frames_by_event, frames_counted, frames_linear,
+    lines_isolated, pool_never_full, refused_by_the_table, run_is_moments, stored_within_limit,
+    text_goes_on,
 };

@@ -14,7 +14,7 @@ pub returns-in-Ok-request-clause-served : goal.returns-in-Ok-request-clause-serv
 returns-in-Ok-request-clause-served c = λ m s w. if_ok _ _ (request_of c.in-Ok.asked) (sym c.request_in.ensures ∙ ap read_of c.in-Ok.is) (λ granted. (
   refl,
   c.request.ensures.after.stands m s,
-  shown m (at c.args.line (line_event.request (request_of c.in-Ok.asked))) c.in-Ok-request.told _ _ c.show.new.self s.sound (ap answer_of_result (sym c.in-Ok-request.is) ∙ c.request.ensures.told m s) c.notes.ensures c.orders.ensures c.show.ensures,
+  shown m (at c.args.line (line_event.request (request_of c.in-Ok.asked))) c.in-Ok-request.told _ _ c.show.new.self s.reached (ap answer_of_result (sym c.in-Ok-request.is) ∙ c.request.ensures.told m s) c.notes.ensures c.orders.ensures c.show.ensures,
 ))
 
 pub returns-in-Err-request-clause-refused : goal.returns-in-Err-request-clause-refused

@@ -17,5 +17,5 @@ pub returns-in-Some-clause-served : goal.returns-in-Some-clause-served
 returns-in-Some-clause-served c = λ m s w. (
   refl,
   c.hear.ensures.after.stands m s,
-  shown m (at c.args.line (line_event.octet c.args.octet)) c.lend-told.result _ _ c.show.new.self s.sound (ap line_event.told c.lend-told.ensures ∙ c.in-Some.ensures.told m s) c.notes.ensures c.orders.ensures c.show.ensures,
+  shown m (at c.args.line (line_event.octet c.args.octet)) c.lend-told.result _ _ c.show.new.self s.reached (ap line_event.told c.lend-told.ensures ∙ c.in-Some.ensures.told m s) c.notes.ensures c.orders.ensures c.show.ensures,
 )

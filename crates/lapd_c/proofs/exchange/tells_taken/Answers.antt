@@ -16,4 +16,4 @@ returns-in-Some-clause-tells c = λ m s. c.tells_ended.ensures.tells ∙ ap (λ 
 pub returns-in-Some-clause-shown : goal.returns-in-Some-clause-shown
 returns-in-Some-clause-shown c = λ m s on.
     subst (ShowsAnswer c.tells_ended.new.report) (c.in-Some.ensures.told m s)
-    (c.tells_ended.ensures.shown (small m (at c.args.line (line_event.octet c.args.octet)) _ s.sound (c.in-Some.ensures.told m s)) on)
+    (c.tells_ended.ensures.shown (small m (at c.args.line (line_event.octet c.args.octet)) _ s.reached (c.in-Some.ensures.told m s)) on)

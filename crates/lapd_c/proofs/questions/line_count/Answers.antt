@@ -7,5 +7,5 @@ use Rattle.lapd_c.proofs.questions.line_count.Goals as goal
 pub returns : goal.returns
 returns c = λ m s.
     let same : m.config.lines ≡ c.args.card.now.config.lines = ap (λ (config : Config). config.lines) s.config in
-    let few : m.config.lines ≤ 64 = (ranges_of m.config s.sound.config).lines.most in
+    let few : m.config.lines ≤ 64 = (ranges_of m.config s.reached.config).lines.most in
     omega arith

@@ -9,8 +9,12 @@ use Rattle.lapd_card.specs.Stands.{Stands, Leads}
 use Rattle.lapd_line.specs.Reports.{report_told}
 use Rattle.lapd_card.proofs.AnswerLaws.{starts_one}
 use Rattle.lapd_card.proofs.Headline.{at_line}
-use Rattle.lapd_card.proofs.OneEvent.{event_leads, event_told, past_after, has_room, expiry_takes}
+use Rattle.lapd_card.proofs.OneEvent.{line-there, event_leads, event_told, past_after, has_room, expiry_takes}
 use Rattle.lapd_card.proofs.card.Card.expire.Goals as goal
+
+-- the line is there
+pub expire-requires-clause-within : goal.expire-requires-clause-within
+expire-requires-clause-within g c = line-there g.S.Shelf.store (record { config = c.self.inside.config; lines = c.self.inside.lines; shelf = c.self.inside.shelf }) c.args.line c.self.invariant (subst (λ card. c.args.line < line_count card) (sym c.self.view_is) c.requires)
 
 pub invariant_of-self : goal.invariant_of-self
 invariant_of-self g c = past_after g.S.Shelf.store (at c.args.line (line_event.expiry c.args.timer)) (record { config = c.self.inside.config; lines = c.self.inside.lines; shelf = c.self.inside.shelf }) _ (event_leads g.S.Shelf.store (line_event.expiry c.args.timer) c.args.line (record { config = c.self.inside.config; lines = c.self.inside.lines; shelf = c.self.inside.shelf }) c.expire.new.self c.expire.new.shelf (subst (λ card. c.args.line < line_count card) (sym c.self.view_is) c.requires) (λ m s. has_room (at c.args.line (line_event.expiry c.args.timer)) m (expiry_takes m.config c.args.timer _)) c.expire.ensures.after) c.self.invariant

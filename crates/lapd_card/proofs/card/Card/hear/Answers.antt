@@ -7,8 +7,12 @@ use Rattle.model_card.proofs.ByEvent.{frames_by_event}
 use Rattle.lapd_card.specs.Card.{line_count}
 use Rattle.lapd_card.specs.Stands.{Stands, Leads}
 use Rattle.lapd_card.proofs.Headline.{at_line}
-use Rattle.lapd_card.proofs.OneEvent.{event_leads, event_told, past_after, has_room, octet_takes}
+use Rattle.lapd_card.proofs.OneEvent.{line-there, event_leads, event_told, past_after, has_room, octet_takes}
 use Rattle.lapd_card.proofs.card.Card.hear.Goals as goal
+
+-- the line is there
+pub hear-requires-clause-within : goal.hear-requires-clause-within
+hear-requires-clause-within g c = line-there g.S.Shelf.store (record { config = c.self.inside.config; lines = c.self.inside.lines; shelf = c.self.inside.shelf }) c.args.line c.self.invariant (subst (λ card. c.args.line < line_count card) (sym c.self.view_is) c.requires)
 
 pub invariant_of-self : goal.invariant_of-self
 invariant_of-self g c = past_after g.S.Shelf.store (at c.args.line (line_event.octet c.args.octet)) (record { config = c.self.inside.config; lines = c.self.inside.lines; shelf = c.self.inside.shelf }) _ (event_leads g.S.Shelf.store (line_event.octet c.args.octet) c.args.line (record { config = c.self.inside.config; lines = c.self.inside.lines; shelf = c.self.inside.shelf }) c.hear.new.self c.hear.new.shelf (subst (λ card. c.args.line < line_count card) (sym c.self.view_is) c.requires) (λ m s. has_room (at c.args.line (line_event.octet c.args.octet)) m (octet_takes m.config c.args.octet _)) c.hear.ensures.after) c.self.invariant

@@ -1,0 +1,72 @@
+-- Every card that is reached keeps all that is promised, of every list of events at its lines.
+use Rattle.std.proofs.Common.{ℕ, List, take}
+use Rattle.std.proofs.lemmas.List.Elements.{All-take}
+use Rattle.model_card.specs.Card.{Card}
+use Rattle.model_card.specs.Event.{Event}
+use Rattle.model_card.specs.Reached.{IsReached}
+use Rattle.model_card.specs.Run.{IsAtLine, AreAtLines}
+use Rattle.model_card.specs.Sound.{IsSound}
+use Rattle.model_card.proofs.Reaching.{reached-sound}
+use Rattle.laws_card.specs.Promises.{AreReceived, IsCountedIn, NotesTell, TeisAreTold, TeisHaveOnePlace, IsServedIn}
+use Rattle.laws_card.specs.PromisesOfPulls.{AnswersAreBegun, PullsComeToAnEnd, FewAreToGo, EnoughPullsServe}
+use Rattle.laws_card.proofs.Beginning.{begun-told}
+use Rattle.laws_card.proofs.Causing.{caused-all, there-all, reasons-all, noted-all}
+use Rattle.laws_card.proofs.Enough.{enough-pulls}
+use Rattle.laws_card.proofs.Granting.{effect-all, expiries-all}
+use Rattle.laws_card.proofs.Happening.{steady-all}
+use Rattle.laws_card.proofs.Hearing.{heard-all}
+use Rattle.laws_card.proofs.Heeding.{heeded-all}
+use Rattle.laws_card.proofs.Keeping.{kept, run-counted, begins-empty}
+use Rattle.laws_card.proofs.Knowing.{up-known, on-known, down-at-first, one-place}
+use Rattle.laws_card.proofs.Receiving.{run-received, begins-unheard}
+use Rattle.laws_card.proofs.Restarting.{leaves-all}
+use Rattle.laws_card.proofs.Serving.{served-in, units-all, turns-stay}
+use Rattle.laws_card.proofs.TimersRun.{needed-run, needs-none, reached-timely}
+use Rattle.laws_card.proofs.Wherever.{answers-begun, come-to-an-end, few-to-go, begins-with-few}
+use Rattle.laws_promises.specs.Promises.{Promises}
+
+module _ (m : Card) (events : List Event) (reached : IsReached m) (within : AreAtLines m events) where
+  sound : IsSound m
+  sound = reached-sound m reached
+
+  front-within : (count : ℕ) → AreAtLines m (take count events)
+  front-within count = All-take (IsAtLine m) count events within
+
+  -- a law of every sound card holds after each front of the list
+  front : (P : Card → List Event → Type 0) → ((card : Card) (es : List Event) → IsSound card → AreAtLines card es → P card es)
+      → (count : ℕ) → P m (take count events)
+  front P law count = law m (take count events) sound (front-within count)
+
+  pub promises-kept : Promises m events
+  promises-kept = record {
+    nothing_is_lost = kept m events sound within;
+    units_wait = units-all m events sound within;
+    turns_stay = turns-stay m events sound within;
+    frames_are_heeded = heeded-all m events sound within;
+    requests_take_effect = effect-all m events sound within;
+    expiries_take_effect = expiries-all m events sound within;
+    links_are_steady = steady-all m events sound within;
+    begun_is_told = begun-told m events sound within;
+    messages_have_causes = caused-all m events sound within;
+    told_teis_are_there = there-all m events sound within;
+    notes_have_reasons = reasons-all m events sound within;
+    pulls_leave_timers = leaves-all m events sound within;
+    nothing_else_is_noted = noted-all m events sound within;
+    heard_is_delivered = heard-all m events sound within;
+    received = front AreReceived run-received;
+    begins_unheard = begins-unheard m.config;
+    counted = front IsCountedIn run-counted;
+    begins_empty = begins-empty m.config;
+    timers = λ count. needed-run m (take count events) sound (reached-timely m reached) (front-within count);
+    no_timers = needs-none m.config;
+    notes_tell = front NotesTell up-known;
+    teis_are_told = front TeisAreTold on-known;
+    begins_down = down-at-first m.config;
+    one_place = front TeisHaveOnePlace one-place;
+    served = front IsServedIn served-in;
+    answers_are_begun = front AnswersAreBegun answers-begun;
+    pulls_come_to_an_end = front PullsComeToAnEnd come-to-an-end;
+    few_to_go = front FewAreToGo few-to-go;
+    begins_with_few = begins-with-few m.config;
+    enough_pulls = front EnoughPullsServe enough-pulls;
+  }

@@ -1,0 +1,2 @@
+-- What is promised of every list of events.
+pub mod Promises

@@ -1,0 +1,74 @@
+//! The call of a card that runs a list of events, with all that is promised of it.
+
+ghost use Rattle.std.specs.Prelude.{◌≡◌, ◌<◌, ◌+◌, ℕ, length, take, All, IfOk, IfErr, OnOk, OnErr};
+ghost use Rattle.model_card.specs.ByEvent.{ArePriced};
+ghost use Rattle.model_card.specs.Card as machine;
+ghost use Rattle.model_card.specs.Drops.{AreDropsWithoutCost, AreDropsWithoutEffect};
+ghost use Rattle.model_card.specs.Laws.{RefusedByTheTable, RunIsMoments};
+ghost use Rattle.model_card.specs.Promises.{IsWithinLimit, IsAmortised, IsAmortisedFromZero, HasSixOctetsAFrame, HasSevenOctetsAReject, IsLinear, IsIsolated, IsNeverFull, IsNumbered, IsNumberedFromZero, IsTextual};
+ghost use Rattle.model_card.specs.Run.{run};
+ghost use Rattle.lapd_card.specs.Card.{line_count};
+ghost use Rattle.lapd_card.specs.Drive.{line_of, events_of, Taken, MissesAt};
+ghost use Rattle.lapd_card.specs.Sink.{one_failure_more};
+ghost use Rattle.lapd_card.specs.Stands.{Stands};
+ghost use Rattle.laws_promises.specs.Promises.{Promises};
+
+use lapd_card::{Card, Event, Sink, SinkFault};
+use lapd_store::Shelf;
+
+/// Runs a list of events, as [`Card::drive`] does, whose clauses these are, and keeps all promises (`promises`).
+///
+/// # Errors
+///
+/// [`SinkFault`] as of [`Card::drive`].
+pub fn drive<S: Shelf, K: Sink>(
+    card: &mut Card<S>,
+    events: &[Event<'_>],
+    sink: &mut K,
+) -> Result<usize, SinkFault>
+    requires { All (λ event. line_of event < line_count card.old) events.now }
+    ensures ok { IfOk result (λ n. n ≡ length events.now) }
+    ensures at { IfErr result (λ fault. fault.at < length events.now) }
+    ensures failed { OnErr result (K.failures sink.new ≡ one_failure_more (K.failures sink.old)) }
+    ensures not_failed { OnOk result (K.failures sink.new ≡ K.failures sink.old) }
+    ensures config { card.new.config ≡ card.old.config }
+    ensures ran { OnOk result ((m : machine.Card) → Stands S.store card.old m
+        → Stands S.store card.new (run m (events_of events.now)).card) }
+    ensures taken { OnOk result ((m : machine.Card) → Stands S.store card.old m
+        → Taken K.takes sink.old (run m (events_of events.now)).replies sink.new) }
+    ensures stopped { IfErr result (λ fault. (m : machine.Card) → Stands S.store card.old m
+        → Stands S.store card.new (run m (take (fault.at + 1) (events_of events.now))).card) }
+    ensures taken_before { IfErr result (λ fault. (m : machine.Card) → Stands S.store card.old m
+        → MissesAt K.takes K.misses m (events_of events.now) fault.at sink.old sink.new) }
+    ensures moments { RunIsMoments }
+    ensures refused { RefusedByTheTable }
+    ensures by_event { (m : machine.Card) → Stands S.store card.old m → ArePriced m (events_of events.now) }
+    ensures drops { (m : machine.Card) → Stands S.store card.old m → AreDropsWithoutCost m (events_of events.now) }
+    ensures without_effect { (m : machine.Card) → Stands S.store card.old m
+        → AreDropsWithoutEffect m (events_of events.now) }
+    ensures within_limit { (m : machine.Card) (count : ℕ) → Stands S.store card.old m
+        → IsWithinLimit m (take count (events_of events.now)) }
+    ensures amortised { (m : machine.Card) (count : ℕ) → Stands S.store card.old m
+        → IsAmortised m (take count (events_of events.now)) }
+    ensures amortised_from_zero { (count : ℕ) → Stands S.store card.old (machine.fresh card.old.config)
+        → IsAmortisedFromZero card.old.config (take count (events_of events.now)) }
+    ensures six_octets_a_frame { (count : ℕ) → Stands S.store card.old (machine.fresh card.old.config)
+        → HasSixOctetsAFrame card.old.config (take count (events_of events.now)) }
+    ensures seven_octets_a_reject { (count : ℕ) → Stands S.store card.old (machine.fresh card.old.config)
+        → HasSevenOctetsAReject card.old.config (take count (events_of events.now)) }
+    ensures linear { (count : ℕ) → Stands S.store card.old (machine.fresh card.old.config)
+        → IsLinear card.old.config (take count (events_of events.now)) }
+    ensures isolated { (count : ℕ) → Stands S.store card.old (machine.fresh card.old.config)
+        → IsIsolated card.old.config (take count (events_of events.now)) }
+    ensures never_full { (count : ℕ) → Stands S.store card.old (machine.fresh card.old.config)
+        → IsNeverFull card.old.config (take count (events_of events.now)) }
+    ensures numbered { (m : machine.Card) (count : ℕ) → Stands S.store card.old m
+        → IsNumbered m (take count (events_of events.now)) }
+    ensures from_zero { (count : ℕ) → Stands S.store card.old (machine.fresh card.old.config)
+        → IsNumberedFromZero card.old.config (take count (events_of events.now)) }
+    ensures textual { (m : machine.Card) (count : ℕ) → Stands S.store card.old m
+        → IsTextual m (take count (events_of events.now)) }
+    ensures promises { (m : machine.Card) → Stands S.store card.old m → Promises m (events_of events.now) }
+{
+    card.drive(events, sink)
+}

@@ -1,0 +1,18 @@
+//! What is promised of every list of events at a card, in one record, and the card's own call with that record in its
+//! contract.
+//!
+//! `specs/Promises` has the record. Each field is a promise, and the sentence above it says it in words. The clauses of
+//! [`lapd_card::Card::drive`] say the rest: where the card is after the events, which replies the sink has taken, and
+//! what bounds storage and frames.
+//!
+//! - `call`: `drive`, a card's call, with its clauses and the promises. Who needs no proof calls the card itself.
+//! - `laws`: the promises of every machine of a card that is reached, as a call without effect.
+#![tactic(auto)]
+
+mod call;
+mod laws;
+#[cfg(test)]
+mod tests;
+
+pub use call::drive;
+pub use laws::promises_are_kept;

@@ -1,0 +1,37 @@
+-- Cards that are reached: one that begins is, each event at a line leads to another, and all of them are sound.
+use Rattle.std.proofs.Common.{◌≡◌, List, [], ◌∷◌, ◌++◌, refl, sym, ap, ◌∙◌, subst}
+use Rattle.std.proofs.lemmas.List.Elements.{All-nil, All-push}
+use Rattle.model_line.specs.declared.config.Config.{Config}
+use Rattle.model_line.specs.Sound.{IsInRange}
+use Rattle.model_card.specs.Card.{Card, fresh}
+use Rattle.model_card.specs.Event.{Event}
+use Rattle.model_card.specs.Laws.{CardsAreReached}
+use Rattle.model_card.specs.Machine.{after}
+use Rattle.model_card.specs.Reached.{IsReached}
+use Rattle.model_card.specs.Run.{after_all, IsAtLine}
+use Rattle.model_card.specs.Sound.{IsSound}
+use Rattle.model_card.proofs.CardSound.{always_sound, fresh_is_sound}
+
+pub reached-fresh : (c : Config) → IsInRange c → IsReached (fresh c)
+unfolding after_all
+reached-fresh c ranged = record { config = ranged; events = []; at_lines = All-nil (IsAtLine (fresh c)); same = refl }
+
+one-event-more : (card : Card) (events : List Event) (e : Event) → after_all card (events ++ e ∷ []) ≡ after e (after_all card events)
+unfolding after_all
+one-event-more card [] e = refl
+one-event-more card (x ∷ events) e = one-event-more (after x card) events e
+
+pub reached-after : (card : Card) (e : Event) → IsReached card → IsAtLine card e → IsReached (after e card)
+reached-after card e r within = record {
+  config = r.config;
+  events = r.events ++ e ∷ [];
+  at_lines = All-push (IsAtLine card) r.events e r.at_lines within;
+  same = ap (after e) r.same ∙ sym (one-event-more (fresh card.config) r.events e);
+}
+
+pub reached-sound : (card : Card) → IsReached card → IsSound card
+reached-sound card r =
+    subst IsSound (sym r.same) (always_sound (fresh card.config) r.events (fresh_is_sound card.config r.config) r.at_lines)
+
+pub cards_are_reached : CardsAreReached
+cards_are_reached = record { begins = reached-fresh; goes_on = reached-after; sound = reached-sound }

@@ -5,7 +5,7 @@ use Rattle.std.proofs.lemmas.Bool.Decides.{nat_tests}
 use Rattle.std.proofs.lemmas.List.Elements.{All-from_recursion}
 use Rattle.std.proofs.lemmas.List.Sums.{length-filter, count_by-le-length}
 use Rattle.lapd_clock.specs.InOrder.{put_in_order, IsInOrder}
-use Rattle.lapd_clock.specs.Timer.{Timer, Start, Stop, duration, is_same}
+use Rattle.lapd_clock.specs.Timer.{Timer, Lengths, Start, Stop, duration, is_same}
 use Rattle.lapd_clock.specs.Timers.{Expiry, Timers, is_before, without, finds_place, with_order, after_first_due, first_due}
 use Rattle.lapd_clock.specs.Sound.{IsSound, IsLeastDue}
 use Rattle.lapd_clock.specs.declared.line.Held.{Held}
@@ -45,40 +45,40 @@ IsInOrder-drop_first (x ∷ xs) h = h.1
 
 -- ---- the clock as a whole
 
-pub same_timers : (lines m places : ℕ) (es fs : List Expiry) → lines ≡ m → es ≡ fs → ◌≡◌ {A = Timers} (record { lines = lines; places = places; running = es }) (record { lines = m; places = places; running = fs })
-same_timers lines m places es fs e f i = record { lines = e i; places = places; running = f i }
+pub same_timers : (ls : Lengths) (lines m places : ℕ) (es fs : List Expiry) → lines ≡ m → es ≡ fs → ◌≡◌ {A = Timers} (record { lines = lines; places = places; lengths = ls; running = es }) (record { lines = m; places = places; lengths = ls; running = fs })
+same_timers ls lines m places es fs e f i = record { lines = e i; places = places; lengths = ls; running = f i }
 
-pub timers_in-stopped : (places k : ℕ) (lines : List Line) (u v : Line) (t : Timer) (now : ℕ) → k < length lines → u ≡ get_or lines k u → v.items ≡ all_but t u.items → timers_in places (set lines k v) ≡ with_order (timers_in places lines) k (Stop t) now
+pub timers_in-stopped : (ls : Lengths) (places k : ℕ) (lines : List Line) (u v : Line) (t : Timer) (now : ℕ) → k < length lines → u ≡ get_or lines k u → v.items ≡ all_but t u.items → timers_in ls places (set lines k v) ≡ with_order (timers_in ls places lines) k (Stop t) now
 unfolding with_order
-timers_in-stopped places k lines u v t now within at new =
-    same_timers _ _ places _ _ (length-set lines k v) (in_order-stopped k lines u v t within at new)
+timers_in-stopped ls places k lines u v t now within at new =
+    same_timers ls _ _ places _ _ (length-set lines k v) (in_order-stopped k lines u v t within at new)
 
 -- whether a timer of line k finds its place
-pub finds_place-restarted : (places k : ℕ) (lines : List Line) (u : Line) (t : Timer) → IsSound (timers_in places lines) → k < length lines → u ≡ get_or lines k u → finds_place (timers_in places lines) k (Start t) ≡ not (length (all_but t u.items) == places)
-finds_place-restarted places k lines u t sound within at =
-    finds_place-without (timers_in places lines) k t (sound.in_places k) ∙ ap (λ n. not (n == places)) (count_on-stopped k lines u t within at)
+pub finds_place-restarted : (ls : Lengths) (places k : ℕ) (lines : List Line) (u : Line) (t : Timer) → IsSound (timers_in ls places lines) → k < length lines → u ≡ get_or lines k u → finds_place (timers_in ls places lines) k (Start t) ≡ not (length (all_but t u.items) == places)
+finds_place-restarted ls places k lines u t sound within at =
+    finds_place-without (timers_in ls places lines) k t (sound.in_places k) ∙ ap (λ n. not (n == places)) (count_on-stopped k lines u t within at)
 
-pub timers_in-restarted : (b : Bool) (places k : ℕ) (lines : List Line) (u v : Line) (h : Held) (now : ℕ) → IsSound (timers_in places lines) → k < length lines → u ≡ get_or lines k u
-    → h.moment ≡ now + duration h.timer → b ≡ not (length (all_but h.timer u.items) == places) → v.items ≡ cond b (put_in_order held_before h (all_but h.timer u.items)) (all_but h.timer u.items)
-    → timers_in places (set lines k v) ≡ with_order (timers_in places lines) k (Start h.timer) now
+pub timers_in-restarted : (ls : Lengths) (b : Bool) (places k : ℕ) (lines : List Line) (u v : Line) (h : Held) (now : ℕ) → IsSound (timers_in ls places lines) → k < length lines → u ≡ get_or lines k u
+    → h.moment ≡ now + duration ls h.timer → b ≡ not (length (all_but h.timer u.items) == places) → v.items ≡ cond b (put_in_order held_before h (all_but h.timer u.items)) (all_but h.timer u.items)
+    → timers_in ls places (set lines k v) ≡ with_order (timers_in ls places lines) k (Start h.timer) now
 unfolding with_order
-timers_in-restarted true places k lines u v h now sound within at moment placed_is new =
-    let found = finds_place-restarted places k lines u h.timer sound within at ∙ sym placed_is in
-    same_timers _ _ places _ _ (length-set lines k v) (in_order-restarted k lines u v h within at new)
-    ∙ ap (λ m. record { lines = length lines; places = places; running = put_in_order is_before (record { moment = m; line = k; timer = h.timer }) (without k h.timer (in_order (from_line 0 lines))) }) moment
-    ∙ sym (ap (λ b. cond b (record { lines = length lines; places = places; running = put_in_order is_before (record { moment = now + duration h.timer; line = k; timer = h.timer }) (without k h.timer (in_order (from_line 0 lines))) }) (timers_in places lines)) found)
-timers_in-restarted false places k lines u v h now sound within at moment placed_is new =
-    let found = finds_place-restarted places k lines u h.timer sound within at ∙ sym placed_is in
-    same_timers _ _ places _ _ (length-set lines k v) (in_order-stopped k lines u v h.timer within at new ∙ without-no_place (timers_in places lines) k h.timer found)
-    ∙ sym (ap (λ b. cond b (record { lines = length lines; places = places; running = put_in_order is_before (record { moment = now + duration h.timer; line = k; timer = h.timer }) (without k h.timer (in_order (from_line 0 lines))) }) (timers_in places lines)) found)
+timers_in-restarted ls true places k lines u v h now sound within at moment placed_is new =
+    let found = finds_place-restarted ls places k lines u h.timer sound within at ∙ sym placed_is in
+    same_timers ls _ _ places _ _ (length-set lines k v) (in_order-restarted k lines u v h within at new)
+    ∙ ap (λ m. record { lines = length lines; places = places; lengths = ls; running = put_in_order is_before (record { moment = m; line = k; timer = h.timer }) (without k h.timer (in_order (from_line 0 lines))) }) moment
+    ∙ sym (ap (λ b. cond b (record { lines = length lines; places = places; lengths = ls; running = put_in_order is_before (record { moment = now + duration ls h.timer; line = k; timer = h.timer }) (without k h.timer (in_order (from_line 0 lines))) }) (timers_in ls places lines)) found)
+timers_in-restarted ls false places k lines u v h now sound within at moment placed_is new =
+    let found = finds_place-restarted ls places k lines u h.timer sound within at ∙ sym placed_is in
+    same_timers ls _ _ places _ _ (length-set lines k v) (in_order-stopped k lines u v h.timer within at new ∙ without-no_place (timers_in ls places lines) k h.timer found)
+    ∙ sym (ap (λ b. cond b (record { lines = length lines; places = places; lengths = ls; running = put_in_order is_before (record { moment = now + duration ls h.timer; line = k; timer = h.timer }) (without k h.timer (in_order (from_line 0 lines))) }) (timers_in ls places lines)) found)
 
-pub timers_in-none : (places : ℕ) (lines : List Line) → AllByRecursion (λ v. v.items ≡ []) lines → timers_in places lines ≡ record { lines = length lines; places = places; running = [] }
+pub timers_in-none : (ls : Lengths) (places : ℕ) (lines : List Line) → AllByRecursion (λ v. v.items ≡ []) lines → timers_in ls places lines ≡ record { lines = length lines; places = places; lengths = ls; running = [] }
 unfolding in_order
-timers_in-none places lines h = same_timers _ _ places _ _ refl (ap in_order (from_line-none 0 lines h))
+timers_in-none ls places lines h = same_timers ls _ _ places _ _ refl (ap in_order (from_line-none 0 lines h))
 
 -- one line changed: the clock keeps what it keeps
-pub kept_with : (places k : ℕ) (lines : List Line) (v : Line) → AllByRecursion (IsLineKept places) lines → IsLineKept places v → IsSound (timers_in places (set lines k v)) → IsKept places (set lines k v)
-kept_with places k lines v each one sound = record { each = All-set (IsLineKept places) lines k v one each; sound = sound }
+pub kept_with : (ls : Lengths) (places k : ℕ) (lines : List Line) (v : Line) → AllByRecursion (IsLineKept places) lines → IsLineKept places v → IsSound (timers_in ls places (set lines k v)) → IsKept ls places (set lines k v)
+kept_with ls places k lines v each one sound = record { each = All-set (IsLineKept places) lines k v one each; sound = sound }
 
 -- ---- what is due
 

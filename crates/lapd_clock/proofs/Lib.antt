@@ -6,3 +6,4 @@ pub mod First
 pub mod Calls
 pub mod TimeUntil
 pub mod Moments
+pub mod Ranges

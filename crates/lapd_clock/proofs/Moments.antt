@@ -57,10 +57,10 @@ moment_of-beside l t e (x ∷ xs) apart =
     (λ _. ap (λ b. cond b (Some e.moment) (moment_of l t (x ∷ xs))) apart)
 
 -- the two orders
-pub start_moves_one : (c : Timers) (line : ℕ) (timer : Timer) (now : ℕ) → finds_place c line (Start timer) ≡ true → MovesOne line timer (Some (now + duration timer)) c (with_order c line (Start timer) now)
+pub start_moves_one : (c : Timers) (line : ℕ) (timer : Timer) (now : ℕ) → finds_place c line (Start timer) ≡ true → MovesOne line timer (Some (now + duration c.lengths timer)) c (with_order c line (Start timer) now)
 unfolding with_order
 start_moves_one c line timer now found =
-    let started : Expiry = record { moment = now + duration timer; line = line; timer = timer } in
+    let started : Expiry = record { moment = now + duration c.lengths timer; line = line; timer = timer } in
     let left = without line timer c.running in
     let after = λ (b : Bool). cond b (record c { running = with_expiry started left }) c in
     record {

@@ -5,7 +5,7 @@ use Rattle.std.proofs.lemmas.Bool.{false≢true}
 use Rattle.std.proofs.lemmas.Bool.Decides.{nat_tests}
 use Rattle.std.proofs.lemmas.List.Elements.{All-from_recursion, recursion_from_All}
 use Rattle.lapd_clock.specs.InOrder.{put_in_order}
-use Rattle.lapd_clock.specs.Timer.{Timer, Order, Start, Stop, duration, is_same}
+use Rattle.lapd_clock.specs.Timer.{Timer, Lengths, AreInRange, Order, Start, Stop, duration, is_same}
 use Rattle.lapd_clock.specs.Timers.{Expiry, Timers, is_before, is_of, is_held, without, count_on, finds_place, with_order, after_first_due}
 use Rattle.lapd_clock.specs.Sound.{IsSound, IsOneEach}
 use Rattle.lapd_clock.proofs.Ordered.{by_place, IsInOrder-put_in_order, IsInOrder-filter, All-put_in_order, All-filter, count_by-put_in_order, count_by-cons}
@@ -96,6 +96,7 @@ without_sound c line timer h = record {
   one_each = IsOneEach-filter _ c.running h.one_each;
   on_lines = All-from_recursion (λ e. e.line < c.lines) _ (All-filter (λ e. e.line < c.lines) _ c.running (recursion_from_All (λ e. e.line < c.lines) c.running h.on_lines));
   in_places = λ l. omega (arith, count_on-without line timer l c.running, h.in_places l);
+  lengths = h.lengths;
 }
 
 one_more_fits : (line l : ℕ) (f : ℕ → ℕ) (places : ℕ) → f line < places → f l ≤ places → cond (line == l) 1 0 + f l ≤ places
@@ -113,43 +114,46 @@ unfolding with_order
 with_order_sound c line (Stop timer) now within h = without_sound c line timer h
 with_order_sound c line (Start timer) now within h =
     let rest = without_sound c line timer h in
-    let e : Expiry = record { moment = now + duration timer; line = line; timer = timer } in
+    let e : Expiry = record { moment = now + duration c.lengths timer; line = line; timer = timer } in
     (elim (finds_place c line (Start timer)) as (λ b. finds_place c line (Start timer) ≡ b → IsSound (cond b (record c { running = put_in_order is_before e (without line timer c.running) }) c)) [
       | true ↦ λ found. record {
         in_order = IsInOrder-put_in_order is_before before_order e _ rest.in_order;
         one_each = IsOneEach-put_in_order e _ (none_of-without line timer c.running) rest.one_each;
         on_lines = All-from_recursion (λ x. x.line < c.lines) _ (All-put_in_order is_before (λ x. x.line < c.lines) e _ within (recursion_from_All (λ x. x.line < c.lines) _ rest.on_lines));
         in_places = λ l. rw (count_by-put_in_order is_before (λ x. x.line == l) e (without line timer c.running)) (one_more_fits line l (λ k. count_on k (without line timer c.running)) c.places (room (count_on line (without line timer c.running)) c.places (rest.in_places line) (sym (finds_place-without c line timer (h.in_places line)) ∙ found)) (rest.in_places l));
+        lengths = h.lengths;
       }
       | false ↦ λ _. h
     ]) refl
 
-pub none_sound : (lines places : ℕ) → IsSound (record { lines = lines; places = places; running = [] })
-none_sound lines places = record {
+pub none_sound : (ls : Lengths) (lines places : ℕ) → AreInRange ls → IsSound (record { lines = lines; places = places; lengths = ls; running = [] })
+none_sound ls lines places range = record {
+  lengths = range;
   in_order = tt;
   one_each = tt;
   on_lines = All-from_recursion (λ x. x.line < lines) [] tt;
   in_places = λ _. omega arith;
 }
 
-rest_sound : (lines places : ℕ) (e : Expiry) (es : List Expiry) → IsSound (record { lines = lines; places = places; running = e ∷ es }) → IsSound (record { lines = lines; places = places; running = es })
-rest_sound lines places e es h = record {
+rest_sound : (ls : Lengths) (lines places : ℕ) (e : Expiry) (es : List Expiry) → IsSound (record { lines = lines; places = places; lengths = ls; running = e ∷ es }) → IsSound (record { lines = lines; places = places; lengths = ls; running = es })
+rest_sound ls lines places e es h = record {
+  lengths = h.lengths;
   in_order = h.in_order.1;
   one_each = h.one_each.1;
   on_lines = All-from_recursion (λ x. x.line < lines) es (recursion_from_All (λ x. x.line < lines) (e ∷ es) h.on_lines).1;
   in_places = λ l. omega (arith, h.in_places l, count_by-cons (λ x. x.line == l) e es);
 }
 
-pub after_due_sound : (lines places : ℕ) (es : List Expiry) (now : ℕ) → IsSound (record { lines = lines; places = places; running = es }) → IsSound (record { lines = lines; places = places; running = after_first_due es now })
-after_due_sound lines places [] now h = h
-after_due_sound lines places (e ∷ es) now h =
-    elim (nat_le e.moment now) as (λ b. IsSound (record { lines = lines; places = places; running = cond b es (e ∷ es) })) [
-      | true ↦ rest_sound lines places e es h
+pub after_due_sound : (ls : Lengths) (lines places : ℕ) (es : List Expiry) (now : ℕ) → IsSound (record { lines = lines; places = places; lengths = ls; running = es }) → IsSound (record { lines = lines; places = places; lengths = ls; running = after_first_due es now })
+after_due_sound ls lines places [] now h = h
+after_due_sound ls lines places (e ∷ es) now h =
+    elim (nat_le e.moment now) as (λ b. IsSound (record { lines = lines; places = places; lengths = ls; running = cond b es (e ∷ es) })) [
+      | true ↦ rest_sound ls lines places e es h
       | false ↦ h
     ]
 
 -- an order that finds no place changes nothing
 pub refused_unchanged : (c : Timers) (line : ℕ) (order : Order) (now : ℕ) → finds_place c line order ≡ false → with_order c line order now ≡ c
 unfolding with_order finds_place
-refused_unchanged c line (Start timer) now h = ap (λ b. cond b (record c { running = put_in_order is_before (record { moment = now + duration timer; line = line; timer = timer }) (without line timer c.running) }) c) h
+refused_unchanged c line (Start timer) now h = ap (λ b. cond b (record c { running = put_in_order is_before (record { moment = now + duration c.lengths timer; line = line; timer = timer }) (without line timer c.running) }) c) h
 refused_unchanged c line (Stop timer) now h = absurd (false≢true (sym h))

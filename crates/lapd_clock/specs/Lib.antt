@@ -5,3 +5,4 @@ pub mod InOrder
 pub mod Sound
 pub mod Places
 pub mod Moments
+pub mod Given

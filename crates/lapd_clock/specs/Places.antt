@@ -5,7 +5,7 @@ use Rattle.std.specs.declared.alloc.Global.{Global}
 use Rattle.std.specs.List.{AllByRecursion, HoldsAt}
 use Rattle.std.specs.Ordering.{nat_cmp, ordering_then, is_lt}
 use Rattle.lapd_clock.specs.InOrder.{put_in_order, IsInOrder}
-use Rattle.lapd_clock.specs.Timer.{Timer, timer_cmp, is_same}
+use Rattle.lapd_clock.specs.Timer.{Timer, Lengths, timer_cmp, is_same}
 use Rattle.lapd_clock.specs.Timers.{Expiry, Timers, is_before, with_expiry}
 use Rattle.lapd_clock.specs.Sound.{IsSound}
 use Rattle.lapd_clock.specs.declared.line.Held.{Held}
@@ -41,8 +41,8 @@ in_order [] = []
 in_order (e ∷ es) = with_expiry e (in_order es)
 
 -- the set that the lines stand for
-abbrev pub timers_in : ℕ → List Line → Timers
-timers_in places lines = record { lines = length lines; places = places; running = in_order (from_line 0 lines) }
+abbrev pub timers_in : Lengths → ℕ → List Line → Timers
+timers_in lengths places lines = record { lines = length lines; places = places; lengths = lengths; running = in_order (from_line 0 lines) }
 
 -- What is first in a line, given what is first in the lines before it.
 abbrev pub earlier_of : Option (ℕ × Held) → ℕ → List Held → Option (ℕ × Held)
@@ -75,6 +75,6 @@ pub record IsLineKept (places : ℕ) (v : Line) : Type 0 where
   pub fits : vec_len v ≤ places
   pub taken : places ≤ vec_capacity v
 
-pub record IsKept (places : ℕ) (lines : List Line) : Type 0 where
+pub record IsKept (lengths : Lengths) (places : ℕ) (lines : List Line) : Type 0 where
   pub each : AllByRecursion (IsLineKept places) lines
-  pub sound : IsSound (timers_in places lines)
+  pub sound : IsSound (timers_in lengths places lines)

@@ -2,7 +2,7 @@
 use Rattle.std.specs.Prelude.{◌≡◌, ℕ, ◌<◌, ◌≤◌, false, List, [], ◌∷◌, Contains, All}
 use Rattle.std.specs.List.{AllByRecursion}
 use Rattle.lapd_clock.specs.InOrder.{IsInOrder}
-use Rattle.lapd_clock.specs.Timer.{Timer}
+use Rattle.lapd_clock.specs.Timer.{Timer, AreInRange}
 use Rattle.lapd_clock.specs.Timers.{Expiry, Timers, is_before, is_of, count_on}
 
 -- no two members are of one line and timer
@@ -19,6 +19,8 @@ pub record IsSound (c : Timers) : Type 0 where
   pub on_lines : All (λ e. e.line < c.lines) c.running
   -- and no line holds more timers than it has places
   pub in_places : (line : ℕ) → count_on line c.running ≤ c.places
+  -- Timers that are started run as long as they may.
+  pub lengths : AreInRange c.lengths
 
 -- This timer of this line is the least that is held, and it is due.
 pub record IsLeastDue (c : Timers) (now line : ℕ) (timer : Timer) : Type 0 where

@@ -4,7 +4,7 @@ use Rattle.std.specs.List.{list_any}
 use Rattle.std.specs.declared.cmp.Ordering.{Ordering}
 use Rattle.std.specs.Ordering.{nat_cmp, ordering_then, is_lt}
 use Rattle.lapd_clock.specs.InOrder.{put_in_order}
-use Rattle.lapd_clock.specs.Timer.{Timer, Order, Start, Stop, duration, timer_cmp, is_same}
+use Rattle.lapd_clock.specs.Timer.{Timer, Order, Start, Stop, Lengths, standard, duration, timer_cmp, is_same}
 
 -- A running timer: the moment at which it falls due, in milliseconds, its line, and which timer of the line it is.
 pub record Expiry : Type 0 where
@@ -20,16 +20,25 @@ expiry_cmp a b =
 abbrev pub is_before : Expiry → Expiry → Bool
 is_before a b = is_lt (expiry_cmp a b)
 
--- A clock: its lines, the places of each line, and the finite set of its running timers. The set is written as the list
+-- A clock: its lines, the places of each line, how long timers run that are started, and the finite set of its running
+-- timers. The set is written as the list
 -- of its members in the order in which they fall due.
 pub record Timers : Type 0 where
   pub lines : ℕ
   pub places : ℕ
+  pub lengths : Lengths
   pub running : List Expiry
 
 -- a clock at its start: for each terminal T200 and T203 of two links, and for each line T201
+abbrev pub idle_with : Lengths → ℕ → ℕ → Timers
+idle_with lengths lines terminals = record { lines = lines; places = 4 * terminals + 1; lengths = lengths; running = [] }
+
 abbrev pub idle : ℕ → ℕ → Timers
-idle lines terminals = record { lines = lines; places = 4 * terminals + 1; running = [] }
+idle lines terminals = idle_with standard lines terminals
+
+-- The clock with other lengths: timers that run keep their moments.
+abbrev pub with_lengths : Lengths → Timers → Timers
+with_lengths lengths c = record c { lengths = lengths }
 
 -- the set with one more member
 abbrev pub with_expiry : Expiry → List Expiry → List Expiry
@@ -60,7 +69,7 @@ finds_place c line (Stop timer) = true
 unfoldable pub with_order : Timers → ℕ → Order → ℕ → Timers
 with_order c line (Start timer) now =
     if finds_place c line (Start timer)
-    then record c { running = with_expiry (record { moment = now + duration timer; line = line; timer = timer }) (without line timer c.running) }
+    then record c { running = with_expiry (record { moment = now + duration c.lengths timer; line = line; timer = timer }) (without line timer c.running) }
     else c
 with_order c line (Stop timer) now = record c { running = without line timer c.running }
 

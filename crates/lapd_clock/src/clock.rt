@@ -1,24 +1,25 @@
 //! The clock: which timers of which lines run, and until when.
 
 ghost use Rattle.std.specs.Prelude.{◌≡◌, false, ◌^◌, ◌<◌, ◌≤◌, All, IfOk, IfSome, IfNone};
-ghost use Rattle.lapd_clock.specs.Timers.{idle, finds_place, with_order, due_at, after_due, next_moment};
+ghost use Rattle.lapd_clock.specs.Timers.{idle, idle_with, with_lengths, finds_place, with_order, due_at, after_due, next_moment};
 ghost use Rattle.lapd_clock.specs.Sound.{IsSound, IsLeastDue};
 
 use crate::fault::StartFault;
+use crate::lengths::Lengths;
 use crate::line::{Held, start, stop};
 use crate::lines::first_of;
-use crate::timers::duration_of;
 use lapd_frame::{Order, Timer};
 use std::alloc::Global;
 use std::marker::Model;
 
 /// The running timers of all lines, each with the moment at which it falls due.
 ///
-/// T200 and T201 run 1,000 ms and T203 10,000 ms: the values of Q.921, clauses 5.9.1, 5.9.6 and
-/// 5.9.8. No call but `start` takes memory.
+/// How long they run is given at the start, and can be changed: [`Lengths`]. No call but `start` and `start_with` takes
+/// memory.
 #[derive(Debug, Drop)]
 pub struct Clock {
     places: usize,
+    lengths: Lengths,
     lines: Vec<Vec<Held>>,
 }
 
@@ -29,16 +30,17 @@ impl Model for Clock {
 
     ghost use Rattle.lapd_clock.specs.Places.{timers_in, IsKept};
 
-    ghost view = { λ a. timers_in a.places a.lines.items };
+    ghost use Rattle.lapd_clock.specs.Given.{lengths_of};
 
-    ghost invariant = { λ a. IsKept a.places a.lines.items };
+    ghost view = { λ a. timers_in (lengths_of a.lengths) a.places a.lines.items };
+
+    ghost invariant = { λ a. IsKept (lengths_of a.lengths) a.places a.lines.items };
 }
 
 impl Clock {
-    /// A clock on which no timer runs, for 1 to 64 lines of 1 to 8 terminals.
-    ///
-    /// Each line has `4 * terminals + 1` places for running timers: T200 and T203 of two links for
-    /// each terminal, and T201.
+    ghost use Rattle.lapd_clock.specs.Given.{lengths_of};
+
+    /// A clock on which no timer runs, for 1 to 64 lines of 1 to 8 terminals, with the lengths of the standard.
     ///
     /// # Errors
     ///
@@ -49,13 +51,47 @@ impl Clock {
         ensures idle { IfOk result (λ clock. clock ≡ idle lines terminals) }
         ensures sound { IfOk result IsSound }
     {
+        Clock::start_with(alloc, lines, terminals, Lengths::standard())
+    }
+
+    /// A clock on which no timer runs, for 1 to 64 lines of 1 to 8 terminals, with these lengths.
+    ///
+    /// Each line has `4 * terminals + 1` places for running timers: T200 and T203 of two links for
+    /// each terminal, and T201.
+    ///
+    /// # Errors
+    ///
+    /// `OutOfMemory` where there is no memory for the places.
+    pub fn start_with(
+        alloc: Global,
+        lines: usize,
+        terminals: usize,
+        lengths: Lengths,
+    ) -> Result<Clock, StartFault>
+        requires lines { 1 ≤ lines × lines ≤ 64 }
+        requires terminals { 1 ≤ terminals × terminals ≤ 8 }
+        ensures idle { IfOk result (λ clock. clock ≡ idle_with (lengths_of lengths) lines terminals) }
+        ensures sound { IfOk result IsSound }
+    {
         let places = 4 * terminals + 1;
         let mut all = Vec::with_capacity(alloc, lines).map_err(|_| StartFault::OutOfMemory)?;
         for _ in 0..lines {
             let line = Vec::with_capacity(alloc, places).map_err(|_| StartFault::OutOfMemory)?;
             all.push(line).map_err(|_| StartFault::OutOfMemory)?;
         }
-        Ok(Clock { places, lines: all })
+        Ok(Clock {
+            places,
+            lengths,
+            lines: all,
+        })
+    }
+
+    /// Has timers that are started from now on run so long. Those that run keep their moments.
+    pub fn set_lengths(&mut self, lengths: Lengths)
+        ensures after { self.new ≡ with_lengths (lengths_of lengths) self.old }
+        ensures sound { IsSound self.new }
+    {
+        self.lengths = lengths;
     }
 
     /// The number of lines.
@@ -81,11 +117,12 @@ impl Clock {
         ensures refused { result ≡ false → self.new ≡ self.old }
 
         ensures lines { self.new.lines ≡ self.old.lines }
+        ensures lengths { self.new.lengths ≡ self.old.lengths }
         ensures sound { IsSound self.new }
     {
         match order {
             Order::Start(timer) => {
-                let moment = now + duration_of(timer);
+                let moment = now + self.lengths.of(timer);
                 start(&mut self.lines[line], self.places, Held { moment, timer })
             }
             Order::Stop(timer) => {
@@ -111,6 +148,7 @@ impl Clock {
 
         ensures line { IfSome result (λ due. due.0 < self.old.lines) }
         ensures lines { self.new.lines ≡ self.old.lines }
+        ensures lengths { self.new.lengths ≡ self.old.lengths }
         ensures sound { IsSound self.new }
     {
         let (line, held) = first_of(&self.lines)?;

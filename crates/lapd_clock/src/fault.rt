@@ -1,4 +1,4 @@
-//! Why there is no clock.
+//! Why there is no clock, and why timers cannot run so long.
 
 use thiserror::Error;
 
@@ -8,4 +8,18 @@ pub enum StartFault {
     /// There is no memory for the places of the lines.
     #[error("out of memory")]
     OutOfMemory = 1,
+}
+
+/// Which timer cannot run as long as was asked: each runs 1 to 3,600,000 ms (profile).
+#[derive(Clone, Copy, PartialEq, Eq, Debug, Error)]
+pub enum LengthFault {
+    /// T200 of each link.
+    #[error("T200 is out of range")]
+    T200,
+    /// T203 of each link.
+    #[error("T203 is out of range")]
+    T203,
+    /// T201 of each line.
+    #[error("T201 is out of range")]
+    T201,
 }

@@ -11,7 +11,7 @@ ghost use Rattle.lapd_clock.specs.Moments.{MovesOne};
 pub fn orders_move_one_timer()
     ensures started { (c : Timers) (line : ℕ) (timer : Timer) (now : ℕ) →
         finds_place c line (Start timer) ≡ true →
-        MovesOne line timer (Some (now + duration timer)) c (with_order c line (Start timer) now) }
+        MovesOne line timer (Some (now + duration c.lengths timer)) c (with_order c line (Start timer) now) }
     ensures stopped { (c : Timers) (line : ℕ) (timer : Timer) (now : ℕ) →
         MovesOne line timer None c (with_order c line (Stop timer) now) }
 {}

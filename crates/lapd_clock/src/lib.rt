@@ -8,15 +8,15 @@
 //!
 //! - `clock`: `Clock`, the running timers of all lines.
 //! - `lines`, `line`: which line's timer falls due first, and the timers of one line.
-//! - `timers`: how long each timer runs, and which goes first at one moment.
-//! - `fault`: `StartFault`, why there is no clock.
+//! - `lengths`: `Lengths`, how long the timers run. `timers`: which of them goes first at one moment.
+//! - `fault`: `StartFault`, why there is no clock, and `LengthFault`, which timer cannot run so long.
 //! - `laws`: what an order does to the moments of all timers.
 //!
 //! What each call answers and does is defined in `specs/Timers.antt` on the set of running timers.
 //!
 //! # Cost
 //!
-//! All memory is taken by `Clock::start`: for each line `4 * terminals + 1` places. `apply` goes
+//! All memory is taken by `Clock::start` or `Clock::start_with`: for each line `4 * terminals + 1` places. `apply` goes
 //! over the timers of its one line, three times at most, and looks at no other line. `next` and
 //! `due` look at the first timer of each line, and `due` then moves the other timers of the line
 //! whose timer it takes out. So `apply` is linear in the places of a line, `next` in the lines, and
@@ -30,10 +30,12 @@
 mod clock;
 mod fault;
 mod laws;
+mod lengths;
 mod line;
 mod lines;
 mod timers;
 
 pub use clock::Clock;
-pub use fault::StartFault;
+pub use fault::{LengthFault, StartFault};
 pub use laws::orders_move_one_timer;
+pub use lengths::Lengths;

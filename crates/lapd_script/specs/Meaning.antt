@@ -4,7 +4,7 @@ use Rattle.lapd_script.specs.declared.kind.FaultKind.{FaultKind}
 use Rattle.lapd_script.specs.declared.command.Asked.{Asked}
 use Rattle.model_line.specs.declared.config.Config.{Config}
 use Rattle.lapd_script.specs.declared.command.Command.{Command}
-use Rattle.lapd_script.specs.declared.command.Command.TheVariants.{Skip, Card, Rx, In, Pull, Wait, Stored, Ask}
+use Rattle.lapd_script.specs.declared.command.Command.TheVariants.{Skip, Card, Rx, In, Pull, Wait, Timers, Stored, Ask}
 
 pub data Meaning : Type 0 where
   -- nothing: the line is skipped
@@ -19,6 +19,8 @@ pub data Meaning : Type 0 where
   pull : ℕ → ℕ → Meaning
   -- so many milliseconds pass
   wait : ℕ → Meaning
+  -- T200, T203 and T201 run so many milliseconds from now on
+  timers : ℕ → ℕ → ℕ → Meaning
   -- what the card holds is shown
   stored : Meaning
   -- for a line and a TEI this is asked, with the octets that it carries
@@ -32,6 +34,7 @@ meant buffer (Rx line count) = rx line (take count buffer)
 meant buffer (In line count) = into line (take count buffer)
 meant buffer (Pull line count) = pull line count
 meant buffer (Wait milliseconds) = wait milliseconds
+meant buffer (Timers t200 t203 t201) = timers t200 t203 t201
 meant buffer Stored = stored
 meant buffer (Ask line tei what count) = ask line tei what (take count buffer)
 
@@ -48,5 +51,6 @@ IsCounted room (Rx line count) = count ≤ room
 IsCounted room (In line count) = count ≤ room
 IsCounted room (Pull line count) = count ≤ 4096
 IsCounted room (Wait milliseconds) = milliseconds ≤ 3600000
+IsCounted room (Timers t200 t203 t201) = Unit {0}
 IsCounted room Stored = Unit {0}
 IsCounted room (Ask line tei what count) = count ≤ room

@@ -4,12 +4,12 @@ use Rattle.lapd_script.specs.declared.kind.FaultKind.{FaultKind}
 use Rattle.lapd_script.specs.declared.kind.FaultKind.TheVariants.{UnknownWord, BadNumberOfWords}
 use Rattle.model_line.specs.declared.config.Config.{Config}
 use Rattle.lapd_script.specs.declared.word.Word.{Word}
-use Rattle.lapd_script.specs.declared.word.Word.TheVariants.{Card, Rx, In, Pull, Wait, Stored, Ask}
+use Rattle.lapd_script.specs.declared.word.Word.TheVariants.{Card, Rx, In, Pull, Wait, Timers, Stored, Ask}
 use Rattle.lapd_script.specs.Words.{words_of, no_words, one_word, two_words, three_words}
 use Rattle.lapd_script.specs.Number.{number}
 use Rattle.lapd_script.specs.Octets.{octets}
 use Rattle.lapd_script.specs.Word.{word_named, carries_octets}
-use Rattle.lapd_script.specs.Meaning.{Meaning, skip, card, rx, into, pull, wait, stored, ask}
+use Rattle.lapd_script.specs.Meaning.{Meaning, skip, card, rx, into, pull, wait, timers, stored, ask}
 
 -- the second step, where the first one found no fault
 infixl 10 ◌>>=◌
@@ -55,6 +55,15 @@ ten_numbers nine (k16 ∷ more ∷ words) = Err BadNumberOfWords
 abbrev pub card_numbers : List (List ℕ) → Result Config FaultKind
 card_numbers words = ten_numbers (take 9 words) (drop 9 words)
 
+-- T200, T203 and T201 in milliseconds: each a millisecond to an hour
+abbrev pub lengths : List (List ℕ) → Result (ℕ × ℕ × ℕ) FaultKind
+lengths words = do
+  word ← three_words words
+  t200 ← number 1 3600000 word.0
+  t203 ← number 1 3600000 word.1
+  t201 ← number 1 3600000 word.2
+  Ok (t200, t203, t201)
+
 -- what each first word takes after it
 abbrev pub read_as : Word → List (List ℕ) → Result Meaning FaultKind
 read_as Card words = do
@@ -79,6 +88,9 @@ read_as Wait words = do
   word ← one_word words
   milliseconds ← number 0 3600000 word
   Ok (wait milliseconds)
+read_as Timers words = do
+  lengths ← lengths words
+  Ok (timers lengths.0 lengths.1 lengths.2)
 read_as Stored words = do
   none ← no_words words
   Ok stored

@@ -4,7 +4,7 @@ use Rattle.lapd_frame.specs.declared.services.Service.TheVariants.{Call, Packet}
 use Rattle.lapd_script.specs.declared.command.Asked.{Asked}
 use Rattle.lapd_script.specs.declared.command.Asked.TheVariants.{Assign, Remove, Check, Establish, Release, SetBusy, ClearBusy, Data, Unit}
 use Rattle.lapd_script.specs.declared.word.Word.{Word}
-use Rattle.lapd_script.specs.declared.word.Word.TheVariants.{Card, Rx, In, Pull, Wait, Stored, Ask}
+use Rattle.lapd_script.specs.declared.word.Word.TheVariants.{Card, Rx, In, Pull, Wait, Timers, Stored, Ask}
 
 -- what is asked for, of a line and a TEI; for packet links (SAPI 16) with 16 after the word
 abbrev pub asked_named : List ℕ → Option Asked
@@ -33,6 +33,7 @@ word_named name =
     else if bytes_eq name (codes "in") then Some In
     else if bytes_eq name (codes "pull") then Some Pull
     else if bytes_eq name (codes "wait") then Some Wait
+    else if bytes_eq name (codes "timers") then Some Timers
     else if bytes_eq name (codes "stored") then Some Stored
     else option_map Ask (asked_named name)
 

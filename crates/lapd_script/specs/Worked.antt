@@ -4,7 +4,7 @@ use Rattle.hex.specs.Hex.{decode_pairs}
 use Rattle.lapd_frame.specs.declared.services.Service.TheVariants.{Call, Packet}
 use Rattle.lapd_script.specs.declared.kind.FaultKind.TheVariants.{UnknownWord, BadNumberOfWords, BadNumber, BadOctets}
 use Rattle.lapd_script.specs.declared.command.Asked as asked
-use Rattle.lapd_script.specs.Meaning.{skip, card, rx, into, pull, wait, stored, ask}
+use Rattle.lapd_script.specs.Meaning.{skip, card, rx, into, pull, wait, timers, stored, ask}
 use Rattle.lapd_script.specs.Read.{read}
 use Rattle.lapd_script.specs.Job.{job, run, frame, limits}
 use Rattle.lapd_script.specs.Bound.{bound}
@@ -42,6 +42,12 @@ pulls = refl
 
 an_hour : read (codes "wait 3600000") ≡ Ok (wait 3600000)
 an_hour = refl
+
+slow_timers : read (codes "timers 12000 60000 1000") ≡ Ok (timers 12000 60000 1000)
+slow_timers = refl
+
+no_timer : read (codes "timers 0 10000 1000") ≡ Err BadNumber
+no_timer = refl
 
 shown : read (codes "stored") ≡ Ok stored
 shown = refl

@@ -60,6 +60,15 @@ pub enum Command {
         /// MS.
         milliseconds: u32,
     },
+    /// `timers T200 T203 T201`: from now on timers that are started run so many milliseconds, 1 to 3,600,000 each.
+    Timers {
+        /// T200 of each link.
+        t200: u32,
+        /// T203 of each link.
+        t203: u32,
+        /// T201 of each line.
+        t201: u32,
+    },
     /// `stored`: shows what the card holds.
     Stored,
     /// A request of layer 3, and the octets that it carries: those of `data` and `unit`, else none.

@@ -3,7 +3,7 @@
 ghost use Rattle.std.specs.Prelude.{◌≡◌, ◌*◌, ◌/◌, ◌≤◌, ℕ, List, take, drop, length, All, IfOk};
 ghost use Rattle.lapd_script.specs.Words.{texts};
 ghost use Rattle.lapd_script.specs.Meaning.{meant_by, IsCounted};
-ghost use Rattle.lapd_script.specs.Read.{read, read_words, read_as, card_numbers, nine_numbers, three_numbers};
+ghost use Rattle.lapd_script.specs.Read.{read, read_words, read_as, lengths, card_numbers, nine_numbers, three_numbers};
 ghost use Rattle.lapd_script.specs.declared.word.Word.TheVariants.{Ask};
 
 use crate::command::{Asked, Command};
@@ -84,6 +84,10 @@ fn read_as(word: Word, words: &[&[u8]], room: &mut [u8]) -> Result<Command, Faul
             let milliseconds = number(0, 3_600_000, one(words)?)?;
             Ok(Command::Wait { milliseconds })
         }
+        Word::Timers => {
+            let (t200, t203, t201) = lengths(words)?;
+            Ok(Command::Timers { t200, t203, t201 })
+        }
         Word::Stored => {
             none(words)?;
             Ok(Command::Stored)
@@ -120,6 +124,17 @@ fn ask(what: Asked, words: &[&[u8]], room: &mut [u8]) -> Result<Command, FaultKi
         what,
         octets: 0,
     })
+}
+
+/// T200, T203 and T201, each a millisecond to an hour.
+fn lengths(words: &[&[u8]]) -> Result<(u32, u32, u32), FaultKind>
+    ensures read { result ≡ lengths (texts words.now) }
+{
+    let (t200, t203, t201) = three(words)?;
+    let t200 = number(1, 3_600_000, t200)?;
+    let t203 = number(1, 3_600_000, t203)?;
+    let t201 = number(1, 3_600_000, t201)?;
+    Ok((t200, t203, t201))
 }
 
 /// The nine or ten numbers of a card line.

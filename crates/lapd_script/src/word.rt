@@ -14,6 +14,7 @@ pub(crate) enum Word {
     In,
     Pull,
     Wait,
+    Timers,
     Stored,
     Ask(Asked),
 }
@@ -33,6 +34,8 @@ impl Word {
             Some(Word::Pull)
         } else if name == b"wait".as_slice() {
             Some(Word::Wait)
+        } else if name == b"timers".as_slice() {
+            Some(Word::Timers)
         } else if name == b"stored".as_slice() {
             Some(Word::Stored)
         } else {

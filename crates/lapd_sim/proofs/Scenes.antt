@@ -1,9 +1,9 @@
 -- What a line says, event by event.
-use Rattle.std.proofs.Common.{◌≡◌, ℕ, zero, suc, ◌+◌, ◌<◌, ◌≤◌, nat_lt, nat_le, List, [], ◌∷◌, ◌++◌, length, take, drop, get_or, fold, Bool, true, false, cond, None, Some, Result, Ok, Err, refl, sym, ap, ◌∙◌, subst, append_assoc}
+use Rattle.std.proofs.Common.{◌≡◌, ℕ, zero, suc, ◌+◌, ◌<◌, ◌≤◌, nat_lt, nat_le, List, [], ◌∷◌, ◌++◌, length, take, drop, get_or, fold, Bool, true, false, cond, Option, None, Some, Result, Ok, Err, refl, sym, ap, ◌∙◌, subst, append_assoc}
 use Rattle.std.specs.Prelude.{◌&&◌}
 use Rattle.std.proofs.lemmas.Bool.{lt-ltb, le-leb, true≢false}
 use Rattle.lapd_script.specs.Meaning as meaning
-use Rattle.lapd_script.specs.declared.kind.FaultKind.TheVariants.{BadLine, BadFrame}
+use Rattle.lapd_script.specs.declared.kind.FaultKind.TheVariants.{BadNumber, BadLine, BadFrame}
 use Rattle.std.proofs.lemmas.List.{append-nil, map-append, take_more, take-append-drop}
 use Rattle.std.proofs.lemmas.Grind.{fold-append}
 use Rattle.model_line.specs.Event.{octet}
@@ -12,6 +12,7 @@ use Rattle.model_card.specs.Machine.{answer}
 use Rattle.lapd_transcript.specs.Streams.{Output, IsPut, IsStuck}
 use Rattle.lapd_transcript.proofs.Known.{stuck_more}
 use Rattle.model_sim.specs.Setup.{Setup}
+use Rattle.lapd_clock.specs.declared.fault.LengthFault.{LengthFault}
 use Rattle.lapd_clock.specs.Timers.{due_at}
 use Rattle.lapd_script.specs.declared.kind.FaultKind.{FaultKind}
 use Rattle.model_sim.specs.Steps.{Scene, with_event, with_events, octets_at, after_rx, at_line, answer_text, expiries, expired, Pulls, pulls, one_pull, after_pull, after_in, with_card}
@@ -26,6 +27,16 @@ rx_more line xs i s h =
     ap (λ l. fold with_event s (octets_at line l)) (take_more xs i 0 h)
     ∙ ap (fold with_event s) (map-append (λ value. at line (octet value)) (take i xs) (get_or xs i 0 ∷ []))
     ∙ fold-append with_event s (octets_at line (take i xs)) (octets_at line (get_or xs i 0 ∷ []))
+
+-- lengths of timers that are in range are obeyed, and leave all else as it was
+pub obeyed_by : (r : Result Unit LineFault) (before : Output) (P Q : Setup → Type 0) (o : Option LengthFault) (s : Scene) → (P s.setup → Q s.setup)
+    → Obeys r before before P (elim o as (λ o. Result Scene FaultKind) [ None ↦ Ok s | Some timer ↦ Err BadNumber ])
+    → Obeys r before before Q (elim o as (λ o. Result Scene FaultKind) [ None ↦ Ok s | Some timer ↦ Err BadNumber ])
+obeyed_by (Ok u) before P Q None s f h = (h.0, f h.1)
+obeyed_by (Ok u) before P Q (Some timer) s f h = h
+obeyed_by (Err (Faulty kind)) before P Q o s f h = h
+obeyed_by (Err Write) before P Q o s f h = h
+obeyed_by (Err OutOfMemory) before P Q o s f h = h
 
 -- what has been said stays said
 pub events_say : (es : List Event) (s : Scene) → (more : List ℕ) × ((with_events es s).text ≡ s.text ++ more)

@@ -4,8 +4,8 @@ use Rattle.std.proofs.Math.Logic.{∥∥₁_elim}
 use Rattle.std.proofs.Props.{props}
 use Rattle.model_card.specs.Event.{at}
 use Rattle.model_card.specs.Machine.{answer}
-use Rattle.lapd_clock.specs.Timer.{Timer}
-use Rattle.lapd_clock.specs.Timers.{due_at, time_until}
+use Rattle.lapd_clock.specs.Timer.{Timer, AreInRange}
+use Rattle.lapd_clock.specs.Timers.{Timers, due_at, time_until}
 use Rattle.model_line.specs.Event as line_event
 use Rattle.model_sim.specs.Setup.{Setup, happened}
 use Rattle.model_sim.specs.Steps.{Scene, answer_text, with_event, at_expiry, expired, until}
@@ -39,6 +39,9 @@ module _ (e new : Exchange) (before after last : Output) (end : ℕ) (m : Setup)
   due_by_now : due_at w.by_now.setup.clock end ≡ Some due
   due_by_now = ap (λ c. due_at c end) (sym w.holds.clock) ∙ sym is
 
+  in_range : AreInRange w.by_now.setup.clock.lengths
+  in_range = subst (λ (c : Timers). AreInRange c.lengths) w.holds.clock e.lengths
+
   abbrev said_then : List ℕ
   said_then = answer_text due.0 (answer (at due.0 (line_event.expiry due.1)) w.by_now.setup.card)
 
@@ -47,14 +50,14 @@ module _ (e new : Exchange) (before after last : Output) (end : ℕ) (m : Setup)
     by_now = expired end due.0 due.1 w.by_now;
     written = puts_then (Ok u) before after last w.by_now.text said_then w.written told.0;
     holds = told.1;
-    same = w.same ∙ until-expired end w.by_now due due_by_now;
+    same = w.same ∙ until-expired end w.by_now due in_range due_by_now;
   }
 
   pub waits_in_vain : (why : WriteFailed) → Tells (Err why) after last (Holds new) (with_event (scene (at_expiry end w.by_now.setup)) (at due.0 (line_event.expiry due.1))) → Tells (Err why) before last (Holds new) (until end (scene m))
   waits_in_vain why told =
       let next = expired end due.0 due.1 w.by_now in
       let later = text_grows (time_until end next.setup.clock) end next (due_at next.setup.clock end) refl in
-      let whole : (until end (scene m)).text ≡ next.text ++ later.0 = ap (λ (x : Scene). x.text) (w.same ∙ until-expired end w.by_now due due_by_now) ∙ later.1 in
+      let whole : (until end (scene m)).text ≡ next.text ++ later.0 = ap (λ (x : Scene). x.text) (w.same ∙ until-expired end w.by_now due in_range due_by_now) ∙ later.1 in
       subst (IsStuck before last) (sym whole) (stuck_more before last next.text later.0 (puts_then (Err why) before after last w.by_now.text said_then w.written told))
 
 -- each expiry lowers what is left, whatever the past
@@ -69,7 +72,7 @@ wait_lowers e middle new end due is out event =
     let m : Setup = record { card = now; clock = e.clock; now = e.moment; terminals = []; taken = [] } in
     let held : Holds new (happened (at_expiry end m) (at due.0 (line_event.expiry due.1))) =
     event (at_expiry end m) (out m (record { config = config; card = stands; clock = refl; now = refl })) in
-    subst (λ c. time_until end c < time_until end e.clock) (sym held.clock) (expiry_lowers end due.0 due.1 due m (sym is)))
+    subst (λ c. time_until end c < time_until end e.clock) (sym held.clock) (expiry_lowers end due.0 due.1 due m e.lengths (sym is)))
 
 -- at the end, the moment is the end
 pub waits_over : (e new : Exchange) (before after : Output) (end : ℕ) (m : Setup) (u : Unit {0}) → None ≡ due_at e.clock end → Waits e before after end m

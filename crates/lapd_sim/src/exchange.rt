@@ -5,6 +5,7 @@ ghost use Rattle.lapd_card.specs.Card.{line_count};
 ghost use Rattle.lapd_card.specs.Reply.{answer_of_result};
 ghost use Rattle.model_card.specs.Event.{at};
 ghost use Rattle.model_card.specs.Machine.{answer};
+ghost use Rattle.lapd_clock.specs.Timer.{AreInRange};
 ghost use Rattle.lapd_clock.specs.Timers as clocks;
 ghost use Rattle.model_line.specs.Event as line_event;
 ghost use Rattle.model_line.specs.Laws.{orders_in};
@@ -12,12 +13,12 @@ ghost use Rattle.model_line.specs.Request.{request_of};
 ghost use Rattle.model_line.specs.Sound.{IsInRange};
 ghost use Rattle.lapd_sim.specs.Past.{HasPast};
 ghost use Rattle.model_sim.specs.Setup as machine;
-ghost use Rattle.model_sim.specs.Steps.{answer_text, with_event, octet_in, at_expiry, until, in_time, after_stored};
-ghost use Rattle.lapd_transcript.specs.Streams.{Puts, output};
+ghost use Rattle.model_sim.specs.Steps.{answer_text, with_event, octet_in, at_expiry, until, in_time, with_timers, after_stored};
+ghost use Rattle.lapd_transcript.specs.Streams.{Output, Puts, output};
 
 use crate::faults::LineFault;
 use lapd_card::{Card, CardFault, Config, Report, Request, limit};
-use lapd_clock::Clock;
+use lapd_clock::{Clock, Lengths};
 use lapd_frame::{Order, Timer};
 use lapd_script::FaultKind;
 use lapd_store::RawShelf;
@@ -38,6 +39,7 @@ pub(crate) struct Exchange {
     ghost same_lines: { line_count card ≡ config.lines },
     ghost past: { ∥ HasPast config card ∥₁ },
     ghost clock_lines: { clock.lines ≡ config.lines },
+    ghost lengths: { AreInRange clock.lengths },
     ghost in_time: { moment < 2 ^ 63 },
 }
 
@@ -125,6 +127,21 @@ impl Exchange {
         match self.card.request(line, request) {
             Ok(report) => carry_out(&mut self.clock, line, &report, self.moment, target, page),
             Err(refusal) => put_refused(target, page, line as u16, refusal),
+        }
+    }
+
+    /// Timers that are started from now on run so long; each has to run a millisecond to an hour.
+    pub(crate) fn set_timers(&mut self, t200: u32, t203: u32, t201: u32) -> Result<(), LineFault>
+        ensures config { self.new.config ≡ self.old.config }
+        ensures told { (m : machine.Setup) (before : Output) → Holds self.old m
+            → Obeys result before before (Holds self.new) (with_timers (record { t200 = t200; t203 = t203; t201 = t201 }) (scene m)) }
+    {
+        match Lengths::new(t200, t203, t201) {
+            Ok(lengths) => {
+                self.clock.set_lengths(lengths);
+                Ok(())
+            }
+            Err(_) => Err(LineFault::Faulty(FaultKind::BadNumber)),
         }
     }
 
@@ -229,6 +246,7 @@ fn carry_out<T: Target>(
     requires number { line < 2 ^ 16 }
     requires now { now < 2 ^ 63 }
     ensures lines { clock.new.lines ≡ clock.old.lines }
+    ensures lengths { clock.new.lengths ≡ clock.old.lengths }
     ensures ordered { clock.new ≡ fold (machine.ordered line now) clock.old (orders_in (answer_of_result (Ok report.now))) }
     ensures written { Puts result (output (T.taken target.old) page.old.items) (output (T.taken target.new) page.new.items) (answer_text line (answer_of_result (Ok report.now))) }
 {
@@ -249,6 +267,7 @@ fn order(clock: &mut Clock, line: usize, orders: &[Order], now: u64)
     requires line { line < clock.old.lines }
     requires now { now < 2 ^ 63 }
     ensures lines { clock.new.lines ≡ clock.old.lines }
+    ensures lengths { clock.new.lengths ≡ clock.old.lengths }
     ensures ordered { clock.new ≡ fold (machine.ordered line now) clock.old orders.now }
 {
     for order in orders {

@@ -194,6 +194,7 @@ fn without_card(alloc: Global, command: Command) -> Result<Option<Setup>, LineFa
         Command::In { .. } => Err(LineFault::Faulty(FaultKind::NoCard)),
         Command::Pull { .. } => Err(LineFault::Faulty(FaultKind::NoCard)),
         Command::Wait { .. } => Err(LineFault::Faulty(FaultKind::NoCard)),
+        Command::Timers { .. } => Err(LineFault::Faulty(FaultKind::NoCard)),
         Command::Stored => Err(LineFault::Faulty(FaultKind::NoCard)),
         Command::Ask { .. } => Err(LineFault::Faulty(FaultKind::NoCard)),
     }
@@ -219,6 +220,7 @@ fn with_card<T: Target>(
         Command::In { line, octets } => setup.send(line, &room[..octets], target, page),
         Command::Pull { line, count } => setup.pull(line, count as usize, room, target, page),
         Command::Wait { milliseconds } => setup.wait(milliseconds, target, page),
+        Command::Timers { t200, t203, t201 } => setup.set_timers(t200, t203, t201),
         Command::Stored => setup.show_stored(target, page),
         Command::Ask {
             line,

@@ -5,7 +5,7 @@ ghost use Rattle.lapd_script.specs.Meaning as meaning;
 ghost use Rattle.lapd_script.specs.declared.kind.FaultKind.TheVariants.{BadLine};
 ghost use Rattle.model_sim.specs.Setup as machine;
 ghost use Rattle.model_sim.specs.Steps.{with_card};
-ghost use Rattle.lapd_transcript.specs.Streams.{output};
+ghost use Rattle.lapd_transcript.specs.Streams.{Output, output};
 
 use crate::exchange::Exchange;
 use crate::faults::LineFault;
@@ -160,6 +160,14 @@ impl Setup {
             → Obeys result (output (T.taken target.old) page.old.items) (output (T.taken target.new) page.new.items) (Stands self.new) (with_card (meaning.wait milliseconds) (scene m)) }
     {
         self.exchange.wait(milliseconds, target, page)
+    }
+
+    /// Timers run so long that are started from now on.
+    pub(crate) fn set_timers(&mut self, t200: u32, t203: u32, t201: u32) -> Result<(), LineFault>
+        ensures { (m : machine.Setup) (before : Output) → Stands self.old m
+            → Obeys result before before (Stands self.new) (with_card (meaning.timers t200 t203 t201) (scene m)) }
+    {
+        self.exchange.set_timers(t200, t203, t201)
     }
 
     /// Shows what the card holds.

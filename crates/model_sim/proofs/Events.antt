@@ -1,10 +1,14 @@
 -- A script is a run of the card: each line's events lead the card as the line does.
-use Rattle.std.proofs.Common.{◌≡◌, ℕ, zero, suc, ◌+◌, ◌<◌, Bool, true, false, cond, List, [], ◌∷◌, ◌++◌, replicate, Option, Some, None, Result, Ok, Err, refl, sym, ap, ◌∙◌, subst, nat_lt, nat_le, arith}
+use Rattle.std.proofs.Common.{◌≡◌, ℕ, zero, suc, ◌+◌, ◌<◌, Bool, true, false, cond, List, [], ◌∷◌, ◌++◌, replicate, Option, Some, None, Result, Ok, Err, refl, sym, ap, ◌∙◌, subst, not, nat_lt, nat_le, arith, ◌≤◌}
 use Rattle.std.specs.Prelude.{fold, All}
 use Rattle.std.proofs.lemmas.Bool.{ltb-true}
+use Rattle.std.proofs.lemmas.Bool.Decides.{nat_tests}
 use Rattle.std.proofs.lemmas.List.Elements.{All-nil, All-cons, All-append, recursion_from_All}
 use Rattle.std.proofs.lemmas.Option.{none-some}
 use Rattle.lapd_frame.specs.declared.timers.Timer.{Timer}
+use Rattle.lapd_clock.specs.declared.fault.LengthFault.{LengthFault}
+use Rattle.lapd_clock.specs.declared.fault.LengthFault.TheVariants as fault
+use Rattle.lapd_clock.specs.Timer.{Lengths, AreInRange, standard, is_length, first_out_of_range}
 use Rattle.lapd_clock.specs.Timers as clocks
 use Rattle.model_line.specs.declared.config.Config.{Config}
 use Rattle.model_line.specs.declared.config.Field.{Field}
@@ -16,12 +20,12 @@ use Rattle.model_card.specs.Card.{Card, fresh}
 use Rattle.model_card.specs.Machine.{after}
 use Rattle.model_card.specs.Run.{after_all, IsAtLine, AreAtLines}
 use Rattle.lapd_script.specs.declared.kind.FaultKind.{FaultKind}
-use Rattle.lapd_script.specs.declared.kind.FaultKind.TheVariants.{TooLong, BadCard, BadLine, BadFrame, TimeOver}
+use Rattle.lapd_script.specs.declared.kind.FaultKind.TheVariants.{TooLong, BadNumber, BadCard, BadLine, BadFrame, TimeOver}
 use Rattle.lapd_script.specs.Meaning as line
 use Rattle.lapd_script.specs.Read.{read}
 use Rattle.model_sim.specs.Pieces.{pieces_of, line_in}
 use Rattle.model_sim.specs.Setup.{Setup, begun, terminal_at, octets_sent, after_sending, with_terminal}
-use Rattle.model_sim.specs.Steps.{Scene, with_event, with_events, octets_at, Pulls, one_pull, pulls, expired, expiries, after_rx, after_in, after_pull, after_wait, with_card, without_card, is_frame, last_moment, request_for}
+use Rattle.model_sim.specs.Steps.{Scene, with_event, with_events, octets_at, Pulls, one_pull, pulls, expired, expiries, after_rx, after_in, after_pull, after_wait, after_timers, with_timers, with_card, without_card, is_frame, last_moment, request_for}
 use Rattle.model_sim.specs.Script.{Fault, Played, not_begun, played, faulty, is_too_long, after_scene, after_bench, after_reading, unless_faulty, one_more}
 use Rattle.model_sim.specs.Events.{expiry_events, events_until, meant_events, read_events, unless_fault, line_events, events_from, card_meant, first_card, ScriptsAreRuns}
 use Rattle.model_sim.proofs.Expiries.{drained}
@@ -119,7 +123,7 @@ wait_led milliseconds s =
       card = expiries_lead most end s;
       kept = λ k.
           let waited = wait_ticks most end s k.ticks in
-          let none = drained most end s (clocks.due_at s.setup.clock end) refl (omega arith) in
+          let none = drained most end s (clocks.due_at s.setup.clock end) k.ticks.lengths refl (omega arith) in
           let later = recursion_from_All (λ x. end < x.moment) last.setup.clock.running (none_later last.setup.clock.running end waited.ticks.in_order none) in
           (record { ticks = waited.ticks; later = later }, waited.within);
     }
@@ -128,6 +132,41 @@ event_led : (e : Event) (s : Scene) → IsAtLine s.setup.card e → Led s.setup 
 event_led e s within =
     let at_lines = All-cons (IsAtLine s.setup.card) e [] within (All-nil (IsAtLine s.setup.card)) in
     record { card = one_event s.setup.card e; kept = λ k. (events_kept (e ∷ []) s at_lines k, at_lines) }
+
+-- timers run a millisecond at least
+in_range : (lengths : Lengths) → first_out_of_range lengths ≡ None → AreInRange lengths
+in_range lengths none = by-tests (is_length lengths.t200) (is_length lengths.t203) (is_length lengths.t201) refl refl refl none
+  where
+    at-least : (n : ℕ) → is_length n ≡ true → 1 ≤ n
+    at-least n e = grind (arith, nat_tests, e)
+
+    at-most : (n : ℕ) → is_length n ≡ true → n ≤ 3600000
+    at-most n e = grind (arith, nat_tests, e)
+
+    by-tests : (a b c : Bool) → is_length lengths.t200 ≡ a → is_length lengths.t203 ≡ b → is_length lengths.t201 ≡ c
+        → cond (not a) (Some fault.T200) (cond (not b) (Some fault.T203) (cond (not c) (Some fault.T201) None)) ≡ None → AreInRange lengths
+    by-tests false b c ea eb ec e = absurd (none-some fault.T200 (sym e))
+    by-tests true false c ea eb ec e = absurd (none-some fault.T203 (sym e))
+    by-tests true true false ea eb ec e = absurd (none-some fault.T201 (sym e))
+    by-tests true true true ea eb ec e = record {
+      t200 = at-least _ ea;
+      t203 = at-least _ eb;
+      t201 = at-least _ ec;
+      t200_most = at-most _ ea;
+      t203_most = at-most _ eb;
+      t201_most = at-most _ ec;
+    }
+
+-- `timers` brings no event, and keeps what is kept
+timers_led : (lengths : Lengths) (s : Scene) → Leads s.setup [] (with_timers lengths s)
+timers_led lengths s = go (first_out_of_range lengths) refl
+  where
+    go : (o : Option LengthFault) → first_out_of_range lengths ≡ o → Leads s.setup [] (elim o as (λ o. Result Scene FaultKind) [ None ↦ Ok (after_timers lengths s) | Some timer ↦ Err BadNumber ])
+    go (Some timer) e = tt
+    go None e = record {
+      card = no_event s.setup.card;
+      kept = λ k. (record { ticks = record { in_order = k.ticks.in_order; on_lines = k.ticks.on_lines; lengths = in_range lengths e }; later = k.later }, All-nil (IsAtLine s.setup.card));
+    }
 
 meaning_leads : (m : line.Meaning) (s : Scene) → Leads s.setup (meant_events m s) (with_card m s)
 meaning_leads line.skip s = nothing_led s.setup
@@ -145,6 +184,7 @@ meaning_leads (line.pull number count) s =
 meaning_leads (line.wait milliseconds) s =
     let end = s.setup.now + milliseconds in
     if_good (nat_le end last_moment) s.setup (events_until end s) (Ok (after_wait milliseconds s)) TimeOver (λ _. wait_led milliseconds s)
+meaning_leads (line.timers t200 t203 t201) s = timers_led (record { t200 = t200; t203 = t203; t201 = t201 }) s
 meaning_leads line.stored s = nothing_led s.setup
 meaning_leads (line.ask number tei what octets) s =
     let e : Event = at number (request (request_for what tei octets)) in
@@ -232,6 +272,7 @@ reading_begins piece (Ok (line.rx number octets)) p = stops refl _ refl
 reading_begins piece (Ok (line.into number octets)) p = stops refl _ refl
 reading_begins piece (Ok (line.pull number count)) p = stops refl _ refl
 reading_begins piece (Ok (line.wait milliseconds)) p = stops refl _ refl
+reading_begins piece (Ok (line.timers t200 t203 t201)) p = stops refl _ refl
 reading_begins piece (Ok line.stored) p = stops refl _ refl
 reading_begins piece (Ok (line.ask number tei what octets)) p = stops refl _ refl
 
@@ -262,7 +303,7 @@ stopped (piece ∷ pieces) p fault e =
 
 -- On a card that has just begun, no timer runs.
 fresh_kept : (c : Config) → IsKept (begun c)
-fresh_kept c = record { ticks = record { in_order = tt; on_lines = tt }; later = tt }
+fresh_kept c = record { ticks = record { in_order = tt; on_lines = tt; lengths = in_range standard refl }; later = tt }
 
 pub record Ran (p : Played) (pieces : List (List ℕ)) (last : Setup) : Type 0 where
   pub config : Config

@@ -1,12 +1,12 @@
 -- What each line of a script keeps: the timers that run are in order, of lines of the card, and later than the moment.
-use Rattle.std.proofs.Common.{◌≡◌, ℕ, zero, suc, ◌+◌, ◌<◌, Bool, true, false, cond, nat_le, List, [], ◌∷◌, replicate, Option, Some, None, refl, sym, subst, arith}
+use Rattle.std.proofs.Common.{◌≡◌, ℕ, zero, suc, ◌+◌, ◌<◌, Bool, true, false, cond, nat_le, List, [], ◌∷◌, replicate, Option, Some, None, refl, sym, ◌∙◌, subst, arith}
 use Rattle.std.specs.Prelude.{fold, All}
 use Rattle.std.specs.List.{AllByRecursion}
 use Rattle.std.proofs.lemmas.Bool.{leb-false}
 use Rattle.std.proofs.lemmas.Option.{none-some}
 use Rattle.std.proofs.lemmas.List.Elements.{All-nil, All-cons, All-head, All-tail, All-map, All-replicate}
 use Rattle.lapd_clock.specs.InOrder.{put_in_order, IsInOrder}
-use Rattle.lapd_clock.specs.Timer.{Timer, Order, Start, Stop, duration}
+use Rattle.lapd_clock.specs.Timer.{Timer, Lengths, AreInRange, Order, Start, Stop, duration}
 use Rattle.lapd_clock.specs.Timers.{Expiry, Timers, is_before, without, finds_place, with_order, first_due, after_first_due, due_at}
 use Rattle.lapd_clock.proofs.Calls.{all_later}
 use Rattle.lapd_clock.proofs.Ordered.{All-put_in_order, All-filter, IsInOrder-put_in_order, IsInOrder-filter}
@@ -20,33 +20,35 @@ use Rattle.model_card.specs.Run.{IsAtLine, AreAtLines}
 use Rattle.model_sim.specs.Setup.{Setup, ordered, happened}
 use Rattle.model_sim.specs.Steps.{Scene, with_event, with_events, octets_at, Pulls, one_pull, pulls, at_expiry, expired, expiries}
 use Rattle.model_sim.specs.Events.{expiry_events}
-use Rattle.model_sim.proofs.Expiries.{runs_long}
+use Rattle.model_sim.proofs.Expiries.{runs_long, order_lengths, happens_in_range}
 
 -- ---- orders
 
 -- what holds of all that run, and of what is started, holds after an order
-order_keeps : (P : Expiry → Type 0) (line now : ℕ) (order : Order) (c : Timers) → ((timer : Timer) → P (record { moment = now + duration timer; line = line; timer = timer }))
+order_keeps : (P : Expiry → Type 0) (line now : ℕ) (order : Order) (c : Timers) → ((timer : Timer) → P (record { moment = now + duration c.lengths timer; line = line; timer = timer }))
     → AllByRecursion P c.running → AllByRecursion P (with_order c line order now).running
 unfolding with_order
 order_keeps P line now (Stop timer) c new h = All-filter P _ c.running h
 order_keeps P line now (Start timer) c new h =
-    let e : Expiry = record { moment = now + duration timer; line = line; timer = timer } in
+    let e : Expiry = record { moment = now + duration c.lengths timer; line = line; timer = timer } in
     elim (finds_place c line (Start timer)) as (λ b. AllByRecursion P (cond b (record c { running = put_in_order is_before e (without line timer c.running) }) c).running) [
       | true ↦ All-put_in_order is_before P e _ (new timer) (All-filter P _ c.running h)
       | false ↦ h
     ]
 
-orders_keep : (P : Expiry → Type 0) (line now : ℕ) (orders : List Order) (c : Timers) → ((timer : Timer) → P (record { moment = now + duration timer; line = line; timer = timer }))
+orders_keep : (P : Expiry → Type 0) (line now : ℕ) (ls : Lengths) (orders : List Order) (c : Timers) → c.lengths ≡ ls → ((timer : Timer) → P (record { moment = now + duration ls timer; line = line; timer = timer }))
     → AllByRecursion P c.running → AllByRecursion P (fold (ordered line now) c orders).running
-orders_keep P line now [] c new h = h
-orders_keep P line now (order ∷ orders) c new h = orders_keep P line now orders (with_order c line order now) new (order_keeps P line now order c new h)
+orders_keep P line now ls [] c same new h = h
+orders_keep P line now ls (order ∷ orders) c same new h =
+    let here : (timer : Timer) → P (record { moment = now + duration c.lengths timer; line = line; timer = timer }) = λ timer. subst (λ l. P (record { moment = now + duration l timer; line = line; timer = timer })) (sym same) (new timer) in
+    orders_keep P line now ls orders (with_order c line order now) (order_lengths line now order c ∙ same) new (order_keeps P line now order c here h)
 
 -- they stay in order
 order_sorts : (line now : ℕ) (order : Order) (c : Timers) → IsInOrder is_before c.running → IsInOrder is_before (with_order c line order now).running
 unfolding with_order
 order_sorts line now (Stop timer) c h = IsInOrder-filter is_before before_order _ c.running h
 order_sorts line now (Start timer) c h =
-    let e : Expiry = record { moment = now + duration timer; line = line; timer = timer } in
+    let e : Expiry = record { moment = now + duration c.lengths timer; line = line; timer = timer } in
     elim (finds_place c line (Start timer)) as (λ b. IsInOrder is_before (cond b (record c { running = put_in_order is_before e (without line timer c.running) }) c).running) [
       | true ↦ IsInOrder-put_in_order is_before before_order e _ (IsInOrder-filter is_before before_order _ c.running h)
       | false ↦ h
@@ -62,6 +64,7 @@ orders_sort line now (order ∷ orders) c h = orders_sort line now orders (with_
 pub record Ticks (c : Timers) (lines : ℕ) : Type 0 where
   pub in_order : IsInOrder is_before c.running
   pub on_lines : AllByRecursion (λ (e : Expiry). e.line < lines) c.running
+  pub lengths : AreInRange c.lengths
 
 -- And the moment.
 pub record Kept (c : Timers) (lines now : ℕ) : Type 0 where
@@ -79,13 +82,14 @@ event_ticks b e within t =
     let orders = orders_in (answer e b.card) in
     record {
       in_order = orders_sort e.line b.now orders b.clock t.in_order;
-      on_lines = orders_keep (λ x. x.line < b.card.config.lines) e.line b.now orders b.clock (λ timer. within) t.on_lines;
+      on_lines = orders_keep (λ x. x.line < b.card.config.lines) e.line b.now b.clock.lengths orders b.clock refl (λ timer. within) t.on_lines;
+      lengths = happens_in_range b e t.lengths;
     }
 
 event_kept : (b : Setup) (e : Event) → IsAtLine b.card e → IsKept b → IsKept (happened b e)
 event_kept b e within k = record {
   ticks = event_ticks b e within k.ticks;
-  later = orders_keep (λ x. b.now < x.moment) e.line b.now (orders_in (answer e b.card)) b.clock (λ timer. omega (arith, runs_long timer)) k.later;
+  later = orders_keep (λ x. b.now < x.moment) e.line b.now b.clock.lengths (orders_in (answer e b.card)) b.clock refl (λ timer. omega (arith, runs_long b.clock.lengths timer k.ticks.lengths)) k.later;
 }
 
 pub events_kept : (events : List Event) (s : Scene) → AreAtLines s.setup.card events → IsKept s.setup → IsKept (with_events events s).setup
@@ -129,6 +133,7 @@ due_ticks : (end : ℕ) (b : Setup) → TicksOn b → TicksOn (at_expiry end b)
 due_ticks end b t = record {
   in_order = rest_sorted b.clock.running end t.in_order;
   on_lines = rest_have (λ x. x.line < b.card.config.lines) b.clock.running end t.on_lines;
+  lengths = t.lengths;
 }
 
 -- The events of a wait are at lines of the card, as its timers are.

@@ -3,6 +3,8 @@ use Rattle.std.proofs.Common.{◌≡◌, ℕ, zero, suc, ◌+◌, Bool, true, fa
 use Rattle.std.specs.Prelude.{fold, map}
 use Rattle.std.proofs.lemmas.Option.{none-some}
 use Rattle.lapd_frame.specs.declared.timers.Timer.{Timer}
+use Rattle.lapd_clock.specs.declared.fault.LengthFault.{LengthFault}
+use Rattle.lapd_clock.specs.Timer.{Lengths, first_out_of_range}
 use Rattle.lapd_clock.specs.Timers as clocks
 use Rattle.model_line.specs.declared.config.Config.{Config}
 use Rattle.model_line.specs.Event.{pull, expiry}
@@ -11,12 +13,12 @@ use Rattle.model_card.specs.Card.{Card, fresh}
 use Rattle.model_card.specs.Machine.{after, answer}
 use Rattle.model_card.specs.Run.{moments, after_all}
 use Rattle.lapd_script.specs.declared.kind.FaultKind.{FaultKind}
-use Rattle.lapd_script.specs.declared.kind.FaultKind.TheVariants.{TooLong, BadLine, BadFrame, TimeOver}
+use Rattle.lapd_script.specs.declared.kind.FaultKind.TheVariants.{TooLong, BadNumber, BadLine, BadFrame, TimeOver}
 use Rattle.lapd_script.specs.Meaning as line
 use Rattle.lapd_script.specs.Read.{read}
 use Rattle.model_sim.specs.Pieces.{pieces_of, line_in}
 use Rattle.model_sim.specs.Setup.{Setup, begun, terminal_at, octets_sent}
-use Rattle.model_sim.specs.Steps.{Scene, answer_text, octet_in, pulled_text, with_event, with_events, octets_at, Pulls, one_pull, pulls, expired, expiries, after_rx, after_in, after_pull, after_wait, with_card, without_card, is_frame, last_moment}
+use Rattle.model_sim.specs.Steps.{Scene, answer_text, octet_in, pulled_text, with_event, with_events, octets_at, Pulls, one_pull, pulls, expired, expiries, after_rx, after_in, after_pull, after_wait, after_timers, with_timers, with_card, without_card, is_frame, last_moment}
 use Rattle.model_sim.specs.Script.{Fault, Played, not_begun, faulty, is_too_long, after_scene, after_bench, after_reading, one_more}
 use Rattle.model_sim.specs.Events.{expiry_events, read_events, unless_fault, line_events, events_from, first_card}
 use Rattle.model_sim.specs.Replies.{replies_text, octet_given, said, meant_moments, read_moments, read_text, line_moments, line_text, moments_from, text_from, TranscriptsAreReplies}
@@ -82,6 +84,14 @@ if_good false text r kind h = tt
 abbrev scene_of : Setup → Scene
 scene_of b = record { setup = b; text = [] }
 
+-- `timers` says nothing
+timers_say : (lengths : Lengths) (b : Setup) → Says [] (with_timers lengths (scene_of b))
+timers_say lengths b = go (first_out_of_range lengths)
+  where
+    go : (o : Option LengthFault) → Says [] (elim o as (λ o. Result Scene FaultKind) [ None ↦ Ok (after_timers lengths (scene_of b)) | Some timer ↦ Err BadNumber ])
+    go (Some timer) = tt
+    go None = refl
+
 meaning_says : (m : line.Meaning) (b : Setup) → Says (said m b (meant_moments m b)) (with_card m (scene_of b))
 meaning_says line.skip b = refl
 meaning_says (line.card config) b = tt
@@ -105,6 +115,7 @@ meaning_says (line.wait milliseconds) b =
     let end = b.now + milliseconds in
     if_good (nat_le end last_moment) _ (Ok (after_wait milliseconds (scene_of b))) TimeOver
     (expiries_say (clocks.time_until end b.clock) end (scene_of b))
+meaning_says (line.timers t200 t203 t201) b = timers_say (record { t200 = t200; t203 = t203; t201 = t201 }) b
 meaning_says line.stored b = refl
 meaning_says (line.ask number tei what octets) b =
     if_good (nat_lt number b.card.config.lines) _ _ BadLine (events_say _ (scene_of b))

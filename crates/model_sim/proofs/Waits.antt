@@ -2,6 +2,7 @@
 use Rattle.std.proofs.Common.{◌≡◌, ℕ, ◌+◌, ◌<◌, None, refl, arith}
 use Rattle.std.proofs.lemmas.List.Elements.{All-from_recursion}
 use Rattle.lapd_clock.specs.InOrder.{IsInOrder}
+use Rattle.lapd_clock.specs.Timer.{AreInRange}
 use Rattle.lapd_clock.specs.Timers.{is_before, due_at, time_until}
 use Rattle.model_sim.specs.Steps.{Scene, after_wait}
 use Rattle.model_sim.specs.Waits.{AllLater, WaitsLeaveNothingDue}
@@ -9,15 +10,15 @@ use Rattle.model_sim.proofs.Events.{script_ran}
 use Rattle.model_sim.proofs.Expiries.{drained}
 use Rattle.model_sim.proofs.Kept.{wait_sorts, none_later}
 
-none_due : (milliseconds : ℕ) (s : Scene) → due_at (after_wait milliseconds s).setup.clock (s.setup.now + milliseconds) ≡ None
-none_due milliseconds s =
+none_due : (milliseconds : ℕ) (s : Scene) → AreInRange s.setup.clock.lengths → due_at (after_wait milliseconds s).setup.clock (s.setup.now + milliseconds) ≡ None
+none_due milliseconds s range =
     let end = s.setup.now + milliseconds in
-    drained (time_until end s.setup.clock) end s (due_at s.setup.clock end) refl (omega arith)
+    drained (time_until end s.setup.clock) end s (due_at s.setup.clock end) range refl (omega arith)
 
-all_later : (milliseconds : ℕ) (s : Scene) → IsInOrder is_before s.setup.clock.running → AllLater (s.setup.now + milliseconds) (after_wait milliseconds s).setup
-all_later milliseconds s order =
+all_later : (milliseconds : ℕ) (s : Scene) → AreInRange s.setup.clock.lengths → IsInOrder is_before s.setup.clock.running → AllLater (s.setup.now + milliseconds) (after_wait milliseconds s).setup
+all_later milliseconds s range order =
     let end = s.setup.now + milliseconds in
-    none_later _ end (wait_sorts (time_until end s.setup.clock) end s order) (none_due milliseconds s)
+    none_later _ end (wait_sorts (time_until end s.setup.clock) end s order) (none_due milliseconds s range)
 
 pub waits_leave_nothing_due : WaitsLeaveNothingDue
 waits_leave_nothing_due = record {

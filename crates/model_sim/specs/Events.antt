@@ -31,6 +31,7 @@ meant_events (line.rx number octets) s = octets_at number octets
 meant_events (line.into number octets) s = octets_at number (octets_sent octets (terminal_at number s.setup))
 meant_events (line.pull number count) s = replicate count (at number pull)
 meant_events (line.wait milliseconds) s = events_until (s.setup.now + milliseconds) s
+meant_events (line.timers t200 t203 t201) s = []
 meant_events line.stored s = []
 meant_events (line.ask number tei what octets) s = at number (request (request_for what tei octets)) ∷ []
 
@@ -65,6 +66,7 @@ card_meant (Ok (line.rx number octets)) = None
 card_meant (Ok (line.into number octets)) = None
 card_meant (Ok (line.pull number count)) = None
 card_meant (Ok (line.wait milliseconds)) = None
+card_meant (Ok (line.timers t200 t203 t201)) = None
 card_meant (Ok line.stored) = None
 card_meant (Ok (line.ask number tei what octets)) = None
 

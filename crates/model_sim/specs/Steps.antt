@@ -1,6 +1,7 @@
 -- What each line of a script makes of the setup, and what it says in the transcript.
 use Rattle.std.specs.Prelude.{ℕ, zero, suc, ◌+◌, ◌-◌, ◌^◌, nat_lt, nat_le, Bool, ◌&&◌, if◌then◌else◌, List, [], ◌∷◌, ◌++◌, length, map, fold, flat_map, Option, None, Some, Result, Ok, Err}
 use Rattle.lapd_frame.specs.declared.timers.Timer.{Timer}
+use Rattle.lapd_clock.specs.Timer.{Lengths, first_out_of_range}
 use Rattle.lapd_clock.specs.Timers as clocks
 use Rattle.model_line.specs.declared.config.Config.{Config}
 use Rattle.model_line.specs.Config.{first_fault}
@@ -10,7 +11,7 @@ use Rattle.model_card.specs.Event.{Event, at}
 use Rattle.model_card.specs.Machine.{answer}
 use Rattle.model_card.specs.Stored.{stored, limit}
 use Rattle.lapd_script.specs.declared.kind.FaultKind.{FaultKind}
-use Rattle.lapd_script.specs.declared.kind.FaultKind.TheVariants.{NoCard, SecondCard, BadCard, BadLine, BadFrame, TimeOver}
+use Rattle.lapd_script.specs.declared.kind.FaultKind.TheVariants.{BadNumber, NoCard, SecondCard, BadCard, BadLine, BadFrame, TimeOver}
 use Rattle.lapd_script.specs.declared.command.Asked.{Asked}
 use Rattle.lapd_script.specs.declared.command.Asked.TheVariants as asked
 use Rattle.lapd_script.specs.Meaning as line
@@ -99,6 +100,10 @@ until end s =
 abbrev pub after_wait : ℕ → Scene → Scene
 after_wait milliseconds s = until (s.setup.now + milliseconds) s
 
+-- `timers`: timers that are started from now on run so long; those that run keep their moments.
+abbrev pub after_timers : Lengths → Scene → Scene
+after_timers lengths s = record s { setup = record s.setup { clock = clocks.with_lengths lengths s.setup.clock } }
+
 -- The requests.
 abbrev pub request_for : Asked → ℕ → List ℕ → asking.Request
 request_for asked.Assign tei octets = asking.Assign tei
@@ -134,6 +139,10 @@ last_moment = 2 ^ 63 - 1
 abbrev pub in_time : ℕ → Scene → Result Scene FaultKind
 in_time milliseconds s = if nat_le (s.setup.now + milliseconds) last_moment then Ok (after_wait milliseconds s) else Err TimeOver
 
+-- The lengths of `timers` have to be in range.
+abbrev pub with_timers : Lengths → Scene → Result Scene FaultKind
+with_timers lengths s = elim (first_out_of_range lengths) [ None ↦ Ok (after_timers lengths s) | Some timer ↦ Err BadNumber ]
+
 -- What a line does where there is a card,
 abbrev pub with_card : line.Meaning → Scene → Result Scene FaultKind
 with_card line.skip s = Ok s
@@ -142,6 +151,7 @@ with_card (line.rx number octets) s = at_line number s (after_rx number octets s
 with_card (line.into number octets) s = if nat_lt number s.setup.card.config.lines then in_at_line number octets s else Err BadLine
 with_card (line.pull number count) s = at_line number s (after_pull number count s)
 with_card (line.wait milliseconds) s = in_time milliseconds s
+with_card (line.timers t200 t203 t201) s = with_timers (record { t200 = t200; t203 = t203; t201 = t201 }) s
 with_card line.stored s = Ok (after_stored s)
 with_card (line.ask number tei what octets) s = at_line number s (after_request number tei what octets s)
 
@@ -156,5 +166,6 @@ without_card (line.rx number octets) = Err NoCard
 without_card (line.into number octets) = Err NoCard
 without_card (line.pull number count) = Err NoCard
 without_card (line.wait milliseconds) = Err NoCard
+without_card (line.timers t200 t203 t201) = Err NoCard
 without_card line.stored = Err NoCard
 without_card (line.ask number tei what octets) = Err NoCard

@@ -7,4 +7,5 @@ use Rattle.lapd_sim.proofs.exchange.order.Given as goal
 abbrev pub invariant-loop-order : goal.invariant-loop-order
 invariant-loop-order l =
     (l.clock.lines ≡ l.fn.clock.lines)
+    × (l.clock.lengths ≡ l.fn.clock.lengths)
     × (l.clock ≡ fold (ordered l.line l.now) l.fn.clock (take l.order-index l.fn.orders))

@@ -4,6 +4,7 @@ use Rattle.std.specs.List.{AllByRecursion}
 use Rattle.std.proofs.lemmas.List.Elements.{All-nil}
 use Rattle.std.specs.Option.{IfNone}
 use Rattle.lapd_clock.specs.InOrder.{IsInOrder}
+use Rattle.lapd_clock.specs.Given.{lengths_of}
 use Rattle.lapd_clock.specs.Timers.{Expiry, Timers, is_before, due_at, first_due, after_due, after_first_due}
 use Rattle.lapd_clock.specs.Sound.{IsSound, IsLeastDue}
 use Rattle.lapd_clock.specs.Places.{Line, IsLineKept, held_before, expiry_on, timers_in}
@@ -15,18 +16,18 @@ use Rattle.lapd_clock.proofs.clock.Clock.due.Goals as goal
 pub returns-in_err-line-clause-due : goal.returns-in_err-line-clause-due
 returns-in_err-line-clause-due c =
     let none = subst (AllByRecursion (λ (v : Line). v.items ≡ [])) c.deref.ensures.value c.in_err-line.ensures in
-    c.from_residual.ensures ∙ sym (ap (λ t. due_at t c.args.now) (sym c.self.view_is ∙ timers_in-none c.self.inside.places c.self.inside.lines.items none))
+    c.from_residual.ensures ∙ sym (ap (λ t. due_at t c.args.now) (sym c.self.view_is ∙ timers_in-none (lengths_of c.self.inside.lengths) c.self.inside.places c.self.inside.lines.items none))
 
 pub returns-in_err-line-clause-after : goal.returns-in_err-line-clause-after
 returns-in_err-line-clause-after c =
     let none = subst (AllByRecursion (λ (v : Line). v.items ≡ [])) c.deref.ensures.value c.in_err-line.ensures in
-    let idle = sym c.self.view_is ∙ timers_in-none c.self.inside.places c.self.inside.lines.items none in
+    let idle = sym c.self.view_is ∙ timers_in-none (lengths_of c.self.inside.lengths) c.self.inside.places c.self.inside.lines.items none in
     idle ∙ sym (ap (λ t. after_due t c.args.now) idle)
 
 pub returns-in_err-line-clause-none : goal.returns-in_err-line-clause-none
 returns-in_err-line-clause-none c =
     let none = subst (AllByRecursion (λ (v : Line). v.items ≡ [])) c.deref.ensures.value c.in_err-line.ensures in
-    let idle = sym c.self.view_is ∙ timers_in-none c.self.inside.places c.self.inside.lines.items none in
+    let idle = sym c.self.view_is ∙ timers_in-none (lengths_of c.self.inside.lengths) c.self.inside.places c.self.inside.lines.items none in
     let all = subst (λ (t : Timers). All (λ (held : Expiry). c.args.now < held.moment) t.running) (sym idle) (All-nil (λ (held : Expiry). c.args.now < held.moment)) in
     subst (λ r. IfNone r (All (λ (held : Expiry). c.args.now < held.moment) c.args.self.now.running)) (sym c.from_residual.ensures) all
 
@@ -41,7 +42,7 @@ returns-then-now-held-clause-after c =
     let lines = c.self.inside.lines.items in
     let leads = found_leads c.self.inside.places c.in_ok-line.line c.in_ok-line.held lines c.deref.result.now c.self.invariant.each c.deref.ensures.value c.in_ok-line.ensures in
     let same = ap (λ es. after_first_due es c.args.now) leads.all ∙ none_taken (expiry_on c.in_ok-line.line c.in_ok-line.held) leads.rest c.args.now c.if-now-held.true ∙ sym leads.all in
-    sym (ap (λ t. after_due t c.args.now) (sym c.self.view_is) ∙ ap (λ es. record { lines = length lines; places = c.self.inside.places; running = es }) same ∙ c.self.view_is)
+    sym (ap (λ t. after_due t c.args.now) (sym c.self.view_is) ∙ ap (λ es. record { lines = length lines; places = c.self.inside.places; lengths = lengths_of c.self.inside.lengths; running = es }) same ∙ c.self.view_is)
 
 pub returns-then-now-held-clause-none : goal.returns-then-now-held-clause-none
 returns-then-now-held-clause-none c =
@@ -60,15 +61,15 @@ invariant_of-self c =
     let line = All-at (IsLineKept places) lines c.in_ok-line.line u leads.in_range c.index_mut.ensures.value c.self.invariant.each in
     let rest = leads.taken u c.remove.new.self c.index_mut.ensures.value c.remove.ensures.items in
     let e = expiry_on c.in_ok-line.line c.in_ok-line.held in
-    let set_is = same_timers _ _ places _ _ (length-set lines c.in_ok-line.line c.remove.new.self)
+    let set_is = same_timers (lengths_of c.self.inside.lengths) _ _ places _ _ (length-set lines c.in_ok-line.line c.remove.new.self)
     (rest ∙ sym (one_taken e leads.rest c.args.now c.if-now-held.false) ∙ ap (λ es. after_first_due es c.args.now) (sym leads.all)) in
-    kept_with places c.in_ok-line.line lines c.remove.new.self c.self.invariant.each
+    kept_with (lengths_of c.self.inside.lengths) places c.in_ok-line.line lines c.remove.new.self c.self.invariant.each
     (record {
       ordered = subst (IsInOrder held_before) (sym c.remove.ensures.items) (IsInOrder-drop_first u.items line.ordered);
       fits = omega (arith, line.fits, c.remove.ensures.len);
       taken = omega (arith, line.taken, c.remove.ensures.capacity);
     })
-    (subst IsSound (sym set_is) (after_due_sound (length lines) places _ c.args.now c.self.invariant.sound))
+    (subst IsSound (sym set_is) (after_due_sound (lengths_of c.self.inside.lengths) (length lines) places _ c.args.now c.self.invariant.sound))
 
 pub returns-clause-due : goal.returns-clause-due
 returns-clause-due c =
@@ -83,7 +84,7 @@ returns-clause-after c =
     let leads = found_leads places c.in_ok-line.line c.in_ok-line.held lines c.deref.result.now c.self.invariant.each c.deref.ensures.value c.in_ok-line.ensures in
     let rest = leads.taken c.index_mut.result.now c.remove.new.self c.index_mut.ensures.value c.remove.ensures.items in
     let e = expiry_on c.in_ok-line.line c.in_ok-line.held in
-    same_timers _ _ places _ _ (length-set lines c.in_ok-line.line c.remove.new.self)
+    same_timers (lengths_of c.self.inside.lengths) _ _ places _ _ (length-set lines c.in_ok-line.line c.remove.new.self)
     (rest ∙ sym (one_taken e leads.rest c.args.now c.if-now-held.false) ∙ ap (λ es. after_first_due es c.args.now) (sym leads.all))
     ∙ ap (λ t. after_due t c.args.now) c.self.view_is
 
@@ -93,7 +94,7 @@ returns-clause-least c =
     let leads = found_leads c.self.inside.places c.in_ok-line.line c.in_ok-line.held lines c.deref.result.now c.self.invariant.each c.deref.ensures.value c.in_ok-line.ensures in
     let e = expiry_on c.in_ok-line.line c.in_ok-line.held in
     subst (λ t. IsLeastDue t c.args.now c.in_ok-line.line c.in_ok-line.held.timer) c.self.view_is
-    (first_is_least (timers_in c.self.inside.places lines) e leads.rest c.args.now leads.all (subst (IsInOrder is_before) leads.all c.self.invariant.sound.in_order) c.if-now-held.false)
+    (first_is_least (timers_in (lengths_of c.self.inside.lengths) c.self.inside.places lines) e leads.rest c.args.now leads.all (subst (IsInOrder is_before) leads.all c.self.invariant.sound.in_order) c.if-now-held.false)
 
 pub returns-clause-sound : goal.returns-clause-sound
 returns-clause-sound c = (invariant_of-self c).sound

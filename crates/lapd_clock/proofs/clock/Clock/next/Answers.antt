@@ -2,6 +2,7 @@
 use Rattle.std.proofs.Common.{◌≡◌, ◌≤◌, [], All, sym, ap, ◌∙◌, subst}
 use Rattle.std.specs.List.{AllByRecursion}
 use Rattle.lapd_clock.specs.InOrder.{IsInOrder}
+use Rattle.lapd_clock.specs.Given.{lengths_of}
 use Rattle.lapd_clock.specs.Timers.{Expiry, Timers, is_before, next_moment, first_moment}
 use Rattle.lapd_clock.specs.Places.{Line, expiry_on}
 use Rattle.lapd_clock.proofs.First.{found_leads}
@@ -12,7 +13,7 @@ pub returns-in_err-held-clause-next : goal.returns-in_err-held-clause-next
 returns-in_err-held-clause-next c =
     let lines = c.self.inside.lines.items in
     let none = subst (AllByRecursion (λ (v : Line). v.items ≡ [])) c.deref.ensures.value c.in_err-held.ensures in
-    c.from_residual.ensures ∙ sym (ap next_moment (sym c.self.view_is ∙ timers_in-none c.self.inside.places lines none))
+    c.from_residual.ensures ∙ sym (ap next_moment (sym c.self.view_is ∙ timers_in-none (lengths_of c.self.inside.lengths) c.self.inside.places lines none))
 
 pub returns-clause-next : goal.returns-clause-next
 returns-clause-next c =

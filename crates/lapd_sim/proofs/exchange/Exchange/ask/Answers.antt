@@ -1,5 +1,6 @@
 -- Hand-written answers for `Exchange::ask`.
-use Rattle.std.proofs.Common.{ap, ◌∙◌}
+use Rattle.std.proofs.Common.{ap, ◌∙◌, sym, subst}
+use Rattle.lapd_clock.specs.Timer.{AreInRange}
 use Rattle.model_card.specs.Event.{at}
 use Rattle.model_line.specs.declared.config.Config.{Config}
 use Rattle.model_line.specs.Event as line_event
@@ -14,6 +15,7 @@ invariant_of-self g c = record {
   same_lines = ap (λ (x : Config). x.lines) c.request.ensures.after.config ∙ c.args.self.now.same_lines;
   past = past_on c.args.self.now.config (at c.args.line (line_event.request (request_of c.args.request))) c.args.self.now.card c.request.new.self c.request.ensures.after c.args.self.now.past;
   clock_lines = c.carry_out.ensures.lines ∙ c.args.self.now.clock_lines;
+  lengths = subst AreInRange (sym c.carry_out.ensures.lengths) c.args.self.now.lengths;
   in_time = c.args.self.now.in_time;
 }
 
@@ -23,6 +25,7 @@ invariant_of-self-in-Err-1 g c = record {
   same_lines = ap (λ (x : Config). x.lines) c.request.ensures.after.config ∙ c.args.self.now.same_lines;
   past = past_on c.args.self.now.config (at c.args.line (line_event.request (request_of c.args.request))) c.args.self.now.card c.request.new.self c.request.ensures.after c.args.self.now.past;
   clock_lines = c.args.self.now.clock_lines;
+  lengths = c.args.self.now.lengths;
   in_time = c.args.self.now.in_time;
 }
 

@@ -1,5 +1,6 @@
 -- Hand-written answers for `Exchange::expire`.
-use Rattle.std.proofs.Common.{ap, ◌∙◌}
+use Rattle.std.proofs.Common.{ap, ◌∙◌, sym, subst}
+use Rattle.lapd_clock.specs.Timer.{AreInRange}
 use Rattle.model_card.specs.Event.{at}
 use Rattle.model_line.specs.declared.config.Config.{Config}
 use Rattle.model_line.specs.Event as line_event
@@ -12,5 +13,6 @@ invariant_of-self g c = record {
   same_lines = ap (λ (x : Config). x.lines) c.expire-report.ensures.after.config ∙ c.args.self.now.same_lines;
   past = past_on c.args.self.now.config (at c.args.line (line_event.expiry c.args.timer)) c.args.self.now.card c.expire-report.new.self c.expire-report.ensures.after c.args.self.now.past;
   clock_lines = c.carry_out.ensures.lines ∙ c.args.self.now.clock_lines;
+  lengths = subst AreInRange (sym c.carry_out.ensures.lengths) c.args.self.now.lengths;
   in_time = c.args.self.now.in_time;
 }

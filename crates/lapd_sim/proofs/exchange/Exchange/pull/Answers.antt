@@ -1,5 +1,6 @@
 -- Hand-written answers for `Exchange::pull`.
-use Rattle.std.proofs.Common.{ap, ◌∙◌}
+use Rattle.std.proofs.Common.{ap, ◌∙◌, sym, subst}
+use Rattle.lapd_clock.specs.Timer.{AreInRange}
 use Rattle.model_card.specs.Event.{at}
 use Rattle.model_line.specs.declared.config.Config.{Config}
 use Rattle.model_line.specs.Event as line_event
@@ -12,5 +13,6 @@ invariant_of-self c = record {
   same_lines = ap (λ (x : Config). x.lines) c.pull-pulled.ensures.after.config ∙ c.args.self.now.same_lines;
   past = past_on c.args.self.now.config (at c.args.line line_event.pull) c.args.self.now.card c.pull-pulled.new.self c.pull-pulled.ensures.after c.args.self.now.past;
   clock_lines = c.order.ensures.lines ∙ c.args.self.now.clock_lines;
+  lengths = subst AreInRange (sym c.order.ensures.lengths) c.args.self.now.lengths;
   in_time = c.args.self.now.in_time;
 }

@@ -1,21 +1,23 @@
 -- Lines without a timer stand for an idle clock.
 use Rattle.std.proofs.Common.{◌≡◌, ◌+◌, ◌*◌, [], length, sym, ap, ◌∙◌, subst, arith}
+use Rattle.lapd_clock.specs.Given.{lengths_of}
 use Rattle.lapd_clock.specs.Sound.{IsSound}
+use Rattle.lapd_clock.proofs.Ranges.{range_of}
 use Rattle.lapd_clock.proofs.Running.{none_sound}
 use Rattle.lapd_clock.proofs.Calls.{timers_in-none}
-use Rattle.lapd_clock.proofs.clock.Clock.start.Goals as goal
+use Rattle.lapd_clock.proofs.clock.Clock.start_with.Goals as goal
 
 pub invariant_of-result : goal.invariant_of-result
 invariant_of-result c = record {
   each = c.loop.invariant.each;
-  sound = subst IsSound (sym (timers_in-none (4 * c.args.terminals + 1) c.loop.all.items c.loop.invariant.none)) (none_sound _ _);
+  sound = subst IsSound (sym (timers_in-none (lengths_of c.args.lengths) (4 * c.args.terminals + 1) c.loop.all.items c.loop.invariant.none)) (none_sound _ _ _ (range_of c.args.lengths));
 }
 
 pub returns-clause-idle : goal.returns-clause-idle
 returns-clause-idle c =
     let count : length c.loop.all.items ≡ c.args.lines = omega (arith, c.loop.all.ok.0, c.loop.invariant.count) in
-    timers_in-none (4 * c.args.terminals + 1) c.loop.all.items c.loop.invariant.none
-    ∙ ap (λ n. record { lines = n; places = 4 * c.args.terminals + 1; running = [] }) count
+    timers_in-none (lengths_of c.args.lengths) (4 * c.args.terminals + 1) c.loop.all.items c.loop.invariant.none
+    ∙ ap (λ n. record { lines = n; places = 4 * c.args.terminals + 1; lengths = lengths_of c.args.lengths; running = [] }) count
 
 pub returns-clause-sound : goal.returns-clause-sound
 returns-clause-sound c = (invariant_of-result c).sound

@@ -78,7 +78,7 @@ enum {
     LAPD_WRONG_REQUEST = 18, /* none of the requests */
     LAPD_WRONG_LENGTH = 19,  /* contents of a request that has none; or an exchange of two lengths, or beyond them */
     LAPD_WRONG_ORDER = 20,   /* an order is none, or a report's number of orders is over 4 */
-    LAPD_WRONG_TIME = 21,    /* a moment after LAPD_LATEST */
+    LAPD_WRONG_TIME = 21,    /* a moment after LAPD_LATEST, or a timer's length out of range */
 
     /* What else can be. */
     LAPD_NO_MEMORY = 22, /* a start was refused memory; what it had taken is given back */
@@ -325,6 +325,11 @@ typedef struct lapd_due {
 /* Starts a clock on which no timer runs, for a card of this configuration. Takes memory, as the only call on a clock.
  * LAPD_SECOND_START, the first bad field or LAPD_NO_MEMORY: there is no other clock than before. */
 uint32_t lapd_clock_start(lapd_clock *clock, const lapd_config *config);
+
+/* How long timers run that are started from now on, in milliseconds, 1 to 3,600,000 each: T200 and T203 of each link, and
+ * T201 of each line. Those that run keep their moments. A clock begins with 1,000, 10,000 and 1,000 (clauses 5.9.1, 5.9.8
+ * and 5.9.6). LAPD_WRONG_TIME: one is out of range, and nothing has changed. */
+uint32_t lapd_clock_set_lengths(lapd_clock *clock, uint32_t t200, uint32_t t203, uint32_t t201);
 
 /* Ends a clock and gives back all memory that its start took. LAPD_NO_CLOCK: nothing happens. */
 uint32_t lapd_clock_free(lapd_clock *clock);

@@ -224,10 +224,14 @@ static fault obey(bench *b, const command *c) {
         return b->card.started ? SECOND_CARD : start(b, c->numbers);
     if (lapd_lines(&b->card, &lines) != LAPD_OK)
         return NO_CARD;
-    if (c->verb == WAIT || c->verb == STORED)
+    if (c->verb == WAIT || c->verb == TIMERS || c->verb == STORED)
         hand_over(b);
     if (c->verb == WAIT)
         return wait(b, c->numbers[0]);
+    if (c->verb == TIMERS) {
+        const uint32_t *lengths = c->numbers;
+        return lapd_clock_set_lengths(&b->clock, lengths[0], lengths[1], lengths[2]) == LAPD_OK ? NO_FAULT : BAD_NUMBER;
+    }
     if (c->verb == STORED) {
         show_stored(b);
         return NO_FAULT;

@@ -114,6 +114,17 @@ static fault read_card(const word *words, size_t count, command *read) {
     return NO_FAULT;
 }
 
+/* T200, T203 and T201, each of them a millisecond to an hour. */
+static fault read_timers(const word *words, size_t count, command *read) {
+    read->verb = TIMERS;
+    if (count != 3)
+        return BAD_NUMBER_OF_WORDS;
+    for (size_t i = 0; i < count; i++)
+        if (!read_number(words[i], 1, 3600000, &read->numbers[i]))
+            return BAD_NUMBER;
+    return NO_FAULT;
+}
+
 static fault read_rest(const meaning *means, const word *words, size_t count, command *read) {
     read->verb = means->verb;
     read->request = means->request;
@@ -134,6 +145,8 @@ fault read_command(const char *line, size_t length, command *read) {
     size_t count = split(line, length, words) - 1;
     if (is_word(words[0], "card"))
         return read_card(words + 1, count, read);
+    if (is_word(words[0], "timers"))
+        return read_timers(words + 1, count, read);
     for (size_t i = 0; i < sizeof meanings / sizeof *meanings; i++)
         if (is_word(words[0], meanings[i].name))
             return read_rest(&meanings[i], words + 1, count, read);

@@ -27,7 +27,7 @@ typedef enum {
 
 const char *fault_text(fault kind);
 
-typedef enum { CARD, RX, IN, PULL, WAIT, STORED, REQUEST } verb;
+typedef enum { CARD, RX, IN, PULL, WAIT, TIMERS, STORED, REQUEST } verb;
 
 /* A line that was read: what it says, before a card is asked. */
 typedef struct {

@@ -4,13 +4,14 @@ A line of the script is handed over in pieces where that shows more and changes 
 that ends something, so that each answer is known to be that octet's; and `wait` up to each moment at which a timer can
 fall due, so that each note has its moment.
 """
+import math
 from typing import Dict, Iterator, List, NamedTuple, Optional, Set, Tuple
 
 from .bits import Deframer, Heard, Terminal
 from .program import Ended, Fault, Program
 from .script import Line, lines_of
 
-SECOND = 1000  # all timers run for whole seconds, so each falls due a number of seconds after a line of the script
+SECOND = 1000  # timers run for whole seconds where no line says otherwise, so each falls due so many after some line
 MOST_MOMENTS = 5000  # a `wait` with more moments than these is handed over whole
 
 
@@ -40,7 +41,8 @@ class Play:
         self.script = script
         self.program = program
         self.clock = 0
-        self.moments: Set[int] = set()  # those of lines of the script, but for whole seconds
+        self.step = SECOND  # what the lengths of all timers are multiples of
+        self.moments: Set[int] = set()  # those of lines of the script, but for whole steps
         self.sides: Dict[int, Side] = {}
         self.ended: Optional[Ended] = None
 
@@ -72,7 +74,10 @@ class Play:
                 yield b"wait %d" % (at - clock), at, b"", []
                 clock = at
             return
-        self.moments.add(self.clock % SECOND)
+        if line.lengths():
+            self.step = math.gcd(self.step, *line.lengths())
+            self.moments = {it % self.step for it in self.moments}
+        self.moments.add(self.clock % self.step)
         if brings is None:
             yield line.text, self.clock, b"", []
         elif brings[0] == "in":
@@ -83,9 +88,9 @@ class Play:
     def stops(self, end: int) -> List[int]:
         """The moments up to the end of a `wait` at which a timer can fall due, and the end."""
         first = self.clock + 1
-        count = len(self.moments) * (end - self.clock) // SECOND
+        count = len(self.moments) * (end - self.clock) // self.step
         moments = self.moments if count <= MOST_MOMENTS else ()
-        due = {at for it in moments for at in range(first + (it - first) % SECOND, end, SECOND)}
+        due = {at for it in moments for at in range(first + (it - first) % self.step, end, self.step)}
         return sorted(due | {end})
 
     def framed(self, line: Line, about: int, frame: bytes) -> Tuple[bytes, int, bytes, List[Heard]]:

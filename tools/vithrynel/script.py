@@ -9,6 +9,7 @@ LONGEST_LINE = 4096
 LONGEST_WAIT = 3_600_000
 OCTETS = re.compile(rb"(rx|in) ([0-9]+) (-|(?:[0-9A-Fa-f]{2})*)")
 WAIT = re.compile(rb"wait ([0-9]+)")
+TIMERS = re.compile(rb"timers 0*([1-9][0-9]*) 0*([1-9][0-9]*) 0*([1-9][0-9]*)")
 
 
 class Line(NamedTuple):
@@ -32,7 +33,7 @@ class Line(NamedTuple):
     def about(self) -> Optional[int]:
         """The line of the card that it is about, if it is about one."""
         words = self.words()
-        is_card_wide = self.is_skipped() or words[0] in ("card", "wait", "stored")
+        is_card_wide = self.is_skipped() or words[0] in ("card", "wait", "timers", "stored")
         return None if is_card_wide or len(words) < 2 or not words[1].isdigit() else int(words[1])
 
     def brings(self) -> Optional[Tuple[str, int, bytes]]:
@@ -42,6 +43,11 @@ class Line(NamedTuple):
             return None
         octets = b"" if found[3] == b"-" else bytes.fromhex(found[3].decode())
         return found[1].decode(), int(found[2]), octets
+
+    def lengths(self) -> List[int]:
+        """Of `timers` the three lengths, in milliseconds."""
+        found = TIMERS.fullmatch(self.text) if len(self.text) <= LONGEST_LINE else None
+        return [int(it) for it in found.groups()] if found else []
 
     def waits(self) -> Optional[int]:
         """Of `wait` the milliseconds."""

@@ -2,6 +2,7 @@
 use Rattle.std.specs.Prelude.{◌≡◌, ◌≤◌, ◌^◌, ℕ, nat_lt, is_some, IfSome, Result, Ok, Err, if◌then◌else◌}
 use Rattle.lapd_frame.specs.declared.timers.Order.{Order}
 use Rattle.lapd_frame.specs.declared.timers.Timer.{Timer}
+use Rattle.lapd_clock.specs.Timer.{Lengths}
 use Rattle.lapd_clock.specs.Timers.{Timers, finds_place, with_order}
 use Rattle.lapd_plain.specs.Statuses.{ok, wrong_line, wrong_time, no_place}
 use Rattle.lapd_plain.specs.declared.timers.PlainDue.{PlainDue}
@@ -21,6 +22,10 @@ pub record IsHandle (h : ClockHandle) : Type 0 where
 -- A timer that fell due, with its line.
 abbrev pub plain_due : ℕ × Timer → PlainDue
 plain_due due = record { line = due.0; timer = plain_timer due.1 }
+
+-- How long timers are to run.
+abbrev pub lengths_given : ℕ → ℕ → ℕ → Lengths
+lengths_given t200 t203 t201 = record { t200 = t200; t203 = t203; t201 = t201 }
 
 -- An order, or what is wrong with it, for a timer of a line at a moment: what is answered, and the clock after it.
 abbrev pub latest : ℕ

@@ -1,16 +1,17 @@
 //! A clock in C.
 
 ghost use Rattle.std.specs.Prelude.{◌≡◌, ◌≤◌, ◌⊎◌, Some, None, IfSome, IfNone, option_map};
-ghost use Rattle.lapd_clock.specs.Timers.{Timers, due_at, after_due, next_moment, idle};
+ghost use Rattle.lapd_clock.specs.Timers.{Timers, due_at, after_due, next_moment, idle, with_lengths};
+ghost use Rattle.lapd_clock.specs.Timer.{first_out_of_range};
 ghost use Rattle.model_line.specs.Config.{first_fault};
 ghost use Rattle.lapd_plain.specs.Config.{config_in};
 ghost use Rattle.lapd_plain.specs.Statuses as status;
 ghost use Rattle.lapd_plain.specs.Statuses.{field_status};
 ghost use Rattle.lapd_plain.specs.Timers.{order_in};
-ghost use Rattle.lapd_c.specs.Clocks.{clock_of, IsHandle, plain_due, apply_status, after_apply};
+ghost use Rattle.lapd_c.specs.Clocks.{clock_of, IsHandle, plain_due, apply_status, after_apply, lengths_given};
 
 use crate::clock_slot::ClockSlot;
-use lapd_clock::Clock;
+use lapd_clock::{Clock, Lengths};
 use lapd_frame::Order;
 use lapd_plain::{
     NO_CLOCK, NO_MEMORY, NO_PLACE, NO_TIMER, OK, PlainConfig, PlainDue, PlainOrder, PlainTimer,
@@ -96,6 +97,37 @@ pub extern "C" fn lapd_clock_start(
     };
     handle.put(clock);
     OK
+}
+
+/// Has timers that are started from now on run so many milliseconds: T200, T203 and T201, each 1 to 3,600,000.
+#[unsafe(no_mangle)]
+pub extern "C" fn lapd_clock_set_lengths(
+    alloc: Global,
+    handle: &mut ClockHandle,
+    t200: u32,
+    t203: u32,
+    t201: u32,
+) -> u32
+    requires { IsHandle handle.old }
+    ensures handle { IsHandle handle.new }
+    ensures no_clock { clock_of handle.old ≡ None → (result ≡ status.no_clock) × (handle.new ≡ handle.old) }
+    ensures out_of_range { IfSome (first_out_of_range (lengths_given t200 t203 t201)) (λ _. IfSome (clock_of handle.old)
+        (λ _. (result ≡ status.wrong_time) × (clock_of handle.new ≡ clock_of handle.old))) }
+    ensures set { first_out_of_range (lengths_given t200 t203 t201) ≡ None → IfSome (clock_of handle.old)
+        (λ c. (result ≡ status.ok) × (clock_of handle.new ≡ Some (with_lengths (lengths_given t200 t203 t201) c))) }
+{
+    let Some(mut clock) = handle.take(alloc) else {
+        return NO_CLOCK;
+    };
+    let status = match Lengths::new(t200, t203, t201) {
+        Ok(lengths) => {
+            clock.set_lengths(lengths);
+            OK
+        }
+        Err(_) => WRONG_TIME,
+    };
+    handle.put(clock);
+    status
 }
 
 /// Ends a clock, and gives back its memory.

@@ -1,10 +1,9 @@
 -- Each row of the tables tells at most two notes.
 use Rattle.std.proofs.Common.{◌≡◌, ℕ, ◌+◌, ◌≤◌, zero-add, Bool, true, false, cond, not, ◌&&◌, List, [], ◌∷◌, ◌++◌, length, Option, Some, None, is_some, ◌⊎◌, inl, inr, refl, sym, ap, ◌∙◌, arith, length-append}
 use Rattle.lapd_frame.specs.declared.controls.Control.{Control}
-use Rattle.lapd_frame.specs.declared.controls.Control.TheVariants.{Information, ReceiveReady, ReceiveNotReady, Reject, Sabme, Disc, Ui, Ua, Dm, Frmr, Xid}
+use Rattle.lapd_frame.specs.declared.controls.Control.TheVariants.{Ui, Ua}
 use Rattle.lapd_frame.specs.declared.notes.Note.{Note}
 use Rattle.lapd_frame.specs.declared.notes.ErrorCode.{ErrorCode}
-use Rattle.lapd_frame.specs.declared.notes.ErrorCode.TheVariants as code
 use Rattle.model_link.specs.declared.states.State.{State}
 use Rattle.model_link.specs.declared.states.State.TheVariants.{TeiAssigned, AwaitingEstablishment, AwaitingRelease, Established, TimerRecovery}
 use Rattle.model_link.specs.declared.timers.LinkTimer.{LinkTimer}
@@ -16,15 +15,11 @@ use Rattle.model_link.specs.Requests
 use Rattle.model_link.specs.TeiAssigned.{frame_in_4}
 use Rattle.model_link.specs.AwaitingEstablishment.{frame_in_5}
 use Rattle.model_link.specs.AwaitingRelease.{frame_in_6}
-use Rattle.model_link.specs.MultipleFrame
 use Rattle.model_link.specs.Established
 use Rattle.model_link.specs.TimerRecovery
 use Rattle.model_link.specs.Machine
 use Rattle.model_link.specs.Events
 use Rattle.model_link.specs.Words
-use Rattle.model_link.specs.declared.frames.ControlFrame.{ControlFrame}
-use Rattle.lapd_frame.specs.declared.refusals.Refusal.{Refusal}
-use Rattle.model_link.specs.Offers
 use Rattle.std.specs.List.{list_any}
 use Rattle.lapd_frame.specs.declared.timers.Timer.{Timer}
 use Rattle.lapd_frame.specs.declared.timers.Order.{Order}
@@ -32,126 +27,60 @@ use Rattle.lapd_frame.specs.declared.timers.Order.TheVariants.{Start, Stop}
 use Rattle.model_link.specs.Notes.{is_data, is_unit}
 use Rattle.model_link.specs.Told.{runs, timer_at, order_for, orders_for, starts}
 use Rattle.model_link.proofs.Leads.{Leads}
-use Rattle.model_link.proofs.Telling.{Notes, no_more, another, how_many, Telling, HasTold, Told, rows, words}
+use Rattle.model_link.proofs.Telling.{Purse, no_more, another, how_many, Telling, HasTold, Told, untold, note_tells, words}
+use Rattle.model_link.proofs.Rows.{Fits, row_in_7, row_in_8, frame_row, malformed_row, expired_row, granted_row, event_row}
 
 -- any frame but a UI
 abbrev IsNoUnit : Control → Type 0
 IsNoUnit (Ui p) = ⊥
 IsNoUnit other = Unit {0}
 
+-- and so one that the words speak of
+fits : (control : Control) → IsNoUnit control → Fits ⊥ (Unit {0}) (Unit {0}) control
+fits (Ui p) h = absurd h
+fits (Ua true) h = tt
+fits (Ua false) h = tt
+fits other h = tt
+
 module _ (t : Terms) where
   pub frames_in_4 : (octets : List ℕ) (control : Control) → IsNoUnit control → Leads (Telling 2 (another (another no_more))) (frame_in_4 t octets control) (HasTold 2)
-  frames_in_4 octets (Ua true) h = search rows depth 12 fits 4000
-  frames_in_4 octets (Ua false) h = search rows depth 12 fits 4000
-  frames_in_4 octets (Ui p) h = absurd h
-  frames_in_4 octets other h = search rows depth 12 fits 4000
+  frames_in_4 octets control h = frame_row (words t) TeiAssigned false octets control (fits control h)
 
   pub frames_in_5 : (octets : List ℕ) (control : Control) → IsNoUnit control → Leads (Telling 2 (another (another no_more))) (frame_in_5 t octets control) (HasTold 2)
-  frames_in_5 octets (Ua true) h = search rows depth 12 fits 4000
-  frames_in_5 octets (Ua false) h = search rows depth 12 fits 4000
-  frames_in_5 octets (Dm true) h = search rows depth 12 fits 4000
-  frames_in_5 octets (Dm false) h = search rows depth 12 fits 4000
-  frames_in_5 octets (Ui p) h = absurd h
-  frames_in_5 octets other h = search rows depth 12 fits 4000
+  frames_in_5 octets control h = frame_row (words t) AwaitingEstablishment false octets control (fits control h)
 
   pub frames_in_6 : (octets : List ℕ) (control : Control) → IsNoUnit control → Leads (Telling 2 (another (another no_more))) (frame_in_6 t octets control) (HasTold 2)
-  frames_in_6 octets (Ua true) h = search rows depth 12 fits 4000
-  frames_in_6 octets (Ua false) h = search rows depth 12 fits 4000
-  frames_in_6 octets (Dm true) h = search rows depth 12 fits 4000
-  frames_in_6 octets (Dm false) h = search rows depth 12 fits 4000
-  frames_in_6 octets (Ui p) h = absurd h
-  frames_in_6 octets other h = search rows depth 12 fits 4000
+  frames_in_6 octets control h = frame_row (words t) AwaitingRelease false octets control (fits control h)
 
   pub frames_in_7 : (b : Bool) (octets : List ℕ) (control : Control) → IsNoUnit control → Leads (Telling 2 (another (another no_more))) (Established.frame_in_7 t b octets control) (HasTold 2)
-  frames_in_7 b octets (Information ns nr p) h = search rows depth 12 fits 4000
-  frames_in_7 b octets (ReceiveReady nr pf) h = search rows depth 12 fits 4000
-  frames_in_7 b octets (ReceiveNotReady nr pf) h = search rows depth 12 fits 4000
-  frames_in_7 b octets (Reject nr pf) h = search rows depth 12 fits 4000
-  frames_in_7 b octets (Sabme p) h = search rows depth 12 fits 4000
-  frames_in_7 b octets (Disc p) h = search rows depth 12 fits 4000
-  frames_in_7 b octets (Ua f) h = search rows depth 12 fits 4000
-  frames_in_7 b octets (Dm true) h = search rows depth 12 fits 4000
-  frames_in_7 b octets (Dm false) h = search rows depth 12 fits 4000
-  frames_in_7 b octets (Frmr f) h = search rows depth 12 fits 4000
-  frames_in_7 b octets (Ui p) h = absurd h
-  frames_in_7 b octets (Xid pf) h = search rows depth 12 fits 4000
+  frames_in_7 b octets control h = row_in_7 (words t) b octets control (fits control h)
 
   pub frames_in_8 : (b : Bool) (octets : List ℕ) (control : Control) → IsNoUnit control → Leads (Telling 2 (another (another no_more))) (TimerRecovery.frame_in_8 t b octets control) (HasTold 2)
-  frames_in_8 b octets (Information ns nr p) h = search rows depth 12 fits 4000
-  frames_in_8 b octets (ReceiveReady nr pf) h = search rows depth 12 fits 4000
-  frames_in_8 b octets (ReceiveNotReady nr pf) h = search rows depth 12 fits 4000
-  frames_in_8 b octets (Reject nr pf) h = search rows depth 12 fits 4000
-  frames_in_8 b octets (Sabme p) h = search rows depth 12 fits 4000
-  frames_in_8 b octets (Disc p) h = search rows depth 12 fits 4000
-  frames_in_8 b octets (Ua f) h = search rows depth 12 fits 4000
-  frames_in_8 b octets (Dm true) h = search rows depth 12 fits 4000
-  frames_in_8 b octets (Dm false) h = search rows depth 12 fits 4000
-  frames_in_8 b octets (Frmr f) h = search rows depth 12 fits 4000
-  frames_in_8 b octets (Ui p) h = absurd h
-  frames_in_8 b octets (Xid pf) h = search rows depth 12 fits 4000
-
-  pub failed_tells : (e : ErrorCode) → Leads (Telling 2 (another (another no_more))) (MultipleFrame.failed t e) (HasTold 2)
-  failed_tells e = search rows depth 12 fits 4000
+  frames_in_8 b octets control h = row_in_8 (words t) b octets control (fits control h)
 
   pub expired_tells : (here : State) (timer : LinkTimer) → Leads (Telling 2 (another (another no_more))) (Machine.expired_in here timer t) (HasTold 2)
-  expired_tells TeiAssigned timer = search rows depth 12 fits 4000
-  expired_tells AwaitingEstablishment T200 = search rows depth 12 fits 4000
-  expired_tells AwaitingEstablishment T203 = search rows depth 12 fits 4000
-  expired_tells AwaitingRelease T200 = search rows depth 12 fits 4000
-  expired_tells AwaitingRelease T203 = search rows depth 12 fits 4000
-  expired_tells Established timer = search rows depth 12 fits 4000
-  expired_tells TimerRecovery T200 = search rows depth 12 fits 4000
-  expired_tells TimerRecovery T203 = search rows depth 12 fits 4000
+  expired_tells here timer = expired_row (words t) here timer
 
   pub malformed_tells : (here : State) (e : ErrorCode) → Leads (Telling 2 (another (another no_more))) (Machine.malformed_in here t e) (HasTold 2)
-  malformed_tells TeiAssigned e = search rows depth 12 fits 4000
-  malformed_tells AwaitingEstablishment e = search rows depth 12 fits 4000
-  malformed_tells AwaitingRelease e = search rows depth 12 fits 4000
-  malformed_tells Established e = failed_tells e
-  malformed_tells TimerRecovery e = failed_tells e
-
-  pub release_tells : (here : State) → Leads (Telling 2 (another (another no_more))) (Requests.release_in here t) (HasTold 2)
-  release_tells TeiAssigned = search rows depth 12 fits 4000
-  release_tells AwaitingEstablishment = search rows depth 12 fits 4000
-  release_tells AwaitingRelease = search rows depth 12 fits 4000
-  release_tells Established = search rows depth 12 fits 4000
-  release_tells TimerRecovery = search rows depth 12 fits 4000
-
-  set_busy_tells : Leads (Telling 2 (another (another no_more))) (MultipleFrame.set_busy_in_7_8 t) (HasTold 2)
-  set_busy_tells = search rows depth 12 fits 4000
-
-  clear_busy_tells : Leads (Telling 2 (another (another no_more))) (MultipleFrame.clear_busy_in_7_8 t) (HasTold 2)
-  clear_busy_tells = search rows depth 12 fits 4000
+  malformed_tells here e = malformed_row (words t) here e
 
   pub granted_tells : (request : Events.Request) → Leads (Telling 2 (another (another no_more))) (λ c. Requests.granted t request c) (HasTold 2)
-  granted_tells Events.Establish = search rows depth 12 fits 4000
-  granted_tells Events.Release = record { leads = λ c h. (release_tells c.link.state).leads c h }
-  granted_tells (Events.Data octets) = search rows depth 12 fits 4000
-  granted_tells Events.SetBusy = record { leads = λ c h. set_busy_tells.leads c h }
-  granted_tells Events.ClearBusy = record { leads = λ c h. clear_busy_tells.leads c h }
+  granted_tells request = granted_row (words t) request
 
   pub cleared_tells : (here : State) → Leads (Telling 1 (another no_more)) (Machine.told_of_clearing here t) (Telling 1 no_more)
-  cleared_tells TeiAssigned = search words
-  cleared_tells AwaitingEstablishment = search words
-  cleared_tells AwaitingRelease = search words
-  cleared_tells Established = search words
-  cleared_tells TimerRecovery = search words
+  cleared_tells TeiAssigned = record { leads = λ c h. untold 1 no_more c.notes c.delivered c.unit h }
+  cleared_tells AwaitingEstablishment = note_tells 1 no_more _ refl refl
+  cleared_tells AwaitingRelease = note_tells 1 no_more _ refl refl
+  cleared_tells Established = note_tells 1 no_more _ refl refl
+  cleared_tells TimerRecovery = note_tells 1 no_more _ refl refl
 
   -- Each event.
-  begins : (p : Notes) (total : ℕ) → how_many p ≤ total → (l : Link) → Telling total p (begun l)
+  begins : (p : Purse) (total : ℕ) → how_many p ≤ total → (l : Link) → Telling total p (begun l)
   begins p total room l = record { count = omega (arith, room); data_told = refl; no_unit = refl; no_note = refl }
 
   two : {f : Step} (l : Link) → Leads (Telling 2 (another (another no_more))) f (HasTold 2) → HasTold 2 (f (begun l))
   unfolding how_many
   two l x = x.leads (begun l) (begins (another (another no_more)) 2 (omega arith) l)
-
-  frames-by-state : (here : State) (b : Bool) (octets : List ℕ) (control : Control) → IsNoUnit control
-      → Leads (Telling 2 (another (another no_more))) (Machine.frame_in here t b octets control) (HasTold 2)
-  frames-by-state TeiAssigned b octets control h = frames_in_4 octets control h
-  frames-by-state AwaitingEstablishment b octets control h = frames_in_5 octets control h
-  frames-by-state AwaitingRelease b octets control h = frames_in_6 octets control h
-  frames-by-state Established b octets control h = frames_in_7 b octets control h
-  frames-by-state TimerRecovery b octets control h = frames_in_8 b octets control h
 
   -- what is told: notes of data where contents are delivered, and unit data only where none are
   TellsOf : Course → Type 0
@@ -176,35 +105,9 @@ module _ (t : Terms) where
   frame-tells : (b : Bool) (octets : List ℕ) (control : Control) (l : Link) → TellsOf (Machine.frame_step t b octets control (begun l))
   unfolding TellsOf
   frame-tells b octets (Ui p) l = unit-tells l.state b octets p l
-  frame-tells b octets (Xid pf) l = from-told (two l (frames-by-state l.state b octets (Xid pf) tt))
-  frame-tells b octets (Information ns nr p) l = from-told (two l (frames-by-state l.state b octets (Information ns nr p) tt))
-  frame-tells b octets (ReceiveReady nr pf) l = from-told (two l (frames-by-state l.state b octets (ReceiveReady nr pf) tt))
-  frame-tells b octets (ReceiveNotReady nr pf) l = from-told (two l (frames-by-state l.state b octets (ReceiveNotReady nr pf) tt))
-  frame-tells b octets (Reject nr pf) l = from-told (two l (frames-by-state l.state b octets (Reject nr pf) tt))
-  frame-tells b octets (Sabme p) l = from-told (two l (frames-by-state l.state b octets (Sabme p) tt))
-  frame-tells b octets (Disc p) l = from-told (two l (frames-by-state l.state b octets (Disc p) tt))
-  frame-tells b octets (Ua f) l = from-told (two l (frames-by-state l.state b octets (Ua f) tt))
-  frame-tells b octets (Dm f) l = from-told (two l (frames-by-state l.state b octets (Dm f) tt))
-  frame-tells b octets (Frmr f) l = from-told (two l (frames-by-state l.state b octets (Frmr f) tt))
-
-  nothing-told : (l : Link) → HasTold 2 (begun l)
-  nothing-told l = record { count = omega arith; data_told = refl; no_unit = refl; no_note = refl }
-
-  either : (b : Bool) (u v : Course) → HasTold 2 u → HasTold 2 v → HasTold 2 (cond b u v)
-  either true u v x y = x
-  either false u v x y = y
-
-  requests-tell : (request : Events.Request) (l : Link) (o : Option Refusal)
-      → HasTold 2 (elim o as (λ o. Course) [ None ↦ Requests.granted t request (begun l) | Some _ ↦ begun l ])
-  requests-tell request l None = two l (granted_tells request)
-  requests-tell request l (Some w) = nothing-told l
-
-  offers-tell : (l : Link) (ws : List ControlFrame) → HasTold 2 (Offers.offer_among t ws (begun l))
-  offers-tell l [] =
-      either (Offers.may_send_information t l) _ _
-      (either (Offers.is_awaiting_acknowledgement (Offers.with_one_sent l)) _ _ (record { count = omega arith; data_told = refl; no_unit = refl; no_note = refl }) (record { count = omega arith; data_told = refl; no_unit = refl; no_note = refl }))
-      (either l.pending _ _ (record { count = omega arith; data_told = refl; no_unit = refl; no_note = refl }) (nothing-told l))
-  offers-tell l (f ∷ fs) = record { count = omega arith; data_told = refl; no_unit = refl; no_note = refl }
+  frame-tells b octets (Ua true) l = from-told (two l (frame_row (words t) l.state b octets (Ua true) tt))
+  frame-tells b octets (Ua false) l = from-told (two l (frame_row (words t) l.state b octets (Ua false) tt))
+  frame-tells b octets other l = from-told (two l (frame_row (words t) l.state b octets other tt))
 
   -- the TEI leaves the line: one note
   clears : (here : State) (l : Link) → Telling 1 no_more (Machine.told_of_clearing here t (begun l))
@@ -220,12 +123,12 @@ module _ (t : Terms) where
       × (list_any is_unit (Machine.told t e l).notes ≡ is_some (Machine.told t e l).unit)
   unfolding TellsOf
   event-tells (Events.received (Events.frame f)) l = frame-tells f.address.command f.info f.control l
-  event-tells (Events.received Events.undefined) l = from-told (two l (malformed_tells l.state code.L))
-  event-tells (Events.received Events.wrong_size) l = from-told (two l (malformed_tells l.state code.N))
-  event-tells (Events.received Events.overlong) l = from-told (two l (malformed_tells l.state code.O))
-  event-tells (Events.expired timer) l = from-told (either (Machine.is_running timer l) _ _ (two l (expired_tells l.state timer)) (nothing-told l))
-  event-tells (Events.requested request full) l = from-told (requests-tell request l (Requests.refusal t l full request))
-  event-tells Events.offer l = from-told (offers-tell l l.waiting)
+  event-tells (Events.received Events.undefined) l = from-told (two l (event_row (words t) (Events.received Events.undefined) tt))
+  event-tells (Events.received Events.wrong_size) l = from-told (two l (event_row (words t) (Events.received Events.wrong_size) tt))
+  event-tells (Events.received Events.overlong) l = from-told (two l (event_row (words t) (Events.received Events.overlong) tt))
+  event-tells (Events.expired timer) l = from-told (two l (event_row (words t) (Events.expired timer) tt))
+  event-tells (Events.requested request full) l = from-told (two l (event_row (words t) (Events.requested request full) tt))
+  event-tells Events.offer l = from-told (two l (event_row (words t) Events.offer tt))
   event-tells Events.cleared l = let one = (clears l.state l).count in (omega (arith, one), (clears l.state l).data_told, inr (clears l.state l).no_unit, (clears l.state l).no_note ∙ sym (ap is_some (clears l.state l).no_unit))
 
 -- At most one order for each timer, and at a clear only for the one that runs.

@@ -67,13 +67,6 @@ module _ (count turn : ℕ) (low : turn ≤ count) where
           let there = in-second (count - turn + number) (omega (arith, low)) (omega (arith, low, gt)) in
           omega (arith, there, low)
 
-  place-few : (number : ℕ) → number < count → way_round count turn number < count
-  place-few number few = go (nat_le turn number) refl
-    where
-      go : (b : Bool) → nat_le turn number ≡ b → cond b (number - turn) (count - turn + number) < count
-      go true e = omega (arith, few)
-      go false e = let gt : number < turn = leb-false turn number e in omega (arith, low, gt)
-
   -- the turn of the link behind one that comes before it
   nearer : (number other j : ℕ) → number < count → IsAtPlace count turn j other → j < way_round count turn number → way_round count (other + 1) number + 1 ≤ way_round count turn number
   nearer number other j few at less = go (nat_le turn number) refl (nat_le (other + 1) number) refl at less

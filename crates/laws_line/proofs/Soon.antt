@@ -54,8 +54,5 @@ module _ (c : Config) (ranged : IsInRange c) (l : Line) (s : IsSound c l) (left 
       let most = ring in
       omega (arith, sum, here, most)
 
-  pub waits-few : bits_before c l number (length before) ≤ most_bits_before c
-  waits-few = few-before c l s left number (length before) few others-fit
-
   pub goes-soon : (n : ℕ) → most_pulls_before c ≤ n → IsBegunWithin c n l (control_text c number tei f)
   goes-soon n enough = enough-goes c ranged number tei few n l s at before f behind waits (enough-before c l s left number (length before) n few others-fit enough)

@@ -70,9 +70,6 @@ module _ (all : List (List ℕ)) (a s : ℕ) (ordered : a ≤ s) (most : s ≤ l
         no_unit = h.no_unit;
       })
 
-  pub stays_through : {f : Step} → Leads (On Stays) f (On Stays) → Leads (On Stays) f (On (Moves all a s 0))
-  stays_through x = to_less stays x
-
   -- by an N(R): an invalid one, or one that names m
   by-number : (t : Terms) (f : ℕ → Step) → ((m : ℕ) → a ≤ m → m ≤ s → Leads (On Stays) (f m) (On (Moves all a s (m - a)))) → (c : Course) → On Stays c → (nr : Seq) (o : Option ℕ) → named a s nr ≡ o
       → On (Moves all a s (option_map_or (beyond a) o 0)) (elim o [ None ↦ (Words.error t code.J then Words.re_establish t) c | Some n ↦ f n c ])

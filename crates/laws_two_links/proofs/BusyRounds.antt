@@ -190,16 +190,6 @@ done-busy busy r ds cn cm n m h =
     let y = no-one n m (giver_of n) (taker_of n m) h.all x.giver.contents x.a h.acknowledged x.moved in
     record { paired = busy-turn busy r ds cn cm n m p; acknowledged = y.0; all = y.1 }
 
-pub done-open : (busy : Bool) (r : ℕ) (ds cn cm : List (List ℕ)) (n m : End) → Done busy r ds cn cm n m → Done busy r ds cn cm (taker_of m n) (giver_of m)
-done-open busy r ds cn cm n m h =
-    let p = h.paired in
-    let x = open-moves n m p.itself p.other p.taken p.dropped in
-    record {
-      paired = open-turn busy r ds cn cm n m p;
-      acknowledged = x.a ∙ sym x.s;
-      all = subst (λ s. length (taker_of m n).link.contents ≤ s) (sym x.s) (subst (λ cs. length cs ≤ n.link.s) (sym x.taker.contents) h.all);
-    }
-
 -- Rounds: the busy end is near, and then far.
 pub rounds-near : (u : ℕ) (busy : Bool) (r : ℕ) (ds cn cm : List (List ℕ)) (e : Ends) → Ahead u busy r ds cn cm e.near e.far
     → Done busy r ds cn cm (rounds u e).near (rounds u e).far

@@ -119,10 +119,6 @@ module _ (t : Terms) (n : ℕ) where
   frames-in Established b octets control = in-7 b octets control
   frames-in TimerRecovery b octets control = in-8 b octets control
 
-  at-state : {b : Bool} {octets : List ℕ} {control : Control} {m : ℕ} → ((here : State) → Leads (Few n) (Machine.frame_in here t b octets control) (Few m))
-      → Leads (Few n) (λ c. Machine.frame_in c.link.state t b octets control c) (Few m)
-  at-state x = record { leads = λ c h. (x c.link.state).leads c h }
-
   frames : (b : Bool) (octets : List ℕ) (control : Control) → Leads (Few n) (Machine.frame_step t b octets control) (Few (n + cond {A = ℕ} (is_poll b control) 1 0))
   frames b octets control = record { leads = λ c h. (frames-in c.link.state b octets control).leads c h }
 

@@ -163,9 +163,6 @@ module _ {g : Step} {R : Course → Type 0} where
   pub start_from_8_then : (timer : LinkTimer) → Leads (On calm) g R → Leads (On calm_in_8) (Words.start timer then g) R
   start_from_8_then timer x = record { leads = λ c h. x.leads (Words.start timer c) (record { holds = h.holds.2 }) }
 
-  pub start_at_7_then : (timer : LinkTimer) → Leads (On (calm_at Established)) g R → Leads (On (calm_at Established)) (Words.start timer then g) R
-  start_at_7_then timer x = record { leads = λ c h. x.leads (Words.start timer c) (record { holds = h.holds }) }
-
   pub calm_then : (here : State) {P : Claim} → ((state : State) (busy : Bool) (running : Option LinkTimer) → P state busy running → state ≡ here)
       → Leads (On (calm_at here)) g R → Leads (On P) (Words.peer_busy_is false then g) R
   calm_then here w x = record { leads = λ c h. x.leads (Words.peer_busy_is false c) (record { holds = (w c.link.state c.link.peer_busy c.link.running h.holds, refl) }) }
@@ -341,12 +338,6 @@ module _ (t : Terms) where
   pub release_7_8 : {P : Claim} → Leads (On P) (MultipleFrame.release_in_7_8 t) (On heeding)
   release_7_8 = search rows depth 14 fits 6000
 
-  pub set_busy_7 : Leads (On heeding_in_7) (MultipleFrame.set_busy_in_7_8 t) (On heeding)
-  set_busy_7 = search (words, as_7) depth 14 fits 6000
-
-  pub clear_busy_7 : Leads (On heeding_in_7) (MultipleFrame.clear_busy_in_7_8 t) (On heeding)
-  clear_busy_7 = search (words, as_7) depth 14 fits 6000
-
 -- State 8.
 calm_8_then : {g : Step} → Leads (On calm_in_8) g (On heeding) → Leads (On (awake_at TimerRecovery)) (Words.peer_busy_is false then g) (On heeding)
 calm_8_then x = record { leads = λ c h. x.leads (Words.peer_busy_is false c) (record { holds = (h.holds.0, h.holds.1, refl) }) }
@@ -388,9 +379,3 @@ module _ (t : Terms) where
 
   pub t200_8 : Leads (On (awake_at TimerRecovery)) (TimerRecovery.t200_in_8 t) (On heeding)
   t200_8 = search (rows, start_last_8) depth 14 fits 6000
-
-  pub set_busy_8 : Leads (On (awake_at TimerRecovery)) (MultipleFrame.set_busy_in_7_8 t) (On heeding)
-  set_busy_8 = search (words, as_8) depth 14 fits 6000
-
-  pub clear_busy_8 : Leads (On (awake_at TimerRecovery)) (MultipleFrame.clear_busy_in_7_8 t) (On heeding)
-  clear_busy_8 = search (words, as_8) depth 14 fits 6000

@@ -16,10 +16,6 @@ none-sent : (t : Terms) (l : Link) (c : Course) (o : Option Sent) → given_of t
 none-sent t l c None e = refl
 none-sent t l c (Some s) e = absurd (cc)
 
-none-given : (t : Terms) (l : Link) (c : Course) (o : Option Sent) → o ≡ None → given_of t l c o ≡ None
-none-given t l c None e = refl
-none-given t l c (Some s) e = absurd (cc)
-
 other-branch : (b : Bool) (u v : Course) → (u.sent ≡ None → ⊥) → (cond b u v).sent ≡ None → (b ≡ false) × (v.sent ≡ None)
 other-branch true u v x e = absurd (x e)
 other-branch false u v x e = (refl, e)

@@ -110,11 +110,6 @@ pub done_kept : {r : ℕ} {contents : Option (List ℕ)} {f : Step} → Leads (O
     → Leads (On (counted r contents)) f (On (done r contents))
 done_kept x = to_less (λ c h. inl h) x
 
-pub zero_then : {r : ℕ} {g : Step} → Leads (On restarted) g (On restarted)
-    → Leads (On (counted r None)) (Words.zero_numbers then g) (On (done r None))
-zero_then x =
-    to_less (λ c h. inr h) (then_leads (record { leads = λ c h. record { number = refl; delivered = h.delivered; begins = refl } }) x)
-
 pub ruleset words = (keeping_then, nothing_leads, depending_leads, bit_leads, note_counts, deliver_unit_counts, refuse_counts, peer_busy_counts, own_busy_counts, rejecting_counts, pending_counts, asked_counts, repeats_counts, repeated_counts, enter_counts, flags_counts, start_counts, no_timer_counts, discard_counts, acknowledge_counts, send_again_counts, send_counts, enquire_counts, answer_counts, report_counts, reject_counts)
 
 -- by the N(R), whatever it names
@@ -127,5 +122,3 @@ by-number Q t nr f x c h (Some m) = (x m).leads c h
 pub number_counts : (Q : Count) (t : Terms) (nr : Seq) {f : ℕ → Step} → ((m : ℕ) → Leads (On Q) (f m) (On Q))
     → Leads (On Q) (Words.by_number t nr f) (On Q)
 number_counts Q t nr {f} x = record { leads = λ c h. by-number Q t nr f x c h (named c.link.a c.link.s nr) }
-
-pub ruleset rows = (words, done_kept, zero_then, number_counts)

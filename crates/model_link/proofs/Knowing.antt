@@ -264,7 +264,7 @@ module _ (up : Bool) where
 
 pub ruleset words = (keeping_then, nothing_leads, depending_leads, bit_leads, note_knows, deliver_knows, deliver_unit_knows, confirms_in_4, indication_7, indication_8, refl, refuse_knows, peer_busy_knows, own_busy_knows, rejecting_knows, pending_knows, repeats_knows, repeated_knows, flags_knows, start_knows, no_timer_knows, zero_knows, discard_knows, count_knows, acknowledge_knows, send_again_knows, transfer_knows, sent_one_knows, waiting_rest_knows, give_knows, give_information_knows, give_acknowledgement_knows, send_knows, enquire_knows, answer_knows, report_knows, reject_knows)
 
-pub ruleset ends = (words, at_ends, indicates_release, confirms_release, indicates, asks, asks_anew_7, asks_anew_8, enters_6_from_7, enters_6_from_8, enters_8_from_7, enters_7_from_7, enters_7_from_8)
+pub ruleset ends = (indicates_release, confirms_release, indicates, asks, asks_anew_7, asks_anew_8, enters_6_from_7, enters_6_from_8, enters_8_from_7, enters_7_from_7, enters_7_from_8, words, at_ends)
 
 module _ (up : Bool) (t : Terms) where
   pub re_establish_7 : Leads (At up Established) (Words.re_establish t) (Ends up)

@@ -1,5 +1,5 @@
 -- What layer 3 is told is what becomes of the link: the rows by state, and every event.
-use Rattle.std.proofs.Common.{◌≡◌, ℕ, Bool, true, false, List, [], ◌∷◌, Option, Some, None, refl, sym, subst, ◌∙◌, cond}
+use Rattle.std.proofs.Common.{◌≡◌, ℕ, Bool, true, false, List, [], ◌∷◌, Option, Some, None, refl, sym, subst, ◌∙◌, cond, ◌&&◌}
 use Rattle.lapd_seq.specs.declared.numbers.Seq.{Seq}
 use Rattle.lapd_frame.specs.declared.controls.Control.{Control}
 use Rattle.lapd_frame.specs.declared.controls.Control.TheVariants.{Information, ReceiveReady, ReceiveNotReady, Reject, Sabme, Disc, Ui, Ua, Dm, Frmr, Xid}
@@ -13,9 +13,10 @@ use Rattle.model_link.specs.declared.timers.LinkTimer.{LinkTimer}
 use Rattle.model_link.specs.declared.timers.LinkTimer.TheVariants.{T200, T203}
 use Rattle.model_link.specs.declared.frames.ControlFrame.{ControlFrame}
 use Rattle.model_link.specs.declared.terms.Terms.{Terms}
-use Rattle.model_link.specs.Link.{Link}
+use Rattle.model_link.specs.Link.{Link, is_own_busy, is_rejecting, is_peer_busy}
 use Rattle.model_link.specs.Events
-use Rattle.model_link.specs.Steps.{Course, begun}
+use Rattle.model_link.specs.Steps.{Course, begun, Step, ◌then◌, nothing, by_bit}
+use Rattle.model_link.specs.Words
 use Rattle.model_link.specs.TeiAssigned.{frame_in_4, establish_in_4}
 use Rattle.model_link.specs.AwaitingEstablishment.{frame_in_5}
 use Rattle.model_link.specs.AwaitingRelease.{frame_in_6}
@@ -27,101 +28,142 @@ use Rattle.model_link.specs.Offers
 use Rattle.model_link.specs.Machine
 use Rattle.model_link.proofs.Leads.{Leads, then_leads, keeping_then, nothing_leads, depending_leads, bit_leads}
 use Rattle.model_link.specs.Known.{known, is_up_in, is_up}
-use Rattle.model_link.proofs.Knowing.{up_by, is-up-by, At, Ends, at_ends, acknowledge_knows, transfer_knows, confirms_in_4, established_up, zero_enters, words, ends, failed_7, failed_8, number_7, number_8}
-
-ruleset rows = (number_7, number_8, failed_7, failed_8, ends)
+use Rattle.model_link.proofs.Knowing.{up_by, is-up-by, At, Ends, at_ends, acknowledge_knows, transfer_knows, answer_knows, count_knows, rejecting_knows, deliver_knows, pending_knows, reject_knows, peer_busy_knows, note_knows, send_again_knows, start_knows, enters_7_from_8, confirms_in_4, established_up, zero_enters, words, ends, failed_7, failed_8, number_7, number_8}
 
 module _ (up : Bool) (t : Terms) where
   frames_in_4 : (octets : List ℕ) (control : Control) → Leads (At up TeiAssigned) (frame_in_4 t octets control) (Ends up)
-  frames_in_4 octets (Ua true) = search rows depth 12 fits 4000
-  frames_in_4 octets (Ua false) = search rows depth 12 fits 4000
-  frames_in_4 octets other = search rows depth 12 fits 4000
+  frames_in_4 octets (Ua true) = search ends depth 12 fits 4000
+  frames_in_4 octets (Ua false) = search ends depth 12 fits 4000
+  frames_in_4 octets other = search ends depth 12 fits 4000
 
   frames_in_5 : (octets : List ℕ) (control : Control) → Leads (At up AwaitingEstablishment) (frame_in_5 t octets control) (Ends up)
   frames_in_5 octets (Ua true) = then_leads (established_up up t) (zero_enters up)
-  frames_in_5 octets (Ua false) = search rows depth 12 fits 4000
-  frames_in_5 octets (Dm true) = search rows depth 12 fits 4000
-  frames_in_5 octets (Dm false) = search rows depth 12 fits 4000
-  frames_in_5 octets other = search rows depth 12 fits 4000
+  frames_in_5 octets (Ua false) = search ends depth 12 fits 4000
+  frames_in_5 octets (Dm true) = search ends depth 12 fits 4000
+  frames_in_5 octets (Dm false) = search ends depth 12 fits 4000
+  frames_in_5 octets other = search ends depth 12 fits 4000
 
   frames_in_6 : (octets : List ℕ) (control : Control) → Leads (At up AwaitingRelease) (frame_in_6 t octets control) (Ends up)
-  frames_in_6 octets (Ua true) = search rows depth 12 fits 4000
-  frames_in_6 octets (Ua false) = search rows depth 12 fits 4000
-  frames_in_6 octets (Dm true) = search rows depth 12 fits 4000
-  frames_in_6 octets (Dm false) = search rows depth 12 fits 4000
-  frames_in_6 octets other = search rows depth 12 fits 4000
+  frames_in_6 octets (Ua true) = search ends depth 12 fits 4000
+  frames_in_6 octets (Ua false) = search ends depth 12 fits 4000
+  frames_in_6 octets (Dm true) = search ends depth 12 fits 4000
+  frames_in_6 octets (Dm false) = search ends depth 12 fits 4000
+  frames_in_6 octets other = search ends depth 12 fits 4000
 
-  contents_7 : (ns : Seq) (p : Bool) (octets : List ℕ) → Leads (At up Established) (MultipleFrame.contents_in_7_8 t ns p octets) (At up Established)
-  contents_7 ns p octets = search words depth 12 fits 4000
+  contents : (here : State) (ns : Seq) (p : Bool) (octets : List ℕ) → Leads (At up here) (MultipleFrame.contents_in_7_8 t ns p octets) (At up here)
+  contents here ns p octets =
+      depending_leads is_own_busy (answers p)
+      (depending_leads (MultipleFrame.is_next ns)
+      (keeping_then (count_knows up here) (keeping_then (rejecting_knows up here false) (keeping_then (deliver_knows up here t octets) (bit_leads p (answer_knows up here t) (pending_knows up here true)))))
+      (depending_leads is_rejecting (answers p) (keeping_then (rejecting_knows up here true) (reject_knows up here t p))))
+    where
+      answers : (b : Bool) → Leads (At up here) (by_bit b (Words.answer t) nothing) (At up here)
+      answers b = bit_leads b (answer_knows up here t) nothing_leads
 
-  contents_8 : (ns : Seq) (p : Bool) (octets : List ℕ) → Leads (At up TimerRecovery) (MultipleFrame.contents_in_7_8 t ns p octets) (At up TimerRecovery)
-  contents_8 ns p octets = search words depth 12 fits 4000
+  answered : (here : State) (b pf : Bool) → Leads (At up here) (MultipleFrame.answered t b pf) (At up here)
+  answered here b pf = bit_leads (b && pf) (answer_knows up here t) nothing_leads
+
+  unsolicited : (final : Bool) → Leads (At up Established) (Established.unsolicited t final) (At up Established)
+  unsolicited final = bit_leads final (note_knows up Established _ refl) nothing_leads
+
+  -- RR, RNR and REJ, by what a valid N(R) does
+  supervisory_7 : (busy b pf : Bool) (nr : Seq) (effect : Bool → ℕ → Step) → ((final : Bool) (m : ℕ) → Leads (At up Established) (effect final m) (Ends up))
+      → Leads (At up Established) (MultipleFrame.supervisory t (Established.particulars_in_7 t) busy b pf nr effect) (Ends up)
+  supervisory_7 busy b pf nr effect x =
+      keeping_then (peer_busy_knows up Established busy)
+      (keeping_then (answered Established b pf)
+      (keeping_then (unsolicited (MultipleFrame.is_final b pf)) (number_7 up t nr (effect (MultipleFrame.is_final b pf)) (x (MultipleFrame.is_final b pf)))))
+
+  supervisory_8 : (busy b pf : Bool) (nr : Seq) (timer : LinkTimer)
+      → Leads (At up TimerRecovery) (MultipleFrame.supervisory t (TimerRecovery.particulars_in_8 t) busy b pf nr (TimerRecovery.acknowledged_in_8 timer)) (Ends up)
+  supervisory_8 busy b pf nr timer =
+      keeping_then (peer_busy_knows up TimerRecovery busy)
+      (keeping_then (answered TimerRecovery b pf)
+      (number_8 up t nr (TimerRecovery.acknowledged_in_8 timer (MultipleFrame.is_final b pf)) (recovered (MultipleFrame.is_final b pf))))
+    where
+      recovered : (final : Bool) (m : ℕ) → Leads (At up TimerRecovery) (TimerRecovery.acknowledged_in_8 timer final m) (Ends up)
+      recovered final m =
+          bit_leads final
+          (keeping_then (acknowledge_knows up TimerRecovery m) (keeping_then (send_again_knows up TimerRecovery m) (keeping_then (start_knows up TimerRecovery timer) (enters_7_from_8 up))))
+          (at_ends up (acknowledge_knows up TimerRecovery m))
+
+  acknowledged_7 : (m : ℕ) → Leads (At up Established) (Established.acknowledged_in_7 m) (At up Established)
+  acknowledged_7 m =
+      depending_leads (Established.is_all_sent m) (acknowledges T203)
+      (depending_leads (Established.is_beyond_acknowledged m) (acknowledges T200) nothing_leads)
+    where
+      acknowledges : (timer : LinkTimer) → Leads (At up Established) (Words.acknowledge m then Words.start timer) (At up Established)
+      acknowledges timer = keeping_then (acknowledge_knows up Established m) (start_knows up Established timer)
 
   information_7 : (m : ℕ) → Leads (At up Established) (Established.acknowledged_by_information_in_7 m) (At up Established)
-  information_7 m = search words depth 12 fits 4000
+  information_7 m = depending_leads is_peer_busy (acknowledge_knows up Established m) (acknowledged_7 m)
 
   frames_in_7 : (b : Bool) (octets : List ℕ) (control : Control) → Leads (At up Established) (Established.frame_in_7 t b octets control) (Ends up)
   frames_in_7 b octets (Information ns nr p) =
-      bit_leads _ (failed_7 up t code.O) (keeping_then (contents_7 ns p octets) (number_7 up t nr _ (λ m. at_ends up (information_7 m))))
-  frames_in_7 b octets (ReceiveReady nr pf) = search rows depth 12 fits 4000
-  frames_in_7 b octets (ReceiveNotReady nr pf) = search rows depth 12 fits 4000
-  frames_in_7 b octets (Reject nr pf) = search rows depth 12 fits 4000
-  frames_in_7 b octets (Sabme p) = search rows depth 12 fits 4000
-  frames_in_7 b octets (Disc p) = search rows depth 12 fits 4000
-  frames_in_7 b octets (Ua f) = search rows depth 12 fits 4000
-  frames_in_7 b octets (Dm true) = search rows depth 12 fits 4000
-  frames_in_7 b octets (Dm false) = search rows depth 12 fits 4000
-  frames_in_7 b octets (Frmr f) = search rows depth 12 fits 4000
-  frames_in_7 b octets (Ui p) = search rows depth 12 fits 4000
-  frames_in_7 b octets (Xid pf) = search rows depth 12 fits 4000
+      bit_leads _ (failed_7 up t code.O) (keeping_then (contents Established ns p octets) (number_7 up t nr _ (λ m. at_ends up (information_7 m))))
+  frames_in_7 b octets (ReceiveReady nr pf) = supervisory_7 false b pf nr (Established.either_way Established.acknowledged_in_7) (λ final m. at_ends up (acknowledged_7 m))
+  frames_in_7 b octets (ReceiveNotReady nr pf) =
+      supervisory_7 true b pf nr (Established.either_way Established.acknowledged_by_rnr_in_7)
+      (λ final m. at_ends up (keeping_then (acknowledge_knows up Established m) (start_knows up Established T200)))
+  frames_in_7 b octets (Reject nr pf) =
+      supervisory_7 false b pf nr (Established.either_way Established.acknowledged_by_rej_in_7)
+      (λ final m. at_ends up (keeping_then (acknowledge_knows up Established m) (keeping_then (send_again_knows up Established m) (start_knows up Established T203))))
+  frames_in_7 b octets (Sabme p) = search ends depth 12 fits 4000
+  frames_in_7 b octets (Disc p) = search ends depth 12 fits 4000
+  frames_in_7 b octets (Ua f) = search ends depth 12 fits 4000
+  frames_in_7 b octets (Dm true) = search ends depth 12 fits 4000
+  frames_in_7 b octets (Dm false) = failed_7 up t code.E
+  frames_in_7 b octets (Frmr f) = failed_7 up t code.K
+  frames_in_7 b octets (Ui p) = search ends depth 12 fits 4000
+  frames_in_7 b octets (Xid pf) = search ends depth 12 fits 4000
 
   frames_in_8 : (b : Bool) (octets : List ℕ) (control : Control) → Leads (At up TimerRecovery) (TimerRecovery.frame_in_8 t b octets control) (Ends up)
   frames_in_8 b octets (Information ns nr p) =
-      bit_leads _ (failed_8 up t code.O) (keeping_then (contents_8 ns p octets) (number_8 up t nr _ (λ m. at_ends up (acknowledge_knows up TimerRecovery m))))
-  frames_in_8 b octets (ReceiveReady nr pf) = search rows depth 12 fits 4000
-  frames_in_8 b octets (ReceiveNotReady nr pf) = search rows depth 12 fits 4000
-  frames_in_8 b octets (Reject nr pf) = search rows depth 12 fits 4000
-  frames_in_8 b octets (Sabme p) = search rows depth 12 fits 4000
-  frames_in_8 b octets (Disc p) = search rows depth 12 fits 4000
-  frames_in_8 b octets (Ua f) = search rows depth 12 fits 4000
-  frames_in_8 b octets (Dm true) = search rows depth 12 fits 4000
-  frames_in_8 b octets (Dm false) = search rows depth 12 fits 4000
-  frames_in_8 b octets (Frmr f) = search rows depth 12 fits 4000
-  frames_in_8 b octets (Ui p) = search rows depth 12 fits 4000
-  frames_in_8 b octets (Xid pf) = search rows depth 12 fits 4000
+      bit_leads _ (failed_8 up t code.O) (keeping_then (contents TimerRecovery ns p octets) (number_8 up t nr _ (λ m. at_ends up (acknowledge_knows up TimerRecovery m))))
+  frames_in_8 b octets (ReceiveReady nr pf) = supervisory_8 false b pf nr T203
+  frames_in_8 b octets (ReceiveNotReady nr pf) = supervisory_8 true b pf nr T200
+  frames_in_8 b octets (Reject nr pf) = supervisory_8 false b pf nr T203
+  frames_in_8 b octets (Sabme p) = search ends depth 12 fits 4000
+  frames_in_8 b octets (Disc p) = search ends depth 12 fits 4000
+  frames_in_8 b octets (Ua f) = search ends depth 12 fits 4000
+  frames_in_8 b octets (Dm true) = failed_8 up t code.B
+  frames_in_8 b octets (Dm false) = failed_8 up t code.E
+  frames_in_8 b octets (Frmr f) = failed_8 up t code.K
+  frames_in_8 b octets (Ui p) = search ends depth 12 fits 4000
+  frames_in_8 b octets (Xid pf) = search ends depth 12 fits 4000
 
   expired_knows : (here : State) (timer : LinkTimer) → Leads (At up here) (Machine.expired_in here timer t) (Ends up)
-  expired_knows TeiAssigned timer = search rows depth 12 fits 4000
-  expired_knows AwaitingEstablishment T200 = search rows depth 12 fits 4000
-  expired_knows AwaitingEstablishment T203 = search rows depth 12 fits 4000
-  expired_knows AwaitingRelease T200 = search rows depth 12 fits 4000
-  expired_knows AwaitingRelease T203 = search rows depth 12 fits 4000
-  expired_knows Established timer = search rows depth 12 fits 4000
-  expired_knows TimerRecovery T200 = search rows depth 12 fits 4000
-  expired_knows TimerRecovery T203 = search rows depth 12 fits 4000
+  expired_knows TeiAssigned timer = search ends depth 12 fits 4000
+  expired_knows AwaitingEstablishment T200 = search ends depth 12 fits 4000
+  expired_knows AwaitingEstablishment T203 = search ends depth 12 fits 4000
+  expired_knows AwaitingRelease T200 = search ends depth 12 fits 4000
+  expired_knows AwaitingRelease T203 = search ends depth 12 fits 4000
+  expired_knows Established timer = search ends depth 12 fits 4000
+  expired_knows TimerRecovery T200 = search ends depth 12 fits 4000
+  expired_knows TimerRecovery T203 = search ends depth 12 fits 4000
 
   malformed_knows : (here : State) (e : ErrorCode) → Leads (At up here) (Machine.malformed_in here t e) (Ends up)
-  malformed_knows TeiAssigned e = search rows depth 12 fits 4000
-  malformed_knows AwaitingEstablishment e = search rows depth 12 fits 4000
-  malformed_knows AwaitingRelease e = search rows depth 12 fits 4000
+  malformed_knows TeiAssigned e = search ends depth 12 fits 4000
+  malformed_knows AwaitingEstablishment e = search ends depth 12 fits 4000
+  malformed_knows AwaitingRelease e = search ends depth 12 fits 4000
   malformed_knows Established e = failed_7 up t e
   malformed_knows TimerRecovery e = failed_8 up t e
 
   release_knows : (here : State) → Leads (At up here) (Requests.release_in here t) (Ends up)
   release_knows TeiAssigned = at_ends up (confirms_in_4 up t)
-  release_knows AwaitingEstablishment = search rows depth 12 fits 4000
-  release_knows AwaitingRelease = search rows depth 12 fits 4000
-  release_knows Established = search rows depth 12 fits 4000
-  release_knows TimerRecovery = search rows depth 12 fits 4000
+  release_knows AwaitingEstablishment = search ends depth 12 fits 4000
+  release_knows AwaitingRelease = search ends depth 12 fits 4000
+  release_knows Established = search ends depth 12 fits 4000
+  release_knows TimerRecovery = search ends depth 12 fits 4000
 
   establish_knows : Leads (At up TeiAssigned) (establish_in_4 t) (Ends up)
-  establish_knows = search rows depth 12 fits 4000
+  establish_knows = search ends depth 12 fits 4000
 
   set_busy_knows : (here : State) → Leads (At up here) (MultipleFrame.set_busy_in_7_8 t) (Ends up)
-  set_busy_knows here = search rows depth 12 fits 4000
+  set_busy_knows here = search ends depth 12 fits 4000
 
   clear_busy_knows : (here : State) → Leads (At up here) (MultipleFrame.clear_busy_in_7_8 t) (Ends up)
-  clear_busy_knows here = search rows depth 12 fits 4000
+  clear_busy_knows here = search ends depth 12 fits 4000
 
   frame_knows : (here : State) (b : Bool) (octets : List ℕ) (control : Control) → Leads (At up here) (Machine.frame_in here t b octets control) (Ends up)
   frame_knows TeiAssigned b octets control = frames_in_4 octets control
@@ -131,8 +173,8 @@ module _ (up : Bool) (t : Terms) where
   frame_knows TimerRecovery b octets control = frames_in_8 b octets control
 
   offers_know : (here : State) (ws : List ControlFrame) → Leads (At up here) (Offers.offer_among t ws) (Ends up)
-  offers_know here [] = search rows depth 12 fits 4000
-  offers_know here (f ∷ fs) = search rows depth 12 fits 4000
+  offers_know here [] = search ends depth 12 fits 4000
+  offers_know here (f ∷ fs) = search ends depth 12 fits 4000
 
 -- the TEI leaves the line
 cleared-knows : (t : Terms) (here : State) (l : Link) → known (is_up_in here l) (Machine.told_of_clearing here t (begun l)).notes ≡ false

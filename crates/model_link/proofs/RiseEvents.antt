@@ -48,10 +48,6 @@ module _ (t : Terms) (r : IsInRange t) (l : Link) (h : IsSound t l) where
   unfolding worth
   one x = spend anything (may_send t l + 1) (coin empty) tt (omega arith) x
 
-  none : {f : Step} → Leads (Owes t (may_send t l) anything empty) f (Within t (may_send t l)) → owed t (f (begun l)) ≤ may_send t l
-  unfolding worth
-  none x = spend anything (may_send t l) empty tt (omega arith) x
-
   -- Frames in state 7, but for REJ, and in state 8.
   in-7 : (e : l.state ≡ Established) (b : Bool) (octets : List ℕ) (nr : Seq) (pf : Bool)
       → (o : Option ℕ) → named l.a l.s nr ≡ o

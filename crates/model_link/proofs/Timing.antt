@@ -165,9 +165,6 @@ module _ {X : Course → Type 0} where
   pub zero_told_enters_7 : (t : Terms) → Leads X (Words.zero_numbers then Words.start T203 then Words.establish_indication t then Words.enter Established) Ends
   zero_told_enters_7 t = record { leads = λ c h. record { timer = inr (refl, omega arith) } }
 
-  pub re_establish_timed : (t : Terms) → Leads X (Words.re_establish t) Ends
-  re_establish_timed t = record { leads = λ c h. record { timer = refl } }
-
   pub failed_timed : (t : Terms) (e : ErrorCode) → Leads X (MultipleFrame.failed t e) Ends
   failed_timed t e = record { leads = λ c h. record { timer = refl } }
 

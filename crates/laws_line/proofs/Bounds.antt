@@ -77,6 +77,11 @@ fresh-few c = let eight : length (left_of (fresh_line c)) ≡ 8 = refl in omega 
 abbrev SameText : Line → Line → Type 0
 SameText l l' = left_of l' ≡ left_of l
 
+by-change : (c : Config) (o : Option Change) (t : LineTold) (l : Line) → SameText l (of_change c o t l).line
+by-change c None t l = refl
+by-change c (Some (Gained tei place)) t l = refl
+by-change c (Some (Left tei place)) t l = refl
+
 by-aim : (c : Config) (l : Line) (aim : Aim) → SameText l (of_aim c aim l).line
 by-aim c l (at_none what) = refl
 by-aim c l (at_link service tei place e) = refl

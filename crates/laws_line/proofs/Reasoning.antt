@@ -172,6 +172,16 @@ module _ (c : Config) (l : Line) (e : Event) where
   link-noted : (t : Terms) (what : link.Event) (x : Link) → All P (links.told t what x).notes
   link-noted t what x = All-weaker (IsOwn t) P (λ n h. own t n h) (links.told t what x).notes (notes-own t what x)
 
+  change-noted : (o : Option Change) (t : LineTold) (at : Line) → All P t.notes → All P (of_change c o t at).told.notes
+  change-noted None t at h = h
+  change-noted (Some (Gained tei place)) t at h = h
+  change-noted (Some (Left tei place)) t at h =
+      let call = of_link c Call tei place link.cleared at in
+      let packet = of_link c Packet tei place link.cleared call.line in
+      All-append P (t.notes ++ call.told.notes) packet.told.notes
+      (All-append P t.notes call.told.notes h (link-noted (terms c Call tei) link.cleared (link_in at Call place)))
+      (link-noted (terms c Packet tei) link.cleared (link_in call.line Packet place))
+
   management-noted : (what : teis.Event) (at : Line) → All P (teis.told what at.management).notes → All P (of_aim c (at_management what) at).told.notes
   management-noted what at h =
       change-noted (teis.told what at.management).change (told_of_management (teis.told what at.management)) (record at { management = teis.after what at.management }) h

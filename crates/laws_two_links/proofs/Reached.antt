@@ -47,6 +47,12 @@ pub record Whole (e : Ends) : Type 0 where
   sane : BothSane e
   same : e.near.terms.n201 ≡ e.far.terms.n201
 
+all-whole : (ds : List Doing) (e : Ends) → StayUp ds e → Whole e → Whole (doing_all ds e)
+unfolding doing_all StayUp
+all-whole [] e up h = h
+all-whole (d ∷ ds) e up h =
+    all-whole ds (doing d e) up.1 (record { joined = done-at d e up.0 h.joined; sane = sane-doing d e h.sane; same = same-after d e h.same })
+
 begins-sane : (n : End) → Begins n → IsTimed n.link → Sane n.link
 begins-sane n b timed =
     record {

@@ -135,6 +135,10 @@ carries : (a b : Bool) → (a && b) ≡ true → a ≡ true
 carries true b e = refl
 carries false b e = e
 
+neither : {X : Type 0} (b : Bool) (x y : X) → x ≡ y → cond b x y ≡ y
+neither true x y e = e
+neither false x y e = refl
+
 module _ (c : Config) (number : ℕ) (l : Line) where
   abbrev Quiet : Aim → Type 0
   Quiet aim = (arrived_aimed c number l aim ≡ None) × (restarts_aimed c number l aim ≡ false)

@@ -59,6 +59,22 @@ module _ (c : Config) where
       let front = length-append xs ys in
       omega (arith, whole, rest, other_whole, front, x, y, z)
 
+  change_short : (o : Option Change) (t : tei.TeiTold) (l : Line) → IsBrief t → IsShort (of_change c o (told_of_management t) l).told
+  change_short None t l h = record { notes = omega (arith, h.notes); orders = omega (arith, h.orders) }
+  change_short (Some (Gained n place)) t l h = record { notes = omega (arith, h.notes); orders = omega (arith, h.orders) }
+  change_short (Some (Left n place)) t l h =
+      let call = of_link c Call n place link.cleared l in
+      let first = link_in l Call place in
+      let second = link_in call.line Packet place in
+      record {
+        notes =
+            three t.notes call.told.notes (of_link c Packet n place link.cleared call.line).told.notes h.notes
+            (cleared-tells (terms c Call n) first) (cleared-tells (terms c Packet n) second);
+        orders =
+            three call.told.orders (of_link c Packet n place link.cleared call.line).told.orders t.orders
+            (cleared-orders (terms c Call n) first) (cleared-orders (terms c Packet n) second) h.orders;
+      }
+
   management_short : (e : teis.Event) (l : Line) → IsShort (of_management c e l).told
   management_short e l =
       change_short (teis.told e l.management).change (teis.told e l.management) (record l { management = teis.after e l.management })

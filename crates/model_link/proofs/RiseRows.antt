@@ -1,5 +1,5 @@
 -- Each row of the tables costs no more frames than its event's price.
-use Rattle.std.proofs.Common.{◌≡◌, ℕ, ◌+◌, ◌-◌, ◌≤◌, Bool, true, false, IsTrue, List, length, take, drop, Option, Some, None, refl, sym, ◌∙◌, ap, le_refl, arith, length-take-le, length-drop}
+use Rattle.std.proofs.Common.{◌≡◌, ℕ, ◌+◌, ◌-◌, ◌≤◌, Bool, true, false, ◌&&◌, IsTrue, List, length, take, drop, Option, Some, None, refl, sym, ◌∙◌, ap, le_refl, arith, length-take-le, length-drop}
 use Rattle.lapd_seq.specs.declared.numbers.Seq.{Seq}
 use Rattle.lapd_seq.specs.Circle.{named}
 use Rattle.lapd_frame.specs.declared.controls.Control.{Control}
@@ -9,11 +9,12 @@ use Rattle.lapd_frame.specs.declared.notes.ErrorCode.TheVariants as code
 use Rattle.model_link.specs.declared.states.State.{State}
 use Rattle.model_link.specs.declared.states.State.TheVariants.{TeiAssigned, AwaitingEstablishment, AwaitingRelease, Established, TimerRecovery}
 use Rattle.model_link.specs.declared.timers.LinkTimer.{LinkTimer}
+use Rattle.model_link.specs.declared.timers.LinkTimer.TheVariants.{T200, T203}
 use Rattle.model_link.specs.declared.terms.Terms.{Terms}
-use Rattle.model_link.specs.Link.{is_multiple_frame}
+use Rattle.model_link.specs.Link.{is_multiple_frame, is_peer_busy}
 use Rattle.model_link.specs.Rises.{window_back}
 use Rattle.model_link.specs.Sound.{IsInRange}
-use Rattle.model_link.specs.Steps.{Course, Step, ◌then◌}
+use Rattle.model_link.specs.Steps.{Course, Step, ◌then◌, nothing}
 use Rattle.model_link.specs.Words
 use Rattle.model_link.specs.TeiAssigned.{frame_in_4, establish_in_4}
 use Rattle.model_link.specs.AwaitingEstablishment.{frame_in_5, t200_in_5}
@@ -230,29 +231,53 @@ module _ (t : Terms) (r : IsInRange t) (total : ℕ) where
   information_costs ns nr b octets f x =
       bit_leads _ (failed_costs code.O) (spending_then (contents_cost ns b octets) x)
 
-  -- state 7, but for REJ with a valid N(R)
-  pub information_in_7 : {p : Purse} (ns nr : Seq) (b : Bool) (octets : List ℕ)
-      → Leads (Owes t total multiple (coin (coin p))) (MultipleFrame.information_in_7_8 t ns nr b octets Established.acknowledged_by_information_in_7) (Within t total)
-  information_in_7 ns nr b octets = information_costs ns nr b octets Established.acknowledged_by_information_in_7 (search (rows, number_in_7, acknowledge_free) depth 12 fits 4000)
+  -- supervisory frames, by what is told of them and what their N(R) does
+  answered_costs : {X : Claim} {p : Purse} (b pf : Bool) → Leads (Owes t total X (coin p)) (MultipleFrame.answered t b pf) (Owes t total X p)
+  answered_costs b pf = bit_leads (b && pf) (answer_paid t r total _ _) (unspent nothing_leads)
+
+  supervisory_costs : {X : Claim} {p : Purse} (own : MultipleFrame.Particulars) (busy b pf : Bool) (nr : Seq) (effect : Bool → ℕ → Step)
+      → ((final : Bool) → Leads (Owes t total X (coin p)) (own.told_of final) (Owes t total X (coin p)))
+      → Leads (Owes t total X (coin p)) (Words.by_number t nr (effect (MultipleFrame.is_final b pf))) (Within t total)
+      → Leads (Owes t total X (coin (coin p))) (MultipleFrame.supervisory t own busy b pf nr effect) (Within t total)
+  supervisory_costs own busy b pf nr effect y x =
+      keeping_then (peer_busy_free t total _ _ busy) (spending_then (answered_costs b pf) (keeping_then (y (MultipleFrame.is_final b pf)) x))
+
+  told_in_7 : {X : Claim} {p : Purse} (final : Bool) → Leads (Owes t total X p) (Established.unsolicited t final) (Owes t total X p)
+  told_in_7 final = bit_leads final (note_free t total _ _ _) nothing_leads
+
+  recovered_in_8 : {p : Purse} (timer : LinkTimer) (final : Bool) (m : ℕ) → Leads (Owes t total (recovering m) p) (TimerRecovery.acknowledged_in_8 timer final m) (Within t total)
+  recovered_in_8 timer final m = bit_leads final (recovered_ends t total timer m) (acknowledge_ends t total m)
 
   acknowledged_in_7 : {p : Purse} (m : ℕ) → Leads (Owes t total (names m) p) (Established.acknowledged_in_7 m) (Within t total)
   acknowledged_in_7 m = search (keeping_then, nothing_leads, depending_leads, free_ends, start_free, acknowledge_free) depth 12 fits 4000
 
+  -- state 7, but for REJ with a valid N(R)
+  pub information_in_7 : {p : Purse} (ns nr : Seq) (b : Bool) (octets : List ℕ)
+      → Leads (Owes t total multiple (coin (coin p))) (MultipleFrame.information_in_7_8 t ns nr b octets Established.acknowledged_by_information_in_7) (Within t total)
+  information_in_7 ns nr b octets = information_costs ns nr b octets Established.acknowledged_by_information_in_7 (number_in_7 nr (λ m. depending_leads is_peer_busy (acknowledge_ends t total m) (acknowledged_in_7 m)))
+
   pub rr_in_7 : {p : Purse} (b : Bool) (octets : List ℕ) (nr : Seq) (pf : Bool)
       → Leads (Owes t total multiple (coin (coin p))) (Established.frame_in_7 t b octets (ReceiveReady nr pf)) (Within t total)
-  rr_in_7 b octets nr pf = search (words, number_in_7, acknowledged_in_7) depth 12 fits 4000
+  rr_in_7 b octets nr pf =
+      supervisory_costs (Established.particulars_in_7 t) false b pf nr (Established.either_way Established.acknowledged_in_7) told_in_7 (number_in_7 nr acknowledged_in_7)
 
   pub rnr_in_7 : {p : Purse} (b : Bool) (octets : List ℕ) (nr : Seq) (pf : Bool)
       → Leads (Owes t total multiple (coin (coin p))) (Established.frame_in_7 t b octets (ReceiveNotReady nr pf)) (Within t total)
-  rnr_in_7 b octets nr pf = search (rows, number_in_7, acknowledge_free) depth 12 fits 4000
+  rnr_in_7 b octets nr pf =
+      supervisory_costs (Established.particulars_in_7 t) true b pf nr (Established.either_way Established.acknowledged_by_rnr_in_7) told_in_7
+      (number_in_7 nr (λ m. keeping_then (acknowledge_free m) (free_ends (start_free t total _ _ T200))))
 
   pub rej_in_7 : {p : Purse} (b : Bool) (octets : List ℕ) (nr : Seq) (pf : Bool)
       → Leads (Owes t total multiple (coin (coin (window p)))) (Established.frame_in_7 t b octets (Reject nr pf)) (Within t total)
-  rej_in_7 b octets nr pf = search (rows, number_in_7, reject_ends) depth 12 fits 4000
+  rej_in_7 b octets nr pf =
+      supervisory_costs (Established.particulars_in_7 t) false b pf nr (Established.either_way Established.acknowledged_by_rej_in_7) told_in_7
+      (number_in_7 nr (λ m. loosen (reject_ends t total m)))
 
   pub bad_rej_in_7 : {p : Purse} (b : Bool) (octets : List ℕ) (nr : Seq) (pf : Bool)
       → Leads (Owes t total (unnamed nr) (coin (coin p))) (Established.frame_in_7 t b octets (Reject nr pf)) (Within t total)
-  bad_rej_in_7 b octets nr pf = search (rows, number_unnamed) depth 12 fits 4000
+  bad_rej_in_7 b octets nr pf =
+      supervisory_costs (Established.particulars_in_7 t) false b pf nr (Established.either_way Established.acknowledged_by_rej_in_7) told_in_7
+      (number_unnamed nr Established.acknowledged_by_rej_in_7)
 
   pub ua_in_7 : {X : Claim} {p : Purse} (f : Bool) → Leads (Owes t total X p) (MultipleFrame.ua_in_7_8 t f) (Within t total)
   ua_in_7 f = search rows depth 12 fits 4000
@@ -263,19 +288,25 @@ module _ (t : Terms) (r : IsInRange t) (total : ℕ) where
   -- state 8
   pub information_in_8 : {p : Purse} (ns nr : Seq) (b : Bool) (octets : List ℕ)
       → Leads (Owes t total in_8 (coin (coin p))) (MultipleFrame.information_in_7_8 t ns nr b octets Words.acknowledge) (Within t total)
-  information_in_8 ns nr b octets = information_costs ns nr b octets Words.acknowledge (search (rows, number_in_8) depth 12 fits 4000)
+  information_in_8 ns nr b octets = information_costs ns nr b octets Words.acknowledge (number_in_8 nr (λ m. acknowledge_ends t total m))
 
   pub supervisory_in_8 : {p : Purse} (b : Bool) (octets : List ℕ) (nr : Seq) (pf : Bool)
       → Leads (Owes t total in_8 (coin (coin p))) (TimerRecovery.frame_in_8 t b octets (ReceiveReady nr pf)) (Within t total)
-  supervisory_in_8 b octets nr pf = search (rows, number_in_8, recovered_ends) depth 12 fits 4000
+  supervisory_in_8 b octets nr pf =
+      supervisory_costs (TimerRecovery.particulars_in_8 t) false b pf nr (TimerRecovery.acknowledged_in_8 T203) (λ final. nothing_leads)
+      (number_in_8 nr (recovered_in_8 T203 (MultipleFrame.is_final b pf)))
 
   pub rnr_in_8 : {p : Purse} (b : Bool) (octets : List ℕ) (nr : Seq) (pf : Bool)
       → Leads (Owes t total in_8 (coin (coin p))) (TimerRecovery.frame_in_8 t b octets (ReceiveNotReady nr pf)) (Within t total)
-  rnr_in_8 b octets nr pf = search (rows, number_in_8, recovered_ends) depth 12 fits 4000
+  rnr_in_8 b octets nr pf =
+      supervisory_costs (TimerRecovery.particulars_in_8 t) true b pf nr (TimerRecovery.acknowledged_in_8 T200) (λ final. nothing_leads)
+      (number_in_8 nr (recovered_in_8 T200 (MultipleFrame.is_final b pf)))
 
   pub rej_in_8 : {p : Purse} (b : Bool) (octets : List ℕ) (nr : Seq) (pf : Bool)
       → Leads (Owes t total in_8 (coin (coin p))) (TimerRecovery.frame_in_8 t b octets (Reject nr pf)) (Within t total)
-  rej_in_8 b octets nr pf = search (rows, number_in_8, recovered_ends) depth 12 fits 4000
+  rej_in_8 b octets nr pf =
+      supervisory_costs (TimerRecovery.particulars_in_8 t) false b pf nr (TimerRecovery.acknowledged_in_8 T203) (λ final. nothing_leads)
+      (number_in_8 nr (recovered_in_8 T203 (MultipleFrame.is_final b pf)))
 
   pub t200_costs_8 : {X : Claim} {p : Purse} → Leads (Owes t total X (coin p)) (TimerRecovery.t200_in_8 t) (Within t total)
   t200_costs_8 = search (rows, failed_costs) depth 12 fits 4000

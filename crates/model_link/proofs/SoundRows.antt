@@ -1,5 +1,5 @@
 -- Each row of the tables leads from a sound link to a sound link: acknowledgements, and the rows by state.
-use Rattle.std.proofs.Common.{◌≡◌, ℕ, ◌+◌, ◌≤◌, Bool, true, false, cond, List, length, Option, Some, None, refl, arith}
+use Rattle.std.proofs.Common.{◌≡◌, ℕ, ◌+◌, ◌≤◌, Bool, true, false, ◌&&◌, cond, List, length, Option, Some, None, refl, arith}
 use Rattle.std.specs.Prelude.{nat_le}
 use Rattle.std.proofs.lemmas.Bool.{leb-true}
 use Rattle.lapd_seq.specs.declared.numbers.Seq.{Seq}
@@ -10,9 +10,12 @@ use Rattle.lapd_frame.specs.declared.controls.Control.TheVariants.{Information, 
 use Rattle.lapd_frame.specs.declared.notes.ErrorCode.{ErrorCode}
 use Rattle.lapd_frame.specs.declared.notes.ErrorCode.TheVariants as code
 use Rattle.model_link.specs.declared.states.State.TheVariants.{TeiAssigned, AwaitingRelease}
+use Rattle.model_link.specs.declared.timers.LinkTimer.{LinkTimer}
+use Rattle.model_link.specs.declared.timers.LinkTimer.TheVariants.{T200, T203}
 use Rattle.model_link.specs.declared.frames.ControlFrame.{ControlFrame}
 use Rattle.model_link.specs.declared.terms.Terms.{Terms}
-use Rattle.model_link.specs.Steps.{Course, Step, ◌then◌}
+use Rattle.model_link.specs.Link.{is_peer_busy}
+use Rattle.model_link.specs.Steps.{Course, Step, ◌then◌, nothing}
 use Rattle.model_link.specs.Words
 use Rattle.model_link.specs.TeiAssigned.{frame_in_4, establish_in_4}
 use Rattle.model_link.specs.AwaitingEstablishment.{frame_in_5, t200_in_5}
@@ -165,12 +168,43 @@ module _ (t : Terms) (r : t.tei ≤ 126) where
       → Leads (Bound t multiple) (MultipleFrame.information_in_7_8 t ns nr p octets f) (Bound t settled)
   information_leads ns nr p octets f x = bit_leads _ (failed_leads code.O) (keeping_then (contents_lead ns p octets) (number_leads t r nr x))
 
+  answered : {X : Claim} (b pf : Bool) → Leads (Bound t X) (MultipleFrame.answered t b pf) (Bound t X)
+  answered b pf = bit_leads (b && pf) (answer_keeps t r _) nothing_leads
+
+  supervisory_leads : (own : MultipleFrame.Particulars) (busy b pf : Bool) (nr : Seq) (effect : Bool → ℕ → Step)
+      → ((final : Bool) → Leads (Bound t multiple) (own.told_of final) (Bound t multiple))
+      → ((final : Bool) (m : ℕ) → Leads (Bound t (names m)) (effect final m) (Bound t settled))
+      → Leads (Bound t multiple) (MultipleFrame.supervisory t own busy b pf nr effect) (Bound t settled)
+  supervisory_leads own busy b pf nr effect y x =
+      keeping_then (peer_busy_keeps t _ busy)
+      (keeping_then (answered b pf) (keeping_then (y (MultipleFrame.is_final b pf)) (number_leads t r nr (x (MultipleFrame.is_final b pf)))))
+
+  unsolicited : (final : Bool) → Leads (Bound t multiple) (Established.unsolicited t final) (Bound t multiple)
+  unsolicited final = bit_leads final (note_keeps t multiple _) nothing_leads
+
+  acknowledges : (m : ℕ) (timer : LinkTimer) → Leads (Bound t (names m)) (Words.acknowledge m then Words.start timer) (Bound t settled)
+  acknowledges m timer = names_ends t (keeping_then (acknowledge_keeps t r m) (start_keeps t _ timer))
+
+  acknowledged_7 : (m : ℕ) → Leads (Bound t (names m)) (Established.acknowledged_in_7 m) (Bound t settled)
+  acknowledged_7 m =
+      depending_leads (Established.is_all_sent m) (acknowledges m T203)
+      (depending_leads (Established.is_beyond_acknowledged m) (acknowledges m T200) (names_ends t nothing_leads))
+
+  sent_again_7 : (m : ℕ) → Leads (Bound t (names m)) (Established.acknowledged_by_rej_in_7 m) (Bound t settled)
+  sent_again_7 m = names_ends t (keeping_then (acknowledge_keeps t r m) (keeping_then (send_again_keeps t r m) (start_keeps t _ T203)))
+
+  recovered_8 : (timer : LinkTimer) (final : Bool) (m : ℕ) → Leads (Bound t (names m)) (TimerRecovery.acknowledged_in_8 timer final m) (Bound t settled)
+  recovered_8 timer final m = search (ends, acknowledge_keeps, send_again_keeps) depth 12 fits 4000
+
   pub frames_in_7 : (is_command : Bool) (octets : List ℕ) (control : Control)
       → Leads (Bound t multiple) (Established.frame_in_7 t is_command octets control) (Bound t settled)
-  frames_in_7 b octets (Information ns nr p) = information_leads ns nr p octets Established.acknowledged_by_information_in_7 (λ m. search (ends, acknowledge_keeps) depth 12 fits 4000)
-  frames_in_7 b octets (ReceiveReady nr pf) = search (ends, number_leads, acknowledge_keeps) depth 12 fits 4000
-  frames_in_7 b octets (ReceiveNotReady nr pf) = search (ends, number_leads, acknowledge_keeps) depth 12 fits 4000
-  frames_in_7 b octets (Reject nr pf) = search (ends, number_leads, acknowledge_keeps, send_again_keeps) depth 12 fits 4000
+  frames_in_7 b octets (Information ns nr p) = information_leads ns nr p octets Established.acknowledged_by_information_in_7 (λ m. depending_leads is_peer_busy (names_ends t (acknowledge_keeps t r m)) (acknowledged_7 m))
+  frames_in_7 b octets (ReceiveReady nr pf) =
+      supervisory_leads (Established.particulars_in_7 t) false b pf nr (Established.either_way Established.acknowledged_in_7) unsolicited (λ final m. acknowledged_7 m)
+  frames_in_7 b octets (ReceiveNotReady nr pf) =
+      supervisory_leads (Established.particulars_in_7 t) true b pf nr (Established.either_way Established.acknowledged_by_rnr_in_7) unsolicited (λ final m. acknowledges m T200)
+  frames_in_7 b octets (Reject nr pf) =
+      supervisory_leads (Established.particulars_in_7 t) false b pf nr (Established.either_way Established.acknowledged_by_rej_in_7) unsolicited (λ final m. sent_again_7 m)
   frames_in_7 b octets (Sabme p) = sabme_leads p
   frames_in_7 b octets (Disc p) = disc_leads p
   frames_in_7 b octets (Ua f) = search ends depth 12 fits 4000
@@ -185,10 +219,13 @@ module _ (t : Terms) (r : t.tei ≤ 126) where
 
   pub frames_in_8 : (is_command : Bool) (octets : List ℕ) (control : Control)
       → Leads (Bound t multiple) (TimerRecovery.frame_in_8 t is_command octets control) (Bound t settled)
-  frames_in_8 b octets (Information ns nr p) = information_leads ns nr p octets Words.acknowledge (λ m. search (ends, acknowledge_keeps) depth 12 fits 4000)
-  frames_in_8 b octets (ReceiveReady nr pf) = search (ends, number_leads, acknowledge_keeps, send_again_keeps) depth 12 fits 4000
-  frames_in_8 b octets (ReceiveNotReady nr pf) = search (ends, number_leads, acknowledge_keeps, send_again_keeps) depth 12 fits 4000
-  frames_in_8 b octets (Reject nr pf) = search (ends, number_leads, acknowledge_keeps, send_again_keeps) depth 12 fits 4000
+  frames_in_8 b octets (Information ns nr p) = information_leads ns nr p octets Words.acknowledge (λ m. names_ends t (acknowledge_keeps t r m))
+  frames_in_8 b octets (ReceiveReady nr pf) =
+      supervisory_leads (TimerRecovery.particulars_in_8 t) false b pf nr (TimerRecovery.acknowledged_in_8 T203) (λ final. nothing_leads) (recovered_8 T203)
+  frames_in_8 b octets (ReceiveNotReady nr pf) =
+      supervisory_leads (TimerRecovery.particulars_in_8 t) true b pf nr (TimerRecovery.acknowledged_in_8 T200) (λ final. nothing_leads) (recovered_8 T200)
+  frames_in_8 b octets (Reject nr pf) =
+      supervisory_leads (TimerRecovery.particulars_in_8 t) false b pf nr (TimerRecovery.acknowledged_in_8 T203) (λ final. nothing_leads) (recovered_8 T203)
   frames_in_8 b octets (Sabme p) = sabme_leads p
   frames_in_8 b octets (Disc p) = disc_leads p
   frames_in_8 b octets (Ua f) = search ends depth 12 fits 4000

@@ -13,7 +13,7 @@ use Rattle.model_link.specs.declared.timers.LinkTimer.{LinkTimer}
 use Rattle.model_link.specs.declared.timers.LinkTimer.TheVariants.{T200, T203}
 use Rattle.model_link.specs.declared.frames.ControlFrame.{ControlFrame}
 use Rattle.model_link.specs.declared.terms.Terms.{Terms}
-use Rattle.model_link.specs.Link.{Link, is_own_busy, is_rejecting, is_peer_busy}
+use Rattle.model_link.specs.Link.{Link, has_outstanding, is_own_busy, is_rejecting, is_peer_busy}
 use Rattle.model_link.specs.Events
 use Rattle.model_link.specs.Steps.{Course, begun, Step, ◌then◌, nothing, by_bit}
 use Rattle.model_link.specs.Words
@@ -28,7 +28,7 @@ use Rattle.model_link.specs.Offers
 use Rattle.model_link.specs.Machine
 use Rattle.model_link.proofs.Leads.{Leads, then_leads, keeping_then, nothing_leads, depending_leads, bit_leads}
 use Rattle.model_link.specs.Known.{known, is_up_in, is_up}
-use Rattle.model_link.proofs.Knowing.{up_by, is-up-by, At, Ends, at_ends, acknowledge_knows, transfer_knows, answer_knows, count_knows, rejecting_knows, deliver_knows, pending_knows, reject_knows, peer_busy_knows, note_knows, send_again_knows, start_knows, enters_7_from_8, confirms_in_4, established_up, zero_enters, words, ends, failed_7, failed_8, number_7, number_8}
+use Rattle.model_link.proofs.Knowing.{up_by, is-up-by, At, Ends, at_ends, acknowledge_knows, transfer_knows, own_busy_knows, report_knows, send_knows, flags_knows, zero_knows, discard_knows, repeats_knows, indication_7, indication_8, indicates_release, enters_7_from_7, enters_6_from_7, enters_6_from_8, answer_knows, count_knows, rejecting_knows, deliver_knows, pending_knows, reject_knows, peer_busy_knows, note_knows, send_again_knows, start_knows, enters_7_from_8, confirms_in_4, established_up, zero_enters, words, ends, failed_7, failed_8, number_7, number_8}
 
 module _ (up : Bool) (t : Terms) where
   frames_in_4 : (octets : List ℕ) (control : Control) → Leads (At up TeiAssigned) (frame_in_4 t octets control) (Ends up)
@@ -98,6 +98,36 @@ module _ (up : Bool) (t : Terms) where
   information_7 : (m : ℕ) → Leads (At up Established) (Established.acknowledged_by_information_in_7 m) (At up Established)
   information_7 m = depending_leads is_peer_busy (acknowledge_knows up Established m) (acknowledged_7 m)
 
+  sabme_7 : (p : Bool) → Leads (At up Established) (MultipleFrame.sabme_in_7_8 t p) (Ends up)
+  sabme_7 p =
+      keeping_then (send_knows up Established t (Words.response (Ua p))) (keeping_then (flags_knows up Established) (keeping_then (note_knows up Established _ refl)
+      (keeping_then (depending_leads has_outstanding (keeping_then (discard_knows up Established) (indication_7 up t)) nothing_leads)
+      (keeping_then (zero_knows up Established) (keeping_then (start_knows up Established T203) (enters_7_from_7 up))))))
+
+  disc_7 : (p : Bool) → Leads (At up Established) (MultipleFrame.disc_in_7_8 t p) (Ends up)
+  disc_7 p =
+      keeping_then (discard_knows up Established) (keeping_then (pending_knows up Established false) (keeping_then (send_knows up Established t (Words.response (Ua p))) (indicates_release up t)))
+
+  release_7 : Leads (At up Established) (MultipleFrame.release_in_7_8 t) (Ends up)
+  release_7 =
+      keeping_then (discard_knows up Established) (keeping_then (pending_knows up Established false) (keeping_then (send_knows up Established t (Words.command (Disc true)))
+      (keeping_then (repeats_knows up Established 0) (keeping_then (start_knows up Established T200) (enters_6_from_7 up)))))
+
+  sabme_8 : (p : Bool) → Leads (At up TimerRecovery) (MultipleFrame.sabme_in_7_8 t p) (Ends up)
+  sabme_8 p =
+      keeping_then (send_knows up TimerRecovery t (Words.response (Ua p))) (keeping_then (flags_knows up TimerRecovery) (keeping_then (note_knows up TimerRecovery _ refl)
+      (keeping_then (depending_leads has_outstanding (keeping_then (discard_knows up TimerRecovery) (indication_8 up t)) nothing_leads)
+      (keeping_then (zero_knows up TimerRecovery) (keeping_then (start_knows up TimerRecovery T203) (enters_7_from_8 up))))))
+
+  disc_8 : (p : Bool) → Leads (At up TimerRecovery) (MultipleFrame.disc_in_7_8 t p) (Ends up)
+  disc_8 p =
+      keeping_then (discard_knows up TimerRecovery) (keeping_then (pending_knows up TimerRecovery false) (keeping_then (send_knows up TimerRecovery t (Words.response (Ua p))) (indicates_release up t)))
+
+  release_8 : Leads (At up TimerRecovery) (MultipleFrame.release_in_7_8 t) (Ends up)
+  release_8 =
+      keeping_then (discard_knows up TimerRecovery) (keeping_then (pending_knows up TimerRecovery false) (keeping_then (send_knows up TimerRecovery t (Words.command (Disc true)))
+      (keeping_then (repeats_knows up TimerRecovery 0) (keeping_then (start_knows up TimerRecovery T200) (enters_6_from_8 up)))))
+
   frames_in_7 : (b : Bool) (octets : List ℕ) (control : Control) → Leads (At up Established) (Established.frame_in_7 t b octets control) (Ends up)
   frames_in_7 b octets (Information ns nr p) =
       bit_leads _ (failed_7 up t code.O) (keeping_then (contents Established ns p octets) (number_7 up t nr _ (λ m. at_ends up (information_7 m))))
@@ -108,8 +138,8 @@ module _ (up : Bool) (t : Terms) where
   frames_in_7 b octets (Reject nr pf) =
       supervisory_7 false b pf nr (Established.either_way Established.acknowledged_by_rej_in_7)
       (λ final m. at_ends up (keeping_then (acknowledge_knows up Established m) (keeping_then (send_again_knows up Established m) (start_knows up Established T203))))
-  frames_in_7 b octets (Sabme p) = search ends depth 12 fits 4000
-  frames_in_7 b octets (Disc p) = search ends depth 12 fits 4000
+  frames_in_7 b octets (Sabme p) = sabme_7 p
+  frames_in_7 b octets (Disc p) = disc_7 p
   frames_in_7 b octets (Ua f) = search ends depth 12 fits 4000
   frames_in_7 b octets (Dm true) = search ends depth 12 fits 4000
   frames_in_7 b octets (Dm false) = failed_7 up t code.E
@@ -123,8 +153,8 @@ module _ (up : Bool) (t : Terms) where
   frames_in_8 b octets (ReceiveReady nr pf) = supervisory_8 false b pf nr T203
   frames_in_8 b octets (ReceiveNotReady nr pf) = supervisory_8 true b pf nr T200
   frames_in_8 b octets (Reject nr pf) = supervisory_8 false b pf nr T203
-  frames_in_8 b octets (Sabme p) = search ends depth 12 fits 4000
-  frames_in_8 b octets (Disc p) = search ends depth 12 fits 4000
+  frames_in_8 b octets (Sabme p) = sabme_8 p
+  frames_in_8 b octets (Disc p) = disc_8 p
   frames_in_8 b octets (Ua f) = search ends depth 12 fits 4000
   frames_in_8 b octets (Dm true) = failed_8 up t code.B
   frames_in_8 b octets (Dm false) = failed_8 up t code.E
@@ -153,17 +183,17 @@ module _ (up : Bool) (t : Terms) where
   release_knows TeiAssigned = at_ends up (confirms_in_4 up t)
   release_knows AwaitingEstablishment = search ends depth 12 fits 4000
   release_knows AwaitingRelease = search ends depth 12 fits 4000
-  release_knows Established = search ends depth 12 fits 4000
-  release_knows TimerRecovery = search ends depth 12 fits 4000
+  release_knows Established = release_7
+  release_knows TimerRecovery = release_8
 
   establish_knows : Leads (At up TeiAssigned) (establish_in_4 t) (Ends up)
   establish_knows = search ends depth 12 fits 4000
 
   set_busy_knows : (here : State) → Leads (At up here) (MultipleFrame.set_busy_in_7_8 t) (Ends up)
-  set_busy_knows here = search ends depth 12 fits 4000
+  set_busy_knows here = at_ends up (depending_leads is_own_busy nothing_leads (keeping_then (own_busy_knows up here true) (report_knows up here t)))
 
   clear_busy_knows : (here : State) → Leads (At up here) (MultipleFrame.clear_busy_in_7_8 t) (Ends up)
-  clear_busy_knows here = search ends depth 12 fits 4000
+  clear_busy_knows here = at_ends up (depending_leads is_own_busy (keeping_then (own_busy_knows up here false) (report_knows up here t)) nothing_leads)
 
   frame_knows : (here : State) (b : Bool) (octets : List ℕ) (control : Control) → Leads (At up here) (Machine.frame_in here t b octets control) (Ends up)
   frame_knows TeiAssigned b octets control = frames_in_4 octets control

@@ -3,7 +3,6 @@ pub use Rattle.model_link.specs.Known.{IsOwn}
 use Rattle.std.proofs.Common.{◌≡◌, ℕ, Bool, true, false, cond, List, [], ◌∷◌, Option, Some, None, refl}
 use Rattle.std.specs.Prelude.{All}
 use Rattle.std.proofs.lemmas.List.Elements.{All-nil, All-push}
-use Rattle.lapd_frame.specs.declared.controls.Control.TheVariants.{Xid}
 use Rattle.lapd_frame.specs.declared.notes.Note.TheVariants as notes
 use Rattle.lapd_frame.specs.declared.refusals.Refusal.{Refusal}
 use Rattle.model_link.specs.declared.frames.ControlFrame.{ControlFrame}

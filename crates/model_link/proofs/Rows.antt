@@ -1,6 +1,6 @@
 -- What a row does, said once: a claim that every word of the tables leads on is led on by every row, and by every event.
-use Rattle.std.proofs.Common.{◌≡◌, ℕ, ◌+◌, Bool, true, false, cond, List, [], ◌∷◌, Option, Some, None, refl}
-use Rattle.std.specs.Prelude.{nat_lt, length, ◌&&◌}
+use Rattle.std.proofs.Common.{◌≡◌, ℕ, ◌+◌, Bool, true, false, List, [], ◌∷◌, Option, Some, None}
+use Rattle.std.specs.Prelude.{◌&&◌}
 use Rattle.lapd_seq.specs.declared.numbers.Seq.{Seq}
 use Rattle.lapd_seq.specs.Circle.{named}
 use Rattle.lapd_frame.specs.declared.controls.Control.{Control}
@@ -14,20 +14,20 @@ use Rattle.model_link.specs.declared.timers.LinkTimer.{LinkTimer}
 use Rattle.model_link.specs.declared.timers.LinkTimer.TheVariants.{T200, T203}
 use Rattle.model_link.specs.declared.frames.ControlFrame.{ControlFrame}
 use Rattle.model_link.specs.declared.terms.Terms.{Terms}
-use Rattle.model_link.specs.Link.{Link, has_outstanding, is_asked, is_peer_busy, is_own_busy}
+use Rattle.model_link.specs.Link.{has_outstanding, is_asked, is_peer_busy, is_own_busy}
 use Rattle.model_link.specs.Events
-use Rattle.model_link.specs.Steps.{Course, Step, ◌then◌, nothing, depending_on, by_bit, changed}
+use Rattle.model_link.specs.Steps.{Course, Step, ◌then◌, nothing, depending_on, changed}
 use Rattle.model_link.specs.Words
 use Rattle.model_link.specs.TeiAssigned.{frame_in_4, establish_in_4}
-use Rattle.model_link.specs.AwaitingEstablishment.{frame_in_5, t200_in_5}
-use Rattle.model_link.specs.AwaitingRelease.{frame_in_6, t200_in_6}
+use Rattle.model_link.specs.AwaitingEstablishment.{frame_in_5}
+use Rattle.model_link.specs.AwaitingRelease.{frame_in_6}
 use Rattle.model_link.specs.MultipleFrame
 use Rattle.model_link.specs.Established
 use Rattle.model_link.specs.TimerRecovery
 use Rattle.model_link.specs.Requests
 use Rattle.model_link.specs.Offers
 use Rattle.model_link.specs.Machine
-use Rattle.model_link.proofs.Leads.{Leads, then_leads, nothing_leads, depending_leads, bit_leads, tested_leads, Passed, from_more, to_less}
+use Rattle.model_link.proofs.Leads.{Leads, then_leads, depending_leads, bit_leads, tested_leads, Passed, from_more}
 
 -- How often a row may still do something: send a control frame, or tell a note.
 pub data Purse : Type 0 where

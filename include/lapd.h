@@ -3,17 +3,23 @@
  *
  * A card takes the octets of its lines and answers with notes for layer 3, orders for timers, and octets to send. It
  * has no callbacks, starts no thread, prints nothing, sets no errno, and takes memory in lapd_card_start and
- * lapd_clock_start alone. Link with liblapd.a, and with three functions of memory: rattle_alloc, rattle_dealloc and
- * rattle_realloc (docs/EMBEDDING.md).
+ * lapd_clock_start alone. Link as pkg-config says of lapd (-llapd -llapd_malloc), or of lapd-shared. A program without
+ * malloc brings three functions of memory of its own, which lapd_memory.h declares. The library is built for Linux on
+ * every x86-64 processor.
  *
  * What the caller promises, and no call can test:
  *
  *  - Each pointer is valid for what it points to, and none is null, also where a length is 0.
  *  - A length is the true number of octets behind its pointer.
- *  - What two arguments of a call point to does not overlap, and neither overlaps what a card or a clock holds.
+ *  - What two arguments of a call point to does not overlap, and neither overlaps what a card or a clock holds: the
+ *    proofs take each as a place of its own. Where one might come to it, the call says what to do.
  *  - A card or a clock is used by one call at a time; other cards and clocks may be used meanwhile. What starts and
  *    frees do at the same time, the three functions of memory must bear (malloc's do, heap.c's do not).
  *  - It begins as LAPD_CARD_NONE or LAPD_CLOCK_NONE, no copy of it is used, and its fields are left alone.
+ *
+ * No card and no clock is const, also where a call only asks: each call takes the card out of its place while it is
+ * served, and puts it back, so two questions at once would meet. (An export of the toolchain's cannot read through a
+ * const pointer what owns memory.)
  *
  * Everything else is tested: each function says by its status what was wrong, and then nothing has changed, neither
  * the card or clock nor what is behind the other pointers (but for LAPD_NO_PLACE of lapd_clock_apply_report). Where
@@ -30,6 +36,19 @@
 #ifdef __cplusplus
 extern "C" {
 #endif
+
+/* ---- The version ------------------------------------------------------------------------------------------------ */
+
+/*
+ * The version of this header, 1.0: the major number times 1,000, and the minor one. `lapdsim --version` and lapd.pc say
+ * the same. While the major number stays, what compiled goes on compiling, and a program that was linked with the
+ * shared library runs with a later one: no function goes, and no type, number or meaning changes. A new minor number
+ * brings functions and statuses at most. A new major number may change anything; its shared library has another name.
+ */
+#define LAPD_VERSION 1000
+
+/* The version of the library that is linked, in the same way; it may be later than the header's. */
+uint32_t lapd_version(void);
 
 /* ---- Statuses: what a function answers -------------------------------------------------------------------------- */
 
@@ -65,6 +84,7 @@ enum {
     LAPD_NO_MEMORY = 22, /* a start was refused memory; what it had taken is given back */
     LAPD_NO_TIMER = 23,  /* no timer is due, or none runs */
     LAPD_NO_PLACE = 24,  /* no place for one more timer of the line; tests see none where a card alone orders */
+    LAPD_NO_MORE_LINKS = 25, /* the line has no link from that place on */
 
     /* A field of the configuration is out of range: the first, in their order. */
     LAPD_BAD_LINES = 33,
@@ -110,7 +130,8 @@ enum {
     LAPD_MOST_LINES = 64    /* no card has more lines */
 };
 
-/* What a note says. Those of a link name its service and TEI. */
+/* What a note says. Those of a link name its service and TEI. A SABME while the link is up (states 7 and 8) tells
+ * error F; an establish indication comes with it only where something that was sent was not acknowledged. */
 enum {
     LAPD_ESTABLISH_INDICATION = 1, /* the link is up without a request; contents not acknowledged are lost */
     LAPD_ESTABLISH_CONFIRM = 2,    /* the link is up, as was asked for */
@@ -210,7 +231,8 @@ uint32_t lapd_octet(lapd_card *card, uint32_t line, uint8_t octet, lapd_report *
 /* Gives the next octet of a line to send, bit 1 first: of a frame where one waits or is on its way, else of flags. */
 uint32_t lapd_pull(lapd_card *card, uint32_t line, uint8_t *octet, lapd_report *report);
 
-/* A timer of a line expired. One that does not run has no effect, and nothing is told. */
+/* A timer of a line expired. One that does not run has no effect, and nothing is told. The timer lies outside of
+ * *report, which is written while it is read: a lapd_due's does; copy that of one of the report's own orders. */
 uint32_t lapd_expire(lapd_card *card, uint32_t line, const lapd_timer *timer, lapd_report *report);
 
 enum {
@@ -227,7 +249,8 @@ enum {
 
 /* Asks for something at a line; the contents are copied. LAPD_REFUSED_BAD_TEI to LAPD_REFUSED_CONTROL_FULL where it is
  * refused. The service is LAPD_CALL or LAPD_PACKET in each, though assign, remove and check are about both; the length
- * is 0 but for LAPD_DATA and LAPD_UNIT. */
+ * is 0 but for LAPD_DATA and LAPD_UNIT. The contents lie outside of *report; where they are those of the report itself,
+ * ask by lapd_data or lapd_unit. */
 uint32_t lapd_request(lapd_card *card, uint32_t line, uint8_t request, uint8_t service, uint8_t tei,
                       const uint8_t *contents, size_t length, lapd_report *report);
 
@@ -236,7 +259,8 @@ uint32_t lapd_request(lapd_card *card, uint32_t line, uint8_t request, uint8_t s
  * the first step that has something to tell (a note, an order, a cause, a frame lost, contents, a frame begun), or to
  * the end; *steps is then the next step, and the report is that of this step, or tells nothing where no step had
  * anything to tell. LAPD_WRONG_LENGTH: the two lengths differ, or *steps is beyond twice the length. For a step that
- * has nothing to tell no report is written.
+ * has nothing to tell no report is written. `in` and `out` are two buffers: what is proved of the octets that are taken
+ * holds while none of them is written over. With one buffer call lapd_octet and lapd_pull in turn.
  *
  *     for (size_t steps = 0; steps < 2 * n;) {
  *         lapd_exchange(&card, line, in, n, out, n, &steps, &report);
@@ -250,6 +274,24 @@ uint32_t lapd_exchange(lapd_card *card, uint32_t line, const uint8_t *in, size_t
  * establishment), 6 (awaiting release), 7 (multiple frame established), 8 (timer recovery); 0 where the TEI is not on
  * the line. */
 uint32_t lapd_state(lapd_card *card, uint32_t line, uint8_t service, uint8_t tei, uint8_t *state);
+
+/* A link of a line. */
+typedef struct lapd_link {
+    uint8_t service; /* LAPD_CALL or LAPD_PACKET */
+    uint8_t tei;     /* 0 to 126 */
+    uint8_t state;   /* as lapd_state tells it: 4 to 8 */
+} lapd_link;
+
+/*
+ * The links of a line one after the other, by TEI, call control before packet. *place says from where to look: 0 for
+ * the first, and afterwards the place behind the link that was told, as the call leaves it. LAPD_NO_MORE_LINKS: there
+ * is none from there on.
+ *
+ *     uint8_t place = 0;
+ *     for (lapd_link link; lapd_next_link(&card, line, &place, &link) == LAPD_OK;)
+ *         ... link.service, link.tei, link.state ...
+ */
+uint32_t lapd_next_link(lapd_card *card, uint32_t line, uint8_t *place, lapd_link *link);
 
 /* How many octets the card stores now, of frames, messages and contents; at most lapd_limit's. */
 uint32_t lapd_stored(lapd_card *card, uint32_t *octets);
@@ -352,18 +394,32 @@ static inline uint32_t lapd_release(lapd_card *card, uint32_t line, uint8_t serv
     return lapd_request(card, line, LAPD_RELEASE, service, tei, (const uint8_t *)"", 0, report);
 }
 
-/* Contents for the link, acknowledged (DL-DATA request). Without contents the pointer may be null. */
-static inline uint32_t lapd_data(lapd_card *card, uint32_t line, uint8_t service, uint8_t tei,
-                                 const uint8_t *contents, size_t length, lapd_report *report) {
-    return lapd_request(card, line, LAPD_DATA, service, tei, length != 0 ? contents : (const uint8_t *)"", length,
-                        report);
+/* A request with contents, which may lie in the report: they are copied before that is written. */
+static inline uint32_t lapd_request_with(lapd_card *card, uint32_t line, uint8_t request, uint8_t service, uint8_t tei,
+                                         const uint8_t *contents, size_t length, lapd_report *report) {
+    uint8_t copy[sizeof(lapd_report)];
+    uintptr_t at = (uintptr_t)contents, from = (uintptr_t)report;
+    if (length == 0)
+        return lapd_request(card, line, request, service, tei, (const uint8_t *)"", 0, report);
+    if (at < from || at >= from + sizeof *report || length > from + sizeof *report - at)
+        return lapd_request(card, line, request, service, tei, contents, length, report);
+    for (size_t i = 0; i < length; i++)
+        copy[i] = contents[i];
+    return lapd_request(card, line, request, service, tei, copy, length, report);
 }
 
-/* Contents without acknowledgement (DL-UNIT DATA request); LAPD_GROUP_TEI is all terminals of the line. */
+/* Contents for the link, acknowledged (DL-DATA request); also those of the report itself. Without contents the pointer
+ * may be null. */
+static inline uint32_t lapd_data(lapd_card *card, uint32_t line, uint8_t service, uint8_t tei,
+                                 const uint8_t *contents, size_t length, lapd_report *report) {
+    return lapd_request_with(card, line, LAPD_DATA, service, tei, contents, length, report);
+}
+
+/* Contents without acknowledgement (DL-UNIT DATA request), also those of the report itself; LAPD_GROUP_TEI is all
+ * terminals of the line. */
 static inline uint32_t lapd_unit(lapd_card *card, uint32_t line, uint8_t service, uint8_t tei,
                                  const uint8_t *contents, size_t length, lapd_report *report) {
-    return lapd_request(card, line, LAPD_UNIT, service, tei, length != 0 ? contents : (const uint8_t *)"", length,
-                        report);
+    return lapd_request_with(card, line, LAPD_UNIT, service, tei, contents, length, report);
 }
 
 /* Puts the TEI on the line (MDL-ASSIGN request). */
@@ -419,6 +475,7 @@ static inline const char *lapd_status_text(uint32_t status) {
     case LAPD_NO_MEMORY: return "out of memory";
     case LAPD_NO_TIMER: return "no timer";
     case LAPD_NO_PLACE: return "no place";
+    case LAPD_NO_MORE_LINKS: return "no more links";
     case LAPD_BAD_LINES: return "lines is out of range";
     case LAPD_BAD_TERMINALS: return "terminals is out of range";
     case LAPD_BAD_K: return "k is out of range";

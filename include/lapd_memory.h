@@ -1,6 +1,6 @@
 /*
- * lapd_memory.h: the three functions of memory that liblapd.a asks for, for who writes them (C99 and C++). A program that
- * links the toolchain's archive, or heap.c, needs no more than lapd.h.
+ * lapd_memory.h: the three functions of memory that liblapd.a asks for, for who writes them (C99 and C++). A program
+ * that links liblapd_malloc.a, as pkg-config has it, or heap.c, needs no more than lapd.h.
  *
  * The library calls them in lapd_card_start, lapd_clock_start and the two frees alone.
  */

@@ -28,6 +28,8 @@ AT(lapd_report, length, 6);
 AT(lapd_report, notes, 8);
 AT(lapd_report, orders, 24);
 AT(lapd_report, contents, 40);
+OCTETS(lapd_link, 3);
+AT(lapd_link, state, 2);
 OCTETS(lapd_card, 16);
 AT(lapd_card, at, 8);
 OCTETS(lapd_clock, 16);

@@ -4,5 +4,6 @@ pub mod Clocks
 pub mod CardSlots
 pub mod Cards
 pub mod Laws
+pub mod Links
 pub mod Orders
 pub mod Exchange

@@ -3,6 +3,7 @@ pub mod Statuses
 pub mod Services
 pub mod Config
 pub mod Timers
+pub mod Links
 pub mod Notes
 pub mod Requests
 pub mod Reports

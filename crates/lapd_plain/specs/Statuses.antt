@@ -50,6 +50,9 @@ no_timer = 23
 abbrev pub no_place : ℕ
 no_place = 24
 
+abbrev pub no_more_links : ℕ
+no_more_links = 25
+
 -- Why a request was refused.
 abbrev pub refusal_status : Refusal → ℕ
 refusal_status BadTei = 1

@@ -7,12 +7,14 @@
 //! - `statuses`: what a call answers: refusals, wrong calls, fields of a configuration.
 //! - `config`: the configuration.
 //! - `timers`: timers and orders, there and back.
+//! - `links`: the links of a line, in order.
 //! - `requests`: what is asked of a line, from numbers.
 //! - `notes`: notes, and why something was dropped.
 //! - `reports`: the report of an event.
 #![tactic(auto)]
 
 mod config;
+mod links;
 mod notes;
 mod reports;
 mod requests;
@@ -20,12 +22,13 @@ mod statuses;
 mod timers;
 
 pub use config::PlainConfig;
+pub use links::{LINK_PLACES, PlainLink, service_at};
 pub use notes::{PlainNote, cause_number};
 pub use reports::PlainReport;
 pub use requests::request_in;
 pub use statuses::{
-    NO_CARD, NO_CLOCK, NO_MEMORY, NO_PLACE, NO_TIMER, OK, SECOND_START, WRONG_LENGTH, WRONG_LINE,
-    WRONG_ORDER, WRONG_REQUEST, WRONG_SERVICE, WRONG_TEI, WRONG_TIME, WRONG_TIMER, field_status,
-    refusal_status, service_in,
+    NO_CARD, NO_CLOCK, NO_MEMORY, NO_MORE_LINKS, NO_PLACE, NO_TIMER, OK, SECOND_START, WRONG_LENGTH,
+    WRONG_LINE, WRONG_ORDER, WRONG_REQUEST, WRONG_SERVICE, WRONG_TEI, WRONG_TIME, WRONG_TIMER,
+    field_status, refusal_status, service_in,
 };
 pub use timers::{PlainDue, PlainOrder, PlainTimer, link_in};

@@ -37,6 +37,8 @@ pub const NO_MEMORY: u32 = 22;
 pub const NO_TIMER: u32 = 23;
 /// The clock's line has no place for one more timer.
 pub const NO_PLACE: u32 = 24;
+/// The line has no link from that place on.
+pub const NO_MORE_LINKS: u32 = 25;
 
 /// The status of a request that was refused: 1 to 10.
 pub fn refusal_status(why: Refusal) -> u32

@@ -1,0 +1,84 @@
+//! Which links a card has.
+
+ghost use Rattle.std.specs.Prelude.{◌≡◌, ◌≤◌, ◌<◌, ◌⊎◌, Some, None, IfSome};
+ghost use Rattle.model_card.specs.Card as machine;
+ghost use Rattle.lapd_card.specs.Lines.{line_count};
+ghost use Rattle.lapd_plain.specs.Statuses as status;
+ghost use Rattle.lapd_c.specs.Cards.{card_of, IsHandle, Stands, CardStands};
+ghost use Rattle.lapd_c.specs.Links.{AreFree, FirstFrom, IsNext};
+
+use crate::card::CardHandle;
+use lapd_card::Card;
+use lapd_plain::{LINK_PLACES, NO_CARD, NO_MORE_LINKS, OK, PlainLink, WRONG_LINE, service_at};
+use lapd_store::RawShelf;
+use std::alloc::Global;
+
+/// The first link of a line from a place on, and the place behind it.
+#[unsafe(no_mangle)]
+pub extern "C" fn lapd_next_link(
+    alloc: Global,
+    handle: &mut CardHandle,
+    line: u32,
+    place: &mut u8,
+    link: &mut PlainLink,
+) -> u32
+    requires { IsHandle handle.old }
+    ensures handle { IsHandle handle.new }
+    ensures no_card { card_of handle.old ≡ None → (result ≡ status.no_card) × (handle.new ≡ handle.old)
+        × (place.new ≡ place.old) × (link.new ≡ link.old) }
+    ensures unchanged { card_of handle.new ≡ card_of handle.old }
+    ensures wrong_line { (m : machine.Card) → Stands handle.old m → m.config.lines ≤ line
+        → (result ≡ status.wrong_line) × (place.new ≡ place.old) × (link.new ≡ link.old) }
+    ensures either { (m : machine.Card) → Stands handle.old m → line < m.config.lines
+        → (result ≡ status.ok) ⊎ (result ≡ status.no_more_links) }
+    ensures told { (m : machine.Card) → Stands handle.old m → line < m.config.lines
+        → result ≡ status.ok → IsNext line m place.old place.new link.new }
+    ensures none { (m : machine.Card) → Stands handle.old m → line < m.config.lines
+        → result ≡ status.no_more_links
+        → AreFree line m place.old 254 × (place.new ≡ place.old) × (link.new ≡ link.old) }
+{
+    let Some(card) = handle.take(alloc) else {
+        return NO_CARD;
+    };
+    let status = tell_next(&card, line, place, link);
+    handle.put(card);
+    status
+}
+
+fn tell_next(card: &Card<RawShelf>, line: u32, place: &mut u8, link: &mut PlainLink) -> u32
+    ensures wrong_line { (m : machine.Card) → CardStands card.now m → m.config.lines ≤ line
+        → (result ≡ status.wrong_line) × (place.new ≡ place.old) × (link.new ≡ link.old) }
+    ensures either { (m : machine.Card) → CardStands card.now m → line < m.config.lines
+        → (result ≡ status.ok) ⊎ (result ≡ status.no_more_links) }
+    ensures told { (m : machine.Card) → CardStands card.now m → line < m.config.lines
+        → result ≡ status.ok → IsNext line m place.old place.new link.new }
+    ensures none { (m : machine.Card) → CardStands card.now m → line < m.config.lines
+        → result ≡ status.no_more_links
+        → AreFree line m place.old 254 × (place.new ≡ place.old) × (link.new ≡ link.old) }
+{
+    let line = line as usize;
+    if line >= card.lines() {
+        return WRONG_LINE;
+    }
+    match first_link(card, line, *place) {
+        Some((found, state)) => {
+            *place = found + 1;
+            *link = PlainLink::of(found, state);
+            OK
+        }
+        None => NO_MORE_LINKS,
+    }
+}
+
+// The place and the state of the first link from a place on.
+fn first_link(card: &Card<RawShelf>, line: usize, from: u8) -> Option<(u8, u8)>
+    ensures within { IfSome result (λ found. found.0 < 254) }
+    ensures first { (m : machine.Card) → CardStands card.now m → FirstFrom line m from result }
+{
+    for place in from..LINK_PLACES {
+        if let Some(state) = card.state(line, service_at(place), place / 2) {
+            return Some((place, state));
+        }
+    }
+    None
+}

@@ -1,0 +1,128 @@
+/*
+ * calls.c: calls that no script makes. The links of a line, as lapd_next_link tells them, are those that lapd_state has
+ * a state of, in order, from each place on; contents of a report go back with the same report; and the version is the
+ * header's. For tests alone.
+ */
+#include <stdio.h>
+#include <string.h>
+
+#include "hdlc.h"
+#include "lapd.h"
+
+enum { PLACES = 254, LINES = 2 };
+
+static const lapd_config config = {LINES, 8, 7, 7, 8, 4, 4, 8, 260, 3};
+static lapd_card card;
+static lapd_report report;
+static int failed;
+
+static void wants(bool is, const char *what) {
+    if (!is) {
+        failed = 1;
+        fprintf(stderr, "calls: %s\n", what);
+    }
+}
+
+/* The first place of a link from a place on, as lapd_state has it; PLACES where there is none. */
+static unsigned first_from(uint32_t line, unsigned place, lapd_link *link) {
+    for (; place < PLACES; place++) {
+        link->service = place % 2 == 0 ? LAPD_CALL : LAPD_PACKET;
+        link->tei = (uint8_t)(place / 2);
+        wants(lapd_state(&card, line, link->service, link->tei, &link->state) == LAPD_OK, "lapd_state is not served");
+        if (link->state != 0)
+            break;
+    }
+    return place;
+}
+
+/* From each place on, also from those that are none. */
+static void look_at(uint32_t line, unsigned links) {
+    for (unsigned from = 0; from < 256; from++) {
+        lapd_link link = {1, 2, 3}, wanted;
+        uint8_t place = (uint8_t)from;
+        uint32_t status = lapd_next_link(&card, line, &place, &link);
+        unsigned at = first_from(line, from, &wanted);
+        if (at >= PLACES)
+            wants(status == LAPD_NO_MORE_LINKS && place == from && link.service == 1 && link.tei == 2 && link.state == 3,
+                  "no more links, and something has changed");
+        else
+            wants(status == LAPD_OK && place == at + 1 && memcmp(&link, &wanted, sizeof link) == 0, "another link");
+    }
+    uint8_t place = 0;
+    unsigned count = 0;
+    for (lapd_link link; lapd_next_link(&card, line, &place, &link) == LAPD_OK;)
+        count++;
+    wants(count == links, "another number of links");
+}
+
+static void wrong_calls(void) {
+    lapd_card none = LAPD_CARD_NONE;
+    lapd_link link = {1, 2, 3};
+    uint8_t place = 7;
+    wants(lapd_next_link(&none, 0, &place, &link) == LAPD_NO_CARD, "a link of no card");
+    wants(lapd_next_link(&card, LINES, &place, &link) == LAPD_WRONG_LINE, "a link of no line");
+    wants(place == 7 && link.service == 1 && link.tei == 2 && link.state == 3, "a wrong call has changed something");
+}
+
+/* A frame that comes on line 0, and as many octets as go out meanwhile. */
+static void hear(hdlc_sender *sender, const uint8_t *frame, size_t length, lapd_report *told) {
+    hdlc_load(sender, frame, length);
+    for (size_t left = hdlc_left(sender), i = 0; i < left; i += 8) {
+        uint8_t octet = hdlc_octet(sender);
+        lapd_octet(&card, 0, octet, &report);
+        if (report.delivered)
+            *told = report;
+        lapd_pull(&card, 0, &octet, &report);
+    }
+}
+
+/* The octets of the next command that line 0 sends; flags and responses go by. */
+static void send(uint8_t *octets, size_t length) {
+    do
+        lapd_pull(&card, 0, octets, &report);
+    while (!report.begun || octets[0] != 0x02);
+    for (size_t i = 1; i < length; i++)
+        lapd_pull(&card, 0, &octets[i], &report);
+}
+
+/* Information that came goes back from where it stands in the report, acknowledged and not, whole and a part of it. */
+static void echo(void) {
+    static const uint8_t sabme[] = {0x00, 0x81, 0x7F}, data[] = {0x00, 0x81, 0x00, 0x00, 0x11, 0x22, 0x33, 0x44};
+    static hdlc_sender sender;
+    lapd_report told = report;
+    uint8_t octets[32], whole[] = {0x02, 0x81, 0x00, 0x02, 0x11, 0x22, 0x33, 0x44};
+    hdlc_begin(&sender);
+    hear(&sender, sabme, sizeof sabme, &told);
+    for (int i = 0; i < 64; i++)
+        lapd_pull(&card, 0, octets, &report);
+    hear(&sender, data, sizeof data, &told);
+    wants(told.delivered && told.length == 4, "nothing was delivered");
+    wants(lapd_data(&card, 0, LAPD_CALL, 64, told.contents, told.length, &told) == LAPD_OK, "contents of a report");
+    send(octets, sizeof octets);
+    wants(memcmp(octets, whole, sizeof whole) == 0, "other contents went back");
+    wants(lapd_unit(&card, 0, LAPD_CALL, 64, told.contents + 1, 2, &told) == LAPD_OK, "a part of a report");
+    send(octets, sizeof octets);
+    wants(memcmp(octets, "\x02\x81\x03\x22\x33", 5) == 0, "another part went back");
+    size_t last = sizeof told.contents - 1;
+    wants(lapd_data(&card, 0, LAPD_CALL, 64, told.contents + last, 1, &told) == LAPD_OK, "the last octet of a report");
+    wants(lapd_data(&card, 0, LAPD_CALL, 64, NULL, 0, &told) == LAPD_OK, "no contents");
+}
+
+int main(void) {
+    static const uint8_t teis[] = {0, 1, 63, 64, 65, 100, 125, 126};
+    wants(lapd_version() == LAPD_VERSION, "the library has another version");
+    wants(lapd_card_start(&card, &config) == LAPD_OK, "no card");
+    wrong_calls();
+    look_at(0, 0);
+    for (unsigned i = 0; i < sizeof teis; i++) {
+        wants(lapd_assign(&card, 0, teis[i], &report) == LAPD_OK, "no TEI");
+        look_at(0, 2 * (i + 1));
+    }
+    look_at(1, 0);
+    echo();
+    look_at(0, 2 * sizeof teis);
+    wants(lapd_remove(&card, 0, 126, &report) == LAPD_OK, "the TEI stays");
+    look_at(0, 2 * sizeof teis - 2);
+    lapd_card_free(&card);
+    return failed;
+}

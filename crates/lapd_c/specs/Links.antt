@@ -14,7 +14,7 @@ AreFree line m from to = (place : ℕ) → from ≤ place → place < to → sta
 
 -- The first link from a place on is that of a place, in a state.
 pub record IsFirst (line : ℕ) (m : machine.Card) (from : ℕ) (found : ℕ × ℕ) : Type 0 where
-  pub from : from ≤ found.0
+  pub place : from ≤ found.0
   pub state : state_at line m found.0 ≡ Some found.1
   pub free : AreFree line m from found.0
 
@@ -27,4 +27,4 @@ pub record IsNext (line : ℕ) (m : machine.Card) (from to : ℕ) (link : PlainL
   pub found : ℕ × ℕ
   pub first : IsFirst line m from found
   pub behind : to ≡ found.0 + 1
-  pub link : link ≡ plain_link found.0 found.1
+  pub told : link ≡ plain_link found.0 found.1

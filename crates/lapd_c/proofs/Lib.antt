@@ -4,3 +4,4 @@ pub mod CardPlaces
 pub mod Contents
 pub mod Served
 pub mod Exchanging
+pub mod Linking

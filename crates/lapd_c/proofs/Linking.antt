@@ -1,5 +1,5 @@
 -- Looking for the first link of a line.
-use Rattle.std.proofs.Common.{◌≡◌, ◌+◌, ℕ, inl, inr, Option, None, Some, sym, ◌∙◌, subst, arith}
+use Rattle.std.proofs.Common.{◌≡◌, ◌+◌, ℕ, inl, inr, Option, None, sym, ◌∙◌, subst, arith}
 use Rattle.std.proofs.lemmas.Bool.{cases_lt}
 use Rattle.lapd_frame.specs.declared.services.Service.{Service}
 use Rattle.model_card.specs.Card as machine

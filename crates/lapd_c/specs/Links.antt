@@ -18,8 +18,12 @@ pub record IsFirst (line : ℕ) (m : machine.Card) (from : ℕ) (found : ℕ × 
   pub state : state_at line m found.0 ≡ Some found.1
   pub free : AreFree line m from found.0
 
+-- From a place on there is none at all: a line has 254 places.
+pub record NoneFrom (line : ℕ) (m : machine.Card) (from : ℕ) : Type 0 where
+  pub free : AreFree line m from 254
+
 abbrev pub FirstFrom : ℕ → machine.Card → ℕ → Option (ℕ × ℕ) → Type 0
-FirstFrom line m from None = AreFree line m from 254
+FirstFrom line m from None = NoneFrom line m from
 FirstFrom line m from (Some found) = IsFirst line m from found
 
 -- It is told, with the place behind it.

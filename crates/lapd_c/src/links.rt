@@ -2,10 +2,9 @@
 
 ghost use Rattle.std.specs.Prelude.{◌≡◌, ◌≤◌, ◌<◌, ◌⊎◌, Some, None, IfSome};
 ghost use Rattle.model_card.specs.Card as machine;
-ghost use Rattle.lapd_card.specs.Lines.{line_count};
 ghost use Rattle.lapd_plain.specs.Statuses as status;
 ghost use Rattle.lapd_c.specs.Cards.{card_of, IsHandle, Stands, CardStands};
-ghost use Rattle.lapd_c.specs.Links.{AreFree, FirstFrom, IsNext};
+ghost use Rattle.lapd_c.specs.Links.{FirstFrom, IsNext, NoneFrom};
 
 use crate::card::CardHandle;
 use lapd_card::Card;
@@ -35,7 +34,7 @@ pub extern "C" fn lapd_next_link(
         → result ≡ status.ok → IsNext line m place.old place.new link.new }
     ensures none { (m : machine.Card) → Stands handle.old m → line < m.config.lines
         → result ≡ status.no_more_links
-        → AreFree line m place.old 254 × (place.new ≡ place.old) × (link.new ≡ link.old) }
+        → NoneFrom line m place.old × (place.new ≡ place.old) × (link.new ≡ link.old) }
 {
     let Some(card) = handle.take(alloc) else {
         return NO_CARD;
@@ -54,7 +53,7 @@ fn tell_next(card: &Card<RawShelf>, line: u32, place: &mut u8, link: &mut PlainL
         → result ≡ status.ok → IsNext line m place.old place.new link.new }
     ensures none { (m : machine.Card) → CardStands card.now m → line < m.config.lines
         → result ≡ status.no_more_links
-        → AreFree line m place.old 254 × (place.new ≡ place.old) × (link.new ≡ link.old) }
+        → NoneFrom line m place.old × (place.new ≡ place.old) × (link.new ≡ link.old) }
 {
     let line = line as usize;
     if line >= card.lines() {

@@ -27,8 +27,8 @@ pub use notes::{PlainNote, cause_number};
 pub use reports::PlainReport;
 pub use requests::request_in;
 pub use statuses::{
-    NO_CARD, NO_CLOCK, NO_MEMORY, NO_MORE_LINKS, NO_PLACE, NO_TIMER, OK, SECOND_START, WRONG_LENGTH,
-    WRONG_LINE, WRONG_ORDER, WRONG_REQUEST, WRONG_SERVICE, WRONG_TEI, WRONG_TIME, WRONG_TIMER,
-    field_status, refusal_status, service_in,
+    NO_CARD, NO_CLOCK, NO_MEMORY, NO_MORE_LINKS, NO_PLACE, NO_TIMER, OK, SECOND_START,
+    WRONG_LENGTH, WRONG_LINE, WRONG_ORDER, WRONG_REQUEST, WRONG_SERVICE, WRONG_TEI, WRONG_TIME,
+    WRONG_TIMER, field_status, refusal_status, service_in,
 };
 pub use timers::{PlainDue, PlainOrder, PlainTimer, link_in};

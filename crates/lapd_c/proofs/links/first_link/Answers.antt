@@ -1,5 +1,5 @@
 -- Hand-written answers for `first_link`: a place is free where the card tells no state of its link.
-use Rattle.std.proofs.Common.{◌≡◌, Some, None, arith}
+use Rattle.std.proofs.Common.{Some, None, arith}
 use Rattle.lapd_c.proofs.Linking.{state_told, free_behind}
 use Rattle.lapd_c.proofs.links.first_link.Goals as goal
 
@@ -20,4 +20,6 @@ loop-place-preserved c = record {
 }
 
 pub returns-clause-first : goal.returns-clause-first
-returns-clause-first c = λ m s place le lt. c.loop-place.invariant.free m s place le (omega (arith, lt, c.loop-place-test.false))
+returns-clause-first c = λ m s. record {
+  free = λ place le lt. c.loop-place.invariant.free m s place le (omega (arith, lt, c.loop-place-test.false));
+}

@@ -29,7 +29,6 @@ impl Model for Clock {
     ghost Value = { Timers };
 
     ghost use Rattle.lapd_clock.specs.Places.{timers_in, IsKept};
-
     ghost use Rattle.lapd_clock.specs.Given.{lengths_of};
 
     ghost view = { λ a. timers_in (lengths_of a.lengths) a.places a.lines.items };

@@ -1,7 +1,7 @@
 /*
  * calls.c: calls that no script makes. The links of a line, as lapd_next_link tells them, are those that lapd_state has
- * a state of, in order, from each place on; contents of a report go back with the same report; and the version is the
- * header's. For tests alone.
+ * a state of, in order, from each place on; contents of a report go back with the same report; lengths of timers that are
+ * out of range change nothing; and the version is the header's. For tests alone.
  */
 #include <stdio.h>
 #include <string.h>
@@ -108,11 +108,29 @@ static void echo(void) {
     wants(lapd_data(&card, 0, LAPD_CALL, 64, NULL, 0, &told) == LAPD_OK, "no contents");
 }
 
+/* A clock takes lengths in range, for timers that are started later, and no others. */
+static void lengths(void) {
+    lapd_clock clock = LAPD_CLOCK_NONE;
+    const lapd_order start = {LAPD_START, {LAPD_T200, LAPD_CALL, 64}};
+    uint64_t moment = 0;
+    wants(lapd_clock_set_lengths(&clock, 1, 1, 1) == LAPD_NO_CLOCK, "lengths of no clock");
+    wants(lapd_clock_start(&clock, &config) == LAPD_OK, "no clock");
+    wants(lapd_clock_set_lengths(&clock, 3600000, 3600000, 3600000) == LAPD_OK, "an hour is refused");
+    wants(lapd_clock_set_lengths(&clock, 1, 2, 3) == LAPD_OK, "a millisecond is refused");
+    wants(lapd_clock_set_lengths(&clock, 0, 5, 5) == LAPD_WRONG_TIME, "T200 of nothing");
+    wants(lapd_clock_set_lengths(&clock, 5, 3600001, 5) == LAPD_WRONG_TIME, "T203 of more than an hour");
+    wants(lapd_clock_set_lengths(&clock, 5, 5, UINT32_MAX) == LAPD_WRONG_TIME, "T201 of more than an hour");
+    wants(lapd_clock_apply(&clock, 0, &start, 100) == LAPD_OK, "no T200");
+    wants(lapd_clock_next(&clock, &moment) == LAPD_OK && moment == 101, "a wrong call has changed the lengths");
+    lapd_clock_free(&clock);
+}
+
 int main(void) {
     static const uint8_t teis[] = {0, 1, 63, 64, 65, 100, 125, 126};
     wants(lapd_version() == LAPD_VERSION, "the library has another version");
     wants(lapd_card_start(&card, &config) == LAPD_OK, "no card");
     wrong_calls();
+    lengths();
     look_at(0, 0);
     for (unsigned i = 0; i < sizeof teis; i++) {
         wants(lapd_assign(&card, 0, teis[i], &report) == LAPD_OK, "no TEI");

@@ -1,7 +1,7 @@
 /*
- * malloc.c: memory for liblapd.a where there is a malloc. tools/install makes liblapd_malloc.a of it, which lapd.pc names,
- * so that a program links with no further file. A program with the three functions of its own gets none of these: its
- * linker finds them first.
+ * malloc.c: memory for liblapd.a where there is a malloc. tools/install makes liblapd_malloc.a of it, which lapd.pc
+ * names, so that a program links with no further file. A program with the three functions of its own gets none of these:
+ * the linker finds its own first.
  */
 #include <stdlib.h>
 

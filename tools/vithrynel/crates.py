@@ -7,7 +7,8 @@ import sys
 from typing import Dict, List, Set, Tuple
 
 ROOT = os.path.dirname(os.path.dirname(os.path.dirname(os.path.abspath(__file__))))
-# Processor minutes that a first check took for 1,000 lines, over all crates below lapd_c; `rt` uses four processors at most.
+# Processor minutes that a first check took for 1,000 lines, over all crates below lapd_c; `rt` uses four processors at
+# most.
 MINUTES, MOST_PROCESSORS = 0.75, 4
 
 

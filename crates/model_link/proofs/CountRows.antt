@@ -18,7 +18,8 @@ use Rattle.model_link.specs.Machine
 use Rattle.model_link.proofs.Leads.{Leads}
 use Rattle.model_link.specs.declared.timers.LinkTimer.TheVariants.{T200}
 use Rattle.model_link.proofs.Counting.{On, counted, done}
-use Rattle.model_link.proofs.Rows.{Fits, Kept, row_in_4, row_in_5, row_in_6, row_in_7, row_in_8, malformed_row, expired_row, establish_row, release_row, set_busy_row, clear_busy_row}
+use Rattle.model_link.proofs.Kept.{Fits, Kept}
+use Rattle.model_link.proofs.Rows.{row_in_4, row_in_5, row_in_6, row_in_7, row_in_8, malformed_row, expired_row, establish_row, release_row, set_busy_row, clear_busy_row}
 
 -- nothing is delivered but the contents of I-frames
 undelivered : {r r' : ℕ} {contents : Option (List ℕ)} {zeroed : Bool} → done r None r' contents zeroed → contents ≡ None

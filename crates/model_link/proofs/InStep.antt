@@ -6,7 +6,8 @@ use Rattle.model_link.specs.Events
 use Rattle.model_link.specs.Steps.{Course}
 use Rattle.model_link.specs.Machine
 use Rattle.model_link.specs.Told.{runs}
-use Rattle.model_link.proofs.Rows.{Kept, every_event}
+use Rattle.model_link.proofs.Kept.{Kept}
+use Rattle.model_link.proofs.Rows.{every_event}
 
 -- The timer that runs ran before the event, or the event started it.
 pub record Comes (before : Option LinkTimer) (running started : Option LinkTimer) : Type 0 where

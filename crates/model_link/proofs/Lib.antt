@@ -1,6 +1,7 @@
 -- Lemmas.
 pub mod Leads
 pub mod Waits
+pub mod Kept
 pub mod Rows
 pub mod Numbers
 pub mod Settled

@@ -6,7 +6,8 @@ use Rattle.model_link.specs.Events
 use Rattle.model_link.specs.Steps.{Course, begun}
 use Rattle.model_link.specs.Words
 use Rattle.model_link.specs.Machine
-use Rattle.model_link.proofs.Rows.{Purse, another, two, how_many, Kept, every_event}
+use Rattle.model_link.proofs.Kept.{Purse, another, two, how_many, Kept}
+use Rattle.model_link.proofs.Rows.{every_event}
 
 pub record Loses (p : Purse) (lost : ℕ) : Type 0 where
   pub count : lost + how_many p ≤ 2

@@ -13,7 +13,8 @@ use Rattle.model_link.specs.Requests
 use Rattle.model_link.specs.Machine
 use Rattle.model_link.specs.Events
 use Rattle.model_link.specs.Offers
-use Rattle.model_link.proofs.Rows.{Kept, every_event}
+use Rattle.model_link.proofs.Kept.{Kept}
+use Rattle.model_link.proofs.Rows.{every_event}
 
 -- All notes so far are.
 abbrev pub Own : Terms → Course → Type 0

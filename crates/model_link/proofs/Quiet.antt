@@ -4,7 +4,8 @@ use Rattle.model_link.specs.declared.terms.Terms.{Terms}
 use Rattle.model_link.specs.Events
 use Rattle.model_link.specs.Steps.{Course}
 use Rattle.model_link.specs.Machine
-use Rattle.model_link.proofs.Rows.{Kept, every_event}
+use Rattle.model_link.proofs.Kept.{Kept}
+use Rattle.model_link.proofs.Rows.{every_event}
 
 pub record IsQuiet (own pending : Bool) : Type 0 where
   pub quiet : IsTrue own → pending ≡ false

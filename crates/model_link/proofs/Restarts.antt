@@ -10,7 +10,8 @@ use Rattle.model_link.specs.Events
 use Rattle.model_link.specs.Steps.{Course, begun}
 use Rattle.model_link.specs.Machine
 use Rattle.model_link.specs.Deliveries.{restarts, IsEstablished, Establishes}
-use Rattle.model_link.proofs.Rows.{Fits, FitsEvent, Kept, frame_row, event_row}
+use Rattle.model_link.proofs.Kept.{Fits, FitsEvent, Kept}
+use Rattle.model_link.proofs.Rows.{frame_row, event_row}
 
 -- The numbers go on.
 pub record GoesOn (zeroed : Bool) : Type 0 where

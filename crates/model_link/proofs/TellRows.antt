@@ -28,7 +28,8 @@ use Rattle.model_link.specs.Notes.{is_data, is_unit}
 use Rattle.model_link.specs.Told.{runs, timer_at, order_for, orders_for, starts}
 use Rattle.model_link.proofs.Leads.{Leads}
 use Rattle.model_link.proofs.Telling.{Purse, no_more, another, how_many, Telling, HasTold, Told, untold, note_tells, words}
-use Rattle.model_link.proofs.Rows.{Fits, row_in_7, row_in_8, frame_row, malformed_row, expired_row, granted_row, event_row}
+use Rattle.model_link.proofs.Kept.{Fits}
+use Rattle.model_link.proofs.Rows.{row_in_7, row_in_8, frame_row, malformed_row, expired_row, granted_row, event_row}
 
 -- any frame but a UI
 abbrev IsNoUnit : Control → Type 0

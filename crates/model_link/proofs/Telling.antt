@@ -1,6 +1,6 @@
 -- What an event tells: at most two notes, and a note of data exactly where contents are delivered.
-pub use Rattle.model_link.proofs.Rows.{Purse, no_more, another}
-unfoldable pub use Rattle.model_link.proofs.Rows.{how_many}
+pub use Rattle.model_link.proofs.Kept.{Purse, no_more, another}
+unfoldable pub use Rattle.model_link.proofs.Kept.{how_many}
 use Rattle.std.proofs.Common.{◌≡◌, ℕ, ◌+◌, ◌≤◌, Bool, true, false, ◌||◌, List, [], ◌∷◌, ◌++◌, length, Option, None, is_some, refl, ◌∙◌, arith, length-append}
 use Rattle.std.specs.List.{list_any}
 use Rattle.std.proofs.lemmas.List.Folds.{list_any-append}
@@ -11,7 +11,7 @@ use Rattle.model_link.specs.Steps.{Course}
 use Rattle.model_link.specs.Words
 use Rattle.model_link.specs.Notes.{is_data, is_unit}
 use Rattle.model_link.proofs.Leads.{Leads}
-use Rattle.model_link.proofs.Rows.{two, Kept}
+use Rattle.model_link.proofs.Kept.{two, Kept}
 
 pub record Tells (total : ℕ) (p : Purse) (notes : List Note) (delivered unit : Option (List ℕ)) : Type 0 where
   pub count : length notes + how_many p ≤ total

@@ -7,7 +7,8 @@ use Rattle.model_link.specs.Steps.{Course, begun}
 use Rattle.model_link.specs.Machine
 use Rattle.model_link.specs.Events
 use Rattle.model_link.specs.Words
-use Rattle.model_link.proofs.Rows.{Kept, every_event}
+use Rattle.model_link.proofs.Kept.{Kept}
+use Rattle.model_link.proofs.Rows.{every_event}
 
 -- The event has been served so far.
 abbrev Served : Course → Type 0

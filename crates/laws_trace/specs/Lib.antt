@@ -1,0 +1,5 @@
+-- The trace of a line, and what is promised of it.
+pub mod Trace
+pub mod Units
+pub mod UnitsGoOut
+pub mod WorkedUnits

@@ -4,3 +4,8 @@ pub mod Reading
 pub mod NoUi
 pub mod Units
 pub mod UnitsGoOut
+pub mod Bits
+pub mod Octets
+pub mod FramesGoOut
+pub mod Fitting
+pub mod UnitsAreHeard

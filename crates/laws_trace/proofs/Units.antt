@@ -114,7 +114,7 @@ waits : (c : Config) (before after : Line) (t : List Seen) → frames_begun t �
 waits c before after t none h = ap (λ fs. filter is_unit fs ++ frames after) none ∙ h
 
 -- A pull begins the oldest unit data, or a frame that is none.
-pulled-frames : (o : Option Taken) (a : Answer) → frames_begun (map traces.begun (option_to_list (option_map frame_taken o)) ++ map put (octet_in a)) ≡ option_to_list (option_map frame_taken o)
+pub pulled-frames : (o : Option Taken) (a : Answer) → frames_begun (map traces.begun (option_to_list (option_map frame_taken o)) ++ map put (octet_in a)) ≡ option_to_list (option_map frame_taken o)
 pulled-frames None (told t) = refl
 pulled-frames None (refused why) = refl
 pulled-frames None (pulled value is_begun orders) = refl

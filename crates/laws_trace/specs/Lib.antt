@@ -2,4 +2,6 @@
 pub mod Trace
 pub mod Units
 pub mod UnitsGoOut
+pub mod FramesGoOut
+pub mod UnitsAreHeard
 pub mod WorkedUnits

@@ -5,3 +5,4 @@ pub mod UnitsGoOut
 pub mod FramesGoOut
 pub mod UnitsAreHeard
 pub mod WorkedUnits
+pub mod WorkedFrames

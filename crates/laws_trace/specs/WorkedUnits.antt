@@ -14,13 +14,13 @@ use Rattle.laws_trace.specs.Trace.{Seen, begun, put, noted, granted, lost, trace
 use Rattle.laws_trace.specs.Units.{units_begun, units_granted}
 
 -- Unit data for the group: the pull that gives the opening flag, and the next, with which its UI frame begins.
-abbrev unit : ℕ → Request
+abbrev pub unit : ℕ → Request
 unit n = Unit Call 127 (n ∷ [])
 
-abbrev pulls : ℕ → List Event
+abbrev pub pulls : ℕ → List Event
 pulls n = replicate n (at 0 pull)
 
-abbrev spelled : ℕ → List ℕ
+abbrev pub spelled : ℕ → List ℕ
 spelled n = 0x02 ∷ 0xFF ∷ 0x03 ∷ n ∷ []
 
 unit_seen : trace_of usual (on_0 (unit 0xAB) ∷ pulls 2) 0

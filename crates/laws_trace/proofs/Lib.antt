@@ -9,3 +9,6 @@ pub mod Octets
 pub mod FramesGoOut
 pub mod Fitting
 pub mod UnitsAreHeard
+pub mod Walking
+pub mod Turns
+pub mod LinksTakeTurns

@@ -138,20 +138,23 @@ first-goes : (us : List UnitData) (u : UnitData) → slice_get us 0 ≡ Some u �
 first-goes [] u is = absurd (cc)
 first-goes (v ∷ us) u is = let same : v ≡ u = cc in ap (λ x. unit_frame x ∷ map unit_frame us) (sym same)
 
-first-of : (c : Config) (us : List UnitData) (u : UnitData) → slice_get us 0 ≡ Some u → All (IsUnitData c) us → u.tei ≤ 127
+pub first-of : (c : Config) (us : List UnitData) (u : UnitData) → slice_get us 0 ≡ Some u → All (IsUnitData c) us → u.tei ≤ 127
 first-of c [] u is h = absurd (cc)
 first-of c (v ∷ us) u is h = let same : v ≡ u = cc in subst (λ (x : UnitData). x.tei ≤ 127) same (All-head (IsUnitData c) v us h).tei
 
 -- a frame of a link is none
-of-link : (c : Config) (l next : Line) (frame : List ℕ) → NoneWaits c l → IsOfLink c (contents_of l) l next frame → is_unit frame ≡ false
-of-link c l next frame h x =
-    ap is_unit x.spelled
-    ∙ other-frame (record { sapi = sapi_of (service_at x.number); command = x.command; tei = x.tei }) x.control (ap (λ b. b && not (sapi_of (service_at x.number) == management_sapi)) (by-order x.in_order)) _
+pub plain-order : (c : Config) (l next : Line) (frame : List ℕ) → NoneWaits c l → (x : IsOfLink c (contents_of l) l next frame) → is_ui x.control ≡ false
+plain-order c l next frame h x = by-order x.in_order
   where
     by-order : IsInOrder (terms c (service_at x.number) x.tei) (link_at x.number l) (link_at x.number next) (record { command = x.command; control = x.control }) → is_ui x.control ≡ false
     by-order (inl oldest) = All-head IsPlain (record { command = x.command; control = x.control }) (link_at x.number next).waiting (subst (All IsPlain) oldest.waited (h x.number x.few))
     by-order (inr (inl information)) = ap (λ (f : ControlFrame). is_ui f.control) information.is
     by-order (inr (inr acknowledgement)) = ap (λ (f : ControlFrame). is_ui f.control) acknowledgement.is
+
+of-link : (c : Config) (l next : Line) (frame : List ℕ) → NoneWaits c l → IsOfLink c (contents_of l) l next frame → is_unit frame ≡ false
+of-link c l next frame h x =
+    ap is_unit x.spelled
+    ∙ other-frame (record { sapi = sapi_of (service_at x.number); command = x.command; tei = x.tei }) x.control (ap (λ b. b && not (sapi_of (service_at x.number) == management_sapi)) (plain-order c l next frame h x)) _
 
 pull-passes : (c : Config) (l next : Line) → IsSound c l → NoneWaits c l → (o : Option Taken)
     → elim o as (λ o. Type 0) [ None ↦ IsIdle c l next | Some t ↦ IsOwed c (contents_of l) l next t.frame ]

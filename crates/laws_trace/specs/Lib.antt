@@ -4,5 +4,6 @@ pub mod Units
 pub mod UnitsGoOut
 pub mod FramesGoOut
 pub mod UnitsAreHeard
+pub mod LinksTakeTurns
 pub mod WorkedUnits
 pub mod WorkedFrames

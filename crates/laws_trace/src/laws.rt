@@ -2,6 +2,7 @@
 
 ghost use Rattle.laws_trace.specs.Trace.{Always};
 ghost use Rattle.laws_trace.specs.FramesGoOut.{FramesGoOut, OctetsGoOut};
+ghost use Rattle.laws_trace.specs.LinksTakeTurns.{LinksTakeTurns};
 ghost use Rattle.laws_trace.specs.UnitsAreHeard.{UnitsAreHeard};
 ghost use Rattle.laws_trace.specs.UnitsGoOut.{UnitsGoOut, AllUnitsGoOut};
 
@@ -28,4 +29,10 @@ pub fn frames_go_out()
 /// clauses 2.2 to 2.7, 3.6.5 and 5.2.2).
 pub fn units_are_heard()
     ensures { Always UnitsAreHeard }
+{}
+
+/// Links take turns. While a line is only pulled, after whatever happened to it, between two frames that begin for one link
+/// begins one of every other link that begins one behind these (profile).
+pub fn links_take_turns()
+    ensures { Always LinksTakeTurns }
 {}

@@ -1,9 +1,9 @@
 -- What a receiver hears in the octets that a line puts: the law.
-use Rattle.std.proofs.Common.{◌≡◌, ℕ, ◌+◌, ◌<◌, ◌≤◌, ◌⊎◌, inl, inr, Bool, List, [], ◌∷◌, ◌++◌, length, map, refl, sym, ap, ◌∙◌, subst, arith, append_assoc, append-nil}
-use Rattle.std.specs.Prelude.{All, flat_map}
+use Rattle.std.proofs.Common.{◌≡◌, ℕ, ◌<◌, ◌≤◌, ◌⊎◌, inl, inr, Bool, List, [], ◌∷◌, ◌++◌, length, map, refl, sym, ap, ◌∙◌, subst, arith, append_assoc}
+use Rattle.std.specs.Prelude.{All}
 use mathlib.Core.List.{reverse_aux}
-use Rattle.std.proofs.lemmas.List.{get_or-replicate, append_cancel_left, length-append}
-use Rattle.std.proofs.lemmas.List.Elements.{All-nil, All-cons, All-head, All-tail}
+use Rattle.std.proofs.lemmas.List.{get_or-replicate, append_cancel_left}
+use Rattle.std.proofs.lemmas.List.Elements.{All-head, All-tail}
 use Rattle.lapd_bits.specs.Bits.{bits}
 use Rattle.lapd_bits.specs.RoundTrip.{IsHeardWhole, AreHeardWhole, frames_of}
 use Rattle.lapd_bits.specs.Sent.{Item, idle, frame, item_text, line_text}
@@ -14,18 +14,17 @@ use Rattle.lapd_bits.proofs.RoundTripPlaces.{hears, hears-append}
 use Rattle.model_line.specs.declared.config.Config.{Config}
 use Rattle.model_line.specs.Line.{Line, fresh_line}
 use Rattle.model_line.specs.Sound as line
-use Rattle.model_card.specs.Card.{Card, fresh, line_at}
+use Rattle.model_card.specs.Card.{fresh, line_at}
 use Rattle.model_card.specs.Event.{Event}
 use Rattle.model_card.specs.Pulled.{frames_among}
 use Rattle.model_card.specs.Run.{after_all, AreAtLines}
-use Rattle.model_card.specs.Sound.{IsSound}
 use Rattle.model_card.proofs.CardSound.{fresh_is_sound, always_sound}
 use Rattle.model_card.proofs.Steps.{has_lines, line_sound}
 use Rattle.laws_card.proofs.Wherever.{config-stays}
-use Rattle.laws_trace.specs.Trace.{Seen, trace_of, Always, frames_begun, octets_put}
+use Rattle.laws_trace.specs.Trace.{trace_of, Always, frames_begun, octets_put}
 use Rattle.laws_trace.specs.FramesGoOut.{GoOut, FramesGoOut}
 use Rattle.laws_trace.proofs.Bits.{by-bits, items-heard, front-of}
-use Rattle.laws_trace.proofs.Octets.{HasLast, IsCut, Puts, rests, joins, steps, frames_among-append}
+use Rattle.laws_trace.proofs.Octets.{HasLast, IsCut, Puts, rests, joins, steps}
 use Rattle.laws_trace.proofs.Runs.{run-shows}
 
 -- frames among items

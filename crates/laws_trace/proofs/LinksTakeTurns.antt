@@ -1,24 +1,21 @@
 -- Links take turns: over runs of a card of which a line is only pulled.
-use Rattle.std.proofs.Common.{◌≡◌, ◌≢◌, ℕ, ◌<◌, ◌≤◌, ◌*◌, ◌==◌, ◌⊎◌, ⊎_elim, Bool, true, false, cond, List, [], ◌∷◌, ◌++◌, get_or, set, map, Option, Some, None, option_map, refl, sym, ap, ◌∙◌, subst, inl, inr, arith, eqb-true, eq-eqb, true≢false}
+use Rattle.std.proofs.Common.{◌≡◌, ◌≢◌, ℕ, ◌<◌, ◌==◌, ⊎_elim, Bool, true, false, cond, List, [], ◌∷◌, ◌++◌, get_or, map, Option, Some, None, option_map, refl, sym, ap, ◌∙◌, subst, inl, inr, arith, eqb-true, eq-eqb, true≢false}
 use Rattle.std.specs.Prelude.{All, filter, option_to_list}
 use Rattle.std.specs.Option.{unwrap_or}
 use Rattle.std.proofs.lemmas.Bool.{and_parts, cases_eq}
 use Rattle.std.proofs.lemmas.Grind.{flat_map-append}
 use Rattle.std.proofs.lemmas.List.{get_or-set_same, get_or-set_other, get_or-replicate, map-append}
 use Rattle.std.proofs.lemmas.List.Elements.{All-head, All-tail, All-cons, All-nil, filter-append}
-use Rattle.lapd_frame.specs.declared.controls.Control.TheVariants.{Ui}
 use Rattle.lapd_frame.specs.declared.services.Service.{Service}
 use Rattle.lapd_frame.specs.declared.services.Service.TheVariants.{Call, Packet}
 use Rattle.lapd_frame.specs.Services.{sapi_of}
 use Rattle.lapd_tei.specs.Messages.{information_of}
 use Rattle.model_link.specs.Link.{Link}
 use Rattle.model_link.specs.Link.{fresh as fresh_link}
-use Rattle.model_link.specs.declared.frames.ControlFrame.{ControlFrame}
 use Rattle.laws_link.specs.InOrder.{IsInOrder}
 use Rattle.model_line.specs.declared.config.Config.{Config}
-use Rattle.model_line.specs.Event as line_event
-use Rattle.model_line.specs.Event.{Answer, pull, refused}
-use Rattle.model_line.specs.Line.{Line, fresh_line, link_count, link_at, place_at, tei_at, service_at, terms}
+use Rattle.model_line.specs.Event.{pull}
+use Rattle.model_line.specs.Line.{Line, fresh_line, link_count, link_at, place_at, service_at, terms}
 use Rattle.model_line.specs.Machine as lines
 use Rattle.model_line.specs.Pull.{Taken, begun}
 use Rattle.model_line.specs.Sound as line
@@ -39,11 +36,10 @@ use Rattle.laws_card.proofs.Wherever.{all-left, all-right, config-stays}
 use Rattle.laws_trace.specs.Trace as traces
 use Rattle.laws_trace.specs.Trace.{Always, seen, trace, frames_begun}
 use Rattle.laws_trace.specs.LinksTakeTurns.{LinkName, named_in, is_of_link, links_begun, LinksTakeTurns}
-use Rattle.laws_trace.proofs.NoUi.{IsPlain}
 use Rattle.laws_trace.proofs.Runs.{run-shows}
 use Rattle.laws_trace.proofs.Turns.{link-frame, ui-frame, name-is}
 use Rattle.laws_trace.proofs.Units.{NoneWaits, fresh-none, Passes, rests, joins, steps, pulled-frames, plain-order, first-of}
-use Rattle.laws_trace.proofs.Walking.{named, Stays, Goes, Walk, still, goes, ends, take-turns}
+use Rattle.laws_trace.proofs.Walking.{named, Stays, Walk, still, goes, ends, take-turns}
 
 small-sapi : (service : Service) → sapi_of service < 64
 small-sapi Call = omega arith

@@ -1,6 +1,6 @@
 -- What the octets that a line puts are to the frames that begin on it.
-use Rattle.std.proofs.Common.{◌≡◌, ℕ, ◌+◌, ◌-◌, ◌*◌, ◌<◌, ◌≤◌, ◌⊎◌, inl, inr, Bool, true, false, cond, List, [], ◌∷◌, ◌++◌, length, drop, map, Option, Some, None, IfSome, option_map, refl, sym, ap, ◌∙◌, subst, arith, append_assoc, append-nil}
-use Rattle.std.specs.Prelude.{All, flat_map, option_to_list}
+use Rattle.std.proofs.Common.{◌≡◌, ℕ, ◌+◌, ◌≤◌, ◌⊎◌, inl, inr, Bool, true, false, cond, List, [], ◌∷◌, ◌++◌, length, map, Option, Some, None, IfSome, option_map, refl, sym, ap, ◌∙◌, subst, arith, append_assoc, append-nil}
+use Rattle.std.specs.Prelude.{option_to_list}
 use Rattle.std.proofs.lemmas.Bool.{ltb-true}
 use Rattle.std.proofs.lemmas.Grind.{flat_map-append}
 use Rattle.std.proofs.lemmas.List.{length-drop, length-append}
@@ -18,7 +18,7 @@ use Rattle.model_line.specs.Expiry.{aim_of_expiry}
 use Rattle.model_line.specs.Line.{Line}
 use Rattle.model_line.specs.Machine.{after, answer, unless_refused}
 use Rattle.model_line.specs.Octet.{gained, aim_of_octet, with_received}
-use Rattle.model_line.specs.Pull.{Taken, taken, is_due, with_item, left_of, next_octet, orders_of}
+use Rattle.model_line.specs.Pull.{Taken, taken, is_due, with_item, left_of, next_octet}
 use Rattle.model_line.specs.Refusal.{refusal}
 use Rattle.model_line.specs.Request.{Request}
 use Rattle.model_line.specs.Requested.{aim_of_request}

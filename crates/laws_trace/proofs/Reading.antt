@@ -11,9 +11,9 @@ use Rattle.lapd_frame.specs.declared.services.Service.{Service}
 use Rattle.lapd_frame.specs.declared.services.Service.TheVariants.{Call, Packet}
 use Rattle.lapd_frame.specs.Faults.{is_short, has_bad_extension}
 use Rattle.lapd_frame.specs.Grammar.{Parts, cr_bit, allows, takes, row, spelling}
-use Rattle.lapd_frame.specs.Reading.{address_of, control_of, checked, header_of, start_of, completed, reading}
+use Rattle.lapd_frame.specs.Reading.{address_of, checked, header_of, start_of, completed, reading}
 use Rattle.lapd_frame.specs.Services.{sapi_of}
-use Rattle.lapd_frame.proofs.AddressField.{extension-again, address-again}
+use Rattle.lapd_frame.proofs.AddressField.{address-again}
 use Rattle.lapd_frame.proofs.ControlField.{control-again}
 use Rattle.lapd_frame.proofs.Spelling.{reading-again}
 use Rattle.model_line.specs.Line.{UnitData}

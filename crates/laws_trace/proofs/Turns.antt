@@ -1,27 +1,20 @@
 -- Links take turns: over runs of a card of which a line is only pulled.
-use Rattle.std.proofs.Common.{◌≡◌, ◌≢◌, ℕ, ◌+◌, ◌*◌, ◌/◌, ◌<◌, ◌==◌, Bool, true, false, cond, List, [], ◌∷◌, ◌++◌, length, drop, slice_index, get_or, set, map, Option, Some, None, option_map, Result, Ok, Err, refl, sym, ap, ◌∙◌, subst, inl, inr, arith, eqb-true, eq-eqb, true≢false}
-use Rattle.std.specs.Prelude.{All, not, filter, option_to_list}
-use Rattle.std.proofs.lemmas.Bool.{and_parts}
-use Rattle.std.proofs.lemmas.List.{get_or-set_same, get_or-set_other}
-use Rattle.std.proofs.lemmas.List.Elements.{All-head, All-tail}
+use Rattle.std.proofs.Common.{◌≡◌, ℕ, ◌+◌, ◌*◌, ◌/◌, ◌<◌, Bool, true, false, cond, List, ◌++◌, length, drop, slice_index, Some, Result, Ok, Err, refl, sym, ap, ◌∙◌, subst, arith}
+use Rattle.std.specs.Prelude.{not}
 use Rattle.lapd_frame.specs.declared.addresses.Address.{Address}
 use Rattle.lapd_frame.specs.declared.addresses.Side.TheVariants.{Network}
 use Rattle.lapd_frame.specs.declared.controls.Control.{Control}
 use Rattle.lapd_frame.specs.declared.controls.Control.TheVariants.{Ui}
 use Rattle.lapd_frame.specs.declared.faults.ReadFault.{ReadFault}
 use Rattle.lapd_frame.specs.declared.faults.ReadFault.TheVariants.{BadExtension, Undefined, WrongSize, Short}
-use Rattle.lapd_frame.specs.declared.services.Service.{Service}
-use Rattle.lapd_frame.specs.declared.services.Service.TheVariants.{Call, Packet}
 use Rattle.lapd_frame.specs.Faults.{is_short, has_bad_extension}
-use Rattle.lapd_frame.specs.Grammar.{Parts, cr_bit, allows, takes, row, IsFrame, spelling}
-use Rattle.lapd_frame.specs.Reading.{address_of, control_of, checked, header_of, start_of, completed, reading}
-use Rattle.lapd_frame.specs.Services.{sapi_of}
+use Rattle.lapd_frame.specs.Grammar.{Parts, cr_bit, allows, takes, row, spelling}
+use Rattle.lapd_frame.specs.Reading.{address_of, checked, header_of, start_of, completed, reading}
 use Rattle.lapd_frame.proofs.AddressField.{address-again}
 use Rattle.lapd_frame.proofs.ControlField.{control-again}
 use Rattle.lapd_frame.proofs.Spelling.{reading-again}
-use Rattle.lapd_tei.specs.Messages.{information_of}
 use Rattle.laws_trace.specs.Units.{is_ui}
-use Rattle.laws_trace.specs.LinksTakeTurns.{LinkName, named_in, is_no_ui, is_of_link}
+use Rattle.laws_trace.specs.LinksTakeTurns.{named_in, is_no_ui, is_of_link}
 
 -- What is no UI is of a link, whether the grammar has it or not.
 module _ (a : Address) (c : Control) (other : is_ui c ≡ false) where

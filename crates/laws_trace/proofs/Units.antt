@@ -1,18 +1,16 @@
 -- Unit data goes out in the order in which it was granted, over runs.
-use Rattle.std.proofs.Common.{◌≡◌, ℕ, ◌+◌, ◌<◌, ◌≤◌, ◌==◌, ◌&&◌, Bool, true, false, cond, List, [], ◌∷◌, ◌++◌, length, drop, map, slice_get, Option, Some, None, option_map, refl, sym, ap, ◌∙◌, subst, inl, inr, arith, append_assoc, append-nil}
-use Rattle.std.specs.Prelude.{All, not, filter, flat_map, option_to_list, get_or}
+use Rattle.std.proofs.Common.{◌≡◌, ℕ, ◌<◌, ◌≤◌, ◌==◌, ◌&&◌, Bool, true, false, cond, List, [], ◌∷◌, ◌++◌, drop, map, slice_get, Option, Some, None, option_map, refl, sym, ap, ◌∙◌, subst, inl, inr, append_assoc, append-nil}
+use Rattle.std.specs.Prelude.{All, not, filter, option_to_list}
 use Rattle.std.proofs.lemmas.Grind.{flat_map-append}
 use Rattle.std.proofs.lemmas.List.{get_or-replicate, map-append}
-use Rattle.std.proofs.lemmas.List.Elements.{All-nil, All-cons, All-head, filter-append}
+use Rattle.std.proofs.lemmas.List.Elements.{All-nil, All-head, filter-append}
 use Rattle.lapd_bits.specs.Stream as stream
-use Rattle.lapd_frame.specs.declared.controls.Control.{Control}
 use Rattle.lapd_frame.specs.declared.controls.Control.TheVariants.{Ui}
 use Rattle.lapd_frame.specs.Services.{sapi_of}
 use Rattle.lapd_tei.specs.Messages.{information_of}
-use Rattle.laws_link.specs.InOrder.{IsOldest, IsInformation, IsAcknowledgement, IsInOrder}
+use Rattle.laws_link.specs.InOrder.{IsInOrder}
 use Rattle.model_link.specs.Link.{Link, fresh}
 use Rattle.model_link.specs.declared.frames.ControlFrame.{ControlFrame}
-use Rattle.model_link.specs.declared.terms.Terms.{Terms}
 use Rattle.model_line.specs.declared.config.Config.{Config}
 use Rattle.model_line.specs.Event.{Event, octet, expiry, request, pull, Answer, told, refused, pulled}
 use Rattle.model_line.specs.Line.{Line, UnitData, link_count, link_at, service_at, terms, fresh_line}
@@ -22,11 +20,10 @@ use Rattle.model_line.specs.Pull.{Taken, begun, unit_frame}
 use Rattle.model_line.specs.Request as asked
 use Rattle.model_line.specs.Request.{Request}
 use Rattle.model_line.specs.Sound.{IsInRange, IsUnitData, IsSound}
-use Rattle.laws_line.specs.Pulls.{IsMessage, IsUnit, IsOfLink, IsOwed, IsIdle, IsServed, contents_of, units_asked, unit_asked}
-use Rattle.laws_line.specs.Share.{is_granted}
+use Rattle.laws_line.specs.Pulls.{IsOfLink, IsOwed, IsIdle, contents_of, units_asked, unit_asked}
 use Rattle.laws_line.proofs.Happening.{event-happens}
 use Rattle.laws_line.proofs.Serving.{served, units-wait}
-use Rattle.model_card.specs.Pulled.{frame_taken, frame_in, octet_in}
+use Rattle.model_card.specs.Pulled.{frame_taken, octet_in}
 use Rattle.laws_trace.specs.Trace as traces
 use Rattle.laws_trace.specs.Trace.{Seen, heard, put, seen_told, seen_granted, seen, frames_begun}
 use Rattle.laws_trace.specs.Units as units

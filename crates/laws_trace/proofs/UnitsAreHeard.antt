@@ -1,20 +1,15 @@
 -- What a receiver hears, where octets are octets: the laws.
-use Rattle.std.proofs.Common.{◌≡◌, ℕ, ◌<◌, List, [], ◌∷◌, ◌++◌, map, refl, sym, ap, ◌∙◌, append_assoc}
-use Rattle.std.specs.Prelude.{All, filter, flat_map}
+use Rattle.std.proofs.Common.{◌≡◌, ℕ, List, [], ◌∷◌, ◌++◌, map, refl, sym, ap, ◌∙◌, append_assoc}
+use Rattle.std.specs.Prelude.{filter, flat_map}
 use Rattle.std.proofs.lemmas.Grind.{flat_map-append}
 use Rattle.std.proofs.lemmas.List.Elements.{filter-append}
 use Rattle.lapd_bits.specs.Stream as stream
 use Rattle.lapd_bits.specs.Stream.{heard_in}
-use Rattle.lapd_bits.specs.StuffingLaws.{AreOctets}
-use Rattle.model_line.specs.declared.config.Config.{Config}
-use Rattle.model_line.specs.Sound as line
 use Rattle.model_card.specs.Card.{fresh}
-use Rattle.model_card.specs.Event.{Event}
-use Rattle.model_card.specs.Run.{AreAtLines}
 use Rattle.model_card.proofs.CardSound.{fresh_is_sound}
-use Rattle.laws_trace.specs.Trace.{trace_of, Always, IsFront, frames_begun, octets_put}
-use Rattle.laws_trace.specs.FramesGoOut.{GoOut, OctetsGoOut}
-use Rattle.laws_trace.specs.Units.{is_unit, units_begun, units_granted}
+use Rattle.laws_trace.specs.Trace.{trace_of, Always, frames_begun, octets_put}
+use Rattle.laws_trace.specs.FramesGoOut.{OctetsGoOut}
+use Rattle.laws_trace.specs.Units.{is_unit}
 use Rattle.laws_trace.specs.UnitsAreHeard.{frame_heard, frames_heard, UnitsAreHeard}
 use Rattle.laws_trace.proofs.Fitting.{Anything, Fits, rests, joins, steps, all-heard}
 use Rattle.laws_trace.proofs.FramesGoOut.{frames-go-out}

@@ -1,9 +1,8 @@
 -- Unit data goes out: the laws.
 use Rattle.std.proofs.Common.{◌≡◌, ℕ, ◌<◌, ◌≤◌, List, [], ◌∷◌, ◌++◌, map, refl, sym, ap, ◌∙◌, subst, append-nil}
-use Rattle.std.specs.Prelude.{All}
 use Rattle.std.proofs.lemmas.List.{get_or-replicate}
 use Rattle.model_line.specs.declared.config.Config.{Config}
-use Rattle.model_line.specs.Line.{Line, UnitData, fresh_line}
+use Rattle.model_line.specs.Line.{Line, fresh_line}
 use Rattle.model_line.specs.Pull.{unit_frame}
 use Rattle.model_line.specs.Sound as line
 use Rattle.laws_line.specs.Drains.{most_pulls}
@@ -12,12 +11,11 @@ use Rattle.model_card.specs.Card.{Card, fresh, line_at}
 use Rattle.model_card.specs.Event.{Event}
 use Rattle.model_card.specs.Machine.{after}
 use Rattle.model_card.specs.Run.{after_all, AreAtLines}
-use Rattle.model_card.specs.Sound.{IsSound}
 use Rattle.model_card.proofs.CardSound.{fresh_is_sound}
 use Rattle.laws_card.specs.Among.{ArePullsAt, pulls_at}
 use Rattle.laws_card.proofs.Enough.{enough-pulls}
 use Rattle.laws_card.proofs.Wherever.{begins-with-few, config-stays}
-use Rattle.laws_trace.specs.Trace.{trace_of, Always, IsFront}
+use Rattle.laws_trace.specs.Trace.{trace_of, Always}
 use Rattle.laws_trace.specs.Units.{units_begun, units_granted}
 use Rattle.laws_trace.specs.UnitsGoOut.{UnitsGoOut, AllUnitsGoOut}
 use Rattle.laws_trace.proofs.Runs.{run-shows}

@@ -1,12 +1,11 @@
 -- What goes out on a line is what began.
-use Rattle.std.specs.Prelude.{◌≡◌, ◌≤◌, ℕ, List, [], ◌∷◌, ◌++◌, length, map, filter, flat_map, All}
+use Rattle.std.specs.Prelude.{◌≡◌, ◌≤◌, ℕ, List, ◌++◌, length, map, All}
 use Rattle.lapd_bits.specs.RoundTrip.{IsHeardWhole}
 use Rattle.lapd_bits.specs.Stream as stream
 use Rattle.lapd_bits.specs.StuffingLaws.{AreOctets}
 use Rattle.model_line.specs.declared.config.Config.{Config}
 use Rattle.model_card.specs.Event.{Event}
-use Rattle.laws_trace.specs.Trace.{trace_of, frames_begun, octets_put, IsFront}
-use Rattle.laws_trace.specs.Units.{is_unit, units_granted}
+use Rattle.laws_trace.specs.Trace.{trace_of, frames_begun, octets_put}
 
 -- What a receiver hears in the octets that a line puts are the frames that began on it, in order, whole, each once; the
 -- last may be on its way (Q.921 clauses 2.2 to 2.7).

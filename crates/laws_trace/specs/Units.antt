@@ -2,7 +2,7 @@
 use Rattle.std.specs.Prelude.{ℕ, ◌==◌, ◌&&◌, not, Bool, true, false, List, [], ◌∷◌, filter, flat_map, Result, Ok, Err}
 use Rattle.lapd_frame.specs.declared.addresses.Side.TheVariants.{Network}
 use Rattle.lapd_frame.specs.declared.controls.Control.{Control}
-use Rattle.lapd_frame.specs.declared.controls.Control.TheVariants.{Information, ReceiveReady, ReceiveNotReady, Reject, Sabme, Disc, Ui, Ua, Dm, Frmr, Xid}
+use Rattle.lapd_frame.specs.declared.controls.Control.TheVariants.{Ui}
 use Rattle.lapd_frame.specs.declared.faults.ReadFault.{ReadFault}
 use Rattle.lapd_frame.specs.Grammar.{Parts}
 use Rattle.lapd_frame.specs.Reading.{reading}
@@ -10,7 +10,7 @@ use Rattle.model_line.specs.Octet.{management_sapi}
 use Rattle.model_line.specs.Pull.{unit_frame}
 use Rattle.model_line.specs.Request as asked
 use Rattle.model_line.specs.Request.{Request}
-use Rattle.laws_trace.specs.Trace.{Seen, heard, begun, put, noted, granted, lost, frames_begun}
+use Rattle.laws_trace.specs.Trace.{Seen, granted, frames_begun}
 
 -- A frame of this side, as the grammar reads it, is a UI, and none of TEI management, which has SAPI 63 (Q.921 clauses
 -- 3.6.5 and 5.3.1).

@@ -4,7 +4,7 @@ import re
 import shutil
 
 # The crates that define machines and state laws, and what a copy of one doesn't have.
-MACHINES = re.compile(r"_(machine|laws|progress)$|^lapd_tei$")
+MACHINES = re.compile(r"^(model|laws)_|^lapd_tei$")
 DROPPED = "proofs", "out", "must-fail", "wrong-bodies"
 # A worked value: its statement, what it unfolds, and its proof by computing, alone or field by field.
 WORKED = re.compile(

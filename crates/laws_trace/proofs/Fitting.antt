@@ -1,0 +1,124 @@
+-- Each frame that begins on a line has octets enough for a frame, and not too many.
+use Rattle.std.proofs.Common.{◌≡◌, ℕ, ◌+◌, ◌*◌, ◌%◌, ◌≤◌, ◌⊎◌, inl, inr, Bool, true, false, cond, List, [], ◌∷◌, ◌++◌, length, slice_index, Option, Some, None, IfSome, option_map, refl, sym, subst, arith}
+use Rattle.std.specs.Prelude.{All, option_to_list}
+use Rattle.std.proofs.lemmas.Grind.{flat_map-append}
+use Rattle.std.proofs.lemmas.List.Elements.{All-nil, All-cons, All-head, All-tail, All-append}
+use Rattle.lapd_bits.specs.RoundTrip.{IsHeardWhole}
+use Rattle.lapd_bits.specs.StuffingLaws.{AreOctets}
+use Rattle.lapd_frame.specs.declared.addresses.Address.{Address}
+use Rattle.lapd_frame.specs.declared.addresses.Side.TheVariants.{Network}
+use Rattle.lapd_frame.specs.declared.controls.Control.{Control}
+use Rattle.lapd_frame.specs.declared.controls.Control.TheVariants.{Information, ReceiveReady, ReceiveNotReady, Reject, Sabme, Disc, Ui, Ua, Dm, Frmr, Xid}
+use Rattle.lapd_frame.specs.Grammar.{cr_bit, second_octet, one_of, row, spelling}
+use Rattle.lapd_frame.specs.Services.{sapi_of}
+use Rattle.lapd_tei.specs.Messages.{information_of}
+use Rattle.model_line.specs.declared.config.Config.{Config}
+use Rattle.model_line.specs.Event.{Event, octet, expiry, request, pull}
+use Rattle.model_line.specs.Line.{Line, service_at}
+use Rattle.model_line.specs.Machine.{after, answer}
+use Rattle.model_line.specs.Octet.{gained}
+use Rattle.model_line.specs.Pull.{Taken, taken, is_due, begun}
+use Rattle.model_line.specs.Sound.{IsInRange, IsSound}
+use Rattle.model_line.proofs.PullSound.{TakesSoundly, taken_sound}
+use Rattle.laws_line.specs.Pulls.{IsOwed, IsIdle, contents_of}
+use Rattle.laws_line.proofs.Serving.{served}
+use Rattle.model_card.specs.Pulled.{frame_taken}
+use Rattle.laws_trace.specs.Trace as traces
+use Rattle.laws_trace.specs.Trace.{Seen, seen, frames_begun}
+use Rattle.laws_trace.proofs.Octets.{no-frame, no-frame-asked}
+use Rattle.laws_trace.proofs.Units.{pulled-frames}
+
+abbrev IsNotShort : List ℕ → Type 0
+IsNotShort octets = (4 ≤ length octets) ⊎ ((length octets ≡ 3) × (slice_index octets 2 % 4 ≡ 3))
+
+pub record IsFit (n201 : ℕ) (octets : List ℕ) : Type 0 where
+  pub not_short : IsNotShort octets
+  pub not_long : length octets ≤ n201 + 4
+
+-- what the grammar spells is not too short
+behind-four : (a b c d : ℕ) (info : List ℕ) → 4 ≤ length (a ∷ b ∷ c ∷ d ∷ info)
+behind-four a b c d info = omega arith
+
+by-pf : (without with_pf : ℕ) (pf : Bool) → without % 4 ≡ 3 → with_pf % 4 ≡ 3 → cond pf with_pf without % 4 ≡ 3
+by-pf without with_pf true h k = k
+by-pf without with_pf false h k = h
+
+one-octet : (a b without with_pf : ℕ) (pf : Bool) (info : List ℕ) → without % 4 ≡ 3 → with_pf % 4 ≡ 3 → IsNotShort (a ∷ b ∷ (one_of without with_pf pf ++ info))
+one-octet a b without with_pf pf [] h k = inr (refl, by-pf without with_pf pf h k)
+one-octet a b without with_pf pf (x ∷ info) h k = inl (behind-four a b (cond pf with_pf without) x info)
+
+not-short : (a : Address) (c : Control) (info : List ℕ) → IsNotShort (spelling Network (record { address = a; control = c; info = info }))
+not-short a c info = go c
+  where
+    first : ℕ
+    first = 4 * a.sapi + 2 * cr_bit Network a.command
+
+    second : ℕ
+    second = 2 * a.tei + 1
+
+    go : (c : Control) → IsNotShort (first ∷ second ∷ ((row c).field ++ info))
+    go (Information ns nr p) = inl (behind-four first second (2 * ns.value) (second_octet nr p) info)
+    go (ReceiveReady nr pf) = inl (behind-four first second 0x01 (second_octet nr pf) info)
+    go (ReceiveNotReady nr pf) = inl (behind-four first second 0x05 (second_octet nr pf) info)
+    go (Reject nr pf) = inl (behind-four first second 0x09 (second_octet nr pf) info)
+    go (Sabme pf) = one-octet first second 0x6F 0x7F pf info refl refl
+    go (Disc pf) = one-octet first second 0x43 0x53 pf info refl refl
+    go (Ui pf) = one-octet first second 0x03 0x13 pf info refl refl
+    go (Ua pf) = one-octet first second 0x63 0x73 pf info refl refl
+    go (Dm pf) = one-octet first second 0x0F 0x1F pf info refl refl
+    go (Frmr pf) = one-octet first second 0x87 0x97 pf info refl refl
+    go (Xid pf) = one-octet first second 0xAF 0xBF pf info refl refl
+
+owed-not-short : (c : Config) (l next : Line) (frame : List ℕ) → IsOwed c (contents_of l) l next frame → IsNotShort frame
+owed-not-short c l next frame (inl x) =
+    subst IsNotShort (sym x.spelled) (not-short (record { sapi = 63; command = true; tei = 127 }) (Ui false) (information_of x.message))
+owed-not-short c l next frame (inr (inl x)) =
+    subst IsNotShort (sym x.spelled) (not-short (record { sapi = sapi_of x.unit.service; command = true; tei = x.unit.tei }) (Ui false) x.unit.contents)
+owed-not-short c l next frame (inr (inr x)) =
+    subst IsNotShort (sym x.spelled) (not-short (record { sapi = sapi_of (service_at x.number); command = x.command; tei = x.tei }) x.control _)
+
+-- What begins in a trace fits.
+abbrev pub Fits : Config → Line → List Seen → Line → Type 0
+Fits c before t after = All (IsFit c.n201) (frames_begun t)
+
+abbrev pub Anything : Config → Line → Type 0
+Anything c l = Unit {0}
+
+pub rests : (c : Config) (l : Line) → Fits c l [] l
+rests c l = All-nil (IsFit c.n201)
+
+pub joins : (c : Config) (k l m : Line) (t u : List Seen) → Fits c k t l → Fits c l u m → Fits c k (t ++ u) m
+joins c k l m t u h i = subst (All (IsFit c.n201)) (sym (flat_map-append traces.frame_begun t u)) (All-append (IsFit c.n201) (frames_begun t) (frames_begun u) h i)
+
+if-due : (c : Config) (l : Line) (due : Bool) (o : Option Taken) → IfSome o (TakesSoundly c l) → IfSome (cond due o None) (TakesSoundly c l)
+if-due c l true o h = h
+if-due c l false o h = tt
+
+by-pull : (c : Config) (l next : Line) (o : Option Taken)
+    → elim o as (λ o. Type 0) [ None ↦ IsIdle c l next | Some t ↦ IsOwed c (contents_of l) l next t.frame ]
+    → IfSome o (TakesSoundly c l) → All (IsFit c.n201) (option_to_list (option_map frame_taken o))
+by-pull c l next None x h = All-nil (IsFit c.n201)
+by-pull c l next (Some t) x h =
+    All-cons (IsFit c.n201) t.frame [] (record { not_short = owed-not-short c l next t.frame x; not_long = h.size }) (All-nil (IsFit c.n201))
+
+event-fits : (c : Config) → IsInRange c → (e : Event) (l : Line) → IsSound c l → Fits c l (seen c e l (answer c e l)) (after c e l)
+event-fits c ranged (octet value) l s =
+    subst (All (IsFit c.n201)) (sym (no-frame (gained c.n201 l.received value) (answer c (octet value) l))) (All-nil (IsFit c.n201))
+event-fits c ranged (expiry timer) l s = subst (All (IsFit c.n201)) (sym (no-frame None (answer c (expiry timer) l))) (All-nil (IsFit c.n201))
+event-fits c ranged (request r) l s = subst (All (IsFit c.n201)) (sym (no-frame-asked r (answer c (request r) l))) (All-nil (IsFit c.n201))
+event-fits c ranged pull l s =
+    subst (All (IsFit c.n201)) (sym (pulled-frames (begun c l) (answer c pull l)))
+    (by-pull c l (after c pull l) (begun c l) (served c l s) (if-due c l (is_due l) (taken c l) (taken_sound c ranged l s)))
+
+pub steps : (c : Config) → IsInRange c → (e : Event) (l : Line) → IsSound c l → Anything c l
+    → Fits c l (seen c e l (answer c e l)) (after c e l) × Anything c (after c e l)
+steps c ranged e l s h = (event-fits c ranged e l s, tt)
+
+-- With octets that are octets, it is heard whole.
+pub all-heard : (n201 : ℕ) (frames : List (List ℕ)) → All (IsFit n201) frames → All AreOctets frames → All (IsHeardWhole n201) frames
+all-heard n201 [] fit octets = All-nil (IsHeardWhole n201)
+all-heard n201 (frame ∷ frames) fit octets =
+    let f = All-head (IsFit n201) frame frames fit in
+    All-cons (IsHeardWhole n201) frame frames
+    (record { octets_are = All-head AreOctets frame frames octets; not_short = f.not_short; not_long = f.not_long })
+    (all-heard n201 frames (All-tail (IsFit n201) frame frames fit) (All-tail AreOctets frame frames octets))

@@ -1,0 +1,121 @@
+-- No UI waits on a link: what a link gives is no unit data.
+use Rattle.std.proofs.Common.{◌≡◌, ℕ, ◌+◌, ◌&&◌, ◌||◌, Bool, true, false, cond, List, [], ◌∷◌, take, refl}
+use Rattle.std.specs.Prelude.{All, not}
+use Rattle.std.proofs.lemmas.List.Elements.{All-nil, All-cons, All-append, All-take, All-drop}
+use Rattle.lapd_frame.specs.declared.controls.Control.{Control}
+use Rattle.lapd_frame.specs.declared.controls.Control.TheVariants.{Information, ReceiveReady, ReceiveNotReady, Reject, Sabme, Disc, Ui, Ua, Dm, Frmr, Xid}
+use Rattle.model_link.specs.declared.states.State.{State}
+use Rattle.model_link.specs.declared.states.State.TheVariants.{TeiAssigned, AwaitingEstablishment, AwaitingRelease, Established, TimerRecovery}
+use Rattle.model_link.specs.declared.frames.ControlFrame.{ControlFrame}
+use Rattle.model_link.specs.declared.terms.Terms.{Terms}
+use Rattle.model_link.specs.Link.{Link, is_multiple_frame}
+use Rattle.model_link.specs.Events.{Event, frame, undefined, wrong_size, overlong, Establish, Release, Data, SetBusy, ClearBusy, received, expired, requested, offer, cleared}
+use Rattle.laws_link.specs.States.{moves}
+use Rattle.laws_link.specs.Waiting.{receipt_as, is_next, is_taken, to_information, to_supervisory, to_sabme, to_disc, answers_up, answers_to, answers, command_in, is_time, commands, put, room, behind, waiting_left}
+use Rattle.laws_trace.specs.Units.{is_ui}
+
+abbrev pub IsPlain : ControlFrame → Type 0
+IsPlain f = is_ui f.control ≡ false
+
+abbrev ArePlain : List ControlFrame → Type 0
+ArePlain frames = All IsPlain frames
+
+none : ArePlain []
+none = All-nil IsPlain
+
+one : (f : ControlFrame) → IsPlain f → ArePlain (f ∷ [])
+one f h = All-cons IsPlain f [] h none
+
+either : (b : Bool) (xs ys : List ControlFrame) → ArePlain xs → ArePlain ys → ArePlain (cond b xs ys)
+either true xs ys h k = h
+either false xs ys h k = k
+
+receipt : (command own_busy : Bool) (r : ℕ) (pf : Bool) → IsPlain (record { command = command; control = receipt_as own_busy r pf })
+receipt command true r pf = refl
+receipt command false r pf = refl
+
+information : (next p : Bool) (l : Link) → ArePlain (to_information next p l)
+information next p l =
+    either (not l.own_busy && (not next && not l.rejecting)) _ _ (one _ refl)
+    (either p _ [] (one _ (receipt false l.own_busy (cond (is_taken next l) (l.r + 1) l.r) true)) none)
+
+supervisory : (command p : Bool) (l : Link) → ArePlain (to_supervisory command p l)
+supervisory command p l = either (command && p) _ [] (one _ (receipt false l.own_busy l.r true)) none
+
+up : (command : Bool) (c : Control) (l : Link) → ArePlain (answers_up command c l)
+up command (Information ns nr p) l = information (is_next ns l) p l
+up command (ReceiveReady nr p) l = supervisory command p l
+up command (ReceiveNotReady nr p) l = supervisory command p l
+up command (Reject nr p) l = supervisory command p l
+up command (Sabme p) l = none
+up command (Disc p) l = none
+up command (Ui p) l = none
+up command (Ua f) l = none
+up command (Dm f) l = none
+up command (Frmr f) l = none
+up command (Xid f) l = none
+
+for-sabme : (state : State) (p : Bool) → IsPlain (record { command = false; control = to_sabme state p })
+for-sabme TeiAssigned p = refl
+for-sabme AwaitingEstablishment p = refl
+for-sabme AwaitingRelease p = refl
+for-sabme Established p = refl
+for-sabme TimerRecovery p = refl
+
+for-disc : (state : State) (p : Bool) → IsPlain (record { command = false; control = to_disc state p })
+for-disc TeiAssigned p = refl
+for-disc AwaitingEstablishment p = refl
+for-disc AwaitingRelease p = refl
+for-disc Established p = refl
+for-disc TimerRecovery p = refl
+
+to-frame : (command : Bool) (c : Control) (l : Link) → ArePlain (answers_to command c l)
+to-frame command (Sabme p) l = one _ (for-sabme l.state p)
+to-frame command (Disc p) l = one _ (for-disc l.state p)
+to-frame command (Information ns nr p) l = either (is_multiple_frame l.state) _ [] (up command (Information ns nr p) l) none
+to-frame command (ReceiveReady nr p) l = either (is_multiple_frame l.state) _ [] (up command (ReceiveReady nr p) l) none
+to-frame command (ReceiveNotReady nr p) l = either (is_multiple_frame l.state) _ [] (up command (ReceiveNotReady nr p) l) none
+to-frame command (Reject nr p) l = either (is_multiple_frame l.state) _ [] (up command (Reject nr p) l) none
+to-frame command (Ui p) l = either (is_multiple_frame l.state) [] [] none none
+to-frame command (Ua f) l = either (is_multiple_frame l.state) [] [] none none
+to-frame command (Dm f) l = either (is_multiple_frame l.state) [] [] none none
+to-frame command (Frmr f) l = either (is_multiple_frame l.state) [] [] none none
+to-frame command (Xid f) l = either (is_multiple_frame l.state) [] [] none none
+
+all-answers : (e : Event) (l : Link) → ArePlain (answers e l)
+all-answers (received (frame f)) l = to-frame f.address.command f.control l
+all-answers (received undefined) l = none
+all-answers (received wrong_size) l = none
+all-answers (received overlong) l = none
+all-answers (expired timer) l = none
+all-answers (requested Establish full) l = none
+all-answers (requested Release full) l = none
+all-answers (requested (Data contents) full) l = none
+all-answers (requested SetBusy full) l = either (is_multiple_frame l.state && not l.own_busy) _ [] (one _ refl) none
+all-answers (requested ClearBusy full) l = either (is_multiple_frame l.state && l.own_busy) _ [] (one _ refl) none
+all-answers offer l = none
+all-answers cleared l = none
+
+command-in : (state : State) (l : Link) → ArePlain (command_in state l)
+command-in TeiAssigned l = none
+command-in AwaitingEstablishment l = one _ refl
+command-in AwaitingRelease l = one _ refl
+command-in Established l = none
+command-in TimerRecovery l = one _ (receipt true l.own_busy l.r true)
+
+all-put : (e : Event) (l : Link) (to : State) → ArePlain (put e l to)
+all-put e l to =
+    All-append IsPlain (answers e l) (commands e l to) (all-answers e l)
+    (either (moves l.state to || is_time e l) (command_in to l) [] (command-in to l) none)
+
+all-behind : (t : Terms) (e : Event) (l : Link) (to : State) → ArePlain l.waiting → ArePlain (behind t l (put e l to))
+all-behind t e l to h =
+    All-append IsPlain l.waiting (take (room t l) (put e l to)) h (All-take IsPlain (room t l) (put e l to) (all-put e l to))
+
+-- What an event leaves of those that wait.
+pub all-left : (t : Terms) (e : Event) (l : Link) (to : State) → ArePlain l.waiting → ArePlain (waiting_left t e l to)
+all-left t (received what) l to h = all-behind t (received what) l to h
+all-left t (expired timer) l to h = all-behind t (expired timer) l to h
+all-left t (requested asked full) l to h = all-behind t (requested asked full) l to h
+all-left t offer l to h = All-drop IsPlain 1 l.waiting h
+all-left t cleared l to h = none

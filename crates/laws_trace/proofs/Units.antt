@@ -1,0 +1,194 @@
+-- Unit data goes out in the order in which it was granted, over runs.
+use Rattle.std.proofs.Common.{◌≡◌, ℕ, ◌<◌, ◌≤◌, ◌==◌, ◌&&◌, Bool, true, false, cond, List, [], ◌∷◌, ◌++◌, drop, map, slice_get, Option, Some, None, option_map, refl, sym, ap, ◌∙◌, subst, inl, inr, append_assoc, append-nil}
+use Rattle.std.specs.Prelude.{All, not, filter, option_to_list}
+use Rattle.std.proofs.lemmas.Grind.{flat_map-append}
+use Rattle.std.proofs.lemmas.List.{get_or-replicate, map-append}
+use Rattle.std.proofs.lemmas.List.Elements.{All-nil, All-head, filter-append}
+use Rattle.lapd_bits.specs.Stream as stream
+use Rattle.lapd_frame.specs.declared.controls.Control.TheVariants.{Ui}
+use Rattle.lapd_frame.specs.Services.{sapi_of}
+use Rattle.lapd_tei.specs.Messages.{information_of}
+use Rattle.laws_link.specs.InOrder.{IsInOrder}
+use Rattle.model_link.specs.Link.{Link, fresh}
+use Rattle.model_link.specs.declared.frames.ControlFrame.{ControlFrame}
+use Rattle.model_line.specs.declared.config.Config.{Config}
+use Rattle.model_line.specs.Event.{Event, octet, expiry, request, pull, Answer, told, refused, pulled}
+use Rattle.model_line.specs.Line.{Line, UnitData, link_count, link_at, service_at, terms, fresh_line}
+use Rattle.model_line.specs.Machine.{after, answer}
+use Rattle.model_line.specs.Octet.{gained, management_sapi}
+use Rattle.model_line.specs.Pull.{Taken, begun, unit_frame}
+use Rattle.model_line.specs.Request as asked
+use Rattle.model_line.specs.Request.{Request}
+use Rattle.model_line.specs.Sound.{IsInRange, IsUnitData, IsSound}
+use Rattle.laws_line.specs.Pulls.{IsOfLink, IsOwed, IsIdle, contents_of, units_asked, unit_asked}
+use Rattle.laws_line.proofs.Happening.{event-happens}
+use Rattle.laws_line.proofs.Serving.{served, units-wait}
+use Rattle.model_card.specs.Pulled.{frame_taken, octet_in}
+use Rattle.laws_trace.specs.Trace as traces
+use Rattle.laws_trace.specs.Trace.{Seen, heard, put, seen_told, seen_granted, seen, frames_begun}
+use Rattle.laws_trace.specs.Units as units
+use Rattle.laws_trace.specs.Units.{is_ui, is_unit, units_begun, units_granted}
+use Rattle.laws_trace.proofs.NoUi.{IsPlain, all-left}
+use Rattle.laws_trace.proofs.Reading.{other-frame, unit-is}
+
+-- No UI waits on any link of a line.
+abbrev pub NoneWaits : Config → Line → Type 0
+NoneWaits c l = (number : ℕ) → number < link_count c → All IsPlain (link_at number l).waiting
+
+pub fresh-none : (c : Config) → NoneWaits c (fresh_line c)
+fresh-none c number few = subst (λ (x : Link). All IsPlain x.waiting) (sym (get_or-replicate (link_count c) number fresh fresh few)) (All-nil IsPlain)
+
+event-none : (c : Config) (e : Event) (l : Line) → IsSound c l → NoneWaits c l → NoneWaits c (after c e l)
+event-none c e l s h number few =
+    elim (event-happens c e l number s few) [
+      | inl same ↦ subst (λ (x : Link). All IsPlain x.waiting) (sym same.0) (h number few)
+      | inr (inl moved) ↦ subst (λ (x : Link). All IsPlain x.waiting) (sym moved.1) (All-nil IsPlain)
+      | inr (inr one) ↦
+          subst (All IsPlain) (sym one.steady.follows.leaves.waiting)
+          (all-left (terms c (service_at number) one.tei) _ (link_at number l) _ (h number few))
+    ]
+
+-- What a trace is to the unit data that waits before it and after it.
+abbrev frames : Line → List (List ℕ)
+frames l = map unit_frame l.units
+
+abbrev pub Passes : Config → Line → List Seen → Line → Type 0
+Passes c before t after = units_begun t ++ frames after ≡ frames before ++ units_granted t
+
+pub rests : (c : Config) (l : Line) → Passes c l [] l
+rests c l = sym (append-nil (frames l))
+
+pub joins : (c : Config) (k l m : Line) (t u : List Seen) → Passes c k t l → Passes c l u m → Passes c k (t ++ u) m
+joins c k l m t u h i =
+    ap (λ x. x ++ frames m) (ap (filter is_unit) (flat_map-append traces.frame_begun t u) ∙ filter-append is_unit (frames_begun t) (frames_begun u))
+    ∙ append_assoc (units_begun t) (units_begun u) (frames m)
+    ∙ ap (λ x. units_begun t ++ x) i
+    ∙ sym (append_assoc (units_begun t) (frames l) (units_granted u))
+    ∙ ap (λ x. x ++ units_granted u) h
+    ∙ append_assoc (frames k) (units_granted t) (units_granted u)
+    ∙ ap (λ x. frames k ++ x) (sym (flat_map-append units.unit_granted t u))
+
+-- Events but pulls begin nothing, and what is granted waits.
+none-heard : (o : Option stream.Event) (a : Answer) → frames_begun (map heard (option_to_list o) ++ seen_told a) ≡ []
+none-heard None (told t) = refl
+none-heard None (refused why) = refl
+none-heard None (pulled value is_begun orders) = refl
+none-heard (Some e) (told t) = refl
+none-heard (Some e) (refused why) = refl
+none-heard (Some e) (pulled value is_begun orders) = refl
+
+none-asked : (o : Option stream.Event) (a : Answer) → units_granted (map heard (option_to_list o) ++ seen_told a) ≡ []
+none-asked None (told t) = refl
+none-asked None (refused why) = refl
+none-asked None (pulled value is_begun orders) = refl
+none-asked (Some e) (told t) = refl
+none-asked (Some e) (refused why) = refl
+none-asked (Some e) (pulled value is_begun orders) = refl
+
+none-requested : (r : Request) (a : Answer) → frames_begun (seen_granted r a ++ seen_told a) ≡ []
+none-requested r (told t) = refl
+none-requested r (refused why) = refl
+none-requested r (pulled value is_begun orders) = refl
+
+of-request : (r : Request) → map unit_frame (unit_asked r) ≡ units.unit_asked r
+of-request (asked.Establish service tei) = refl
+of-request (asked.Release service tei) = refl
+of-request (asked.Data service tei contents) = refl
+of-request (asked.Unit service tei contents) = refl
+of-request (asked.Assign tei) = refl
+of-request (asked.Remove tei) = refl
+of-request (asked.Check tei) = refl
+of-request (asked.SetBusy service tei) = refl
+of-request (asked.ClearBusy service tei) = refl
+
+asked-is : (r : Request) (a : Answer) → map unit_frame (units_asked (request r) a) ≡ units_granted (seen_granted r a ++ seen_told a)
+asked-is r (told t) = of-request r ∙ sym (append-nil (units.unit_asked r))
+asked-is r (refused why) = refl
+asked-is r (pulled value is_begun orders) = refl
+
+-- the units after, where nothing begins
+waits : (c : Config) (before after : Line) (t : List Seen) → frames_begun t ≡ [] → frames after ≡ frames before ++ units_granted t → Passes c before t after
+waits c before after t none h = ap (λ fs. filter is_unit fs ++ frames after) none ∙ h
+
+-- A pull begins the oldest unit data, or a frame that is none.
+pub pulled-frames : (o : Option Taken) (a : Answer) → frames_begun (map traces.begun (option_to_list (option_map frame_taken o)) ++ map put (octet_in a)) ≡ option_to_list (option_map frame_taken o)
+pulled-frames None (told t) = refl
+pulled-frames None (refused why) = refl
+pulled-frames None (pulled value is_begun orders) = refl
+pulled-frames (Some t) (told u) = refl
+pulled-frames (Some t) (refused why) = refl
+pulled-frames (Some t) (pulled value is_begun orders) = refl
+
+pulled-none : (o : Option Taken) (a : Answer) → units_granted (map traces.begun (option_to_list (option_map frame_taken o)) ++ map put (octet_in a)) ≡ []
+pulled-none None (told t) = refl
+pulled-none None (refused why) = refl
+pulled-none None (pulled value is_begun orders) = refl
+pulled-none (Some t) (told u) = refl
+pulled-none (Some t) (refused why) = refl
+pulled-none (Some t) (pulled value is_begun orders) = refl
+
+kept-of : (frame : List ℕ) (b : Bool) → is_unit frame ≡ b → filter is_unit (frame ∷ []) ≡ cond b (frame ∷ []) []
+kept-of frame b is = ap (λ b. cond b (frame ∷ []) []) is
+
+-- the oldest goes
+first-goes : (us : List UnitData) (u : UnitData) → slice_get us 0 ≡ Some u → unit_frame u ∷ map unit_frame (drop 1 us) ≡ map unit_frame us
+first-goes [] u is = absurd (cc)
+first-goes (v ∷ us) u is = let same : v ≡ u = cc in ap (λ x. unit_frame x ∷ map unit_frame us) (sym same)
+
+pub first-of : (c : Config) (us : List UnitData) (u : UnitData) → slice_get us 0 ≡ Some u → All (IsUnitData c) us → u.tei ≤ 127
+first-of c [] u is h = absurd (cc)
+first-of c (v ∷ us) u is h = let same : v ≡ u = cc in subst (λ (x : UnitData). x.tei ≤ 127) same (All-head (IsUnitData c) v us h).tei
+
+-- a frame of a link is none
+pub plain-order : (c : Config) (l next : Line) (frame : List ℕ) → NoneWaits c l → (x : IsOfLink c (contents_of l) l next frame) → is_ui x.control ≡ false
+plain-order c l next frame h x = by-order x.in_order
+  where
+    by-order : IsInOrder (terms c (service_at x.number) x.tei) (link_at x.number l) (link_at x.number next) (record { command = x.command; control = x.control }) → is_ui x.control ≡ false
+    by-order (inl oldest) = All-head IsPlain (record { command = x.command; control = x.control }) (link_at x.number next).waiting (subst (All IsPlain) oldest.waited (h x.number x.few))
+    by-order (inr (inl information)) = ap (λ (f : ControlFrame). is_ui f.control) information.is
+    by-order (inr (inr acknowledgement)) = ap (λ (f : ControlFrame). is_ui f.control) acknowledgement.is
+
+of-link : (c : Config) (l next : Line) (frame : List ℕ) → NoneWaits c l → IsOfLink c (contents_of l) l next frame → is_unit frame ≡ false
+of-link c l next frame h x =
+    ap is_unit x.spelled
+    ∙ other-frame (record { sapi = sapi_of (service_at x.number); command = x.command; tei = x.tei }) x.control (ap (λ b. b && not (sapi_of (service_at x.number) == management_sapi)) (plain-order c l next frame h x)) _
+
+pull-passes : (c : Config) (l next : Line) → IsSound c l → NoneWaits c l → (o : Option Taken)
+    → elim o as (λ o. Type 0) [ None ↦ IsIdle c l next | Some t ↦ IsOwed c (contents_of l) l next t.frame ]
+    → filter is_unit (option_to_list (option_map frame_taken o)) ++ frames next ≡ frames l
+pull-passes c l next s h None x = ap (map unit_frame) x.units
+pull-passes c l next s h (Some t) (inl x) =
+    ap (λ fs. fs ++ frames next) (kept-of t.frame false (ap is_unit x.spelled ∙ other-frame (record { sapi = 63; command = true; tei = 127 }) (Ui false) refl (information_of x.message)))
+    ∙ ap (map unit_frame) x.units
+pull-passes c l next s h (Some t) (inr (inl x)) =
+    ap (λ fs. fs ++ frames next) (kept-of t.frame true (ap is_unit x.spelled ∙ unit-is x.unit (first-of c l.units x.unit x.oldest s.units)))
+    ∙ ap (λ us. t.frame ∷ map unit_frame us) x.rest
+    ∙ ap (λ f. f ∷ map unit_frame (drop 1 l.units)) x.spelled
+    ∙ first-goes l.units x.unit x.oldest
+pull-passes c l next s h (Some t) (inr (inr x)) =
+    ap (λ fs. fs ++ frames next) (kept-of t.frame false (of-link c l next t.frame h x)) ∙ ap (map unit_frame) x.units
+
+event-passes : (c : Config) (e : Event) (l : Line) → IsSound c l → NoneWaits c l → Passes c l (seen c e l (answer c e l)) (after c e l)
+event-passes c (octet value) l s h =
+    let o = gained c.n201 l.received value in
+    let a = answer c (octet value) l in
+    waits c l (after c (octet value) l) (seen c (octet value) l a) (none-heard o a)
+    (ap (map unit_frame) (units-wait c (octet value) l) ∙ sym (append-nil (frames l)) ∙ ap (λ x. frames l ++ x) (sym (none-asked o a)))
+event-passes c (expiry timer) l s h =
+    let a = answer c (expiry timer) l in
+    waits c l (after c (expiry timer) l) (seen c (expiry timer) l a) (none-heard None a)
+    (ap (map unit_frame) (units-wait c (expiry timer) l) ∙ sym (append-nil (frames l)) ∙ ap (λ x. frames l ++ x) (sym (none-asked None a)))
+event-passes c (request r) l s h =
+    let a = answer c (request r) l in
+    waits c l (after c (request r) l) (seen c (request r) l a) (none-requested r a)
+    (ap (map unit_frame) (units-wait c (request r) l) ∙ map-append unit_frame l.units (units_asked (request r) a) ∙ ap (λ x. frames l ++ x) (asked-is r a))
+event-passes c pull l s h =
+    let a = answer c pull l in
+    let next = after c pull l in
+    ap (λ fs. filter is_unit fs ++ frames next) (pulled-frames (begun c l) a)
+    ∙ pull-passes c l next s h (begun c l) (served c l s)
+    ∙ sym (append-nil (frames l)) ∙ ap (λ x. frames l ++ x) (sym (pulled-none (begun c l) a))
+
+pub steps : (c : Config) → IsInRange c → (e : Event) (l : Line) → IsSound c l → NoneWaits c l
+    → Passes c l (seen c e l (answer c e l)) (after c e l) × NoneWaits c (after c e l)
+steps c ranged e l s h = (event-passes c e l s h, event-none c e l s h)

@@ -1,0 +1,49 @@
+-- Links take turns.
+use Rattle.std.specs.Prelude.{◌≡◌, ◌≢◌, ℕ, ◌/◌, Bool, true, not, List, ◌∷◌, ◌++◌, map, filter, slice_index, Result, Ok, Err}
+use Rattle.lapd_frame.specs.declared.addresses.Side.TheVariants.{Network}
+use Rattle.lapd_frame.specs.declared.faults.ReadFault.{ReadFault}
+use Rattle.lapd_frame.specs.Grammar.{Parts}
+use Rattle.lapd_frame.specs.Reading.{reading}
+use Rattle.model_line.specs.declared.config.Config.{Config}
+use Rattle.model_card.specs.Card.{fresh}
+use Rattle.model_card.specs.Event.{Event}
+use Rattle.model_card.specs.Run.{moments, after_all}
+use Rattle.laws_card.specs.Among.{ArePullsAt}
+use Rattle.laws_trace.specs.Trace.{Seen, trace, frames_begun}
+use Rattle.laws_trace.specs.Units.{is_ui}
+
+-- The links of the frames that begin, which are all that are no UI: by the address, whether command or response (Q.921
+-- clauses 3.2 and 3.3).
+pub record LinkName : Type 0 where
+  pub sapi : ℕ
+  pub tei : ℕ
+
+abbrev pub named_in : List ℕ → LinkName
+named_in octets = record { sapi = slice_index octets 0 / 4; tei = slice_index octets 1 / 2 }
+
+abbrev pub is_no_ui : Result Parts ReadFault → Bool
+is_no_ui (Ok frame) = not (is_ui frame.control)
+is_no_ui (Err fault) = true
+
+abbrev pub is_of_link : List ℕ → Bool
+is_of_link octets = is_no_ui (reading Network octets)
+
+abbrev pub links_begun : List Seen → List LinkName
+links_begun t = map named_in (filter is_of_link (frames_begun t))
+
+pub record IsAmong {X : Type 0} (x : X) (xs : List X) : Type 0 where
+  pub front : List X
+  pub back : List X
+  pub split : xs ≡ front ++ x ∷ back
+
+-- Between two frames of one link begins one of every other link that begins one behind these.
+abbrev pub TakeTurns : List LinkName → Type 0
+TakeTurns links =
+    (one other : LinkName) (before between middle behind : List LinkName) → one ≢ other →
+    links ≡ before ++ one ∷ (between ++ one ∷ (middle ++ other ∷ behind)) → IsAmong other between
+
+-- So it is while a line is only pulled, after whatever happened to it (profile).
+abbrev pub LinksTakeTurns : Config → List Event → ℕ → Type 0
+LinksTakeTurns c events number =
+    (before pulls : List Event) → events ≡ before ++ pulls → ArePullsAt number pulls →
+    TakeTurns (links_begun (trace number (moments (after_all (fresh c) before) pulls)))

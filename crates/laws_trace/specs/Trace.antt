@@ -1,0 +1,79 @@
+-- What an observer of one line of a card sees, in order of time.
+use Rattle.std.specs.Prelude.{◌≡◌, ℕ, ◌==◌, ◌<◌, List, [], ◌∷◌, ◌++◌, map, flat_map, Option, option_to_list, if◌then◌else◌}
+use Rattle.lapd_bits.specs.Stream as stream
+use Rattle.lapd_frame.specs.declared.notes.Note.{Note}
+use Rattle.model_line.specs.declared.config.Config.{Config}
+use Rattle.model_line.specs.Event.{Event, octet, expiry, request, pull, Answer, told, refused, pulled}
+use Rattle.model_line.specs.Line.{Line}
+use Rattle.model_line.specs.Octet.{gained}
+use Rattle.model_line.specs.Request.{Request}
+use Rattle.model_line.specs.Sound.{IsInRange}
+use Rattle.model_card.specs.Card.{fresh, line_at}
+use Rattle.model_card.specs.Event as card
+use Rattle.model_card.specs.Pulled.{frame_in, octet_in}
+use Rattle.model_card.specs.Run.{Moment, moments, AreAtLines}
+
+-- The octets that come are heard as a frame, or as none; a frame begins, of these octets, and an octet is put on the
+-- line; layer 3 and management are told notes, with contents; a request is granted; and frames are told as lost.
+pub data Seen : Type 0 where
+  heard : stream.Event → Seen
+  begun : List ℕ → Seen
+  put : ℕ → Seen
+  noted : List Note → Option (List ℕ) → Seen
+  granted : Request → Seen
+  lost : ℕ → Seen
+
+-- What an answer shows.
+abbrev pub seen_told : Answer → List Seen
+seen_told (told t) = noted t.notes t.contents ∷ lost t.lost ∷ []
+seen_told (refused why) = []
+seen_told (pulled value is_begun orders) = []
+
+abbrev pub seen_granted : Request → Answer → List Seen
+seen_granted r (told t) = granted r ∷ []
+seen_granted r (refused why) = []
+seen_granted r (pulled value is_begun orders) = []
+
+-- What an event of a line and its answer show: an octet, what is heard with it (Q.921 clauses 2.2 to 2.10); a request,
+-- whether it is granted; and a pull the frame that begins with it, and the octet that it puts.
+abbrev pub seen : Config → Event → Line → Answer → List Seen
+seen c (octet value) l answer = map heard (option_to_list (gained c.n201 l.received value)) ++ seen_told answer
+seen c (expiry timer) l answer = seen_told answer
+seen c (request r) l answer = seen_granted r answer ++ seen_told answer
+seen c pull l answer = map begun (frame_in c pull l) ++ map put (octet_in answer)
+
+-- What is seen of a line in the moments of a run.
+abbrev pub seen_in : ℕ → Moment → List Seen
+seen_in number m =
+    if m.event.line == number then seen m.card.config m.event.what (line_at number m.card) m.answer else []
+
+abbrev pub trace : ℕ → List Moment → List Seen
+trace number ms = flat_map (seen_in number) ms
+
+-- The trace of a line of a card, from its start on.
+abbrev pub trace_of : Config → List card.Event → ℕ → List Seen
+trace_of c events number = trace number (moments (fresh c) events)
+
+-- The frames that begin, in order, and the octets that are put.
+abbrev pub frame_begun : Seen → List (List ℕ)
+frame_begun (begun octets) = octets ∷ []
+frame_begun other = []
+
+abbrev pub frames_begun : List Seen → List (List ℕ)
+frames_begun t = flat_map frame_begun t
+
+abbrev pub octet_put : Seen → List ℕ
+octet_put (put value) = value ∷ []
+octet_put other = []
+
+abbrev pub octets_put : List Seen → List ℕ
+octets_put t = flat_map octet_put t
+
+-- One list is a front of another.
+pub record IsFront {X : Type 0} (front whole : List X) : Type 0 where
+  pub rest : List X
+  pub whole_is : whole ≡ front ++ rest
+
+-- A law of traces: from a fresh card of a configuration in range, for every list of events at its lines, and every line.
+abbrev pub Always : (Config → List card.Event → ℕ → Type 0) → Type 0
+Always Law = (c : Config) (events : List card.Event) (number : ℕ) → IsInRange c → AreAtLines (fresh c) events → number < c.lines → Law c events number

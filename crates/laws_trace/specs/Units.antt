@@ -1,0 +1,43 @@
+-- Unit data in a trace.
+use Rattle.std.specs.Prelude.{ℕ, ◌==◌, ◌&&◌, not, Bool, true, false, List, [], ◌∷◌, filter, flat_map, Result, Ok, Err}
+use Rattle.lapd_frame.specs.declared.addresses.Side.TheVariants.{Network}
+use Rattle.lapd_frame.specs.declared.controls.Control.{Control}
+use Rattle.lapd_frame.specs.declared.controls.Control.TheVariants.{Ui}
+use Rattle.lapd_frame.specs.declared.faults.ReadFault.{ReadFault}
+use Rattle.lapd_frame.specs.Grammar.{Parts}
+use Rattle.lapd_frame.specs.Reading.{reading}
+use Rattle.model_line.specs.Octet.{management_sapi}
+use Rattle.model_line.specs.Pull.{unit_frame}
+use Rattle.model_line.specs.Request as asked
+use Rattle.model_line.specs.Request.{Request}
+use Rattle.laws_trace.specs.Trace.{Seen, granted, frames_begun}
+
+-- A frame of this side, as the grammar reads it, is a UI, and none of TEI management, which has SAPI 63 (Q.921 clauses
+-- 3.6.5 and 5.3.1).
+abbrev pub is_ui : Control → Bool
+is_ui (Ui p) = true
+is_ui other = false
+
+abbrev pub carries_unit : Result Parts ReadFault → Bool
+carries_unit (Ok frame) = is_ui frame.control && not (frame.address.sapi == management_sapi)
+carries_unit (Err fault) = false
+
+abbrev pub is_unit : List ℕ → Bool
+is_unit octets = carries_unit (reading Network octets)
+
+-- Those that begin,
+abbrev pub units_begun : List Seen → List (List ℕ)
+units_begun t = filter is_unit (frames_begun t)
+
+-- and those that are asked for by the unit data that is granted: whole, with its service and its TEI, in a UI command
+-- with P=0 (clauses 3.6.5 and 5.2.2).
+abbrev pub unit_asked : Request → List (List ℕ)
+unit_asked (asked.Unit service tei contents) = unit_frame (record { service = service; tei = tei; contents = contents }) ∷ []
+unit_asked other = []
+
+abbrev pub unit_granted : Seen → List (List ℕ)
+unit_granted (granted r) = unit_asked r
+unit_granted other = []
+
+abbrev pub units_granted : List Seen → List (List ℕ)
+units_granted t = flat_map unit_granted t

@@ -1,0 +1,19 @@
+-- Unit data goes out.
+use Rattle.std.specs.Prelude.{◌≡◌, ◌≤◌, ℕ, List, ◌++◌}
+use Rattle.model_line.specs.declared.config.Config.{Config}
+use Rattle.laws_line.specs.Drains.{most_pulls}
+use Rattle.laws_card.specs.Among.{ArePullsAt, pulls_at}
+use Rattle.model_card.specs.Event.{Event}
+use Rattle.laws_trace.specs.Trace.{trace_of, IsFront}
+use Rattle.laws_trace.specs.Units.{units_begun, units_granted}
+
+-- The UI frames that begin on a line, but those of TEI management, are the first of the unit data that is granted: in
+-- order, whole, each once, with its service and its TEI (Q.921 clause 5.2.2).
+abbrev pub UnitsGoOut : Config → List Event → ℕ → Type 0
+UnitsGoOut c events number = IsFront (units_begun (trace_of c events number)) (units_granted (trace_of c events number))
+
+-- And they are all of it, once the line was only pulled, as often as the configuration says.
+abbrev pub AllUnitsGoOut : Config → List Event → ℕ → Type 0
+AllUnitsGoOut c events number =
+    (before pulls : List Event) → events ≡ before ++ pulls → ArePullsAt number pulls → most_pulls c ≤ pulls_at number pulls →
+    units_begun (trace_of c events number) ≡ units_granted (trace_of c events number)

@@ -1,0 +1,38 @@
+//! The laws. Each is the contract of a call that does nothing.
+
+ghost use Rattle.laws_trace.specs.Trace.{Always};
+ghost use Rattle.laws_trace.specs.FramesGoOut.{FramesGoOut, OctetsGoOut};
+ghost use Rattle.laws_trace.specs.LinksTakeTurns.{LinksTakeTurns};
+ghost use Rattle.laws_trace.specs.UnitsAreHeard.{UnitsAreHeard};
+ghost use Rattle.laws_trace.specs.UnitsGoOut.{UnitsGoOut, AllUnitsGoOut};
+
+/// Unit data goes out. The UI frames that begin on a line, but those of TEI management, are the first of the unit data that
+/// was granted: in order, whole, each once, with its service and its TEI (`front`). And they are all of it, once the line was
+/// only pulled, as often as the configuration says, 64,346 times with eight terminals, N201 of 260, windows of 7, 4 unit data
+/// and 4 control frames (`all`; Q.921 clauses 3.6.5 and 5.2.2).
+pub fn units_go_out()
+    ensures front { Always UnitsGoOut }
+    ensures all { Always AllUnitsGoOut }
+{}
+
+/// What goes out is what began. The frames that a receiver hears in the octets that a line puts are those that began on it, in
+/// order, whole, each once, and no other; the last may be on its way. So on a card as it begins nothing is. That is so where
+/// each of these frames is one that a receiver takes for a frame (`frames`), and so wherever their octets are octets, each 0
+/// to 255 (`octets`; Q.921 clauses 2.2 to 2.7 and 2.9).
+pub fn frames_go_out()
+    ensures frames { Always FramesGoOut }
+    ensures octets { Always OctetsGoOut }
+{}
+
+/// Unit data is heard at the other end. The UI frames that a receiver hears in the octets that a line puts, but those of TEI
+/// management, are the first of the unit data that was granted: in order, whole, each once, with its service and its TEI (Q.921
+/// clauses 2.2 to 2.7, 3.6.5 and 5.2.2).
+pub fn units_are_heard()
+    ensures { Always UnitsAreHeard }
+{}
+
+/// Links take turns. While a line is only pulled, after whatever happened to it, between two frames that begin for one link
+/// begins one of every other link that begins one behind these (profile).
+pub fn links_take_turns()
+    ensures { Always LinksTakeTurns }
+{}

@@ -9,4 +9,4 @@
 
 mod laws;
 
-pub use laws::units_go_out;
+pub use laws::{frames_go_out, links_take_turns, units_are_heard, units_go_out};

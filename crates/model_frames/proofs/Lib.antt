@@ -1,0 +1,10 @@
+pub mod Idle
+pub mod Judged
+pub mod Hearing
+pub mod Taken
+pub mod Received
+pub mod Comes
+pub mod Goes
+pub mod AtCard
+pub mod Lengths
+pub mod Calls

@@ -1,0 +1,7 @@
+-- What whole frames mean to the machines.
+pub mod Whole
+pub mod AtLine
+pub mod AtCard
+pub mod Laws
+pub mod CardLaws
+pub mod Worked

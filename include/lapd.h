@@ -13,8 +13,8 @@
  *  - A length is the true number of octets behind its pointer.
  *  - What two arguments of a call point to does not overlap, and neither overlaps what a card or a clock holds: the
  *    proofs take each as a place of its own. Where one might come to it, the call says what to do.
- *  - A card or a clock is used by one call at a time; other cards and clocks may be used meanwhile. What starts and
- *    frees do at the same time, the three functions of memory must bear (malloc's do, heap.c's do not).
+ *  - A card or a clock is used by one call at a time; other cards and clocks may be used meanwhile. Where starts
+ *    and frees run at the same time, the three functions of memory must allow it (malloc's do, heap.c's do not).
  *  - It begins as LAPD_CARD_NONE or LAPD_CLOCK_NONE, no copy of it is used, and its fields are left alone.
  *
  * No card and no clock is const, also where a call only asks: each call takes the card out of its place while it is
@@ -22,7 +22,7 @@
  * const pointer what owns memory.)
  *
  * Everything else is tested: each function says by its status what was wrong, and then nothing has changed, neither
- * the card or clock nor what is behind the other pointers (but for LAPD_NO_PLACE of lapd_clock_apply_report). Where
+ * the card or clock nor what is behind the other pointers (except LAPD_NO_PLACE of lapd_clock_apply_report). Where
  * several things are wrong, the first is told: that there is no card or clock, the line, the other arguments in their
  * order; a refusal of a request is told last.
  */
@@ -249,7 +249,7 @@ enum {
 
 /* Asks for something at a line; the contents are copied. LAPD_REFUSED_BAD_TEI to LAPD_REFUSED_CONTROL_FULL where it is
  * refused. The service is LAPD_CALL or LAPD_PACKET in each, though assign, remove and check are about both; the length
- * is 0 but for LAPD_DATA and LAPD_UNIT. The contents lie outside of *report; where they are those of the report itself,
+ * is 0 except for LAPD_DATA and LAPD_UNIT. The contents lie outside of *report; where they are those of the report itself,
  * ask by lapd_data or lapd_unit. */
 uint32_t lapd_request(lapd_card *card, uint32_t line, uint8_t request, uint8_t service, uint8_t tei,
                       const uint8_t *contents, size_t length, lapd_report *report);

@@ -20,7 +20,7 @@ use std::marker::Model;
 /// A line card over a shelf for the contents that wait.
 ///
 /// All memory is taken by [`Card::start`]; no other call takes any. Lines are counted from 0, and each call but `state`
-/// wants one that the card has.
+/// needs one that the card has.
 #[derive(Debug, Drop)]
 pub struct Card<S: Shelf> {
     pub(crate) config: Config,

@@ -15,7 +15,7 @@ use Rattle.laws_card.specs.Contents.{line_before, line_after}
 
 -- A frame for a link that an octet ends is an event of this link alone, also one that the grammar does not have, or that is
 -- too long; an octet that ends nothing, or a stretch that is no frame, is no event of any. What is due to layer 3 is handed
--- on, and noted once; nothing is handed on that was not heard; and no other line feels an event.
+-- on, and noted once; nothing is handed on that was not heard; and an event affects no other line.
 pub record IsHeardIn (m : Moment) : Type 0 where
   pub event : (value : ℕ) (service : Service) (tei place : ℕ) (parts : Parts) (octets : List ℕ) → m.event.what ≡ octet value
       → Ends m.card.config (line_before m) value octets → IsFor (line_before m) service tei place parts octets

@@ -4,7 +4,7 @@ ghost use Rattle.laws_card.specs.Laws.{NothingIsLost, PullsServe, FramesAreHeede
 
 /// Nothing that was accepted is lost silently. In every moment of a run each link keeps what it kept before, without the
 /// oldest contents, as many as a valid N(R) acknowledges, and with the contents of a data request for this link at the
-/// end, where the moment's answer granted one, and none else. Or it keeps nothing, and the event was a release of this
+/// end, where the moment's answer granted one, and no others. Or it keeps nothing, and the event was a release of this
 /// link that was granted, or the answer notes an establishment indication, a release indication or a release confirm of
 /// its service and TEI, or its TEI left the line. So a link holds what was accepted since its numbers began, in order,
 /// without what went, and V(A) counts those that were acknowledged.
@@ -63,7 +63,7 @@ pub fn links_are_steady()
 /// with the SAPI of a service and a TEI on the line is an event of that link and of no other, also where the grammar does not
 /// have the frame, or it is too long; one that ends nothing changes nothing but what was received. Contents are handed on
 /// exactly of an I-frame in sequence that the link may take, and of a UI, that an octet ends: its information, with one note
-/// of data, or of unit data, of the service and the TEI that it spells, and no such note else. No other line feels it. And
+/// of data, or of unit data, of the service and the TEI that it spells, and no such note else. No other line is affected. And
 /// after every list of events the octets that a line has received are those that it had before, and behind them its octets of
 /// the list, in order, and no other; on a card as it begins there are none.
 pub fn heard_is_delivered()

@@ -4,7 +4,7 @@ ghost use Rattle.laws_line.specs.Laws.{NothingIsLost, PullsServe, HeardIsDeliver
 
 /// Nothing that was accepted is lost silently. What each link of a line keeps after an event is what it kept before,
 /// without the oldest contents, as many as a valid N(R) acknowledges, and with the contents of a data request for this
-/// link at the end, where the answer granted one, and none else. Or it keeps nothing: then a release of this link was
+/// link at the end, where the answer granted one, and no others. Or it keeps nothing: then a release of this link was
 /// granted, or the answer notes an establishment indication, a release indication or a release confirm of its service
 /// and TEI, or its TEI has left the line.
 pub fn nothing_is_lost()

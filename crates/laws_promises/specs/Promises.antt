@@ -10,7 +10,7 @@ use Rattle.laws_card.specs.PromisesOfPulls.{AnswersAreBegun, PullsComeToAnEnd, F
 pub record Promises (m : Card) (events : List Event) : Type 0 where
   -- In every moment each link keeps its contents without the oldest that a valid N(R) acknowledges, and with those of
   -- a granted data request at the end; or it keeps nothing, and a granted release, a note or the end of its TEI says
-  -- so. In every moment each link keeps what it kept, without the oldest contents, as many as a valid N(R)
+  -- so. In full: each link keeps what it kept, without the oldest contents, as many as a valid N(R)
   -- acknowledges, and with the contents of a data request for it at the end, where that request was granted, and no
   -- others; or it keeps nothing, and a release of it was granted, or the answer notes an establishment indication, a
   -- release indication or a release confirm of it, or its TEI left the line (Q.921 clauses 5.5.3.2, 5.6.3.2 and 5.7).
@@ -21,7 +21,7 @@ pub record Promises (m : Card) (events : List Event) : Type 0 where
   -- In every moment no event but a pull changes which link of a line is asked first (profile).
   pub turns_stay : TurnsStay m events
   -- In every moment each frame for a link is answered, acknowledged and heeded as the tables have it, and what finds
-  -- no room to wait is counted as lost. In every moment an octet that ends a frame for a link puts exactly one frame
+  -- no room to wait is counted as lost. In full: an octet that ends a frame for a link puts exactly one frame
   -- behind those that wait there, where the frame is a poll with a valid N(R) in state 7 or 8 (the answer is RR, RNR
   -- or REJ with F=1 and N(R) = V(R)), SABME or DISC (the answer is UA or DM, as the state requires, with F = P), or
   -- the answer counts that frame as lost, since no more may wait; no other frame puts a response with F=1 there. After
@@ -32,7 +32,7 @@ pub record Promises (m : Card) (events : List Event) : Type 0 where
   -- (clauses 5.2.3, 5.5.1.2, 5.5.3.2, 5.6.2 to 5.6.7, 5.7.1, 5.8.1, 5.8.5 and 5.8.7).
   pub frames_are_heeded : AreHeeded m events
   -- In every moment a granted request takes effect: SABME or DISC waits, or is counted as lost, and T200 runs;
-  -- contents are kept; own busy changes, and is told; a TEI is on the line; or a message waits. In every moment a
+  -- contents are kept; own busy changes, and is told; a TEI is on the line; or a message waits. In full: a
   -- granted request takes effect: for an establishment SABME with P=1 waits, and for a release DISC with P=1, and the
   -- link awaits UA with T200 running, or the release of a link that is down is confirmed at once; contents are kept
   -- behind what the link keeps, and nothing is told; own busy is on, or off, and where that is new RNR or RR with N(R)
@@ -41,14 +41,14 @@ pub record Promises (m : Card) (events : List Event) : Type 0 where
   -- 5.5.3.2, 5.6.1 and 5.6.6).
   pub requests_take_effect : TakeEffect m events
   -- In every moment the expiry of a running timer of a link on the line puts a command or an enquiry, or counts it as
-  -- lost, or, after N200 of them, gives the link up or establishes it anew. In every moment the expiry of a timer that
+  -- lost, or, after N200 of them, gives the link up or establishes it anew. In full: the expiry of a timer that
   -- runs, of a link on the line, sends SABME or DISC again, or gives the link up and tells it, after N200 of them; or
   -- it asks for the terminal's state, in state 7 first and in state 8 again, or establishes the link anew, after N200
   -- enquiries (clauses 5.5.1.3, 5.5.3.3, 5.6.7 and 5.10.3). A frame that finds no room to wait is counted as lost here
   -- too, and T200 runs all the same (profile).
   pub expiries_take_effect : ExpiriesTakeEffectIn m events
   -- In every moment a link changes only as its TEI comes or leaves, or by an event of its own, after which its state,
-  -- flags, numbers, what waits and what is told are what the tables have. In every moment a link is left as it is; or
+  -- flags, numbers, what waits and what is told are what the tables have. In full: a link is left as it is; or
   -- its TEI leaves the line, or one comes to its place, and it is as one that begins; or the event is one of the link.
   -- Then V(S) stays, except that it counts an I-frame that is begun, and goes to the number that a valid N(R) names
   -- where the terminal asks for I-frames again, to V(A) where all that is kept goes, and to 0 where the numbers begin
@@ -70,7 +70,7 @@ pub record Promises (m : Card) (events : List Event) : Type 0 where
   -- on the line, and the octet pulled has its first bit (clause 2.2).
   pub begun_is_told : BegunIsTold m events
   -- In every moment a message of TEI management comes to wait exactly where one of six causes occurs, or it is counted
-  -- as lost. In every moment a message of TEI management comes to wait, behind those that wait, exactly where an octet
+  -- as lost. In full: a message of TEI management comes to wait, behind those that wait, exactly where an octet
   -- ends an identity request (the answer has the TEI that is remembered for its Ri; else the lowest from 64 on that is
   -- not on the line, which comes to the line; else, where no place is free, it is a denial), a verify of a TEI on the
   -- line while none is checked, or the second answer of a period to a check, whose TEI leaves; where T201 expires in
@@ -83,7 +83,7 @@ pub record Promises (m : Card) (events : List Event) : Type 0 where
   -- In every moment a TEI that comes to wait to be told to a terminal is on the line (clause 5.3.2).
   pub told_teis_are_there : ToldTeisAreThere m events
   -- In every moment a note of a TEI has its reason: an identity request, the expiry of T201, or an answer to its
-  -- check. In every moment a note that a TEI was assigned comes only of an identity request, one that it was removed
+  -- check. In full: a note that a TEI was assigned comes only of an identity request, one that it was removed
   -- only of the expiry of T201, and one that two terminals have it only of an answer to its check (clauses 5.3.2,
   -- 5.3.3.2 and 5.3.4).
   pub notes_have_reasons : NotesHaveReasons m events
@@ -91,14 +91,14 @@ pub record Promises (m : Card) (events : List Event) : Type 0 where
   -- it starts this T200, and stops the link's T203 where that runs. So no pull starts anew a timer that runs, and puts
   -- off its expiry (clause 5.6.1).
   pub pulls_leave_timers : TimersAreLeft m events
-  -- In every moment all that is noted is of one event of a link, or of one TEI that comes or leaves. In every moment
+  -- In every moment all that is noted is of one event of a link, or of one TEI that comes or leaves. In full:
   -- all notes of the answer are those of one event of a link of a TEI on the line, as the table of notes has them; or
   -- a TEI comes to the line, and they say so, if a terminal asked for it; or one leaves it, and they say that two
   -- terminals have it, or that none answered, unless management took it off, and after that what its two links tell as
   -- they end; or no TEI comes or leaves, and there are none (clauses 5.2.3, 5.3.2 to 5.3.4 and 5.5 to 5.8).
   pub nothing_else_is_noted : NothingElseIsNoted m events
   -- In every moment an octet that ends a frame for a link is an event of that link alone, and contents of at most N201
-  -- octets are handed on, once, exactly of an I-frame in sequence that the link may take, and of a UI. In every moment
+  -- octets are handed on, once, exactly of an I-frame in sequence that the link may take, and of a UI. In full:
   -- an octet that ends a frame with the SAPI of a service and a TEI on the line is an event of that link and of no
   -- other, also where the grammar does not have the frame, or it is too long; one that ends nothing, or a stretch that
   -- is no frame, changes nothing but what was received, and then why it is no frame is all that is answered. An octet
@@ -116,7 +116,7 @@ pub record Promises (m : Card) (events : List Event) : Type 0 where
   -- The contents that each link keeps are those accepted for it since its numbers began, in order, without what went,
   -- and its V(A) counts those that were acknowledged (clause 3.5.2.3).
   pub counted : (count : ℕ) → IsCountedIn m (take count events)
-  -- On a card that has just begun there are none.
+  -- On a card that has just begun no link keeps contents.
   pub begins_empty : BeginsEmpty m.config
   -- A caller that runs exactly the timers that are needed, and obeys the orders in the answers, each in its turn, does
   -- so after every event, whatever TEIs come and leave. These are T200 of a link on the line in states 5, 6 and 8, and

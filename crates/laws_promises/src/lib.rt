@@ -5,7 +5,7 @@
 //! [`lapd_card::Card::drive`] say the rest: where the card is after the events, which replies the sink has taken, and
 //! what bounds storage and frames.
 //!
-//! - `call`: `drive`, a card's call, with its clauses and the promises. Who needs no proof calls the card itself.
+//! - `call`: `drive`, a card's call, with its clauses and the promises. A caller that needs no proof calls the card itself.
 //! - `laws`: the promises of every machine of a card that is reached, as a call without effect.
 #![tactic(auto)]
 

@@ -25,8 +25,8 @@ pub fn frames_go_out()
 {}
 
 /// Unit data is heard at the other end. The UI frames that a receiver hears in the octets that a line puts, but those of TEI
-/// management, are the first of the unit data that was granted: in order, whole, each once, with its service and its TEI (Q.921
-/// clauses 2.2 to 2.7, 3.6.5 and 5.2.2).
+/// management, are the first of the unit data that was granted: in order, whole, each once, with its service and its TEI, wherever
+/// the octets of the frames that began are 0 to 255 (Q.921 clauses 2.2 to 2.7, 3.6.5 and 5.2.2).
 pub fn units_are_heard()
     ensures { Always UnitsAreHeard }
 {}

@@ -1,4 +1,4 @@
--- By how much each event lets rise what may be sent. The window k is the greater of both services.
+-- By how much each event raises the number of frames still to be sent. The window k is the greater of both services.
 use Rattle.std.specs.Prelude.{◌≡◌, ℕ, ◌+◌, ◌*◌, ◌≤◌, List, All}
 use Rattle.lapd_frame.specs.declared.timers.Timer.{Timer}
 use Rattle.model_line.specs.Event as line_event

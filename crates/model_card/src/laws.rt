@@ -101,7 +101,7 @@ pub fn frames_linear()
 {}
 
 /// From a fresh card on, no request finds the pool full where there are as many slots as all queues together have
-/// places: `lines * (2 * terminals * queue + unit_queue)` (profile). So on such a card no line feels another at all.
+/// places: `lines * (2 * terminals * queue + unit_queue)` (profile). So on such a card no line affects another.
 pub fn pool_never_full()
     ensures { PoolNeverFull }
 {}

@@ -7,6 +7,11 @@
 //!
 //! - `faults`: `Fault`, what a controller tells in place of a frame.
 //! - `laws`: what is heard in such octets, and what these and pulls are at a line, as calls without effect.
+//!
+//! # Open
+//!
+//! No crate uses these definitions yet. No law says that a controller's frame is what stood on its line, or that it sends
+//! what it was given.
 #![tactic(auto)]
 
 mod faults;

@@ -155,9 +155,9 @@ typedef struct lapd_note {
 } lapd_note;
 
 enum {
-    LAPD_T200 = 1, /* an answer or an acknowledgement is awaited; 1,000 ms on a lapd_clock (clause 5.9.1) */
-    LAPD_T203 = 2, /* the longest time without frames; 10,000 ms (clause 5.9.8) */
-    LAPD_T201 = 3  /* responses to an identity check are awaited; 1,000 ms (clause 5.9.6) */
+    LAPD_T200 = 1, /* an answer or an acknowledgement is awaited; 1,000 ms by default (clause 5.9.1) */
+    LAPD_T203 = 2, /* the longest time without frames; 10,000 ms by default (clause 5.9.8) */
+    LAPD_T201 = 3  /* responses to an identity check are awaited; 1,000 ms by default (clause 5.9.6) */
 };
 
 /* A timer of a line. */

@@ -16,7 +16,8 @@ abbrev pub frames_heard : ℕ → List ℕ → List (List ℕ)
 frames_heard n201 octets = flat_map frame_heard (stream.heard_in n201 octets)
 
 -- The UI frames that a receiver hears in the octets that a line puts, but those of TEI management, are the first of the
--- unit data that is granted: in order, whole, each once, with its service and its TEI.
+-- unit data that is granted: in order, whole, each once, with its service and its TEI. So it is wherever the octets of
+-- the frames that began are octets, each 0 to 255.
 abbrev pub UnitsAreHeard : Config → List Event → ℕ → Type 0
 UnitsAreHeard c events number =
     let t = trace_of c events number in

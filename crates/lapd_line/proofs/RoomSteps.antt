@@ -34,7 +34,7 @@ module _ (e : LinkLayer) (s : Store) (others : List Owned) (m : Line) (st : Stan
   pub room_there : (place number : ℕ) (found : Option Room) → nat_lt 126 tei ≡ false → place_of tei e.teis.places ≡ Some place
       → (place ≤ 8 → number ≡ link_number place service)
       → ((c : Config) (t : Terms) (others : List Owned) (ms : List machine.Link) → number < length e.links → HasTerms e.links number t
-          → LinksStand c e.links s others ms → found ≡ Some (room_of t free (machine_at ms number)))
+      → LinksStand c e.links s others ms → found ≡ Some (room_of t free (machine_at ms number)))
       → ok_or found NoLink ≡ room_in e.config free service tei m
   room_there place number found low here exact is =
       let at = (place_of-is e.teis.places tei place here).1 in

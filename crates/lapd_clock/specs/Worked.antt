@@ -1,7 +1,7 @@
 -- The definitions on worked values: each fact holds by computing.
 use Rattle.std.specs.Prelude.{◌≡◌, ℕ, false, List, [], ◌∷◌, Some, None, refl}
 use Rattle.lapd_clock.specs.Timer.{Timer, Order, Start, Stop, T200, T203, T201, Call, Packet}
-use Rattle.lapd_clock.specs.Timers.{Expiry, Timers, idle, finds_place, with_order, due_at, after_due, next_moment, time_until}
+use Rattle.lapd_clock.specs.Timers.{Expiry, Timers, idle, with_lengths, finds_place, with_order, due_at, after_due, next_moment, time_until}
 
 abbrev at : ℕ → ℕ → Timer → Expiry
 at moment line timer = record { moment = moment; line = line; timer = timer }
@@ -66,6 +66,18 @@ moments = refl
 
 none_running : next_moment (idle 64 8) ≡ None
 none_running = refl
+
+-- with other lengths what runs keeps its moments, and what is started then runs as long as they say
+abbrev slow : Timers
+slow = with_lengths (record { t200 = 12000; t203 = 60000; t201 = 2000 }) busy
+
+kept : slow.running ≡ busy.running
+unfolding with_order finds_place
+kept = refl
+
+runs_longer : (with_order slow 1 (Start (T200 Call 64)) 9500).running ≡ at 10000 1 (T200 Packet 64) ∷ at 10000 1 (T203 Call 64) ∷ at 10000 1 (T203 Packet 64) ∷ at 10000 1 T201 ∷ at 21500 1 (T200 Call 64) ∷ []
+unfolding with_order finds_place
+runs_longer = refl
 
 -- what falls due at the end still counts, and what falls due later does not
 counted : time_until 10001 busy ≡ 10

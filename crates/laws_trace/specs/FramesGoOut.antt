@@ -20,13 +20,14 @@ pub record GoOut (n201 : ℕ) (octets : List ℕ) (frames : List (List ℕ)) : T
   pub one : length on_its_way ≤ 1
   pub heard : map stream.frame frames ≡ stream.heard_in n201 octets ++ map stream.frame on_its_way
 
--- So it is where a receiver takes each frame that began for one: it has neither too few octets, nor too many.
+-- So it is where a receiver takes each frame that began for one: it has neither too few octets, nor too many, and they are
+-- octets.
 abbrev pub FramesGoOut : Config → List Event → ℕ → Type 0
 FramesGoOut c events number =
     let t = trace_of c events number in
     All (IsHeardWhole c.n201) (frames_begun t) → GoOut c.n201 (octets_put t) (frames_begun t)
 
--- Nor has any, so it is wherever octets are octets, each 0 to 255.
+-- None has too few or too many, so it is wherever octets are octets, each 0 to 255.
 abbrev pub OctetsGoOut : Config → List Event → ℕ → Type 0
 OctetsGoOut c events number =
     let t = trace_of c events number in

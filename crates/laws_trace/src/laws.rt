@@ -17,9 +17,9 @@ pub fn units_go_out()
 {}
 
 /// What goes out is what began. The frames that a receiver hears in the octets that a line puts are those that began on it, in
-/// order, whole, each once, and no other; the last may be on its way. So on a card as it begins nothing is. That is so where
-/// each of these frames is one that a receiver takes for a frame (`frames`), and so wherever their octets are octets, each 0
-/// to 255 (`octets`; Q.921 clauses 2.2 to 2.7 and 2.9).
+/// order, whole, each once, and no other; the last may be on its way. So nothing goes out of a card before a frame begins on
+/// it. That is so where each of these frames is one that a receiver takes for a frame (`frames`), and so wherever their octets
+/// are octets, each 0 to 255 (`octets`, which says more; Q.921 clauses 2.2 to 2.7 and 2.9).
 pub fn frames_go_out()
     ensures frames { Always FramesGoOut }
     ensures octets { Always OctetsGoOut }

@@ -5,6 +5,13 @@
 //! worked values of it. Each law is the contract of a call that does nothing.
 //!
 //! - `laws`: the laws.
+//!
+//! # Open
+//!
+//! That the octets of the frames that begin are 0 to 255 where those of contents are, which `frames_go_out` and
+//! `units_are_heard` have as a premise; that unit data is heard in the end, and not only begun; when unit data goes, and
+//! whose turn it is, where other events of the line come between its pulls. No law here speaks of what is heard, noted or
+//! lost in a trace.
 #![tactic(auto)]
 
 mod laws;

@@ -76,6 +76,8 @@ calls_end c range (suc n) l s few = go (taken c l) refl (calls_end c range n (af
 
 pub calls_come_to_an_end : CallsComeToAnEnd
 calls_come_to_an_end = record {
+  takes = λ c l t is. calls_for c l (Some t) is;
+  takes_none = λ c l is. calls_for c l None is;
   falls = call_falls;
   ends = λ c l range s. calls_end c range (may_send c l) l s (omega arith);
 }

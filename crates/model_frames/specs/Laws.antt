@@ -1,5 +1,5 @@
 -- What is heard in the octets that frames and faults mean, and what comes of them and of pulls.
-use Rattle.std.specs.Prelude.{◌≡◌, ℕ, ◌+◌, ◌*◌, ◌≤◌, ◌<◌, List, [], ◌∷◌, ◌++◌, length, Some, None}
+use Rattle.std.specs.Prelude.{◌≡◌, ℕ, ◌+◌, ◌*◌, ◌≤◌, ◌<◌, List, [], ◌∷◌, ◌++◌, length, replicate, Some, None}
 use Rattle.lapd_bits.specs.StuffingLaws.{AreOctets}
 use Rattle.lapd_bits.specs.Stream.{Event, dropped, heard_in}
 use Rattle.model_frames.specs.declared.faults.Fault.{Fault}
@@ -12,7 +12,7 @@ use Rattle.model_line.specs.Pull.{Taken, taken}
 use Rattle.model_line.specs.Request.{Request}
 use Rattle.model_line.specs.Counts.{may_send}
 use Rattle.model_line.specs.Sound.{IsInRange, IsSound}
-use Rattle.model_frames.specs.AtLine.{AreOneEvent, GoesWhole, after_events, pulls_for, after_calls}
+use Rattle.model_frames.specs.AtLine.{AreOneEvent, GoesWhole, after_events, pulls_to_begin, pulls_for, after_calls}
 use Rattle.model_frames.specs.Whole.{IsIdle, line_octets, came, fault_octets, cause_of}
 
 -- After some octets, these octets are heard as exactly this event, and leave the line idle.
@@ -51,8 +51,11 @@ abbrev pub FramesHaveLengths : Type 0
 FramesHaveLengths =
     (octets : List ℕ) → (length octets + 5 ≤ length (line_octets octets)) × (40 * length (line_octets octets) ≤ 48 * length octets + 246)
 
--- A call that takes a frame lets what may be sent fall. So after as many calls as frames may be sent none waits.
+-- A call for the next frame means the pulls of `GoesWhole` where one waits, and nothing where none does. One that takes a
+-- frame lets what may be sent fall. So after as many calls as frames may be sent none waits.
 pub record CallsComeToAnEnd : Type 0 where
+  pub takes : (c : Config) (l : Line) (t : Taken) → taken c l ≡ Some t → pulls_for c l ≡ replicate (pulls_to_begin l) pull
+  pub takes_none : (c : Config) (l : Line) → taken c l ≡ None → pulls_for c l ≡ []
   pub falls : (c : Config) (l : Line) (t : Taken) → IsInRange c → IsSound c l → taken c l ≡ Some t →
       may_send c (after_events c (pulls_for c l) l) < may_send c l
   pub ends : (c : Config) (l : Line) → IsInRange c → IsSound c l → taken c (after_calls c (may_send c l) l) ≡ None

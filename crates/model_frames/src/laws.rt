@@ -51,8 +51,9 @@ pub fn frames_have_lengths()
     ensures { FramesHaveLengths }
 {}
 
-/// A call for the next frame that takes one lets what may be sent fall, so after as many calls as frames may be sent, with
-/// nothing else between them, none waits.
+/// A call for the next frame means the pulls of `frames_go_whole` where one waits, and nothing where none does. One that
+/// takes a frame lets what may be sent fall, so after as many calls as frames may be sent, with nothing else between them,
+/// none waits.
 pub fn calls_come_to_an_end()
     ensures { CallsComeToAnEnd }
 {}

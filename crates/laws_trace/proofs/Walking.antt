@@ -10,7 +10,8 @@ use Rattle.model_line.specs.Sound.{IsSound}
 use Rattle.laws_line.specs.Drains.{way_round}
 use Rattle.laws_line.specs.Pulls.{in_turn, IsQuiet}
 use Rattle.laws_line.proofs.InRounds.{comes-first}
-use Rattle.laws_trace.specs.LinksTakeTurns.{LinkName, IsAmong, TakeTurns}
+use Rattle.laws_trace.specs.LinksTakeTurns.{LinkName, TakeTurns}
+use Rattle.laws_trace.specs.Trace.{IsAmong}
 
 abbrev pub named : ℕ → ℕ → LinkName
 named number tei = record { sapi = sapi_of (service_at number); tei = tei }

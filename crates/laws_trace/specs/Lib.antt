@@ -5,5 +5,6 @@ pub mod UnitsGoOut
 pub mod FramesGoOut
 pub mod UnitsAreHeard
 pub mod LinksTakeTurns
+pub mod MessagesComeFirst
 pub mod WorkedUnits
 pub mod WorkedFrames

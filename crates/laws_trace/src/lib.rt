@@ -16,4 +16,4 @@
 
 mod laws;
 
-pub use laws::{frames_go_out, links_take_turns, units_are_heard, units_go_out};
+pub use laws::{all_frames_go_out, frames_go_out, links_take_turns, messages_come_first, units_are_heard, units_go_out};

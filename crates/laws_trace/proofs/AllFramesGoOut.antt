@@ -3,7 +3,6 @@ use Rattle.std.proofs.Common.{◌≡◌, ℕ, ◌+◌, ◌*◌, ◌/◌, ◌<◌
 use Rattle.std.specs.Prelude.{All, flat_map, option_to_list}
 use Rattle.std.proofs.lemmas.Grind.{flat_map-append}
 use Rattle.lapd_bits.specs.Stream as stream
-use Rattle.lapd_bits.specs.StuffingLaws.{AreOctets}
 use Rattle.model_link.specs.declared.frames.ControlFrame.{ControlFrame}
 use Rattle.model_line.specs.declared.config.Config.{Config}
 use Rattle.model_line.specs.Event.{pull}
@@ -24,11 +23,9 @@ use Rattle.laws_card.proofs.Meanwhile.{line-after, line-sound, card-waits}
 use Rattle.laws_card.proofs.Wherever.{all-left, all-right, config-stays, few-to-go, begins-with-few}
 use Rattle.laws_trace.specs.Trace as traces
 use Rattle.laws_trace.specs.Trace.{Always, trace_of, trace, seen, frames_begun, IsAmong}
-use Rattle.laws_trace.specs.FramesGoOut.{AllFramesGoOut, AllThatWaitedBegins}
-use Rattle.laws_trace.proofs.Fitting.{Anything, Fits, rests, joins, steps, all-heard}
+use Rattle.laws_trace.specs.FramesGoOut.{as_octets, AllFramesGoOut, AllThatWaitedBegins}
 use Rattle.laws_trace.proofs.Flags.{LastIdle, flag-last}
 use Rattle.laws_trace.proofs.FramesGoOut.{all-out-of}
-use Rattle.laws_trace.proofs.Runs.{run-shows}
 use Rattle.laws_trace.proofs.Units.{pulled-frames}
 use Rattle.laws_trace.proofs.UnitsGoOut.{after-both}
 
@@ -105,10 +102,8 @@ module _ (c : Config) (events : List Event) (number : ℕ) (ranged : line.IsInRa
       subst LastIdle (sym (ap (λ es. line_at number (after_all (fresh c) es)) split ∙ ap (line_at number) (after-both (fresh c) before pulls) ∙ line-after number pulls card sound few later only))
       (flag-last card.config sound.config (pulls_at number pulls) (line_at number card) (line-sound card number sound few) short)
 
-  pub whole : All AreOctets (frames_begun (trace_of c events number)) → map (λ octets. stream.frame octets) (frames_begun (trace_of c events number)) ≡ stream.heard_in c.n201 (traces.octets_put (trace_of c events number))
-  whole octets =
-      let fit = run-shows Anything Fits rests joins steps (fresh c) events number (fresh_is_sound c ranged) all tt in
-      all-out-of c events number ranged all within last.front last.is (all-heard c.n201 (frames_begun (trace_of c events number)) fit.0 octets)
+  pub whole : map (λ octets. stream.frame octets) (map as_octets (frames_begun (trace_of c events number))) ≡ stream.heard_in c.n201 (traces.octets_put (trace_of c events number))
+  whole = all-out-of c events number ranged all within last.front last.is
 
   pub waited : (link tei : ℕ) (front : List ControlFrame) (f : ControlFrame) (behind : List ControlFrame) → IsWaiting c (line_at number card) link tei front f behind
       → IsAmong (control_text c link tei f) (frames_begun (trace number (moments card pulls)))
@@ -118,7 +113,7 @@ module _ (c : Config) (events : List Event) (number : ℕ) (ranged : line.IsInRa
       (card-waits card number sound few pulls later only link tei front f behind (subst (λ d. IsWaiting d (line_at number card) link tei front f behind) (sym kept) h) (inl short)))
 
 pub all-frames-go-out : Always AllFramesGoOut
-all-frames-go-out c events number ranged all within before pulls split only enough octets = whole c events number ranged all within before pulls split only enough octets
+all-frames-go-out c events number ranged all within before pulls split only enough = whole c events number ranged all within before pulls split only enough
 
 pub all-that-waited-begins : Always AllThatWaitedBegins
 all-that-waited-begins c events number ranged all within before pulls split only enough link tei front f behind h =

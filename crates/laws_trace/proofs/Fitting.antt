@@ -1,10 +1,9 @@
 -- Each frame that begins on a line has octets enough for a frame, and not too many.
-use Rattle.std.proofs.Common.{◌≡◌, ℕ, ◌+◌, ◌*◌, ◌%◌, ◌≤◌, ◌⊎◌, inl, inr, Bool, true, false, cond, List, [], ◌∷◌, ◌++◌, length, slice_index, Option, Some, None, IfSome, option_map, refl, sym, subst, arith}
+use Rattle.std.proofs.Common.{◌≡◌, ℕ, ◌+◌, ◌*◌, ◌%◌, ◌≤◌, ◌⊎◌, inl, inr, Bool, true, false, cond, List, [], ◌∷◌, ◌++◌, length, map, slice_index, Option, Some, None, IfSome, option_map, refl, sym, ◌∙◌, subst, arith}
 use Rattle.std.specs.Prelude.{All, option_to_list}
 use Rattle.std.proofs.lemmas.Grind.{flat_map-append}
 use Rattle.std.proofs.lemmas.List.Elements.{All-nil, All-cons, All-head, All-tail, All-append}
 use Rattle.lapd_bits.specs.RoundTrip.{IsHeardWhole}
-use Rattle.lapd_bits.specs.StuffingLaws.{AreOctets}
 use Rattle.lapd_frame.specs.declared.addresses.Address.{Address}
 use Rattle.lapd_frame.specs.declared.addresses.Side.TheVariants.{Network}
 use Rattle.lapd_frame.specs.declared.controls.Control.{Control}
@@ -25,6 +24,8 @@ use Rattle.laws_line.proofs.Serving.{served}
 use Rattle.model_card.specs.Pulled.{frame_taken}
 use Rattle.laws_trace.specs.Trace as traces
 use Rattle.laws_trace.specs.Trace.{Seen, seen, frames_begun}
+use Rattle.laws_trace.specs.FramesGoOut.{as_octets}
+use Rattle.laws_trace.proofs.AsOctets.{octets-are, as-many}
 use Rattle.laws_trace.proofs.Octets.{no-frame, no-frame-asked}
 use Rattle.laws_trace.proofs.Units.{pulled-frames}
 
@@ -114,11 +115,21 @@ pub steps : (c : Config) → IsInRange c → (e : Event) (l : Line) → IsSound 
     → Fits c l (seen c e l (answer c e l)) (after c e l) × Anything c (after c e l)
 steps c ranged e l s h = (event-fits c ranged e l s, tt)
 
--- With octets that are octets, it is heard whole.
-pub all-heard : (n201 : ℕ) (frames : List (List ℕ)) → All (IsFit n201) frames → All AreOctets frames → All (IsHeardWhole n201) frames
-all-heard n201 [] fit octets = All-nil (IsHeardWhole n201)
-all-heard n201 (frame ∷ frames) fit octets =
+-- As octets it is heard whole.
+third-rest : (numbers : List ℕ) → slice_index (as_octets numbers) 2 % 4 ≡ slice_index numbers 2 % 4
+third-rest [] = refl
+third-rest (a ∷ []) = refl
+third-rest (a ∷ b ∷ []) = refl
+third-rest (a ∷ b ∷ c ∷ rest) = let same : c % 256 % 4 ≡ c % 4 = omega arith in same
+
+still-not-short : (numbers : List ℕ) → IsNotShort numbers → IsNotShort (as_octets numbers)
+still-not-short numbers (inl long) = inl (omega (arith, long, as-many numbers))
+still-not-short numbers (inr x) = inr (as-many numbers ∙ x.0, third-rest numbers ∙ x.1)
+
+pub all-heard : (n201 : ℕ) (frames : List (List ℕ)) → All (IsFit n201) frames → All (IsHeardWhole n201) (map as_octets frames)
+all-heard n201 [] fit = All-nil (IsHeardWhole n201)
+all-heard n201 (frame ∷ frames) fit =
     let f = All-head (IsFit n201) frame frames fit in
-    All-cons (IsHeardWhole n201) frame frames
-    (record { octets_are = All-head AreOctets frame frames octets; not_short = f.not_short; not_long = f.not_long })
-    (all-heard n201 frames (All-tail (IsFit n201) frame frames fit) (All-tail AreOctets frame frames octets))
+    All-cons (IsHeardWhole n201) (as_octets frame) (map as_octets frames)
+    (record { octets_are = octets-are frame; not_short = still-not-short frame f.not_short; not_long = omega (arith, f.not_long, as-many frame) })
+    (all-heard n201 frames (All-tail (IsFit n201) frame frames fit))

@@ -2,7 +2,7 @@
 use Rattle.std.proofs.Common.{◌≡◌, ℕ, ◌<◌, ◌≤◌, ◌⊎◌, inl, inr, Bool, List, [], ◌∷◌, ◌++◌, length, map, refl, sym, ap, ◌∙◌, subst, arith, append_assoc, append-nil}
 use Rattle.std.specs.Prelude.{All}
 use mathlib.Core.List.{reverse_aux}
-use Rattle.std.proofs.lemmas.List.{get_or-replicate, append_cancel_left}
+use Rattle.std.proofs.lemmas.List.{get_or-replicate, append_cancel_left, map-append}
 use Rattle.std.proofs.lemmas.List.Elements.{All-head, All-tail}
 use Rattle.lapd_bits.specs.Bits.{bits}
 use Rattle.lapd_bits.specs.RoundTrip.{IsHeardWhole, AreHeardWhole, frames_of}
@@ -14,6 +14,7 @@ use Rattle.lapd_bits.proofs.RoundTripPlaces.{hears, hears-append}
 use Rattle.model_line.specs.declared.config.Config.{Config}
 use Rattle.model_line.specs.Line.{Line, fresh_line}
 use Rattle.model_line.specs.Sound as line
+use Rattle.model_line.specs.Sound.{IsTextOf}
 use Rattle.model_card.specs.Card.{fresh, line_at}
 use Rattle.model_card.specs.Event.{Event}
 use Rattle.model_card.specs.Pulled.{frames_among}
@@ -22,8 +23,11 @@ use Rattle.model_card.proofs.CardSound.{fresh_is_sound, always_sound}
 use Rattle.model_card.proofs.Steps.{has_lines, line_sound}
 use Rattle.laws_card.proofs.Wherever.{config-stays}
 use Rattle.laws_trace.specs.Trace.{trace_of, Always, frames_begun, octets_put}
-use Rattle.laws_trace.specs.FramesGoOut.{GoOut, FramesGoOut}
+use Rattle.laws_trace.specs.FramesGoOut.{as_octets, GoOut, FramesGoOut}
+use Rattle.laws_trace.proofs.AsOctets.{sent, same-text, frames-sent, cut-sent}
 use Rattle.laws_trace.proofs.Bits.{by-bits, items-heard, front-of}
+use Rattle.laws_trace.proofs.Fitting as fitting
+use Rattle.laws_trace.proofs.Fitting.{Anything, Fits, all-heard}
 use Rattle.laws_trace.proofs.Octets.{HasLast, IsCut, Puts, rests, joins, steps}
 use Rattle.laws_trace.proofs.Runs.{run-shows}
 
@@ -132,35 +136,45 @@ module _ (c : Config) (events : List Event) (number : ℕ) (ranged : line.IsInRa
   abbrev end : Line
   end = line_at number (after_all (fresh c) events)
 
+  -- its items as they go out
+  abbrev items : List Item
+  items = map sent end.items
+
   ran : Puts c (line_at number (fresh c)) (trace_of c events number) end × IsCut c end
   ran = run-shows IsCut Puts rests joins steps (fresh c) events number (fresh_is_sound c ranged) all (subst (λ (l : Line). IsCut c l) (sym start) (inl refl))
 
-  pub frames-are : frames_among end.items ≡ frames_begun (trace_of c events number)
-  frames-are = ap frames_among (ran.0.items ∙ ap (λ (l : Line). l.items ++ ran.0.more) start) ∙ ran.0.frames
+  frames-are : frames_among items ≡ map as_octets (frames_begun (trace_of c events number))
+  frames-are = frames-sent end.items ∙ ap (map as_octets) (ap frames_among (ran.0.items ∙ ap (λ (l : Line). l.items ++ ran.0.more) start) ∙ ran.0.frames)
 
-  pub octets-are : end.given ≡ octets_put (trace_of c events number)
+  octets-are : end.given ≡ octets_put (trace_of c events number)
   octets-are = ran.0.given ∙ ap (λ (l : Line). l.given ++ octets_put (trace_of c events number)) start
 
-  pub frames-go-out-of : All (IsHeardWhole c.n201) (frames_begun (trace_of c events number)) → GoOut c.n201 (octets_put (trace_of c events number)) (frames_begun (trace_of c events number))
-  frames-go-out-of whole =
-      let card = after_all (fresh c) events in
-      let sound = always_sound (fresh c) events (fresh_is_sound c ranged) all in
-      let there : number < card.config.lines = subst (λ (c : Config). number < c.lines) (sym (config-stays (fresh c) events)) within in
-      let s = line_sound card number (has_lines card sound) there in
-      subst (λ frames. GoOut c.n201 (octets_put (trace_of c events number)) frames) frames-are
-      (subst (λ octets. GoOut c.n201 octets (frames_among end.items)) octets-are
-      (go-out c.n201 end.items end.given s.text.left s.text.text (all-whole c.n201 end.items (subst (All (IsHeardWhole c.n201)) (sym frames-are) whole)) ran.1))
+  whole : AreHeardWhole c.n201 items
+  whole =
+      let fit = run-shows Anything Fits fitting.rests fitting.joins fitting.steps (fresh c) events number (fresh_is_sound c ranged) all tt in
+      all-whole c.n201 items
+      (subst (All (IsHeardWhole c.n201)) (sym frames-are) (all-heard c.n201 (frames_begun (trace_of c events number)) fit.0))
 
-  pub all-out-of : (front : List Item) → end.items ≡ front ++ idle ∷ [] → All (IsHeardWhole c.n201) (frames_begun (trace_of c events number))
-      → map stream.frame (frames_begun (trace_of c events number)) ≡ heard_in c.n201 (octets_put (trace_of c events number))
-  all-out-of front ends whole =
+  given-text : IsTextOf items end.given
+  given-text =
       let card = after_all (fresh c) events in
       let sound = always_sound (fresh c) events (fresh_is_sound c ranged) all in
       let there : number < card.config.lines = subst (λ (c : Config). number < c.lines) (sym (config-stays (fresh c) events)) within in
       let s = line_sound card number (has_lines card sound) there in
+      record { left = s.text.left; text = same-text end.items ∙ s.text.text }
+
+  pub out : FramesGoOut c events number
+  out =
+      subst (λ frames. GoOut c.n201 (octets_put (trace_of c events number)) frames) frames-are
+      (subst (λ octets. GoOut c.n201 octets (frames_among items)) octets-are
+      (go-out c.n201 items end.given given-text.left given-text.text whole (cut-sent end.items end.given ran.1)))
+
+  pub all-out-of : (front : List Item) → end.items ≡ front ++ idle ∷ []
+      → map stream.frame (map as_octets (frames_begun (trace_of c events number))) ≡ heard_in c.n201 (octets_put (trace_of c events number))
+  all-out-of front ends =
       subst (λ frames. map stream.frame frames ≡ heard_in c.n201 (octets_put (trace_of c events number))) frames-are
-      (subst (λ octets. map stream.frame (frames_among end.items) ≡ heard_in c.n201 octets) octets-are
-      (all-out c.n201 end.items end.given s.text.left s.text.text (all-whole c.n201 end.items (subst (All (IsHeardWhole c.n201)) (sym frames-are) whole)) front ends ran.1))
+      (subst (λ octets. map stream.frame (frames_among items) ≡ heard_in c.n201 octets) octets-are
+      (all-out c.n201 items end.given given-text.left given-text.text whole (map sent front) (ap (map sent) ends ∙ map-append sent front (idle ∷ [])) (cut-sent end.items end.given ran.1)))
 
 pub frames-go-out : Always FramesGoOut
-frames-go-out c events number ranged all within whole = frames-go-out-of c events number ranged all within whole
+frames-go-out c events number ranged all within = out c events number ranged all within

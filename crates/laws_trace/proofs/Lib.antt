@@ -7,11 +7,13 @@ pub mod Units
 pub mod UnitsGoOut
 pub mod Bits
 pub mod Octets
+pub mod AsOctets
+pub mod Fitting
 pub mod FramesGoOut
 pub mod Flags
-pub mod Fitting
-pub mod UnitsAreHeard
+pub mod Heads
 pub mod AllFramesGoOut
+pub mod UnitsAreHeard
 pub mod Walking
 pub mod Turns
 pub mod PullRuns

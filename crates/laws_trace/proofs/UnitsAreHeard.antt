@@ -1,45 +1,75 @@
--- What a receiver hears, where octets are octets: the laws.
-use Rattle.std.proofs.Common.{◌≡◌, ℕ, List, [], ◌∷◌, ◌++◌, map, refl, sym, ap, ◌∙◌, append_assoc}
-use Rattle.std.specs.Prelude.{filter, flat_map}
+-- What a receiver hears of unit data: the laws.
+use Rattle.std.proofs.Common.{◌≡◌, ℕ, ◌<◌, ◌≤◌, Bool, true, false, List, [], ◌∷◌, ◌++◌, map, refl, sym, ap, ◌∙◌, subst, append_assoc}
+use Rattle.std.specs.Prelude.{All, filter, flat_map}
 use Rattle.std.proofs.lemmas.Grind.{flat_map-append}
+use Rattle.std.proofs.lemmas.List.{get_or-replicate}
 use Rattle.std.proofs.lemmas.List.Elements.{filter-append}
 use Rattle.lapd_bits.specs.Stream as stream
 use Rattle.lapd_bits.specs.Stream.{heard_in}
-use Rattle.model_card.specs.Card.{fresh}
+use Rattle.model_line.specs.declared.config.Config.{Config}
+use Rattle.model_line.specs.Line.{Line, fresh_line}
+use Rattle.model_line.specs.Sound as line
+use Rattle.model_card.specs.Card.{fresh, line_at}
+use Rattle.model_card.specs.Event.{Event}
+use Rattle.model_card.specs.Run.{AreAtLines}
 use Rattle.model_card.proofs.CardSound.{fresh_is_sound}
-use Rattle.laws_trace.specs.Trace.{trace_of, Always, frames_begun, octets_put}
-use Rattle.laws_trace.specs.FramesGoOut.{OctetsGoOut}
-use Rattle.laws_trace.specs.Units.{is_unit}
-use Rattle.laws_trace.specs.UnitsAreHeard.{frame_heard, frames_heard, UnitsAreHeard}
-use Rattle.laws_trace.proofs.Fitting.{Anything, Fits, rests, joins, steps, all-heard}
+use Rattle.laws_trace.specs.FramesGoOut.{as_octets}
+use Rattle.laws_trace.specs.Trace.{Seen, trace_of, Always, IsFront, frames_begun, octets_put}
+use Rattle.laws_trace.specs.Units.{is_unit, units_begun, units_granted}
+use Rattle.laws_trace.specs.UnitsAreHeard.{frame_heard, frames_heard, units_heard, HasOctets, UnitsAreHeard, AllUnitsAreHeard}
+use Rattle.laws_trace.proofs.AllFramesGoOut.{all-frames-go-out}
 use Rattle.laws_trace.proofs.FramesGoOut.{frames-go-out}
+use Rattle.laws_trace.proofs.Heads.{IsHeaded, AreHeaded, rests, joins, steps, same-units, IsExact, granted-octets}
 use Rattle.laws_trace.proofs.Runs.{run-shows}
-use Rattle.laws_trace.proofs.UnitsGoOut.{units-go-out}
-
-pub octets-go-out : Always OctetsGoOut
-octets-go-out c events number ranged all within octets =
-    let fit = run-shows Anything Fits rests joins steps (fresh c) events number (fresh_is_sound c ranged) all tt in
-    frames-go-out c events number ranged all within (all-heard c.n201 (frames_begun (trace_of c events number)) fit.0 octets)
+use Rattle.laws_trace.proofs.Units.{NoneWaits, fresh-none}
+use Rattle.laws_trace.proofs.UnitsGoOut.{units-go-out, all-units-go-out}
 
 -- frames as they are heard
 heard-again : (frames : List (List ℕ)) → flat_map frame_heard (map (λ octets. stream.frame octets) frames) ≡ frames
 heard-again [] = refl
 heard-again (frame ∷ frames) = ap (λ x. frame ∷ x) (heard-again frames)
 
+module _ (c : Config) (events : List Event) (number : ℕ) (ranged : line.IsInRange c) (all : AreAtLines (fresh c) events) (within : number < c.lines) where
+  abbrev t : List Seen
+  t = trace_of c events number
+
+  abbrev heard : List (List ℕ)
+  heard = frames_heard c.n201 (octets_put t)
+
+  headed : All IsHeaded (frames_begun t)
+  headed =
+      let start : line_at number (fresh c) ≡ fresh_line c = get_or-replicate c.lines number (fresh_line c) (fresh_line c) within in
+      (run-shows NoneWaits AreHeaded rests joins steps (fresh c) events number (fresh_is_sound c ranged) all (subst (λ (l : Line). NoneWaits c l) (sym start) (fresh-none c))).0
+
+  -- as octets the unit data that begins is what it was
+  begun-heard : All HasOctets t → filter is_unit (map as_octets (frames_begun t)) ≡ units_begun t
+  begun-heard octets =
+      let asked = units-go-out c events number ranged all within in
+      same-units (frames_begun t) headed asked.rest (subst (All IsExact) asked.whole_is (granted-octets t octets))
+
+  pub front : All HasOctets t → IsFront (filter is_unit heard) (units_granted t)
+  front octets =
+      let out = frames-go-out c events number ranged all within in
+      let asked = units-go-out c events number ranged all within in
+      let frames : map as_octets (frames_begun t) ≡ heard ++ out.on_its_way =
+      sym (heard-again (map as_octets (frames_begun t))) ∙ ap (flat_map frame_heard) out.heard
+      ∙ flat_map-append frame_heard (heard_in c.n201 (octets_put t)) (map (λ octets. stream.frame octets) out.on_its_way)
+      ∙ ap (λ x. heard ++ x) (heard-again out.on_its_way) in
+      record {
+        rest = filter is_unit out.on_its_way ++ asked.rest;
+        whole_is =
+            asked.whole_is
+            ∙ ap (λ us. us ++ asked.rest) (sym (begun-heard octets) ∙ ap (filter is_unit) frames ∙ filter-append is_unit heard out.on_its_way)
+            ∙ append_assoc (filter is_unit heard) (filter is_unit out.on_its_way) asked.rest;
+      }
+
 pub units-are-heard : Always UnitsAreHeard
-units-are-heard c events number ranged all within octets =
+units-are-heard c events number ranged all within octets = front c events number ranged all within octets
+
+pub all-units-are-heard : Always AllUnitsAreHeard
+all-units-are-heard c events number ranged all within before pulls split only enough octets =
     let t = trace_of c events number in
-    let out = octets-go-out c events number ranged all within octets in
-    let asked = units-go-out c events number ranged all within in
-    let frames : frames_begun t ≡ frames_heard c.n201 (octets_put t) ++ out.on_its_way =
-    sym (heard-again (frames_begun t)) ∙ ap (flat_map frame_heard) out.heard
-    ∙ flat_map-append frame_heard (heard_in c.n201 (octets_put t)) (map (λ octets. stream.frame octets) out.on_its_way)
-    ∙ ap (λ x. frames_heard c.n201 (octets_put t) ++ x) (heard-again out.on_its_way) in
-    record {
-      rest = filter is_unit out.on_its_way ++ asked.rest;
-      whole_is =
-          asked.whole_is
-          ∙ ap (λ fs. filter is_unit fs ++ asked.rest) frames
-          ∙ ap (λ x. x ++ asked.rest) (filter-append is_unit (frames_heard c.n201 (octets_put t)) out.on_its_way)
-          ∙ append_assoc (filter is_unit (frames_heard c.n201 (octets_put t))) (filter is_unit out.on_its_way) asked.rest;
-    }
+    ap (λ es. filter is_unit (flat_map frame_heard es)) (sym (all-frames-go-out c events number ranged all within before pulls split only enough))
+    ∙ ap (filter is_unit) (heard-again (map as_octets (frames_begun t)))
+    ∙ begun-heard c events number ranged all within octets
+    ∙ all-units-go-out c events number ranged all within before pulls split only enough

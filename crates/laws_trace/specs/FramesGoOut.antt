@@ -1,8 +1,6 @@
 -- What goes out on a line is what began.
-use Rattle.std.specs.Prelude.{◌≡◌, ◌≤◌, ℕ, List, ◌++◌, length, map, All}
-use Rattle.lapd_bits.specs.RoundTrip.{IsHeardWhole}
+use Rattle.std.specs.Prelude.{◌≡◌, ◌≤◌, ◌%◌, ℕ, List, ◌++◌, length, map}
 use Rattle.lapd_bits.specs.Stream as stream
-use Rattle.lapd_bits.specs.StuffingLaws.{AreOctets}
 use Rattle.model_link.specs.declared.frames.ControlFrame.{ControlFrame}
 use Rattle.model_line.specs.declared.config.Config.{Config}
 use Rattle.laws_line.specs.Drains.{most_pulls, control_text}
@@ -13,32 +11,29 @@ use Rattle.laws_card.specs.Among.{ArePullsAt, pulls_at}
 use Rattle.laws_card.specs.PromisesOfPulls.{IsWaiting}
 use Rattle.laws_trace.specs.Trace.{trace, trace_of, frames_begun, octets_put, IsAmong}
 
--- What a receiver hears in the octets that a line puts are the frames that began on it, in order, whole, each once; the
--- last may be on its way (Q.921 clauses 2.2 to 2.7).
+-- Of a number an octet goes out: its eight low bits, so those of 0 to 255 as they are.
+abbrev pub as_octets : List ℕ → List ℕ
+as_octets numbers = map (λ n. n % 256) numbers
+
+-- What a receiver hears in octets are these frames, in order, whole, each once; the last may be on its way (Q.921 clauses
+-- 2.2 to 2.7 and 2.9).
 pub record GoOut (n201 : ℕ) (octets : List ℕ) (frames : List (List ℕ)) : Type 0 where
   pub on_its_way : List (List ℕ)
   pub one : length on_its_way ≤ 1
   pub heard : map stream.frame frames ≡ stream.heard_in n201 octets ++ map stream.frame on_its_way
 
--- So it is where a receiver takes each frame that began for one: it has neither too few octets, nor too many, and they are
--- octets.
+-- So it is of the octets that a line puts and of the frames that began on it.
 abbrev pub FramesGoOut : Config → List Event → ℕ → Type 0
 FramesGoOut c events number =
     let t = trace_of c events number in
-    All (IsHeardWhole c.n201) (frames_begun t) → GoOut c.n201 (octets_put t) (frames_begun t)
-
--- None has too few or too many, so it is wherever octets are octets, each 0 to 255.
-abbrev pub OctetsGoOut : Config → List Event → ℕ → Type 0
-OctetsGoOut c events number =
-    let t = trace_of c events number in
-    All AreOctets (frames_begun t) → GoOut c.n201 (octets_put t) (frames_begun t)
+    GoOut c.n201 (octets_put t) (map as_octets (frames_begun t))
 
 -- Once the line was only pulled, as often as the configuration says, a receiver has heard them all: none is on its way.
 abbrev pub AllFramesGoOut : Config → List Event → ℕ → Type 0
 AllFramesGoOut c events number =
     let t = trace_of c events number in
     (before pulls : List Event) → events ≡ before ++ pulls → ArePullsAt number pulls → most_pulls c ≤ pulls_at number pulls →
-    All AreOctets (frames_begun t) → map stream.frame (frames_begun t) ≡ stream.heard_in c.n201 (octets_put t)
+    map stream.frame (map as_octets (frames_begun t)) ≡ stream.heard_in c.n201 (octets_put t)
 
 -- And each control frame that waited on a link is among those that these pulls began.
 abbrev pub AllThatWaitedBegins : Config → List Event → ℕ → Type 0

@@ -1,10 +1,10 @@
 //! The laws. Each is the contract of a call that does nothing.
 
 ghost use Rattle.laws_trace.specs.Trace.{Always};
-ghost use Rattle.laws_trace.specs.FramesGoOut.{FramesGoOut, OctetsGoOut, AllFramesGoOut, AllThatWaitedBegins};
+ghost use Rattle.laws_trace.specs.FramesGoOut.{FramesGoOut, AllFramesGoOut, AllThatWaitedBegins};
 ghost use Rattle.laws_trace.specs.LinksTakeTurns.{LinksTakeTurns};
 ghost use Rattle.laws_trace.specs.MessagesComeFirst.{MessagesComeFirst};
-ghost use Rattle.laws_trace.specs.UnitsAreHeard.{UnitsAreHeard};
+ghost use Rattle.laws_trace.specs.UnitsAreHeard.{UnitsAreHeard, AllUnitsAreHeard};
 ghost use Rattle.laws_trace.specs.UnitsGoOut.{UnitsGoOut, AllUnitsGoOut};
 
 /// Unit data goes out. The UI frames that begin on a line, but those of TEI management, are the first of the unit data that
@@ -18,11 +18,9 @@ pub fn units_go_out()
 
 /// What goes out is what began. The frames that a receiver hears in the octets that a line puts are those that began on it, in
 /// order, whole, each once, and no other; the last may be on its way. So nothing goes out of a card before a frame begins on
-/// it. That is so where each of these frames is one that a receiver takes for a frame (`frames`), and so wherever their octets
-/// are octets, each 0 to 255 (`octets`, which says more; Q.921 clauses 2.2 to 2.7 and 2.9).
+/// it (Q.921 clauses 2.2 to 2.7 and 2.9).
 pub fn frames_go_out()
-    ensures frames { Always FramesGoOut }
-    ensures octets { Always OctetsGoOut }
+    ensures { Always FramesGoOut }
 {}
 
 /// In the end all frames go out. Once a line was only pulled, as often as the configuration says, a receiver has heard each
@@ -34,10 +32,12 @@ pub fn all_frames_go_out()
 {}
 
 /// Unit data is heard at the other end. The UI frames that a receiver hears in the octets that a line puts, but those of TEI
-/// management, are the first of the unit data that was granted: in order, whole, each once, with its service and its TEI, wherever
-/// the octets of the frames that began are 0 to 255 (Q.921 clauses 2.2 to 2.7, 3.6.5 and 5.2.2).
+/// management, are the first of the unit data that was granted: in order, whole, each once, with its service and its TEI
+/// (`front`). And they are all of it, once the line was only pulled, as often as the configuration says (`all`). The contents
+/// that were granted are octets, each 0 to 255 (Q.921 clauses 2.2 to 2.7, 3.6.5 and 5.2.2).
 pub fn units_are_heard()
-    ensures { Always UnitsAreHeard }
+    ensures front { Always UnitsAreHeard }
+    ensures all { Always AllUnitsAreHeard }
 {}
 
 /// Links take turns. While a line is only pulled, after whatever happened to it, between two frames that begin for one link

@@ -1,0 +1,213 @@
+-- As octets, each frame that begins is unit data where it was, and has the same head.
+use Rattle.std.proofs.Common.{◌≡◌, ℕ, ◌+◌, ◌*◌, ◌%◌, ◌<◌, ◌≤◌, ◌&&◌, ◌==◌, Bool, true, false, cond, List, [], ◌∷◌, ◌++◌, drop, take, length, map, Option, Some, None, option_map, inl, inr, refl, sym, ap, ◌∙◌, subst, arith, true≢false}
+use Rattle.std.specs.Prelude.{All, not, filter, option_to_list}
+use Rattle.std.specs.Option.{unwrap_or}
+use Rattle.std.proofs.lemmas.Grind.{flat_map-append}
+use Rattle.std.proofs.lemmas.List.{map-append, take-append-drop}
+use Rattle.std.proofs.lemmas.List.Elements.{All-nil, All-cons, All-head, All-tail, All-append}
+use Rattle.lapd_bits.specs.StuffingLaws.{AreOctets}
+use Rattle.lapd_frame.specs.declared.addresses.Address.{Address}
+use Rattle.lapd_frame.specs.declared.addresses.Side.TheVariants.{Network}
+use Rattle.lapd_frame.specs.declared.controls.Control.{Control}
+use Rattle.lapd_frame.specs.declared.controls.Control.TheVariants.{Information, ReceiveReady, ReceiveNotReady, Reject, Sabme, Disc, Ui, Ua, Dm, Frmr, Xid}
+use Rattle.lapd_frame.specs.declared.services.Service.{Service}
+use Rattle.lapd_frame.specs.declared.services.Service.TheVariants.{Call, Packet}
+use Rattle.lapd_frame.specs.Grammar.{cr_bit, second_octet, one_of, row, head_of, spelling}
+use Rattle.lapd_frame.specs.Services.{sapi_of}
+use Rattle.lapd_seq.specs.declared.numbers.Seq.{Seq}
+use Rattle.lapd_tei.specs.Messages.{information_of}
+use Rattle.model_line.specs.declared.config.Config.{Config}
+use Rattle.model_line.specs.Event.{Event, octet, expiry, request, pull}
+use Rattle.model_line.specs.Line.{Line, UnitData, place_at, service_at}
+use Rattle.model_line.specs.Machine.{after, answer}
+use Rattle.model_line.specs.Octet.{gained, management_sapi}
+use Rattle.model_line.specs.Pull as pulls
+use Rattle.model_line.specs.Pull.{Taken, unit_frame}
+use Rattle.model_line.specs.Request as asked
+use Rattle.model_line.specs.Request.{Request}
+use Rattle.model_line.specs.Sound.{IsInRange, IsSound}
+use Rattle.laws_line.specs.Pulls.{IsOfLink, IsOwed, IsIdle, contents_of}
+use Rattle.laws_line.proofs.Serving.{served}
+use Rattle.model_card.specs.Pulled.{frame_taken}
+use Rattle.laws_trace.specs.FramesGoOut.{as_octets}
+use Rattle.laws_trace.specs.Trace as traces
+use Rattle.laws_trace.specs.Trace.{Seen, heard, put, noted, granted, lost, seen, frames_begun}
+use Rattle.laws_trace.specs.Units as units
+use Rattle.laws_trace.specs.Units.{is_ui, is_unit, units_granted}
+use Rattle.laws_trace.specs.UnitsAreHeard.{HasOctets}
+use Rattle.laws_trace.proofs.Octets.{no-frame, no-frame-asked}
+use Rattle.laws_trace.proofs.Reading.{other-frame, unit-is}
+use Rattle.laws_trace.proofs.Units as kept
+use Rattle.laws_trace.proofs.Units.{NoneWaits, plain-order, first-of, pulled-frames}
+
+-- octets are as they were
+pub exact : (numbers : List ℕ) → AreOctets numbers → as_octets numbers ≡ numbers
+exact [] h = refl
+exact (x ∷ xs) h =
+    let small : x < 256 = All-head (λ octet. octet < 256) x xs h in
+    let same : x % 256 ≡ x = omega (arith, small) in
+    ap (λ n. n ∷ as_octets xs) same ∙ ap (λ ns. x ∷ ns) (exact xs (All-tail (λ octet. octet < 256) x xs h))
+
+one : (x : ℕ) → x < 256 → AreOctets (x ∷ [])
+one x small = All-cons (λ octet. octet < 256) x [] small (All-nil (λ octet. octet < 256))
+
+both : (x y : ℕ) → x < 256 → y < 256 → AreOctets (x ∷ y ∷ [])
+both x y small few = All-cons (λ octet. octet < 256) x (y ∷ []) small (one y few)
+
+-- the head of a frame
+second : (first : ℕ) (nr : Seq) (pf : Bool) → first < 256 → AreOctets (first ∷ second_octet nr pf ∷ [])
+second first nr true small = let range : nr.value < 128 = nr.in_range in both first (second_octet nr true) small (omega (arith, range))
+second first nr false small = let range : nr.value < 128 = nr.in_range in both first (second_octet nr false) small (omega (arith, range))
+
+by-pf : (without with_pf : ℕ) (pf : Bool) → without < 256 → with_pf < 256 → AreOctets (one_of without with_pf pf)
+by-pf without with_pf true small few = one with_pf few
+by-pf without with_pf false small few = one without small
+
+field : (c : Control) → AreOctets (row c).field
+field (Information ns nr p) = let range : ns.value < 128 = ns.in_range in second (2 * ns.value) nr p (omega (arith, range))
+field (ReceiveReady nr pf) = second 0x01 nr pf (omega arith)
+field (ReceiveNotReady nr pf) = second 0x05 nr pf (omega arith)
+field (Reject nr pf) = second 0x09 nr pf (omega arith)
+field (Sabme pf) = by-pf 0x6F 0x7F pf (omega arith) (omega arith)
+field (Disc pf) = by-pf 0x43 0x53 pf (omega arith) (omega arith)
+field (Ui pf) = by-pf 0x03 0x13 pf (omega arith) (omega arith)
+field (Ua pf) = by-pf 0x63 0x73 pf (omega arith) (omega arith)
+field (Dm pf) = by-pf 0x0F 0x1F pf (omega arith) (omega arith)
+field (Frmr pf) = by-pf 0x87 0x97 pf (omega arith) (omega arith)
+field (Xid pf) = by-pf 0xAF 0xBF pf (omega arith) (omega arith)
+
+few-cr : (command : Bool) → cr_bit Network command ≤ 1
+few-cr true = omega arith
+few-cr false = omega arith
+
+head : (a : Address) (c : Control) → a.sapi < 64 → a.tei < 128 → AreOctets (head_of Network a c)
+head a c sapi tei =
+    All-append (λ octet. octet < 256) (4 * a.sapi + 2 * cr_bit Network a.command ∷ 2 * a.tei + 1 ∷ []) (row c).field
+    (both (4 * a.sapi + 2 * cr_bit Network a.command) (2 * a.tei + 1) (omega (arith, sapi, few-cr a.command)) (omega (arith, tei))) (field c)
+
+-- a frame as it goes out
+sent : (a : Address) (c : Control) (info : List ℕ) → a.sapi < 64 → a.tei < 128
+    → as_octets (spelling Network (record { address = a; control = c; info = info })) ≡ spelling Network (record { address = a; control = c; info = as_octets info })
+sent a c info sapi tei =
+    map-append (λ n. n % 256) (head_of Network a c) info ∙ ap (λ ns. ns ++ as_octets info) (exact (head_of Network a c) (head a c sapi tei))
+
+-- What a frame is as octets: unit data where it was, and then with the same head.
+pub record IsHeaded (frame : List ℕ) : Type 0 where
+  pub same : is_unit (as_octets frame) ≡ is_unit frame
+  pub head : is_unit frame ≡ true → AreOctets (take 3 frame)
+
+no-unit : (a : Address) (c : Control) (info frame : List ℕ) → a.sapi < 64 → a.tei < 128 → (is_ui c && not (a.sapi == management_sapi)) ≡ false
+    → frame ≡ spelling Network (record { address = a; control = c; info = info }) → IsHeaded frame
+no-unit a c info frame sapi tei other spelled =
+    let none : is_unit frame ≡ false = ap is_unit spelled ∙ other-frame a c other info in
+    record {
+      same = ap (λ f. is_unit (as_octets f)) spelled ∙ ap is_unit (sent a c info sapi tei) ∙ other-frame a c other (as_octets info) ∙ sym none;
+      head = λ is. absurd (true≢false (sym is ∙ none));
+    }
+
+few-sapi : (service : Service) → sapi_of service < 64
+few-sapi Call = omega arith
+few-sapi Packet = omega arith
+
+of-unit : (u : UnitData) (frame : List ℕ) → u.tei ≤ 127 → frame ≡ unit_frame u → IsHeaded frame
+of-unit u frame small spelled =
+    let a : Address = record { sapi = sapi_of u.service; command = true; tei = u.tei } in
+    let tei : u.tei < 128 = omega (arith, small) in
+    record {
+      same =
+          ap (λ f. is_unit (as_octets f)) spelled ∙ ap is_unit (sent a (Ui false) u.contents (few-sapi u.service) tei)
+          ∙ unit-is (record u { contents = as_octets u.contents }) small ∙ sym (unit-is u small) ∙ ap is_unit (sym spelled);
+      head = λ is. subst (λ f. AreOctets (take 3 f)) (sym spelled) (head a (Ui false) (few-sapi u.service) tei);
+    }
+
+owed : (c : Config) (l next : Line) (frame : List ℕ) → IsSound c l → NoneWaits c l → IsOwed c (contents_of l) l next frame → IsHeaded frame
+owed c l next frame s h (inl x) =
+    no-unit (record { sapi = 63; command = true; tei = 127 }) (Ui false) (information_of x.message) frame (omega arith) (omega arith) refl x.spelled
+owed c l next frame s h (inr (inl x)) = of-unit x.unit frame (first-of c l.units x.unit x.oldest s.units) x.spelled
+owed c l next frame s h (inr (inr x)) =
+    let range = s.management.table.range (place_at x.number) x.tei x.on_line in
+    no-unit (record { sapi = sapi_of (service_at x.number); command = x.command; tei = x.tei }) x.control (unwrap_or x.information []) frame
+    (few-sapi (service_at x.number)) (omega (arith, range))
+    (ap (λ b. b && not (sapi_of (service_at x.number) == management_sapi)) (plain-order c l next frame h x)) x.spelled
+
+-- So it is of all that begins in a trace.
+abbrev pub AreHeaded : Config → Line → List Seen → Line → Type 0
+AreHeaded c before t after = All IsHeaded (frames_begun t)
+
+pub rests : (c : Config) (l : Line) → AreHeaded c l [] l
+rests c l = All-nil IsHeaded
+
+pub joins : (c : Config) (k l m : Line) (t u : List Seen) → AreHeaded c k t l → AreHeaded c l u m → AreHeaded c k (t ++ u) m
+joins c k l m t u h i = subst (All IsHeaded) (sym (flat_map-append traces.frame_begun t u)) (All-append IsHeaded (frames_begun t) (frames_begun u) h i)
+
+by-pull : (c : Config) (l next : Line) → IsSound c l → NoneWaits c l → (o : Option Taken)
+    → elim o as (λ o. Type 0) [ None ↦ IsIdle c l next | Some t ↦ IsOwed c (contents_of l) l next t.frame ]
+    → All IsHeaded (option_to_list (option_map frame_taken o))
+by-pull c l next s h None x = All-nil IsHeaded
+by-pull c l next s h (Some t) x = All-cons IsHeaded t.frame [] (owed c l next t.frame s h x) (All-nil IsHeaded)
+
+event-headed : (c : Config) (e : Event) (l : Line) → IsSound c l → NoneWaits c l → AreHeaded c l (seen c e l (answer c e l)) (after c e l)
+event-headed c (octet value) l s h = subst (All IsHeaded) (sym (no-frame (gained c.n201 l.received value) (answer c (octet value) l))) (All-nil IsHeaded)
+event-headed c (expiry timer) l s h = subst (All IsHeaded) (sym (no-frame None (answer c (expiry timer) l))) (All-nil IsHeaded)
+event-headed c (request r) l s h = subst (All IsHeaded) (sym (no-frame-asked r (answer c (request r) l))) (All-nil IsHeaded)
+event-headed c pull l s h =
+    subst (All IsHeaded) (sym (pulled-frames (pulls.begun c l) (answer c pull l))) (by-pull c l (after c pull l) s h (pulls.begun c l) (served c l s))
+
+pub steps : (c : Config) → IsInRange c → (e : Event) (l : Line) → IsSound c l → NoneWaits c l
+    → AreHeaded c l (seen c e l (answer c e l)) (after c e l) × NoneWaits c (after c e l)
+steps c ranged e l s h = (event-headed c e l s h, (kept.steps c ranged e l s h).1)
+
+-- Behind its head, unit data that was granted is octets.
+abbrev pub IsExact : List ℕ → Type 0
+IsExact frame = AreOctets (drop 3 frame)
+
+asked-octets : (r : Request) → HasOctets (granted r) → All IsExact (units.unit_asked r)
+asked-octets (asked.Unit service tei contents) h =
+    All-cons IsExact (unit_frame (record { service = service; tei = tei; contents = contents })) [] h (All-nil IsExact)
+asked-octets (asked.Establish service tei) h = All-nil IsExact
+asked-octets (asked.Release service tei) h = All-nil IsExact
+asked-octets (asked.Data service tei contents) h = All-nil IsExact
+asked-octets (asked.Assign tei) h = All-nil IsExact
+asked-octets (asked.Remove tei) h = All-nil IsExact
+asked-octets (asked.Check tei) h = All-nil IsExact
+asked-octets (asked.SetBusy service tei) h = All-nil IsExact
+asked-octets (asked.ClearBusy service tei) h = All-nil IsExact
+
+one-granted : (x : Seen) → HasOctets x → All IsExact (units.unit_granted x)
+one-granted (heard e) h = All-nil IsExact
+one-granted (traces.begun octets) h = All-nil IsExact
+one-granted (put value) h = All-nil IsExact
+one-granted (noted notes contents) h = All-nil IsExact
+one-granted (granted r) h = asked-octets r h
+one-granted (lost n) h = All-nil IsExact
+
+pub granted-octets : (t : List Seen) → All HasOctets t → All IsExact (units_granted t)
+granted-octets [] h = All-nil IsExact
+granted-octets (x ∷ t) h =
+    All-append IsExact (units.unit_granted x) (units_granted t) (one-granted x (All-head HasOctets x t h)) (granted-octets t (All-tail HasOctets x t h))
+
+-- So unit data goes out as it is.
+whole-frame : (frame : List ℕ) → AreOctets (take 3 frame) → IsExact frame → as_octets frame ≡ frame
+whole-frame frame front back =
+    exact frame (subst AreOctets (take-append-drop 3 frame) (All-append (λ octet. octet < 256) (take 3 frame) (drop 3 frame) front back))
+
+pub same-units : (frames : List (List ℕ)) → All IsHeaded frames → (rest : List (List ℕ)) → All IsExact (filter is_unit frames ++ rest)
+    → filter is_unit (map as_octets frames) ≡ filter is_unit frames
+same-units [] headed rest octets = refl
+same-units (frame ∷ frames) headed rest octets = go (is_unit frame) refl octets
+  where
+    h : IsHeaded frame
+    h = All-head IsHeaded frame frames headed
+
+    more : List (List ℕ)
+    more = filter is_unit (map as_octets frames)
+
+    go : (b : Bool) → is_unit frame ≡ b → All IsExact (cond b (frame ∷ filter is_unit frames) (filter is_unit frames) ++ rest)
+        → cond (is_unit (as_octets frame)) (as_octets frame ∷ more) more ≡ cond b (frame ∷ filter is_unit frames) (filter is_unit frames)
+    go true is octets =
+        ap (λ b. cond b (as_octets frame ∷ more) more) (h.same ∙ is)
+        ∙ ap (λ f. f ∷ more) (whole-frame frame (h.head is) (All-head IsExact frame (filter is_unit frames ++ rest) octets))
+        ∙ ap (λ fs. frame ∷ fs) (same-units frames (All-tail IsHeaded frame frames headed) rest (All-tail IsExact frame (filter is_unit frames ++ rest) octets))
+    go false is octets =
+        ap (λ b. cond b (as_octets frame ∷ more) more) (h.same ∙ is)
+        ∙ same-units frames (All-tail IsHeaded frame frames headed) rest octets

@@ -26,7 +26,7 @@ same-bits [] = refl
 same-bits (x ∷ xs) = ap (λ b. b ++ bits (as_octets xs)) (low_bits-mod 8 x) ∙ ap (λ b. low_bits 8 x ++ b) (same-bits xs)
 
 -- An item as it goes out.
-pub sent : Item → Item
+abbrev pub sent : Item → Item
 sent idle = idle
 sent (frame octets) = frame (as_octets octets)
 

@@ -82,7 +82,7 @@ few-cr false = omega arith
 
 head : (a : Address) (c : Control) → a.sapi < 64 → a.tei < 128 → AreOctets (head_of Network a c)
 head a c sapi tei =
-    All-append (λ octet. octet < 256) (4 * a.sapi + 2 * cr_bit Network a.command ∷ 2 * a.tei + 1 ∷ []) (row c).field
+    All-append (λ octet. octet < 256) (4 * a.sapi + 2 * cr_bit Network a.command ∷ (2 * a.tei + 1) ∷ []) (row c).field
     (both (4 * a.sapi + 2 * cr_bit Network a.command) (2 * a.tei + 1) (omega (arith, sapi, few-cr a.command)) (omega (arith, tei))) (field c)
 
 -- a frame as it goes out
@@ -191,23 +191,22 @@ whole-frame : (frame : List ℕ) → AreOctets (take 3 frame) → IsExact frame 
 whole-frame frame front back =
     exact frame (subst AreOctets (take-append-drop 3 frame) (All-append (λ octet. octet < 256) (take 3 frame) (drop 3 frame) front back))
 
+first-same : (frame : List ℕ) → IsHeaded frame → (more kept rest : List (List ℕ)) → more ≡ kept → (b : Bool) → is_unit frame ≡ b
+    → All IsExact (cond b (frame ∷ kept) kept ++ rest)
+    → cond (is_unit (as_octets frame)) (as_octets frame ∷ more) more ≡ cond b (frame ∷ kept) kept
+first-same frame h more kept rest same true is octets =
+    ap (λ b. cond b (as_octets frame ∷ more) more) (h.same ∙ is)
+    ∙ ap (λ f. f ∷ more) (whole-frame frame (h.head is) (All-head IsExact frame (kept ++ rest) octets)) ∙ ap (λ fs. frame ∷ fs) same
+first-same frame h more kept rest same false is octets = ap (λ b. cond b (as_octets frame ∷ more) more) (h.same ∙ is) ∙ same
+
+behind : (frame : List ℕ) (kept rest : List (List ℕ)) (b : Bool) → All IsExact (cond b (frame ∷ kept) kept ++ rest) → All IsExact (kept ++ rest)
+behind frame kept rest true octets = All-tail IsExact frame (kept ++ rest) octets
+behind frame kept rest false octets = octets
+
 pub same-units : (frames : List (List ℕ)) → All IsHeaded frames → (rest : List (List ℕ)) → All IsExact (filter is_unit frames ++ rest)
     → filter is_unit (map as_octets frames) ≡ filter is_unit frames
 same-units [] headed rest octets = refl
-same-units (frame ∷ frames) headed rest octets = go (is_unit frame) refl octets
-  where
-    h : IsHeaded frame
-    h = All-head IsHeaded frame frames headed
-
-    more : List (List ℕ)
-    more = filter is_unit (map as_octets frames)
-
-    go : (b : Bool) → is_unit frame ≡ b → All IsExact (cond b (frame ∷ filter is_unit frames) (filter is_unit frames) ++ rest)
-        → cond (is_unit (as_octets frame)) (as_octets frame ∷ more) more ≡ cond b (frame ∷ filter is_unit frames) (filter is_unit frames)
-    go true is octets =
-        ap (λ b. cond b (as_octets frame ∷ more) more) (h.same ∙ is)
-        ∙ ap (λ f. f ∷ more) (whole-frame frame (h.head is) (All-head IsExact frame (filter is_unit frames ++ rest) octets))
-        ∙ ap (λ fs. frame ∷ fs) (same-units frames (All-tail IsHeaded frame frames headed) rest (All-tail IsExact frame (filter is_unit frames ++ rest) octets))
-    go false is octets =
-        ap (λ b. cond b (as_octets frame ∷ more) more) (h.same ∙ is)
-        ∙ same-units frames (All-tail IsHeaded frame frames headed) rest octets
+same-units (frame ∷ frames) headed rest octets =
+    let more = behind frame (filter is_unit frames) rest (is_unit frame) octets in
+    first-same frame (All-head IsHeaded frame frames headed) (filter is_unit (map as_octets frames)) (filter is_unit frames) rest
+    (same-units frames (All-tail IsHeaded frame frames headed) rest more) (is_unit frame) refl octets

@@ -82,7 +82,7 @@ few-cr false = omega arith
 
 head : (a : Address) (c : Control) → a.sapi < 64 → a.tei < 128 → AreOctets (head_of Network a c)
 head a c sapi tei =
-    All-append (λ octet. octet < 256) (4 * a.sapi + 2 * cr_bit Network a.command ∷ (2 * a.tei + 1) ∷ []) (row c).field
+    All-append (λ octet. octet < 256) ((4 * a.sapi + 2 * cr_bit Network a.command) ∷ (2 * a.tei + 1) ∷ []) (row c).field
     (both (4 * a.sapi + 2 * cr_bit Network a.command) (2 * a.tei + 1) (omega (arith, sapi, few-cr a.command)) (omega (arith, tei))) (field c)
 
 -- a frame as it goes out

@@ -56,7 +56,7 @@ module _ (c : Config) where
       odd : (k : ℕ) → k % 2 ≢ 0 → k % 2 ≡ 1
       odd k apart = omega (arith, apart)
 
-  same-number : (l : Line) → IsSound c l → (n m tei other : ℕ) → tei_at (place_at n) l ≡ Some tei → tei_at (place_at m) l ≡ Some other → named n tei ≡ named m other → n ≡ m
+  pub same-number : (l : Line) → IsSound c l → (n m tei other : ℕ) → tei_at (place_at n) l ≡ Some tei → tei_at (place_at m) l ≡ Some other → named n tei ≡ named m other → n ≡ m
   same-number l s n m tei other on on' e =
       let tei-same : tei ≡ other = ap (λ (x : LinkName). x.tei) e in
       let half : n / 2 ≡ m / 2 = s.management.table.once (n / 2) (m / 2) tei on (on' ∙ ap Some (sym tei-same)) in

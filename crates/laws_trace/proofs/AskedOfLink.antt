@@ -18,7 +18,7 @@ use Rattle.laws_link.specs.States.{as_heard, is_overlong, moves}
 use Rattle.laws_link.specs.Waiting.{receipt_as, as_response, is_next, is_taken, to_information, to_supervisory, to_sabme, to_disc, answers_up, answers_to, answers, command_in, is_time, commands, put, room, behind, waiting_left}
 use Rattle.laws_link.proofs.Follows.{event-follows}
 use Rattle.laws_trace.specs.AnswersAreAsked.{Exchange, mode, poll, asked_by, answered_by, IsPart}
-use Rattle.laws_trace.proofs.Parts.{of-itself, of-nothing, both, more, through} 
+use Rattle.laws_trace.proofs.Parts.{of-itself, of-nothing, both, more, through}
 
 -- What a control frame answers, and what an event of a link asks for.
 abbrev pub answer_in : ControlFrame → List Exchange

@@ -12,7 +12,7 @@ use Rattle.model_line.specs.Request.{Assign, Check, Establish}
 use Rattle.model_card.specs.Card.{fresh}
 use Rattle.model_card.specs.Event.{Event, at}
 use Rattle.model_card.specs.Run.{moments, after_all}
-use Rattle.laws_card.specs.Worked.{usual, on_0}
+use Rattle.laws_card.specs.Worked.{usual, on_0, hears}
 use Rattle.laws_trace.specs.LinksTakeTurns.{LinkName, links_begun, TakeTurns}
 use Rattle.laws_trace.specs.MessagesComeFirst.{rank, AreByRank}
 use Rattle.laws_trace.specs.Trace.{trace, frames_begun}
@@ -31,6 +31,11 @@ packet = record { sapi = 16; tei = 64 }
 turns_taken : links_begun (trace 0 (moments (after_all (fresh usual) both_up) (pulls 16))) ≡ call ∷ packet ∷ call ∷ []
 unfolding moments after_all lines.after lines.answer lines.takes_slot teis.course teis.refusal low_bits reading header_of control_of unnumbered_of
 turns_taken = refl
+
+-- An octet that comes meanwhile changes none of it.
+turns_taken_meanwhile : links_begun (trace 0 (moments (after_all (fresh usual) both_up) (pulls 4 ++ (hears 0x7E ∷ pulls 12)))) ≡ call ∷ packet ∷ call ∷ []
+unfolding moments after_all lines.after lines.answer lines.takes_slot teis.course teis.refusal low_bits reading header_of control_of unnumbered_of
+turns_taken_meanwhile = refl
 
 -- Where the first goes twice before the other, the law is broken.
 apart : call ≢ packet

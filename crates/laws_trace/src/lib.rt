@@ -17,4 +17,7 @@
 
 mod laws;
 
-pub use laws::{all_frames_go_out, answers_are_asked, frames_go_out, links_take_turns, links_take_turns_meanwhile, messages_come_first, units_are_heard, units_go_out};
+pub use laws::{
+    all_frames_go_out, answers_are_asked, frames_go_out, links_take_turns,
+    links_take_turns_meanwhile, messages_come_first, units_are_heard, units_go_out,
+};

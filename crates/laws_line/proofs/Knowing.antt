@@ -83,11 +83,11 @@ module _ (c : Config) (l : Line) (s : IsSound c l) (service : Service) (tei plac
 
   own-up : then-up service tei
   own-up =
-      ap (λ b. fold (up_by_note service tei) b its) (read.own-before is_up c l s service tei place at y)
-      ∙ own-notes t (is_up x) its (notes-own t e x) ∙ layer_3_knows t e x ∙ sym (read.own-after is_up c l s service tei place at y)
+      ap (λ b. fold (up_by_note service tei) b its) (read.own-before false is_up c l s service tei place at y)
+      ∙ own-notes t (is_up x) its (notes-own t e x) ∙ layer_3_knows t e x ∙ sym (read.own-after false is_up c l s service tei place at y)
 
   by-link : (s' : Service) (n' : ℕ) (b : Bool) → (same_service service s' && (tei == n')) ≡ b → then-up s' n'
-  by-link s' n' false other = other-notes t s' n' other (is_up_of s' n' l) its (notes-own t e x) ∙ sym (read.other-read is_up c l s service tei place at y s' n' other)
+  by-link s' n' false other = other-notes t s' n' other (is_up_of s' n' l) its (notes-own t e x) ∙ sym (read.other-read false is_up c l s service tei place at y s' n' other)
   by-link s' n' true same =
       let is = both-true (same_service service s') (tei == n') same in
       subst (λ z. then-up z n') (services-equal service s' is.0) (subst (λ z. then-up service z) (eqb-true tei n' is.1) own-up)
@@ -127,10 +127,10 @@ module _ (c : Config) (l : Line) (s : IsSound c l) (e : teis.Event) (fits : tei_
       → is_up_of s' n' l ≡ is_up_of s' n' (changed (Some (Gained tei place)))
   comes-up tei place joined s' n' true same =
       let n : tei ≡ n' = eqb-true tei n' same in
-      read.off-read is_up refl c l s m sound place (Some tei) joined.is_there joined.within s' n' (λ i at. at-off l.management.places i n' (ap (λ x. is_on x l.management.places) (sym n) ∙ joined.was_off) at)
-      ∙ sym (read.filled-read is_up refl c l s m sound place (Some tei) joined.is_there joined.within s' n' (ap Some n))
+      read.off-read false is_up refl c l s m sound place (Some tei) joined.is_there joined.within s' n' (λ i at. at-off l.management.places i n' (ap (λ x. is_on x l.management.places) (sym n) ∙ joined.was_off) at)
+      ∙ sym (read.filled-read false is_up refl c l s m sound place (Some tei) joined.is_there joined.within s' n' (ap Some n))
   comes-up tei place joined s' n' false other =
-      sym (read.elsewhere is_up refl c l s m sound place (Some tei) joined.is_there joined.within s' n' (λ same. true≢false (sym (eq-eqb tei n' (some-same tei n' same)) ∙ other))
+      sym (read.elsewhere false is_up refl c l s m sound place (Some tei) joined.is_there joined.within s' n' (λ same. true≢false (sym (eq-eqb tei n' (some-same tei n' same)) ∙ other))
       (λ at. none-some n' (sym joined.was_free ∙ at)))
 
   module _ (tei place : ℕ) (gone : tei_laws.HasLeft l.management.places m.places tei place) where
@@ -150,7 +150,7 @@ module _ (c : Config) (l : Line) (s : IsSound c l) (e : teis.Event) (fits : tei_
     placed = has-place l.management.places tei place s.management.table gone.was_there
 
     gone-down : (z : Service) → is_up_of z tei (changed (Some (Left tei place))) ≡ false
-    gone-down z = read.emptied-read is_up refl c l s m sound place None gone.is_free gone.within z tei refl gone.was_there
+    gone-down z = read.emptied-read false is_up refl c l s m sound place None gone.is_free gone.within z tei refl gone.was_there
 
     abbrev leaving : Service → ℕ → Type 0
     leaving z n' = fold (up_by_note z n') (fold (up_by_note z n') (is_up_of z n' l) call) packet ≡ is_up_of z n' (changed (Some (Left tei place)))
@@ -174,12 +174,12 @@ module _ (c : Config) (l : Line) (s : IsSound c l) (e : teis.Event) (fits : tei_
         let apart : (y : Service) → (same_service y z && (tei == n')) ≡ false = λ y. ap (λ b. same_service y z && b) other ∙ and-false (same_service y z) in
         ap (λ b. fold (up_by_note z n') b packet) (other-notes (terms c Call tei) z n' (apart Call) (is_up_of z n' l) call (notes-own (terms c Call tei) link.cleared first))
         ∙ other-notes (terms c Packet tei) z n' (apart Packet) (is_up_of z n' l) packet (notes-own (terms c Packet tei) link.cleared second)
-        ∙ sym (read.elsewhere is_up refl c l s m sound place None gone.is_free gone.within z n' (λ same. none-some n' same)
+        ∙ sym (read.elsewhere false is_up refl c l s m sound place None gone.is_free gone.within z n' (λ same. none-some n' same)
         (λ at. true≢false (sym (eq-eqb tei n' (some-same tei n' (sym gone.was_there ∙ at))) ∙ other)))
 
   by-change : (o : Option Change) → Moves l.management.places o m.places → ByChange e o ns
       → Up l (of_change c o (told_of_management (teis.told e l.management)) (record l { management = m })).told.notes (changed o)
-  by-change None moves is = λ s' n'. tei-note s' n' (is_up_of s' n' l) e None ns is ∙ sym (read.same-read is_up s' n' l (record l { management = m }) moves refl)
+  by-change None moves is = λ s' n'. tei-note s' n' (is_up_of s' n' l) e None ns is ∙ sym (read.same-read false is_up s' n' l (record l { management = m }) moves refl)
   by-change (Some (Gained tei place)) joined is = λ s' n'.
       tei-note s' n' (is_up_of s' n' l) e (Some (Gained tei place)) ns is ∙ comes-up tei place joined s' n' (tei == n') refl
   by-change (Some (Left tei place)) gone is = λ s' n'.
@@ -231,7 +231,7 @@ module _ (c : Config) (l : Line) (s : IsSound c l) where
   request-up (Release service tei) proper = asked-up service tei link.Release (place_in l tei) refl
   request-up (Data service tei contents) proper = asked-up service tei (link.Data contents) (place_in l tei) refl
   request-up (Unit service tei contents) proper =
-      λ s' n'. sym (read.same-read is_up s' n' l (of_aim c (at_units (record { service = service; tei = tei; contents = contents })) l).line refl refl)
+      λ s' n'. sym (read.same-read false is_up s' n' l (of_aim c (at_units (record { service = service; tei = tei; contents = contents })) l).line refl refl)
   request-up (Assign tei) proper = management-up c l s (teis.assign tei) proper
   request-up (Remove tei) proper = management-up c l s (teis.remove tei) proper
   request-up (Check tei) proper = management-up c l s (teis.check tei) proper
@@ -245,23 +245,23 @@ module _ (c : Config) (l : Line) (s : IsSound c l) where
       ∙ link-up c l s service tei place link.offer at s' n'
 
   took : (t : Taken) → IsOne c l t → Up l [] t.line
-  took t (inl x) = subst (λ (u : Taken). Up l [] u.line) (sym x.1) (λ s' n'. sym (read.same-read is_up s' n' l (with_message l x.0).line refl refl))
-  took t (inr (inl x)) = subst (λ (u : Taken). Up l [] u.line) (sym x.1) (λ s' n'. sym (read.same-read is_up s' n' l (with_unit l x.0).line refl refl))
+  took t (inl x) = subst (λ (u : Taken). Up l [] u.line) (sym x.1) (λ s' n'. sym (read.same-read false is_up s' n' l (with_message l x.0).line refl refl))
+  took t (inr (inl x)) = subst (λ (u : Taken). Up l [] u.line) (sym x.1) (λ s' n'. sym (read.same-read false is_up s' n' l (with_unit l x.0).line refl refl))
   took t (inr (inr x)) =
       subst (λ (u : Taken). Up l [] u.line) (sym x.is)
       (λ s' n'.
       subst (λ n. is_up_of s' n' l ≡ is_up_of s' n' (with_link n (links.after (terms c (service_at x.number) x.tei) link.offer (link_at n l)) l)) (number-is x.number)
       (offered-up (service_at x.number) x.tei (place_at x.number) x.on_line s' n')
-      ∙ sym (read.same-read is_up s' n' (with_link x.number (links.after (terms c (service_at x.number) x.tei) link.offer (link_at x.number l)) l)
+      ∙ sym (read.same-read false is_up s' n' (with_link x.number (links.after (terms c (service_at x.number) x.tei) link.offer (link_at x.number l)) l)
       (with_given_frame l x.number (terms c (service_at x.number) x.tei) x.what).line refl refl))
 
   pull-up : Up l [] (after_pull c l)
   pull-up = go (is_due l) (taken c l) (taken-one c l s)
     where
       go : (due : Bool) (o : Option Taken) → IfSome o (IsOne c l) → Up l [] (record (cond due (with_item o l) l) { given = (after_pull c l).given })
-      go false o x = λ s' n'. sym (read.same-read is_up s' n' l (record l { given = (after_pull c l).given }) refl refl)
-      go true None x = λ s' n'. sym (read.same-read is_up s' n' l (record (with_item None l) { given = (after_pull c l).given }) refl refl)
-      go true (Some t) x = λ s' n'. took t x s' n' ∙ sym (read.same-read is_up s' n' t.line (record (with_item (Some t) l) { given = (after_pull c l).given }) refl refl)
+      go false o x = λ s' n'. sym (read.same-read false is_up s' n' l (record l { given = (after_pull c l).given }) refl refl)
+      go true None x = λ s' n'. sym (read.same-read false is_up s' n' l (record (with_item None l) { given = (after_pull c l).given }) refl refl)
+      go true (Some t) x = λ s' n'. took t x s' n' ∙ sym (read.same-read false is_up s' n' t.line (record (with_item (Some t) l) { given = (after_pull c l).given }) refl refl)
 
 pub known-up : (c : Config) (e : Event) (l : Line) (service : Service) (tei : ℕ) → IsSound c l
     → taken_for_up service tei (is_up_of service tei l) (answer c e l) ≡ is_up_of service tei (after c e l)
@@ -269,7 +269,7 @@ unfolding after answer
 known-up c (octet value) l service tei s =
     let now = with_received value l in
     let aim = option_map_or (aim_of_heard l) (gained c.n201 l.received value) (at_none nothing) in
-    ap (λ b. fold (up_by_note service tei) b (of_aim c aim now).told.notes) (sym (read.same-read is_up service tei l now refl refl))
+    ap (λ b. fold (up_by_note service tei) b (of_aim c aim now).told.notes) (sym (read.same-read false is_up service tei l now refl refl))
     ∙ heard-up c now (received_sound c value l s) (gained c.n201 l.received value) service tei
 known-up c (expiry (T200 by n)) l service tei s = timer-up c l s by n kind.T200 (place_in l n) refl service tei
 known-up c (expiry (T203 by n)) l service tei s = timer-up c l s by n kind.T203 (place_in l n) refl service tei

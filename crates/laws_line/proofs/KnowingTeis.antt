@@ -159,7 +159,7 @@ module _ (c : Config) (l : Line) (s : IsSound c l) (e : teis.Event) (fits : tei_
   goes : (by place : ℕ) → tei_laws.HasLeft l.management.places m.places by place → (b : Bool) → (by == tei) ≡ b → cond b false (has_tei tei l) ≡ is_on tei m.places
   goes by place gone true same =
       sym (on-placed tei m.places
-      ∙ ap is_some (has-no-place m.places tei (read.emptied is_up refl c l s m table place None gone.is_free gone.within tei refl (gone.was_there ∙ ap Some (eqb-true by tei same)))))
+      ∙ ap is_some (has-no-place m.places tei (read.emptied false is_up refl c l s m table place None gone.is_free gone.within tei refl (gone.was_there ∙ ap Some (eqb-true by tei same)))))
   goes by place gone false other =
       on-placed tei l.management.places
       ∙ ap is_some (sym (stays-placed l.management.places m.places place None table gone.is_free gone.within tei (λ same. none-some tei same)

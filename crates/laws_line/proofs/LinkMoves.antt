@@ -53,34 +53,38 @@ first_of P None rest h h' = h'
 first_of P (Some t) rest h h' = h
 
 module _ (c : Config) (l : Line) (s : IsSound c l) where
-  of-link : (n : ℕ) → n < link_count c → IfSome (link_taken c l n) (IsOne c l)
+  of-link : (n : ℕ) → n < link_count c → IfSome (link_taken c l n) (OfLink c l)
   of-link n few = known (tei_at (place_at n) l) refl (s.links n few)
     where
       gave : (tei : ℕ) → tei_at (place_at n) l ≡ Some tei → (o : Option Given) → links.given (terms c (service_at n) tei) (link_at n l) ≡ o
-          → IfSome (option_map (with_given_frame l n (terms c (service_at n) tei)) o) (IsOne c l)
+          → IfSome (option_map (with_given_frame l n (terms c (service_at n) tei)) o) (OfLink c l)
       gave tei e None given = tt
-      gave tei e (Some g) given = inr (inr (record { number = n; few = few; tei = tei; on_line = e; what = g; given = given; is = refl }))
+      gave tei e (Some g) given = record { number = n; few = few; tei = tei; on_line = e; what = g; given = given; is = refl }
 
       known : (o : Option ℕ) → tei_at (place_at n) l ≡ o → IsSoundAt c n (link_at n l) o
-          → let t = terms c (service_at n) (unwrap_or o 0) in IfSome (option_map (with_given_frame l n t) (links.given t (link_at n l))) (IsOne c l)
+          → let t = terms c (service_at n) (unwrap_or o 0) in IfSome (option_map (with_given_frame l n t) (links.given t (link_at n l))) (OfLink c l)
       known None e is_fresh =
           let t = terms c (service_at n) 0 in
           let nothing : links.given t (link_at n l) ≡ None = ap (links.given t) is_fresh ∙ fresh_gives_nothing t in
-          subst (λ o. IfSome (option_map (with_given_frame l n t) o) (IsOne c l)) (sym nothing) tt
+          subst (λ o. IfSome (option_map (with_given_frame l n t) o) (OfLink c l)) (sym nothing) tt
       known (Some tei) e sound = gave tei e (links.given (terms c (service_at n) tei) (link_at n l)) refl
 
-  of-links : (ns : List ℕ) → All (λ n. n < link_count c) ns → IfSome (first_taken c l ns) (IsOne c l)
+  pub of-links : (ns : List ℕ) → All (λ n. n < link_count c) ns → IfSome (first_taken c l ns) (OfLink c l)
   of-links [] all = tt
   of-links (n ∷ ns) all =
-      first_of (IsOne c l) (link_taken c l n) (first_taken c l ns) (of-link n (All-head (λ n. n < link_count c) n ns all))
+      first_of (OfLink c l) (link_taken c l n) (first_taken c l ns) (of-link n (All-head (λ n. n < link_count c) n ns all))
       (of-links ns (All-tail (λ n. n < link_count c) n ns all))
+
+  one-of : (o : Option Taken) → IfSome o (OfLink c l) → IfSome o (IsOne c l)
+  one-of None x = tt
+  one-of (Some t) x = inr (inr x)
 
   pub taken-one : IfSome (taken c l) (IsOne c l)
   taken-one =
       first_of (IsOne c l) (message_taken l) (option_or (unit_taken l) (first_taken c l (round c l)))
       (mapped (with_message l) (IsOne c l) _ (λ octets. inl (octets, refl)))
       (first_of (IsOne c l) (unit_taken l) (first_taken c l (round c l)) (mapped (with_unit l) (IsOne c l) _ (λ u. inr (inl (u, refl))))
-      (of-links (round c l) (round_below c l)))
+      (one-of (first_taken c l (round c l)) (of-links (round c l) (round_below c l))))
 
 module _ (P : Link → Type 0) (begins : P fresh) (keeps : (t : Terms) (e : link.Event) (x : Link) → link_sound.IsInRange t → link_sound.IsSound t x → P x → P (links.after t e x)) where
   -- one link is another

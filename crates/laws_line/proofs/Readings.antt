@@ -1,4 +1,5 @@
--- What is read of the links of a line, by service and TEI: through an event of one link, and where a TEI comes or leaves.
+-- What is read of the links of a line, by service and TEI, and else where the TEI is not on it: through an event of one
+-- link, and where a TEI comes or leaves.
 use Rattle.std.proofs.Common.{◌≡◌, ◌≢◌, ℕ, ◌+◌, ◌*◌, ◌<◌, ◌⊎◌, inl, inr, ◌==◌, ◌&&◌, Bool, true, false, List, length, get_or, set, Option, Some, None, refl, ap, sym, ◌∙◌, subst, arith, length-set, eqb-true, eq-eqb, true≢false}
 use Rattle.std.specs.Option.{option_map_or}
 use Rattle.std.proofs.lemmas.Bool.{cases_eq}
@@ -20,14 +21,14 @@ use Rattle.laws_line.proofs.Following.{same-number, some-same}
 use Rattle.laws_line.proofs.Obeyed.{service-same}
 use Rattle.laws_line.proofs.Places.{has-no-place, has-place, stays-placed}
 
-module _ (R : Link → Bool) where
-  abbrev pub in_line : Service → Line → ℕ → Bool
+module _ {X : Type 0} (off : X) (R : Link → X) where
+  abbrev pub in_line : Service → Line → ℕ → X
   in_line service l place = R (link_in l service place)
 
-  abbrev pub read_at : Service → Option ℕ → Line → Bool
-  read_at service o l = option_map_or (in_line service l) o false
+  abbrev pub read_at : Service → Option ℕ → Line → X
+  read_at service o l = option_map_or (in_line service l) o off
 
-  abbrev pub read_of : Service → ℕ → Line → Bool
+  abbrev pub read_of : Service → ℕ → Line → X
   read_of service tei l = read_at service (place_in l tei) l
 
   -- the same table, and the same links
@@ -72,7 +73,7 @@ module _ (R : Link → Bool) where
         go (Some p') e = ap R (get_or-set_other l.links (link_number place service) (link_number p' s') y fresh (apart s' n' other p' e))
 
   -- both links of a place begin anew
-  module _ (begins : R fresh ≡ false) (c : Config) (l : Line) (s : IsSound c l) (m : Management) (sound : IsSoundTable m.places)
+  module _ (begins : R fresh ≡ off) (c : Config) (l : Line) (s : IsSound c l) (m : Management) (sound : IsSoundTable m.places)
       (place : ℕ) (o : Option ℕ) (is : m.places ≡ set l.management.places place o) (within : place < length l.management.places) where
     abbrev pub both : List Link
     both = set (set l.links (link_number place Call) fresh) (link_number place Packet) fresh
@@ -103,7 +104,7 @@ module _ (R : Link → Bool) where
     new Packet = get_or-set_same (set l.links (link_number place Call) fresh) (link_number place Packet) fresh fresh (omega (arith, long, length-set l.links (link_number place Call) fresh))
 
     -- what comes there begins
-    pub filled-read : (s' : Service) (n' : ℕ) → o ≡ Some n' → read_of s' n' anew ≡ false
+    pub filled-read : (s' : Service) (n' : ℕ) → o ≡ Some n' → read_of s' n' anew ≡ off
     filled-read s' n' e =
         ap (λ p. read_at s' p anew) (has-place m.places n' place sound (ap (λ ps. get_or ps place None) is ∙ get_or-set_same l.management.places place o None within ∙ e))
         ∙ ap R (new s') ∙ begins
@@ -118,8 +119,8 @@ module _ (R : Link → Bool) where
         go (inr apart) =
             apart (s.management.table.once i place n' (sym (get_or-set_other l.management.places place i o None apart) ∙ ap (λ ps. get_or ps i None) (sym is) ∙ at) was)
 
-    pub emptied-read : (s' : Service) (n' : ℕ) → o ≡ None → IsAt l.management.places place n' → read_of s' n' anew ≡ false
+    pub emptied-read : (s' : Service) (n' : ℕ) → o ≡ None → IsAt l.management.places place n' → read_of s' n' anew ≡ off
     emptied-read s' n' none was = ap (λ p. read_at s' p anew) (has-no-place m.places n' (emptied n' none was))
 
-    pub off-read : (s' : Service) (n' : ℕ) → ((i : ℕ) → IsAt l.management.places i n' → ⊥) → read_of s' n' l ≡ false
+    pub off-read : (s' : Service) (n' : ℕ) → ((i : ℕ) → IsAt l.management.places i n' → ⊥) → read_of s' n' l ≡ off
     off-read s' n' off = ap (λ p. read_at s' p l) (has-no-place l.management.places n' off)

@@ -1,5 +1,6 @@
 -- Lemmas.
 pub mod Runs
+pub mod OneLink
 pub mod Reading
 pub mod NoUi
 pub mod Units

@@ -1,0 +1,408 @@
+-- What an event of a line is to the link of a service with a TEI, at whatever place the TEI is: one event of this link, or none.
+use Rattle.std.proofs.Common.{◌≡◌, ◌≢◌, ℕ, ◌==◌, ◌&&◌, ◌<◌, Bool, true, false, cond, List, [], ◌∷◌, map, slice_get, Option, Some, None, IfSome, option_map, refl, sym, ap, ◌∙◌, subst, arith, eqb-true, eq-eqb, true≢false, ◌⊎◌, inl, inr}
+use Rattle.std.specs.Prelude.{All, option_to_list}
+use Rattle.std.specs.Option.{option_or, option_map_or}
+use Rattle.std.proofs.lemmas.List.Elements.{All-nil, All-cons, All-head, All-tail}
+use Rattle.std.proofs.lemmas.Option.{none-some}
+use Rattle.lapd_bits.specs.Stream as stream
+use Rattle.lapd_frame.specs.declared.refusals.Refusal.{Refusal}
+use Rattle.lapd_frame.specs.declared.services.Service.{Service}
+use Rattle.lapd_frame.specs.declared.services.Service.TheVariants.{Call, Packet}
+use Rattle.lapd_frame.specs.declared.timers.Timer.{Timer}
+use Rattle.lapd_frame.specs.declared.timers.Timer.TheVariants as timers
+use Rattle.lapd_frame.specs.Services.{same_service}
+use Rattle.lapd_tei.specs.Events as teis
+use Rattle.lapd_tei.specs.Laws as tei_laws
+use Rattle.lapd_tei.specs.Machine.{Management}
+use Rattle.lapd_tei.specs.Messages.{frame_of as message_frame}
+use Rattle.lapd_tei.specs.Sound.{IsAt, IsSoundTable}
+use Rattle.lapd_tei.specs.Table.{is_on}
+use Rattle.lapd_tei.specs.declared.messages.Message.{Message}
+use Rattle.lapd_tei.specs.declared.outcome.Change.{Change}
+use Rattle.lapd_tei.specs.declared.outcome.Change.TheVariants.{Gained, Left}
+use Rattle.lapd_tei.proofs.LawLemmas as tei_lemmas
+use Rattle.lapd_tei.proofs.Tables.{at-off}
+use Rattle.model_link.specs.declared.frames.ControlFrame.{ControlFrame}
+use Rattle.model_link.specs.declared.terms.Terms.{Terms}
+use Rattle.model_link.specs.Events as link
+use Rattle.model_link.specs.Link.{Link, fresh, address_at}
+use Rattle.model_link.specs.Machine as links
+use Rattle.model_link.specs.Offers
+use Rattle.model_link.specs.Steps.{Course, begun as course_begun, ◌then◌, changed}
+use Rattle.model_link.specs.Told.{Given}
+use Rattle.model_link.specs.Words
+use Rattle.model_link.specs.declared.timers.LinkTimer.{LinkTimer}
+use Rattle.model_link.specs.declared.timers.LinkTimer.TheVariants as kind
+use Rattle.model_link.specs.declared.timers.LinkTimer.TheVariants.{T200}
+use Rattle.model_line.specs.declared.config.Config.{Config}
+use Rattle.model_line.specs.Event.{Event, octet, expiry, request, pull, Answer, told, nothing}
+use Rattle.model_line.specs.Effect.{Aim, at_none, at_link, at_management, at_units, told_of_management, of_change, of_aim}
+use Rattle.model_line.specs.Expiry.{at_timer, aim_of_expiry}
+use Rattle.model_line.specs.Line.{Line, UnitData, link_number, service_at, place_at, place_in, tei_at, link_at, link_in, link_of, link_count, terms, with_link}
+use Rattle.model_line.specs.Machine.{aim_of, after, answer, unless_refused, unless_refused_told}
+use Rattle.model_line.specs.Octet.{gained, aim_of_heard, aim_of_octet, with_received}
+use Rattle.model_line.specs.Pull.{Taken, with_message, with_unit, unit_frame, with_given_frame, frame_of, taken, is_due, with_item, after_pull, answer_to_pull, first_taken, round}
+use Rattle.model_line.specs.Refusal.{refusal}
+use Rattle.model_line.specs.Request.{Request, Establish, Release, Data, Assign, Remove, Check, SetBusy, ClearBusy}
+use Rattle.model_line.specs.Requested.{at_requested, aim_of_request}
+use Rattle.model_line.specs.Sound.{IsSound, IsUnitData}
+use Rattle.model_line.proofs.AimsSound.{IsProper}
+use Rattle.model_line.proofs.ProperAims.{heard_aims, octet_proper, expiry_proper, request_proper}
+use Rattle.model_line.proofs.PullSound.{round_below}
+use Rattle.model_card.specs.Pulled.{frame_taken, frame_in}
+use Rattle.laws_line.specs.Frames.{lost_in}
+use Rattle.laws_line.specs.Heard.{notes_of, contents_in}
+use Rattle.laws_line.specs.Steady.{IsBy}
+use Rattle.laws_line.proofs.Following.{some-same}
+use Rattle.laws_line.proofs.LinkMoves.{OfLink, of-links}
+use Rattle.laws_line.proofs.Obeyed.{services-equal, both-true}
+use Rattle.laws_line.proofs.Places.{has-place}
+use Rattle.laws_line.proofs.Readings as read
+use Rattle.laws_line.proofs.Tied.{Ties, octet-ties, expiry-ties, request-ties}
+use Rattle.laws_line.proofs.TimersFollow.{number-is}
+
+-- The frame that an offer of a link gives; no other event gives one.
+abbrev pub frames_given : Terms → link.Event → Link → List (List ℕ)
+frames_given t link.offer x = map (frame_of t) (option_to_list (links.given t x))
+frames_given t (link.received what) x = []
+frames_given t (link.expired timer) x = []
+frames_given t (link.requested asked full) x = []
+frames_given t link.cleared x = []
+
+-- Whether an event of the line is one at this link.
+abbrev pub is_at_link : Service → ℕ → Aim → Bool
+is_at_link service tei (at_link its by place event) = same_service its service && by == tei
+is_at_link service tei other = false
+
+-- One event of the link: the answer tells what the link tells, and the frame that begins is what the link gives.
+pub record HasOne (c : Config) (service : Service) (tei : ℕ) (e : Event) (before after : Line) (a : Answer) : Type 0 where
+  pub place : ℕ
+  pub placed : place_in before tei ≡ Some place
+  pub event : link.Event
+  pub by : IsBy c before e a service tei event
+  pub is : link_of service tei after ≡ links.after (terms c service tei) event (link_of service tei before)
+  pub notes : notes_of a ≡ (links.told (terms c service tei) event (link_of service tei before)).notes
+  pub contents : contents_in a ≡ option_or (links.told (terms c service tei) event (link_of service tei before)).delivered
+      (links.told (terms c service tei) event (link_of service tei before)).unit
+  pub lost : lost_in a ≡ (links.told (terms c service tei) event (link_of service tei before)).lost
+  pub begins : frame_in c e before ≡ frames_given (terms c service tei) event (link_of service tei before)
+
+-- A frame of TEI management, unit data, or a frame of another link.
+abbrev pub IsForeign : Service → ℕ → List ℕ → Type 0
+IsForeign service tei frame =
+    ((message : Message) × (frame ≡ message_frame message)) ⊎ ((unit : UnitData) × (frame ≡ unit_frame unit))
+    ⊎ ((t : Terms) × (g : Given) × (frame ≡ frame_of t g) × ((same_service t.service service && t.tei == tei) ≡ false))
+
+-- No event of the link: it stays as it is, or its TEI leaves the line, and it is as one that begins.
+pub record HasNone (c : Config) (service : Service) (tei : ℕ) (e : Event) (before after : Line) (a : Answer) : Type 0 where
+  pub is : (link_of service tei after ≡ link_of service tei before) ⊎ (link_of service tei after ≡ fresh)
+  pub aims : is_at_link service tei (aim_of c e before) ≡ false
+  pub begins : All (IsForeign service tei) (frame_in c e before)
+
+abbrev pub Goes : Config → Service → ℕ → Event → Line → Line → Answer → Type 0
+Goes c service tei e before after a = HasNone c service tei e before after a ⊎ HasOne c service tei e before after a
+
+abbrev pub itself : Link → Link
+itself x = x
+
+-- No other event gives a frame.
+module _ (c : Config) (l : Line) where
+  abbrev Silent : Aim → Type 0
+  Silent (at_link its by place event) = frames_given (terms c its by) event (link_of its by l) ≡ []
+  Silent (at_none what) = Unit {0}
+  Silent (at_management me) = Unit {0}
+  Silent (at_units unit) = Unit {0}
+
+  octet-silent : (value : ℕ) → Silent (aim_of_octet c value l)
+  octet-silent value = go (gained c.n201 l.received value)
+    where
+      go : (o : Option stream.Event) → Silent (option_map_or (aim_of_heard l) o (at_none nothing))
+      go None = tt
+      go (Some e) = heard_aims l Silent (λ cause. tt) (λ its by place what at. refl) (λ info. tt) e
+
+  timer-silent : (its : Service) (by : ℕ) (k : LinkTimer) (o : Option ℕ) → Silent (at_timer its by k o)
+  timer-silent its by k None = tt
+  timer-silent its by k (Some place) = refl
+
+  expiry-silent : (timer : Timer) → Silent (aim_of_expiry timer l)
+  expiry-silent (timers.T200 its by) = timer-silent its by kind.T200 (place_in l by)
+  expiry-silent (timers.T203 its by) = timer-silent its by kind.T203 (place_in l by)
+  expiry-silent timers.T201 = tt
+
+  asked-silent : (its : Service) (by : ℕ) (asked : link.Request) (o : Option ℕ) → Silent (at_requested its by asked o)
+  asked-silent its by asked None = tt
+  asked-silent its by asked (Some place) = refl
+
+  request-silent : (r : Request) → Silent (aim_of_request r l)
+  request-silent (Establish its by) = asked-silent its by link.Establish (place_in l by)
+  request-silent (Release its by) = asked-silent its by link.Release (place_in l by)
+  request-silent (Data its by contents) = asked-silent its by (link.Data contents) (place_in l by)
+  request-silent (Request.Unit its by contents) = tt
+  request-silent (Assign by) = tt
+  request-silent (Remove by) = tt
+  request-silent (Check by) = tt
+  request-silent (SetBusy its by) = asked-silent its by link.SetBusy (place_in l by)
+  request-silent (ClearBusy its by) = asked-silent its by link.ClearBusy (place_in l by)
+
+module _ (c : Config) (l : Line) (s : IsSound c l) (service : Service) (tei : ℕ) where
+  -- the same table, and the same links
+  alike : (before after : Line) → after.management.places ≡ before.management.places → after.links ≡ before.links → link_of service tei after ≡ link_of service tei before
+  alike before after places links = read.same-read fresh itself service tei before after places links
+
+  -- An event of one link, by whether it is this one.
+  module _ (its : Service) (by place : ℕ) (event : link.Event) (at : IsAt l.management.places place by) where
+    abbrev x : Link
+    x = link_in l its place
+
+    abbrev y : Link
+    y = links.after (terms c its by) event x
+
+    other-stays : (same_service its service && by == tei) ≡ false → link_of service tei (with_link (link_number place its) y l) ≡ link_of service tei l
+    other-stays other = read.other-read fresh itself c l s its by place at y service tei other
+
+    own-before : link_of its by l ≡ x
+    own-before = read.own-before fresh itself c l s its by place at y
+
+    own-after : link_of its by (with_link (link_number place its) y l) ≡ links.after (terms c its by) event (link_of its by l)
+    own-after = read.own-after fresh itself c l s its by place at y ∙ ap (links.after (terms c its by) event) (sym own-before)
+
+  -- What an aim comes to, whatever was received with it.
+  module _ (received : List ℕ) (e : Event) (a : Answer) (none_begins : frame_in c e l ≡ []) where
+    abbrev now : Line
+    now = record l { received = received }
+
+    no-frame : All (IsForeign service tei) (frame_in c e l)
+    no-frame = subst (All (IsForeign service tei)) (sym none_begins) (All-nil (IsForeign service tei))
+
+    stays : (aim : Aim) → aim_of c e l ≡ aim → is_at_link service tei aim ≡ false → (next : Line)
+        → (link_of service tei next ≡ link_of service tei l) ⊎ (link_of service tei next ≡ fresh) → Goes c service tei e l next a
+    stays aim is none next same = inl (record { is = same; aims = ap (is_at_link service tei) is ∙ none; begins = no-frame })
+
+    abbrev Tells : Aim → Type 0
+    Tells aim =
+        (notes_of a ≡ (of_aim c aim now).told.notes) × (contents_in a ≡ (of_aim c aim now).told.contents) × (lost_in a ≡ (of_aim c aim now).told.lost)
+
+    at-one : (its : Service) (by place : ℕ) (event : link.Event) → aim_of c e l ≡ at_link its by place event → IsAt l.management.places place by
+        → IsBy c l e a its by event → Tells (at_link its by place event) → frames_given (terms c its by) event (link_of its by l) ≡ []
+        → (b : Bool) → (same_service its service && by == tei) ≡ b → Goes c service tei e l (of_aim c (at_link its by place event) now).line a
+    at-one its by place event is at ties tells silent false other =
+        stays (at_link its by place event) is other (of_aim c (at_link its by place event) now).line
+        (inl (alike (with_link (link_number place its) (y its by place event at) l) (of_aim c (at_link its by place event) now).line refl refl
+        ∙ other-stays its by place event at other))
+    at-one its by place event is at ties tells silent true same =
+        let parts = both-true (same_service its service) (by == tei) same in
+        subst (λ z. Goes c z tei e l (of_aim c (at_link its by place event) now).line a) (services-equal its service parts.0)
+        (subst (λ n. Goes c its n e l (of_aim c (at_link its by place event) now).line a) (eqb-true by tei parts.1) (inr one))
+      where
+        one : HasOne c its by e l (of_aim c (at_link its by place event) now).line a
+        one =
+            let before = sym (own-before its by place event at) in
+            record {
+              place = place;
+              placed = has-place l.management.places by place s.management.table at;
+              event = event;
+              by = ties;
+              is = read.same-read fresh itself its by (with_link (link_number place its) (y its by place event at) l) (of_aim c (at_link its by place event) now).line refl refl
+                  ∙ own-after its by place event at;
+              notes = tells.0 ∙ ap (λ x. (links.told (terms c its by) event x).notes) before;
+              contents = tells.1 ∙ ap (λ x. option_or (links.told (terms c its by) event x).delivered (links.told (terms c its by) event x).unit) before;
+              lost = tells.2 ∙ ap (λ x. (links.told (terms c its by) event x).lost) before;
+              begins = none_begins ∙ sym silent;
+            }
+
+  -- An event of TEI management: a TEI comes, or leaves, or none does.
+  module _ (received : List ℕ) (me : teis.Event) (fits : tei_laws.IsInRange me) where
+    abbrev m : Management
+    m = teis.after me l.management
+
+    table : IsSoundTable m.places
+    table = (tei_lemmas.sound-after me l.management fits s.management).table
+
+    abbrev next : Option Change → Line
+    next o = (of_change c o (told_of_management (teis.told me l.management)) (record l { received = received; management = m })).line
+
+    abbrev Stays : Option Change → Type 0
+    Stays o = (link_of service tei (next o) ≡ link_of service tei l) ⊎ (link_of service tei (next o) ≡ fresh)
+
+    comes : (by place : ℕ) → tei_laws.HasJoined l.management.places m.places by place → (b : Bool) → (by == tei) ≡ b → Stays (Some (Gained by place))
+    comes by place joined true same =
+        inr (read.filled-read fresh itself refl c l s m table place (Some by) joined.is_there joined.within service tei (ap Some (eqb-true by tei same)))
+    comes by place joined false other =
+        inl (read.elsewhere fresh itself refl c l s m table place (Some by) joined.is_there joined.within service tei
+        (λ same. true≢false (sym (eq-eqb by tei (some-same by tei same)) ∙ other)) (λ at. none-some tei (sym joined.was_free ∙ at)))
+
+    leaves : (by place : ℕ) → tei_laws.HasLeft l.management.places m.places by place → (b : Bool) → (by == tei) ≡ b → Stays (Some (Left by place))
+    leaves by place gone true same =
+        inr (read.emptied-read fresh itself refl c l s m table place None gone.is_free gone.within service tei refl
+        (gone.was_there ∙ ap Some (eqb-true by tei same)))
+    leaves by place gone false other =
+        inl (read.elsewhere fresh itself refl c l s m table place None gone.is_free gone.within service tei (λ same. none-some tei same)
+        (λ at. true≢false (sym (eq-eqb by tei (some-same by tei (sym gone.was_there ∙ at))) ∙ other)))
+
+    by-change : (o : Option Change) → tei_laws.Moves l.management.places o m.places → Stays o
+    by-change None moves = inl (alike l (next None) moves refl)
+    by-change (Some (Gained by place)) joined = comes by place joined (by == tei) refl
+    by-change (Some (Left by place)) gone = leaves by place gone (by == tei) refl
+
+    managed : Stays (teis.told me l.management).change
+    managed = by-change (teis.told me l.management).change (tei_lemmas.changes_are_told me l.management fits s.management)
+
+  -- Any aim.
+  module _ (received : List ℕ) (e : Event) (a : Answer) (none_begins : frame_in c e l ≡ []) where
+    abbrev to-be : Aim → Line
+    to-be aim = (of_aim c aim (record l { received = received })).line
+
+    aim-goes : (aim : Aim) → aim_of c e l ≡ aim → IsProper c l aim → Ties c l e a aim → Tells received e a none_begins aim → Silent c l aim
+        → Goes c service tei e l (to-be aim) a
+    aim-goes (at_none what) is proper ties tells silent =
+        stays received e a none_begins (at_none what) is refl (to-be (at_none what)) (inl (alike l (to-be (at_none what)) refl refl))
+    aim-goes (at_units unit) is proper ties tells silent =
+        stays received e a none_begins (at_units unit) is refl (to-be (at_units unit)) (inl (alike l (to-be (at_units unit)) refl refl))
+    aim-goes (at_management me) is proper ties tells silent =
+        stays received e a none_begins (at_management me) is refl (to-be (at_management me)) (managed received me proper)
+    aim-goes (at_link its by place event) is proper ties tells silent =
+        at-one received e a none_begins its by place event is proper ties tells silent (same_service its service && by == tei) refl
+
+  -- What a pull takes: a frame of this link, or of another part.
+  abbrev Own : Terms
+  Own = terms c service tei
+
+  record Takes (t : Taken) : Type 0 where
+    place : ℕ
+    placed : place_in l tei ≡ Some place
+    is : link_of service tei t.line ≡ links.after Own link.offer (link_of service tei l)
+    begins : t.frame ∷ [] ≡ frames_given Own link.offer (link_of service tei l)
+
+  abbrev Took : Taken → Type 0
+  Took t = ((link_of service tei t.line ≡ link_of service tei l) × IsForeign service tei t.frame) ⊎ Takes t
+
+  took-link : (its : Service) (by place : ℕ) (g : Given) → (at : IsAt l.management.places place by) → links.given (terms c its by) (link_in l its place) ≡ Some g
+      → (b : Bool) → (same_service its service && by == tei) ≡ b → Took (with_given_frame l (link_number place its) (terms c its by) g)
+  took-link its by place g at given false other =
+      let t = with_given_frame l (link_number place its) (terms c its by) g in
+      inl (
+        alike (with_link (link_number place its) (y its by place link.offer at) l) t.line refl refl ∙ other-stays its by place link.offer at other,
+        inr (inr (terms c its by, g, refl, other)),
+      )
+  took-link its by place g at given true same =
+      let parts = both-true (same_service its service) (by == tei) same in
+      let its-is = services-equal its service parts.0 in
+      let by-is = eqb-true by tei parts.1 in
+      let t = with_given_frame l (link_number place its) (terms c its by) g in
+      let own = ap (λ z. link_of z tei t.line) (sym its-is) ∙ ap (λ n. link_of its n t.line) (sym by-is) in
+      let own-l = ap (λ z. link_of z tei l) (sym its-is) ∙ ap (λ n. link_of its n l) (sym by-is) in
+      let own-terms = ap (λ z. terms c z tei) (sym its-is) ∙ ap (λ n. terms c its n) (sym by-is) in
+      inr (record {
+        place = place;
+        placed = subst (λ n. place_in l n ≡ Some place) by-is (has-place l.management.places by place s.management.table at);
+        is = own ∙ read.same-read fresh itself its by (with_link (link_number place its) (y its by place link.offer at) l) t.line refl refl
+            ∙ own-after its by place link.offer at ∙ ap (λ x. links.after (terms c its by) link.offer x) (sym own-l) ∙ ap (λ u. links.after u link.offer (link_of service tei l)) (sym own-terms);
+        begins = ap (λ o. map (frame_of (terms c its by)) (option_to_list o)) (sym (ap (links.given (terms c its by)) (own-before its by place link.offer at) ∙ given))
+            ∙ ap (λ x. frames_given (terms c its by) link.offer x) (sym own-l) ∙ ap (λ u. frames_given u link.offer (link_of service tei l)) (sym own-terms);
+      })
+
+  took-one : (t : Taken) → OfLink c l t → Took t
+  took-one t x =
+      subst Took (sym x.is)
+      (subst (λ n. Took (with_given_frame l n (terms c (service_at x.number) x.tei) x.what)) (number-is x.number)
+      (took-link (service_at x.number) x.tei (place_at x.number) x.what x.on_line
+      (subst (λ n. links.given (terms c (service_at x.number) x.tei) (link_at n l) ≡ Some x.what) (sym (number-is x.number)) x.given)
+      (same_service (service_at x.number) service && x.tei == tei) refl))
+
+  took-first : (o : Option Taken) → IfSome o (OfLink c l) → IfSome o Took
+  took-first None x = tt
+  took-first (Some t) x = took-one t x
+
+  took-any : (m : Option Message) (u : Option UnitData)
+      → IfSome (option_or (option_map (with_message l) (option_map message_frame m)) (option_or (option_map (with_unit l) u) (first_taken c l (round c l)))) Took
+  took-any (Some message) u = inl (alike l (with_message l (message_frame message)).line refl refl, inl (message, refl))
+  took-any None (Some unit) = inl (alike l (with_unit l unit).line refl refl, inr (inl (unit, refl)))
+  took-any None None = took-first (first_taken c l (round c l)) (of-links c l s (round c l) (round_below c l))
+
+  -- An offer tells nothing.
+  module _ (t : Terms) (x : Link) where
+    abbrev IsQuiet : Course → Type 0
+    IsQuiet k = (k.notes ≡ []) × (k.delivered ≡ None) × (k.unit ≡ None) × (k.lost ≡ 0)
+
+    choose : (b : Bool) (u v : Course) → IsQuiet u → IsQuiet v → IsQuiet (cond b u v)
+    choose true u v h k = h
+    choose false u v h k = k
+
+    offers : (ws : List ControlFrame) → IsQuiet (Offers.offer_among t ws (course_begun x))
+    offers (f ∷ fs) = (refl, refl, refl, refl)
+    offers [] =
+        let sent = (Offers.give_information then changed Offers.with_one_sent then Words.pending_is false) (course_begun x) in
+        choose (Offers.may_send_information t x) _ _
+        (choose (Offers.is_awaiting_acknowledgement sent.link) sent (Words.start T200 sent) (refl, refl, refl, refl) (refl, refl, refl, refl))
+        (choose x.pending _ _ (refl, refl, refl, refl) (refl, refl, refl, refl))
+
+    offer-quiet : IsQuiet (links.course t link.offer x)
+    offer-quiet = offers x.waiting
+
+  -- A pull.
+  abbrev Pulled : Line → List (List ℕ) → Type 0
+  Pulled next frames =
+      ((link_of service tei next ≡ link_of service tei l) × All (IsForeign service tei) frames)
+      ⊎ ((place : ℕ) × (place_in l tei ≡ Some place) × (link_of service tei next ≡ links.after Own link.offer (link_of service tei l))
+      × (frames ≡ frames_given Own link.offer (link_of service tei l)))
+
+  pulled : (due : Bool) (o : Option Taken) → IfSome o Took
+      → Pulled (record (cond due (with_item o l) l) { given = (after_pull c l).given }) (option_to_list (option_map frame_taken (cond due o None)))
+  pulled false o h = inl (alike l (record l { given = (after_pull c l).given }) refl refl, All-nil (IsForeign service tei))
+  pulled true None h = inl (alike l (record (with_item None l) { given = (after_pull c l).given }) refl refl, All-nil (IsForeign service tei))
+  pulled true (Some t) (inl x) =
+      inl (
+        alike t.line (record (with_item (Some t) l) { given = (after_pull c l).given }) refl refl ∙ x.0,
+        All-cons (IsForeign service tei) t.frame [] x.1 (All-nil (IsForeign service tei)),
+      )
+  pulled true (Some t) (inr x) =
+      inr (x.place, x.placed, alike t.line (record (with_item (Some t) l) { given = (after_pull c l).given }) refl refl ∙ x.is, x.begins)
+
+  pull-goes : Goes c service tei pull l (after c pull l) (answer c pull l)
+  unfolding after answer
+  pull-goes = go (pulled (is_due l) (taken c l) (took-any (slice_get l.management.waiting 0) (slice_get l.units 0)))
+    where
+      go : Pulled (after_pull c l) (frame_in c pull l) → Goes c service tei pull l (after_pull c l) (answer_to_pull c l)
+      go (inl x) = inl (record { is = inl x.0; aims = refl; begins = x.1 })
+      go (inr x) =
+          let q = offer-quiet Own (link_of service tei l) in
+          inr (record {
+            place = x.0;
+            placed = x.1;
+            event = link.offer;
+            by = refl;
+            is = x.2;
+            notes = sym q.0;
+            contents = sym (ap (λ o. option_or o (links.told Own link.offer (link_of service tei l)).unit) q.1 ∙ q.2);
+            lost = sym q.3;
+            begins = x.3;
+          })
+
+-- Any event.
+pub event-goes : (c : Config) (e : Event) (l : Line) (service : Service) (tei : ℕ) → IsSound c l → Goes c service tei e l (after c e l) (answer c e l)
+unfolding after answer
+event-goes c (octet value) l service tei s =
+    let aim = aim_of_octet c value l in
+    let now = with_received value l in
+    aim-goes c l s service tei now.received (octet value) (told (of_aim c aim now).told) refl aim refl (octet_proper c l value)
+    (octet-ties c l value (told (of_aim c aim now).told)) (refl, refl, refl) (octet-silent c l value)
+event-goes c (expiry timer) l service tei s =
+    let aim = aim_of_expiry timer l in
+    aim-goes c l s service tei l.received (expiry timer) (told (of_aim c aim l).told) refl aim refl (expiry_proper c l timer)
+    (expiry-ties c l timer (told (of_aim c aim l).told)) (refl, refl, refl) (expiry-silent c l timer)
+event-goes c (request r) l service tei s = go (refusal c false r l) refl
+  where
+    go : (o : Option Refusal) → refusal c false r l ≡ o
+        → Goes c service tei (request r) l (of_aim c (unless_refused o (aim_of_request r l)) l).line (unless_refused_told o (of_aim c (unless_refused o (aim_of_request r l)) l))
+    go None none =
+        let a = told (of_aim c (aim_of_request r l) l).told in
+        aim-goes c l s service tei l.received (request r) a refl (aim_of_request r l) (ap (λ o. unless_refused o (aim_of_request r l)) none)
+        (subst (λ o. IsProper c l (unless_refused o (aim_of_request r l))) none (request_proper c l r)) (request-ties c l a refl r) (refl, refl, refl)
+        (request-silent c l r)
+    go (Some why) some =
+        inl (record {
+          is = inl refl;
+          aims = ap (λ o. is_at_link service tei (unless_refused o (aim_of_request r l))) some;
+          begins = All-nil (IsForeign service tei);
+        })
+event-goes c pull l service tei s = pull-goes c l s service tei

@@ -21,7 +21,7 @@ use Rattle.model_line.specs.Octet.{gained}
 use Rattle.model_line.specs.Pull.{Taken, begun}
 use Rattle.model_line.specs.Sound as line
 use Rattle.laws_line.specs.Drains.{way_round}
-use Rattle.laws_line.specs.Pulls.{in_turn, IsQuiet, IsOfLink, IsOwed, IsIdle, contents_of}
+use Rattle.laws_line.specs.Pulls.{in_turn, IsSilentAt, IsOfLink, IsOwed, IsIdle, contents_of}
 use Rattle.laws_line.proofs.InRounds.{comes-first}
 use Rattle.laws_line.proofs.Serving.{served, turn-stays}
 use Rattle.model_card.specs.Card.{Card, fresh, line_at, is_full}
@@ -63,7 +63,7 @@ module _ (c : Config) (one tei other its : ℕ) where
     passed : List ℕ
     behind : List ℕ
     place : in_turn c l ≡ passed ++ number ∷ behind
-    quiet : All (IsQuiet c l) passed
+    all_silent : All (IsSilentAt c l) passed
     next : m.turn ≡ number + 1
 
   data Walk : Line → List LinkName → Type 0 where
@@ -73,7 +73,7 @@ module _ (c : Config) (one tei other its : ℕ) where
 
   comes : (l m : Line) (number by : ℕ) → Meets l → Goes l m number by → (other ≡ number) ⊎ (way (number + 1) + 1 ≤ way l.turn)
   comes l m number by h g =
-      turned (comes-first (link_count c) l.turn h.sound.turn (IsQuiet c l) other number g.passed g.behind h.there.few g.place g.quiet (λ q. h.there.speaks (q its h.there.on_line)))
+      turned (comes-first (link_count c) l.turn h.sound.turn (IsSilentAt c l) other number g.passed g.behind h.there.few g.place g.all_silent (λ q. h.there.speaks (q its h.there.on_line)))
     where
       turned : (number ≡ other) ⊎ (way (number + 1) + 1 ≤ way l.turn) → (other ≡ number) ⊎ (way (number + 1) + 1 ≤ way l.turn)
       turned (inl same) = inl (sym same)
@@ -154,7 +154,7 @@ module _ (c : Config) (one tei other its : ℕ) where
           passed = x.its_turn.passed;
           behind = x.its_turn.behind;
           place = x.its_turn.place;
-          quiet = x.its_turn.quiet;
+          all_silent = x.its_turn.all_silent;
           next = x.its_turn.next;
         }) walk)
 

@@ -6,5 +6,6 @@ pub mod Received
 pub mod Comes
 pub mod Goes
 pub mod AtCard
+pub mod Spelled
 pub mod Lengths
 pub mod Calls

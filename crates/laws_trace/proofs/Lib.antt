@@ -18,4 +18,9 @@ pub mod Walking
 pub mod Turns
 pub mod PullRuns
 pub mod LinksTakeTurns
+pub mod TurnsMeanwhile
 pub mod MessagesComeFirst
+pub mod Parts
+pub mod ReadAgain
+pub mod AskedOfLink
+pub mod AnswersAreAsked

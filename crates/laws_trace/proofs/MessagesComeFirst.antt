@@ -3,6 +3,7 @@ use Rattle.std.proofs.Common.{◌≡◌, ℕ, ◌≤◌, ◌<◌, Bool, true, fa
 use Rattle.std.specs.Prelude.{All, option_to_list}
 use Rattle.std.specs.Option.{unwrap_or}
 use Rattle.std.proofs.lemmas.List.Elements.{All-nil, All-cons, All-head, All-tail}
+use Rattle.lapd_frame.specs.declared.addresses.Address.{Address}
 use Rattle.lapd_frame.specs.declared.controls.Control.TheVariants.{Ui}
 use Rattle.lapd_frame.specs.declared.services.Service.{Service}
 use Rattle.lapd_frame.specs.declared.services.Service.TheVariants.{Call, Packet}
@@ -78,7 +79,7 @@ module _ (c : Config) (l : Line) (s : IsSound c l) (plain : NoneWaits c l) (fram
 
   message-pull : (frame : List ℕ) → IsMessage l next frame → ByRank c next frames → ByRank c l (frame ∷ frames)
   message-pull frame x h =
-      let a = record { sapi = 63; command = true; tei = 127 } in
+      let a : Address = record { sapi = 63; command = true; tei = 127 } in
       let of_link : is_of_link frame ≡ false = ap is_of_link x.spelled ∙ ui-frame a (information_of x.message) (omega arith) (omega arith) refl in
       let unit : is_unit frame ≡ false = ap is_unit x.spelled ∙ other-frame a (Ui false) refl (information_of x.message) in
       let zero : rank frame ≡ 0 = ap (λ b. cond b 2 (cond (is_unit frame) 1 0)) of_link ∙ ap (λ b. cond {A = ℕ} b 1 0) unit in
@@ -91,7 +92,7 @@ module _ (c : Config) (l : Line) (s : IsSound c l) (plain : NoneWaits c l) (fram
   unit-pull : (frame : List ℕ) → IsUnit l next frame → ByRank c next frames → ByRank c l (frame ∷ frames)
   unit-pull frame x h =
       let small = first-of c l.units x.unit x.oldest s.units in
-      let a = record { sapi = sapi_of x.unit.service; command = true; tei = x.unit.tei } in
+      let a : Address = record { sapi = sapi_of x.unit.service; command = true; tei = x.unit.tei } in
       let of_link : is_of_link frame ≡ false = ap is_of_link x.spelled ∙ ui-frame a x.unit.contents (small-sapi x.unit.service) (omega (arith, small)) refl in
       let unit : is_unit frame ≡ true = ap is_unit x.spelled ∙ unit-is x.unit small in
       let one : rank frame ≡ 1 = ap (λ b. cond b 2 (cond (is_unit frame) 1 0)) of_link ∙ ap (λ b. cond {A = ℕ} b 1 0) unit in
@@ -104,7 +105,7 @@ module _ (c : Config) (l : Line) (s : IsSound c l) (plain : NoneWaits c l) (fram
 
   link-pull : (frame : List ℕ) → IsOfLink c (contents_of l) l next frame → ByRank c next frames → ByRank c l (frame ∷ frames)
   link-pull frame x h =
-      let a = record { sapi = sapi_of (service_at x.number); command = x.command; tei = x.tei } in
+      let a : Address = record { sapi = sapi_of (service_at x.number); command = x.command; tei = x.tei } in
       let of_link : is_of_link frame ≡ true = ap is_of_link x.spelled ∙ link-frame a x.control (plain-order c l next frame plain x) (unwrap_or x.information []) in
       let two : rank frame ≡ 2 = ap (λ b. cond b 2 (cond (is_unit frame) 1 0)) of_link in
       let behind : All (AtLeast 2) frames = h.links (x.messages ∙ x.its_turn.no_message) (x.units ∙ x.its_turn.no_unit) in

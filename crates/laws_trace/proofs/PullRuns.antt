@@ -25,16 +25,16 @@ use Rattle.laws_trace.specs.Trace.{seen, trace, frames_begun}
 use Rattle.laws_trace.proofs.Runs.{run-shows}
 use Rattle.laws_trace.proofs.Units.{NoneWaits, fresh-none, Passes, rests, joins, steps}
 
-no-room : (c : Config) (l : Line) → lines.takes_slot c pull l ≡ true → ⊥
+pub no-room : (c : Config) (l : Line) → lines.takes_slot c pull l ≡ true → ⊥
 unfolding lines.takes_slot
 no-room c l takes = true≢false (sym takes)
 
-apart : (card : Card) (e : Event) (other : ℕ) → other ≢ e.line → line_at other (after e card) ≡ line_at other card
+pub apart : (card : Card) (e : Event) (other : ℕ) → other ≢ e.line → line_at other (after e card) ≡ line_at other card
 apart card e other away =
     by_room (λ ls a. get_or ls other (fresh_line card.config) ≡ line_at other card) e card (λ full. refl)
     (λ room. get_or-set_other card.lines e.line other (lines.after card.config e.what (line_at e.line card)) (fresh_line card.config) away)
 
-none-after : (card : Card) (e : Event) (number : ℕ) → IsSound card → IsAtLine card e → NoneWaits card.config (line_at number card) → NoneWaits card.config (line_at number (after e card))
+pub none-after : (card : Card) (e : Event) (number : ℕ) → IsSound card → IsAtLine card e → NoneWaits card.config (line_at number card) → NoneWaits card.config (line_at number (after e card))
 unfolding after_all
 none-after card e number s here plain =
     (run-shows NoneWaits Passes rests joins steps card (e ∷ []) number s (All-cons (IsAtLine card) e [] here (All-nil (IsAtLine card))) plain).1

@@ -1,9 +1,11 @@
 //! The laws. Each is the contract of a call that does nothing.
 
 ghost use Rattle.laws_trace.specs.Trace.{Always};
+ghost use Rattle.laws_trace.specs.AnswersAreAsked.{AnswersAreAsked};
 ghost use Rattle.laws_trace.specs.FramesGoOut.{FramesGoOut, AllFramesGoOut, AllThatWaitedBegins};
 ghost use Rattle.laws_trace.specs.LinksTakeTurns.{LinksTakeTurns};
 ghost use Rattle.laws_trace.specs.MessagesComeFirst.{MessagesComeFirst};
+ghost use Rattle.laws_trace.specs.TurnsMeanwhile.{LinksTakeTurnsMeanwhile};
 ghost use Rattle.laws_trace.specs.UnitsAreHeard.{UnitsAreHeard, AllUnitsAreHeard};
 ghost use Rattle.laws_trace.specs.UnitsGoOut.{UnitsGoOut, AllUnitsGoOut};
 
@@ -46,8 +48,21 @@ pub fn links_take_turns()
     ensures { Always LinksTakeTurns }
 {}
 
+/// Links take turns, whatever else happens at the line meanwhile. Between two frames that begin for one link, which keeps its
+/// place on the line, begins one of every other link that has something to send all the while (profile).
+pub fn links_take_turns_meanwhile()
+    ensures { Always LinksTakeTurnsMeanwhile }
+{}
+
 /// Messages of TEI management come first. While a line is only pulled, after whatever happened to it, no unit data begins
 /// before one of these, and no frame of a link before either (profile).
 pub fn messages_come_first()
     ensures { Always MessagesComeFirst }
+{}
+
+/// Answers are asked for. The UA, the DM, and the responses RR, RNR and REJ with F=1 of a link that begin are among what was
+/// asked of it: each answers one SABME or DISC, or another command with P=1, that was heard for the link before, of its kind
+/// and with F = P; in their order, and none twice (Q.921 clauses 3.5.1, 5.5 and 5.6).
+pub fn answers_are_asked()
+    ensures { Always AnswersAreAsked }
 {}

@@ -10,7 +10,7 @@ use crate::words;
 use lapd_frame::Control;
 use lapd_link::{Answer, Offer};
 use std::alloc::Global;
-use test_link::Bench;
+use test_link::ShelvedLink;
 
 const HEAD: &str = "# What a card does, printed by itself
 
@@ -117,15 +117,15 @@ fn row(rt: &impl Print, alloc: Global, cases: &[Case], event: Event) -> Result<(
 
 /// What one event leads to in one state.
 fn cell(rt: &impl Print, alloc: Global, case: Case, event: Event) -> Result<(), Fault> {
-    let mut bench = Bench::with_room(alloc, 2, 2, SLOTS)?;
-    let led = lead(&mut bench, case, event);
+    let mut shelved = ShelvedLink::with_room(alloc, 2, 2, SLOTS)?;
+    let led = lead(&mut shelved, case, event);
     frames(rt, &led.sent)?;
     match led.answer {
         Ok(answer) => told(rt, &answer)?,
         Err(refusal) => print!(rt; "{}; ", words::refusal_name(refusal))?,
     }
     contents(rt, &led.sent)?;
-    state(rt, led.state, bench.link.state())
+    state(rt, led.state, shelved.link.state())
 }
 
 /// The control frames that are sent.

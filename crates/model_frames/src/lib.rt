@@ -10,8 +10,7 @@
 //!
 //! # Open
 //!
-//! No crate uses these definitions yet. No law says that a controller's frame is what stood on its line, or that it sends
-//! what it was given.
+//! No law says that a controller's frame is what stood on its line, or that it sends what it was given.
 #![tactic(auto)]
 
 mod faults;

@@ -8,3 +8,4 @@ pub mod Goes
 pub mod AtCard
 pub mod Lengths
 pub mod Calls
+pub mod Said

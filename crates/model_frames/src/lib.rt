@@ -18,7 +18,7 @@ mod laws;
 
 pub use faults::Fault;
 pub use laws::{
-    calls_come_to_an_end, frames_are_heard, frames_are_of_lines, frames_come_whole,
+    answers_say_it, calls_come_to_an_end, frames_are_heard, frames_are_of_lines, frames_come_whole,
     frames_go_whole, frames_have_lengths, happenings_are_events, lines_stay_idle,
     nothing_else_is_received,
 };

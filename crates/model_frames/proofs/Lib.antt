@@ -6,6 +6,7 @@ pub mod Received
 pub mod Comes
 pub mod Goes
 pub mod AtCard
+pub mod Spelled
 pub mod Lengths
 pub mod Calls
 pub mod Said

@@ -2,7 +2,7 @@
 //! law is the contract of a call that does nothing.
 
 ghost use Rattle.model_frames.specs.Laws.{CallsComeToAnEnd, FramesAreHeard, FramesComeWhole, FramesGoWhole, FramesHaveLengths, NothingElseIsReceived};
-ghost use Rattle.model_frames.specs.CardLaws.{AnswersSayIt, FramesAreOfLines, HappeningsAreEvents, LinesStayIdle};
+ghost use Rattle.model_frames.specs.CardLaws.{AnswersSayIt, FramesAreOfLines, HappeningsAreEvents, HappeningsAreSpelled, LinesStayIdle};
 
 /// On an idle line the octets that a frame means are heard as this frame and nothing else, or, by its length, as one that
 /// is too short or overlong; those that a fault means are heard as what is dropped for its cause and nothing else; and
@@ -26,6 +26,13 @@ pub fn frames_go_whole()
 /// An expiry, a request and a pull leave the octets received as they are, so a line stays idle.
 pub fn nothing_else_is_received()
     ensures { NothingElseIsReceived }
+{}
+
+/// What happens is spelled in events: a frame and a fault as the octets that they mean, a call for the next frame as the pulls
+/// for it, an expiry and a request as themselves; and a list as the events of each, in order, each at the card where those
+/// before it lead.
+pub fn happenings_are_spelled()
+    ensures { HappeningsAreSpelled }
 {}
 
 /// A list of happenings at lines of a card is a list of events at lines of the card, so what is promised of every such list

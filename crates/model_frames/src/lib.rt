@@ -19,6 +19,6 @@ mod laws;
 pub use faults::Fault;
 pub use laws::{
     answers_say_it, calls_come_to_an_end, frames_are_heard, frames_are_of_lines, frames_come_whole,
-    frames_go_whole, frames_have_lengths, happenings_are_events, lines_stay_idle,
-    nothing_else_is_received,
+    frames_go_whole, frames_have_lengths, happenings_are_events, happenings_are_spelled,
+    lines_stay_idle, nothing_else_is_received,
 };

@@ -293,6 +293,24 @@ typedef struct lapd_link {
  */
 uint32_t lapd_next_link(lapd_card *card, uint32_t line, uint8_t *place, lapd_link *link);
 
+/* How much room a link has for contents. As the call has the same name, it is `struct lapd_room` also in C++. */
+struct lapd_room {
+    uint32_t pool; /* so many more find a slot of the card: 0 to its slots */
+    uint8_t queue; /* so many more find a place in the link's queue: 0 to the card's `queue` */
+    uint8_t va;    /* V(A), 0 to 127: the number of the oldest contents that are not acknowledged (clause 3.5.2.3) */
+};
+
+/*
+ * The room of the link of a service with this TEI. In states 7 and 8, contents that are not too long are refused as
+ * LAPD_REFUSED_QUEUE_FULL exactly where `queue` is 0, and else as LAPD_REFUSED_POOL_FULL exactly where `pool` is 0.
+ * LAPD_REFUSED_NO_LINK: the TEI is not on the line.
+ *
+ * Each contents that the terminal acknowledges lets V(A) rise by one, modulo 128, and `queue` and `pool` too. So where
+ * the link keeps n contents (the card's `queue` less the room's), all of them are acknowledged once V(A) has risen by n;
+ * unless the link is established anew, which sets V(A) to 0.
+ */
+uint32_t lapd_room(lapd_card *card, uint32_t line, uint8_t service, uint8_t tei, struct lapd_room *room);
+
 /* How many octets the card stores now, of frames, messages and contents; at most lapd_limit's. */
 uint32_t lapd_stored(lapd_card *card, uint32_t *octets);
 

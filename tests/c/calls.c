@@ -1,7 +1,8 @@
 /*
  * calls.c: calls that no script makes. The links of a line, as lapd_next_link tells them, are those that lapd_state has
- * a state of, in order, from each place on; contents of a report go back with the same report; lengths of timers that are
- * out of range change nothing; and the version is the header's. For tests alone.
+ * a state of, in order, from each place on; contents of a report go back with the same report; the room of a link is
+ * what it refuses contents by; lengths of timers that are out of range change nothing; and the version is the header's.
+ * For tests alone.
  */
 #include <stdio.h>
 #include <string.h>
@@ -108,6 +109,48 @@ static void echo(void) {
     wants(lapd_data(&card, 0, LAPD_CALL, 64, NULL, 0, &told) == LAPD_OK, "no contents");
 }
 
+/* The room of TEI 64 on line 0 is this. */
+static bool has_room(uint8_t queue, uint32_t pool, uint8_t va) {
+    struct lapd_room room = {1, 2, 3};
+    return lapd_room(&card, 0, LAPD_CALL, 64, &room) == LAPD_OK && room.queue == queue && room.pool == pool
+           && room.va == va;
+}
+
+/* Contents take a place and a slot each, and are refused for what is used up; an acknowledgement gives both back. */
+static void rooms(void) {
+    static const uint8_t first_acknowledged[] = {0x02, 0x81, 0x01, 0x02};
+    static hdlc_sender sender;
+    lapd_report told;
+    hdlc_begin(&sender);
+    wants(has_room(5, 5, 0), "another room with three contents");
+    hear(&sender, first_acknowledged, sizeof first_acknowledged, &told);
+    wants(has_room(6, 6, 1), "another room with two contents");
+    wants(lapd_unit(&card, 1, LAPD_CALL, LAPD_GROUP_TEI, first_acknowledged, 1, &report) == LAPD_OK, "no unit data");
+    for (uint8_t left = 5; left > 0; left--) {
+        wants(has_room(left + 1, left, 1), "another room on the way");
+        wants(lapd_data(&card, 0, LAPD_CALL, 64, NULL, 0, &report) == LAPD_OK, "refused with room left");
+    }
+    wants(has_room(1, 0, 1), "another room with a full pool");
+    wants(lapd_data(&card, 0, LAPD_CALL, 64, NULL, 0, &report) == LAPD_REFUSED_POOL_FULL, "not refused for the pool");
+    for (uint8_t i = 0, octet; i < 16; i++)
+        lapd_pull(&card, 1, &octet, &report);
+    wants(has_room(1, 1, 1), "another room after unit data");
+    wants(lapd_data(&card, 0, LAPD_CALL, 64, NULL, 0, &report) == LAPD_OK, "the last place is refused");
+    wants(has_room(0, 0, 1), "another room with nothing left");
+    wants(lapd_data(&card, 0, LAPD_CALL, 64, NULL, 0, &report) == LAPD_REFUSED_QUEUE_FULL, "not refused for the queue");
+}
+
+static void rooms_of_nobody(void) {
+    lapd_card none = LAPD_CARD_NONE;
+    struct lapd_room room = {1, 2, 3};
+    wants(lapd_room(&none, 0, LAPD_CALL, 64, &room) == LAPD_NO_CARD, "room of no card");
+    wants(lapd_room(&card, LINES, LAPD_CALL, 64, &room) == LAPD_WRONG_LINE, "room of no line");
+    wants(lapd_room(&card, 0, 1, 64, &room) == LAPD_WRONG_SERVICE, "room of no service");
+    wants(lapd_room(&card, 0, LAPD_CALL, 127, &room) == LAPD_WRONG_TEI, "room of the group");
+    wants(lapd_room(&card, 0, LAPD_CALL, 64, &room) == LAPD_REFUSED_NO_LINK, "room of no link");
+    wants(room.pool == 1 && room.queue == 2 && room.va == 3, "a wrong call has told a room");
+}
+
 /* A clock takes lengths in range, for timers that are started later, and no others. */
 static void lengths(void) {
     lapd_clock clock = LAPD_CLOCK_NONE;
@@ -130,6 +173,7 @@ int main(void) {
     wants(lapd_version() == LAPD_VERSION, "the library has another version");
     wants(lapd_card_start(&card, &config) == LAPD_OK, "no card");
     wrong_calls();
+    rooms_of_nobody();
     lengths();
     look_at(0, 0);
     for (unsigned i = 0; i < sizeof teis; i++) {
@@ -138,6 +182,7 @@ int main(void) {
     }
     look_at(1, 0);
     echo();
+    rooms();
     look_at(0, 2 * sizeof teis);
     wants(lapd_remove(&card, 0, 126, &report) == LAPD_OK, "the TEI stays");
     look_at(0, 2 * sizeof teis - 2);

@@ -34,7 +34,7 @@ typedef struct {
     run run; /* what is not handed over yet */
     hdlc_sender senders[LAPD_MOST_LINES];
     hdlc_listener listeners[LAPD_MOST_LINES];
-} bench;
+} station;
 
 static void put_octets(const uint8_t *octets, size_t length) {
     for (size_t i = 0; i < length; i++)
@@ -55,7 +55,7 @@ static void put_note(uint32_t line, const lapd_note *note, const lapd_report *re
 }
 
 /* Writes what an event told, and hands its orders to the clock. */
-static void tell(bench *b, uint32_t line, const lapd_report *report) {
+static void tell(station *b, uint32_t line, const lapd_report *report) {
     for (int i = 0; i < report->note_count; i++)
         put_note(line, &report->notes[i], report);
     if (report->cause != 0)
@@ -77,7 +77,7 @@ static void want_ok(uint32_t status, const char *call) {
     exit(3);
 }
 
-static fault start(bench *b, const uint32_t *n) {
+static fault start(station *b, const uint32_t *n) {
     lapd_config config = {.lines = (uint16_t)n[0], .terminals = (uint16_t)n[1], .k = (uint16_t)n[2],
                           .k16 = (uint16_t)n[9], .queue = (uint16_t)n[3], .unit_queue = (uint16_t)n[4],
                           .control = (uint16_t)n[5], .slots = (uint16_t)n[6], .n201 = (uint16_t)n[7],
@@ -97,14 +97,14 @@ static fault start(bench *b, const uint32_t *n) {
     return NO_FAULT;
 }
 
-static void receive(bench *b, uint32_t line, uint8_t octet) {
+static void receive(station *b, uint32_t line, uint8_t octet) {
     static lapd_report report;
     want_ok(lapd_octet(&b->card, line, octet, &report), "octet");
     tell(b, line, &report);
 }
 
 /* The terminal's frame, up to and with the last bit of its closing flag. */
-static void send(bench *b, uint32_t line, const command *c) {
+static void send(station *b, uint32_t line, const command *c) {
     hdlc_sender *sender = &b->senders[line];
     while (hdlc_busy(sender))
         receive(b, line, hdlc_octet(sender));
@@ -114,7 +114,7 @@ static void send(bench *b, uint32_t line, const command *c) {
 }
 
 /* Writes what a line gave, and the frames that it ended. */
-static void put_given(bench *b, uint32_t line, const uint8_t *octets, size_t count) {
+static void put_given(station *b, uint32_t line, const uint8_t *octets, size_t count) {
     printf("%u tx ", line);
     put_octets(octets, count);
     hdlc_listener *listener = &b->listeners[line];
@@ -125,7 +125,7 @@ static void put_given(bench *b, uint32_t line, const uint8_t *octets, size_t cou
         }
 }
 
-static void pull(bench *b, uint32_t line, uint32_t count) {
+static void pull(station *b, uint32_t line, uint32_t count) {
     static lapd_report report;
     static uint8_t octets[4096];
     for (uint32_t i = 0; i < count; i++) {
@@ -143,7 +143,7 @@ static void pull(bench *b, uint32_t line, uint32_t count) {
 /* ---- Runs of octets taken and given in turn ------------------------------------------------------------------------- */
 
 /* Whether a line goes on with the run that waits, or begins one. */
-static bool joins(const bench *b, const command *c) {
+static bool joins(const station *b, const command *c) {
     const run *r = &b->run;
     bool is_whole = r->steps % 2 == 0, is_same = r->steps == 0 || r->line == c->numbers[0];
     if (!b->by_exchange || !is_same)
@@ -152,7 +152,7 @@ static bool joins(const bench *b, const command *c) {
                     : c->verb == PULL && c->numbers[1] == 1;
 }
 
-static void join(bench *b, const command *c) {
+static void join(station *b, const command *c) {
     run *r = &b->run;
     r->line = c->numbers[0];
     if (c->verb == RX)
@@ -161,7 +161,7 @@ static void join(bench *b, const command *c) {
 }
 
 /* Hands the run over. Steps that tell nothing show what they gave alone. */
-static void hand_over(bench *b) {
+static void hand_over(station *b) {
     static lapd_report report;
     static uint8_t given[MOST_TURNS];
     const run *r = &b->run;
@@ -182,7 +182,7 @@ static void hand_over(bench *b) {
     b->run.steps = 0;
 }
 
-static fault wait(bench *b, uint32_t ms) {
+static fault wait(station *b, uint32_t ms) {
     static lapd_report report;
     if (b->now > INT64_MAX - (uint64_t)ms)
         return TIME_OVER;
@@ -198,7 +198,7 @@ static fault wait(bench *b, uint32_t ms) {
     return NO_FAULT;
 }
 
-static void ask(bench *b, uint32_t line, const command *c) {
+static void ask(station *b, uint32_t line, const command *c) {
     static lapd_report report;
     uint32_t status = lapd_request(&b->card, line, c->request, c->service, (uint8_t)c->numbers[1], c->octets,
                                    c->length, &report);
@@ -210,7 +210,7 @@ static void ask(bench *b, uint32_t line, const command *c) {
     tell(b, line, &report);
 }
 
-static void show_stored(bench *b) {
+static void show_stored(station *b) {
     uint32_t stored, limit;
     want_ok(lapd_stored(&b->card, &stored), "stored");
     want_ok(lapd_limit(&b->card, &limit), "limit");
@@ -218,7 +218,7 @@ static void show_stored(bench *b) {
 }
 
 /* A line that is about one line of the card, or about all. */
-static fault obey(bench *b, const command *c) {
+static fault obey(station *b, const command *c) {
     uint32_t lines, line = c->numbers[0];
     if (c->verb == CARD)
         return b->card.started ? SECOND_CARD : start(b, c->numbers);
@@ -258,7 +258,7 @@ static fault obey(bench *b, const command *c) {
 }
 
 int main(int words, char **argv) {
-    static bench b; /* zeroed memory is no card and no clock */
+    static station b; /* zeroed memory is no card and no clock */
     static char line[MOST_LINE];
     static command c;
     b.by_exchange = words == 2 && strcmp(argv[1], "--exchange") == 0;

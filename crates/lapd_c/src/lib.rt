@@ -5,7 +5,8 @@
 //! card's machine (`model_card`) and of the clock's timers (`lapd_clock`).
 //!
 //! - `card`: a card in C, how it begins and ends; `card_slot`, where it lies; `events`, what happens at it; `exchange`,
-//!   octets taken and given in turn; `questions`, what it answers about itself, and `links`, which links it has.
+//!   octets taken and given in turn; `questions`, what it answers about itself; `links`, which links it has, and
+//!   `rooms`, how many contents more one takes.
 //! - `clock`: a clock in C, and its exports; `clock_reports`, the orders of a report; `clock_slot`, where it lies.
 //! - `laws`: what holds of the machine's answers, so that a report has room for each.
 //! - `loose`: a box as the address of its block; `version`: which version this is.
@@ -32,4 +33,5 @@ mod laws;
 mod links;
 mod loose;
 mod questions;
+mod rooms;
 mod version;

@@ -6,3 +6,4 @@ pub mod Amounts
 pub mod Headline
 pub mod AnswerLaws
 pub mod Keeping
+pub mod RoomOfCard

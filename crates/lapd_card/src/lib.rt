@@ -25,7 +25,7 @@
 //! - `card`: the card, one call an event.
 //! - `drive` with `sink` and `replies`: whole lists of events; `kept`: a sink that keeps the replies.
 //! - `start` with `fault`: how a card begins, and why it does not.
-//! - `stored`: how many octets it stores, and how many it may.
+//! - `stored`: how many octets it stores, and how many it may; `rooms`: how many contents more a link takes.
 //! - `lines`: the lines as one part.
 //!
 //! What the card does is defined below: a row of a link's tables (by state, in `specs/`) and its notes in
@@ -44,6 +44,7 @@ mod fault;
 mod kept;
 mod lines;
 mod replies;
+mod rooms;
 mod sink;
 mod start;
 mod stored;
@@ -51,7 +52,7 @@ mod stored;
 pub use card::Card;
 pub use fault::CardFault;
 pub use kept::{Kept, KeptReply};
-pub use lapd_line::{BareReport, Config, Field, Pulled, Report, Request};
+pub use lapd_line::{BareReport, Config, Field, Pulled, Report, Request, Room};
 pub use model_card::Event;
 pub use replies::Reply;
 pub use sink::{Sink, SinkFailed, SinkFault};

@@ -1,19 +1,20 @@
 //! The lines of a card, over its shelf.
 
-ghost use Rattle.std.specs.Prelude.{◌≡◌, ◌≤◌, ◌<◌, List, length, nat_le, sum_by, Some, None, IfOk, IfErr, OnErr};
+ghost use Rattle.std.specs.Prelude.{◌≡◌, ◌-◌, ◌≤◌, ◌<◌, List, length, nat_le, sum_by, Some, None, IfOk, IfErr, OnErr};
 ghost use Rattle.lapd_line.specs.Reports.{report_told, pulled_of};
 ghost use Rattle.model_line.specs.Event as line_event;
 ghost use Rattle.model_line.specs.Line as machine;
 ghost use Rattle.model_line.specs.Machine.{answer};
 ghost use Rattle.model_line.specs.Refusal.{refusal};
 ghost use Rattle.model_line.specs.Request.{request_of};
+ghost use Rattle.model_line.specs.Room.{room_in};
 ghost use Rattle.model_line.specs.Sound.{IsInRange};
 ghost use Rattle.model_line.specs.Stored.{held_in};
 ghost use Rattle.lapd_store.specs.Store.{Store, used_slots};
 ghost use Rattle.lapd_card.specs.Lines.{Stand, Serve, Lead, AreFresh, line_in, told_at, told_if_at};
 
 use lapd_frame::{Refusal, Service, Timer};
-use lapd_line::{BareReport, Config, Line, Pulled, Report, Request, StartFault};
+use lapd_line::{BareReport, Config, Line, Pulled, Report, Request, Room, StartFault};
 use lapd_store::Shelf;
 use std::alloc::Global;
 use std::marker::Model;
@@ -135,6 +136,22 @@ impl Lines {
             → result ≡ machine.state_of service tei (line_in c line ms) }
     {
         self.lines[line].state(service, tei)
+    }
+
+    /// How much room a link of a line has, where at most `slots` slots may be in use.
+    pub(crate) fn room<S: Shelf>(
+        &self,
+        line: usize,
+        service: Service,
+        tei: u8,
+        shelf: &S,
+        slots: u32,
+    ) -> Result<Room, Refusal>
+        requires { line < length self.now }
+        ensures { (c : Config) (ms : List machine.Line) → Stand c self.now (S.store shelf.now) ms
+            → result ≡ room_in c (slots - used_slots (S.store shelf.now)) service tei (line_in c line ms) }
+    {
+        self.lines[line].room(service, tei, shelf, slots)
     }
 
     /// How many octets the lines hold beside those in slots.

@@ -17,3 +17,4 @@ pub mod PullTakesLinks
 pub mod Stood
 pub mod PullSteps
 pub mod AnswerLaws
+pub mod RoomSteps

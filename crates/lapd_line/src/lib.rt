@@ -5,10 +5,11 @@
 //! too. After the start no call takes memory.
 //!
 //! - `line`: the calls: an octet that comes, a timer that expires, a request, and an octet that goes out; and the state
-//!   of a link, and how many octets the line stores.
+//!   of a link, how much room it has, and how many octets the line stores.
 //! - `link_layer`: what the calls change beside the bits: TEI management, links and units; `starts`, how they begin;
 //!   `addressing`, what is heard; `expiries`, timers; `tei_changes`, links that open and are cleared; `requests`, what
-//!   is requested of a link, of TEI management and as unit data; `pulls`, what goes out; `held`, what they store.
+//!   is requested of a link, of TEI management and as unit data; `pulls`, what goes out; `held`, what they store; `rooms`, how
+//!   much more contents they take.
 //! - `links`, `units`: the links of all places of the TEI table, and the unit data that waits; `awake`, which links may
 //!   have something to give.
 //! - `reports`, `pulled`: the answers; `fault`: why a line can't be started.
@@ -30,11 +31,13 @@ mod pulled;
 mod pulls;
 mod reports;
 mod requests;
+mod rooms;
 mod starts;
 mod tei_changes;
 mod units;
 
 pub use fault::StartFault;
+pub use lapd_link::Room;
 pub use line::Line;
 pub use model_line::{Config, Field, Request};
 pub use pulled::Pulled;

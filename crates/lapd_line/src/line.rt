@@ -1,6 +1,6 @@
 //! The line: one call an event.
 
-ghost use Rattle.std.specs.Prelude.{◌≡◌, ◌<◌, ◌≤◌, List, length, IsTrue, IsFalse, Some, None, IsSome, IfOk, IfErr, OnErr, nat_le};
+ghost use Rattle.std.specs.Prelude.{◌≡◌, ◌-◌, ◌<◌, ◌≤◌, List, length, IsTrue, IsFalse, Some, None, IsSome, IfOk, IfErr, OnErr, nat_le};
 ghost use Rattle.lapd_bits.specs.Deframer.{latest_of};
 ghost use Rattle.lapd_store.specs.Ownership.{Owned, Holds};
 ghost use Rattle.lapd_store.specs.Store.{Store, used_slots};
@@ -12,6 +12,7 @@ ghost use Rattle.model_link.specs.Told.{starts};
 ghost use Rattle.model_line.specs.Machine.{after, answer};
 ghost use Rattle.model_line.specs.Refusal.{refusal};
 ghost use Rattle.model_line.specs.Request.{request_of};
+ghost use Rattle.model_line.specs.Room.{room_in};
 ghost use Rattle.model_line.specs.Sound.{IsInRange};
 ghost use Rattle.model_line.specs.Stored.{held_in};
 
@@ -21,6 +22,7 @@ use crate::pulled::Pulled;
 use crate::reports::{BareReport, Report};
 use lapd_bits::{Deframer, Ended, Framer, Heard};
 use lapd_frame::{Order, Refusal, Service, ShortList, Timer};
+use lapd_link::Room;
 use lapd_store::Shelf;
 use model_line::{Config, Request};
 use std::alloc::Global;
@@ -245,6 +247,24 @@ impl Line {
             → result ≡ machine.state_of service tei m }
     {
         self.layer.state(service, tei)
+    }
+
+    /// How much room the link of a service with this TEI has for contents, and its V(A). The whole card may hold `slots`.
+    ///
+    /// # Errors
+    ///
+    /// There is no such link: `BadTei` where the TEI is over 126, `NoLink` where it is not on the line.
+    pub fn room<S: Shelf>(
+        &self,
+        service: Service,
+        tei: u8,
+        shelf: &S,
+        slots: u32,
+    ) -> Result<Room, Refusal>
+        ensures { (others : List Owned) (m : machine.Line) → Stands self.now (S.store shelf.now) others m
+            → result ≡ room_in (config_of self.now) (slots - used_slots (S.store shelf.now)) service tei m }
+    {
+        self.layer.room(service, tei, shelf, slots)
     }
 
     /// How many octets the line stores beside those in slots of the shelf: of the frame that is received, of the frame

@@ -1,11 +1,12 @@
 //! The links of a line.
 
-ghost use Rattle.std.specs.Prelude.{◌≡◌, ◌<◌, ◌≤◌, List, [], length, set, nat_le, Some, None, IfOk, IfErr, OnOk, OnErr};
+ghost use Rattle.std.specs.Prelude.{◌≡◌, ◌-◌, ◌<◌, ◌≤◌, List, [], length, set, nat_le, Some, None, IfOk, IfErr, OnOk, OnErr};
 ghost use Rattle.lapd_store.specs.Ownership.{Owned};
 ghost use Rattle.lapd_store.specs.Store.{Store, used_slots};
 ghost use Rattle.model_link.specs.Events as event;
 ghost use Rattle.model_link.specs.Link as machine;
 ghost use Rattle.model_link.specs.Rises.{held};
+ghost use Rattle.model_link.specs.Room.{room_of};
 ghost use Rattle.model_link.specs.Link.{address_at};
 ghost use Rattle.model_link.specs.declared.terms.Terms.{Terms};
 ghost use Rattle.model_line.specs.declared.config.Config.{Config};
@@ -14,7 +15,7 @@ ghost use Rattle.model_line.specs.Sound.{IsInRange};
 
 use crate::fault::StartFault;
 use lapd_frame::{Address, Refusal, Service};
-use lapd_link::{Answer, Link, LinkRequest, LinkTimer, Offer, Received};
+use lapd_link::{Answer, Link, LinkRequest, LinkTimer, Offer, Received, Room};
 use lapd_store::Shelf;
 use model_line::Config;
 use std::alloc::Global;
@@ -141,6 +142,15 @@ impl Links {
             → result ≡ Some (machine.state_number (machine_at ms number).state) }
     {
         Some(self.all.get(number)?.state())
+    }
+
+    /// How much room a link has; none where there is no such link.
+    pub(crate) fn room<S: Shelf>(&self, number: usize, shelf: &S, slots: u32) -> Option<Room>
+        ensures { (c : Config) (terms : Terms) (others : List Owned) (ms : List machine.Link) → number < length self.now → HasTerms self.now number terms
+            → LinksStand c self.now (S.store shelf.now) others ms
+            → result ≡ Some (room_of terms (slots - used_slots (S.store shelf.now)) (machine_at ms number)) }
+    {
+        Some(self.all.get(number)?.room(shelf, slots))
     }
 
     /// The octets of the control frames of a link that wait.

@@ -28,7 +28,7 @@ use lapd_tei::{TeiOutcome, Teis};
 use model_line::Request;
 
 /// The greatest TEI of a terminal (Q.921 clause 3.3.4).
-const LAST_TEI: u8 = 126;
+pub(crate) const LAST_TEI: u8 = 126;
 
 /// What is asked of TEI management about a TEI.
 #[derive(Clone, Copy, PartialEq, Eq, Debug)]

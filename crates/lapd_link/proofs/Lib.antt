@@ -2,3 +2,4 @@
 pub mod Ending
 pub mod Asking
 pub mod Offering
+pub mod Rooming

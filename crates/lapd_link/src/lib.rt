@@ -7,6 +7,7 @@
 //! - [`Link::expire`]: a timer expired;
 //! - [`Link::request`]: layer 3 asks for something;
 //! - [`Link::offer`]: the next frame to be sent;
+//! - [`Link::room`]: how many contents more it can take;
 //! - [`Link::open`], [`Link::clear`]: its TEI comes to the line, or leaves it.
 //! - [`two_ends`]: a law of two links that face each other from an establishment on: while both stay in states 7 and 8,
 //!   what each has delivered are the first contents that the other accepted, in order.
@@ -29,10 +30,11 @@ mod orders;
 mod outcome;
 mod received;
 mod requests;
+mod rooms;
 
 pub use fault::StartFault;
 pub use link::Link;
-pub use model_link::{LinkTimer, two_ends};
+pub use model_link::{LinkTimer, Room, two_ends};
 pub use offers::Offer;
 pub use outcome::{Answer, Outcome};
 pub use received::Received;

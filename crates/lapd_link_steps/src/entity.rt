@@ -35,6 +35,7 @@ pub struct Entity {
 impl Entity {
     ghost use Rattle.std.specs.Prelude.{◌≡◌, IfOk};
     ghost use Rattle.lapd_link_steps.specs.Done.{IsFresh};
+    ghost use Rattle.lapd_seq.specs.Windows.{va_of};
 
     /// An entity as it begins, with room for `control` control frames that wait.
     ///
@@ -72,6 +73,13 @@ impl Entity {
         ensures { result ≡ self.now.running }
     {
         self.running
+    }
+
+    /// V(A).
+    pub fn va(&self) -> Seq
+        ensures { result ≡ va_of self.now.window }
+    {
+        self.window.va()
     }
 }
 

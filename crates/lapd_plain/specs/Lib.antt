@@ -4,6 +4,7 @@ pub mod Services
 pub mod Config
 pub mod Timers
 pub mod Links
+pub mod Rooms
 pub mod Notes
 pub mod Requests
 pub mod Reports

@@ -7,7 +7,7 @@
 //! - `statuses`: what a call answers: refusals, wrong calls, fields of a configuration.
 //! - `config`: the configuration.
 //! - `timers`: timers and orders, there and back.
-//! - `links`: the links of a line, in order.
+//! - `links`: the links of a line, in order; `rooms`: how much room one has.
 //! - `requests`: what is asked of a line, from numbers.
 //! - `notes`: notes, and why something was dropped.
 //! - `reports`: the report of an event.
@@ -18,6 +18,7 @@ mod links;
 mod notes;
 mod reports;
 mod requests;
+mod rooms;
 mod statuses;
 mod timers;
 
@@ -26,6 +27,7 @@ pub use links::{LINK_PLACES, PlainLink, service_at};
 pub use notes::{PlainNote, cause_number};
 pub use reports::PlainReport;
 pub use requests::request_in;
+pub use rooms::PlainRoom;
 pub use statuses::{
     NO_CARD, NO_CLOCK, NO_MEMORY, NO_MORE_LINKS, NO_PLACE, NO_TIMER, OK, SECOND_START,
     WRONG_LENGTH, WRONG_LINE, WRONG_ORDER, WRONG_REQUEST, WRONG_SERVICE, WRONG_TEI, WRONG_TIME,

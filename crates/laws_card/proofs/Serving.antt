@@ -1,6 +1,7 @@
 -- What a pull begins after a list of events.
-use Rattle.std.proofs.Common.{◌≡◌, ℕ, ◌<◌, Bool, true, false, cond, List, [], ◌∷◌, ◌++◌, get_or, set, Option, Some, None, refl, sym, ap, ◌∙◌, subst, arith, inl, inr, append-nil}
+use Rattle.std.proofs.Common.{◌≡◌, ℕ, ◌<◌, Bool, true, false, ◌&&◌, cond, List, [], ◌∷◌, ◌++◌, get_or, set, Option, Some, None, refl, sym, ap, ◌∙◌, subst, arith, inl, inr, append-nil}
 use Rattle.std.proofs.lemmas.List.{get_or-set_same}
+use Rattle.std.proofs.lemmas.Bool.{true≢false}
 use Rattle.lapd_frame.specs.declared.refusals.Refusal.TheVariants.{PoolFull}
 use Rattle.laws_link.specs.Offered.{IsOffered}
 use Rattle.model_line.specs.declared.config.Config.{Config}
@@ -12,16 +13,16 @@ use Rattle.model_line.specs.Pull.{Taken, begun}
 use Rattle.laws_line.specs.Pulls.{IsMessage, IsUnit, IsOfLink, IsOwed, IsIdle, contents_of, IsServed, UnitsWait, TurnStays}
 use Rattle.laws_line.proofs.Serving.{served, units-wait, turn-stays}
 use Rattle.model_card.specs.Event.{Event}
-use Rattle.model_card.specs.Card.{Card, line_at}
-use Rattle.model_card.specs.Machine.{after, answer}
+use Rattle.model_card.specs.Card.{Card, line_at, is_full}
+use Rattle.model_card.specs.Machine.{after, answer, wants_room}
 use Rattle.model_card.specs.Run.{moments, after_all, IsAtLine, AreAtLines}
 use Rattle.model_card.specs.Sound.{IsSound}
 use Rattle.model_card.proofs.CardSound.{always_sound}
 use Rattle.model_card.proofs.EachMoment.{moment_of, each_moment}
 use Rattle.model_card.proofs.Steps.{has_lines, by_room, line_sound}
 use Rattle.laws_card.specs.Contents.{name_of, accepted_at}
-use Rattle.laws_card.specs.Faithful.{UnitsWaitIn, TurnStaysIn}
-use Rattle.laws_card.specs.Promises.{IsServedIn, UnitsWaitAll, TurnsStay}
+use Rattle.laws_card.specs.Faithful.{UnitsWaitIn, TurnStaysIn, IsPulledIn}
+use Rattle.laws_card.specs.Promises.{IsServedIn, UnitsWaitAll, TurnsStay, ArePulled}
 use Rattle.laws_card.proofs.Keeping.{run-counted}
 
 -- the same of other lists of contents that are the same
@@ -115,3 +116,26 @@ turn-in card e s here =
 
 pub turns-stay : (card : Card) (events : List Event) → IsSound card → AreAtLines card events → TurnsStay card events
 turns-stay card events s all = each_moment TurnStaysIn turn-in card events s all
+
+-- A pull, in a moment.
+takes-none : (c : Config) (l : Line) → lines.takes_slot c pull l ≡ false
+unfolding lines.takes_slot
+takes-none c l = refl
+
+no-room-wanted : (card : Card) (e : Event) → e.what ≡ pull → wants_room e card ≡ false
+no-room-wanted card e is =
+    ap (λ b. b && is_full card) (ap (λ what. lines.takes_slot card.config what (line_at e.line card)) is ∙ takes-none card.config (line_at e.line card))
+
+pulled-in : (card : Card) (e : Event) → IsSound card → IsAtLine card e → IsPulledIn (moment_of card e)
+pulled-in card e s here =
+    let c = card.config in
+    let l = line_at e.line card in
+    by_room (λ ls a. e.what ≡ pull → (get_or ls e.line (fresh_line c) ≡ lines.after c pull l) × (a ≡ lines.answer c pull l)) e card
+    (λ full is. absurd (true≢false (sym full ∙ no-room-wanted card e is)))
+    (λ room is. (
+      get_or-set_same card.lines e.line (lines.after c e.what l) (fresh_line c) (omega (arith, s.count, here)) ∙ ap (λ what. lines.after c what l) is,
+      ap (λ what. lines.answer c what l) is,
+    ))
+
+pub are-pulled : (card : Card) (events : List Event) → IsSound card → AreAtLines card events → ArePulled card events
+are-pulled card events s all = each_moment IsPulledIn pulled-in card events s all

@@ -4,8 +4,9 @@ use Rattle.lapd_frame.specs.declared.services.Service.{Service}
 use Rattle.lapd_frame.specs.Grammar.{Parts}
 use Rattle.laws_link.specs.History as links
 use Rattle.model_link.specs.Events.{Received}
-use Rattle.model_line.specs.Event.{octet}
+use Rattle.model_line.specs.Event.{octet, pull}
 use Rattle.model_line.specs.Line.{place_in, link_in, terms}
+use Rattle.model_line.specs.Machine as lines
 use Rattle.laws_line.specs.Frames.{IsFollowed, IsHeeded}
 use Rattle.laws_line.specs.Share.{asked_by}
 use Rattle.laws_line.specs.Loss.{IsTold}
@@ -40,6 +41,12 @@ UnitsWaitIn m = UnitsWait m.event.what (line_before m) (line_after m) m.answer
 -- Whose turn it is, is changed by pulls alone.
 abbrev pub TurnStaysIn : Moment → Type 0
 TurnStaysIn m = TurnStays m.event.what (line_before m) (line_after m)
+
+-- A pull leaves its line, and answers, as the machine of the line does.
+abbrev pub IsPulledIn : Moment → Type 0
+IsPulledIn m =
+    m.event.what ≡ pull →
+    (line_after m ≡ lines.after m.card.config pull (line_before m)) × (m.answer ≡ lines.answer m.card.config pull (line_before m))
 
 -- A frame for a link that an octet ends is heeded: polls are answered, deliveries acknowledged, and what was rejected is
 -- sent again; and of one that the grammar does not have, or that is too long, follows what the tables say.

@@ -6,7 +6,7 @@ use Rattle.model_card.specs.Event.{Event}
 use Rattle.model_card.specs.Machine.{after}
 use Rattle.model_card.specs.Run.{IsAtLine, AreAtLines}
 use Rattle.model_card.specs.Sound.{IsSound}
-use Rattle.laws_card.specs.Promises.{IsKept, IsCountedIn, BeginsEmpty, IsServedIn, UnitsWaitAll, TurnsStay, AreHeeded, TakeEffect, ExpiriesTakeEffectIn, AreSteady, IsDelivered, AreReceived, BeginsUnheard, RunsWhatIsNeeded, NeedsNone, TimersAreLeft, NotesTell, TeisAreTold, BeginsDown, TeisHaveOnePlace, BegunIsTold, MessagesHaveCauses, ToldTeisAreThere, NotesHaveReasons, NothingElseIsNoted}
+use Rattle.laws_card.specs.Promises.{IsKept, IsCountedIn, BeginsEmpty, IsServedIn, UnitsWaitAll, TurnsStay, ArePulled, AreHeeded, TakeEffect, ExpiriesTakeEffectIn, AreSteady, IsDelivered, AreReceived, BeginsUnheard, RunsWhatIsNeeded, NeedsNone, TimersAreLeft, NotesTell, TeisAreTold, BeginsDown, TeisHaveOnePlace, BegunIsTold, MessagesHaveCauses, ToldTeisAreThere, NotesHaveReasons, NothingElseIsNoted}
 use Rattle.laws_card.specs.Timers.{AllHaveTheirTimers}
 
 pub record NothingIsLost : Type 0 where
@@ -18,6 +18,7 @@ pub record PullsServe : Type 0 where
   pub served : (card : Card) (events : List Event) → IsSound card → AreAtLines card events → IsServedIn card events
   pub units : (card : Card) (events : List Event) → IsSound card → AreAtLines card events → UnitsWaitAll card events
   pub turns : (card : Card) (events : List Event) → IsSound card → AreAtLines card events → TurnsStay card events
+  pub pulls : (card : Card) (events : List Event) → IsSound card → AreAtLines card events → ArePulled card events
 
 pub record HeardIsDelivered : Type 0 where
   pub delivered : (card : Card) (events : List Event) → IsSound card → AreAtLines card events → IsDelivered card events

@@ -14,7 +14,7 @@ use Rattle.model_card.specs.Numbered.{LinkName}
 use Rattle.model_card.specs.Promises.{HasLink}
 use Rattle.model_card.specs.Run.{moments, after_all}
 use Rattle.laws_card.specs.Contents.{link_named, begun, history, accepted_at}
-use Rattle.laws_card.specs.Faithful.{IsFaithful, UnitsWaitIn, TurnStaysIn, IsHeededIn, TakesEffectIn, ExpiryTakesEffectIn, IsSteadyIn}
+use Rattle.laws_card.specs.Faithful.{IsFaithful, UnitsWaitIn, TurnStaysIn, IsPulledIn, IsHeededIn, TakesEffectIn, ExpiryTakesEffectIn, IsSteadyIn}
 use Rattle.laws_card.specs.Heard.{IsHeardIn}
 use Rattle.laws_card.specs.Begun.{IsBegunIn}
 use Rattle.laws_card.specs.Knowledge.{up_by_notes, on_by_notes}
@@ -50,6 +50,10 @@ UnitsWaitAll m events = All UnitsWaitIn (moments m events)
 -- and whose turn it is, is changed by pulls alone.
 abbrev pub TurnsStay : Card → List Event → Type 0
 TurnsStay m events = All TurnStaysIn (moments m events)
+
+-- In every moment a pull is one of the machine of its line, of which `IsServedIn` speaks.
+abbrev pub ArePulled : Card → List Event → Type 0
+ArePulled m events = All IsPulledIn (moments m events)
 
 -- In every moment each frame for a link is heeded,
 abbrev pub AreHeeded : Card → List Event → Type 0

@@ -19,8 +19,8 @@ pub fn nothing_is_lost()
 /// control frame of the link that has waited longest; else an I-frame, if one may go, whose information is contents number
 /// V(S) of those that the link has accepted since its numbers began, with N(S) = V(S) modulo 128 and N(R) = V(R), and V(S)
 /// counts it; else the acknowledgement that is owed. It begins none only where no message waits, no unit data, and no link
-/// has anything to send. Unit data waits where its request was granted, in order, and no other event but a pull changes
-/// what waits, or whose turn it is.
+/// has anything to send. Each pull of the run leaves its line, and answers, as that next pull would. Unit data waits where
+/// its request was granted, in order, and no other event but a pull changes what waits, or whose turn it is.
 pub fn pulls_serve()
     ensures { PullsServe }
 {}

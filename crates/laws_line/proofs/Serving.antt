@@ -51,7 +51,7 @@ use Rattle.model_line.specs.Pull as pulls
 use Rattle.model_line.specs.Pull.{Taken, with_message, with_unit, with_given_frame, link_taken, first_taken, round, taken, left_of, is_due, begun, with_item, after_pull}
 use Rattle.model_line.specs.Sound.{IsInRange, IsSoundAt, IsSound}
 use Rattle.model_line.proofs.PullSound.{round_below}
-use Rattle.laws_line.specs.Pulls.{IsMessage, IsUnit, IsSilent, IsQuiet, IsItsTurn, IsOfLink, IsOwed, HasNothing, IsIdle, bits_left, contents_of, IsServed, unit_asked, UnitsWait, TurnStays}
+use Rattle.laws_line.specs.Pulls.{IsMessage, IsUnit, IsSilent, IsSilentAt, IsItsTurn, IsOfLink, IsOwed, HasNothing, IsIdle, bits_left, contents_of, IsServed, unit_asked, UnitsWait, TurnStays}
 use Rattle.laws_line.proofs.Silence.{silent}
 
 -- the first of a list is not there
@@ -66,7 +66,7 @@ module _ (c : Config) (l : Line) (s : IsSound c l) where
   Fate (Some t) = IsOwed c (contents_of l) l t.line t.frame
 
   abbrev LinkFate : ℕ → Option Taken → Type 0
-  LinkFate number None = IsQuiet c l number
+  LinkFate number None = IsSilentAt c l number
   LinkFate number (Some t) = (IsItsTurn c l t.line number → IsOfLink c (contents_of l) l t.line t.frame) × (t.line.turn ≡ number + 1)
 
   -- one link
@@ -136,7 +136,7 @@ module _ (c : Config) (l : Line) (s : IsSound c l) where
     passed : List ℕ
     behind : List ℕ
     place : ns ≡ passed ++ number ∷ behind
-    quiet : All Idle passed
+    all_silent : All Idle passed
     fate : LinkFate number (Some t)
 
   abbrev RoundFate : List ℕ → Option Taken → Type 0
@@ -148,14 +148,14 @@ module _ (c : Config) (l : Line) (s : IsSound c l) where
   by-round (n ∷ ns) few = go (link_taken c l n) (by-link n (All-head (λ n. n < link_count c) n ns few)) (first_taken c l ns) (by-round ns (All-tail (λ n. n < link_count c) n ns few))
     where
       go : (o : Option Taken) → LinkFate n o → (rest : Option Taken) → RoundFate ns rest → RoundFate (n ∷ ns) (option_or o rest)
-      go (Some t) x rest y = record { number = n; passed = []; behind = ns; place = refl; quiet = All-nil Idle; fate = x }
+      go (Some t) x rest y = record { number = n; passed = []; behind = ns; place = refl; all_silent = All-nil Idle; fate = x }
       go None x None y = All-cons Idle n ns x y
       go None x (Some t) y = record {
         number = y.number;
         passed = n ∷ y.passed;
         behind = y.behind;
         place = ap (λ xs. n ∷ xs) y.place;
-        quiet = All-cons Idle n y.passed x y.quiet;
+        all_silent = All-cons Idle n y.passed x y.all_silent;
         fate = y.fate;
       }
 
@@ -188,7 +188,7 @@ module _ (c : Config) (l : Line) (s : IsSound c l) where
         passed = x.passed;
         behind = x.behind;
         place = x.place;
-        quiet = x.quiet;
+        all_silent = x.all_silent;
         next = x.fate.1;
       })))
       go None x = record {
@@ -218,7 +218,7 @@ module _ (c : Config) (l : Line) (s : IsSound c l) where
           passed = x.its_turn.passed;
           behind = x.its_turn.behind;
           place = x.its_turn.place;
-          quiet = x.its_turn.quiet;
+          all_silent = x.its_turn.all_silent;
           next = x.its_turn.next;
         };
         tei = x.tei;

@@ -39,8 +39,8 @@ module _ (before after : Management) (ri tei : ℕ) (more : after.waiting ≡ be
   other : (message : Message) → tells message ≡ false → after.waiting ≡ before.waiting ++ message ∷ [] → ⊥
   other message none behind = true≢false (sym (ap tells (same message behind)) ∙ none)
 
-  quiet : after.waiting ≡ before.waiting → ⊥
-  quiet stays =
+  must-move : after.waiting ≡ before.waiting → ⊥
+  must-move stays =
       let longer : length before.waiting ≡ length (before.waiting ++ IdentityAssigned ri tei ∷ []) = ap (λ x. length x) (sym stays ∙ more) in
       omega (arith, longer, length-append before.waiting (IdentityAssigned ri tei ∷ []))
 
@@ -51,10 +51,10 @@ module _ (before after : Management) (ri tei : ℕ) (more : after.waiting ≡ be
 
   unsent : (message : Message) (lost : ℕ) → tells message ≡ false → IsSent message before after lost → ⊥
   unsent message lost none (inl waits) = other message none waits.behind
-  unsent message lost none (inr full) = quiet full.same
+  unsent message lost none (inr full) = must-move full.same
 
   unmoved : (lost : ℕ) → IsUnmoved before after lost → ⊥
-  unmoved lost h = quiet (ap (λ (m : Management). m.waiting) h.same)
+  unmoved lost h = must-move (ap (λ (m : Management). m.waiting) h.same)
 
   -- of the rows only those of an identity request tell one
   asked : (own : ℕ) (message : Message) → after.waiting ≡ before.waiting ++ message ∷ []
@@ -75,7 +75,7 @@ module _ (before after : Management) (ri tei : ℕ) (more : after.waiting ≡ be
 
   answered-to : (its twice : Bool) (check : Check) (lost : ℕ) → RespondsTo its twice check before after lost → ⊥
   answered-to false twice check lost h = unmoved lost h
-  answered-to true false check lost h = quiet h.0.same
+  answered-to true false check lost h = must-move h.0.same
   answered-to true true check lost h = unsent (IdentityRemove check.tei) lost refl h.0
 
   responded : (own : ℕ) (o : Option Check) (lost : ℕ) → Responds own o before after lost → ⊥
@@ -84,20 +84,20 @@ module _ (before after : Management) (ri tei : ℕ) (more : after.waiting ≡ be
 
   by-heard : (said : Said) (lost : ℕ) → Serves said before after lost → is_on tei after.places ≡ true
   by-heard (asks own) lost (inl h) = asked own h.message h.waits.behind h.is
-  by-heard (asks own) lost (inr h) = absurd (quiet h.no_room.same)
+  by-heard (asks own) lost (inr h) = absurd (must-move h.no_room.same)
   by-heard (verifies own) lost h = absurd (verified (may_begin own before) own lost h)
   by-heard (responds own) lost h = absurd (responded own before.check lost h)
 
   by-period : (p : Period) (check : Check) (lost : ℕ) → ExpiresIn p check before after lost → ⊥
   by-period First check lost h = unsent (IdentityCheckRequest check.tei) lost refl h.0
-  by-period Second check lost h = quiet h.0.same
+  by-period Second check lost h = must-move h.0.same
 
   by-expiry : (o : Option Check) (lost : ℕ) → Expires o before after lost → ⊥
   by-expiry None lost h = unmoved lost h
   by-expiry (Some check) lost h = by-period check.period check lost h
 
   by-request : (r : Request) (lost : ℕ) → is_of_management r ≡ true → Grants r before after lost → ⊥
-  by-request (Assign own) lost its h = quiet h.silent.same
+  by-request (Assign own) lost its h = must-move h.silent.same
   by-request (Remove own) lost its h = other (IdentityRemove own) refl h.0.behind
   by-request (Checking own) lost its h = other (IdentityCheckRequest own) refl h.0.behind
   by-request (Establish service own) lost its h = true≢false (sym its)
@@ -112,7 +112,7 @@ pub told-there : (c : Config) (e : Event) (before after : Line) (a : Answer) →
 told-there c e before after a h ri tei more = go h.caused
   where
     go : (after.management ≡ before.management) ⊎ IsTaken e before.management after.management ⊎ HasCause c before e a → is_on tei after.management.places ≡ true
-    go (inl stays) = absurd (quiet before.management after.management ri tei more (ap (λ (m : Management). m.waiting) stays))
+    go (inl stays) = absurd (must-move before.management after.management ri tei more (ap (λ (m : Management). m.waiting) stays))
     go (inr (inl taken)) = absurd (fewer before.management after.management ri tei more (ap (λ (m : Management). m.waiting) taken.rest))
     go (inr (inr (inl cause))) = by-heard before.management after.management ri tei more cause.0 _ (h.heard cause.0 cause.1)
     go (inr (inr (inr (inl is)))) = absurd (by-expiry before.management after.management ri tei more before.management.check _ (h.expired is))

@@ -63,8 +63,8 @@ pub record IsSilent (t : Terms) (l : Link) : Type 0 where
   pub information : MayGo t l → ⊥
   pub pending : l.pending ≡ false
 
-abbrev pub IsQuiet : Config → Line → ℕ → Type 0
-IsQuiet c l number =
+abbrev pub IsSilentAt : Config → Line → ℕ → Type 0
+IsSilentAt c l number =
     (tei : ℕ) → tei_at (place_at number) l ≡ Some tei → IsSilent (terms c (service_at number) tei) (link_at number l)
 
 pub record IsItsTurn (c : Config) (before after : Line) (number : ℕ) : Type 0 where
@@ -73,7 +73,7 @@ pub record IsItsTurn (c : Config) (before after : Line) (number : ℕ) : Type 0 
   pub passed : List ℕ
   pub behind : List ℕ
   pub place : in_turn c before ≡ passed ++ number ∷ behind
-  pub quiet : All (IsQuiet c before) passed
+  pub all_silent : All (IsSilentAt c before) passed
   pub next : after.turn ≡ number + 1
 
 -- The link is of a TEI on the line, and the frame has the SAPI of its service and its TEI. It is what the link gives in its
@@ -107,7 +107,7 @@ IsOwed c contents before after frame = IsMessage before after frame ⊎ IsUnit b
 pub record HasNothing (c : Config) (l : Line) : Type 0 where
   pub messages : l.management.waiting ≡ []
   pub units : l.units ≡ []
-  pub links : (number : ℕ) → number < link_count c → IsQuiet c l number
+  pub links : (number : ℕ) → number < link_count c → IsSilentAt c l number
 
 -- How many bits are on their way, and not given yet.
 abbrev pub bits_left : Line → ℕ

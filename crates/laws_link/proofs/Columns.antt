@@ -18,7 +18,7 @@ use Rattle.model_link.specs.Words
 use Rattle.model_link.specs.Machine
 use Rattle.laws_link.specs.States.{as_heard, state_after, numbers_begin}
 use Rattle.laws_link.specs.Waiting.{answers, commands}
-use Rattle.laws_link.specs.Flags.{peer_busy_left, own_busy_left, flag_left, rejecting_heard, takes, unless_put, owed_in, owed_behind, asked_left, repeats_left}
+use Rattle.laws_link.specs.Flags.{peer_busy_left, own_busy_left, flag_left, rejecting_heard, takes_contents, unless_put, owed_in, owed_behind, asked_left, repeats_left}
 use Rattle.laws_link.specs.Telling.{told_with}
 
 -- What a course leaves: fields of its link, how many frames were lost, and whether the numbers begin.
@@ -86,7 +86,7 @@ due_by t e l answers rejecting takes to = record {
 }
 
 abbrev pub due : Terms → Events.Event → Link → State → Left
-due t e l to = due_by t e l (answers e l) (rejecting_heard e l) (takes e l) to
+due t e l to = due_by t e l (answers e l) (rejecting_heard e l) (takes_contents e l) to
 
 abbrev pub at : State → Link → Link
 at here l = record l { state = here }

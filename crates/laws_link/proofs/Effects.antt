@@ -53,7 +53,7 @@ module _ (t : Terms) (l : Link) where
   granted : (request : Events.Request) → Requests.serves l.state request ≡ true → l.a ≤ length l.contents → Takes request (Requests.granted t request (begun l))
   granted Events.Establish s most = record { awaits = record { state_is = refl; waits = put t _ l.waiting; timed = refl; repeats = refl }; asked = refl }
   granted Events.Release s most = released l.state s most refl
-  granted (Events.Data octets) s most = record { kept = drop-append-le l.a l.contents (octets ∷ []) most; quiet = refl }
+  granted (Events.Data octets) s most = record { kept = drop-append-le l.a l.contents (octets ∷ []) most; no_note = refl }
   granted Events.SetBusy s most = begins-busy l.own_busy refl
   granted Events.ClearBusy s most = ends-busy l.own_busy refl
 

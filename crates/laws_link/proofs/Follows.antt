@@ -11,7 +11,7 @@ use Rattle.model_link.specs.Machine.{after, told}
 use Rattle.laws_link.specs.Following.{Follows}
 use Rattle.laws_link.specs.States.{as_heard, state_after, numbers_begin}
 use Rattle.laws_link.specs.Waiting.{put, waiting_left, lost_by}
-use Rattle.laws_link.specs.Flags.{peer_busy_left, own_busy_left, rejecting_left, takes, pending_left, asked_left, repeats_left}
+use Rattle.laws_link.specs.Flags.{peer_busy_left, own_busy_left, rejecting_left, takes_contents, pending_left, asked_left, repeats_left}
 use Rattle.laws_link.specs.Telling.{told_by}
 use Rattle.laws_link.proofs.Columns.{Left, queued_by, owed_by}
 use Rattle.laws_link.proofs.Placing.{placed}
@@ -24,7 +24,7 @@ waiting-is t (Events.requested request full) l to = (placed t.control (put (Even
 waiting-is t Events.offer l to = refl
 waiting-is t Events.cleared l to = refl
 
-pending-is : (e : Events.Event) (l : Link) (to : State) → owed_by e l to (put e l to) (takes e l) ≡ pending_left e l to
+pending-is : (e : Events.Event) (l : Link) (to : State) → owed_by e l to (put e l to) (takes_contents e l) ≡ pending_left e l to
 pending-is (Events.received r) l to = refl
 pending-is (Events.expired timer) l to = refl
 pending-is (Events.requested request full) l to = refl

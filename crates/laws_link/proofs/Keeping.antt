@@ -89,7 +89,7 @@ done all a s n all' a' s' loss zeroed unit few h =
         let y : Comes (row false false n) all a all' a' =
         subst (λ xs. Comes (row false false n) all a xs a') (append-nil all ∙ sym g.contents) (subst (λ m. Comes (row false false n) all a (all ++ []) m) (sym g.acknowledged) x) in
         record {
-          comes = subst (λ z. Comes (row z loss n) all a all' a') (sym g.goes_on) (subst (λ b. Comes (row false b n) all a all' a') (sym g.quiet) y);
+          comes = subst (λ z. Comes (row z loss n) all a all' a') (sym g.goes_on) (subst (λ b. Comes (row false b n) all a all' a') (sym g.no_loss) y);
           follows = ⊎_elim (λ e. inl (e ∙ omega arith)) (λ e. inr (refl, e)) g.sent;
         }
 
@@ -137,9 +137,9 @@ module _ (t : Terms) (l : Link) (h : IsSound t l) where
       subst (λ xs. Comes (row false false 0) l.contents l.a xs a) (append-nil l.contents ∙ sym e) (subst (λ n. Comes (row false false 0) l.contents l.a (l.contents ++ []) n) (add-zero l.a ∙ sym e') x) in
       subst (λ z. Comes (row z loss 0) l.contents l.a all a) (sym on) (subst (λ b. Comes (row false b 0) l.contents l.a all a) (sym q) y)
 
-  quiet : (f : Step) → Leads (On (Stay t l h.ordered h.accepted)) f (On (Stay t l h.ordered h.accepted)) → Moved 0 (f (begun l))
+  unmoved-by : (f : Step) → Leads (On (Stay t l h.ordered h.accepted)) f (On (Stay t l h.ordered h.accepted)) → Moved 0 (f (begun l))
   unfolding Moved
-  quiet f x = still t l h.ordered h.accepted f x
+  unmoved-by f x = still t l h.ordered h.accepted f x
 
   settled : (here : State) → l.state ≡ here → IsSettledIn here l
   settled here e = subst (λ s. IsSettledIn s l) e h.settled
@@ -177,15 +177,15 @@ module _ (t : Terms) (l : Link) (h : IsSound t l) where
 
   malformed : (here : State) (e : ErrorCode) → Moved 0 (Machine.malformed_in here t e (begun l))
   unfolding Moved
-  malformed TeiAssigned e = quiet Words.leave_unserved (search words)
-  malformed AwaitingEstablishment e = quiet Words.leave_unserved (search words)
-  malformed AwaitingRelease e = quiet Words.leave_unserved (search words)
+  malformed TeiAssigned e = unmoved-by Words.leave_unserved (search words)
+  malformed AwaitingEstablishment e = unmoved-by Words.leave_unserved (search words)
+  malformed AwaitingRelease e = unmoved-by Words.leave_unserved (search words)
   malformed Established e = failed_moves t l h.ordered h.accepted e
   malformed TimerRecovery e = failed_moves t l h.ordered h.accepted e
 
   -- Timers.
   unmoved : Moved 0 (begun l)
-  unmoved = quiet nothing nothing_leads
+  unmoved = unmoved-by nothing nothing_leads
 
   expired-in : (here : State) → l.state ≡ here → (timer : LinkTimer) → Moved 0 (Machine.expired_in here timer t (begun l))
   unfolding Moved

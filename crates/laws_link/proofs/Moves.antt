@@ -19,7 +19,7 @@ pub record Goes (all : List (List ℕ)) (a s n : ℕ) (all' : List (List ℕ)) (
   pub acknowledged : a' ≡ a + n
   pub among : a + n ≤ length all
   pub sent : (s' ≡ s) ⊎ (s' ≡ a')
-  pub quiet : loss ≡ false
+  pub no_loss : loss ≡ false
   pub goes_on : zeroed ≡ false
   pub no_unit : unit ≡ None
 
@@ -50,7 +50,7 @@ pub record Same (all : List (List ℕ)) (a s : ℕ) (all' : List (List ℕ)) (a'
   pub contents : all' ≡ all
   pub acknowledged : a' ≡ a
   pub sent : s' ≡ s
-  pub quiet : loss ≡ false
+  pub no_loss : loss ≡ false
   pub goes_on : zeroed ≡ false
   pub no_unit : unit ≡ None
 
@@ -65,7 +65,7 @@ module _ (all : List (List ℕ)) (a s : ℕ) (ordered : a ≤ s) (most : s ≤ l
         acknowledged = omega (arith, h.acknowledged);
         among = omega (arith, ordered, most);
         sent = inl h.sent;
-        quiet = h.quiet;
+        no_loss = h.no_loss;
         goes_on = h.goes_on;
         no_unit = h.no_unit;
       })

@@ -19,7 +19,7 @@ use Rattle.model_link.specs.Words
 use Rattle.model_link.proofs.Leads.{Leads, keeping_then, nothing_leads, depending_leads, bit_leads}
 use Rattle.laws_link.specs.Accepted.{is_loss, tells_loss}
 use Rattle.laws_link.specs.Steady.{is_anew, tells_anew}
-use Rattle.laws_link.proofs.Queueing.{quiet-note}
+use Rattle.laws_link.proofs.Queueing.{no_loss-note}
 
 abbrev pub Busy : Link → Course → Type 0
 Busy l c = (c.link.own_busy ≡ l.own_busy) ⊎ ((c.link.own_busy ≡ false) × (list_any tells_anew c.notes ≡ true))
@@ -27,7 +27,7 @@ Busy l c = (c.link.own_busy ≡ l.own_busy) ⊎ ((c.link.own_busy ≡ false) × 
 pub record Ordinary (l : Link) (c : Course) : Type 0 where
   pub sent : c.link.s ≡ l.s
   pub busy : Busy l c
-  pub quiet : tells_loss c.notes ≡ false
+  pub no_loss : tells_loss c.notes ≡ false
 
 -- told before, told still; and told now
 told-still : (ns : List Note) (n : Note) → list_any tells_anew ns ≡ true → list_any tells_anew (ns ++ n ∷ []) ≡ true
@@ -42,14 +42,14 @@ told-now ns n e = list_any-append tells_anew ns (n ∷ []) ∙ ap (λ b. list_an
 
 module _ (l : Link) where
   pub begins : Ordinary l (begun l)
-  begins = record { sent = refl; busy = inl refl; quiet = refl }
+  begins = record { sent = refl; busy = inl refl; no_loss = refl }
 
   pub still-busy : (c : Course) (n : Note) → Busy l c → Busy l (Words.note n c)
   still-busy c n (inl e) = inl e
   still-busy c n (inr x) = inr (x.0, told-still c.notes n x.1)
 
   noting : (n : Note) → is_loss n ≡ false → Leads (Ordinary l) (Words.note n) (Ordinary l)
-  noting n e = record { leads = λ c h. record { sent = h.sent; busy = still-busy c n h.busy; quiet = quiet-note c.notes n e ∙ h.quiet } }
+  noting n e = record { leads = λ c h. record { sent = h.sent; busy = still-busy c n h.busy; no_loss = no_loss-note c.notes n e ∙ h.no_loss } }
 
   pub error_ordinary : (t : Terms) (e : ErrorCode) → Leads (Ordinary l) (Words.error t e) (Ordinary l)
   error_ordinary t e = noting (notes.Error t.service t.tei e) refl
@@ -61,16 +61,16 @@ module _ (l : Link) where
   xid_ordinary t = noting (notes.Xid t.service t.tei) refl
 
   pub deliver_ordinary : (t : Terms) (octets : List ℕ) → Leads (Ordinary l) (Words.deliver t octets) (Ordinary l)
-  deliver_ordinary t octets = record { leads = λ c h. let x = (noting (notes.Data t.service t.tei) refl).leads c h in record { sent = x.sent; busy = x.busy; quiet = x.quiet } }
+  deliver_ordinary t octets = record { leads = λ c h. let x = (noting (notes.Data t.service t.tei) refl).leads c h in record { sent = x.sent; busy = x.busy; no_loss = x.no_loss } }
 
   pub unit_ordinary : (t : Terms) (octets : List ℕ) → Leads (Ordinary l) (Words.deliver_unit t octets) (Ordinary l)
-  unit_ordinary t octets = record { leads = λ c h. let x = (noting (notes.Unit t.service t.tei) refl).leads c h in record { sent = x.sent; busy = x.busy; quiet = x.quiet } }
+  unit_ordinary t octets = record { leads = λ c h. let x = (noting (notes.Unit t.service t.tei) refl).leads c h in record { sent = x.sent; busy = x.busy; no_loss = x.no_loss } }
 
   same : (c d : Course) → d.link.s ≡ c.link.s → d.link.own_busy ≡ c.link.own_busy → d.notes ≡ c.notes → Ordinary l c → Ordinary l d
   same c d e e' e'' h = record {
     sent = e ∙ h.sent;
     busy = ⊎_elim (λ x. inl (e' ∙ x)) (λ x. inr (e' ∙ x.0, ap (list_any tells_anew) e'' ∙ x.1)) h.busy;
-    quiet = ap tells_loss e'' ∙ h.quiet;
+    no_loss = ap tells_loss e'' ∙ h.no_loss;
   }
 
   pub unserved_ordinary : Leads (Ordinary l) Words.leave_unserved (Ordinary l)
@@ -124,7 +124,7 @@ module _ (l : Link) where
     leads = λ c h. record {
       sent = h.sent;
       busy = inr (refl, told-now c.notes (notes.Error t.service t.tei e) anew);
-      quiet = quiet-note c.notes (notes.Error t.service t.tei e) refl ∙ h.quiet;
+      no_loss = no_loss-note c.notes (notes.Error t.service t.tei e) refl ∙ h.no_loss;
     };
   }
 

@@ -55,7 +55,7 @@ module _ (t : Terms) (l : Link) (ordered : l.a ≤ l.s) (most : l.s ≤ length l
   Move n = Moves l.contents l.a l.s n
 
   pub begins : On Stay (begun l)
-  begins = record { contents = refl; acknowledged = refl; sent = refl; quiet = refl; goes_on = refl; no_unit = refl }
+  begins = record { contents = refl; acknowledged = refl; sent = refl; no_loss = refl; goes_on = refl; no_unit = refl }
 
   pub still : (f : Step) → Leads (On Stay) f (On Stay) → On (Move 0) (f (begun l))
   still f x = stays l.contents l.a l.s ordered most (f (begun l)) (x.leads (begun l) begins)
@@ -156,24 +156,24 @@ module _ (t : Terms) (l : Link) (ordered : l.a ≤ l.s) (most : l.s ≤ length l
   went : (m : ℕ) → l.a ≤ m → m ≤ l.s → (all : List (List ℕ)) (a s : ℕ) (loss zeroed : Bool) (unit : Option (List ℕ))
       → all ≡ l.contents → a ≡ m → (s ≡ l.s) ⊎ (s ≡ a) → loss ≡ false → zeroed ≡ false → unit ≡ None
       → Moves l.contents l.a l.s (m - l.a) all a s loss zeroed unit
-  went m from to all a s loss zeroed unit e e' sent quiet on none =
+  went m from to all a s loss zeroed unit e e' sent no_loss on none =
       inl (record {
         contents = e;
         acknowledged = omega (arith, e', from);
         among = omega (arith, from, to, most);
         sent = sent;
-        quiet = quiet;
+        no_loss = no_loss;
         goes_on = on;
         no_unit = none;
       })
 
   acknowledging : (m : ℕ) → l.a ≤ m → m ≤ l.s → Leads (On Stay) (Words.acknowledge m) (On (Move (m - l.a)))
   acknowledging m from to =
-      record { leads = λ c h. went m from to c.link.contents m c.link.s _ c.zeroed c.unit h.contents refl (inl h.sent) h.quiet h.goes_on h.no_unit }
+      record { leads = λ c h. went m from to c.link.contents m c.link.s _ c.zeroed c.unit h.contents refl (inl h.sent) h.no_loss h.goes_on h.no_unit }
 
   acknowledging-then : (m : ℕ) → l.a ≤ m → m ≤ l.s → (timer : LinkTimer) → Leads (On Stay) (Words.acknowledge m then Words.start timer) (On (Move (m - l.a)))
   acknowledging-then m from to timer =
-      record { leads = λ c h. went m from to c.link.contents m c.link.s _ c.zeroed c.unit h.contents refl (inl h.sent) h.quiet h.goes_on h.no_unit }
+      record { leads = λ c h. went m from to c.link.contents m c.link.s _ c.zeroed c.unit h.contents refl (inl h.sent) h.no_loss h.goes_on h.no_unit }
 
   in-7 : (m : ℕ) → l.a ≤ m → m ≤ l.s → Leads (On Stay) (Established.acknowledged_in_7 m) (On (Move (m - l.a)))
   in-7 m from to =
@@ -183,7 +183,7 @@ module _ (t : Terms) (l : Link) (ordered : l.a ≤ l.s) (most : l.s ≤ length l
         leads = λ c h.
             let none : m ≤ c.link.a = ltb-false c.link.a m h.told in
             let at : c.link.a ≡ l.a = h.holds.acknowledged in
-            went m from to c.link.contents c.link.a c.link.s _ c.zeroed c.unit h.holds.contents (omega (arith, none, at, from)) (inl h.holds.sent) h.holds.quiet h.holds.goes_on h.holds.no_unit;
+            went m from to c.link.contents c.link.a c.link.s _ c.zeroed c.unit h.holds.contents (omega (arith, none, at, from)) (inl h.holds.sent) h.holds.no_loss h.holds.goes_on h.holds.no_unit;
       }))
 
   in-7-by-information : (m : ℕ) → l.a ≤ m → m ≤ l.s → Leads (On Stay) (Established.acknowledged_by_information_in_7 m) (On (Move (m - l.a)))
@@ -191,12 +191,12 @@ module _ (t : Terms) (l : Link) (ordered : l.a ≤ l.s) (most : l.s ≤ length l
 
   in-7-by-rej : (m : ℕ) → l.a ≤ m → m ≤ l.s → Leads (On Stay) (Established.acknowledged_by_rej_in_7 m) (On (Move (m - l.a)))
   in-7-by-rej m from to =
-      record { leads = λ c h. went m from to c.link.contents m m _ c.zeroed c.unit h.contents refl (inr refl) h.quiet h.goes_on h.no_unit }
+      record { leads = λ c h. went m from to c.link.contents m m _ c.zeroed c.unit h.contents refl (inr refl) h.no_loss h.goes_on h.no_unit }
 
   in-8 : (timer : LinkTimer) (final : Bool) (m : ℕ) → l.a ≤ m → m ≤ l.s → Leads (On Stay) (TimerRecovery.acknowledged_in_8 timer final m) (On (Move (m - l.a)))
   in-8 timer final m from to =
       bit_leads final
-      (record { leads = λ c h. went m from to c.link.contents m m _ c.zeroed c.unit h.contents refl (inr refl) h.quiet h.goes_on h.no_unit })
+      (record { leads = λ c h. went m from to c.link.contents m m _ c.zeroed c.unit h.contents refl (inr refl) h.no_loss h.goes_on h.no_unit })
       (acknowledging m from to)
 
   numbers : (nr : Seq) {f : ℕ → Step} → ((m : ℕ) → l.a ≤ m → m ≤ l.s → Leads (On Stay) (f m) (On (Move (m - l.a))))

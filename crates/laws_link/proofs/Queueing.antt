@@ -22,8 +22,8 @@ abbrev pub On : Claim → Course → Type 0
 On Q c = Q c.link.contents c.link.a c.link.s (tells_loss c.notes) c.zeroed c.unit
 
 -- one more note that tells no loss
-pub quiet-note : (ns : List Note) (n : Note) → is_loss n ≡ false → tells_loss (ns ++ n ∷ []) ≡ tells_loss ns
-quiet-note ns n e = list_any-append is_loss ns (n ∷ []) ∙ go (tells_loss ns) (is_loss n) e
+pub no_loss-note : (ns : List Note) (n : Note) → is_loss n ≡ false → tells_loss (ns ++ n ∷ []) ≡ tells_loss ns
+no_loss-note ns n e = list_any-append is_loss ns (n ∷ []) ∙ go (tells_loss ns) (is_loss n) e
   where
     go : (b d : Bool) → d ≡ false → (b || (d || false)) ≡ b
     go true d e = refl
@@ -31,7 +31,7 @@ quiet-note ns n e = list_any-append is_loss ns (n ∷ []) ∙ go (tells_loss ns)
 
 module _ (Q : Claim) where
   noting : (n : Note) → is_loss n ≡ false → (c : Course) → On Q c → Q c.link.contents c.link.a c.link.s (tells_loss (c.notes ++ n ∷ [])) c.zeroed c.unit
-  noting n e c h = subst (λ b. Q c.link.contents c.link.a c.link.s b c.zeroed c.unit) (sym (quiet-note c.notes n e)) h
+  noting n e c h = subst (λ b. Q c.link.contents c.link.a c.link.s b c.zeroed c.unit) (sym (no_loss-note c.notes n e)) h
 
   pub error_keeps : (t : Terms) (e : ErrorCode) → Leads (On Q) (Words.error t e) (On Q)
   error_keeps t e = record { leads = λ c h. noting (notes.Error t.service t.tei e) refl c h }

@@ -45,7 +45,7 @@ pub record Row (Asks : ℕ → Type 0) (Ends : Type 0) (l : Link) (c : Course) :
 
 module _ (Asks : ℕ → Type 0) (Ends : Type 0) (t : Terms) (l : Link) where
   pub ordinary : (c : Course) → Ordinary l c → Row Asks Ends l c
-  ordinary c h = record { sent = inl h.sent; busy = h.busy; loss = λ some. absurd (true≢false (sym some ∙ h.quiet)) }
+  ordinary c h = record { sent = inl h.sent; busy = h.busy; loss = λ some. absurd (true≢false (sym some ∙ h.no_loss)) }
 
   pub still : (f : Step) → Leads (Ordinary l) f (Ordinary l) → Row Asks Ends l (f (begun l))
   still f x = ordinary (f (begun l)) (x.leads (begun l) (begins l))
@@ -125,7 +125,7 @@ module _ (Asks : ℕ → Type 0) (t : Terms) (l : Link) where
       let known : Leads (Ordinary l) before (Ordinary l) = search words depth 12 fits 8000 in
       by-number Asks _ t l nr seven.acknowledged_by_rej_in_7 (before (begun l))
       (record { holds = known.leads (begun l) (begins l); a = same-a b pf })
-      (λ n names. let h = known.leads (begun l) (begins l) in record { sent = inr (inl (asks nr n refl names)); busy = h.busy; loss = λ some. absurd (true≢false (sym some ∙ h.quiet)) })
+      (λ n names. let h = known.leads (begun l) (begins l) in record { sent = inr (inl (asks nr n refl names)); busy = h.busy; loss = λ some. absurd (true≢false (sym some ∙ h.no_loss)) })
     where
       same-a : (b pf : Bool) → ((Words.peer_busy_is false then MultipleFrame.answered t b pf then seven.unsolicited t (MultipleFrame.is_final b pf)) (begun l)).link.a ≡ l.a
       same-a true true = refl
@@ -146,7 +146,7 @@ module _ (Asks : ℕ → Type 0) (t : Terms) (l : Link) where
       → Row Asks Ends l ((Words.peer_busy_is busy then Words.by_number t nr (eight.acknowledged_in_8 timer true)) (begun l))
   recovering busy timer nr asks Ends =
       by-number Asks Ends t l nr (eight.acknowledged_in_8 timer true) (Words.peer_busy_is busy (begun l))
-      (record { holds = record { sent = refl; busy = inl refl; quiet = refl }; a = refl })
+      (record { holds = record { sent = refl; busy = inl refl; no_loss = refl }; a = refl })
       (λ n names. record { sent = inr (inl (asks n names)); busy = inl refl; loss = λ some. absurd (true≢false (sym some)) })
 
   pub frames_in_8 : (b : Bool) (octets : List ℕ) (control : Control)
@@ -318,20 +318,20 @@ module _ (t : Terms) (l : Link) where
   record Offers-it (c : Course) : Type 0 where
     sent : (c.link.s ≡ l.s) ⊎ (c.link.s ≡ l.s + 1)
     busy : c.link.own_busy ≡ l.own_busy
-    quiet : tells_loss c.notes ≡ false
+    no_loss : tells_loss c.notes ≡ false
 
   choose : (b : Bool) (u v : Course) → Offers-it u → Offers-it v → Offers-it (cond b u v)
   choose true u v x y = x
   choose false u v x y = y
 
   offers : (ws : List ControlFrame) → Offers-it (Offers.offer_among t ws (begun l))
-  offers (f ∷ fs) = record { sent = inl refl; busy = refl; quiet = refl }
+  offers (f ∷ fs) = record { sent = inl refl; busy = refl; no_loss = refl }
   offers [] =
       let one_more = (Offers.give_information then changed Offers.with_one_sent then Words.pending_is false) (begun l) in
       choose (Offers.may_send_information t l) _ _
       (choose (Offers.is_awaiting_acknowledgement one_more.link) one_more (Words.start T200 one_more)
-      (record { sent = inr refl; busy = refl; quiet = refl }) (record { sent = inr refl; busy = refl; quiet = refl }))
-      (choose l.pending _ _ (record { sent = inl refl; busy = refl; quiet = refl }) (record { sent = inl refl; busy = refl; quiet = refl }))
+      (record { sent = inr refl; busy = refl; no_loss = refl }) (record { sent = inr refl; busy = refl; no_loss = refl }))
+      (choose l.pending _ _ (record { sent = inl refl; busy = refl; no_loss = refl }) (record { sent = inl refl; busy = refl; no_loss = refl }))
 
   by-offer : Steady t Events.offer l
   by-offer =
@@ -339,7 +339,7 @@ module _ (t : Terms) (l : Link) where
       record {
         sent = ⊎_elim (λ y. inl y) (λ y. inr (inl (refl, y))) x.sent;
         busy = inl x.busy;
-        loss = λ some. absurd (true≢false (sym some ∙ x.quiet));
+        loss = λ some. absurd (true≢false (sym some ∙ x.no_loss));
       }
 
   pub event-steady : (e : Events.Event) → Steady t e l

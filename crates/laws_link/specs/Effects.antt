@@ -51,7 +51,7 @@ pub record IsFree (t : Terms) (before after : Link) (lost : ℕ) : Type 0 where
 -- DL-DATA: the contents are kept, behind what was kept, and nothing is told (clause 5.6.1).
 pub record IsQueued (octets : List ℕ) (before after : Link) (ns : List Note) : Type 0 where
   pub kept : queue_of after ≡ queue_of before ++ octets ∷ []
-  pub quiet : ns ≡ []
+  pub no_note : ns ≡ []
 
 abbrev pub TakesEffect : Terms → Request → Link → Link → List Note → ℕ → Type 0
 TakesEffect t Establish before after ns lost = IsAsked t before after lost

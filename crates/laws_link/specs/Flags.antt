@@ -54,13 +54,13 @@ rejecting_left e l to = flag_left e l to (rejecting_heard e l) l.rejecting
 
 -- An acknowledgement is owed for an I-frame that is taken, until a frame is put (in states 7 and 8 it has N(R), and may
 -- have found no room and be told as lost), or goes, or the link leaves these states (clauses 5.5.3.2, 5.6.2 and 5.6.3.1).
-abbrev pub takes_by : Control → Link → Bool
-takes_by (Information ns nr p) l = is_taken (is_next ns l) l
-takes_by other l = false
+abbrev pub takes_contents_by : Control → Link → Bool
+takes_contents_by (Information ns nr p) l = is_taken (is_next ns l) l
+takes_contents_by other l = false
 
-abbrev pub takes : Event → Link → Bool
-takes (received (frame f)) l = takes_by f.control l
-takes other l = false
+abbrev pub takes_contents : Event → Link → Bool
+takes_contents (received (frame f)) l = takes_contents_by f.control l
+takes_contents other l = false
 
 abbrev pub unless_put : List ControlFrame → Bool → Bool
 unless_put [] owed = owed
@@ -76,15 +76,15 @@ owed_behind (f ∷ fs) owed = owed
 
 abbrev pub pending_left : Event → Link → State → Bool
 pending_left offer l to = owed_behind l.waiting l.pending
-pending_left other l to = flag_left other l to (owed_in to (unless_put (put other l to) (takes other l || l.pending))) l.pending
+pending_left other l to = flag_left other l to (owed_in to (unless_put (put other l to) (takes_contents other l || l.pending))) l.pending
 
 -- Layer 3 asked for the establishment that is awaited, or this side began it (clauses 5.5.1.1 and 5.7.2).
-abbrev pub asks : Event → Bool
-asks (requested Establish pool_is_full) = true
-asks other = false
+abbrev pub asks_establishment : Event → Bool
+asks_establishment (requested Establish pool_is_full) = true
+asks_establishment other = false
 
 abbrev pub asked_left : Event → Link → State → Bool
-asked_left e l to = if is_clearing e then false else if comes_to 5 l.state to then asks e else l.asked
+asked_left e l to = if is_clearing e then false else if comes_to 5 l.state to then asks_establishment e else l.asked
 
 -- RC counts how often T200 has expired for the command that a state awaits the answer to (clauses 5.5.1.3, 5.5.3.3 and
 -- 5.6.7).

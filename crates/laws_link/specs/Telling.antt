@@ -11,7 +11,7 @@ use Rattle.model_link.specs.declared.states.State.TheVariants.{TeiAssigned, Awai
 use Rattle.model_link.specs.declared.terms.Terms.{Terms}
 use Rattle.model_link.specs.Link.{Link, state_number}
 use Rattle.model_link.specs.Events.{Received, frame, undefined, wrong_size, overlong, Request, Establish, Release, Data, SetBusy, ClearBusy, Event, received, expired, requested, offer, cleared}
-use Rattle.laws_link.specs.Flags.{takes}
+use Rattle.laws_link.specs.Flags.{takes_contents}
 
 abbrev pub error : Terms → ErrorCode → List Note
 error t e = notes.Error t.service t.tei e ∷ []
@@ -128,4 +128,4 @@ told_with t offer taken l to = []
 told_with t cleared taken l to = told_cleared l.state t
 
 abbrev pub told_by : Terms → Event → Link → State → List Note
-told_by t e l to = told_with t e (takes e l) l to
+told_by t e l to = told_with t e (takes_contents e l) l to

@@ -20,7 +20,7 @@ use Rattle.laws_card.proofs.Keeping.{kept, run-counted, begins-empty}
 use Rattle.laws_card.proofs.Knowing.{up-known, on-known, down-at-first, one-place}
 use Rattle.laws_card.proofs.Receiving.{run-received, begins-unheard}
 use Rattle.laws_card.proofs.Restarting.{leaves-all}
-use Rattle.laws_card.proofs.Serving.{served-in, units-all, turns-stay}
+use Rattle.laws_card.proofs.Serving.{served-in, units-all, turns-stay, are-pulled}
 use Rattle.laws_card.proofs.TimersRun.{needed-run, needs-none, reached-timely}
 use Rattle.laws_card.proofs.Wherever.{answers-begun, come-to-an-end, few-to-go, begins-with-few}
 use Rattle.laws_promises.specs.Promises.{Promises}
@@ -42,6 +42,7 @@ module _ (m : Card) (events : List Event) (reached : IsReached m) (within : AreA
     nothing_is_lost = kept m events sound within;
     units_wait = units-all m events sound within;
     turns_stay = turns-stay m events sound within;
+    pulls_are_lines = are-pulled m events sound within;
     frames_are_heeded = heeded-all m events sound within;
     requests_take_effect = effect-all m events sound within;
     expiries_take_effect = expiries-all m events sound within;

@@ -2,7 +2,7 @@
 use Rattle.std.specs.Prelude.{ℕ, List, take}
 use Rattle.model_card.specs.Card.{Card}
 use Rattle.model_card.specs.Event.{Event}
-use Rattle.laws_card.specs.Promises.{IsKept, UnitsWaitAll, TurnsStay, AreHeeded, TakeEffect, ExpiriesTakeEffectIn, AreSteady, BegunIsTold, MessagesHaveCauses, ToldTeisAreThere, NotesHaveReasons, TimersAreLeft, NothingElseIsNoted, IsDelivered, AreReceived, BeginsUnheard, IsCountedIn, BeginsEmpty, RunsWhatIsNeeded, NeedsNone, NotesTell, TeisAreTold, BeginsDown, TeisHaveOnePlace, IsServedIn}
+use Rattle.laws_card.specs.Promises.{IsKept, UnitsWaitAll, TurnsStay, ArePulled, AreHeeded, TakeEffect, ExpiriesTakeEffectIn, AreSteady, BegunIsTold, MessagesHaveCauses, ToldTeisAreThere, NotesHaveReasons, TimersAreLeft, NothingElseIsNoted, IsDelivered, AreReceived, BeginsUnheard, IsCountedIn, BeginsEmpty, RunsWhatIsNeeded, NeedsNone, NotesTell, TeisAreTold, BeginsDown, TeisHaveOnePlace, IsServedIn}
 use Rattle.laws_card.specs.PromisesOfPulls.{AnswersAreBegun, PullsComeToAnEnd, FewAreToGo, BeginsWithFew, EnoughPullsServe}
 
 -- From a card on: those of a whole list hold in each of its moments; those with a count hold after that many of its
@@ -20,6 +20,9 @@ pub record Promises (m : Card) (events : List Event) : Type 0 where
   pub units_wait : UnitsWaitAll m events
   -- In every moment no event but a pull changes which link of a line is asked first (profile).
   pub turns_stay : TurnsStay m events
+  -- In every moment a pull leaves its line, and answers, as the machine of the line does, of whose next pull `served`
+  -- speaks; so that is said of each pull of the run.
+  pub pulls_are_lines : ArePulled m events
   -- In every moment each frame for a link is answered, acknowledged and heeded as the tables have it, and what finds
   -- no room to wait is counted as lost. In full: an octet that ends a frame for a link puts exactly one frame
   -- behind those that wait there, where the frame is a poll with a valid N(R) in state 7 or 8 (the answer is RR, RNR

@@ -20,7 +20,7 @@ use Rattle.model_line.specs.Machine as lines
 use Rattle.model_line.specs.Pull.{Taken, begun}
 use Rattle.model_line.specs.Sound as line
 use Rattle.model_line.proofs.Ranges.{ranges_of}
-use Rattle.laws_line.specs.Pulls.{IsSilent, IsQuiet, IsOfLink, IsOwed, IsIdle, contents_of}
+use Rattle.laws_line.specs.Pulls.{IsSilent, IsSilentAt, IsOfLink, IsOwed, IsIdle, contents_of}
 use Rattle.laws_line.proofs.Leaving.{pull-moves}
 use Rattle.laws_line.proofs.Serving.{served}
 use Rattle.model_card.specs.Card.{Card, fresh, line_at, is_full}
@@ -53,12 +53,12 @@ module _ (c : Config) (ranged : line.IsInRange c) (l : Line) (s : line.IsSound c
   places : next.management.places ≡ l.management.places
   places = (pull-moves c 0 l s (omega (arith, (ranges_of c ranged).terminals.least))).places
 
-  quiet-there : (number : ℕ) → link_at number next ≡ link_at number l → IsQuiet c l number → IsQuiet c next number
-  quiet-there number same q tei at =
+  silent-there : (number : ℕ) → link_at number next ≡ link_at number l → IsSilentAt c l number → IsSilentAt c next number
+  silent-there number same q tei at =
       subst (λ (x : Link). IsSilent (terms c (service_at number) tei) x) (sym same) (q tei (subst (λ ps. get_or ps (place_at number) None ≡ Some tei) places at))
 
   links-stay : next.links ≡ l.links → Stays c l next
-  links-stay same = record { places = places; quiet = λ number few q. quiet-there number (ap (λ ls. get_or ls number fresh_link) same) q }
+  links-stay same = record { places = places; stays_silent = λ number few q. silent-there number (ap (λ ls. get_or ls number fresh_link) same) q }
 
   abbrev names-of : Option Taken → List LinkName
   names-of o = map named_in (filter is_of_link (option_to_list (option_map frame_taken o)))
@@ -73,18 +73,18 @@ module _ (c : Config) (ranged : line.IsInRange c) (l : Line) (s : line.IsSound c
   of-link : (t : Taken) (x : IsOfLink c (contents_of l) l next t.frame) (names : List LinkName) → Walk c next names → Walk c l (names-of (Some t) ++ names)
   of-link t x names walk =
       a-name t (named x.number x.tei) names (ap is_of_link x.spelled ∙ link-frame (record { sapi = sapi_of (service_at x.number); command = x.command; tei = x.tei }) x.control (plain-order c l next t.frame plain x) (unwrap_or x.information [])) (ap named_in x.spelled ∙ name-is (record { sapi = sapi_of (service_at x.number); command = x.command; tei = x.tei }) x.control (unwrap_or x.information []))
-      (goes l next x.number x.tei names s (record { places = places; quiet = stays }) (record {
+      (goes l next x.number x.tei names s (record { places = places; stays_silent = stays }) (record {
         few = x.few;
         on_line = x.on_line;
         passed = x.its_turn.passed;
         behind = x.its_turn.behind;
         place = x.its_turn.place;
-        quiet = x.its_turn.quiet;
+        all_silent = x.its_turn.all_silent;
         next = x.its_turn.next;
         speaks = speaks;
       }) walk)
     where
-      speaks : IsQuiet c l x.number → ⊥
+      speaks : IsSilentAt c l x.number → ⊥
       speaks q = by-order (q x.tei x.on_line) x.in_order
         where
           by-order : IsSilent (terms c (service_at x.number) x.tei) (link_at x.number l)
@@ -93,9 +93,9 @@ module _ (c : Config) (ranged : line.IsInRange c) (l : Line) (s : line.IsSound c
           by-order silent (inr (inl information)) = silent.information information.may
           by-order silent (inr (inr acknowledgement)) = true≢false (sym acknowledgement.was_owed ∙ silent.pending)
 
-      stays : (number : ℕ) → number < link_count c → IsQuiet c l number → IsQuiet c next number
+      stays : (number : ℕ) → number < link_count c → IsSilentAt c l number → IsSilentAt c next number
       stays number few q =
-          ⊎_elim (λ same. absurd (speaks (subst (IsQuiet c l) same q))) (λ apart. quiet-there number (x.others number apart) q) (cases_eq number x.number)
+          ⊎_elim (λ same. absurd (speaks (subst (IsSilentAt c l) same q))) (λ apart. silent-there number (x.others number apart) q) (cases_eq number x.number)
 
   by-pull : (o : Option Taken) → elim o as (λ o. Type 0) [ None ↦ IsIdle c l next | Some t ↦ IsOwed c (contents_of l) l next t.frame ]
       → (names : List LinkName) → Walk c next names → Walk c l (names-of o ++ names)

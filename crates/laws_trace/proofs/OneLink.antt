@@ -321,14 +321,14 @@ module _ (c : Config) (l : Line) (s : IsSound c l) (service : Service) (tei : �
 
   -- An offer tells nothing.
   module _ (t : Terms) (x : Link) where
-    abbrev IsQuiet : Course → Type 0
-    IsQuiet k = (k.notes ≡ []) × (k.delivered ≡ None) × (k.unit ≡ None) × (k.lost ≡ 0)
+    abbrev TellsNothing : Course → Type 0
+    TellsNothing k = (k.notes ≡ []) × (k.delivered ≡ None) × (k.unit ≡ None) × (k.lost ≡ 0)
 
-    choose : (b : Bool) (u v : Course) → IsQuiet u → IsQuiet v → IsQuiet (cond b u v)
+    choose : (b : Bool) (u v : Course) → TellsNothing u → TellsNothing v → TellsNothing (cond b u v)
     choose true u v h k = h
     choose false u v h k = k
 
-    offers : (ws : List ControlFrame) → IsQuiet (Offers.offer_among t ws (course_begun x))
+    offers : (ws : List ControlFrame) → TellsNothing (Offers.offer_among t ws (course_begun x))
     offers (f ∷ fs) = (refl, refl, refl, refl)
     offers [] =
         let sent = (Offers.give_information then changed Offers.with_one_sent then Words.pending_is false) (course_begun x) in
@@ -336,8 +336,8 @@ module _ (c : Config) (l : Line) (s : IsSound c l) (service : Service) (tei : �
         (choose (Offers.is_awaiting_acknowledgement sent.link) sent (Words.start T200 sent) (refl, refl, refl, refl) (refl, refl, refl, refl))
         (choose x.pending _ _ (refl, refl, refl, refl) (refl, refl, refl, refl))
 
-    offer-quiet : IsQuiet (links.course t link.offer x)
-    offer-quiet = offers x.waiting
+    offer-tells_nothing : TellsNothing (links.course t link.offer x)
+    offer-tells_nothing = offers x.waiting
 
   -- A pull.
   abbrev Pulled : Line → List (List ℕ) → Type 0
@@ -365,7 +365,7 @@ module _ (c : Config) (l : Line) (s : IsSound c l) (service : Service) (tei : �
       go : Pulled (after_pull c l) (frame_in c pull l) → Goes c service tei pull l (after_pull c l) (answer_to_pull c l)
       go (inl x) = inl (record { is = inl x.0; aims = refl; begins = x.1 })
       go (inr x) =
-          let q = offer-quiet Own (link_of service tei l) in
+          let q = offer-tells_nothing Own (link_of service tei l) in
           inr (record {
             place = x.0;
             placed = x.1;

@@ -8,7 +8,7 @@ use Rattle.model_line.specs.declared.config.Config.{Config}
 use Rattle.model_line.specs.Line.{Line, link_count, service_at, place_at, tei_at}
 use Rattle.model_line.specs.Sound.{IsSound}
 use Rattle.laws_line.specs.Drains.{way_round}
-use Rattle.laws_line.specs.Pulls.{in_turn, IsQuiet}
+use Rattle.laws_line.specs.Pulls.{in_turn, IsSilentAt}
 use Rattle.laws_line.proofs.InRounds.{comes-first}
 use Rattle.laws_trace.specs.LinksTakeTurns.{LinkName, IsAmong, TakeTurns}
 
@@ -19,7 +19,7 @@ module _ (c : Config) where
   -- What pulls keep of a line: where its TEIs are, and that a link has nothing to send.
   pub record Stays (l m : Line) : Type 0 where
     pub places : m.management.places ≡ l.management.places
-    pub quiet : (number : ℕ) → number < link_count c → IsQuiet c l number → IsQuiet c m number
+    pub stays_silent : (number : ℕ) → number < link_count c → IsSilentAt c l number → IsSilentAt c m number
 
   -- A link begins a frame in its turn.
   pub record Goes (l m : Line) (number tei : ℕ) : Type 0 where
@@ -28,9 +28,9 @@ module _ (c : Config) where
     pub passed : List ℕ
     pub behind : List ℕ
     pub place : in_turn c l ≡ passed ++ number ∷ behind
-    pub quiet : All (IsQuiet c l) passed
+    pub all_silent : All (IsSilentAt c l) passed
     pub next : m.turn ≡ number + 1
-    pub speaks : IsQuiet c l number → ⊥
+    pub speaks : IsSilentAt c l number → ⊥
 
   -- A line that is only pulled, and the links of the frames that begin.
   pub data Walk : Line → List LinkName → Type 0 where
@@ -101,18 +101,18 @@ module _ (c : Config) where
 
   -- It has something to send already.
   later : (l : Line) (names : List LinkName) → Walk l names → (number tei : ℕ) → number < link_count c → tei_at (place_at number) l ≡ Some tei
-      → (front behind : List LinkName) → names ≡ front ++ named number tei ∷ behind → IsQuiet c l number → ⊥
-  later k ns (ends l) number tei few on [] behind e quiet = cc e
-  later k ns (ends l) number tei few on (x ∷ front) behind e quiet = cc e
-  later k ns (still l m names h turn walk) number tei few on front behind e quiet =
-      later m names walk number tei few (on-stays l m h number tei on) front behind e (h.quiet number few quiet)
-  later k ns (goes l m other tei' rest s h g walk) number tei few on [] behind e quiet =
+      → (front behind : List LinkName) → names ≡ front ++ named number tei ∷ behind → IsSilentAt c l number → ⊥
+  later k ns (ends l) number tei few on [] behind e silent = cc e
+  later k ns (ends l) number tei few on (x ∷ front) behind e silent = cc e
+  later k ns (still l m names h turn walk) number tei few on front behind e silent =
+      later m names walk number tei few (on-stays l m h number tei on) front behind e (h.stays_silent number few silent)
+  later k ns (goes l m other tei' rest s h g walk) number tei few on [] behind e silent =
       let is : named other tei' ≡ named number tei = cc e in
       let same = same-number l s other number tei' tei g.on_line on is in
-      g.speaks (subst (IsQuiet c l) (sym same) quiet)
-  later k ns (goes l m other tei' rest s h g walk) number tei few on (x ∷ front) behind e quiet =
+      g.speaks (subst (IsSilentAt c l) (sym same) silent)
+  later k ns (goes l m other tei' rest s h g walk) number tei few on (x ∷ front) behind e silent =
       let tail : rest ≡ front ++ named number tei ∷ behind = cc e in
-      later m rest walk number tei few (on-stays l m h number tei on) front behind tail (h.quiet number few quiet)
+      later m rest walk number tei few (on-stays l m h number tei on) front behind tail (h.stays_silent number few silent)
 
   abbrev way : ℕ → ℕ → ℕ
   way turn number = way_round (link_count c) turn number
@@ -133,7 +133,7 @@ module _ (c : Config) where
       let speaks = later l (named number tei ∷ rest) (goes l m number tei rest s h g walk) other tei-other few on' (named one tei-one ∷ middle) behind e in
       ⊎_elim (λ equal. absurd (apart (sym same ∙ equal)))
       (λ less. absurd (too-near (way (number + 1) other) (way (one + 1) other) (way l.turn other) (ap (λ n. way (n + 1) other) same) less near))
-      (comes-first (link_count c) l.turn s.turn (IsQuiet c l) other number g.passed g.behind few g.place g.quiet speaks)
+      (comes-first (link_count c) l.turn s.turn (IsSilentAt c l) other number g.passed g.behind few g.place g.all_silent speaks)
     where
       too-near : (a b w : ℕ) → a ≡ b → a + 1 ≤ w → w ≤ b → ⊥
       too-near a b w e f g = omega (arith, e, f, g)
@@ -151,7 +151,7 @@ module _ (c : Config) where
       let inner = between-is m rest walk one tei-one other tei-other apart few (on-stays l m h one tei-one on) (on-stays l m h other tei-other on')
       (nearer (way (number + 1) other) (way m.turn other) (way l.turn other) (way (one + 1) other) (ap (λ t. way t other) g.next) less near) between middle behind tail in
       record { front = x ∷ inner.front; back = inner.back; split = ap (λ ys. x ∷ ys) inner.split })
-      (comes-first (link_count c) l.turn s.turn (IsQuiet c l) other number g.passed g.behind few g.place g.quiet speaks)
+      (comes-first (link_count c) l.turn s.turn (IsSilentAt c l) other number g.passed g.behind few g.place g.all_silent speaks)
     where
       some-same : {n k : ℕ} → Some n ≡ Some k → n ≡ k
       some-same both = cc both

@@ -39,17 +39,17 @@ module _ (t : Terms) (l : Link) where
   nothing-given e = holds-nothing l.waiting refl (none-sent t l (Offers.offer_step t (begun l)) (Offers.offer_step t (begun l)).sent e)
 
   -- with nothing to send an offer changes nothing
-  quiet : HasNothingToSend t l → Offers.offer_step t (begun l) ≡ begun l
-  quiet h =
+  silent : HasNothingToSend t l → Offers.offer_step t (begun l) ≡ begun l
+  silent h =
       ap (λ ws. Offers.offer_among t ws (begun l)) h.waiting
       ∙ ap (λ b. cond b (Offers.send_information (begun l)) (cond l.pending (Offers.send_acknowledgement (begun l)) (begun l))) h.information
       ∙ ap (λ b. cond b (Offers.send_acknowledgement (begun l)) (begun l)) h.pending
 
   pub nothing-to_send : HasNothingToSend t l → given t l ≡ None
-  nothing-to_send h = ap (λ c. given_of t l c c.sent) (quiet h)
+  nothing-to_send h = ap (λ c. given_of t l c c.sent) (silent h)
 
-  pub quiet-stays : HasNothingToSend t l → after t offer l ≡ l
-  quiet-stays h = ap (λ c. c.link) (quiet h)
+  pub silent-stays : HasNothingToSend t l → after t offer l ≡ l
+  silent-stays h = ap (λ c. c.link) (silent h)
 
 -- the first goes, the others wait
 first-goes : (t : Terms) (l : Link) (f : ControlFrame) (fs : List ControlFrame) → l.waiting ≡ f ∷ fs → GoesWhole f (given t l)
@@ -97,7 +97,7 @@ falls-once t l = falls t l l.waiting refl (Offers.may_send_information t l) l.pe
 nothing-stays : (t : Terms) (n : ℕ) (l : Link) → HasNothingToSend t l → HasNothingToSend t (after_offers t n l)
 unfolding after_offers
 nothing-stays t zero l h = h
-nothing-stays t (suc n) l h = nothing-stays t n (after t offer l) (subst (HasNothingToSend t) (sym (quiet-stays t l h)) h)
+nothing-stays t (suc n) l h = nothing-stays t n (after t offer l) (subst (HasNothingToSend t) (sym (silent-stays t l h)) h)
 
 pub in-the_end : (t : Terms) (n : ℕ) (l : Link) → turns l ≤ n → HasNothingToSend t (after_offers t n l)
 unfolding after_offers Falls
@@ -105,5 +105,5 @@ in-the_end t zero l h = elim (falls-once t l) [ inl x ↦ absurd (omega (arith, 
 in-the_end t (suc n) l h =
     elim (falls-once t l) [
       | inl x ↦ in-the_end t n (after t offer l) (omega (arith, x, h))
-      | inr x ↦ nothing-stays t n (after t offer l) (subst (HasNothingToSend t) (sym (quiet-stays t l x)) x)
+      | inr x ↦ nothing-stays t n (after t offer l) (subst (HasNothingToSend t) (sym (silent-stays t l x)) x)
     ]

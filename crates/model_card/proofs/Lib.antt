@@ -16,3 +16,4 @@ pub mod Numbering
 pub mod Isolated
 pub mod Linear
 pub mod NeverFull
+pub mod Rooms

@@ -13,7 +13,7 @@ use Rattle.model_line.specs.Event.{Answer, refused}
 use Rattle.model_line.specs.Deliveries as line
 use Rattle.model_line.specs.Line.{Line, fresh_line, link_at, link_count}
 use Rattle.model_line.specs.Machine as lines
-use Rattle.model_line.proofs.Numbered.{Part, quiet, none_at}
+use Rattle.model_line.proofs.Numbered.{Part, brings_none, none_at}
 use Rattle.model_line.proofs.NumberedEvents.{event_parts, slot_brings_nothing}
 use Rattle.model_card.specs.Event.{Event}
 use Rattle.model_card.specs.Card.{Card, fresh, line_at}
@@ -148,11 +148,11 @@ event-seen name card e h here within few =
     by_full : (b : Bool) → (e.line == name.line) ≡ b → lines.takes_slot card.config e.what (line_at e.line card) ≡ true
         → let share = cond b (record { arrived = line.arrived card.config name.number e.what l; delivered = line.delivered name.number l (refused PoolFull) }) no_share in
         Part (received_by name card) share.arrived (received_by name card) share.delivered (b && line.restarts card.config name.number e.what l)
-    by_full false other takes = quiet (received_by name card) (received_by name card) None None false refl refl refl refl
+    by_full false other takes = brings_none (received_by name card) (received_by name card) None None false refl refl refl refl
     by_full true same takes =
         let is : e.line ≡ name.line = eqb-true e.line name.line same in
         let nothing = slot_brings_nothing card.config name.number e.what l (subst (λ n. lines.takes_slot card.config e.what (line_at n card) ≡ true) is takes) in
-        quiet (received_by name card) (received_by name card) (line.arrived card.config name.number e.what l)
+        brings_none (received_by name card) (received_by name card) (line.arrived card.config name.number e.what l)
         (line.delivered name.number l (refused PoolFull)) (line.restarts card.config name.number e.what l) nothing.arrives refl
         (none_at name.number l (refused PoolFull) (λ service tei. refl)) nothing.goes_on
 
@@ -162,7 +162,7 @@ event-seen name card e h here within few =
         (b && line.restarts card.config name.number e.what l)
     by_line false other =
         let apart : name.line ≢ e.line = λ same. true≢false (sym (eq-eqb e.line name.line (sym same)) ∙ other) in
-        quiet (received_by name card) (link_at name.number (get_or next name.line (fresh_line card.config))).r None None false refl
+        brings_none (received_by name card) (link_at name.number (get_or next name.line (fresh_line card.config))).r None None false refl
         (ap (λ (x : Line). (link_at name.number x).r) (get_or-set_other card.lines e.line name.line own (fresh_line card.config) apart)) refl refl
     by_line true same =
         let is : e.line ≡ name.line = eqb-true e.line name.line same in

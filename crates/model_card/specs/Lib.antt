@@ -1,7 +1,7 @@
 -- The machine of a card.
 --
 -- Read in this order: Event, Card, Machine, Run. Stored, Counts, ByEvent, Drops, Numbered, Pulled, Isolation and
--- Sound are the words of the laws, Promises and Laws their statements.
+-- Sound are the words of the laws, Promises and Laws their statements. Room is what a card answers about itself.
 pub mod Event
 pub mod Card
 pub mod Machine
@@ -10,6 +10,7 @@ pub mod Sound
 pub mod Reached
 pub mod Stored
 pub mod Counts
+pub mod Room
 pub mod ByEvent
 pub mod Drops
 pub mod Numbered

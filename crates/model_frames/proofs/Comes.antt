@@ -67,19 +67,19 @@ is_told c o l e is =
 
 -- ---- octets that bring nothing
 
-record AreQuiet (c : Config) (l : Line) (octets : List ℕ) : Type 0 where
+record EndNoFrame (c : Config) (l : Line) (octets : List ℕ) : Type 0 where
   count : ℕ
   answers : answers_to c (map octet octets) l ≡ replicate count (told nothing)
   line : after_events c (map octet octets) l ≡ receiving (l.received ++ octets) l
 
-quiet : (c : Config) (l : Line) (octets : List ℕ) → gained_all c.n201 l.received octets ≡ [] → AreQuiet c l octets
-quiet c l [] none = record { count = 0; answers = refl; line = ap (λ r. receiving r l) (sym (append-nil l.received)) }
-quiet c l (o ∷ octets) none = go (gained c.n201 l.received o) refl none (quiet c (receiving (l.received ++ o ∷ []) l) octets)
+no_frame : (c : Config) (l : Line) (octets : List ℕ) → gained_all c.n201 l.received octets ≡ [] → EndNoFrame c l octets
+no_frame c l [] none = record { count = 0; answers = refl; line = ap (λ r. receiving r l) (sym (append-nil l.received)) }
+no_frame c l (o ∷ octets) none = go (gained c.n201 l.received o) refl none (no_frame c (receiving (l.received ++ o ∷ []) l) octets)
   where
     go : (e : Option stream.Event) → gained c.n201 l.received o ≡ e
         → option_to_list e ++ gained_all c.n201 (l.received ++ o ∷ []) octets ≡ []
-        → (gained_all c.n201 (l.received ++ o ∷ []) octets ≡ [] → AreQuiet c (receiving (l.received ++ o ∷ []) l) octets)
-        → AreQuiet c l (o ∷ octets)
+        → (gained_all c.n201 (l.received ++ o ∷ []) octets ≡ [] → EndNoFrame c (receiving (l.received ++ o ∷ []) l) octets)
+        → EndNoFrame c l (o ∷ octets)
     go (Some x) is none rest = cc
     go None is none rest =
         let here = is_told c o l None is in
@@ -133,7 +133,7 @@ one c l (o ∷ octets) e is = go (gained c.n201 l.received o) refl is (one c (re
         let both = head_is x e (gained_all c.n201 (l.received ++ o ∷ []) octets) is in
         let here = is_told c o l (Some e) (g ∙ ap Some both.0) in
         let next = receiving (l.received ++ o ∷ []) (of_heard c e l).line in
-        let more = quiet c next octets both.1 in
+        let more = no_frame c next octets both.1 in
         record {
           before = 0;
           behind = more.count;

@@ -165,8 +165,8 @@ begin_away all place number away =
 abbrev pub Part : ℕ → Option arrivals.Arrived → ℕ → Option (List ℕ) → Bool → Type 0
 Part r arrived r' delivered restarts = done (counted_on r (delivery r arrived)) (delivery r arrived) r' delivered restarts
 
-pub quiet : (r r' : ℕ) (a : Option arrivals.Arrived) (d : Option (List ℕ)) (z : Bool) → a ≡ None → r' ≡ r → d ≡ None → z ≡ false → Part r a r' d z
-quiet r r' a d z none same nothing_delivered goes_on =
+pub brings_none : (r r' : ℕ) (a : Option arrivals.Arrived) (d : Option (List ℕ)) (z : Bool) → a ≡ None → r' ≡ r → d ≡ None → z ≡ false → Part r a r' d z
+brings_none r r' a d z none same nothing_delivered goes_on =
     subst (λ x. Part r x r' d z) (sym none) (inl (record { number = same; delivered = nothing_delivered; goes_on = goes_on }))
 
 begins_anew : (r r' : ℕ) (a : Option arrivals.Arrived) (d : Option (List ℕ)) (z : Bool) → r' ≡ 0 → d ≡ None → z ≡ true → Part r a r' d z
@@ -221,7 +221,7 @@ module _ (c : Config) (l : Line) (s : IsSound c l) (received : List ℕ) (number
           let apart : number ≢ link_number place service = λ is. true≢false (sym (eq-eqb (link_number place service) number (sym is)) ∙ other) in
           let kept : get_or (set l.links (link_number place service) x) number fresh ≡ link_at number l =
           get_or-set_other l.links (link_number place service) number x fresh apart in
-          quiet (link_at number l).r _ None (delivered number l a) false refl (ap (λ (y : Link). y.r) kept) (by_tei (tei_at (place_at number) l) refl apart) refl
+          brings_none (link_at number l).r _ None (delivered number l a) false refl (ap (λ (y : Link). y.r) kept) (by_tei (tei_at (place_at number) l) refl apart) refl
         where
           by_tei : (o : Option ℕ) → tei_at (place_at number) l ≡ o → number ≢ link_number place service
               → option_map_or (delivered_at (service_at number) a) o None ≡ None
@@ -244,23 +244,23 @@ module _ (c : Config) (l : Line) (s : IsSound c l) (received : List ℕ) (number
   place_parts place r within none false away =
       let apart : place_at number ≢ place = λ is. true≢false (sym (eq-eqb place (place_at number) (sym is)) ∙ away) in
       let all = set (set l.links (link_number place Call) fresh) (link_number place Packet) fresh in
-      quiet (link_at number l).r (get_or all number fresh).r None (delivered number l (told r)) false refl
+      brings_none (link_at number l).r (get_or all number fresh).r None (delivered number l (told r)) false refl
       (ap (λ (y : Link). y.r) (begin_away l.links place number apart)) (none_at number l (told r) (λ service tei. none_in service tei r none)) refl
 
   change_parts : (o : Option Change) (r : LineTold) (new : Places) (m : Management) → r.contents ≡ None → Moves l.management.places o new
       → let of = of_change c o r (record now { management = m }) in
       Part (link_at number l).r None (link_at number of.line).r (delivered number l (told of.told)) (is_change_at (place_at number) o)
   change_parts None r new m none moves =
-      quiet (link_at number l).r (link_at number l).r None (delivered number l (told r)) false refl refl
+      brings_none (link_at number l).r (link_at number l).r None (delivered number l (told r)) false refl refl
       (none_at number l (told r) (λ service tei. none_in service tei r none)) refl
   change_parts (Some (Gained tei place)) r new m none moves = place_parts place r moves.within none (place == place_at number) refl
   change_parts (Some (Left tei place)) r new m none moves =
       place_parts place (of_change c (Some (Left tei place)) r (record now { management = m })).told moves.within none (place == place_at number) refl
 
   pub aim_parts : (aim : Aim) → IsProper c l aim → HasNoContents aim → Parts aim
-  aim_parts (at_none t) proper none = quiet _ _ _ _ _ refl refl (none_at number l (told t) (λ service tei. none_in service tei t none)) refl
+  aim_parts (at_none t) proper none = brings_none _ _ _ _ _ refl refl (none_at number l (told t) (λ service tei. none_in service tei t none)) refl
   aim_parts (at_link service tei place e) proper none = at_its_link service tei place e proper
   aim_parts (at_management e) proper none =
       change_parts (teis.told e l.management).change (told_of_management (teis.told e l.management)) (teis.after e l.management).places
       (teis.after e l.management) refl (tei_laws.changes_are_told e l.management proper s.management)
-  aim_parts (at_units unit) proper none = quiet _ _ _ _ _ refl refl (none_at number l (told nothing) (λ service tei. none_in service tei nothing refl)) refl
+  aim_parts (at_units unit) proper none = brings_none _ _ _ _ _ refl refl (none_at number l (told nothing) (λ service tei. none_in service tei nothing refl)) refl

@@ -25,7 +25,7 @@ use Rattle.model_line.specs.Refusal.{refusal}
 use Rattle.model_line.specs.Request.{Request, Establish, Release, Data, Unit, Assign, Remove, Check, SetBusy, ClearBusy}
 use Rattle.model_line.specs.Requested.{aim_of_request, at_requested, carries_contents}
 use Rattle.model_line.specs.Sound.{IsSound}
-use Rattle.model_line.proofs.Numbered.{Part, quiet, none_at, HasNoContents, aim_parts}
+use Rattle.model_line.proofs.Numbered.{Part, brings_none, none_at, HasNoContents, aim_parts}
 use Rattle.model_line.proofs.AimsSound.{IsProper}
 use Rattle.model_line.proofs.ProperAims.{heard_aims, octet_proper, expiry_proper, request_proper}
 
@@ -122,9 +122,9 @@ event_parts c (request r) l number s few = go (refusal c false r l) (request_pro
         (delivered number l (unless_refused_told o (of_aim c (unless_refused o (aim_of_request r l)) l)))
         (restarts_aimed c number l (unless_refused o (aim_of_request r l)))
     go None proper = aim_parts c l s l.received number few (aim_of_request r l) proper (request_none l r)
-    go (Some why) proper = quiet _ _ _ _ _ refl refl (none_at number l (refused why) (λ service tei. refl)) refl
+    go (Some why) proper = brings_none _ _ _ _ _ refl refl (none_at number l (refused why) (λ service tei. refl)) refl
 event_parts c pull l number s few =
-    quiet _ _ _ _ _ refl (pull_keeps c l number) (none_at number l (answer_to_pull c l) (λ service tei. refl)) refl
+    brings_none _ _ _ _ _ refl (pull_keeps c l number) (none_at number l (answer_to_pull c l) (λ service tei. refl)) refl
 
 -- Contents that find no slot bring no frame and begin no numbers anew.
 pub record BringsNothing (c : Config) (number : ℕ) (e : Event) (l : Line) : Type 0 where
@@ -140,17 +140,17 @@ neither true x y e = e
 neither false x y e = refl
 
 module _ (c : Config) (number : ℕ) (l : Line) where
-  abbrev Quiet : Aim → Type 0
-  Quiet aim = (arrived_aimed c number l aim ≡ None) × (restarts_aimed c number l aim ≡ false)
+  abbrev BringsNone : Aim → Type 0
+  BringsNone aim = (arrived_aimed c number l aim ≡ None) × (restarts_aimed c number l aim ≡ false)
 
-  at_transfer : (service : Service) (tei : ℕ) (contents : List ℕ) (o : Option ℕ) → Quiet (at_requested service tei (link.Data contents) o)
+  at_transfer : (service : Service) (tei : ℕ) (contents : List ℕ) (o : Option ℕ) → BringsNone (at_requested service tei (link.Data contents) o)
   at_transfer service tei contents None = (refl, refl)
   at_transfer service tei contents (Some place) = (
     neither (link_number place service == number) None None refl,
     neither (link_number place service == number) _ false (transfer-goes-on (terms c service tei) contents false (link_in l service place)),
   )
 
-  carrying : (r : Request) → carries_contents r ≡ true → Quiet (aim_of_request r l)
+  carrying : (r : Request) → carries_contents r ≡ true → BringsNone (aim_of_request r l)
   carrying (Establish service tei) e = cc
   carrying (Release service tei) e = cc
   carrying (Data service tei contents) e = at_transfer service tei contents (place_in l tei)
@@ -161,7 +161,7 @@ module _ (c : Config) (number : ℕ) (l : Line) where
   carrying (SetBusy service tei) e = cc
   carrying (ClearBusy service tei) e = cc
 
-  unless : (o : Option Refusal) (aim : Aim) → Quiet aim → Quiet (unless_refused o aim)
+  unless : (o : Option Refusal) (aim : Aim) → BringsNone aim → BringsNone (unless_refused o aim)
   unless None aim q = q
   unless (Some why) aim q = (refl, refl)
 

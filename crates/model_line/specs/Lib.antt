@@ -1,8 +1,8 @@
 -- The machine of a line, and worked values of it.
 --
 -- Read in this order: Config, Event, Request; Line; Effect, whom an event concerns and what comes of it; Octet,
--- Expiry, Refusal, Requested, Pull; Machine. Stored, Counts, Deliveries, Sound and Turns are the words of the laws,
--- whose sentences stand in `src/laws.rt`.
+-- Expiry, Refusal, Requested, Pull; Machine. Room is what a line answers about itself. Stored, Counts, Deliveries,
+-- Sound and Turns are the words of the laws, whose sentences stand in `src/laws.rt`.
 pub mod Config
 pub mod Request
 pub mod Event
@@ -11,6 +11,7 @@ pub mod Effect
 pub mod Octet
 pub mod Expiry
 pub mod Refusal
+pub mod Room
 pub mod Requested
 pub mod Pull
 pub mod Machine

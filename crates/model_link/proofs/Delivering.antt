@@ -102,8 +102,8 @@ not-over true n m e = false_from_ne_true (nat_le m n) (λ h. let one : n < m = l
 not-over false n m e = true_from_ne_false (nat_le m n) (λ h. let one : m ≤ n = ltb-false n m e in let two : n < m = leb-false m n h in absurd (omega arith))
 
 module _ (t : Terms) (l : Link) where
-  quiet : {f : Step} → Leads (On (counted l.r None)) f (On (done l.r None)) → On (done l.r None) (f (begun l))
-  quiet x = x.leads (begun l) (begins t l)
+  delivers-none : {f : Step} → Leads (On (counted l.r None)) f (On (done l.r None)) → On (done l.r None) (f (begun l))
+  delivers-none x = x.leads (begun l) (begins t l)
 
   -- an I-frame in state 7 or 8
   numbered-frame : (ns nr : Seq) (p : Bool) (octets : List ℕ) (f : ℕ → Step) → ((Q : Count) (m : ℕ) → Leads (On Q) (f m) (On Q))
@@ -134,19 +134,19 @@ module _ (t : Terms) (l : Link) where
   unserved : (o : Option Arrived) {f : Step} → is_multiple_frame l.state ≡ false → Leads (On (counted l.r None)) f (On (done l.r None)) → In o (f (begun l))
   unfolding In
   unserved o {f} e x =
-      subst (λ y. On (done (counted_on l.r (delivery l.r y)) (delivery l.r y)) (f (begun l))) (sym (none-eligible o e)) (quiet x)
+      subst (λ y. On (done (counted_on l.r (delivery l.r y)) (delivery l.r y)) (f (begun l))) (sym (none-eligible o e)) (delivers-none x)
 
   frames-7 : l.state ≡ Established → (b : Bool) (octets : List ℕ) (control : Control) → In (information_of control octets) (Machine.frame_in Established t b octets control (begun l))
   unfolding In
   frames-7 e b octets (Information ns nr p) =
       numbered-frame ns nr p octets Established.acknowledged_by_information_in_7 (λ Q m. search words) (ap is_multiple_frame e)
-  frames-7 e b octets other = quiet (frames_in_7 t l.r b octets other refl)
+  frames-7 e b octets other = delivers-none (frames_in_7 t l.r b octets other refl)
 
   frames-8 : l.state ≡ TimerRecovery → (b : Bool) (octets : List ℕ) (control : Control) → In (information_of control octets) (Machine.frame_in TimerRecovery t b octets control (begun l))
   unfolding In
   frames-8 e b octets (Information ns nr p) =
       numbered-frame ns nr p octets Words.acknowledge (λ Q m. search words) (ap is_multiple_frame e)
-  frames-8 e b octets other = quiet (frames_in_8 t l.r b octets other refl)
+  frames-8 e b octets other = delivers-none (frames_in_8 t l.r b octets other refl)
 
   by-state : (here : State) → l.state ≡ here → (b : Bool) (octets : List ℕ) (control : Control) → In (information_of control octets) (Machine.frame_in here t b octets control (begun l))
   by-state TeiAssigned e b octets control = unserved (information_of control octets) (ap is_multiple_frame e) (frames_in_4 t l.r octets control)
@@ -178,11 +178,11 @@ module _ (t : Terms) (l : Link) where
   either false u v x y = y
 
   granted-counts : (request : Events.Request) → On (done l.r None) (Requests.granted t request (begun l))
-  granted-counts Events.Establish = quiet (establish_counts t l.r)
-  granted-counts Events.Release = quiet (release_counts t l.r l.state)
+  granted-counts Events.Establish = delivers-none (establish_counts t l.r)
+  granted-counts Events.Release = delivers-none (release_counts t l.r l.state)
   granted-counts (Events.Data octets) = inl (begins t l)
-  granted-counts Events.SetBusy = quiet (set_busy_counts t l.r)
-  granted-counts Events.ClearBusy = quiet (clear_busy_counts t l.r)
+  granted-counts Events.SetBusy = delivers-none (set_busy_counts t l.r)
+  granted-counts Events.ClearBusy = delivers-none (clear_busy_counts t l.r)
 
   request-counts : (request : Events.Request) (o : Option Refusal)
       → On (done l.r None) (elim o [ None ↦ Requests.granted t request (begun l) | Some _ ↦ begun l ])
@@ -207,10 +207,10 @@ module _ (t : Terms) (l : Link) where
       → On (done (counted_on l.r (delivery l.r (eligible t e l))) (delivery l.r (eligible t e l))) (Machine.course t e l)
   unfolding In
   event-delivers (Events.received (Events.frame f)) = frames f.address.command f.info f.control
-  event-delivers (Events.received Events.undefined) = quiet (malformed_counts t l.r code.L l.state)
-  event-delivers (Events.received Events.wrong_size) = quiet (malformed_counts t l.r code.N l.state)
-  event-delivers (Events.received Events.overlong) = quiet (malformed_counts t l.r code.O l.state)
-  event-delivers (Events.expired timer) = either (Machine.is_running timer l) _ _ (quiet (expired-counts timer l.state)) (inl (begins t l))
+  event-delivers (Events.received Events.undefined) = delivers-none (malformed_counts t l.r code.L l.state)
+  event-delivers (Events.received Events.wrong_size) = delivers-none (malformed_counts t l.r code.N l.state)
+  event-delivers (Events.received Events.overlong) = delivers-none (malformed_counts t l.r code.O l.state)
+  event-delivers (Events.expired timer) = either (Machine.is_running timer l) _ _ (delivers-none (expired-counts timer l.state)) (inl (begins t l))
   event-delivers (Events.requested request full) = request-counts request (Requests.refusal t l full request)
   event-delivers Events.offer = offer-counts l.waiting
   event-delivers Events.cleared = cleared-counts l.state

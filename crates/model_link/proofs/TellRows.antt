@@ -27,7 +27,7 @@ use Rattle.lapd_frame.specs.declared.timers.Order.TheVariants.{Start, Stop}
 use Rattle.model_link.specs.Notes.{is_data, is_unit}
 use Rattle.model_link.specs.Told.{runs, timer_at, order_for, orders_for, starts}
 use Rattle.model_link.proofs.Leads.{Leads}
-use Rattle.model_link.proofs.Telling.{Purse, no_more, another, how_many, Telling, HasTold, Told, untold, note_tells, words}
+use Rattle.model_link.proofs.Telling.{Purse, no_more, another, how_many, Telling, HasTold, ToldWithin, untold, note_tells, words}
 use Rattle.model_link.proofs.Kept.{Fits}
 use Rattle.model_link.proofs.Rows.{row_in_7, row_in_8, frame_row, malformed_row, expired_row, granted_row, event_row}
 
@@ -87,7 +87,7 @@ module _ (t : Terms) where
   TellsOf : Course → Type 0
   TellsOf c = (length c.notes ≤ 2) × (list_any is_data c.notes ≡ is_some c.delivered) × ((c.delivered ≡ None) ⊎ (c.unit ≡ None)) × (list_any is_unit c.notes ≡ is_some c.unit)
 
-  from-told : {ns : List Note} {d u : Option (List ℕ)} → Told 2 ns d u
+  from-told : {ns : List Note} {d u : Option (List ℕ)} → ToldWithin 2 ns d u
       → (length ns ≤ 2) × (list_any is_data ns ≡ is_some d) × ((d ≡ None) ⊎ (u ≡ None)) × (list_any is_unit ns ≡ is_some u)
   from-told h = (h.count, h.data_told, inr h.no_unit, h.no_note ∙ sym (ap is_some h.no_unit))
 

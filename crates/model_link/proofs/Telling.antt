@@ -23,14 +23,14 @@ abbrev pub Telling : ℕ → Purse → Course → Type 0
 Telling total p c = Tells total p c.notes c.delivered c.unit
 
 -- What is wanted in the end.
-pub record Told (total : ℕ) (notes : List Note) (delivered unit : Option (List ℕ)) : Type 0 where
+pub record ToldWithin (total : ℕ) (notes : List Note) (delivered unit : Option (List ℕ)) : Type 0 where
   pub count : length notes ≤ total
   pub data_told : list_any is_data notes ≡ is_some delivered
   pub no_unit : unit ≡ None
   pub no_note : list_any is_unit notes ≡ false
 
 abbrev pub HasTold : ℕ → Course → Type 0
-HasTold total c = Told total c.notes c.delivered c.unit
+HasTold total c = ToldWithin total c.notes c.delivered c.unit
 
 module _ (total : ℕ) (p : Purse) where
   -- a note that is not of data, and one that is
@@ -77,7 +77,7 @@ module _ (total : ℕ) where
       let more : length ns + (1 + how_many p) ≤ total = h.count in
       record { count = omega arith; data_told = h.data_told; no_unit = h.no_unit; no_note = h.no_note }
 
-  pub enough : (p : Purse) (ns : List Note) (d u : Option (List ℕ)) → Tells total p ns d u → Told total ns d u
+  pub enough : (p : Purse) (ns : List Note) (d u : Option (List ℕ)) → Tells total p ns d u → ToldWithin total ns d u
   enough p ns d u h = record { count = omega (arith, h.count); data_told = h.data_told; no_unit = h.no_unit; no_note = h.no_note }
 
 -- Every word but those of UI tells at most one note.

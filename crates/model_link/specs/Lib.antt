@@ -2,9 +2,10 @@
 --
 -- Read beside docs/MACHINE.md, in this order: Link, Events, Told; Steps and Words, of which rows are made (a test or
 -- an N(R) in the middle of a row is read at that moment); the states, one equation a row: TeiAssigned,
--- AwaitingEstablishment, AwaitingRelease, MultipleFrame, Established, TimerRecovery; Requests and Offers; Machine. A
--- link keeps all contents since its numbers were zero, and plain numbers that never wrap. Sound, Notes, Rises,
--- Timed, Known, Deliveries, Numbered and TwoEnds are the words of the laws.
+-- AwaitingEstablishment, AwaitingRelease, MultipleFrame, Established, TimerRecovery; Requests and Offers; Machine; and
+-- Room, which tells what a request for data will be refused for. A link keeps all contents since its numbers were
+-- zero, and plain numbers that never wrap. Sound, Notes, Rises, Timed, Known, Deliveries, Numbered and TwoEnds are the
+-- words of the laws.
 pub mod Link
 pub mod Events
 pub mod Told
@@ -19,6 +20,7 @@ pub mod TimerRecovery
 pub mod Requests
 pub mod Offers
 pub mod Machine
+pub mod Room
 pub mod Sound
 pub mod Rises
 pub mod Timed
@@ -32,3 +34,4 @@ pub mod WorkedRelease
 pub mod WorkedTransfer
 pub mod WorkedRuns
 pub mod WorkedEnds
+pub mod WorkedRoom

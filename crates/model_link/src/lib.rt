@@ -15,6 +15,7 @@
 //! - `timers`: `LinkTimer`, T200 and T203.
 //! - `frames`: `ControlFrame`, a frame without information that waits to be sent.
 //! - `terms`: `Terms`, the parameters of a link.
+//! - `rooms`: `Room`, how much room a link has.
 //!
 //! - `laws`: what holds of the machine itself.
 //!
@@ -25,6 +26,7 @@
 
 mod frames;
 mod laws;
+mod rooms;
 mod states;
 mod terms;
 mod timers;
@@ -34,6 +36,7 @@ pub use laws::{
     keeps_its_timers, layer_3_knows, numbered, rises, stays_sound, tells_little, two_ends,
     unserved_stays,
 };
+pub use rooms::Room;
 pub use states::State;
 pub use terms::Terms;
 pub use timers::LinkTimer;

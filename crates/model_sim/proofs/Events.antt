@@ -320,8 +320,8 @@ lines_run (piece ∷ pieces) p last e there = go (λ f. lines_run pieces (one_mo
     next : Played
     next = one_more p piece
 
-    quiet : events_from next pieces ≡ events_from p (piece ∷ pieces)
-    quiet = sym (ap (λ events. events ++ events_from next pieces) (nothing_brought piece p e))
+    no_more_events : events_from next pieces ≡ events_from p (piece ∷ pieces)
+    no_more_events = sym (ap (λ events. events ++ events_from next pieces) (nothing_brought piece p e))
 
     after_line : Option Config → Option Config
     after_line o = elim o [ None ↦ first_card pieces | Some c ↦ Some c ]
@@ -333,8 +333,8 @@ lines_run (piece ∷ pieces) p last e there = go (λ f. lines_run pieces (one_mo
           config = ran.config;
           begun = ap after_line no_card ∙ ran.begun;
           in_range = ran.in_range;
-          at_lines = subst (AreAtLines (fresh ran.config)) quiet ran.at_lines;
-          card = ran.card ∙ ap (λ events. after_all (fresh ran.config) events) quiet;
+          at_lines = subst (AreAtLines (fresh ran.config)) no_more_events ran.at_lines;
+          card = ran.card ∙ ap (λ events. after_all (fresh ran.config) events) no_more_events;
           kept = ran.kept;
         }
     go later (stops none fault f) = absurd (none-some last (sym none ∙ sym (stopped pieces next fault f) ∙ there))
@@ -345,8 +345,8 @@ lines_run (piece ∷ pieces) p last e there = go (λ f. lines_run pieces (one_mo
           config = c;
           begun = ap after_line is_card;
           in_range = ranged;
-          at_lines = subst (AreAtLines (fresh c)) quiet kept.1;
-          card = led.card ∙ ap (λ events. after_all (fresh c) events) quiet;
+          at_lines = subst (AreAtLines (fresh c)) no_more_events kept.1;
+          card = led.card ∙ ap (λ events. after_all (fresh c) events) no_more_events;
           kept = kept.0;
         }
 

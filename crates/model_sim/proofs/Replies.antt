@@ -197,13 +197,13 @@ moments_run [] p last c e there is_card = absurd (none-some last (sym e ∙ ther
 moments_run (piece ∷ pieces) p last c e there is_card =
     ap (λ events. moments (fresh c) (events ++ events_from next pieces)) (nothing_brought piece p e)
     ∙ go (λ f later. moments_run pieces next last c f there later) (one_begins piece p e)
-    ∙ ap (λ ms. ms ++ moments_from next pieces) (sym quiet)
+    ∙ ap (λ ms. ms ++ moments_from next pieces) (sym says_nothing)
   where
     next : Played
     next = one_more p piece
 
-    quiet : line_moments piece p ≡ []
-    quiet = ap (λ o. unless_fault next.fault (read_moments (read (line_in piece)) o)) e ∙ nothing_met next.fault (read (line_in piece))
+    says_nothing : line_moments piece p ≡ []
+    says_nothing = ap (λ o. unless_fault next.fault (read_moments (read (line_in piece)) o)) e ∙ nothing_met next.fault (read (line_in piece))
 
     after_line : Option Config → Option Config
     after_line o = elim o [ None ↦ first_card pieces | Some d ↦ Some d ]

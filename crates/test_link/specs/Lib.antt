@@ -1,2 +1,2 @@
--- What a link on its bench is.
+-- What a link with its shelf is.
 pub mod Works

@@ -1,15 +1,15 @@
 //! Tests of data links over a shelf; there is nothing to call but what the tests stand on.
 //!
-//! - `bench`: a link with its shelf.
+//! - `shelved_link`: a link with its shelf.
 //! - `starts`: a link at each end of each range of its start.
 //! - `life`: each call of a link once, from the establishment to the end of its TEI.
 //! - `refusals`: each refusal once, with the link and the shelf as before.
 //! - `recovery`: an I-frame that is lost between two links comes again after REJ.
 #![tactic(auto)]
 
-mod bench;
+mod shelved_link;
 
-pub use bench::{Bench, Seen};
+pub use shelved_link::{Seen, ShelvedLink};
 
 #[cfg(test)]
 mod life;

@@ -2,16 +2,16 @@
 
 ghost use Rattle.test_link.specs.Works.{Works};
 
-use crate::bench::Bench;
+use crate::shelved_link::ShelvedLink;
 use lapd_frame::{Control, ErrorCode, Note, Order, Service, ShortList, Timer};
 use lapd_link::{LinkRequest, LinkTimer, StartFault};
 use lapd_seq::Seq;
 
-fn control_of(bench: &mut Bench) -> Option<Control>
-    requires { Works 2 bench.old }
-    ensures { Works 2 bench.new }
+fn control_of(shelved: &mut ShelvedLink) -> Option<Control>
+    requires { Works 2 shelved.old }
+    ensures { Works 2 shelved.new }
 {
-    match bench.offer(2) {
+    match shelved.offer(2) {
         Some(offer) => Some(offer.frame.control),
         None => None,
     }
@@ -19,39 +19,39 @@ fn control_of(bench: &mut Bench) -> Option<Control>
 
 #[test]
 fn a_link_is_established_and_cleared(rt: HostRuntime) -> Result<(), StartFault> {
-    let mut bench = Bench::start(rt.alloc(), 2, 2)?;
-    assert!(rt; bench.link.state() == 4);
-    assert!(rt; bench.ask(2, LinkRequest::Establish).is_ok());
-    assert!(rt; control_of(&mut bench) == Some(Control::Sabme { pf: true }));
-    let accepted = bench.hear(2, false, Control::Ua { pf: true }, &[]);
+    let mut shelved = ShelvedLink::start(rt.alloc(), 2, 2)?;
+    assert!(rt; shelved.link.state() == 4);
+    assert!(rt; shelved.ask(2, LinkRequest::Establish).is_ok());
+    assert!(rt; control_of(&mut shelved) == Some(Control::Sabme { pf: true }));
+    let accepted = shelved.hear(2, false, Control::Ua { pf: true }, &[]);
     assert!(rt; accepted.notes == ShortList::one(Note::EstablishConfirm(Service::Call, 64)));
     assert!(rt; accepted.orders.len() == 2);
-    assert!(rt; bench.link.state() == 7);
-    assert!(rt; bench.ask(2, LinkRequest::Data(&[5])).is_ok());
-    assert!(rt; bench.offer(2).is_some());
-    let asked = bench.expire(2, LinkTimer::T200);
+    assert!(rt; shelved.link.state() == 7);
+    assert!(rt; shelved.ask(2, LinkRequest::Data(&[5])).is_ok());
+    assert!(rt; shelved.offer(2).is_some());
+    let asked = shelved.expire(2, LinkTimer::T200);
     assert!(rt; asked.orders == ShortList::one(Order::Start(Timer::T200(Service::Call, 64))));
-    let seen = bench.seen(2);
+    let seen = shelved.seen(2);
     assert!(rt; seen.held == 4 && seen.octets == 1);
-    let gone = bench.clear(2);
+    let gone = shelved.clear(2);
     assert!(rt; gone.notes == ShortList::one(Note::ReleaseIndication(Service::Call, 64)));
-    let seen = bench.seen(2);
+    let seen = shelved.seen(2);
     assert!(rt; seen.state == 4 && seen.held == 0 && seen.octets == 0);
     Ok(())
 }
 
 #[test]
 fn what_is_delivered_is_lent(rt: HostRuntime) -> Result<(), StartFault> {
-    let mut bench = Bench::start(rt.alloc(), 2, 2)?;
-    let heard = bench.listen(2, true, Control::Ui { pf: false }, &[6, 7]);
+    let mut shelved = ShelvedLink::start(rt.alloc(), 2, 2)?;
+    let heard = shelved.listen(2, true, Control::Ui { pf: false }, &[6, 7]);
     assert!(rt; heard.unit == Some([6, 7].as_slice()) && heard.delivered.is_none());
-    let _ = bench.hear(2, true, Control::Sabme { pf: true }, &[]);
+    let _ = shelved.hear(2, true, Control::Sabme { pf: true }, &[]);
     let control = Control::Information {
         ns: Seq::new(0),
         nr: Seq::new(0),
         pf: false,
     };
-    let heard = bench.listen(2, true, control, &[8, 9]);
+    let heard = shelved.listen(2, true, control, &[8, 9]);
     assert!(rt; heard.delivered == Some([8, 9].as_slice()) && heard.unit.is_none());
     Ok(())
 }

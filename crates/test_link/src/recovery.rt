@@ -2,7 +2,7 @@
 
 ghost use Rattle.test_link.specs.Works.{Works};
 
-use crate::bench::Bench;
+use crate::shelved_link::ShelvedLink;
 use lapd_frame::Control;
 use lapd_link::{LinkRequest, StartFault};
 use lapd_seq::Seq;
@@ -10,7 +10,7 @@ use lapd_store::Shelf;
 
 // Hands the next I-frame of one link to the other, with its contents as they lie on the shelf. Answers whether the
 // other delivered just this octet, or nothing where none is expected.
-fn pass(from: &mut Bench, to: &mut Bench, expected: Option<u8>) -> bool
+fn pass(from: &mut ShelvedLink, to: &mut ShelvedLink, expected: Option<u8>) -> bool
     requires near { Works 8 from.old }
     requires far { Works 8 to.old }
     ensures near { Works 8 from.new }
@@ -30,7 +30,12 @@ fn pass(from: &mut Bench, to: &mut Bench, expected: Option<u8>) -> bool
     }
 }
 
-fn pass_two(from: &mut Bench, to: &mut Bench, first: Option<u8>, second: Option<u8>) -> bool
+fn pass_two(
+    from: &mut ShelvedLink,
+    to: &mut ShelvedLink,
+    first: Option<u8>,
+    second: Option<u8>,
+) -> bool
     requires near { Works 8 from.old }
     requires far { Works 8 to.old }
     ensures near { Works 8 from.new }
@@ -41,37 +46,37 @@ fn pass_two(from: &mut Bench, to: &mut Bench, first: Option<u8>, second: Option<
     is_first && is_second
 }
 
-fn give_seven(bench: &mut Bench) -> bool
-    requires { Works 8 bench.old }
-    ensures { Works 8 bench.new }
+fn give_seven(shelved: &mut ShelvedLink) -> bool
+    requires { Works 8 shelved.old }
+    ensures { Works 8 shelved.new }
 {
-    let a = give_three(bench, 1, 2, 3);
-    let b = give_three(bench, 4, 5, 6);
-    a && b && bench.ask(8, LinkRequest::Data(&[7])).is_ok()
+    let a = give_three(shelved, 1, 2, 3);
+    let b = give_three(shelved, 4, 5, 6);
+    a && b && shelved.ask(8, LinkRequest::Data(&[7])).is_ok()
 }
 
-fn give_three(bench: &mut Bench, first: u8, second: u8, third: u8) -> bool
-    requires { Works 8 bench.old }
-    ensures { Works 8 bench.new }
+fn give_three(shelved: &mut ShelvedLink, first: u8, second: u8, third: u8) -> bool
+    requires { Works 8 shelved.old }
+    ensures { Works 8 shelved.new }
 {
-    let a = bench.ask(8, LinkRequest::Data(&[first])).is_ok();
-    let b = bench.ask(8, LinkRequest::Data(&[second])).is_ok();
-    a && b && bench.ask(8, LinkRequest::Data(&[third])).is_ok()
+    let a = shelved.ask(8, LinkRequest::Data(&[first])).is_ok();
+    let b = shelved.ask(8, LinkRequest::Data(&[second])).is_ok();
+    a && b && shelved.ask(8, LinkRequest::Data(&[third])).is_ok()
 }
 
 // A link in state 7 with nothing waiting.
-fn up(bench: &mut Bench) -> bool
-    requires { Works 8 bench.old }
-    ensures { Works 8 bench.new }
+fn up(shelved: &mut ShelvedLink) -> bool
+    requires { Works 8 shelved.old }
+    ensures { Works 8 shelved.new }
 {
-    let _ = bench.hear(8, true, Control::Sabme { pf: true }, &[]);
-    bench.offer(8).is_some()
+    let _ = shelved.hear(8, true, Control::Sabme { pf: true }, &[]);
+    shelved.offer(8).is_some()
 }
 
 #[test]
 fn the_third_of_seven_is_lost(rt: HostRuntime) -> Result<(), StartFault> {
-    let mut near = Bench::start(rt.alloc(), 7, 8)?;
-    let mut far = Bench::start(rt.alloc(), 7, 8)?;
+    let mut near = ShelvedLink::start(rt.alloc(), 7, 8)?;
+    let mut far = ShelvedLink::start(rt.alloc(), 7, 8)?;
     assert!(rt; up(&mut near));
     assert!(rt; up(&mut far));
     assert!(rt; give_seven(&mut near));

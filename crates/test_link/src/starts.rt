@@ -3,7 +3,7 @@
 ghost use Rattle.std.specs.Prelude.{◌≤◌};
 ghost use Rattle.test_link.specs.Works.{Works};
 
-use crate::bench::Bench;
+use crate::shelved_link::ShelvedLink;
 use lapd_frame::{Control, Refusal};
 use lapd_link::{LinkRequest, StartFault};
 use std::alloc::Global;
@@ -13,44 +13,48 @@ use std::test::Fail;
 const MOST: u32 = 127;
 
 // Hears DISC so often. Each is answered by a DM of three octets, which waits.
-fn disconnect(bench: &mut Bench, times: u8)
-    requires { Works MOST bench.old }
-    ensures { Works MOST bench.new }
+fn disconnect(shelved: &mut ShelvedLink, times: u8)
+    requires { Works MOST shelved.old }
+    ensures { Works MOST shelved.new }
 {
     for _ in 0..times {
-        let _ = bench.hear(MOST, true, Control::Disc { pf: true }, &[]);
+        let _ = shelved.hear(MOST, true, Control::Disc { pf: true }, &[]);
     }
 }
 
 // Gives so many contents.
-fn give(bench: &mut Bench, times: u8)
-    requires { Works MOST bench.old }
-    ensures { Works MOST bench.new }
+fn give(shelved: &mut ShelvedLink, times: u8)
+    requires { Works MOST shelved.old }
+    ensures { Works MOST shelved.new }
 {
     for _ in 0..times {
-        let _ = bench.ask(MOST, LinkRequest::Data(&[7]));
+        let _ = shelved.ask(MOST, LinkRequest::Data(&[7]));
     }
 }
 
 // Whether `control` frames wait, and one more is lost.
-fn waits(bench: &mut Bench, control: u8) -> bool
-    requires { Works MOST bench.old }
-    ensures { Works MOST bench.new }
+fn waits(shelved: &mut ShelvedLink, control: u8) -> bool
+    requires { Works MOST shelved.old }
+    ensures { Works MOST shelved.new }
 {
-    disconnect(bench, control);
-    let all_wait = bench.seen(MOST).held == 3 * u32::from(control);
-    all_wait && bench.hear(MOST, true, Control::Disc { pf: true }, &[]).lost == 1
+    disconnect(shelved, control);
+    let all_wait = shelved.seen(MOST).held == 3 * u32::from(control);
+    all_wait
+        && shelved
+            .hear(MOST, true, Control::Disc { pf: true }, &[])
+            .lost
+            == 1
 }
 
 // Whether `queue` contents are kept, and one more is refused.
-fn keeps(bench: &mut Bench, queue: u8) -> bool
-    requires { Works MOST bench.old }
-    ensures { Works MOST bench.new }
+fn keeps(shelved: &mut ShelvedLink, queue: u8) -> bool
+    requires { Works MOST shelved.old }
+    ensures { Works MOST shelved.new }
 {
-    let _ = bench.hear(MOST, true, Control::Sabme { pf: true }, &[]);
-    give(bench, queue);
-    let all_kept = bench.seen(MOST).used == u32::from(queue);
-    all_kept && bench.ask(MOST, LinkRequest::Data(&[7])).err() == Some(Refusal::QueueFull)
+    let _ = shelved.hear(MOST, true, Control::Sabme { pf: true }, &[]);
+    give(shelved, queue);
+    let all_kept = shelved.seen(MOST).used == u32::from(queue);
+    all_kept && shelved.ask(MOST, LinkRequest::Data(&[7])).err() == Some(Refusal::QueueFull)
 }
 
 fn has_room(alloc: Global, queue: u8, control: u8) -> Result<bool, StartFault>
@@ -59,8 +63,8 @@ fn has_room(alloc: Global, queue: u8, control: u8) -> Result<bool, StartFault>
     requires control_low { 2 ≤ control }
     requires control_high { control ≤ 16 }
 {
-    let mut bench = Bench::with_room(alloc, queue, control, MOST)?;
-    Ok(waits(&mut bench, control) && keeps(&mut bench, queue))
+    let mut shelved = ShelvedLink::with_room(alloc, queue, control, MOST)?;
+    Ok(waits(&mut shelved, control) && keeps(&mut shelved, queue))
 }
 
 #[test]

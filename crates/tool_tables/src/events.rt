@@ -5,7 +5,7 @@ ghost use Rattle.test_link.specs.Works.{Works};
 use lapd_frame::{Control, Refusal};
 use lapd_link::{Answer, LinkRequest, LinkTimer, Offer, Received};
 use lapd_seq::Seq;
-use test_link::Bench;
+use test_link::ShelvedLink;
 
 /// As many slots as the shelf of a link has.
 pub const SLOTS: u32 = 2;
@@ -110,17 +110,26 @@ impl Event {
 }
 
 /// Leads a link to a state, and plays one event there.
-pub fn lead(bench: &mut Bench, case: Case, event: Event) -> Led
-    requires { Works 2 bench.old }
-    ensures { Works 2 bench.new }
+pub fn lead(shelved: &mut ShelvedLink, case: Case, event: Event) -> Led
+    requires { Works 2 shelved.old }
+    ensures { Works 2 shelved.new }
 {
+<<<<<<< HEAD
     prepare(bench, case.events);
     hold(bench, case.held);
-    let before = bench.link.state();
+    let before = shelved.link.state();
     let answer = give(bench, event);
     skip(bench, case.held.len());
     let sent = send(bench);
-    let after = bench.link.state();
+    let after = shelved.link.state();
+=======
+    prepare(shelved, case.events);
+    hold(shelved, case.held);
+    let state = shelved.link.state();
+    let answer = give(shelved, event);
+    skip(shelved, case.held.len());
+    let sent = send(shelved);
+>>>>>>> origin/main
     Led {
         before,
         after,
@@ -130,74 +139,79 @@ pub fn lead(bench: &mut Bench, case: Case, event: Event) -> Led
 }
 
 /// Plays events, and after each sends what waits.
-fn prepare(bench: &mut Bench, events: &[Event])
-    requires { Works 2 bench.old }
-    ensures { Works 2 bench.new }
+fn prepare(shelved: &mut ShelvedLink, events: &[Event])
+    requires { Works 2 shelved.old }
+    ensures { Works 2 shelved.new }
 {
     for event in events {
-        let _ = give(bench, *event);
-        let _ = send(bench);
+        let _ = give(shelved, *event);
+        let _ = send(shelved);
     }
 }
 
-fn hold(bench: &mut Bench, events: &[Event])
-    requires { Works 2 bench.old }
-    ensures { Works 2 bench.new }
+fn hold(shelved: &mut ShelvedLink, events: &[Event])
+    requires { Works 2 shelved.old }
+    ensures { Works 2 shelved.new }
 {
     for event in events {
-        let _ = give(bench, *event);
+        let _ = give(shelved, *event);
     }
 }
 
-fn skip(bench: &mut Bench, frames: usize)
-    requires { Works 2 bench.old }
-    ensures { Works 2 bench.new }
+fn skip(shelved: &mut ShelvedLink, frames: usize)
+    requires { Works 2 shelved.old }
+    ensures { Works 2 shelved.new }
 {
     for _ in 0..frames {
-        let _ = bench.offer(SLOTS);
+        let _ = shelved.offer(SLOTS);
     }
 }
 
 /// Sends what waits: no event of the tables lets more than three frames go.
-fn send(bench: &mut Bench) -> [Option<Offer>; 4]
-    requires { Works 2 bench.old }
-    ensures { Works 2 bench.new }
+fn send(shelved: &mut ShelvedLink) -> [Option<Offer>; 4]
+    requires { Works 2 shelved.old }
+    ensures { Works 2 shelved.new }
 {
-    let first = bench.offer(SLOTS);
-    let second = bench.offer(SLOTS);
-    let third = bench.offer(SLOTS);
-    let fourth = bench.offer(SLOTS);
+    let first = shelved.offer(SLOTS);
+    let second = shelved.offer(SLOTS);
+    let third = shelved.offer(SLOTS);
+    let fourth = shelved.offer(SLOTS);
     [first, second, third, fourth]
 }
 
-fn give(bench: &mut Bench, event: Event) -> Result<Answer, Refusal>
-    requires { Works 2 bench.old }
-    ensures { Works 2 bench.new }
+fn give(shelved: &mut ShelvedLink, event: Event) -> Result<Answer, Refusal>
+    requires { Works 2 shelved.old }
+    ensures { Works 2 shelved.new }
 {
     match event {
         Event::Plain(frame, pf) => {
             let (command, control) = frame_of(frame, pf);
-            Ok(bench.hear(SLOTS, command, control, &[]))
+            Ok(shelved.hear(SLOTS, command, control, &[]))
         }
-        Event::Command(kind, nr, p) => Ok(bench.hear(SLOTS, true, control_of(kind, nr, p), &[])),
-        Event::Response(kind, nr, f) => Ok(bench.hear(SLOTS, false, control_of(kind, nr, f), &[])),
-        Event::Malformed(malformed) => Ok(receive(bench, malformed)),
-        Event::Expire(timer) => Ok(bench.expire(SLOTS, timer)),
-        Event::Ask(request) => bench.ask(SLOTS, request),
-        Event::Clear => Ok(bench.clear(SLOTS)),
+        Event::Command(kind, nr, p) => Ok(shelved.hear(SLOTS, true, control_of(kind, nr, p), &[])),
+        Event::Response(kind, nr, f) => Ok(shelved.hear(
+            SLOTS,
+            false,
+            control_of(kind, nr, f),
+            &[],
+        )),
+        Event::Malformed(malformed) => Ok(receive(shelved, malformed)),
+        Event::Expire(timer) => Ok(shelved.expire(SLOTS, timer)),
+        Event::Ask(request) => shelved.ask(SLOTS, request),
+        Event::Clear => Ok(shelved.clear(SLOTS)),
     }
 }
 
-fn receive(bench: &mut Bench, malformed: Malformed) -> Answer
-    requires { Works 2 bench.old }
-    ensures { Works 2 bench.new }
+fn receive(shelved: &mut ShelvedLink, malformed: Malformed) -> Answer
+    requires { Works 2 shelved.old }
+    ensures { Works 2 shelved.new }
 {
     let received = match malformed {
         Malformed::Undefined => Received::Undefined,
         Malformed::WrongSize => Received::WrongSize,
         Malformed::Overlong => Received::Overlong,
     };
-    bench.link.receive(received, &mut bench.shelf)
+    shelved.link.receive(received, &mut shelved.shelf)
 }
 
 /// Whether it is a command, and its control field.

@@ -10,7 +10,7 @@ use crate::words;
 use lapd_frame::Control;
 use lapd_link::Offer;
 use std::alloc::Global;
-use test_link::Bench;
+use test_link::ShelvedLink;
 
 const HEAD: &str = "# What a card does, printed by itself
 
@@ -110,9 +110,9 @@ fn row(alloc: Global, cases: &[Case], event: Event) -> Text {
 /// What one event leads to in one state.
 fn cell(alloc: Global, case: Case, event: Event) -> Text {
     let mut cell = Text::new(alloc);
-    match Bench::with_room(alloc, 2, 2, SLOTS) {
-        Ok(mut bench) => {
-            let led = lead(&mut bench, case, event);
+    match ShelvedLink::with_room(alloc, 2, 2, SLOTS) {
+        Ok(mut shelved) => {
+            let led = lead(&mut shelved, case, event);
             tell(&mut cell, &led, event.polled());
         }
         Err(_) => cell.spoil(),

@@ -3,4 +3,4 @@ use Rattle.test_link.specs.Works.{Works}
 use Rattle.test_link.proofs.starts.give.Given as goal
 
 abbrev pub invariant-loop : goal.invariant-loop
-invariant-loop l = Works 127 l.bench
+invariant-loop l = Works 127 l.shelved

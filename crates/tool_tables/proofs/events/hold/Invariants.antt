@@ -3,4 +3,4 @@ use Rattle.test_link.specs.Works.{Works}
 use Rattle.tool_tables.proofs.events.hold.Given as goal
 
 abbrev pub invariant-loop-event : goal.invariant-loop-event
-invariant-loop-event l = Works 2 l.bench
+invariant-loop-event l = Works 2 l.shelved

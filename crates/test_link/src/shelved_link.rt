@@ -10,28 +10,33 @@ use std::alloc::Global;
 
 /// A link of TEI 64 for call control, with a shelf of its own.
 #[derive(Drop)]
-pub struct Bench {
+pub struct ShelvedLink {
     /// The link, opened.
     pub link: Link,
     /// Where its contents lie.
     pub shelf: SlabShelf,
 }
 
-impl Bench {
+impl ShelvedLink {
     ghost use Rattle.test_link.specs.Works.{Works};
 
     /// A link that was opened, with a window and a queue of `k` contents of at most 8 octets, over as many slots, where
     /// four control frames may wait.
-    pub fn start(alloc: Global, k: u8, slots: u32) -> Result<Bench, StartFault>
+    pub fn start(alloc: Global, k: u8, slots: u32) -> Result<ShelvedLink, StartFault>
         requires low { 1 ≤ k }
         requires high { k ≤ 127 }
         ensures { IfOk result (Works slots) }
     {
-        Bench::with_room(alloc, k, 4, slots)
+        ShelvedLink::with_room(alloc, k, 4, slots)
     }
 
     /// The same, where `control` control frames may wait.
-    pub fn with_room(alloc: Global, k: u8, control: u8, slots: u32) -> Result<Bench, StartFault>
+    pub fn with_room(
+        alloc: Global,
+        k: u8,
+        control: u8,
+        slots: u32,
+    ) -> Result<ShelvedLink, StartFault>
         requires low { 1 ≤ k }
         requires high { k ≤ 127 }
         requires control_low { 2 ≤ control }
@@ -41,7 +46,7 @@ impl Bench {
         let mut link = Link::start(alloc, k, control)?;
         let shelf = SlabShelf::start(alloc, slots, 8)?;
         link.open(Service::Call, 64, k, 3, 8);
-        Ok(Bench { link, shelf })
+        Ok(ShelvedLink { link, shelf })
     }
 
     /// The link hears a frame of its terminal.

@@ -16,14 +16,14 @@ use test_shelf::ArrayShelf;
 
 /// A card of one line, and what it has answered.
 #[derive(Drop)]
-struct Bench {
+struct Trial {
     card: Card<ArrayShelf>,
     sink: FixedSink,
 }
 
-impl Bench {
-    fn start(alloc: Global, row: &Row) -> Result<Bench, Fail> {
-        Ok(Bench {
+impl Trial {
+    fn start(alloc: Global, row: &Row) -> Result<Trial, Fail> {
+        Ok(Trial {
             card: Card::start(alloc, row.config, ArrayShelf::new())?,
             sink: FixedSink::new(),
         })
@@ -106,35 +106,35 @@ impl Bench {
 }
 
 /// One card for each row.
-fn benches(alloc: Global, rows: &[Row]) -> Result<Vec<Bench>, Fail> {
-    let mut benches = Vec::with_capacity(alloc, rows.len())?;
+fn trials(alloc: Global, rows: &[Row]) -> Result<Vec<Trial>, Fail> {
+    let mut trials = Vec::with_capacity(alloc, rows.len())?;
     for row in rows.iter() {
-        benches.push(Bench::start(alloc, row)?)?;
+        trials.push(Trial::start(alloc, row)?)?;
     }
-    Ok(benches)
+    Ok(trials)
 }
 
 /// Each row is answered as it wants, by a card of its own from its start.
-fn answer_all(rt: &impl Abort, benches: &mut [Bench], rows: &[Row]) {
-    assert!(rt; benches.len() == rows.len());
-    for (place, bench) in benches.iter_mut().enumerate() {
-        assert!(rt; bench.answers(&rows[place]), "row {place}");
+fn answer_all(rt: &impl Abort, trials: &mut [Trial], rows: &[Row]) {
+    assert!(rt; trials.len() == rows.len());
+    for (place, trial) in trials.iter_mut().enumerate() {
+        assert!(rt; trial.answers(&rows[place]), "row {place}");
     }
 }
 
 /// `tests/memory` counts the allocations of the starts by this test, and refuses all others in the next.
 #[test]
 fn the_starts(rt: HostRuntime) -> Result<(), Fail> {
-    let of_lines = benches(rt.alloc(), &line_rows())?;
-    let of_links = benches(rt.alloc(), &link_rows())?;
+    let of_lines = trials(rt.alloc(), &line_rows())?;
+    let of_links = trials(rt.alloc(), &link_rows())?;
     assert!(rt; of_lines.len() == 11 && of_links.len() == 13);
     Ok(())
 }
 
 #[test]
 fn each_row(rt: HostRuntime) -> Result<(), Fail> {
-    let mut of_lines = benches(rt.alloc(), &line_rows())?;
-    let mut of_links = benches(rt.alloc(), &link_rows())?;
+    let mut of_lines = trials(rt.alloc(), &line_rows())?;
+    let mut of_links = trials(rt.alloc(), &link_rows())?;
     answer_all(&rt, &mut of_lines, &line_rows());
     answer_all(&rt, &mut of_links, &link_rows());
     Ok(())

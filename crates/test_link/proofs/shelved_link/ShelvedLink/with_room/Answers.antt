@@ -1,10 +1,10 @@
--- Hand-written answers for `Bench::with_room`.
+-- Hand-written answers for `ShelvedLink::with_room`.
 use Rattle.std.proofs.Common.{◌≡◌, [], refl, sym, ap, subst, arith}
 use Rattle.lapd_store.specs.Store.{Store, empty_store}
 use Rattle.lapd_store.proofs.Ownership.{Holds-empty}
 use Rattle.model_link.specs.Link.{fresh}
 use Rattle.lapd_link.specs.Stands.{Stands}
-use Rattle.test_link.proofs.bench.Bench.with_room.Goals as goal
+use Rattle.test_link.proofs.shelved_link.ShelvedLink.with_room.Goals as goal
 
 pub open-requires-clause-down : goal.open-requires-clause-down
 open-requires-clause-down c =

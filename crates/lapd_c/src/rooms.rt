@@ -1,0 +1,79 @@
+//! How many contents more a link of a card takes.
+
+ghost use Rattle.std.specs.Prelude.{◌≡◌, ◌≤◌, ◌<◌, None, IfOk, IfErr};
+ghost use Rattle.model_card.specs.Card as machine;
+ghost use Rattle.model_card.specs.Room.{room as machine_room};
+ghost use Rattle.lapd_plain.specs.Rooms.{plain_room};
+ghost use Rattle.lapd_plain.specs.Statuses as status;
+ghost use Rattle.lapd_plain.specs.Statuses.{refusal_status};
+ghost use Rattle.lapd_plain.specs.Timers.{link_in};
+ghost use Rattle.lapd_c.specs.Cards.{card_of, IsHandle, Stands, CardStands};
+
+use crate::card::CardHandle;
+use lapd_card::Card;
+use lapd_plain::{NO_CARD, OK, PlainRoom, WRONG_LINE, link_in, refusal_status};
+use lapd_store::RawShelf;
+use std::alloc::Global;
+
+/// The room of the link of a service with a TEI, and its V(A).
+#[unsafe(no_mangle)]
+pub extern "C" fn lapd_room(
+    alloc: Global,
+    handle: &mut CardHandle,
+    line: u32,
+    service: u8,
+    tei: u8,
+    room: &mut PlainRoom,
+) -> u32
+    requires { IsHandle handle.old }
+    ensures handle { IsHandle handle.new }
+    ensures no_card { card_of handle.old ≡ None
+        → (result ≡ status.no_card) × (handle.new ≡ handle.old) × (room.new ≡ room.old) }
+    ensures unchanged { card_of handle.new ≡ card_of handle.old }
+    ensures wrong_line { (m : machine.Card) → Stands handle.old m → m.config.lines ≤ line
+        → (result ≡ status.wrong_line) × (room.new ≡ room.old) }
+    ensures wrong_link { (m : machine.Card) → Stands handle.old m → line < m.config.lines
+        → IfErr (link_in service tei) (λ wrong. (result ≡ wrong) × (room.new ≡ room.old)) }
+    ensures no_link { (m : machine.Card) → Stands handle.old m → line < m.config.lines
+        → IfOk (link_in service tei) (λ link. IfErr (machine_room line link.0 link.1 m) (λ why.
+        (result ≡ refusal_status why) × (room.new ≡ room.old))) }
+    ensures told { (m : machine.Card) → Stands handle.old m → line < m.config.lines
+        → IfOk (link_in service tei) (λ link. IfOk (machine_room line link.0 link.1 m) (λ is.
+        (result ≡ status.ok) × (room.new ≡ plain_room is))) }
+{
+    let Some(card) = handle.take(alloc) else {
+        return NO_CARD;
+    };
+    let status = tell_room(&card, line, service, tei, room);
+    handle.put(card);
+    status
+}
+
+fn tell_room(card: &Card<RawShelf>, line: u32, service: u8, tei: u8, room: &mut PlainRoom) -> u32
+    ensures wrong_line { (m : machine.Card) → CardStands card.now m → m.config.lines ≤ line
+        → (result ≡ status.wrong_line) × (room.new ≡ room.old) }
+    ensures wrong_link { (m : machine.Card) → CardStands card.now m → line < m.config.lines
+        → IfErr (link_in service tei) (λ wrong. (result ≡ wrong) × (room.new ≡ room.old)) }
+    ensures no_link { (m : machine.Card) → CardStands card.now m → line < m.config.lines
+        → IfOk (link_in service tei) (λ link. IfErr (machine_room line link.0 link.1 m) (λ why.
+        (result ≡ refusal_status why) × (room.new ≡ room.old))) }
+    ensures told { (m : machine.Card) → CardStands card.now m → line < m.config.lines
+        → IfOk (link_in service tei) (λ link. IfOk (machine_room line link.0 link.1 m) (λ is.
+        (result ≡ status.ok) × (room.new ≡ plain_room is))) }
+{
+    let line = line as usize;
+    if line >= card.lines() {
+        return WRONG_LINE;
+    }
+    let (service, tei) = match link_in(service, tei) {
+        Ok(link) => link,
+        Err(wrong) => return wrong,
+    };
+    match card.room(line, service, tei) {
+        Ok(is) => {
+            *room = PlainRoom::of(is);
+            OK
+        }
+        Err(why) => refusal_status(why),
+    }
+}

@@ -1,0 +1,50 @@
+-- The room of a link of a line.
+use Rattle.std.proofs.Common.{◌≡◌, ℕ, ◌-◌, ◌<◌, ◌≤◌, Bool, true, false, not, nat_lt, List, length, Option, Some, None, Result, Err, sym, ap, subst, ◌∙◌, cond}
+use Rattle.std.specs.Option.{option_map_or, ok_or}
+use Rattle.lapd_frame.specs.declared.refusals.Refusal.{Refusal}
+use Rattle.lapd_frame.specs.declared.refusals.Refusal.TheVariants.{BadTei, NoLink}
+use Rattle.lapd_frame.specs.declared.services.Service.{Service}
+use Rattle.lapd_store.specs.Ownership.{Owned}
+use Rattle.lapd_store.specs.Store.{Store}
+use Rattle.lapd_tei.specs.Table.{is_on, place_of}
+use Rattle.lapd_tei.proofs.Tables.{is_on-at, place_of-is}
+use Rattle.model_link.specs.declared.rooms.Room.{Room}
+use Rattle.model_link.specs.declared.terms.Terms.{Terms}
+use Rattle.model_link.specs.Link as machine
+use Rattle.model_link.specs.Room.{room_of}
+use Rattle.model_line.specs.declared.config.Config.{Config}
+use Rattle.model_line.specs.Line.{Line, has_tei, link_in, link_number, link_of, terms}
+use Rattle.model_line.specs.Room.{unless, room_in}
+use Rattle.lapd_line.specs.declared.link_layer.LinkLayer.{LinkLayer}
+use Rattle.lapd_line.specs.LinkLayer.{Stands}
+use Rattle.lapd_line.specs.Links.{HasTerms, LinksStand, machine_at}
+use Rattle.lapd_line.proofs.LayerRequests.{off_line}
+use Rattle.lapd_line.proofs.LayerSteps.{beside_links, links_part, named, numbered}
+
+module _ (e : LinkLayer) (s : Store) (others : List Owned) (m : Line) (st : Stands e s others m) (service : Service) (tei free : ℕ) where
+  -- by whether the TEI is one of a terminal, and whether it is on the line
+  abbrev by_tests : Bool → Bool → Result Room Refusal
+  by_tests bad on = unless (cond bad (Some BadTei) (cond (not on) (Some NoLink) None)) (room_of (terms e.config service tei) free (link_of service tei m))
+
+  pub room_none : nat_lt 126 tei ≡ false → place_of tei e.teis.places ≡ None → Err NoLink ≡ room_in e.config free service tei m
+  room_none low none =
+      ap (by_tests false) (sym (ap (λ t. is_on tei t.places) st.management ∙ off_line e.teis.places tei none))
+      ∙ ap (λ b. by_tests b (has_tei tei m)) (sym low)
+
+  pub room_there : (place number : ℕ) (found : Option Room) → nat_lt 126 tei ≡ false → place_of tei e.teis.places ≡ Some place
+      → (place ≤ 8 → number ≡ link_number place service)
+      → ((c : Config) (t : Terms) (others : List Owned) (ms : List machine.Link) → number < length e.links → HasTerms e.links number t
+      → LinksStand c e.links s others ms → found ≡ Some (room_of t free (machine_at ms number)))
+      → ok_or found NoLink ≡ room_in e.config free service tei m
+  room_there place number found low here exact is =
+      let at = (place_of-is e.teis.places tei place here).1 in
+      let n = named e s others m service tei place st at in
+      let same : number ≡ link_number place service = numbered e s tei place (others, m, st) at exact in
+      let on : has_tei tei m ≡ true = ap (λ t. is_on tei t.places) st.management ∙ is_on-at e.teis.places place tei at in
+      let this : link_of service tei m ≡ machine_at m.links (link_number place service) = ap (λ o. option_map_or (link_in m service) o machine.fresh) (ap (λ t. place_of tei t.places) st.management ∙ here) in
+      ap (λ o. ok_or o NoLink)
+      (is e.config (terms e.config service tei) (beside_links e m others) m.links (subst (λ x. x < length e.links) (sym same) n.within)
+      (subst (λ x. HasTerms e.links x (terms e.config service tei)) (sym same) n.has_terms) (links_part e s others m st)
+      ∙ ap (λ l. Some (room_of (terms e.config service tei) free l)) (ap (machine_at m.links) same ∙ sym this))
+      ∙ ap (by_tests false) (sym on)
+      ∙ ap (λ b. by_tests b (has_tei tei m)) (sym low)

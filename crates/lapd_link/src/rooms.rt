@@ -1,0 +1,37 @@
+//! How much room a link has.
+
+ghost use Rattle.std.specs.Prelude.{◌≡◌, ◌-◌, List, length};
+ghost use Rattle.lapd_store.specs.Store.{Store, used_slots};
+ghost use Rattle.lapd_store.specs.Ownership.{Owned};
+ghost use Rattle.model_link.specs.Link as machine;
+ghost use Rattle.model_link.specs.Room.{room_of};
+
+use crate::link::Link;
+use lapd_store::Shelf;
+use model_link::Room;
+
+impl Link {
+    ghost use Rattle.lapd_link.specs.Stands.{Stands, terms_of};
+
+    /// How much room the link has for contents, where all users of the shelf together may hold `slots`, and V(A). It
+    /// says what a request to send more will be refused for; each acknowledgement of contents lets `queue` and V(A)
+    /// rise by one.
+    pub fn room<S: Shelf>(&self, shelf: &S, slots: u32) -> Room
+        ensures { (others : List Owned) (m : machine.Link) → Stands self.now (S.store shelf.now) others m
+            → result ≡ room_of (terms_of self.now) (slots - used_slots (S.store shelf.now)) m }
+    {
+        Room {
+            queue: self.places(),
+            pool: slots.saturating_sub(shelf.used()),
+            va: self.entity.va().value,
+        }
+    }
+
+    // The places of the queue that are left.
+    fn places(&self) -> u8
+        ensures { result ≡ (terms_of self.now).queue - length self.now.queue.slots }
+    {
+        let most = usize::from(self.terms.queue);
+        most.saturating_sub(self.queue.len()) as u8
+    }
+}

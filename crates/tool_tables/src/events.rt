@@ -115,12 +115,12 @@ pub fn lead(shelved: &mut ShelvedLink, case: Case, event: Event) -> Led
     ensures { Works 2 shelved.new }
 {
 <<<<<<< HEAD
-    prepare(bench, case.events);
-    hold(bench, case.held);
+    prepare(shelved, case.events);
+    hold(shelved, case.held);
     let before = shelved.link.state();
-    let answer = give(bench, event);
-    skip(bench, case.held.len());
-    let sent = send(bench);
+    let answer = give(shelved, event);
+    skip(shelved, case.held.len());
+    let sent = send(shelved);
     let after = shelved.link.state();
 =======
     prepare(shelved, case.events);

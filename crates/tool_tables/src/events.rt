@@ -114,7 +114,6 @@ pub fn lead(shelved: &mut ShelvedLink, case: Case, event: Event) -> Led
     requires { Works 2 shelved.old }
     ensures { Works 2 shelved.new }
 {
-<<<<<<< HEAD
     prepare(shelved, case.events);
     hold(shelved, case.held);
     let before = shelved.link.state();
@@ -122,14 +121,6 @@ pub fn lead(shelved: &mut ShelvedLink, case: Case, event: Event) -> Led
     skip(shelved, case.held.len());
     let sent = send(shelved);
     let after = shelved.link.state();
-=======
-    prepare(shelved, case.events);
-    hold(shelved, case.held);
-    let state = shelved.link.state();
-    let answer = give(shelved, event);
-    skip(shelved, case.held.len());
-    let sent = send(shelved);
->>>>>>> origin/main
     Led {
         before,
         after,

@@ -1,5 +1,5 @@
 -- What a receiver hears in the octets that a line puts: the law.
-use Rattle.std.proofs.Common.{◌≡◌, ℕ, ◌<◌, ◌≤◌, ◌⊎◌, inl, inr, Bool, List, [], ◌∷◌, ◌++◌, length, map, refl, sym, ap, ◌∙◌, subst, arith, append_assoc}
+use Rattle.std.proofs.Common.{◌≡◌, ℕ, ◌<◌, ◌≤◌, ◌⊎◌, inl, inr, Bool, List, [], ◌∷◌, ◌++◌, length, map, refl, sym, ap, ◌∙◌, subst, arith, append_assoc, append-nil}
 use Rattle.std.specs.Prelude.{All}
 use mathlib.Core.List.{reverse_aux}
 use Rattle.std.proofs.lemmas.List.{get_or-replicate, append_cancel_left}
@@ -68,6 +68,20 @@ none-left : (now left : List stream.Event) → now ++ left ≡ [] → OnItsWay l
 none-left [] left e = record { frames = []; one = omega arith; are = e }
 none-left (x ∷ now) left e = absurd (cc e)
 
+second-none : {X : Type 0} (xs ys : List X) → xs ++ ys ≡ [] → ys ≡ []
+second-none [] ys e = e
+second-none (x ∷ xs) ys e = absurd (cc e)
+
+no-last : {X : Type 0} (front : List X) (x : X) → front ++ x ∷ [] ≡ [] → ⊥
+no-last [] x e = cc e
+no-last (y ∷ front) x e = cc e
+
+same-last : {X : Type 0} (xs ys : List X) (x y : X) → xs ++ x ∷ [] ≡ ys ++ y ∷ [] → x ≡ y
+same-last [] [] x y e = cc e
+same-last [] (z ∷ ys) x y e = let tail : [] ≡ ys ++ y ∷ [] = cc e in absurd (no-last ys y (sym tail))
+same-last (z ∷ xs) [] x y e = let tail : xs ++ x ∷ [] ≡ [] = cc e in absurd (no-last xs x tail)
+same-last (z ∷ xs) (w ∷ ys) x y e = same-last xs ys x y (cc e)
+
 module _ (n201 : ℕ) (items : List Item) (given : List ℕ) (left : List Bool) (text : line_text items ≡ bits given ++ left) (whole : AreHeardWhole n201 items) where
   abbrev later : List stream.Event
   later = hears (room_for n201) (reverse_aux (bits given) []) left
@@ -77,24 +91,39 @@ module _ (n201 : ℕ) (items : List Item) (given : List ℕ) (left : List Bool) 
       sym (items-heard n201 items whole) ∙ ap (hears (room_for n201) []) text ∙ hears-append (room_for n201) (bits given) left []
       ∙ ap (λ x. x ++ later) (sym (by-bits n201 given))
 
-  at-most-one : (items ≡ []) ⊎ HasLast items given → OnItsWay later
-  at-most-one (inl none) = none-left (heard_in n201 given) later (sym both ∙ ap frames_of none)
-  at-most-one (inr h) =
+  -- what is heard and to hear of the last item
+  rest-of : (h : HasLast items given) → (now : List stream.Event) × (now ++ later ≡ frames_of (h.last ∷ []))
+  rest-of h =
       let room = room_for n201 in
       let same : line_text h.front ++ item_text h.last ≡ bits given ++ left = sym (line_text-push h.front h.last) ∙ ap line_text (sym h.items_are) ∙ text in
       let part = front-of (line_text h.front) (item_text h.last) (bits given) left same h.before in
       let now = hears room (reverse_aux (line_text h.front) []) part.rest in
       let heard : heard_in n201 given ≡ frames_of h.front ++ now =
       by-bits n201 given ∙ ap (hears room []) part.is ∙ hears-append room (line_text h.front) part.rest []
-      ∙ ap (λ x. x ++ now) (items-heard n201 h.front (front-whole n201 h.front (h.last ∷ []) (subst (AreHeardWhole n201) h.items_are whole))) in
-      of-last h.last now later
-      (append_cancel_left (frames_of h.front) (now ++ later) (frames_of (h.last ∷ []))
-      (sym (append_assoc (frames_of h.front) now later) ∙ ap (λ x. x ++ later) (sym heard) ∙ sym both ∙ ap frames_of h.items_are ∙ frames_of-append h.front (h.last ∷ [])))
+      ∙ ap (λ x. x ++ now) (items-heard n201 h.front (front-whole n201 h.front (h.last ∷ []) (subst (AreHeardWhole n201) h.items_are whole))) in (
+        now,
+        append_cancel_left (frames_of h.front) (now ++ later) (frames_of (h.last ∷ []))
+            (sym (append_assoc (frames_of h.front) now later) ∙ ap (λ x. x ++ later) (sym heard) ∙ sym both ∙ ap frames_of h.items_are ∙ frames_of-append h.front (h.last ∷ [])),
+      )
+
+  at-most-one : (items ≡ []) ⊎ HasLast items given → OnItsWay later
+  at-most-one (inl none) = none-left (heard_in n201 given) later (sym both ∙ ap frames_of none)
+  at-most-one (inr h) = let rest = rest-of h in of-last h.last rest.0 later rest.1
 
   pub go-out : (items ≡ []) ⊎ HasLast items given → GoOut n201 given (frames_among items)
   go-out cut =
       let way = at-most-one cut in
       record { on_its_way = way.frames; one = way.one; heard = as-heard items ∙ both ∙ ap (λ x. heard_in n201 given ++ x) way.are }
+
+  -- behind a flag nothing is left
+  pub all-out : (front : List Item) → items ≡ front ++ idle ∷ [] → (items ≡ []) ⊎ HasLast items given → map (λ octets. stream.frame octets) (frames_among items) ≡ heard_in n201 given
+  all-out front ends (inl none) = absurd (no-last front idle (sym ends ∙ none))
+  all-out front ends (inr h) =
+      let rest = rest-of h in
+      let flag : h.last ≡ idle = same-last h.front front h.last idle (sym h.items_are ∙ ends) in
+      as-heard items ∙ both
+      ∙ ap (λ x. heard_in n201 given ++ x) (second-none rest.0 later (rest.1 ∙ ap (λ item. frames_of (item ∷ [])) flag))
+      ∙ append-nil (heard_in n201 given)
 
 module _ (c : Config) (events : List Event) (number : ℕ) (ranged : line.IsInRange c) (all : AreAtLines (fresh c) events) (within : number < c.lines) where
   start : line_at number (fresh c) ≡ fresh_line c
@@ -121,6 +150,17 @@ module _ (c : Config) (events : List Event) (number : ℕ) (ranged : line.IsInRa
       subst (λ frames. GoOut c.n201 (octets_put (trace_of c events number)) frames) frames-are
       (subst (λ octets. GoOut c.n201 octets (frames_among end.items)) octets-are
       (go-out c.n201 end.items end.given s.text.left s.text.text (all-whole c.n201 end.items (subst (All (IsHeardWhole c.n201)) (sym frames-are) whole)) ran.1))
+
+  pub all-out-of : (front : List Item) → end.items ≡ front ++ idle ∷ [] → All (IsHeardWhole c.n201) (frames_begun (trace_of c events number))
+      → map stream.frame (frames_begun (trace_of c events number)) ≡ heard_in c.n201 (octets_put (trace_of c events number))
+  all-out-of front ends whole =
+      let card = after_all (fresh c) events in
+      let sound = always_sound (fresh c) events (fresh_is_sound c ranged) all in
+      let there : number < card.config.lines = subst (λ (c : Config). number < c.lines) (sym (config-stays (fresh c) events)) within in
+      let s = line_sound card number (has_lines card sound) there in
+      subst (λ frames. map stream.frame frames ≡ heard_in c.n201 (octets_put (trace_of c events number))) frames-are
+      (subst (λ octets. map stream.frame (frames_among end.items) ≡ heard_in c.n201 octets) octets-are
+      (all-out c.n201 end.items end.given s.text.left s.text.text (all-whole c.n201 end.items (subst (All (IsHeardWhole c.n201)) (sym frames-are) whole)) front ends ran.1))
 
 pub frames-go-out : Always FramesGoOut
 frames-go-out c events number ranged all within whole = frames-go-out-of c events number ranged all within whole

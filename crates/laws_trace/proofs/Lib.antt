@@ -8,8 +8,17 @@ pub mod UnitsGoOut
 pub mod Bits
 pub mod Octets
 pub mod FramesGoOut
+pub mod Flags
 pub mod Fitting
 pub mod UnitsAreHeard
+pub mod AllFramesGoOut
 pub mod Walking
 pub mod Turns
+pub mod PullRuns
 pub mod LinksTakeTurns
+pub mod TurnsMeanwhile
+pub mod MessagesComeFirst
+pub mod Parts
+pub mod ReadAgain
+pub mod AskedOfLink
+pub mod AnswersAreAsked

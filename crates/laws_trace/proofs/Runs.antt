@@ -20,7 +20,7 @@ use Rattle.model_card.proofs.Steps.{has_lines, by_room, line_sound}
 use Rattle.laws_trace.specs.Trace.{Seen, seen, trace}
 
 -- A request that finds the pool full shows nothing, and no other event does find it.
-nothing-seen : (c : Config) (e : line_event.Event) (l : Line) → lines.takes_slot c e l ≡ true → seen c e l (refused PoolFull) ≡ []
+pub nothing-seen : (c : Config) (e : line_event.Event) (l : Line) → lines.takes_slot c e l ≡ true → seen c e l (refused PoolFull) ≡ []
 unfolding lines.takes_slot
 nothing-seen c (line_event.octet value) l takes = absurd (true≢false (sym takes))
 nothing-seen c (line_event.expiry timer) l takes = absurd (true≢false (sym takes))

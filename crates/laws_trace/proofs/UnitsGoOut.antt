@@ -21,7 +21,7 @@ use Rattle.laws_trace.specs.UnitsGoOut.{UnitsGoOut, AllUnitsGoOut}
 use Rattle.laws_trace.proofs.Runs.{run-shows}
 use Rattle.laws_trace.proofs.Units.{NoneWaits, fresh-none, Passes, rests, joins, steps}
 
-after-both : (card : Card) (front behind : List Event) → after_all card (front ++ behind) ≡ after_all (after_all card front) behind
+pub after-both : (card : Card) (front behind : List Event) → after_all card (front ++ behind) ≡ after_all (after_all card front) behind
 unfolding after_all
 after-both card [] behind = refl
 after-both card (e ∷ front) behind = after-both (after e card) front behind

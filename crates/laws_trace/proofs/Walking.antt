@@ -10,7 +10,8 @@ use Rattle.model_line.specs.Sound.{IsSound}
 use Rattle.laws_line.specs.Drains.{way_round}
 use Rattle.laws_line.specs.Pulls.{in_turn, IsSilentAt}
 use Rattle.laws_line.proofs.InRounds.{comes-first}
-use Rattle.laws_trace.specs.LinksTakeTurns.{LinkName, IsAmong, TakeTurns}
+use Rattle.laws_trace.specs.LinksTakeTurns.{LinkName, TakeTurns}
+use Rattle.laws_trace.specs.Trace.{IsAmong}
 
 abbrev pub named : ℕ → ℕ → LinkName
 named number tei = record { sapi = sapi_of (service_at number); tei = tei }
@@ -55,7 +56,7 @@ module _ (c : Config) where
       odd : (k : ℕ) → k % 2 ≢ 0 → k % 2 ≡ 1
       odd k apart = omega (arith, apart)
 
-  same-number : (l : Line) → IsSound c l → (n m tei other : ℕ) → tei_at (place_at n) l ≡ Some tei → tei_at (place_at m) l ≡ Some other → named n tei ≡ named m other → n ≡ m
+  pub same-number : (l : Line) → IsSound c l → (n m tei other : ℕ) → tei_at (place_at n) l ≡ Some tei → tei_at (place_at m) l ≡ Some other → named n tei ≡ named m other → n ≡ m
   same-number l s n m tei other on on' e =
       let tei-same : tei ≡ other = ap (λ (x : LinkName). x.tei) e in
       let half : n / 2 ≡ m / 2 = s.management.table.once (n / 2) (m / 2) tei on (on' ∙ ap Some (sym tei-same)) in

@@ -3,9 +3,15 @@ use Rattle.std.specs.Prelude.{◌≡◌, ◌≤◌, ℕ, List, ◌++◌, length,
 use Rattle.lapd_bits.specs.RoundTrip.{IsHeardWhole}
 use Rattle.lapd_bits.specs.Stream as stream
 use Rattle.lapd_bits.specs.StuffingLaws.{AreOctets}
+use Rattle.model_link.specs.declared.frames.ControlFrame.{ControlFrame}
 use Rattle.model_line.specs.declared.config.Config.{Config}
+use Rattle.laws_line.specs.Drains.{most_pulls, control_text}
+use Rattle.model_card.specs.Card.{fresh, line_at}
 use Rattle.model_card.specs.Event.{Event}
-use Rattle.laws_trace.specs.Trace.{trace_of, frames_begun, octets_put}
+use Rattle.model_card.specs.Run.{after_all, moments}
+use Rattle.laws_card.specs.Among.{ArePullsAt, pulls_at}
+use Rattle.laws_card.specs.PromisesOfPulls.{IsWaiting}
+use Rattle.laws_trace.specs.Trace.{trace, trace_of, frames_begun, octets_put, IsAmong}
 
 -- What a receiver hears in the octets that a line puts are the frames that began on it, in order, whole, each once; the
 -- last may be on its way (Q.921 clauses 2.2 to 2.7).
@@ -26,3 +32,18 @@ abbrev pub OctetsGoOut : Config → List Event → ℕ → Type 0
 OctetsGoOut c events number =
     let t = trace_of c events number in
     All AreOctets (frames_begun t) → GoOut c.n201 (octets_put t) (frames_begun t)
+
+-- Once the line was only pulled, as often as the configuration says, a receiver has heard them all: none is on its way.
+abbrev pub AllFramesGoOut : Config → List Event → ℕ → Type 0
+AllFramesGoOut c events number =
+    let t = trace_of c events number in
+    (before pulls : List Event) → events ≡ before ++ pulls → ArePullsAt number pulls → most_pulls c ≤ pulls_at number pulls →
+    All AreOctets (frames_begun t) → map stream.frame (frames_begun t) ≡ stream.heard_in c.n201 (octets_put t)
+
+-- And each control frame that waited on a link is among those that these pulls began.
+abbrev pub AllThatWaitedBegins : Config → List Event → ℕ → Type 0
+AllThatWaitedBegins c events number =
+    (before pulls : List Event) → events ≡ before ++ pulls → ArePullsAt number pulls → most_pulls c ≤ pulls_at number pulls →
+    (link tei : ℕ) (front : List ControlFrame) (f : ControlFrame) (behind : List ControlFrame) →
+    IsWaiting c (line_at number (after_all (fresh c) before)) link tei front f behind →
+    IsAmong (control_text c link tei f) (frames_begun (trace number (moments (after_all (fresh c) before) pulls)))

@@ -5,5 +5,10 @@ pub mod UnitsGoOut
 pub mod FramesGoOut
 pub mod UnitsAreHeard
 pub mod LinksTakeTurns
+pub mod TurnsMeanwhile
+pub mod MessagesComeFirst
+pub mod AnswersAreAsked
 pub mod WorkedUnits
 pub mod WorkedFrames
+pub mod WorkedTurns
+pub mod WorkedAnswers

@@ -9,7 +9,7 @@ use Rattle.model_card.specs.Card.{fresh}
 use Rattle.model_card.specs.Event.{Event}
 use Rattle.model_card.specs.Run.{moments, after_all}
 use Rattle.laws_card.specs.Among.{ArePullsAt}
-use Rattle.laws_trace.specs.Trace.{Seen, trace, frames_begun}
+use Rattle.laws_trace.specs.Trace.{Seen, trace, frames_begun, IsAmong}
 use Rattle.laws_trace.specs.Units.{is_ui}
 
 -- The links of the frames that begin, which are all that are no UI: by the address, whether command or response (Q.921
@@ -30,11 +30,6 @@ is_of_link octets = is_no_ui (reading Network octets)
 
 abbrev pub links_begun : List Seen → List LinkName
 links_begun t = map named_in (filter is_of_link (frames_begun t))
-
-pub record IsAmong {X : Type 0} (x : X) (xs : List X) : Type 0 where
-  pub front : List X
-  pub back : List X
-  pub split : xs ≡ front ++ x ∷ back
 
 -- Between two frames of one link begins one of every other link that begins one behind these.
 abbrev pub TakeTurns : List LinkName → Type 0

@@ -74,6 +74,12 @@ pub record IsFront {X : Type 0} (front whole : List X) : Type 0 where
   pub rest : List X
   pub whole_is : whole ≡ front ++ rest
 
+-- One thing is among others.
+pub record IsAmong {X : Type 0} (x : X) (xs : List X) : Type 0 where
+  pub front : List X
+  pub back : List X
+  pub split : xs ≡ front ++ x ∷ back
+
 -- A law of traces: from a fresh card of a configuration in range, for every list of events at its lines, and every line.
 abbrev pub Always : (Config → List card.Event → ℕ → Type 0) → Type 0
 Always Law = (c : Config) (events : List card.Event) (number : ℕ) → IsInRange c → AreAtLines (fresh c) events → number < c.lines → Law c events number

@@ -1,6 +1,7 @@
 -- Worked values: what a receiver hears in the octets that a line puts, and octets that break the law.
-use Rattle.std.specs.Prelude.{◌≡◌, ℕ, List, [], ◌∷◌, refl}
+use Rattle.std.specs.Prelude.{◌≡◌, ℕ, List, [], ◌∷◌, map, refl}
 use Rattle.lapd_bits.specs.Bits.{low_bits}
+use Rattle.lapd_bits.specs.Stream as stream
 use Rattle.model_line.specs.Machine as lines
 use Rattle.model_card.specs.Run.{moments}
 use Rattle.laws_card.specs.Worked.{usual, on_0}
@@ -33,3 +34,8 @@ disc_heard = refl
 is_not_out : GoOut 260 disc [] → ⊥
 unfolding low_bits
 is_not_out out = cc out.heard
+
+-- Where a frame began, and the octets that were put end before it does, that all frames go out is broken.
+is_not_all : map stream.frame (spelled 1 ∷ []) ≡ stream.heard_in 260 (0x7E ∷ 0x02 ∷ 0xFF ∷ []) → ⊥
+unfolding low_bits
+is_not_all all = cc all

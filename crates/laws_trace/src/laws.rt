@@ -1,8 +1,11 @@
 //! The laws. Each is the contract of a call that does nothing.
 
 ghost use Rattle.laws_trace.specs.Trace.{Always};
-ghost use Rattle.laws_trace.specs.FramesGoOut.{FramesGoOut, OctetsGoOut};
+ghost use Rattle.laws_trace.specs.AnswersAreAsked.{AnswersAreAsked};
+ghost use Rattle.laws_trace.specs.FramesGoOut.{FramesGoOut, OctetsGoOut, AllFramesGoOut, AllThatWaitedBegins};
 ghost use Rattle.laws_trace.specs.LinksTakeTurns.{LinksTakeTurns};
+ghost use Rattle.laws_trace.specs.MessagesComeFirst.{MessagesComeFirst};
+ghost use Rattle.laws_trace.specs.TurnsMeanwhile.{LinksTakeTurnsMeanwhile};
 ghost use Rattle.laws_trace.specs.UnitsAreHeard.{UnitsAreHeard};
 ghost use Rattle.laws_trace.specs.UnitsGoOut.{UnitsGoOut, AllUnitsGoOut};
 
@@ -24,6 +27,14 @@ pub fn frames_go_out()
     ensures octets { Always OctetsGoOut }
 {}
 
+/// In the end all frames go out. Once a line was only pulled, as often as the configuration says, a receiver has heard each
+/// frame that began, and none is on its way (`all`); and each control frame that waited on a link before has begun (`waited`;
+/// Q.921 clauses 2.2 to 2.7 and 5.5 to 5.8).
+pub fn all_frames_go_out()
+    ensures all { Always AllFramesGoOut }
+    ensures waited { Always AllThatWaitedBegins }
+{}
+
 /// Unit data is heard at the other end. The UI frames that a receiver hears in the octets that a line puts, but those of TEI
 /// management, are the first of the unit data that was granted: in order, whole, each once, with its service and its TEI, wherever
 /// the octets of the frames that began are 0 to 255 (Q.921 clauses 2.2 to 2.7, 3.6.5 and 5.2.2).
@@ -35,4 +46,23 @@ pub fn units_are_heard()
 /// begins one of every other link that begins one behind these (profile).
 pub fn links_take_turns()
     ensures { Always LinksTakeTurns }
+{}
+
+/// Links take turns, whatever else happens at the line meanwhile. Between two frames that begin for one link, which keeps its
+/// place on the line, begins one of every other link that has something to send all the while (profile).
+pub fn links_take_turns_meanwhile()
+    ensures { Always LinksTakeTurnsMeanwhile }
+{}
+
+/// Messages of TEI management come first. While a line is only pulled, after whatever happened to it, no unit data begins
+/// before one of these, and no frame of a link before either (profile).
+pub fn messages_come_first()
+    ensures { Always MessagesComeFirst }
+{}
+
+/// Answers are asked for. The UA, the DM, and the responses RR, RNR and REJ with F=1 of a link that begin are among what was
+/// asked of it: each answers one SABME or DISC, or another command with P=1, that was heard for the link before, of its kind
+/// and with F = P; in their order, and none twice (Q.921 clauses 3.5.1, 5.5 and 5.6).
+pub fn answers_are_asked()
+    ensures { Always AnswersAreAsked }
 {}

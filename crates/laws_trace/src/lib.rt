@@ -8,12 +8,16 @@
 //!
 //! # Open
 //!
-//! That the octets of the frames that begin are 0 to 255 where those of contents are, which `frames_go_out` and
-//! `units_are_heard` have as a premise; that unit data is heard in the end, and not only begun; when unit data goes, and
-//! whose turn it is, where other events of the line come between its pulls. No law here speaks of what is heard, noted or
-//! lost in a trace.
+//! That the octets of the frames that begin are 0 to 255 where those of contents are, which `frames_go_out`,
+//! `units_are_heard` and `all_frames_go_out` have as a premise; when unit data goes, where other events of the line come
+//! between its pulls; that each frame that asks for an answer is answered, or its answer told as lost
+//! (`answers_are_asked` says that none is given unasked); why a command begins. No law here speaks of what is noted or lost
+//! in a trace.
 #![tactic(auto)]
 
 mod laws;
 
-pub use laws::{frames_go_out, links_take_turns, units_are_heard, units_go_out};
+pub use laws::{
+    all_frames_go_out, answers_are_asked, frames_go_out, links_take_turns,
+    links_take_turns_meanwhile, messages_come_first, units_are_heard, units_go_out,
+};

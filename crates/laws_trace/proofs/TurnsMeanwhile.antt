@@ -1,0 +1,247 @@
+-- Links take turns, whatever else happens meanwhile: the law.
+use Rattle.std.proofs.Common.{◌≡◌, ◌≢◌, ℕ, ◌+◌, ◌<◌, ◌≤◌, ◌==◌, ◌⊎◌, ⊎_elim, Bool, true, false, cond, List, [], ◌∷◌, ◌++◌, get_or, map, Option, Some, None, option_map, refl, sym, ap, ◌∙◌, subst, inl, inr, arith, eqb-true, eq-eqb, true≢false}
+use Rattle.std.specs.Prelude.{All, filter, option_to_list}
+use Rattle.std.specs.Option.{unwrap_or}
+use Rattle.std.proofs.lemmas.Bool.{and_parts}
+use Rattle.std.proofs.lemmas.Grind.{flat_map-append}
+use Rattle.std.proofs.lemmas.List.{get_or-set_same, get_or-replicate, map-append}
+use Rattle.std.proofs.lemmas.List.Elements.{All-head, All-tail, filter-append}
+use Rattle.lapd_frame.specs.declared.addresses.Address.{Address}
+use Rattle.lapd_frame.specs.declared.refusals.Refusal.TheVariants.{PoolFull}
+use Rattle.lapd_frame.specs.declared.services.Service.{Service}
+use Rattle.lapd_frame.specs.declared.services.Service.TheVariants.{Call, Packet}
+use Rattle.lapd_frame.specs.Services.{sapi_of}
+use Rattle.lapd_tei.specs.Messages.{information_of}
+use Rattle.model_line.specs.declared.config.Config.{Config}
+use Rattle.model_line.specs.Event as line_event
+use Rattle.model_line.specs.Event.{octet, expiry, request, pull, Answer, refused}
+use Rattle.model_line.specs.Line.{Line, fresh_line, link_count, service_at, place_at, tei_at}
+use Rattle.model_line.specs.Machine as lines
+use Rattle.model_line.specs.Octet.{gained}
+use Rattle.model_line.specs.Pull.{Taken, begun}
+use Rattle.model_line.specs.Sound as line
+use Rattle.laws_line.specs.Drains.{way_round}
+use Rattle.laws_line.specs.Pulls.{in_turn, IsSilentAt, IsOfLink, IsOwed, IsIdle, contents_of}
+use Rattle.laws_line.proofs.InRounds.{comes-first}
+use Rattle.laws_line.proofs.Serving.{served, turn-stays}
+use Rattle.model_card.specs.Card.{Card, fresh, line_at, is_full}
+use Rattle.model_card.specs.Event.{Event}
+use Rattle.model_card.specs.Machine.{after, answer}
+use Rattle.model_card.specs.Pulled.{frame_taken}
+use Rattle.model_card.specs.Run.{moments, after_all, IsAtLine, AreAtLines}
+use Rattle.model_card.specs.Sound.{IsSound}
+use Rattle.model_card.proofs.CardSound.{after_is_sound, always_sound, fresh_is_sound}
+use Rattle.model_card.proofs.Steps.{has_lines, by_room, line_sound}
+use Rattle.laws_card.specs.PromisesOfPulls.{StaysAt}
+use Rattle.laws_card.proofs.Wherever.{all-left, all-right, config-stays}
+use Rattle.laws_trace.specs.Trace as traces
+use Rattle.laws_trace.specs.Trace.{Always, Seen, seen, trace, frames_begun, IsAmong}
+use Rattle.laws_trace.specs.LinksTakeTurns.{LinkName, named_in, is_of_link, links_begun}
+use Rattle.laws_trace.specs.TurnsMeanwhile.{name_of, HasToSend, HasToSendAllTheWhile, LinksTakeTurnsMeanwhile}
+use Rattle.laws_trace.proofs.Octets.{no-frame, no-frame-asked}
+use Rattle.laws_trace.proofs.PullRuns.{apart, none-after}
+use Rattle.laws_trace.proofs.Runs.{nothing-seen, run-shows}
+use Rattle.laws_trace.proofs.Turns.{link-frame, ui-frame, name-is}
+use Rattle.laws_trace.proofs.Units.{NoneWaits, fresh-none, Passes, rests, joins, steps, pulled-frames, plain-order, first-of}
+use Rattle.laws_trace.proofs.Walking.{same-number}
+
+some-same : {n k : ℕ} → Some n ≡ Some k → n ≡ k
+some-same both = cc both
+
+-- A run of a line in which one link keeps its place, and another has something to send, with the links of the frames that begin.
+module _ (c : Config) (one tei other its : ℕ) where
+  abbrev way : ℕ → ℕ
+  way turn = way_round (link_count c) turn other
+
+  record Meets (l : Line) : Type 0 where
+    sound : line.IsSound c l
+    here : tei_at (place_at one) l ≡ Some tei
+    there : HasToSend c l other its
+
+  record Goes (l m : Line) (number by : ℕ) : Type 0 where
+    on_line : tei_at (place_at number) l ≡ Some by
+    passed : List ℕ
+    behind : List ℕ
+    place : in_turn c l ≡ passed ++ number ∷ behind
+    all_silent : All (IsSilentAt c l) passed
+    next : m.turn ≡ number + 1
+
+  data Walk : Line → List LinkName → Type 0 where
+    ends : (l : Line) → Walk l []
+    still : (l m : Line) (names : List LinkName) → m.turn ≡ l.turn → Walk m names → Walk l names
+    goes : (l m : Line) (number by : ℕ) (names : List LinkName) → Meets l → Goes l m number by → Walk m names → Walk l (name_of number by ∷ names)
+
+  comes : (l m : Line) (number by : ℕ) → Meets l → Goes l m number by → (other ≡ number) ⊎ (way (number + 1) + 1 ≤ way l.turn)
+  comes l m number by h g =
+      turned (comes-first (link_count c) l.turn h.sound.turn (IsSilentAt c l) other number g.passed g.behind h.there.few g.place g.all_silent (λ q. h.there.speaks (q its h.there.on_line)))
+    where
+      turned : (number ≡ other) ⊎ (way (number + 1) + 1 ≤ way l.turn) → (other ≡ number) ⊎ (way (number + 1) + 1 ≤ way l.turn)
+      turned (inl same) = inl (sym same)
+      turned (inr less) = inr less
+
+  too-near : (a b w : ℕ) → a ≡ b → a + 1 ≤ w → w ≤ b → ⊥
+  too-near a b w e f g = omega (arith, e, f, g)
+
+  nearer : (a w' w b : ℕ) → w' ≡ a → a + 1 ≤ w → w ≤ b → w' ≤ b
+  nearer a w' w b e f g = omega (arith, e, f, g)
+
+  -- from the turn behind the one on, the other goes before it goes again
+  between-is : one ≢ other → (l : Line) (names : List LinkName) → Walk l names → way l.turn ≤ way (one + 1) → (between behind : List LinkName)
+      → names ≡ between ++ name_of one tei ∷ behind → IsAmong (name_of other its) between
+  between-is apart k ns (ends l) near [] behind e = absurd (cc e)
+  between-is apart k ns (ends l) near (x ∷ between) behind e = absurd (cc e)
+  between-is apart k ns (still l m names turn walk) near between behind e = between-is apart m names walk (subst (λ t. way t ≤ way (one + 1)) (sym turn) near) between behind e
+  between-is apart k ns (goes l m number by rest h g walk) near [] behind e =
+      let is : name_of number by ≡ name_of one tei = cc e in
+      let same = same-number c l h.sound number one by tei g.on_line h.here is in
+      ⊎_elim (λ equal. absurd (apart (sym same ∙ sym equal)))
+      (λ less. absurd (too-near (way (number + 1)) (way (one + 1)) (way l.turn) (ap (λ n. way (n + 1)) same) less near)) (comes l m number by h g)
+  between-is apart k ns (goes l m number by rest h g walk) near (x ∷ between) behind e =
+      let head : name_of number by ≡ x = cc e in
+      let tail : rest ≡ between ++ name_of one tei ∷ behind = cc e in
+      ⊎_elim
+      (λ equal.
+      let t : by ≡ its = some-same (sym g.on_line ∙ ap (λ n. tei_at (place_at n) l) (sym equal) ∙ h.there.on_line) in
+      record { front = []; back = between; split = ap (λ y. y ∷ between) (sym head ∙ ap (λ n. name_of n by) (sym equal) ∙ ap (name_of other) t) })
+      (λ less.
+      let inner = between-is apart m rest walk (nearer (way (number + 1)) (way m.turn) (way l.turn) (way (one + 1)) (ap way g.next) less near) between behind tail in
+      record { front = x ∷ inner.front; back = inner.back; split = ap (λ ys. x ∷ ys) inner.split })
+      (comes l m number by h g)
+
+  same-way : (a b : ℕ) → a ≡ b → a ≤ b
+  same-way a b e = omega (arith, e)
+
+  take-turns : one ≢ other → (l : Line) (names : List LinkName) → Walk l names → (front between behind : List LinkName)
+      → names ≡ front ++ name_of one tei ∷ (between ++ name_of one tei ∷ behind) → IsAmong (name_of other its) between
+  take-turns apart k ns (ends l) [] between behind e = absurd (cc e)
+  take-turns apart k ns (ends l) (x ∷ front) between behind e = absurd (cc e)
+  take-turns apart k ns (still l m names turn walk) front between behind e = take-turns apart m names walk front between behind e
+  take-turns apart k ns (goes l m number by rest h g walk) (x ∷ front) between behind e =
+      let tail : rest ≡ front ++ name_of one tei ∷ (between ++ name_of one tei ∷ behind) = cc e in
+      take-turns apart m rest walk front between behind tail
+  take-turns apart k ns (goes l m number by rest h g walk) [] between behind e =
+      let is : name_of number by ≡ name_of one tei = cc e in
+      let tail : rest ≡ between ++ name_of one tei ∷ behind = cc e in
+      let same = same-number c l h.sound number one by tei g.on_line h.here is in
+      between-is apart m rest walk (same-way (way m.turn) (way (one + 1)) (ap way (g.next ∙ ap (λ n. n + 1) same))) between behind tail
+
+  -- One event.
+  module _ (ranged : line.IsInRange c) (l : Line) (h : Meets l) (plain : NoneWaits c l) where
+    abbrev names-in : List (List ℕ) → List LinkName
+    names-in frames = map named_in (filter is_of_link frames)
+
+    small-sapi : (service : Service) → sapi_of service < 64
+    small-sapi Call = omega arith
+    small-sapi Packet = omega arith
+
+    no-name : (frame : List ℕ) (names : List LinkName) → is_of_link frame ≡ false → Walk l names → Walk l (names-in (frame ∷ []) ++ names)
+    no-name frame names none walk = subst (λ b. Walk l (map named_in (cond b (frame ∷ []) []) ++ names)) (sym none) walk
+
+    a-name : (frame : List ℕ) (name : LinkName) (names : List LinkName) → is_of_link frame ≡ true → named_in frame ≡ name → Walk l (name ∷ names) → Walk l (names-in (frame ∷ []) ++ names)
+    a-name frame name names is named walk =
+        subst (λ b. Walk l (map named_in (cond b (frame ∷ []) []) ++ names)) (sym is) (subst (λ n. Walk l (n ∷ names)) (sym named) walk)
+
+    abbrev next : Line
+    next = lines.after c pull l
+
+    of-link : (frame : List ℕ) (x : IsOfLink c (contents_of l) l next frame) (names : List LinkName) → Walk next names → Walk l (names-in (frame ∷ []) ++ names)
+    of-link frame x names walk =
+        let a : Address = record { sapi = sapi_of (service_at x.number); command = x.command; tei = x.tei } in
+        a-name frame (name_of x.number x.tei) names (ap is_of_link x.spelled ∙ link-frame a x.control (plain-order c l next frame plain x) (unwrap_or x.information []))
+        (ap named_in x.spelled ∙ name-is a x.control (unwrap_or x.information []))
+        (goes l next x.number x.tei names h (record {
+          on_line = x.on_line;
+          passed = x.its_turn.passed;
+          behind = x.its_turn.behind;
+          place = x.its_turn.place;
+          all_silent = x.its_turn.all_silent;
+          next = x.its_turn.next;
+        }) walk)
+
+    by-pull : (o : Option Taken) → elim o as (λ o. Type 0) [ None ↦ IsIdle c l next | Some t ↦ IsOwed c (contents_of l) l next t.frame ]
+        → (names : List LinkName) → Walk next names → Walk l (names-in (option_to_list (option_map frame_taken o)) ++ names)
+    by-pull None x names walk = still l next names x.turn walk
+    by-pull (Some t) (inl x) names walk =
+        let a : Address = record { sapi = 63; command = true; tei = 127 } in
+        no-name t.frame names (ap is_of_link x.spelled ∙ ui-frame a (information_of x.message) (omega arith) (omega arith) refl) (still l next names x.turn walk)
+    by-pull (Some t) (inr (inl x)) names walk =
+        let a : Address = record { sapi = sapi_of x.unit.service; command = true; tei = x.unit.tei } in
+        let small = first-of c l.units x.unit x.oldest h.sound.units in
+        no-name t.frame names (ap is_of_link x.spelled ∙ ui-frame a x.unit.contents (small-sapi x.unit.service) (omega (arith, small)) refl) (still l next names x.turn walk)
+    by-pull (Some t) (inr (inr x)) names walk = of-link t.frame x names walk
+
+    none-begins : (e : line_event.Event) (a : Answer) (names : List LinkName) → frames_begun (seen c e l a) ≡ [] → (lines.after c e l).turn ≡ l.turn
+        → Walk (lines.after c e l) names → Walk l (links_begun (seen c e l a) ++ names)
+    none-begins e a names none turn walk = subst (λ fs. Walk l (names-in fs ++ names)) (sym none) (still l (lines.after c e l) names turn walk)
+
+    event-walks : (e : line_event.Event) (names : List LinkName) → Walk (lines.after c e l) names → Walk l (links_begun (seen c e l (lines.answer c e l)) ++ names)
+    event-walks (octet value) names walk =
+        none-begins (octet value) (lines.answer c (octet value) l) names (no-frame (gained c.n201 l.received value) (lines.answer c (octet value) l)) (turn-stays c (octet value) l) walk
+    event-walks (expiry timer) names walk =
+        none-begins (expiry timer) (lines.answer c (expiry timer) l) names (no-frame None (lines.answer c (expiry timer) l)) (turn-stays c (expiry timer) l) walk
+    event-walks (request r) names walk =
+        none-begins (request r) (lines.answer c (request r) l) names (no-frame-asked r (lines.answer c (request r) l)) (turn-stays c (request r) l) walk
+    event-walks pull names walk =
+        subst (λ fs. Walk l (names-in fs ++ names)) (sym (pulled-frames (begun c l) (lines.answer c pull l))) (by-pull (begun c l) (served c l h.sound) names walk)
+
+names-both : (t u : List Seen) → links_begun (t ++ u) ≡ links_begun t ++ links_begun u
+names-both t u =
+    ap (map named_in) (ap (filter is_of_link) (flat_map-append traces.frame_begun t u) ∙ filter-append is_of_link (frames_begun t) (frames_begun u))
+    ∙ map-append named_in (filter is_of_link (frames_begun t)) (filter is_of_link (frames_begun u))
+
+-- A run.
+module _ (number one tei other its : ℕ) where
+  abbrev WalkOf : Card → Line → List LinkName → Type 0
+  WalkOf card l names = Walk card.config one tei other its l names
+
+  own-walk : (card : Card) (e : Event) → IsSound card → IsAtLine card e → Meets card.config one tei other its (line_at e.line card) → NoneWaits card.config (line_at e.line card)
+      → (names : List LinkName) → WalkOf card (line_at e.line (after e card)) names
+      → WalkOf card (line_at e.line card) (links_begun (seen card.config e.what (line_at e.line card) (answer e card)) ++ names)
+  own-walk card e s here h plain =
+      let c = card.config in
+      let l = line_at e.line card in
+      by_room (λ ls a. (names : List LinkName) → WalkOf card (get_or ls e.line (fresh_line c)) names → WalkOf card l (links_begun (seen c e.what l a) ++ names)) e card
+      (λ full names walk.
+      subst (λ t. WalkOf card l (links_begun t ++ names)) (sym (nothing-seen c e.what l (and_parts (lines.takes_slot c e.what l) (is_full card) full).0)) walk)
+      (λ room names walk.
+      event-walks c one tei other its s.config l h plain e.what names
+      (subst (λ (x : Line). WalkOf card x names) (get_or-set_same card.lines e.line (lines.after c e.what l) (fresh_line c) (omega (arith, s.count, here))) walk))
+
+  moment-walk : (card : Card) (e : Event) → IsSound card → IsAtLine card e → Meets card.config one tei other its (line_at number card) → NoneWaits card.config (line_at number card)
+      → (b : Bool) → (e.line == number) ≡ b → (names : List LinkName) → WalkOf card (line_at number (after e card)) names
+      → WalkOf card (line_at number card) (links_begun (cond b (seen card.config e.what (line_at number card) (answer e card)) []) ++ names)
+  moment-walk card e s here h plain true same names walk =
+      let is = eqb-true e.line number same in
+      subst (λ n. WalkOf card (line_at n (after e card)) names → WalkOf card (line_at n card) (links_begun (seen card.config e.what (line_at n card) (answer e card)) ++ names)) is
+      (own-walk card e s here (subst (λ n. Meets card.config one tei other its (line_at n card)) (sym is) h) (subst (λ n. NoneWaits card.config (line_at n card)) (sym is) plain) names) walk
+  moment-walk card e s here h plain false away names walk =
+      subst (λ (x : Line). WalkOf card x names) (apart card e number (λ same. true≢false (sym (eq-eqb e.line number (sym same)) ∙ away))) walk
+
+  walks : (card : Card) (events : List Event) → IsSound card → number < card.config.lines → AreAtLines card events → StaysAt number one tei card events
+      → HasToSendAllTheWhile number other its card events → NoneWaits card.config (line_at number card)
+      → WalkOf card (line_at number card) (links_begun (trace number (moments card events)))
+  unfolding moments StaysAt HasToSendAllTheWhile
+  walks card [] s few all stays speaks plain = ends (line_at number card)
+  walks card (e ∷ events) s few all stays speaks plain =
+      let here = All-head (IsAtLine card) e events all in
+      let first = cond (e.line == number) (seen card.config e.what (line_at number card) (answer e card)) [] in
+      let rest = trace number (moments (after e card) events) in
+      let meets : Meets card.config one tei other its (line_at number card) = record { sound = line_sound card number (has_lines card s) few; here = stays.0; there = speaks.0 } in
+      subst (WalkOf card (line_at number card)) (sym (names-both first rest))
+      (moment-walk card e s here meets plain (e.line == number) refl (links_begun rest)
+      (walks (after e card) events (after_is_sound card e s here) few (All-tail (IsAtLine card) e events all) stays.1 speaks.1 (none-after card e number s here plain)))
+
+pub links-take-turns-meanwhile : Always LinksTakeTurnsMeanwhile
+links-take-turns-meanwhile c events number ranged all within before meanwhile split one tei other its away stays speaks front between behind e =
+    let begins = fresh_is_sound c ranged in
+    let card = after_all (fresh c) before in
+    let these : AreAtLines (fresh c) (before ++ meanwhile) = subst (AreAtLines (fresh c)) split all in
+    let first = all-left (IsAtLine (fresh c)) before meanwhile these in
+    let kept = config-stays (fresh c) before in
+    let start = subst (λ (l : Line). NoneWaits c l) (sym (get_or-replicate c.lines number (fresh_line c) (fresh_line c) within)) (fresh-none c) in
+    let plain = (run-shows NoneWaits Passes rests joins steps (fresh c) before number begins first start).1 in
+    take-turns card.config one tei other its away (line_at number card) (links_begun (trace number (moments card meanwhile)))
+    (walks number one tei other its card meanwhile (always_sound (fresh c) before begins first) (subst (λ (c : Config). number < c.lines) (sym kept) within)
+    (subst (λ (c : Config). All (λ (e : Event). e.line < c.lines) meanwhile) (sym kept) (all-right (IsAtLine (fresh c)) before meanwhile these))
+    stays speaks (subst (λ c. NoneWaits c (line_at number card)) (sym kept) plain))
+    front between behind e

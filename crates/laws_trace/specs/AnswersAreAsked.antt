@@ -1,0 +1,68 @@
+-- Answers are asked for.
+use Rattle.std.specs.Prelude.{ℕ, ◌==◌, ◌&&◌, not, Bool, List, [], ◌∷◌, flat_map, Result, Ok, Err, if◌then◌else◌}
+use Rattle.lapd_bits.specs.Stream as stream
+use Rattle.lapd_frame.specs.declared.addresses.Side.TheVariants.{Network, User}
+use Rattle.lapd_frame.specs.declared.controls.Control.{Control}
+use Rattle.lapd_frame.specs.declared.controls.Control.TheVariants.{Information, ReceiveReady, ReceiveNotReady, Reject, Sabme, Disc, Ua, Dm}
+use Rattle.lapd_frame.specs.declared.faults.ReadFault.{ReadFault}
+use Rattle.lapd_frame.specs.declared.services.Service.{Service}
+use Rattle.lapd_frame.specs.Grammar.{Parts}
+use Rattle.lapd_frame.specs.Reading.{reading}
+use Rattle.lapd_frame.specs.Services.{sapi_of}
+use Rattle.model_line.specs.declared.config.Config.{Config}
+use Rattle.model_card.specs.Event.{Event}
+use Rattle.laws_trace.specs.Trace.{Seen, heard, begun, trace_of}
+
+-- What is asked and answered: SABME and DISC by UA or DM, with F = P; and other commands with P=1 by RR, RNR or REJ with
+-- F=1 (Q.921 clauses 3.5.1, 5.5 and 5.6).
+pub data Exchange : Type 0 where
+  mode : Bool → Exchange
+  poll : Exchange
+
+abbrev pub asked_by : Bool → Control → List Exchange
+asked_by command (Sabme p) = mode p ∷ []
+asked_by command (Disc p) = mode p ∷ []
+asked_by command (Information ns nr p) = if p then poll ∷ [] else []
+asked_by command (ReceiveReady nr p) = if command && p then poll ∷ [] else []
+asked_by command (ReceiveNotReady nr p) = if command && p then poll ∷ [] else []
+asked_by command (Reject nr p) = if command && p then poll ∷ [] else []
+asked_by command other = []
+
+abbrev pub answered_by : Bool → Control → List Exchange
+answered_by command (Ua f) = mode f ∷ []
+answered_by command (Dm f) = mode f ∷ []
+answered_by command (ReceiveReady nr f) = if not command && f then poll ∷ [] else []
+answered_by command (ReceiveNotReady nr f) = if not command && f then poll ∷ [] else []
+answered_by command (Reject nr f) = if not command && f then poll ∷ [] else []
+answered_by command other = []
+
+-- By the frames heard, and by those that begin, of the link of a service with a TEI.
+abbrev pub of_link : Service → ℕ → (Bool → Control → List Exchange) → Result Parts ReadFault → List Exchange
+of_link service tei by (Ok frame) =
+    if frame.address.sapi == sapi_of service && frame.address.tei == tei then by frame.address.command frame.control else []
+of_link service tei by (Err fault) = []
+
+abbrev pub asked_in : Service → ℕ → stream.Event → List Exchange
+asked_in service tei (stream.frame octets) = of_link service tei asked_by (reading User octets)
+asked_in service tei other = []
+
+abbrev pub asked_at : Service → ℕ → Seen → List Exchange
+asked_at service tei (heard event) = asked_in service tei event
+asked_at service tei other = []
+
+abbrev pub answered_at : Service → ℕ → Seen → List Exchange
+answered_at service tei (begun octets) = of_link service tei answered_by (reading Network octets)
+answered_at service tei other = []
+
+-- One list is another from which some things may be left out.
+pub data IsPart : List Exchange → List Exchange → Type 0 where
+  none : IsPart [] []
+  left_out : (x : Exchange) (some all : List Exchange) → IsPart some all → IsPart some (x ∷ all)
+  taken : (x : Exchange) (some all : List Exchange) → IsPart some all → IsPart (x ∷ some) (x ∷ all)
+
+-- The answers of a link that begin are among what was asked of it: each for one frame heard, of its kind and with its bit, in
+-- their order, and none twice. (What finds no room to wait, or what waits where a TEI leaves the line, is never answered.)
+abbrev pub AnswersAreAsked : Config → List Event → ℕ → Type 0
+AnswersAreAsked c events number =
+    (service : Service) (tei : ℕ) →
+    let t = trace_of c events number in IsPart (flat_map (answered_at service tei) t) (flat_map (asked_at service tei) t)

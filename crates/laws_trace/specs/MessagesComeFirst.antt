@@ -1,0 +1,25 @@
+-- Messages of TEI management come first, then unit data, then frames of links.
+use Rattle.std.specs.Prelude.{◌≡◌, ◌≤◌, ℕ, List, ◌∷◌, ◌++◌, if◌then◌else◌}
+use Rattle.model_line.specs.declared.config.Config.{Config}
+use Rattle.model_card.specs.Card.{fresh}
+use Rattle.model_card.specs.Event.{Event}
+use Rattle.model_card.specs.Run.{moments, after_all}
+use Rattle.laws_card.specs.Among.{ArePullsAt}
+use Rattle.laws_trace.specs.Trace.{trace, frames_begun}
+use Rattle.laws_trace.specs.LinksTakeTurns.{is_of_link}
+use Rattle.laws_trace.specs.Units.{is_unit}
+
+-- The rank of a frame: 0 of a message of TEI management, 1 of unit data, and 2 of a link (profile).
+abbrev pub rank : List ℕ → ℕ
+rank octets = if is_of_link octets then 2 else if is_unit octets then 1 else 0
+
+-- None begins before one of a lower rank.
+abbrev pub AreByRank : List (List ℕ) → Type 0
+AreByRank frames =
+    (one other : List ℕ) (before between behind : List (List ℕ)) → frames ≡ before ++ one ∷ (between ++ other ∷ behind) → rank one ≤ rank other
+
+-- So it is while a line is only pulled, after whatever happened to it (profile).
+abbrev pub MessagesComeFirst : Config → List Event → ℕ → Type 0
+MessagesComeFirst c events number =
+    (before pulls : List Event) → events ≡ before ++ pulls → ArePullsAt number pulls →
+    AreByRank (frames_begun (trace number (moments (after_all (fresh c) before) pulls)))

@@ -1,0 +1,63 @@
+-- Worked values: links that take turns, messages and unit data before them, and frames that break these laws.
+use Rattle.std.specs.Prelude.{◌≡◌, ◌≢◌, ◌≤◌, ℕ, List, [], ◌∷◌, ◌++◌, map, refl}
+use Rattle.std.proofs.Common.{ap, arith}
+use Rattle.lapd_bits.specs.Bits.{low_bits}
+use Rattle.lapd_frame.specs.declared.services.Service.TheVariants.{Call, Packet}
+use Rattle.lapd_frame.specs.declared.timers.Timer.TheVariants.{T200}
+use Rattle.lapd_frame.specs.Reading.{reading, header_of, control_of, unnumbered_of}
+use Rattle.lapd_tei.specs.Events as teis
+use Rattle.model_line.specs.Event.{expiry}
+use Rattle.model_line.specs.Machine as lines
+use Rattle.model_line.specs.Request.{Assign, Check, Establish}
+use Rattle.model_card.specs.Card.{fresh}
+use Rattle.model_card.specs.Event.{Event, at}
+use Rattle.model_card.specs.Run.{moments, after_all}
+use Rattle.laws_card.specs.Worked.{usual, on_0, hears}
+use Rattle.laws_trace.specs.LinksTakeTurns.{LinkName, links_begun, TakeTurns}
+use Rattle.laws_trace.specs.MessagesComeFirst.{rank, AreByRank}
+use Rattle.laws_trace.specs.Trace.{trace, frames_begun}
+use Rattle.laws_trace.specs.WorkedUnits.{unit, pulls, spelled}
+
+-- Both links of TEI 64 send SABME, and that of call control sends it again.
+abbrev both_up : List Event
+both_up = on_0 (Assign 64) ∷ on_0 (Establish Call 64) ∷ on_0 (Establish Packet 64) ∷ at 0 (expiry (T200 Call 64)) ∷ []
+
+abbrev call : LinkName
+call = record { sapi = 0; tei = 64 }
+
+abbrev packet : LinkName
+packet = record { sapi = 16; tei = 64 }
+
+turns_taken : links_begun (trace 0 (moments (after_all (fresh usual) both_up) (pulls 16))) ≡ call ∷ packet ∷ call ∷ []
+unfolding moments after_all lines.after lines.answer lines.takes_slot teis.course teis.refusal low_bits reading header_of control_of unnumbered_of
+turns_taken = refl
+
+-- An octet that comes meanwhile changes none of it.
+turns_taken_meanwhile : links_begun (trace 0 (moments (after_all (fresh usual) both_up) (pulls 4 ++ (hears 0x7E ∷ pulls 12)))) ≡ call ∷ packet ∷ call ∷ []
+unfolding moments after_all lines.after lines.answer lines.takes_slot teis.course teis.refusal low_bits reading header_of control_of unnumbered_of
+turns_taken_meanwhile = refl
+
+-- Where the first goes twice before the other, the law is broken.
+apart : call ≢ packet
+apart e = let same : 0 ≡ 16 = ap (λ (l : LinkName). l.sapi) e in absurd (omega (arith, same))
+
+none_among : (front back : List LinkName) → [] ≡ front ++ packet ∷ back → ⊥
+none_among [] back e = cc e
+none_among (y ∷ front) back e = cc e
+
+no_turns : TakeTurns (call ∷ call ∷ packet ∷ []) → ⊥
+no_turns law = let x = law call packet [] [] [] [] apart refl in none_among x.front x.back x.split
+
+-- A check of TEI management, unit data, and SABME, in this order, whatever was asked for first.
+in_their_order : map rank (frames_begun (trace 0 (moments (after_all (fresh usual) (on_0 (Assign 64) ∷ on_0 (Establish Call 64) ∷ on_0 (unit 1) ∷ on_0 (Check 64) ∷ [])) (pulls 22))))
+    ≡ 0 ∷ 1 ∷ 2 ∷ []
+unfolding moments after_all lines.after lines.answer lines.takes_slot teis.course teis.refusal low_bits reading header_of control_of unnumbered_of
+in_their_order = refl
+
+-- Where SABME goes before unit data, the law is broken.
+abbrev sabme : List ℕ
+sabme = 0x02 ∷ 0x81 ∷ 0x7F ∷ []
+
+out_of_order : AreByRank (sabme ∷ spelled 1 ∷ []) → ⊥
+unfolding reading header_of control_of unnumbered_of
+out_of_order law = let high : 2 ≤ 1 = law sabme (spelled 1) [] [] [] refl in omega (arith, high)

@@ -1,6 +1,6 @@
 -- The room stays.
 use Rattle.std.proofs.Common.{◌≡◌}
-use Rattle.test_bits.proofs.deframing.carried.Given as goal
+use Rattle.test_parts.proofs.bits.deframing.carried.Given as goal
 
 abbrev pub invariant-loop-turn : goal.invariant-loop-turn
 invariant-loop-turn g l = l.framer.room ≡ l.initial.framer.room

@@ -35,7 +35,7 @@ held_more c ms i held one within so_far more =
     next = omega arith
 
 -- what is stored is what the lines hold and what lies on the shelf
-sums : (c : Config) (ms : List line.Line) → sum_by (held_in c) ms + sum_by (octets_of c) ms ≡ sum_by (stored_in c) ms
+pub sums : (c : Config) (ms : List line.Line) → sum_by (held_in c) ms + sum_by (octets_of c) ms ≡ sum_by (stored_in c) ms
 sums c [] = refl
 sums c (m ∷ ms) = joined (held_in c m) (octets_of c m) _ _ _ _ _ (sum_by-cons (held_in c) m ms) (sum_by-cons (octets_of c) m ms) (sum_by-cons (stored_in c) m ms) (sums c ms)
   where

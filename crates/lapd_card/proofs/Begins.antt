@@ -19,7 +19,7 @@ use Rattle.lapd_card.specs.Lines.{IsFit, owned, IsFresh, AreFresh}
 use Rattle.lapd_card.specs.Stands.{Stands}
 use Rattle.lapd_card.specs.Start.{is_too_small}
 
-empty_list : {X : Type 0} (xs : List X) → length xs ≡ 0 → xs ≡ []
+pub empty_list : {X : Type 0} (xs : List X) → length xs ≡ 0 → xs ≡ []
 empty_list [] none = refl
 empty_list (x ∷ xs) none = absurd (omega (arith, none))
 

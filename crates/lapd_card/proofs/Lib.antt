@@ -1,4 +1,8 @@
 pub mod OneLine
+pub mod OneFrameLine
+pub mod OneHappening
+pub mod FrameAmounts
+pub mod FrameBegins
 pub mod OneEvent
 pub mod Taken
 pub mod Begins

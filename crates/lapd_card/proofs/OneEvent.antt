@@ -35,10 +35,10 @@ use Rattle.lapd_card.specs.Reply.{answer_of_result}
 use Rattle.lapd_card.specs.Stands.{Stands, Leads, HasPast}
 
 -- an event that finds room is one of its line
-after_served : (e : Event) (m : Card) → wants_room e m ≡ false → after e m ≡ record m { lines = after_event m.config e.line e.what m.lines }
+pub after_served : (e : Event) (m : Card) → wants_room e m ≡ false → after e m ≡ record m { lines = after_event m.config e.line e.what m.lines }
 after_served e m room = ap (λ b. record m { lines = if b then m.lines else after_event m.config e.line e.what m.lines }) room
 
-answer_served : (e : Event) (m : Card) → wants_room e m ≡ false → answer e m ≡ lines.answer m.config e.what (line_at e.line m)
+pub answer_served : (e : Event) (m : Card) → wants_room e m ≡ false → answer e m ≡ lines.answer m.config e.what (line_at e.line m)
 answer_served e m room = ap (λ b. if b then line_event.refused PoolFull else lines.answer m.config e.what (line_at e.line m)) room
 
 -- what takes no slot finds room
@@ -128,7 +128,7 @@ refusal_is store r number slots card o is says m s =
     ∙ says card.config m.lines s.lines
 
 -- a request that is not refused finds room
-accepted_has_room : (r : Request) (number : ℕ) (m : Card) → refusal m.config (is_full m) r (line_at number m) ≡ None → wants_room (at number (line_event.request r)) m ≡ false
+pub accepted_has_room : (r : Request) (number : ℕ) (m : Card) → refusal m.config (is_full m) r (line_at number m) ≡ None → wants_room (at number (line_event.request r)) m ≡ false
 accepted_has_room r number m none = go (wants_room (at number (line_event.request r)) m) refl
   where
     go : (b : Bool) → wants_room (at number (line_event.request r)) m ≡ b → b ≡ false

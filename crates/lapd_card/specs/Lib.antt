@@ -10,3 +10,6 @@ pub mod Card
 pub mod Stands
 pub mod Start
 pub mod Drive
+pub mod FrameCard
+pub mod FrameLines
+pub mod FrameStands

@@ -27,6 +27,8 @@
 //! - `start` with `fault`: how a card begins, and why it does not.
 //! - `stored`: how many octets it stores, and how many it may; `rooms`: how many contents more a link takes.
 //! - `lines`: the lines as one part.
+//! - `frame_card` with `frame_start` and `frame_lines`: [`FrameCard`], a card at whose lines a controller keeps flags, stuffed
+//!   0s and checks, and gives and takes whole frames. What kind a card is, is said at its start and stays.
 //!
 //! What the card does is defined below: a row of a link's tables (by state, in `specs/`) and its notes in
 //! `model_link`, those of TEI management in `lapd_tei`, the refusals of a line in `model_line`
@@ -41,6 +43,9 @@
 mod card;
 mod drive;
 mod fault;
+mod frame_card;
+mod frame_lines;
+mod frame_start;
 mod kept;
 mod lines;
 mod replies;
@@ -51,9 +56,11 @@ mod stored;
 
 pub use card::Card;
 pub use fault::CardFault;
+pub use frame_card::{FrameCard, RoomTooSmall};
 pub use kept::{Kept, KeptReply};
-pub use lapd_line::{BareReport, Config, Field, Pulled, Report, Request, Room};
+pub use lapd_line::{BareReport, Config, Field, NextFrame, Pulled, Report, Request, Room};
 pub use model_card::Event;
+pub use model_frames::Fault;
 pub use replies::Reply;
 pub use sink::{Sink, SinkFailed, SinkFault};
 pub use stored::limit;

@@ -43,7 +43,7 @@ impl<S: Shelf> Card<S> {
     }
 }
 
-fn is_too_small<S: Shelf>(config: &Config, shelf: &S) -> bool
+pub(crate) fn is_too_small<S: Shelf>(config: &Config, shelf: &S) -> bool
     ensures { result ≡ is_too_small config.now (S.store shelf.now) }
 {
     shelf.slots() < u32::from(config.slots) || shelf.width() < config.n201 || shelf.used() > 0

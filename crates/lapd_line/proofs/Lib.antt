@@ -16,5 +16,7 @@ pub mod PullTakesUnits
 pub mod PullTakesLinks
 pub mod Stood
 pub mod PullSteps
+pub mod FrameSteps
+pub mod FrameStood
 pub mod AnswerLaws
 pub mod RoomSteps

@@ -29,6 +29,7 @@ use Rattle.lapd_line.specs.declared.line.Line.{Line}
 use Rattle.lapd_line.specs.declared.link_layer.LinkLayer.{LinkLayer}
 use Rattle.lapd_line.specs.Begins.{Begins, with_frame}
 use Rattle.lapd_line.specs.LinkLayer as layer
+use Rattle.lapd_line.specs.Loading.{Loading, in_bits, in_octets}
 use Rattle.lapd_line.specs.Stands.{Stands, Leads, config_of}
 use Rattle.lapd_line.specs.Pulls.{Took, Takes, orders_taken}
 use Rattle.lapd_line.proofs.Quiet.{none_taken}
@@ -38,7 +39,7 @@ due_is : (m : machine.Line) (f : Framing) → framer.Stands f m.items m.given �
 due_is m f st = ap runs_low (left_is m f.left st.text)
 
 -- the bits of a line concern its entities only as far as it is sound
-with_bits : (e : LinkLayer) (s : Store) (others : List Owned) (m : machine.Line) (items : List Item) (given : List ℕ) → layer.Stands e s others m
+pub with_bits : (e : LinkLayer) (s : Store) (others : List Owned) (m : machine.Line) (items : List Item) (given : List ℕ) → layer.Stands e s others m
     → IsSound e.config (record m { items = items; given = given }) → layer.Stands e s others (record m { items = items; given = given })
 with_bits e s others m items given st sound = record {
   range = st.range;
@@ -84,9 +85,18 @@ none_waits line s nothing_waits = record {
     none : (others : List Owned) (m : machine.Line) → Stands line s others m → begun (config_of line) m ≡ None
     none others m st = ap (λ o. cond (is_due m) o None) (st.nothing_waits nothing_waits) ∙ either (is_due m)
 
+-- the framer in it
+framing_in : Loading → Framing → Framing
+framing_in (in_bits f) other = f
+framing_in (in_octets octets n) other = other
+
+same_framing : {f g : Framing} → in_bits g ≡ in_bits f → g ≡ f
+unfolding framing_in
+same_framing {f} {g} same = ap (λ l. framing_in l f) same
+
 -- one is due, and taken if there is one
 pub due_taken : (old : Line) (s : Store) (e : LinkLayer) (t : Store) (g : Framing) (orders : Option (List Order)) (q : Bool) → length old.framer.left < 8 → (q ≡ true → orders ≡ None)
-    → Takes taken old.layer s old.framer e t g orders → Begins old s (record old { layer = e; framer = g; nothing_waits = q }) t orders
+    → Takes taken old.layer s (in_bits old.framer) e t (in_bits g) orders → Begins old s (record old { layer = e; framer = g; nothing_waits = q }) t orders
 due_taken old s e t g orders q low none h = record {
   config = h.config;
   limits = h.limits;
@@ -109,7 +119,7 @@ due_taken old s e t g orders q low none h = record {
     is_taken : (others : List Owned) (m : machine.Line) → Stands old s others m → begun c m ≡ taken c m
     is_taken others m st = ap (λ b. cond b (taken c m) None) (due others m st)
 
-    same_orders : (others : List Owned) (m : machine.Line) (o : Option Taken) (os : Option (List Order)) → Took o os m e t others old.framer g → os ≡ option_map orders_of o
+    same_orders : (others : List Owned) (m : machine.Line) (o : Option Taken) (os : Option (List Order)) → Took o os m e t others (in_bits old.framer) (in_bits g) → os ≡ option_map orders_of o
     same_orders others m None None h = refl
     same_orders others m (Some k) (Some os) h = ap Some h.orders
     same_orders others m None (Some os) h = absurd h
@@ -120,10 +130,10 @@ due_taken old s e t g orders q low none h = record {
     with_taken others m st k is = ap (λ b. cond b (with_item (taken c m) m) m) (due others m st) ∙ ap (λ o. with_item o m) is
 
     stands : (others : List Owned) (m : machine.Line) → Stands old s others m → (o : Option Taken) → taken c m ≡ o → (os : Option (List Order)) → (q ≡ true → os ≡ None)
-        → Took o os m e t others old.framer g → Stands new t others (with_frame o m)
+        → Took o os m e t others (in_bits old.framer) (in_bits g) → Stands new t others (with_frame o m)
     stands others m st None is None nothing_waits (there, same) = record {
       received = subst (λ k. deframer.Stands k.n201 old.deframer m.received) (sym h.config) st.received;
-      sent = subst (λ f. framer.Stands f m.items m.given) (sym same) st.sent;
+      sent = subst (λ f. framer.Stands f m.items m.given) (sym (same_framing same)) st.sent;
       room = h.room ∙ st.room ∙ ap (λ k. k.n201) (sym h.config);
       layer = there;
       nothing_waits = λ on. ap (λ k. taken k m) h.config ∙ is;

@@ -2,9 +2,6 @@
 use Rattle.std.proofs.Common.{◌≡◌, ℕ, List, [], ◌∷◌, ◌++◌, take, drop, slice_get, Option, Some, None, option_map, refl, ap, sym, ◌∙◌, subst}
 use Rattle.std.proofs.lemmas.Option.{same_Some}
 use Rattle.std.specs.Option.{option_or}
-use Rattle.lapd_bits.specs.Framer as framer
-use Rattle.lapd_bits.specs.Framer.{Framing}
-use Rattle.lapd_bits.specs.Sent.{Item, frame}
 use Rattle.lapd_frame.specs.declared.timers.Order.{Order}
 use Rattle.lapd_store.specs.Ownership.{Owned}
 use Rattle.lapd_store.specs.Store.{Store}
@@ -19,6 +16,7 @@ use Rattle.model_line.specs.Line.{Line}
 use Rattle.model_line.specs.Pull.{Taken, with_message, message_taken}
 use Rattle.lapd_line.specs.declared.link_layer.LinkLayer.{LinkLayer}
 use Rattle.lapd_line.specs.LinkLayer.{Stands}
+use Rattle.lapd_line.specs.Loading.{Loading, Loads, room_in}
 use Rattle.lapd_line.specs.Pulls.{HasTaken, Took, Takes}
 
 pub append_none : {A : Type 0} (xs : List A) → xs ++ [] ≡ xs
@@ -26,7 +24,7 @@ append_none [] = refl
 append_none (x ∷ xs) = ap (λ l. x ∷ l) (append_none xs)
 
 -- what one source gives, or else another
-pub takes_or : {first second : Config → Line → Option Taken} {a b c : LinkLayer} {s t u : Store} {f g h : Framing} {orders : Option (List Order)}
+pub takes_or : {first second : Config → Line → Option Taken} {a b c : LinkLayer} {s t u : Store} {f g h : Loading} {orders : Option (List Order)}
     → Takes first a s f b t g None → Takes second b t g c u h orders
     → Takes (λ config m. option_or (first config m) (second config m)) a s f c u h orders
 takes_or {first} {second} {a} {b} {c} {s} {t} {u} {f} {g} {h} {orders} none then = record {
@@ -45,7 +43,7 @@ takes_or {first} {second} {a} {b} {c} {s} {t} {u} {f} {g} {h} {orders} none then
     go others m None (st, same) = again others m st same
     go others m (Some k) h = absurd h
 
-pub takes_first : (second : Config → Line → Option Taken) {first : Config → Line → Option Taken} {a b : LinkLayer} {s t : Store} {f g : Framing} {orders : List Order}
+pub takes_first : (second : Config → Line → Option Taken) {first : Config → Line → Option Taken} {a b : LinkLayer} {s t : Store} {f g : Loading} {orders : List Order}
     → Takes first a s f b t g (Some orders) → Takes (λ config m. option_or (first config m) (second config m)) a s f b t g (Some orders)
 takes_first second {first} {a} {b} {s} {t} {f} {g} {orders} some = record {
   config = some.config;
@@ -59,7 +57,7 @@ takes_first second {first} {a} {b} {s} {t} {f} {g} {orders} some = record {
     go others m (Some k) h = h
 
 -- the same of two sources that are the same for every past that stands
-pub takes_as : {first second : Config → Line → Option Taken} {a b : LinkLayer} {s t : Store} {f g : Framing} {orders : Option (List Order)}
+pub takes_as : {first second : Config → Line → Option Taken} {a b : LinkLayer} {s t : Store} {f g : Loading} {orders : Option (List Order)}
     → ((others : List Owned) (m : Line) → Stands a s others m → first a.config m ≡ second a.config m)
     → Takes first a s f b t g orders → Takes second a s f b t g orders
 takes_as {first} {second} {a} {b} {s} {t} {f} {g} {orders} same h = record {
@@ -116,8 +114,8 @@ whole : (w : List Message) (octets : List ℕ) → Some octets ≡ option_map fr
 whole [] octets is = absurd (cc)
 whole (x ∷ w) octets is = subst (λ l. take 4 l ++ take 4 (drop 4 l) ≡ l) (same_Some (frame_of x) octets (sym is)) (whole_message x)
 
-pub message_loaded : (e : LinkLayer) (s : Store) (f g : Framing) (octets : List ℕ) → Some octets ≡ offered e.teis → g.room ≡ f.room
-    → ((items : List Item) (given : List ℕ) → framer.Stands f items given → framer.Stands g (items ++ frame (take 4 octets ++ take 4 (drop 4 octets)) ∷ []) given)
+pub message_loaded : (e : LinkLayer) (s : Store) (f g : Loading) (octets : List ℕ) → Some octets ≡ offered e.teis → room_in g ≡ room_in f
+    → Loads (take 4 octets ++ take 4 (drop 4 octets)) f g
     → Takes (λ c m. message_taken m) e s f (record e { teis = after_offer e.teis }) s g (Some [])
 message_loaded e s f g octets some room loaded = record {
   config = refl;
@@ -128,7 +126,7 @@ message_loaded e s f g octets some room loaded = record {
       let has : HasTaken (with_message m octets) [] (record e { teis = after_offer e.teis }) s others f g = record {
         orders = refl;
         stands = without_message e s others m st;
-        loaded = λ items given h. subst (λ l. framer.Stands g (items ++ frame l ∷ []) given) (whole e.teis.waiting octets some) (loaded items given h);
+        loaded = subst (λ l. Loads l f g) (whole e.teis.waiting octets some) loaded;
       } in
       subst (λ o. Took o (Some []) m (record e { teis = after_offer e.teis }) s others f g) (sym same) has;
 }

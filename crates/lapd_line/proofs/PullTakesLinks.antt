@@ -4,9 +4,6 @@ use Rattle.std.proofs.lemmas.List.{set-get_or, length-map}
 use Rattle.std.proofs.lemmas.Option.{none-some, slice_get_cases, slice_get-map}
 use Rattle.std.specs.List.{range_with_len}
 use Rattle.std.specs.Option.{option_or, unwrap_or}
-use Rattle.lapd_bits.specs.Framer as framer
-use Rattle.lapd_bits.specs.Framer.{Framing}
-use Rattle.lapd_bits.specs.Sent.{Item, frame}
 use Rattle.lapd_frame.specs.declared.addresses.Address.{Address}
 use Rattle.lapd_frame.specs.declared.addresses.Side.TheVariants.{Network}
 use Rattle.lapd_frame.specs.declared.timers.Order.{Order}
@@ -42,6 +39,7 @@ use Rattle.lapd_line.specs.LinkLayer.{Stands, Standing}
 use Rattle.lapd_line.specs.Awake.{IsAwake, IsAsleep, FallsAsleep, NoneMissed}
 use Rattle.lapd_line.specs.Links.{LinksStand, HasTerms, IsGiven, Offers, links_pairs, terms_in}
 use Rattle.lapd_line.specs.Units.{unit_pairs}
+use Rattle.lapd_line.specs.Loading.{Loading, Loads, room_in}
 use Rattle.lapd_line.specs.Pulls.{HasTaken, Took, Takes}
 use Rattle.lapd_line.proofs.AwakeSteps.{none_missed_at, none_missed_asleep}
 use Rattle.lapd_line.proofs.LayerSteps.{beside_links, links_part, links_back}
@@ -109,7 +107,7 @@ known e s others m number few st = go (tei_at (place_at number) m) refl (st.soun
     go None at fresh (inr (past, none)) = absurd (omega (arith, past, few, st.count))
 
 -- a link that has nothing to give is passed over
-pub no_link : (e : LinkLayer) (s : Store) (f : Framing) (number : ℕ) (new : List Link) (awake : Awake) → number < link_count e.config → Offers number e.links new None
+pub no_link : (e : LinkLayer) (s : Store) (f : Loading) (number : ℕ) (new : List Link) (awake : Awake) → number < link_count e.config → Offers number e.links new None
     → FallsAsleep number e.awake awake → Takes (λ c m. link_taken c m number) e s f (record e { links = new; awake = awake }) s f None
 no_link e s f number new awake few o falls = record {
   config = refl;
@@ -148,7 +146,7 @@ gives e s others m number new o few st offers =
     record { has = has; is = offers.given e.config (terms_at e.config number m) s (beside_links e m others) m.links has part }
 
 -- its address and contents make a frame
-pub record Loads (e : LinkLayer) (s : Store) (o : Offer) (address : Address) (info : List ℕ) : Type 0 where
+pub record CanLoad (e : LinkLayer) (s : Store) (o : Offer) (address : Address) (info : List ℕ) : Type 0 where
   pub frame : IsFrame (record { address = address; control = o.frame.control; info = [] })
   pub size : length info ≤ e.config.n201
 
@@ -168,7 +166,7 @@ still e number new t same has = subst (λ l. slice_get l number ≡ Some t) (sym
 pub loads : (e : LinkLayer) (s : Store) (number : ℕ) (new : List Link) (o : Offer) (address : Address) (info : List ℕ) → number < link_count e.config → Standing e s
     → Offers number e.links new (Some o)
     → ((t : Terms) → HasTerms new number t → address ≡ address_at t o.frame.command)
-    → info ≡ unwrap_or (contents_in s o.contents) [] → Loads e s o address info
+    → info ≡ unwrap_or (contents_in s o.contents) [] → CanLoad e s o address info
 loads e s number new o address info few (others, m, st) offers named is =
     let g = gives e s others m number new o few st offers in
     let t = terms_at e.config number m in
@@ -197,12 +195,11 @@ turned e s others m number new ms st same sound stand asleep = record {
 }
 
 -- what a link gives is loaded
-pub link_loaded : (e : LinkLayer) (s : Store) (f g : Framing) (number : ℕ) (new : List Link) (o : Offer) (address : Address) (info : List ℕ) → number < link_count e.config
+pub link_loaded : (e : LinkLayer) (s : Store) (f g : Loading) (number : ℕ) (new : List Link) (o : Offer) (address : Address) (info : List ℕ) → number < link_count e.config
     → IsAwake e.awake number → Offers number e.links new (Some o)
     → ((t : Terms) → HasTerms new number t → address ≡ address_at t o.frame.command)
-    → info ≡ unwrap_or (contents_in s o.contents) [] → g.room ≡ f.room
-    → ((items : List Item) (given : List ℕ) → framer.Stands f items given
-    → framer.Stands g (items ++ frame (spelling Network (record { address = address; control = o.frame.control; info = info })) ∷ []) given)
+    → info ≡ unwrap_or (contents_in s o.contents) [] → room_in g ≡ room_in f
+    → Loads (spelling Network (record { address = address; control = o.frame.control; info = info })) f g
     → Takes (λ c m. link_taken c m number) e s f (record e { links = new; turn = number + 1 }) s g (Some (listed o.orders))
 link_loaded e s f g number new o address info few awake offers named is room loaded = record {
   config = refl;
@@ -219,10 +216,9 @@ link_loaded e s f g number new o address info few awake offers named is room loa
       let has : HasTaken (with_given_frame m number t what) (listed o.orders) (record e { links = new; turn = number + 1 }) s others f g = record {
         orders = refl;
         stands = turned e s others m number new _ st offers.terms sound.line stand (none_missed_at e.awake e.links new m.links number _ awake offers.terms st.asleep);
-        loaded = λ items given h.
-            subst (λ a. framer.Stands g (items ++ frame (spelling Network (record { address = a; control = o.frame.control; info = unwrap_or (contents_in s o.contents) [] })) ∷ []) given) (named t (still e number new t offers.terms gave.has))
-            (subst (λ x. framer.Stands g (items ++ frame (spelling Network (record { address = address; control = o.frame.control; info = x })) ∷ []) given) is
-            (loaded items given h));
+        loaded =
+            subst (λ a. Loads (spelling Network (record { address = a; control = o.frame.control; info = unwrap_or (contents_in s o.contents) [] })) f g) (named t (still e number new t offers.terms gave.has))
+            (subst (λ x. Loads (spelling Network (record { address = address; control = o.frame.control; info = x })) f g) is loaded);
       } in
       subst (λ x. Took x (Some (listed o.orders)) m (record e { links = new; turn = number + 1 }) s others f g) (sym same) has;
 }
@@ -258,7 +254,7 @@ among from n c m = first_taken c m (range_with_len from n)
 among_append : (c : Config) (m : Line) (a n k : ℕ) → option_or (among a n c m) (among (a + n) k c m) ≡ among a (n + k) c m
 among_append c m a n k = sym (ap (first_taken c m) (range_append a n k) ∙ first_append c m (range_with_len a n) (range_with_len (a + n) k))
 
-pub none_among : (e : LinkLayer) (s : Store) (f : Framing) (from : ℕ) → Takes (among from (from - from)) e s f e s f None
+pub none_among : (e : LinkLayer) (s : Store) (f : Loading) (from : ℕ) → Takes (among from (from - from)) e s f e s f None
 none_among e s f from =
     let none : 0 ≡ from - from = omega arith in
     subst (λ n. Takes (among from n) e s f e s f None) none (record {
@@ -269,7 +265,7 @@ none_among e s f from =
     })
 
 -- one link more that has nothing to give
-pub one_more : (from number : ℕ) {a b c : LinkLayer} {s t u : Store} {f g h : Framing} → from ≤ number
+pub one_more : (from number : ℕ) {a b c : LinkLayer} {s t u : Store} {f g h : Loading} → from ≤ number
     → Takes (among from (number - from)) a s f b t g None → Takes (λ c m. link_taken c m number) b t g c u h None
     → Takes (among from (number + 1 - from)) a s f c u h None
 one_more from number {a} {b} {c} {s} {t} {u} {f} {g} {h} order before now =
@@ -282,7 +278,7 @@ one_more from number {a} {b} {c} {s} {t} {u} {f} {g} {h} order before now =
     (takes_or {first = among from (number - from)} {second = λ c m. link_taken c m number} before now)
 
 -- the first that has something to give
-pub found : (from number to : ℕ) {a b c : LinkLayer} {s t u : Store} {f g h : Framing} {orders : List Order} → from ≤ number → number < to
+pub found : (from number to : ℕ) {a b c : LinkLayer} {s t u : Store} {f g h : Loading} {orders : List Order} → from ≤ number → number < to
     → Takes (among from (number - from)) a s f b t g None → Takes (λ c m. link_taken c m number) b t g c u h (Some orders)
     → Takes (among from (to - from)) a s f c u h (Some orders)
 found from number to {a} {b} {c} {s} {t} {u} {f} {g} {h} {orders} order within before now =
@@ -312,7 +308,7 @@ none_of c m from (suc n) none =
     ∙ none_of c m (from + 1) n (λ number low high. none number (omega (arith, low)) (omega (arith, high)))
 
 -- so they are passed over
-pub passed : (from next number : ℕ) {a b : LinkLayer} {s t : Store} {f g : Framing} → from ≤ next → next ≤ number → number ≤ link_count a.config
+pub passed : (from next number : ℕ) {a b : LinkLayer} {s t : Store} {f g : Loading} → from ≤ next → next ≤ number → number ≤ link_count a.config
     → ((n : ℕ) → next ≤ n → n < number → IsAsleep b.awake n)
     → Takes (among from (next - from)) a s f b t g None → Takes (among from (number - from)) a s f b t g None
 passed from next number {a} {b} {s} {t} {f} {g} order more within asleep h =
@@ -332,8 +328,8 @@ passed from next number {a} {b} {s} {t} {f} {g} order more within asleep h =
     ∙ ap (λ n. among from n a.config m) (omega (arith, order, more)))
     (takes_or {first = among from (next - from)} {second = among next (number - next)} h over)
 
--- where nothing was taken, a past stands still, and the framer is as it was
-pub none_stands : {source : Config → Line → Option Taken} {a b : LinkLayer} {s t : Store} {f g : Framing} → Takes source a s f b t g None → Standing a s → Standing b t × (g ≡ f)
+-- where nothing was taken, a past stands still, and what a frame is loaded into is as it was
+pub none_stands : {source : Config → Line → Option Taken} {a b : LinkLayer} {s t : Store} {f g : Loading} → Takes source a s f b t g None → Standing a s → Standing b t × (g ≡ f)
 none_stands {source} {a} {b} {s} {t} {f} {g} h (others, m, st) = go (source a.config m) (h.took others m st)
   where
     go : (o : Option Taken) → Took o None m b t others f g → Standing b t × (g ≡ f)
@@ -370,14 +366,14 @@ round_is e s others m st =
     ∙ ap (λ l. first_taken e.config m (l ++ range_with_len 0 m.turn)) (ap (λ b. range_with_len b (n - m.turn)) first ∙ sym (drop_range 0 n m.turn few))
     ∙ ap (λ l. first_taken e.config m (drop m.turn (range_with_len 0 n) ++ l)) (sym (take_range 0 n m.turn few))
 
-pub round_found : (e : LinkLayer) (count : ℕ) {b : LinkLayer} {s t : Store} {f g : Framing} {orders : List Order} → count ≡ length e.links
+pub round_found : (e : LinkLayer) (count : ℕ) {b : LinkLayer} {s t : Store} {f g : Loading} {orders : List Order} → count ≡ length e.links
     → Takes (among e.turn (count - e.turn)) e s f b t g (Some orders) → Takes (λ c m. first_taken c m (round c m)) e s f b t g (Some orders)
 round_found e count {b} {s} {t} {f} {g} {orders} is h =
     takes_as {first = λ c m. option_or (among e.turn (count - e.turn) c m) (among 0 (e.turn - 0) c m)} {second = λ c m. first_taken c m (round c m)}
     (λ others m st. ap (λ n. option_or (among e.turn (n - e.turn) e.config m) (among 0 (e.turn - 0) e.config m)) (is ∙ st.count) ∙ round_is e s others m st)
     (takes_first (among 0 (e.turn - 0)) {first = among e.turn (count - e.turn)} h)
 
-pub round_ends : (e : LinkLayer) (count : ℕ) {b c : LinkLayer} {s t u : Store} {f g h : Framing} {orders : Option (List Order)} → count ≡ length e.links
+pub round_ends : (e : LinkLayer) (count : ℕ) {b c : LinkLayer} {s t u : Store} {f g h : Loading} {orders : Option (List Order)} → count ≡ length e.links
     → Takes (among e.turn (count - e.turn)) e s f b t g None → Takes (among 0 (e.turn - 0)) b t g c u h orders
     → Takes (λ c m. first_taken c m (round c m)) e s f c u h orders
 round_ends e count {b} {c} {s} {t} {u} {f} {g} {h} {orders} is before now =

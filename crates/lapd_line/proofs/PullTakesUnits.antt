@@ -3,9 +3,6 @@ use Rattle.std.proofs.Common.{◌≡◌, ℕ, ◌≤◌, ◌<◌, List, [], ◌�
 use Rattle.std.specs.Prelude.{All}
 use Rattle.std.proofs.lemmas.List.Elements.{All-head, All-drop}
 use Rattle.std.proofs.lemmas.Option.{none-some, same_Some}
-use Rattle.lapd_bits.specs.Framer as framer
-use Rattle.lapd_bits.specs.Framer.{Framing}
-use Rattle.lapd_bits.specs.Sent.{Item, frame}
 use Rattle.lapd_frame.specs.declared.addresses.Side.TheVariants.{Network}
 use Rattle.lapd_frame.specs.declared.controls.Control.TheVariants.{Ui}
 use Rattle.lapd_frame.specs.declared.services.Service.{Service}
@@ -25,6 +22,7 @@ use Rattle.lapd_line.specs.declared.units.QueuedUnit.{QueuedUnit}
 use Rattle.lapd_line.specs.LinkLayer.{Stands}
 use Rattle.lapd_line.specs.Links.{links_pairs}
 use Rattle.lapd_line.specs.Units.{AreFor, slots_of, messages_of, unit_pairs, without_oldest}
+use Rattle.lapd_line.specs.Loading.{Loading, Loads, room_in}
 use Rattle.lapd_line.specs.Pulls.{HasTaken, Took, Takes}
 
 -- as many wait as the machine has
@@ -118,7 +116,7 @@ none_for [] [] none h = refl
 none_for [] (d ∷ ds) none h = absurd h
 none_for (u ∷ us) ds none h = absurd (none-some u none)
 
-pub no_unit : (e : LinkLayer) (s : Store) (f : Framing) → None ≡ slice_get e.units.waiting 0 → Takes (λ c m. unit_taken m) e s f e s f None
+pub no_unit : (e : LinkLayer) (s : Store) (f : Loading) → None ≡ slice_get e.units.waiting 0 → Takes (λ c m. unit_taken m) e s f e s f None
 no_unit e s f none = record {
   config = refl;
   limits = record { slots = refl; width = refl };
@@ -128,10 +126,9 @@ no_unit e s f none = record {
       subst (λ o. Took o None m e s others f f) (sym same) (st, refl);
 }
 
-pub unit_loaded : (e : LinkLayer) (s t : Store) (f g : Framing) (u : QueuedUnit) (sapi : ℕ) (octets : List ℕ) → slice_get e.units.waiting 0 ≡ Some u
-    → sapi ≡ sapi_of u.service → contents_of s u.slot ≡ Some octets → t ≡ without s u.slot → SameLimits s t → g.room ≡ f.room
-    → ((items : List Item) (given : List ℕ) → framer.Stands f items given
-    → framer.Stands g (items ++ frame (spelling Network (record { address = record { sapi = sapi; command = true; tei = u.tei }; control = Ui false; info = octets })) ∷ []) given)
+pub unit_loaded : (e : LinkLayer) (s t : Store) (f g : Loading) (u : QueuedUnit) (sapi : ℕ) (octets : List ℕ) → slice_get e.units.waiting 0 ≡ Some u
+    → sapi ≡ sapi_of u.service → contents_of s u.slot ≡ Some octets → t ≡ without s u.slot → SameLimits s t → room_in g ≡ room_in f
+    → Loads (spelling Network (record { address = record { sapi = sapi; command = true; tei = u.tei }; control = Ui false; info = octets })) f g
     → Takes (λ c m. unit_taken m) e s f (record e { units = without_oldest e.units }) t g (Some [])
 unit_loaded e s t f g u sapi octets is sapi_is contents free limits room loaded = record {
   config = refl;
@@ -145,11 +142,10 @@ unit_loaded e s t f g u sapi octets is sapi_is contents free limits room loaded 
       let has : HasTaken (with_unit m o.unit) [] (record e { units = without_oldest e.units }) t others f g = record {
         orders = refl;
         stands = without_unit e s t others m u st is free;
-        loaded = λ items given h.
-            subst (λ x. framer.Stands g (items ++ frame (spelling Network (record { address = record { sapi = x; command = true; tei = o.unit.tei }; control = Ui false; info = o.unit.contents })) ∷ []) given) number
-            (subst (λ x. framer.Stands g (items ++ frame (spelling Network (record { address = record { sapi = sapi; command = true; tei = x }; control = Ui false; info = o.unit.contents })) ∷ []) given) o.tei
-            (subst (λ x. framer.Stands g (items ++ frame (spelling Network (record { address = record { sapi = sapi; command = true; tei = u.tei }; control = Ui false; info = x })) ∷ []) given) info
-            (loaded items given h)));
+        loaded =
+            subst (λ x. Loads (spelling Network (record { address = record { sapi = x; command = true; tei = o.unit.tei }; control = Ui false; info = o.unit.contents })) f g) number
+            (subst (λ x. Loads (spelling Network (record { address = record { sapi = sapi; command = true; tei = x }; control = Ui false; info = o.unit.contents })) f g) o.tei
+            (subst (λ x. Loads (spelling Network (record { address = record { sapi = sapi; command = true; tei = u.tei }; control = Ui false; info = x })) f g) info loaded));
       } in
       subst (λ x. Took x (Some []) m (record e { units = without_oldest e.units }) t others f g) (sym same) has;
 }

@@ -81,21 +81,21 @@ octets_fit : (c : Config) (p : Link × machine.Link) → LinkFits c p → owned_
 octets_fit c p fit = owned_octets-pairs_of (link.slots_of p.0) (queue_of p.1) fit.lengths
 
 -- and all links
-slots_of_links : (e : LinkLayer) (s : Store) (others : List Owned) (m : machine_line.Line) → layer.Stands e s others m → length (links_pairs e.links m.links) ≡ sum_of_links e.config (slots_by_link m)
+pub slots_of_links : (e : LinkLayer) (s : Store) (others : List Owned) (m : machine_line.Line) → layer.Stands e s others m → length (links_pairs e.links m.links) ≡ sum_of_links e.config (slots_by_link m)
 slots_of_links e s others m st =
     slots-machines link_pairs (λ l. length (queue_of l)) e.links m.links (st.count ∙ sym st.sound.count) (λ k d within. slots_fit e.config _ (st.links k d within))
     ∙ sym (sum_places (λ l. length (queue_of l)) m.links machine.fresh (machine_line.link_count e.config) st.sound.count)
 
-octets_of_links : (e : LinkLayer) (s : Store) (others : List Owned) (m : machine_line.Line) → layer.Stands e s others m → owned_octets (links_pairs e.links m.links) ≡ sum_of_links e.config (octets_by_link m)
+pub octets_of_links : (e : LinkLayer) (s : Store) (others : List Owned) (m : machine_line.Line) → layer.Stands e s others m → owned_octets (links_pairs e.links m.links) ≡ sum_of_links e.config (octets_by_link m)
 octets_of_links e s others m st =
     octets-machines link_pairs (λ l. total_length (queue_of l)) e.links m.links (st.count ∙ sym st.sound.count) (λ k d within. octets_fit e.config _ (st.links k d within))
     ∙ sym (sum_places (λ l. total_length (queue_of l)) m.links machine.fresh (machine_line.link_count e.config) st.sound.count)
 
 -- and the unit data that waits
-slots_of_units : (us : List QueuedUnit) (ds : List UnitData) → AreFor us ds → length (unit_pairs us ds) ≡ length ds
+pub slots_of_units : (us : List QueuedUnit) (ds : List UnitData) → AreFor us ds → length (unit_pairs us ds) ≡ length ds
 slots_of_units us ds same = length-pairs_of (units.slots_of us) (messages_of ds) (as_many us ds same) ∙ as_many us ds same ∙ length-map ds contents_of
 
-octets_of_units : (us : List QueuedUnit) (ds : List UnitData) → AreFor us ds → owned_octets (unit_pairs us ds) ≡ sum_by unit_length ds
+pub octets_of_units : (us : List QueuedUnit) (ds : List UnitData) → AreFor us ds → owned_octets (unit_pairs us ds) ≡ sum_by unit_length ds
 octets_of_units us ds same = owned_octets-pairs_of (units.slots_of us) (messages_of ds) (as_many us ds same) ∙ fold-map (λ a octets. a + length octets) contents_of 0 ds
 
 -- a line owns as many slots as its machine keeps contents, and as many octets as are in them

@@ -12,5 +12,7 @@ pub mod Addressing
 pub mod TeiChanges
 pub mod Stands
 pub mod Requests
+pub mod Loading
 pub mod Pulls
 pub mod Begins
+pub mod FrameStands

@@ -4,12 +4,15 @@
 //! every past (`specs/Stands.antt` says what a line stands for). Contents that wait lie on a shelf that other lines use
 //! too. After the start no call takes memory.
 //!
+//! A [`FrameLine`] is the same for a line whose flags, stuffed 0s and checks are a controller's. It takes and gives whole
+//! frames, and stands for a line that has had the octets which these mean (`model_frames`).
+//!
 //! - `line`: the calls: an octet that comes, a timer that expires, a request, and an octet that goes out; and the state
-//!   of a link, how much room it has, and how many octets the line stores.
+//!   of a link, how much room it has, and how many octets the line stores; `frame_line`: the same for whole frames.
 //! - `link_layer`: what the calls change beside the bits: TEI management, links and units; `starts`, how they begin;
 //!   `addressing`, what is heard; `expiries`, timers; `tei_changes`, links that open and are cleared; `requests`, what
-//!   is requested of a link, of TEI management and as unit data; `pulls`, what goes out; `held`, what they store; `rooms`, how
-//!   much more contents they take.
+//!   is requested of a link, of TEI management and as unit data; `pulls`, what goes out, and `outlet`, where to; `held`,
+//!   what they store; `rooms`, how much more contents they take.
 //! - `links`, `units`: the links of all places of the TEI table, and the unit data that waits; `awake`, which links may
 //!   have something to give.
 //! - `reports`, `pulled`: the answers; `fault`: why a line can't be started.
@@ -23,10 +26,12 @@ mod addressing;
 mod awake;
 mod expiries;
 mod fault;
+mod frame_line;
 mod held;
 mod line;
 mod link_layer;
 mod links;
+mod outlet;
 mod pulled;
 mod pulls;
 mod reports;
@@ -37,6 +42,7 @@ mod tei_changes;
 mod units;
 
 pub use fault::StartFault;
+pub use frame_line::{FrameLine, NextFrame};
 pub use lapd_link::Room;
 pub use line::Line;
 pub use model_line::{Config, Field, Request};

@@ -3,8 +3,6 @@
 ghost use Rattle.std.specs.Prelude.{◌≡◌, ℕ, ◌-◌, ◌<◌, ◌≤◌, List, [], ◌∷◌, ◌++◌, length, IfSome};
 ghost use Rattle.std.specs.List.{range_with_len};
 ghost use Rattle.std.specs.Option.{unwrap_or};
-ghost use Rattle.lapd_bits.specs.Framer as framing;
-ghost use Rattle.lapd_bits.specs.Sent.{Item, frame};
 ghost use Rattle.lapd_frame.specs.declared.addresses.Side.TheVariants.{Network};
 ghost use Rattle.lapd_frame.specs.Grammar.{IsFrame, spelling};
 ghost use Rattle.lapd_store.specs.Store.{Store, IsUsed};
@@ -12,21 +10,21 @@ ghost use Rattle.lapd_link.specs.Outcome.{contents_in};
 ghost use Rattle.model_line.specs.Line.{link_count};
 ghost use Rattle.model_line.specs.Pull.{message_taken, unit_taken, link_taken, first_taken, taken};
 ghost use Rattle.lapd_line.specs.Awake.{IsAwake};
+ghost use Rattle.lapd_line.specs.Loading.{IsFree, Loads, room_in};
 ghost use Rattle.lapd_line.specs.Pulls.{Takes, orders_taken};
 
 use crate::link_layer::LinkLayer;
-use lapd_bits::Framer;
+use crate::outlet::Outlet;
 use lapd_frame::{Address, Control, Frame, Order, ShortList, Side, write};
 use lapd_store::{Shelf, Slot};
 
 /// Loads a frame of the network, whose information is apart from it.
-fn load(framer: &mut Framer, address: Address, control: Control, info: &[u8])
-    requires not_busy { length framer.old.left < 8 }
+fn load<O: Outlet>(out: &mut O, address: Address, control: Control, info: &[u8])
+    requires free { IsFree (O.loading out.old) }
     requires frame { IsFrame (record { address = address; control = control; info = [] }) }
-    requires info { length info.now ≤ framer.old.room }
-    ensures room { framer.new.room ≡ framer.old.room }
-    ensures stands { (items : List Item) (given : List ℕ) → framing.Stands framer.old items given
-        → framing.Stands framer.new (items ++ frame (spelling Network (record { address = address; control = control; info = info.now })) ∷ []) given }
+    requires info { length info.now ≤ room_in (O.loading out.old) }
+    ensures room { room_in (O.loading out.new) ≡ room_in (O.loading out.old) }
+    ensures loaded { Loads (spelling Network (record { address = address; control = control; info = info.now })) (O.loading out.old) (O.loading out.new) }
 {
     let mut head = [0; 4];
     let frame = Frame {
@@ -35,7 +33,7 @@ fn load(framer: &mut Framer, address: Address, control: Control, info: &[u8])
         info: &[],
     };
     let len = write(Side::Network, &frame, &mut head);
-    framer.load(&head[..len], info);
+    out.load(&head[..len], info);
 }
 
 /// The contents that lie in the slot of an I-frame; no other frame has contents.
@@ -55,48 +53,48 @@ impl LinkLayer {
     /// Takes the frame that is next, if there is one, and loads it: the oldest message of TEI management, else the
     /// oldest unit data, else what the first of the links has to give, going round from the one after that which was
     /// served last. Answers the orders for timers.
-    pub(crate) fn take<S: Shelf>(
+    pub(crate) fn take<O: Outlet, S: Shelf>(
         &mut self,
-        framer: &mut Framer,
+        out: &mut O,
         shelf: &mut S,
     ) -> Option<ShortList<Order>>
         requires stands { Standing self.old (S.store shelf.old) }
-        requires not_busy { length framer.old.left < 8 }
-        requires room { framer.old.room ≡ self.old.config.n201 }
-        ensures { Takes taken self.old (S.store shelf.old) framer.old self.new (S.store shelf.new) framer.new (orders_taken result) }
+        requires free { IsFree (O.loading out.old) }
+        requires room { self.old.config.n201 ≤ room_in (O.loading out.old) }
+        ensures { Takes taken self.old (S.store shelf.old) (O.loading out.old) self.new (S.store shelf.new) (O.loading out.new) (orders_taken result) }
     {
-        if let Some(orders) = self.take_message(framer) {
+        if let Some(orders) = self.take_message(out) {
             return Some(orders);
         }
-        if let Some(orders) = self.take_unit(framer, shelf) {
+        if let Some(orders) = self.take_unit(out, shelf) {
             return Some(orders);
         }
         let (turn, count) = (self.turn, self.links.len());
-        if let Some(orders) = self.take_first(turn, count, framer, shelf) {
+        if let Some(orders) = self.take_first(turn, count, out, shelf) {
             return Some(orders);
         }
-        self.take_first(0, turn, framer, shelf)
+        self.take_first(0, turn, out, shelf)
     }
 
     /// What the first of these links has to give. Only those that are awake are asked. Where none is, that costs no call.
     #[inline(always)]
-    fn take_first<S: Shelf>(
+    fn take_first<O: Outlet, S: Shelf>(
         &mut self,
         from: usize,
         to: usize,
-        framer: &mut Framer,
+        out: &mut O,
         shelf: &S,
     ) -> Option<ShortList<Order>>
         requires stands { Standing self.old (S.store shelf.now) }
-        requires not_busy { length framer.old.left < 8 }
-        requires room { framer.old.room ≡ self.old.config.n201 }
+        requires free { IsFree (O.loading out.old) }
+        requires room { self.old.config.n201 ≤ room_in (O.loading out.old) }
         requires order { from ≤ to }
         requires within { to ≤ link_count self.old.config }
-        ensures { Takes (λ c m. first_taken c m (range_with_len from (to - from))) self.old (S.store shelf.now) framer.old self.new (S.store shelf.now) framer.new (orders_taken result) }
+        ensures { Takes (λ c m. first_taken c m (range_with_len from (to - from))) self.old (S.store shelf.now) (O.loading out.old) self.new (S.store shelf.now) (O.loading out.new) (orders_taken result) }
     {
         let mut next = from;
         while let Some(number) = self.awake.first(next, to) {
-            if let Some(orders) = self.take_link(number, framer, shelf) {
+            if let Some(orders) = self.take_link(number, out, shelf) {
                 return Some(orders);
             }
             next = number + 1;
@@ -106,18 +104,18 @@ impl LinkLayer {
 
     /// What a link that is awake has to give. It falls asleep where it has nothing.
     #[inline(never)]
-    fn take_link<S: Shelf>(
+    fn take_link<O: Outlet, S: Shelf>(
         &mut self,
         number: usize,
-        framer: &mut Framer,
+        out: &mut O,
         shelf: &S,
     ) -> Option<ShortList<Order>>
         requires stands { Standing self.old (S.store shelf.now) }
-        requires not_busy { length framer.old.left < 8 }
-        requires room { framer.old.room ≡ self.old.config.n201 }
+        requires free { IsFree (O.loading out.old) }
+        requires room { self.old.config.n201 ≤ room_in (O.loading out.old) }
         requires within { number < link_count self.old.config }
         requires awake { IsAwake self.old.awake number }
-        ensures { Takes (λ c m. link_taken c m number) self.old (S.store shelf.now) framer.old self.new (S.store shelf.now) framer.new (orders_taken result) }
+        ensures { Takes (λ c m. link_taken c m number) self.old (S.store shelf.now) (O.loading out.old) self.new (S.store shelf.now) (O.loading out.new) (orders_taken result) }
     {
         let Some(offer) = self.links.offer(number) else {
             self.awake.sleep(number);
@@ -125,7 +123,7 @@ impl LinkLayer {
         };
         let address = self.links.address(number, offer.frame.command);
         load(
-            framer,
+            out,
             address,
             offer.frame.control,
             contents(shelf, offer.contents),
@@ -135,26 +133,26 @@ impl LinkLayer {
     }
 
     /// The oldest message of TEI management.
-    fn take_message(&mut self, framer: &mut Framer) -> Option<ShortList<Order>>
-        requires not_busy { length framer.old.left < 8 }
-        requires room { 4 ≤ framer.old.room }
-        ensures { (store : Store) → Takes (λ c m. message_taken m) self.old store framer.old self.new store framer.new (orders_taken result) }
+    fn take_message<O: Outlet>(&mut self, out: &mut O) -> Option<ShortList<Order>>
+        requires free { IsFree (O.loading out.old) }
+        requires room { 4 ≤ room_in (O.loading out.old) }
+        ensures { (store : Store) → Takes (λ c m. message_taken m) self.old store (O.loading out.old) self.new store (O.loading out.new) (orders_taken result) }
     {
         let octets = self.teis.offer()?;
-        framer.load(&octets[..4], &octets[4..]);
+        out.load(&octets[..4], &octets[4..]);
         Some(ShortList::none())
     }
 
     /// The oldest unit data, in a UI command.
-    fn take_unit<S: Shelf>(
+    fn take_unit<O: Outlet, S: Shelf>(
         &mut self,
-        framer: &mut Framer,
+        out: &mut O,
         shelf: &mut S,
     ) -> Option<ShortList<Order>>
         requires stands { Standing self.old (S.store shelf.old) }
-        requires not_busy { length framer.old.left < 8 }
-        requires room { framer.old.room ≡ self.old.config.n201 }
-        ensures { Takes (λ c m. unit_taken m) self.old (S.store shelf.old) framer.old self.new (S.store shelf.new) framer.new (orders_taken result) }
+        requires free { IsFree (O.loading out.old) }
+        requires room { self.old.config.n201 ≤ room_in (O.loading out.old) }
+        ensures { Takes (λ c m. unit_taken m) self.old (S.store shelf.old) (O.loading out.old) self.new (S.store shelf.new) (O.loading out.new) (orders_taken result) }
     {
         let unit = self.units.oldest()?;
         let address = Address {
@@ -163,7 +161,7 @@ impl LinkLayer {
             tei: unit.tei,
         };
         load(
-            framer,
+            out,
             address,
             Control::Ui { pf: false },
             shelf.get(&unit.slot),

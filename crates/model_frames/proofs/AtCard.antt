@@ -25,11 +25,11 @@ use Rattle.model_frames.proofs.Received.{nothing_else_is_received}
 
 -- ---- events name lines, and leave the configuration
 
-all_at : (m : Card) (number : ℕ) (events : List line_event.Event) → number < m.config.lines → AreAtLines m (map (at number) events)
+pub all_at : (m : Card) (number : ℕ) (events : List line_event.Event) → number < m.config.lines → AreAtLines m (map (at number) events)
 all_at m number [] h = All-nil (IsAtLine m)
 all_at m number (e ∷ events) h = All-cons (IsAtLine m) (at number e) (map (at number) events) h (all_at m number events h)
 
-config_stays : (m : Card) (events : List Event) → (after_all m events).config ≡ m.config
+pub config_stays : (m : Card) (events : List Event) → (after_all m events).config ≡ m.config
 unfolding after_all
 config_stays m [] = refl
 config_stays m (e ∷ events) = config_stays (after e m) events
@@ -181,7 +181,7 @@ happening_idle m (expires number timer) idle h =
 happening_idle m (asks number r) idle h =
     one_idle m number (line_event.request r) idle h.0 (nothing_else_is_received.requests m.config r (line_at number m))
 
-after_all-append : (m : Card) (a b : List Event) → after_all m (a ++ b) ≡ after_all (after_all m a) b
+pub after_all-append : (m : Card) (a b : List Event) → after_all m (a ++ b) ≡ after_all (after_all m a) b
 unfolding after_all
 after_all-append m [] b = refl
 after_all-append m (e ∷ a) b = after_all-append (after e m) a b

@@ -33,7 +33,7 @@ pulls_fall c range (suc n) l s =
     omega (arith, (falls_by_pull c l range s).0, pulls_fall c range n (after c pull l) (after_sound c range pull l s))
 
 -- a call that takes a frame
-calls_for : (c : Config) (l : Line) (o : Option Taken) → taken c l ≡ o → pulls_for c l ≡ (if is_some o then replicate (pulls_to_begin l) pull else [])
+pub calls_for : (c : Config) (l : Line) (o : Option Taken) → taken c l ≡ o → pulls_for c l ≡ (if is_some o then replicate (pulls_to_begin l) pull else [])
 calls_for c l o is = ap (λ x. if is_some x then replicate (pulls_to_begin l) pull else []) is
 
 call_falls : (c : Config) (l : Line) (t : Taken) → IsInRange c → IsSound c l → taken c l ≡ Some t → may_send c (after_events c (pulls_for c l) l) < may_send c l

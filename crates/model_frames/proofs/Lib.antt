@@ -9,3 +9,4 @@ pub mod AtCard
 pub mod Spelled
 pub mod Lengths
 pub mod Calls
+pub mod Said

@@ -6,11 +6,12 @@ use Rattle.model_line.specs.Event.{octet, expiry, request}
 use Rattle.model_line.specs.Request.{Request}
 use Rattle.model_card.specs.Card.{Card, fresh, line_at}
 use Rattle.model_card.specs.Event.{at}
-use Rattle.model_card.specs.Run.{AreAtLines, after_all}
+use Rattle.model_card.specs.Run.{AreAtLines, after_all, moments}
 use Rattle.model_frames.specs.declared.faults.Fault.{Fault}
 use Rattle.model_frames.specs.AtLine.{pulls_for}
 use Rattle.model_frames.specs.Whole.{line_octets, fault_octets}
-use Rattle.model_frames.specs.AtCard.{Happening, comes, failed, goes, expires, asks, events_at, spelled, HappenAt, AreIdle, IsAtLineAlone}
+use Rattle.model_frames.specs.AtCard.{Happening, comes, failed, goes, expires, asks, events_at, events_of, spelled, HappensAt, HappenAt, AreIdle, IsAtLineAlone, answer_in}
+use Rattle.model_frames.specs.Said.{said, Means}
 
 -- What a happening is: of a frame or a fault the octets that it means, of a call the pulls for the next frame; and of a list,
 -- its events in order, each happening's at the card where those before it lead.
@@ -41,3 +42,7 @@ pub record FramesAreOfLines : Type 0 where
       IsAtLineAlone m number (events_at m (failed number fault))
   pub calls : (m : Card) (number : ℕ) → length m.lines ≡ m.config.lines → number < m.config.lines →
       IsAtLineAlone m number (events_at m (goes number))
+
+-- The answers to the events of a happening say what is said of it, and nothing else.
+abbrev pub AnswersSayIt : Type 0
+AnswersSayIt = (m : Card) (h : Happening) → AreIdle m → HappensAt m h → Means (said m h) (map answer_in (moments m (events_of m h)))

@@ -2,6 +2,7 @@
 pub mod Whole
 pub mod AtLine
 pub mod AtCard
+pub mod Said
 pub mod Laws
 pub mod CardLaws
 pub mod Worked

@@ -2,7 +2,7 @@
 //! law is the contract of a call that does nothing.
 
 ghost use Rattle.model_frames.specs.Laws.{CallsComeToAnEnd, FramesAreHeard, FramesComeWhole, FramesGoWhole, FramesHaveLengths, NothingElseIsReceived};
-ghost use Rattle.model_frames.specs.CardLaws.{FramesAreOfLines, HappeningsAreEvents, HappeningsAreSpelled, LinesStayIdle};
+ghost use Rattle.model_frames.specs.CardLaws.{AnswersSayIt, FramesAreOfLines, HappeningsAreEvents, HappeningsAreSpelled, LinesStayIdle};
 
 /// On an idle line the octets that a frame means are heard as this frame and nothing else, or, by its length, as one that
 /// is too short or overlong; those that a fault means are heard as what is dropped for its cause and nothing else; and
@@ -63,4 +63,9 @@ pub fn frames_have_lengths()
 /// none waits.
 pub fn calls_come_to_an_end()
     ensures { CallsComeToAnEnd }
+{}
+
+/// Of the answers to the events of a happening one says what the happening is answered with, and the others nothing.
+pub fn answers_say_it()
+    ensures { AnswersSayIt }
 {}

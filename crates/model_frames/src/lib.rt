@@ -10,8 +10,7 @@
 //!
 //! # Open
 //!
-//! No crate uses these definitions yet. No law says that a controller's frame is what stood on its line, or that it sends
-//! what it was given.
+//! No law says that a controller's frame is what stood on its line, or that it sends what it was given.
 #![tactic(auto)]
 
 mod faults;
@@ -19,7 +18,7 @@ mod laws;
 
 pub use faults::Fault;
 pub use laws::{
-    calls_come_to_an_end, frames_are_heard, frames_are_of_lines, frames_come_whole,
+    answers_say_it, calls_come_to_an_end, frames_are_heard, frames_are_of_lines, frames_come_whole,
     frames_go_whole, frames_have_lengths, happenings_are_events, happenings_are_spelled,
     lines_stay_idle, nothing_else_is_received,
 };

@@ -1,11 +1,13 @@
 //! Tests of the lower crates of the product by their public contracts; there is nothing to call. They stand in a crate
 //! of their own, so that what they test isn't proved again for them.
 //!
-//! - `frame`: the grammar of frames. `clock`: when timers fall due. `store`: shelves, and queues of slots over them.
+//! - `bits`: framers, deframers and frame checks. `frame`: the grammar of frames. `clock`: when timers fall due. `store`: shelves, and queues of slots over them.
 //! - `tei`: TEI management. `seq`: sequence numbers, and the window of what was sent.
 //! - `texts`: what the faults of these crates say.
 #![tactic(auto)]
 
+#[cfg(test)]
+mod bits;
 #[cfg(test)]
 mod clock;
 #[cfg(test)]

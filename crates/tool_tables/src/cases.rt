@@ -26,11 +26,11 @@ const REJECT: Event = Event::Command(Kind::OtherInformation, 0, false);
 const ENQUIRY: Event = Event::Command(Kind::Ready, 0, true);
 
 /// States 4, 5 and 6.
-pub fn down() -> [Case; 7] {
-    DOWN
+pub fn down() -> &'static [Case] {
+    &DOWN
 }
 
-const DOWN: [Case; 7] = [
+static DOWN: [Case; 7] = [
     Case {
         name: "4",
         events: &[],
@@ -69,11 +69,11 @@ const DOWN: [Case; 7] = [
 ];
 
 /// State 7 while nobody is busy.
-pub fn up() -> [Case; 4] {
-    UP
+pub fn up() -> &'static [Case] {
+    &UP
 }
 
-const UP: [Case; 4] = [
+static UP: [Case; 4] = [
     Case {
         name: "7, nothing outstanding",
         events: &[SABME],
@@ -97,11 +97,11 @@ const UP: [Case; 4] = [
 ];
 
 /// State 7 while someone is busy, or no control frame finds room.
-pub fn up_busy() -> [Case; 5] {
-    UP_BUSY
+pub fn up_busy() -> &'static [Case] {
+    &UP_BUSY
 }
 
-const UP_BUSY: [Case; 5] = [
+static UP_BUSY: [Case; 5] = [
     Case {
         name: "7, own busy",
         events: &[SABME, OWN_BUSY],
@@ -130,11 +130,11 @@ const UP_BUSY: [Case; 5] = [
 ];
 
 /// State 8 while nobody is busy.
-pub fn recovery() -> [Case; 4] {
-    RECOVERY
+pub fn recovery() -> &'static [Case] {
+    &RECOVERY
 }
 
-const RECOVERY: [Case; 4] = [
+static RECOVERY: [Case; 4] = [
     Case {
         name: "8, nothing outstanding",
         events: &[SABME, T203],
@@ -158,11 +158,11 @@ const RECOVERY: [Case; 4] = [
 ];
 
 /// State 8 while someone is busy, or no control frame finds room.
-pub fn recovery_busy() -> [Case; 5] {
-    RECOVERY_BUSY
+pub fn recovery_busy() -> &'static [Case] {
+    &RECOVERY_BUSY
 }
 
-const RECOVERY_BUSY: [Case; 5] = [
+static RECOVERY_BUSY: [Case; 5] = [
     Case {
         name: "8, own busy",
         events: &[SABME, OWN_BUSY, T203],
@@ -191,17 +191,19 @@ const RECOVERY_BUSY: [Case; 5] = [
 ];
 
 /// Frames without numbers, and what is no frame of the exchange.
-pub fn unnumbered() -> [(&'static str, Event); 14] {
-    UNNUMBERED
+pub fn unnumbered() -> &'static [(&'static str, Event)] {
+    &UNNUMBERED
 }
 
-const UNNUMBERED: [(&str, Event); 14] = [
+static UNNUMBERED: [(&str, Event); 14] = [
     ("SABME P=1", SABME),
     ("SABME P=0", Event::Plain(Unnumbered::Sabme, false)),
     ("DISC P=1", Event::Plain(Unnumbered::Disc, true)),
     ("DISC P=0", Event::Plain(Unnumbered::Disc, false)),
     ("UA F=1", Event::Plain(Unnumbered::Ua, true)),
     ("UA F=0", Event::Plain(Unnumbered::Ua, false)),
+    ("UI P=0", Event::Plain(Unnumbered::Ui, false)),
+    ("XID P=0", Event::Plain(Unnumbered::Xid, false)),
     ("DM F=1", Event::Plain(Unnumbered::Dm, true)),
     ("DM F=0", DM),
     ("FRMR F=0", Event::Plain(Unnumbered::Frmr, false)),
@@ -214,16 +216,14 @@ const UNNUMBERED: [(&str, Event); 14] = [
         Event::Malformed(Malformed::WrongSize),
     ),
     ("I over N201", Event::Malformed(Malformed::Overlong)),
-    ("UI P=0", Event::Plain(Unnumbered::Ui, false)),
-    ("XID P=0", Event::Plain(Unnumbered::Xid, false)),
 ];
 
 /// Frames with numbers, where no link is up: the numbers do not matter.
-pub fn numbered_down() -> [(&'static str, Event); 7] {
-    NUMBERED_DOWN
+pub fn numbered_down() -> &'static [(&'static str, Event)] {
+    &NUMBERED_DOWN
 }
 
-const NUMBERED_DOWN: [(&str, Event); 7] = [
+static NUMBERED_DOWN: [(&str, Event); 7] = [
     ("I P=1", Event::Command(Kind::NextInformation, 0, true)),
     ("RR P=1", ENQUIRY),
     ("RR F=1", Event::Response(Kind::Ready, 0, true)),
@@ -234,11 +234,11 @@ const NUMBERED_DOWN: [(&str, Event); 7] = [
 ];
 
 /// Frames with numbers.
-pub fn numbered() -> [(&'static str, Event); 26] {
-    NUMBERED
+pub fn numbered() -> &'static [(&'static str, Event)] {
+    &NUMBERED
 }
 
-const NUMBERED: [(&str, Event); 26] = [
+static NUMBERED: [(&str, Event); 26] = [
     (
         "I P=0 N(S)=0 N(R)=0",
         Event::Command(Kind::NextInformation, 0, false),
@@ -269,41 +269,41 @@ const NUMBERED: [(&str, Event); 26] = [
         Event::Command(Kind::OtherInformation, 1, true),
     ),
     ("RR P=0 N(R)=0", Event::Command(Kind::Ready, 0, false)),
-    ("RR P=1 N(R)=0", ENQUIRY),
     ("RR F=0 N(R)=0", Event::Response(Kind::Ready, 0, false)),
-    ("RR F=1 N(R)=0", Event::Response(Kind::Ready, 0, true)),
-    ("RR P=0 N(R)=1", Event::Command(Kind::Ready, 1, false)),
-    ("RR F=1 N(R)=1", Event::Response(Kind::Ready, 1, true)),
-    ("RNR P=0 N(R)=0", PEER_BUSY),
-    ("RNR P=1 N(R)=0", Event::Command(Kind::NotReady, 0, true)),
-    ("RNR F=0 N(R)=0", Event::Response(Kind::NotReady, 0, false)),
-    ("RNR F=1 N(R)=0", Event::Response(Kind::NotReady, 0, true)),
-    ("RNR P=0 N(R)=1", Event::Command(Kind::NotReady, 1, false)),
-    ("RNR F=1 N(R)=1", Event::Response(Kind::NotReady, 1, true)),
     ("REJ P=0 N(R)=0", Event::Command(Kind::Reject, 0, false)),
-    ("REJ P=1 N(R)=0", Event::Command(Kind::Reject, 0, true)),
     ("REJ F=0 N(R)=0", Event::Response(Kind::Reject, 0, false)),
+    ("RNR P=0 N(R)=0", PEER_BUSY),
+    ("RNR F=0 N(R)=0", Event::Response(Kind::NotReady, 0, false)),
+    ("RR P=1 N(R)=0", ENQUIRY),
+    ("REJ P=1 N(R)=0", Event::Command(Kind::Reject, 0, true)),
+    ("RNR P=1 N(R)=0", Event::Command(Kind::NotReady, 0, true)),
+    ("RR F=1 N(R)=0", Event::Response(Kind::Ready, 0, true)),
     ("REJ F=1 N(R)=0", Event::Response(Kind::Reject, 0, true)),
+    ("RNR F=1 N(R)=0", Event::Response(Kind::NotReady, 0, true)),
+    ("RR P=0 N(R)=1", Event::Command(Kind::Ready, 1, false)),
     ("REJ P=0 N(R)=1", Event::Command(Kind::Reject, 1, false)),
+    ("RNR P=0 N(R)=1", Event::Command(Kind::NotReady, 1, false)),
+    ("RR F=1 N(R)=1", Event::Response(Kind::Ready, 1, true)),
     ("REJ F=1 N(R)=1", Event::Response(Kind::Reject, 1, true)),
+    ("RNR F=1 N(R)=1", Event::Response(Kind::NotReady, 1, true)),
 ];
 
 /// Timers and requests, and the end of the TEI.
-pub fn others() -> [(&'static str, Event); 9] {
-    OTHERS
+pub fn others() -> &'static [(&'static str, Event)] {
+    &OTHERS
 }
 
-const OTHERS: [(&str, Event); 9] = [
+static OTHERS: [(&str, Event); 9] = [
     ("T200 expires", T200),
     ("T203 expires", T203),
-    ("establish request", ESTABLISH),
-    ("release request", RELEASE),
+    ("clear busy", Event::Ask(LinkRequest::ClearBusy)),
+    ("set busy", OWN_BUSY),
     ("data request", DATA),
     (
         "data request over N201",
         Event::Ask(LinkRequest::Data(&[1, 2, 3, 4, 5, 6, 7, 8, 9])),
     ),
-    ("set busy", OWN_BUSY),
-    ("clear busy", Event::Ask(LinkRequest::ClearBusy)),
+    ("establish request", ESTABLISH),
+    ("release request", RELEASE),
     ("the TEI leaves the line", Event::Clear),
 ];

@@ -11,7 +11,7 @@ use test_link::ShelvedLink;
 pub const SLOTS: u32 = 2;
 
 /// A state of a link, by the events that lead there from state 4.
-#[derive(Clone, Copy, Debug)]
+#[derive(Clone, Copy)]
 pub struct Case {
     /// What the state is called.
     pub name: &'static str,
@@ -22,7 +22,7 @@ pub struct Case {
 }
 
 /// A frame with an N(R).
-#[derive(Clone, Copy, Debug)]
+#[derive(Clone, Copy)]
 pub enum Kind {
     /// The next contents in order: N(S) 0.
     NextInformation,
@@ -37,7 +37,7 @@ pub enum Kind {
 }
 
 /// A frame without numbers.
-#[derive(Clone, Copy, Debug)]
+#[derive(Clone, Copy)]
 pub enum Unnumbered {
     /// SABME, a command.
     Sabme,
@@ -56,7 +56,7 @@ pub enum Unnumbered {
 }
 
 /// What is no frame of the exchange.
-#[derive(Clone, Copy, Debug)]
+#[derive(Clone, Copy)]
 pub enum Malformed {
     /// Its control field is undefined.
     Undefined,
@@ -67,7 +67,7 @@ pub enum Malformed {
 }
 
 /// What happens to a link.
-#[derive(Clone, Copy, Debug)]
+#[derive(Clone, Copy)]
 pub enum Event {
     /// A frame without numbers comes, with this P or F.
     Plain(Unnumbered, bool),
@@ -86,14 +86,27 @@ pub enum Event {
 }
 
 /// What an event led to, and what was sent after it.
-#[derive(Clone, Copy, Debug)]
+#[derive(Clone, Copy)]
 pub struct Led {
     /// The state before.
-    pub state: u8,
+    pub before: u8,
+    /// The state after.
+    pub after: u8,
     /// What was told, or why a request was refused.
     pub answer: Result<Answer, Refusal>,
     /// The frames that were sent then, but those that waited before.
     pub sent: [Option<Offer>; 4],
+}
+
+impl Event {
+    /// P of a command that comes.
+    pub fn polled(self) -> Option<bool> {
+        match self {
+            Event::Plain(Unnumbered::Sabme | Unnumbered::Disc, p) => Some(p),
+            Event::Command(_, _, p) => Some(p),
+            _ => None,
+        }
+    }
 }
 
 /// Leads a link to a state, and plays one event there.
@@ -103,12 +116,14 @@ pub fn lead(shelved: &mut ShelvedLink, case: Case, event: Event) -> Led
 {
     prepare(shelved, case.events);
     hold(shelved, case.held);
-    let state = shelved.link.state();
+    let before = shelved.link.state();
     let answer = give(shelved, event);
     skip(shelved, case.held.len());
     let sent = send(shelved);
+    let after = shelved.link.state();
     Led {
-        state,
+        before,
+        after,
         answer,
         sent,
     }

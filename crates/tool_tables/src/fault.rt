@@ -3,24 +3,12 @@
 use std::io;
 
 /// What the program ends with where it does not end well.
-#[derive(Clone, Copy, PartialEq, Eq, Debug)]
+#[derive(Clone, Copy, Debug)]
 pub enum Fault {
-    /// There is no memory for a link or for TEI management.
+    /// There is no memory for a link, for TEI management or for the page.
     OutOfMemory,
     /// The page could not be written.
     Output,
-}
-
-impl From<lapd_link::StartFault> for Fault {
-    fn from(_: lapd_link::StartFault) -> Fault {
-        Fault::OutOfMemory
-    }
-}
-
-impl From<lapd_tei::StartFault> for Fault {
-    fn from(_: lapd_tei::StartFault) -> Fault {
-        Fault::OutOfMemory
-    }
 }
 
 impl From<io::Error> for Fault {

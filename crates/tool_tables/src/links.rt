@@ -5,10 +5,10 @@ use crate::cases::{
     down, numbered, numbered_down, others, recovery, recovery_busy, unnumbered, up, up_busy,
 };
 use crate::events::{Case, Event, Led, SLOTS, lead};
-use crate::fault::Fault;
+use crate::text::Text;
 use crate::words;
 use lapd_frame::Control;
-use lapd_link::{Answer, Offer};
+use lapd_link::Offer;
 use std::alloc::Global;
 use test_link::ShelvedLink;
 
@@ -20,21 +20,24 @@ rules in words.
 
 ## Links
 
-Events stand down, states across. A cell has, in this order:
+Events stand down, states across; events with the same row stand beside each other. A cell has, in this order:
 
-- the control frames that are sent, or how many found no room to wait and are lost;
+- the control frames that are sent, where F=P says that F is P of the event; or how many found no room to wait and are
+  lost;
 - `unserved`, where the state does not serve the frame; or, with a hyphen, why a request is refused;
 - what layer 3 and layer management are told;
-- which timers are started and stopped;
-- the I-frames that are sent, each with what it starts and stops;
-- the state after, bold where it is another.
+- which timers are started (+) and stopped (-);
+- the I-frames that are sent, each with its N(S) and N(R), P=0, and with what it starts and stops;
+- the state after, in bold, where it is another.
 
-A number alone: nothing is sent, told or ordered, and the state stays. The window is 2, and so are the contents that a
-link keeps and the control frames that may wait; N200 is 3, N201 is 8 octets; V(A) and V(R) are 0. Each column begins
-where what waited has been sent, but for two answers where it says that they wait.
+An empty cell: nothing is sent, told or ordered, and the state stays. A ditto mark (\"): as in the cell to the left. The
+window is 2, and so are the contents that a link keeps and the control frames that may wait; N200 is 3, N201 is 8
+octets; V(A) and V(R) are 0. Each column begins where what waited has been sent, but for two answers where it says that
+they wait.
 ";
 
-const DOWN_HEAD: &str = "### States 4, 5 and 6
+const DOWN_HEAD: &str = "
+### States 4, 5 and 6
 
 The numbers of a frame, and P and F of those that are not served, do not matter here.
 ";
@@ -55,125 +58,106 @@ const RECOVERY_BUSY_HEAD: &str = "
 ### State 8, where someone is busy or no control frame finds room
 ";
 
-/// Prints the tables of a link.
-pub fn print(rt: &impl Print, alloc: Global) -> Result<(), Fault> {
-    println!(rt; "{}", HEAD)?;
-    table(rt, alloc, DOWN_HEAD, &down(), &numbered_down())?;
-    table(rt, alloc, UP_HEAD, &up(), &numbered())?;
-    table(rt, alloc, UP_BUSY_HEAD, &up_busy(), &numbered())?;
-    table(rt, alloc, RECOVERY_HEAD, &recovery(), &numbered())?;
-    table(rt, alloc, RECOVERY_BUSY_HEAD, &recovery_busy(), &numbered())
+/// Adds the tables of a link to a page.
+pub fn print(page: &mut Text, alloc: Global) {
+    page.say(HEAD);
+    table(page, alloc, DOWN_HEAD, down(), numbered_down());
+    table(page, alloc, UP_HEAD, up(), numbered());
+    table(page, alloc, UP_BUSY_HEAD, up_busy(), numbered());
+    table(page, alloc, RECOVERY_HEAD, recovery(), numbered());
+    table(page, alloc, RECOVERY_BUSY_HEAD, recovery_busy(), numbered());
 }
 
-fn table(
-    rt: &impl Print,
-    alloc: Global,
-    head: &str,
-    cases: &[Case],
-    numbered: &[(&str, Event)],
-) -> Result<(), Fault> {
-    println!(rt; "{}", head)?;
-    titles(rt, cases)?;
-    rows(rt, alloc, cases, &unnumbered())?;
-    rows(rt, alloc, cases, numbered)?;
-    rows(rt, alloc, cases, &others())?;
-    println!(rt; "")?;
-    Ok(())
+fn table(page: &mut Text, alloc: Global, head: &str, cases: &[Case], numbered: &[(&str, Event)]) {
+    page.say(head);
+    titles(page, alloc, cases);
+    let mut last = Text::new(alloc);
+    rows(page, &mut last, alloc, cases, unnumbered());
+    rows(page, &mut last, alloc, cases, numbered);
+    rows(page, &mut last, alloc, cases, others());
+    page.append(&last);
+    page.say("\n");
 }
 
-fn titles(rt: &impl Print, cases: &[Case]) -> Result<(), Fault> {
-    print!(rt; "| Event |")?;
+fn titles(page: &mut Text, alloc: Global, cases: &[Case]) {
+    let mut rule = Text::new(alloc);
+    page.say("\n|Event|");
+    rule.say("\n|---|");
     for case in cases {
-        print!(rt; " {} |", case.name)?;
+        page.title(&mut rule, case.name);
     }
-    print!(rt; "\n|---|")?;
-    for _ in 0..cases.len() {
-        print!(rt; "---|")?;
-    }
-    Ok(())
+    page.append(&rule);
 }
 
-fn rows(
-    rt: &impl Print,
-    alloc: Global,
-    cases: &[Case],
-    events: &[(&str, Event)],
-) -> Result<(), Fault> {
+fn rows(page: &mut Text, last: &mut Text, alloc: Global, cases: &[Case], events: &[(&str, Event)]) {
     for (name, event) in events {
-        print!(rt; "\n| {} |", name)?;
-        row(rt, alloc, cases, *event)?;
+        let row = row(alloc, cases, *event);
+        page.row(last, name, row);
     }
-    Ok(())
 }
 
-fn row(rt: &impl Print, alloc: Global, cases: &[Case], event: Event) -> Result<(), Fault> {
+fn row(alloc: Global, cases: &[Case], event: Event) -> Text {
+    let mut row = Text::new(alloc);
+    let mut left = Text::new(alloc);
+    row.say("|");
     for case in cases {
-        print!(rt; " ")?;
-        cell(rt, alloc, *case, event)?;
-        print!(rt; " |")?;
+        let cell = cell(alloc, *case, event);
+        row.cell(&mut left, cell);
     }
-    Ok(())
+    row
 }
 
 /// What one event leads to in one state.
-fn cell(rt: &impl Print, alloc: Global, case: Case, event: Event) -> Result<(), Fault> {
-    let mut shelved = ShelvedLink::with_room(alloc, 2, 2, SLOTS)?;
-    let led = lead(&mut shelved, case, event);
-    frames(rt, &led.sent)?;
-    match led.answer {
-        Ok(answer) => told(rt, &answer)?,
-        Err(refusal) => print!(rt; "{}; ", words::refusal_name(refusal))?,
+fn cell(alloc: Global, case: Case, event: Event) -> Text {
+    let mut cell = Text::new(alloc);
+    match ShelvedLink::with_room(alloc, 2, 2, SLOTS) {
+        Ok(mut shelved) => {
+            let led = lead(&mut shelved, case, event);
+            tell(&mut cell, &led, event.polled());
+        }
+        Err(_) => cell.spoil(),
     }
-    contents(rt, &led.sent)?;
-    state(rt, led.state, shelved.link.state())
+    cell
+}
+
+fn tell(cell: &mut Text, led: &Led, polled: Option<bool>) {
+    frames(cell, &led.sent, polled);
+    match &led.answer {
+        Ok(answer) => {
+            words::told(cell, answer.lost, answer.unserved, answer.notes.as_slice());
+            words::orders(cell, answer.orders.as_slice());
+        }
+        Err(refusal) => cell.item(words::refusal_name(*refusal)),
+    }
+    contents(cell, &led.sent);
+    state(cell, led.before, led.after);
 }
 
 /// The control frames that are sent.
-fn frames(rt: &impl Print, sent: &[Option<Offer>]) -> Result<(), Fault> {
-    for offer in sent {
-        if let Some(offer) = offer {
-            frame(rt, offer)?;
+fn frames(cell: &mut Text, sent: &[Option<Offer>], polled: Option<bool>) {
+    for offer in sent.iter().flatten() {
+        match offer.frame.control {
+            Control::Information { .. } => (),
+            _ => words::frame(cell, offer.frame, polled),
         }
     }
-    Ok(())
-}
-
-fn frame(rt: &impl Print, offer: &Offer) -> Result<(), Fault> {
-    match offer.frame.control {
-        Control::Information { .. } => Ok(()),
-        _ => words::frame(rt, offer.frame),
-    }
-}
-
-fn told(rt: &impl Print, answer: &Answer) -> Result<(), Fault> {
-    words::told(rt, answer.lost, answer.unserved, answer.notes.as_slice())?;
-    words::orders(rt, answer.orders.as_slice())
 }
 
 /// The I-frames that are sent.
-fn contents(rt: &impl Print, sent: &[Option<Offer>]) -> Result<(), Fault> {
-    for offer in sent {
-        if let Some(offer) = offer {
-            information(rt, offer)?;
+fn contents(cell: &mut Text, sent: &[Option<Offer>]) {
+    for offer in sent.iter().flatten() {
+        if let Control::Information { ns, nr, pf } = offer.frame.control {
+            words::information(cell, ns, nr, pf);
+            words::orders(cell, offer.orders.as_slice());
         }
     }
-    Ok(())
 }
 
-fn information(rt: &impl Print, offer: &Offer) -> Result<(), Fault> {
-    if let Control::Information { .. } = offer.frame.control {
-        words::frame(rt, offer.frame)?;
-        words::orders(rt, offer.orders.as_slice())?;
+/// The state after, where it is another.
+fn state(cell: &mut Text, before: u8, after: u8) {
+    if before != after {
+        cell.item("**");
+        cell.number(after);
+        cell.say("**");
     }
-    Ok(())
-}
-
-/// The state after, bold where it is another.
-fn state(rt: &impl Print, before: u8, after: u8) -> Result<(), Fault> {
-    if before == after {
-        print!(rt; "{}", after)?;
-    } else {
-        print!(rt; "**{}**", after)?;
-    }
-    Ok(())
 }

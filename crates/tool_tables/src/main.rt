@@ -6,6 +6,7 @@
 //! - `links`: both as tables.
 //! - `teis`: the same of TEI management.
 //! - `words`: the words in which they are told.
+//! - `text`: words as cells, rows and a page.
 //! - `fault`: why the page was not printed.
 //!
 //! # Only tested
@@ -18,11 +19,21 @@ mod events;
 mod fault;
 mod links;
 mod teis;
+mod text;
 mod words;
 
 use crate::fault::Fault;
+use crate::text::Text;
 
 fn main(rt: HostRuntime) -> Result<(), Fault> {
-    links::print(&rt, rt.alloc())?;
-    teis::print(&rt, rt.alloc())
+    let mut page = Text::new(rt.alloc());
+    links::print(&mut page, rt.alloc());
+    teis::print(&mut page, rt.alloc());
+    match page.whole() {
+        Some(text) => {
+            print!(rt; "{}", text)?;
+            Ok(())
+        }
+        None => Err(Fault::OutOfMemory),
+    }
 }

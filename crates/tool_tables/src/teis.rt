@@ -2,7 +2,7 @@
 
 ghost use Rattle.std.specs.Prelude.{◌≤◌};
 
-use crate::fault::Fault;
+use crate::text::Text;
 use crate::words;
 use lapd_frame::Refusal;
 use lapd_tei::{Change, TeiOutcome, Teis};
@@ -12,13 +12,13 @@ const HEAD: &str = "
 ## TEI management
 
 A line with room for two TEIs. A cell has, in this order: the message that is sent, or how many found no room and are
-lost; what layer management is told; what is ordered of T201; and which TEI comes to the line (+) or leaves it (-), or
-that none does (=). Ri is the reference number of a request; that of TEI 64 is 1, that of TEI 65 is 2. A check has two
-periods of T201. What waited has been sent, but for four messages where a column says that they wait.
+lost; what layer management is told; what is ordered of T201; and which TEI comes to the line (+) or leaves it (-). Ri is
+the reference number of a request; that of TEI 64 is 1, that of TEI 65 is 2. A check has two periods of T201. What waited
+has been sent, but for four messages where a column says that they wait.
 ";
 
 /// What happens to TEI management.
-#[derive(Clone, Copy, Debug)]
+#[derive(Clone, Copy)]
 enum Event {
     /// A message of a terminal: the last octet of its Ri, its type, and its Ai.
     Message(u8, u8, u8),
@@ -31,7 +31,7 @@ enum Event {
 }
 
 /// A state of TEI management, and the events that lead there from the empty table.
-#[derive(Clone, Copy, Debug)]
+#[derive(Clone, Copy)]
 struct Case {
     name: &'static str,
     /// Events after each of which what waits is sent.
@@ -48,11 +48,11 @@ const RESPONSE: Event = Event::Message(0, 5, 64);
 
 const CHECK: Event = Event::Check(false);
 
-fn cases() -> [Case; 8] {
-    CASES
+fn cases() -> &'static [Case] {
+    &CASES
 }
 
-const CASES: [Case; 8] = [
+static CASES: [Case; 8] = [
     Case {
         name: "no TEI",
         events: &[],
@@ -95,11 +95,11 @@ const CASES: [Case; 8] = [
     },
 ];
 
-fn events() -> [(&'static str, Event); 15] {
-    EVENTS
+fn events() -> &'static [(&'static str, Event)] {
+    &EVENTS
 }
 
-const EVENTS: [(&str, Event); 15] = [
+static EVENTS: [(&str, Event); 15] = [
     ("identity request, Ri 1", FIRST),
     ("identity request, Ri 2", SECOND),
     ("identity request, Ri 3", Event::Message(3, 1, 127)),
@@ -117,52 +117,58 @@ const EVENTS: [(&str, Event); 15] = [
     ("check 65", Event::Check(true)),
 ];
 
-/// Prints the table of TEI management.
-pub fn print(rt: &impl Print, alloc: Global) -> Result<(), Fault> {
-    println!(rt; "{}", HEAD)?;
-    titles(rt)?;
-    for (name, event) in &events() {
-        print!(rt; "\n| {} |", name)?;
-        row(rt, alloc, *event)?;
+/// Adds the table of TEI management to a page.
+pub fn print(page: &mut Text, alloc: Global) {
+    page.say(HEAD);
+    titles(page, alloc);
+    let mut last = Text::new(alloc);
+    for (name, event) in events() {
+        let row = row(alloc, *event);
+        page.row(&mut last, name, row);
     }
-    println!(rt; "")?;
-    Ok(())
+    page.append(&last);
+    page.say("\n");
 }
 
-fn titles(rt: &impl Print) -> Result<(), Fault> {
-    print!(rt; "| Event |")?;
-    for case in &cases() {
-        print!(rt; " {} |", case.name)?;
+fn titles(page: &mut Text, alloc: Global) {
+    let mut rule = Text::new(alloc);
+    page.say("\n|Event|");
+    rule.say("\n|---|");
+    for case in cases() {
+        page.title(&mut rule, case.name);
     }
-    print!(rt; "\n|---|")?;
-    for _ in 0..cases().len() {
-        print!(rt; "---|")?;
-    }
-    Ok(())
+    page.append(&rule);
 }
 
-fn row(rt: &impl Print, alloc: Global, event: Event) -> Result<(), Fault> {
-    for case in &cases() {
-        print!(rt; " ")?;
-        cell(rt, alloc, *case, event)?;
-        print!(rt; " |")?;
+fn row(alloc: Global, event: Event) -> Text {
+    let mut row = Text::new(alloc);
+    let mut left = Text::new(alloc);
+    row.say("|");
+    for case in cases() {
+        let cell = cell(alloc, *case, event);
+        row.cell(&mut left, cell);
     }
-    Ok(())
+    row
 }
 
 /// What one event leads to in one state.
-fn cell(rt: &impl Print, alloc: Global, case: Case, event: Event) -> Result<(), Fault> {
-    let mut teis = Teis::start(alloc, 2)?;
-    prepare(&mut teis, case.events);
-    hold(&mut teis, case.held);
-    let answer = play(&mut teis, event);
-    skip(&mut teis, case.held.len());
+fn cell(alloc: Global, case: Case, event: Event) -> Text {
+    let mut cell = Text::new(alloc);
+    match Teis::start(alloc, 2) {
+        Ok(mut teis) => lead(&mut cell, &mut teis, case, event),
+        Err(_) => cell.spoil(),
+    }
+    cell
+}
+
+fn lead(cell: &mut Text, teis: &mut Teis, case: Case, event: Event) {
+    prepare(teis, case.events);
+    hold(teis, case.held);
+    let answer = play(teis, event);
+    skip(teis, case.held.len());
     match answer {
-        Ok(outcome) => tell(rt, &outcome, teis.offer()),
-        Err(refusal) => {
-            print!(rt; "{}", words::refusal_name(refusal))?;
-            Ok(())
-        }
+        Ok(outcome) => tell(cell, &outcome, teis.offer()),
+        Err(refusal) => cell.item(words::refusal_name(refusal)),
     }
 }
 
@@ -205,30 +211,51 @@ fn play(teis: &mut Teis, event: Event) -> Result<TeiOutcome, Refusal> {
     }
 }
 
-fn tell(rt: &impl Print, outcome: &TeiOutcome, sent: Option<[u8; 8]>) -> Result<(), Fault> {
+fn tell(cell: &mut Text, outcome: &TeiOutcome, sent: Option<[u8; 8]>) {
     if let Some(frame) = sent {
-        message(rt, frame)?;
+        message(cell, frame);
     }
-    words::told(rt, outcome.lost, outcome.unserved, outcome.notes.as_slice())?;
-    words::orders(rt, outcome.orders.as_slice())?;
-    match outcome.change {
-        Some(Change::Gained { tei, .. }) => print!(rt; "+{}", tei)?,
-        Some(Change::Left { tei, .. }) => print!(rt; "-{}", tei)?,
-        None => print!(rt; "=")?,
+    words::told(
+        cell,
+        outcome.lost,
+        outcome.unserved,
+        outcome.notes.as_slice(),
+    );
+    words::orders(cell, outcome.orders.as_slice());
+    if let Some(change) = outcome.change {
+        changed(cell, change);
     }
-    Ok(())
+}
+
+fn changed(cell: &mut Text, change: Change) {
+    let (sign, tei) = match change {
+        Change::Gained { tei, .. } => ("+", tei),
+        Change::Left { tei, .. } => ("-", tei),
+    };
+    cell.item(sign);
+    cell.number(tei);
 }
 
 /// A message that is sent: its type, its Ri or its Ai.
-fn message(rt: &impl Print, frame: [u8; 8]) -> Result<(), Fault> {
+fn message(cell: &mut Text, frame: [u8; 8]) {
     let [_, _, _, _, _, ri, kind, last] = frame;
-    let ai = last / 2;
-    match kind {
-        2 => print!(rt; "identity assigned Ri {} Ai {}; ", ri, ai)?,
-        3 => print!(rt; "identity denied Ri {}; ", ri)?,
-        4 => print!(rt; "identity check request Ai {}; ", ai)?,
-        6 => print!(rt; "identity remove Ai {}; ", ai)?,
-        _ => print!(rt; "another message; ")?,
+    cell.item(message_name(kind));
+    if kind <= 3 {
+        cell.say(" Ri ");
+        cell.number(ri);
     }
-    Ok(())
+    if kind != 3 {
+        cell.say(" Ai ");
+        cell.number(last / 2);
+    }
+}
+
+fn message_name(kind: u8) -> &'static str {
+    match kind {
+        2 => "identity assigned",
+        3 => "identity denied",
+        4 => "identity check request",
+        6 => "identity remove",
+        _ => "another message",
+    }
 }

@@ -1,23 +1,19 @@
 //! The words in which a cell tells what an event led to.
 
-use crate::fault::Fault;
+use crate::text::Text;
 use lapd_frame::{Control, Note, Order, Refusal, Timer};
 use lapd_seq::Seq;
 use model_link::ControlFrame;
 
-/// A frame that is sent, with its numbers and P or F.
-pub fn frame(rt: &impl Print, frame: ControlFrame) -> Result<(), Fault> {
-    let bit = if frame.command { "P" } else { "F" };
+/// A control frame that is sent, with P or F and its N(R), after an event that has this P.
+pub fn frame(text: &mut Text, frame: ControlFrame, polled: Option<bool>) {
     let (name, pf, nr) = parts_of(frame.control);
-    print!(rt; "{} {}={}", name, bit, u8::from(pf))?;
-    if let Control::Information { ns, .. } = frame.control {
-        print!(rt; " N(S)={}", ns.value)?;
-    }
+    text.item(name);
+    text.say(bit_of(frame.command, pf, polled));
     if let Some(nr) = nr {
-        print!(rt; " N(R)={}", nr.value)?;
+        text.say(" N(R)=");
+        text.number(nr.value);
     }
-    print!(rt; "; ")?;
-    Ok(())
 }
 
 /// A frame's name, its P or F, and its N(R) if it has one.
@@ -37,38 +33,49 @@ fn parts_of(control: Control) -> (&'static str, bool, Option<Seq>) {
     }
 }
 
+/// P of a command; F of a response, which is the event's P where it has one and they are equal.
+fn bit_of(command: bool, pf: bool, polled: Option<bool>) -> &'static str {
+    match (command, pf) {
+        (true, true) => " P=1",
+        (true, false) => " P=0",
+        (false, f) if polled == Some(f) => " F=P",
+        (false, true) => " F=1",
+        (false, false) => " F=0",
+    }
+}
+
+/// An I-frame that is sent, with its numbers.
+pub fn information(text: &mut Text, ns: Seq, nr: Seq, pf: bool) {
+    text.item(if pf { "I P=1 " } else { "I " });
+    text.number(ns.value);
+    text.say(",");
+    text.number(nr.value);
+}
+
 /// How many answers found no room, whether the event is not served, and what is told.
-pub fn told(rt: &impl Print, lost: u8, unserved: bool, notes: &[Note]) -> Result<(), Fault> {
+pub fn told(text: &mut Text, lost: u8, unserved: bool, notes: &[Note]) {
     if lost > 0 {
-        print!(rt; "{} lost; ", lost)?;
+        text.item("lost ");
+        text.number(lost);
     }
     if unserved {
-        print!(rt; "unserved; ")?;
+        text.item("unserved");
     }
     for given in notes {
-        note(rt, *given)?;
+        note(text, *given);
     }
-    Ok(())
 }
 
 /// What layer 3 or layer management is told.
-fn note(rt: &impl Print, note: Note) -> Result<(), Fault> {
+fn note(text: &mut Text, note: Note) {
+    text.item(note_name(note));
     match note {
-        Note::Error(_, _, code) => print!(rt; "error {}; ", code.letter())?,
-        Note::Assigned(tei) => of_tei(rt, "assigned", tei)?,
-        Note::Removed(tei) => of_tei(rt, "removed", tei)?,
-        Note::Doubled(tei) => of_tei(rt, "doubled", tei)?,
-        _ => print!(rt; "{}; ", note_name(note))?,
+        Note::Error(_, _, code) => text.letter(code.letter()),
+        Note::Assigned(tei) | Note::Removed(tei) | Note::Doubled(tei) => text.number(tei),
+        _ => (),
     }
-    Ok(())
 }
 
-fn of_tei(rt: &impl Print, name: &str, tei: u8) -> Result<(), Fault> {
-    print!(rt; "{} {}; ", name, tei)?;
-    Ok(())
-}
-
-/// The name of a note of a link.
 fn note_name(note: Note) -> &'static str {
     match note {
         Note::EstablishIndication(_, _) => "establish indication",
@@ -78,31 +85,28 @@ fn note_name(note: Note) -> &'static str {
         Note::Data(_, _) => "data indication",
         Note::Unit(_, _) => "unit data indication",
         Note::Xid(_, _) => "XID indication",
-        Note::Error(_, _, _) | Note::Assigned(_) | Note::Removed(_) | Note::Doubled(_) => "",
+        Note::Error(_, _, _) => "error ",
+        Note::Assigned(_) => "assigned ",
+        Note::Removed(_) => "removed ",
+        Note::Doubled(_) => "doubled ",
     }
 }
 
 /// What is ordered of timers.
-pub fn orders(rt: &impl Print, orders: &[Order]) -> Result<(), Fault> {
+pub fn orders(text: &mut Text, orders: &[Order]) {
     for given in orders {
-        order(rt, *given)?;
+        text.item(order_name(*given));
     }
-    Ok(())
 }
 
-fn order(rt: &impl Print, order: Order) -> Result<(), Fault> {
+fn order_name(order: Order) -> &'static str {
     match order {
-        Order::Start(timer) => print!(rt; "start {}; ", timer_name(timer))?,
-        Order::Stop(timer) => print!(rt; "stop {}; ", timer_name(timer))?,
-    }
-    Ok(())
-}
-
-fn timer_name(timer: Timer) -> &'static str {
-    match timer {
-        Timer::T200(_, _) => "T200",
-        Timer::T203(_, _) => "T203",
-        Timer::T201 => "T201",
+        Order::Start(Timer::T200(_, _)) => "+T200",
+        Order::Start(Timer::T203(_, _)) => "+T203",
+        Order::Start(Timer::T201) => "+T201",
+        Order::Stop(Timer::T200(_, _)) => "-T200",
+        Order::Stop(Timer::T203(_, _)) => "-T203",
+        Order::Stop(Timer::T201) => "-T201",
     }
 }
 

@@ -1,14 +1,13 @@
 -- Hand-written answers for `load`.
-use Rattle.std.proofs.Common.{[], ◌∷◌, ◌++◌, ap, ◌∙◌, subst}
-use Rattle.lapd_bits.specs.Framer as framing
-use Rattle.lapd_bits.specs.Sent.{frame}
+use Rattle.std.proofs.Common.{◌++◌, ap, ◌∙◌, subst}
 use Rattle.lapd_frame.specs.declared.addresses.Side.TheVariants.{Network}
 use Rattle.lapd_frame.specs.Grammar.{head_of}
+use Rattle.lapd_line.specs.Loading.{Loads}
 use Rattle.lapd_line.proofs.PullTakes.{append_none}
 use Rattle.lapd_line.proofs.pulls.load.Goals as goal
 
-pub returns-clause-stands : goal.returns-clause-stands
-returns-clause-stands c = λ items given h.
-    subst (λ l. framing.Stands c.load.new.self (items ++ frame l ∷ []) given)
+pub returns-clause-loaded : goal.returns-clause-loaded
+returns-clause-loaded g c =
+    subst (λ l. Loads l (g.O.Outlet.loading c.args.out.now) (g.O.Outlet.loading c.load.new.self))
     (ap (λ l. l ++ c.args.info.now) (c.write-len.ensures.spelled.octets_are ∙ append_none (head_of Network c.args.address c.args.control)))
-    (c.load.ensures.stands items given h)
+    c.load.ensures.loaded

@@ -14,5 +14,5 @@ no_orders (Some l) false e on = absurd (cc)
 
 pub returns : goal.returns
 returns g c =
-    due_taken c.args.self.now (g.S.Shelf.store c.args.shelf.now) c.take-taken.new.self (g.S.Shelf.store c.take-taken.new.shelf) c.take-taken.new.framer (orders_taken c.take-taken.result) c.is_none-self.result c.requires.few
+    due_taken c.args.self.now (g.S.Shelf.store c.args.shelf.now) c.take-taken.new.self (g.S.Shelf.store c.take-taken.new.shelf) c.take-taken.new.out (orders_taken c.take-taken.result) c.is_none-self.result c.requires.few
     (λ on. no_orders c.take-taken.result c.is_none-self.result c.is_none-self.ensures on) c.take-taken.ensures

@@ -1,8 +1,9 @@
 -- Hand-written answers for `LinkLayer::take`.
-use Rattle.std.proofs.Common.{◌≤◌, length, ap, sym, subst, ◌∙◌, arith}
+use Rattle.std.proofs.Common.{◌≤◌, ap, sym, subst, ◌∙◌, arith}
 use Rattle.std.specs.Option.{option_or}
 use Rattle.model_line.specs.Line.{link_count}
 use Rattle.model_line.specs.Pull.{message_taken, unit_taken, first_taken, round}
+use Rattle.lapd_line.specs.Loading.{IsFree}
 use Rattle.lapd_line.proofs.PullTakes.{takes_or, takes_first}
 use Rattle.lapd_line.proofs.PullTakesLinks.{none_stands, round_found, round_ends}
 use Rattle.lapd_line.proofs.link_layer.LinkLayer.take.Goals as goal
@@ -14,14 +15,14 @@ returns-in-Some g c =
 pub take_unit-requires-clause-stands : goal.take_unit-requires-clause-stands
 take_unit-requires-clause-stands g c = (none_stands (c.in_default.ensures (g.S.Shelf.store c.args.shelf.now)) c.requires.stands).0
 
-pub take_unit-requires-clause-not_busy : goal.take_unit-requires-clause-not_busy
-take_unit-requires-clause-not_busy g c =
-    omega (arith, c.requires.not_busy, ap (λ x. length x.left) (none_stands (c.in_default.ensures (g.S.Shelf.store c.args.shelf.now)) c.requires.stands).1)
+pub take_unit-requires-clause-free : goal.take_unit-requires-clause-free
+take_unit-requires-clause-free g c =
+    subst IsFree (sym (none_stands (c.in_default.ensures (g.S.Shelf.store c.args.shelf.now)) c.requires.stands).1) c.requires.free
 
 pub take_unit-requires-clause-room : goal.take_unit-requires-clause-room
 take_unit-requires-clause-room g c =
     let message = c.in_default.ensures (g.S.Shelf.store c.args.shelf.now) in
-    message.room ∙ c.requires.room ∙ ap (λ x. x.n201) (sym message.config)
+    omega (arith, message.room, c.requires.room, ap (λ x. x.n201) message.config)
 
 pub returns-in-Some-take_unit : goal.returns-in-Some-take_unit
 returns-in-Some-take_unit g c =
@@ -33,16 +34,16 @@ take_first-requires-clause-stands g c =
     let message = none_stands (c.in_default.ensures (g.S.Shelf.store c.args.shelf.now)) c.requires.stands in
     (none_stands c.in_default-take_unit.ensures message.0).0
 
-pub take_first-requires-clause-not_busy : goal.take_first-requires-clause-not_busy
-take_first-requires-clause-not_busy g c =
+pub take_first-requires-clause-free : goal.take_first-requires-clause-free
+take_first-requires-clause-free g c =
     let message = none_stands (c.in_default.ensures (g.S.Shelf.store c.args.shelf.now)) c.requires.stands in
-    omega (arith, c.requires.not_busy, ap (λ x. length x.left) message.1, ap (λ x. length x.left) (none_stands c.in_default-take_unit.ensures message.0).1)
+    subst IsFree (sym ((none_stands c.in_default-take_unit.ensures message.0).1 ∙ message.1)) c.requires.free
 
 pub take_first-requires-clause-room : goal.take_first-requires-clause-room
 take_first-requires-clause-room g c =
     let message = c.in_default.ensures (g.S.Shelf.store c.args.shelf.now) in
     let unit = c.in_default-take_unit.ensures in
-    unit.room ∙ message.room ∙ c.requires.room ∙ ap (λ x. x.n201) (sym message.config) ∙ ap (λ x. x.n201) (sym unit.config)
+    omega (arith, unit.room, message.room, c.requires.room, ap (λ x. x.n201) message.config, ap (λ x. x.n201) unit.config)
 
 pub take_first-requires-clause-order : goal.take_first-requires-clause-order
 take_first-requires-clause-order g c =
@@ -67,19 +68,18 @@ take_first-requires-2-clause-stands g c =
     let message = none_stands (c.in_default.ensures (g.S.Shelf.store c.args.shelf.now)) c.requires.stands in
     (none_stands c.in_default-take_first.ensures (none_stands c.in_default-take_unit.ensures message.0).0).0
 
-pub take_first-requires-2-clause-not_busy : goal.take_first-requires-2-clause-not_busy
-take_first-requires-2-clause-not_busy g c =
+pub take_first-requires-2-clause-free : goal.take_first-requires-2-clause-free
+take_first-requires-2-clause-free g c =
     let message = none_stands (c.in_default.ensures (g.S.Shelf.store c.args.shelf.now)) c.requires.stands in
     let unit = none_stands c.in_default-take_unit.ensures message.0 in
-    omega (arith, c.requires.not_busy, ap (λ x. length x.left) message.1, ap (λ x. length x.left) unit.1, ap (λ x. length x.left) (none_stands c.in_default-take_first.ensures unit.0).1)
+    subst IsFree (sym ((none_stands c.in_default-take_first.ensures unit.0).1 ∙ unit.1 ∙ message.1)) c.requires.free
 
 pub take_first-requires-2-clause-room : goal.take_first-requires-2-clause-room
 take_first-requires-2-clause-room g c =
     let message = c.in_default.ensures (g.S.Shelf.store c.args.shelf.now) in
     let unit = c.in_default-take_unit.ensures in
     let first = c.in_default-take_first.ensures in
-    first.room ∙ unit.room ∙ message.room ∙ c.requires.room
-    ∙ ap (λ x. x.n201) (sym message.config) ∙ ap (λ x. x.n201) (sym unit.config) ∙ ap (λ x. x.n201) (sym first.config)
+    omega (arith, first.room, unit.room, message.room, c.requires.room, ap (λ x. x.n201) message.config, ap (λ x. x.n201) unit.config, ap (λ x. x.n201) first.config)
 
 pub take_first-requires-2-clause-within : goal.take_first-requires-2-clause-within
 take_first-requires-2-clause-within g c =

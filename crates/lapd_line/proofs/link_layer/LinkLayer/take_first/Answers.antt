@@ -1,6 +1,7 @@
 -- Hand-written answers for `LinkLayer::take_first`.
-use Rattle.std.proofs.Common.{◌<◌, length, ap, sym, subst, ◌∙◌, arith}
+use Rattle.std.proofs.Common.{◌<◌, ap, sym, subst, arith}
 use Rattle.model_line.specs.Line.{link_count}
+use Rattle.lapd_line.specs.Loading.{IsFree}
 use Rattle.lapd_line.proofs.PullTakesLinks.{none_among, one_more, found, passed, none_stands}
 use Rattle.lapd_line.proofs.link_layer.LinkLayer.take_first.Goals as goal
 
@@ -8,7 +9,7 @@ pub loop-number-init : goal.loop-number-init
 loop-number-init g c = record {
   order = omega arith;
   within = c.requires.order;
-  so_far = none_among c.args.self.now (g.S.Shelf.store c.args.shelf.now) c.args.framer.now c.args.from;
+  so_far = none_among c.args.self.now (g.S.Shelf.store c.args.shelf.now) (g.O.Outlet.loading c.args.out.now) c.args.from;
 }
 
 pub returns-in-Some-take_link : goal.returns-in-Some-take_link
@@ -39,14 +40,14 @@ returns g c =
 pub take_link-requires-clause-stands : goal.take_link-requires-clause-stands
 take_link-requires-clause-stands g c = (none_stands c.loop-number.invariant.so_far c.requires.stands).0
 
-pub take_link-requires-clause-not_busy : goal.take_link-requires-clause-not_busy
-take_link-requires-clause-not_busy g c =
-    omega (arith, c.requires.not_busy, ap (λ x. length x.left) (none_stands c.loop-number.invariant.so_far c.requires.stands).1)
+pub take_link-requires-clause-free : goal.take_link-requires-clause-free
+take_link-requires-clause-free g c =
+    subst IsFree (sym (none_stands c.loop-number.invariant.so_far c.requires.stands).1) c.requires.free
 
 pub take_link-requires-clause-room : goal.take_link-requires-clause-room
 take_link-requires-clause-room g c =
     let before = c.loop-number.invariant.so_far in
-    before.room ∙ c.requires.room ∙ ap (λ x. x.n201) (sym before.config)
+    omega (arith, before.room, c.requires.room, ap (λ x. x.n201) before.config)
 
 pub take_link-requires-clause-within : goal.take_link-requires-clause-within
 take_link-requires-clause-within g c =

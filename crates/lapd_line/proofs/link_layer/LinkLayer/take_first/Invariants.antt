@@ -9,7 +9,7 @@ abbrev pub invariant-loop-number : goal.invariant-loop-number
 invariant-loop-number g l = record {
   order : l.fn.from ≤ l.next;
   within : l.next ≤ l.fn.to;
-  so_far : Takes (among l.fn.from (l.next - l.fn.from)) l.fn.self (g.S.Shelf.store l.fn.shelf) l.fn.framer l.self (g.S.Shelf.store l.fn.shelf) l.framer None;
+  so_far : Takes (among l.fn.from (l.next - l.fn.from)) l.fn.self (g.S.Shelf.store l.fn.shelf) (g.O.Outlet.loading l.fn.out) l.self (g.S.Shelf.store l.fn.shelf) (g.O.Outlet.loading l.out) None;
 }
 
 abbrev pub decreases-loop-number : goal.decreases-loop-number

@@ -15,7 +15,7 @@ sleep-requires g c = low_link c.args.self.now (g.S.Shelf.store c.args.shelf.now)
 
 pub returns-in_default : goal.returns-in_default
 returns-in_default g c =
-    no_link c.args.self.now (g.S.Shelf.store c.args.shelf.now) c.args.framer.now c.args.number c.offer.new.self c.sleep.new.self c.requires.within c.in_default.ensures c.sleep.ensures
+    no_link c.args.self.now (g.S.Shelf.store c.args.shelf.now) (g.O.Outlet.loading c.args.out.now) c.args.number c.offer.new.self c.sleep.new.self c.requires.within c.in_default.ensures c.sleep.ensures
 
 pub address-address-requires : goal.address-address-requires
 address-address-requires g c =
@@ -38,5 +38,5 @@ load-requires-clause-info g c =
 
 pub returns : goal.returns
 returns g c =
-    link_loaded c.args.self.now (g.S.Shelf.store c.args.shelf.now) c.args.framer.now c.load.new.framer c.args.number c.offer.new.self c.in-Some.offer c.address-address.result c.contents.result.now c.requires.within c.requires.awake c.in-Some.ensures
-    c.address-address.ensures c.contents.ensures c.load.ensures.room c.load.ensures.stands
+    link_loaded c.args.self.now (g.S.Shelf.store c.args.shelf.now) (g.O.Outlet.loading c.args.out.now) (g.O.Outlet.loading c.load.new.out) c.args.number c.offer.new.self c.in-Some.offer c.address-address.result c.contents.result.now c.requires.within c.requires.awake c.in-Some.ensures
+    c.address-address.ensures c.contents.ensures c.load.ensures.room c.load.ensures.loaded

@@ -1,0 +1,66 @@
+-- A card for frames as it begins.
+use Rattle.std.proofs.Common.{◌≡◌, ◌≤◌, List, [], ◌∷◌, ◌++◌, length, replicate, refl, sym, ap, subst, ◌∙◌, arith, None, false, nat_lt, ◌||◌}
+use Rattle.std.proofs.lemmas.Bool.{or_parts, ltb-false}
+use Rattle.std.proofs.lemmas.List.{length-replicate, append-nil}
+use Rattle.std.proofs.lemmas.List.Elements.{All-nil, All-cons}
+use Rattle.std.specs.List.{All, AllByRecursion, flat_map, zip}
+use Rattle.lapd_line.specs.declared.frame_line.FrameLine.{FrameLine}
+use Rattle.lapd_line.specs.FrameStands.{pairs_of}
+use Rattle.lapd_line.proofs.FrameStood.{held_of}
+use Rattle.model_line.specs.declared.config.Config.{Config}
+use Rattle.model_line.specs.Config.{first_fault}
+use Rattle.model_line.specs.Line.{fresh_line}
+use Rattle.model_card.specs.Card.{fresh}
+use Rattle.model_card.proofs.Reaching.{reached-fresh}
+use Rattle.lapd_store.specs.Ownership.{Holds}
+use Rattle.lapd_store.specs.Store.{Store, used_slots}
+use Rattle.lapd_store.proofs.Ownership.{Holds-unused, used_slots-held}
+use Rattle.lapd_card.specs.FrameLines.{IsFit, owned, IsFresh, AreFresh}
+use Rattle.lapd_card.specs.FrameStands.{Stands}
+use Rattle.lapd_card.proofs.Begins.{empty_list}
+use Rattle.lapd_card.specs.Start.{is_too_small}
+
+-- a line as it begins owns nothing
+owns_nothing : (c : Config) (l : FrameLine) (s : Store) → c.n201 ≤ s.width → Holds s [] → IsFresh c l → pairs_of l (fresh_line c) ≡ []
+owns_nothing c l s wide none fresh =
+    let pairs = pairs_of l (fresh_line c) in
+    let held = held_of l s [] (fresh_line c) (fresh.stands s [] wide none) in
+    empty_list pairs (ap length (sym (append-nil pairs)) ∙ sym (used_slots-held (pairs ++ []) held) ∙ used_slots-held [] none)
+
+-- and stands for a line of the machine as it begins
+fresh_fit : (c : Config) (ls : List FrameLine) (s : Store) → c.n201 ≤ s.width → Holds s [] → AllByRecursion (IsFresh c) ls → All (IsFit c) (zip ls (replicate (length ls) (fresh_line c)))
+fresh_fit c [] s wide none all = All-nil (IsFit c)
+fresh_fit c (l ∷ ls) s wide none (one, all) =
+    All-cons (IsFit c) (l, fresh_line c) (zip ls (replicate (length ls) (fresh_line c)))
+    (record { config = one.config; store = s; others = []; stands = one.stands s [] wide none })
+    (fresh_fit c ls s wide none all)
+
+fresh_owned : (c : Config) (ls : List FrameLine) (s : Store) → c.n201 ≤ s.width → Holds s [] → AllByRecursion (IsFresh c) ls → flat_map owned (zip ls (replicate (length ls) (fresh_line c))) ≡ []
+fresh_owned c [] s wide none all = refl
+fresh_owned c (l ∷ ls) s wide none (one, all) =
+    ap (λ ps. ps ++ flat_map owned (zip ls (replicate (length ls) (fresh_line c)))) (owns_nothing c l s wide none one)
+    ∙ fresh_owned c ls s wide none all
+
+-- lines as they begin stand, on a shelf that is not too small
+pub fresh_stands : {S : Type 0} (store : S → Store) (c : Config) (ls : List FrameLine) (shelf : S) → first_fault c ≡ None → is_too_small c (store shelf) ≡ false → AreFresh c ls → Stands store (record { config = c; lines = ls; shelf = shelf }) (fresh c)
+fresh_stands store c ls shelf range room all =
+    let s = store shelf in
+    let first = or_parts (nat_lt s.slots c.slots || nat_lt s.width c.n201) (nat_lt 0 (used_slots s)) room in
+    let second = or_parts (nat_lt s.slots c.slots) (nat_lt s.width c.n201) first.0 in
+    let wide : c.n201 ≤ s.width = ltb-false s.width c.n201 second.1 in
+    let slots : c.slots ≤ s.slots = ltb-false s.slots c.slots second.0 in
+    let none_used : used_slots s ≤ 0 = ltb-false 0 (used_slots s) first.1 in
+    let unused : used_slots s ≡ 0 = omega (arith, none_used) in
+    let none : Holds s [] = Holds-unused unused in
+    record {
+      config = refl;
+      lines = record {
+        width = wide;
+        count = all.count ∙ sym (length-replicate c.lines (fresh_line c));
+        fit = subst (λ n. All (IsFit c) (zip ls (replicate n (fresh_line c)))) all.count (fresh_fit c ls s wide none all.each);
+        held = subst (λ n. Holds s (flat_map owned (zip ls (replicate n (fresh_line c))) ++ [])) all.count
+            (subst (λ ps. Holds s (ps ++ [])) (sym (fresh_owned c ls s wide none all.each)) none);
+      };
+      slots = slots;
+      reached = reached-fresh c range;
+    }

@@ -1,0 +1,12 @@
+-- Hand-written answers for `FrameCard::limit`.
+use Rattle.std.proofs.Common.{sym, subst, ap, ◌∙◌}
+use Rattle.model_line.specs.Sound.{IsInRange}
+use Rattle.model_card.specs.Stored.{limit}
+use Rattle.lapd_card.specs.FrameStands.{Stands}
+use Rattle.lapd_card.proofs.frame_card.FrameCard.limit.Goals as goal
+
+pub limit-requires : goal.limit-requires
+limit-requires g c = let (m, s) = c.self.invariant in subst IsInRange s.config s.reached.config
+
+pub returns : goal.returns
+returns g c = λ m s. c.limit.ensures ∙ ap limit (sym ((subst (λ card. Stands g.S.Shelf.store card m) (sym c.self.view_is) s).config))

@@ -1,0 +1,36 @@
+-- Hand-written answers for `FrameCard::request`.
+use Rattle.std.proofs.Common.{◌<◌, sym, subst, Some, None}
+use Rattle.std.proofs.lemmas.Result.{IfOk-weaker, IfErr-weaker}
+use Rattle.model_line.specs.Request.{request_of}
+use Rattle.model_frames.specs.AtCard.{asks}
+use Rattle.model_card.proofs.ByEvent.{frames_by_event}
+use Rattle.lapd_card.specs.FrameCard.{line_count}
+use Rattle.lapd_card.specs.FrameStands.{Stands, Leads}
+use Rattle.model_card.proofs.Reaching.{reached-sound}
+use Rattle.lapd_card.proofs.OneHappening.{line-there, lines-serve, refusal_is, request_told, request_leads, past_after}
+use Rattle.lapd_card.proofs.frame_card.FrameCard.request.Goals as goal
+
+-- the line is there
+pub request-requires-clause-within : goal.request-requires-clause-within
+request-requires-clause-within g c = line-there g.S.Shelf.store (record { config = c.self.inside.config; lines = c.self.inside.lines; shelf = c.self.inside.shelf }) c.args.line c.self.invariant (subst (λ card. c.args.line < line_count card) (sym c.self.view_is) c.requires)
+
+pub request-requires-clause-serve : goal.request-requires-clause-serve
+request-requires-clause-serve g c = lines-serve g.S.Shelf.store (record { config = c.self.inside.config; lines = c.self.inside.lines; shelf = c.self.inside.shelf }) c.self.invariant
+
+pub invariant_of-self : goal.invariant_of-self
+invariant_of-self g c = past_after g.S.Shelf.store (asks c.args.line (request_of c.args.request)) (record { config = c.self.inside.config; lines = c.self.inside.lines; shelf = c.self.inside.shelf }) _ (request_leads g.S.Shelf.store (request_of c.args.request) c.args.line (record { config = c.self.inside.config; lines = c.self.inside.lines; shelf = c.self.inside.shelf }) c.request.new.self c.request.new.shelf c.request.result (subst (λ card. c.args.line < line_count card) (sym c.self.view_is) c.requires) (IfErr-weaker c.request.result _ _ (λ why. refusal_is g.S.Shelf.store (request_of c.args.request) c.args.line c.from.result (record { config = c.self.inside.config; lines = c.self.inside.lines; shelf = c.self.inside.shelf }) (Some why) c.from.ensures) c.request.ensures.refused) (IfOk-weaker c.request.result _ _ (λ report. refusal_is g.S.Shelf.store (request_of c.args.request) c.args.line c.from.result (record { config = c.self.inside.config; lines = c.self.inside.lines; shelf = c.self.inside.shelf }) None c.from.ensures) c.request.ensures.accepted) c.request.ensures.unchanged c.request.ensures.kept c.request.ensures.after) c.self.invariant
+
+pub returns-clause-refused : goal.returns-clause-refused
+returns-clause-refused g c = IfErr-weaker c.request.result _ _ (λ why says m s. says m (subst (λ card. Stands g.S.Shelf.store card m) (sym c.self.view_is) s)) (IfErr-weaker c.request.result _ _ (λ why. refusal_is g.S.Shelf.store (request_of c.args.request) c.args.line c.from.result (record { config = c.self.inside.config; lines = c.self.inside.lines; shelf = c.self.inside.shelf }) (Some why) c.from.ensures) c.request.ensures.refused)
+
+pub returns-clause-accepted : goal.returns-clause-accepted
+returns-clause-accepted g c = IfOk-weaker c.request.result _ _ (λ report says m s. says m (subst (λ card. Stands g.S.Shelf.store card m) (sym c.self.view_is) s)) (IfOk-weaker c.request.result _ _ (λ report. refusal_is g.S.Shelf.store (request_of c.args.request) c.args.line c.from.result (record { config = c.self.inside.config; lines = c.self.inside.lines; shelf = c.self.inside.shelf }) None c.from.ensures) c.request.ensures.accepted)
+
+pub returns-clause-told : goal.returns-clause-told
+returns-clause-told g c = λ m s. request_told g.S.Shelf.store (request_of c.args.request) c.args.line (record { config = c.self.inside.config; lines = c.self.inside.lines; shelf = c.self.inside.shelf }) c.request.result (IfErr-weaker c.request.result _ _ (λ why. refusal_is g.S.Shelf.store (request_of c.args.request) c.args.line c.from.result (record { config = c.self.inside.config; lines = c.self.inside.lines; shelf = c.self.inside.shelf }) (Some why) c.from.ensures) c.request.ensures.refused) (IfOk-weaker c.request.result _ _ (λ report. refusal_is g.S.Shelf.store (request_of c.args.request) c.args.line c.from.result (record { config = c.self.inside.config; lines = c.self.inside.lines; shelf = c.self.inside.shelf }) None c.from.ensures) c.request.ensures.accepted) c.request.ensures.told m (subst (λ card. Stands g.S.Shelf.store card m) (sym c.self.view_is) s)
+
+pub returns-clause-after : goal.returns-clause-after
+returns-clause-after g c = subst (λ card. Leads g.S.Shelf.store (asks c.args.line (request_of c.args.request)) card (record { config = c.self.inside.config; lines = c.request.new.self; shelf = c.request.new.shelf })) c.self.view_is (request_leads g.S.Shelf.store (request_of c.args.request) c.args.line (record { config = c.self.inside.config; lines = c.self.inside.lines; shelf = c.self.inside.shelf }) c.request.new.self c.request.new.shelf c.request.result (subst (λ card. c.args.line < line_count card) (sym c.self.view_is) c.requires) (IfErr-weaker c.request.result _ _ (λ why. refusal_is g.S.Shelf.store (request_of c.args.request) c.args.line c.from.result (record { config = c.self.inside.config; lines = c.self.inside.lines; shelf = c.self.inside.shelf }) (Some why) c.from.ensures) c.request.ensures.refused) (IfOk-weaker c.request.result _ _ (λ report. refusal_is g.S.Shelf.store (request_of c.args.request) c.args.line c.from.result (record { config = c.self.inside.config; lines = c.self.inside.lines; shelf = c.self.inside.shelf }) None c.from.ensures) c.request.ensures.accepted) c.request.ensures.unchanged c.request.ensures.kept c.request.ensures.after)
+
+pub returns-clause-frames : goal.returns-clause-frames
+returns-clause-frames g c = λ m s. frames_by_event.requests m c.args.line (request_of c.args.request) (reached-sound m s.reached) (subst (λ d. c.args.line < d.lines) (sym s.config) c.requires)

@@ -1,0 +1,14 @@
+-- Hand-written answers for `FrameLines::failed`.
+use Rattle.std.proofs.Common.{map}
+use Rattle.lapd_bits.specs.Stream.{dropped}
+use Rattle.model_line.specs.Event as line_event
+use Rattle.model_frames.specs.Whole.{fault_octets, cause_of}
+use Rattle.model_frames.specs.AtLine.{of_heard}
+use Rattle.lapd_card.proofs.OneFrameLine.{one_says, one_stays}
+use Rattle.lapd_card.proofs.frame_lines.FrameLines.failed.Goals as goal
+
+pub returns-clause-told : goal.returns-clause-told
+returns-clause-told c = λ d store. one_says (λ d l. (of_heard d (dropped (cause_of c.args.fault)) l).told) _ _ c.args.self.now c.args.line c.index.result.now (record { same = c.self.view_is; within = c.requires; is = c.index.ensures }) store (λ others l s. c.failed.ensures.told l) d
+
+pub returns-clause-after : goal.returns-clause-after
+returns-clause-after c = λ store. one_stays (λ d l. map line_event.octet (fault_octets c.args.fault)) _ c.args.self.now c.args.line c.index.result.now (record { same = c.self.view_is; within = c.requires; is = c.index.ensures }) store (c.failed.ensures.after store)

@@ -1,0 +1,16 @@
+-- The invariants of the loops of `FrameLines::held`.
+use Rattle.std.proofs.Common.{◌≡◌, ◌+◌, ◌*◌, ◌≤◌, List, take}
+use Rattle.std.specs.List.{sum_by}
+use Rattle.model_line.specs.declared.config.Config.{Config}
+use Rattle.model_line.specs.Line as machine
+use Rattle.model_line.specs.Stored.{held_in, held_sent}
+use Rattle.lapd_store.specs.Store.{Store}
+use Rattle.lapd_card.specs.FrameLines.{Stand}
+use Rattle.lapd_card.proofs.frame_lines.FrameLines.held.Given as goal
+
+-- what the lines so far hold
+abbrev pub invariant-loop-line : goal.invariant-loop-line
+invariant-loop-line l = record {
+  exact : (c : Config) (store : Store) (ms : List machine.Line) → Stand c l.self store ms → l.held + sum_by held_sent (take l.line-index ms) ≡ sum_by (held_in c) (take l.line-index ms);
+  small : l.held ≤ l.line-index * 4294967295;
+}

@@ -1,0 +1,12 @@
+-- The invariants of the loops of `FrameLines::start`.
+use Rattle.std.proofs.Common.{◌≡◌, vec_len}
+use Rattle.std.specs.List.{AllByRecursion}
+use Rattle.lapd_card.specs.FrameLines.{IsFresh}
+use Rattle.lapd_card.proofs.frame_lines.FrameLines.start.Given as goal
+
+-- so many lines, each as it begins
+abbrev pub invariant-loop : goal.invariant-loop
+invariant-loop l = record {
+  count : vec_len l.lines ≡ l.counter;
+  each : AllByRecursion (IsFresh l.config) l.lines.items;
+}

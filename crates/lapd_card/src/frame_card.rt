@@ -1,0 +1,212 @@
+//! The card for frames: one call a happening.
+
+ghost use Rattle.std.specs.Prelude.{◌≡◌, ◌+◌, ◌≤◌, ◌<◌, ◌↔◌, length, drop, sum_by, Some, None, IfOk, IfErr, IfSome, IfNone, Err, IsErr, IsOkUnless, OnOk, OnErr};
+ghost use Rattle.model_card.specs.ByEvent.{ArePriced, RisesByExpiry, RisesByRequest};
+ghost use Rattle.model_card.specs.Card as machine;
+ghost use Rattle.model_card.specs.Stored.{stored, limit};
+ghost use Rattle.model_line.specs.Event.{told};
+ghost use Rattle.model_line.specs.Pull.{taken};
+ghost use Rattle.model_line.specs.Refusal.{refusal};
+ghost use Rattle.model_line.specs.Request.{request_of};
+ghost use Rattle.model_line.specs.Stored.{held_sent};
+ghost use Rattle.model_link.specs.Told.{starts};
+ghost use Rattle.model_frames.specs.AtCard.{comes, failed, goes, expires, asks, events_of};
+ghost use Rattle.model_frames.specs.Said.{says, said};
+ghost use Rattle.lapd_line.specs.FrameStands.{IsNext, written};
+ghost use Rattle.lapd_line.specs.Reports.{report_told};
+
+use crate::frame_lines::FrameLines;
+use lapd_frame::{Refusal, Service, Timer};
+use lapd_line::{Config, NextFrame, Report, Request};
+use lapd_store::Shelf;
+use model_frames::Fault;
+use std::marker::Model;
+use thiserror::Error;
+
+/// There is no room for every frame that may be next. Nothing has changed, and the frame waits.
+#[derive(Clone, Copy, PartialEq, Eq, Debug, Error)]
+#[error("a frame has up to {room} octets")]
+pub struct RoomTooSmall {
+    /// The room that suffices always: N201 octets and four.
+    pub room: usize,
+}
+
+/// A line card over a shelf for the contents that wait, whose lines' flags, stuffed 0s and checks are a controller's: it takes
+/// and gives whole frames, from the address to the information.
+///
+/// It is a card of octets, [`crate::Card`], at whose lines no other octets come than those which the frames mean. All memory
+/// is taken by [`FrameCard::start`]; no other call takes any. Lines are counted from 0, and each call but `state` needs one
+/// that the card has.
+#[derive(Debug, Drop)]
+pub struct FrameCard<S: Shelf> {
+    pub(crate) config: Config,
+    pub(crate) lines: FrameLines,
+    pub(crate) shelf: S,
+}
+
+impl<S: Shelf> Model for FrameCard<S> {
+    ghost use Rattle.lapd_card.specs.FrameCard.{Held, held_code};
+
+    ghost Value = { Held S };
+
+    ghost coded = { held_code S.code };
+
+    ghost use Rattle.lapd_card.specs.FrameStands.{HasPast};
+
+    ghost view = { λ a. record { config = a.config; lines = a.lines; shelf = a.shelf } };
+
+    ghost invariant = { λ a. HasPast S.store (record { config = a.config; lines = a.lines; shelf = a.shelf }) };
+}
+
+impl<S: Shelf> FrameCard<S> {
+    ghost use Rattle.lapd_card.specs.FrameCard.{line_count, room_for_frames};
+    ghost use Rattle.lapd_card.specs.FrameStands.{Stands, Leads};
+    ghost use Rattle.lapd_card.specs.Reply.{answer_of_result};
+
+    /// How many lines the card has: 1 to 64.
+    pub fn lines(&self) -> usize
+        ensures { result ≡ line_count self.now }
+    {
+        usize::from(self.config.lines)
+    }
+
+    /// The room that every frame of the card fits into: N201 octets and four.
+    pub fn frame_room(&self) -> usize
+        ensures { result ≡ room_for_frames self.now }
+    {
+        usize::from(self.config.n201) + 4
+    }
+
+    /// Takes a frame that came from a line, from its address to its information, without its check, and tells what it led
+    /// to. One that is too short, or longer than N201 has room for, is answered as these octets between flags would be.
+    /// Contents that it delivers are lent from the octets themselves.
+    pub fn frame<'a>(&mut self, line: usize, octets: &'a [u8]) -> Report<'a>
+        requires { line < line_count self.old }
+        ensures told { (m : machine.Card) → Stands S.store self.old m
+            → says (told (report_told result)) ≡ said m (comes line octets.now) }
+        ensures after { Leads S.store (comes line octets.now) self.old self.new }
+        // What may be sent rises by two at most for the frame, and by k more where that is an REJ with a valid N(R).
+        ensures frames { (m : machine.Card) → Stands S.store self.old m → ArePriced m (events_of m (comes line octets.now)) }
+    {
+        self.lines.frame(line, octets, &mut self.shelf)
+    }
+
+    /// The controller of a line told a fault in place of a frame. It is reported with its cause, and has no other effect.
+    pub fn failed(&self, line: usize, fault: Fault) -> Report<'static>
+        requires { line < line_count self.now }
+        ensures told { (m : machine.Card) → Stands S.store self.now m
+            → says (told (report_told result)) ≡ said m (failed line fault) }
+        ensures after { Leads S.store (failed line fault) self.now self.now }
+    {
+        self.lines.failed(line, fault)
+    }
+
+    /// Writes the next frame to be sent on a line in front of `out`, from its address to its information, without its check:
+    /// a message of TEI management, else unit data, else a frame of a link, each link in its turn (profile); none where
+    /// none waits. The frame is the controller's then, and the octets behind it stay as they were.
+    ///
+    /// # Errors
+    ///
+    /// [`RoomTooSmall`] where `out` has fewer octets than [`FrameCard::frame_room`], whatever waits. Nothing has changed then.
+    pub fn next_frame(
+        &mut self,
+        line: usize,
+        out: &mut [u8],
+    ) -> Result<Option<NextFrame>, RoomTooSmall>
+        requires { line < line_count self.old }
+        ensures refused { IsErr result ↔ (length out.old < room_for_frames self.old) }
+        ensures room { IfErr result (λ fault. fault.room ≡ room_for_frames self.old) }
+        ensures unchanged { OnErr result (self.new ≡ self.old) }
+        ensures unwritten { OnErr result (out.new ≡ out.old) }
+        ensures gives { IfOk result (λ next. (m : machine.Card) → Stands S.store self.old m
+            → IsNext (taken m.config (machine.line_at line m)) next out.new) }
+        ensures rest { IfOk result (λ next. drop (written next) out.new ≡ drop (written next) out.old) }
+        ensures length { length out.new ≡ length out.old }
+        ensures after { OnOk result (Leads S.store (goes line) self.old self.new) }
+        // Where it takes a frame, what may be sent falls by one or two; else it stays.
+        ensures frames { (m : machine.Card) → Stands S.store self.old m → ArePriced m (events_of m (goes line)) }
+    {
+        let room = self.frame_room();
+        if out.len() < room {
+            return Err(RoomTooSmall { room });
+        }
+        Ok(self.give(line, out))
+    }
+
+    /// The next frame of a line, for which there is room.
+    pub(crate) fn give(&mut self, line: usize, out: &mut [u8]) -> Option<NextFrame>
+        requires within { line < line_count self.old }
+        requires room { room_for_frames self.old ≤ length out.old }
+        ensures gives { (m : machine.Card) → Stands S.store self.old m
+            → IsNext (taken m.config (machine.line_at line m)) result out.new }
+        ensures rest { drop (written result) out.new ≡ drop (written result) out.old }
+        ensures length { length out.new ≡ length out.old }
+        ensures after { Leads S.store (goes line) self.old self.new }
+    {
+        self.lines.next_frame(line, out, &mut self.shelf)
+    }
+
+    /// A timer of a line expired. One that does not run has no effect, and nothing is reported.
+    pub fn expire(&mut self, line: usize, timer: Timer) -> Report<'static>
+        requires { line < line_count self.old }
+        ensures told { (m : machine.Card) → Stands S.store self.old m
+            → says (told (report_told result)) ≡ said m (expires line timer) }
+        ensures after { Leads S.store (expires line timer) self.old self.new }
+        // It starts one timer at most, so applying the orders of what falls due comes to an end.
+        ensures starts { starts (report_told result).orders ≤ 1 }
+        // What may be sent rises by k + 1 where the timer was running, else by nothing.
+        ensures frames { (m : machine.Card) → Stands S.store self.old m → RisesByExpiry line timer m }
+    {
+        self.lines.expire(line, timer, &mut self.shelf)
+    }
+
+    /// Serves a request of layer 3 or management at a line. One that is refused changes nothing, on this line or any other.
+    ///
+    /// # Errors
+    ///
+    /// The first row that holds of those that apply to the request ([`Refusal`] has them in order); `PoolFull` exactly
+    /// where the card holds as many contents as its configuration has slots.
+    pub fn request(&mut self, line: usize, request: Request<'_>) -> Result<Report<'static>, Refusal>
+        requires { line < line_count self.old }
+        ensures refused { IfErr result (λ why. (m : machine.Card) → Stands S.store self.old m
+            → refusal m.config (machine.is_full m) (request_of request.entry) (machine.line_at line m) ≡ Some why) }
+        ensures unchanged { OnErr result (self.new ≡ self.old) }
+        ensures accepted { IfOk result (λ report. (m : machine.Card) → Stands S.store self.old m
+            → refusal m.config (machine.is_full m) (request_of request.entry) (machine.line_at line m) ≡ None) }
+        ensures told { (m : machine.Card) → Stands S.store self.old m
+            → says (answer_of_result result) ≡ said m (asks line (request_of request.entry)) }
+        ensures after { Leads S.store (asks line (request_of request.entry)) self.old self.new }
+        // What may be sent rises by one where it is accepted, else by nothing.
+        ensures frames { (m : machine.Card) → Stands S.store self.old m → RisesByRequest line (request_of request.entry) m }
+    {
+        self.lines.request(line, request, &mut self.shelf, u32::from(self.config.slots))
+    }
+
+    /// The state of the link of a service with this TEI, by its number in Q.921: 4 to 8. None where the card has no such
+    /// line, or the TEI is not on it.
+    pub fn state(&self, line: usize, service: Service, tei: u8) -> Option<u8>
+        ensures { (m : machine.Card) → Stands S.store self.now m → result ≡ machine.state line service tei m }
+    {
+        if line < self.lines() {
+            self.lines.state(line, service, tei)
+        } else {
+            None
+        }
+    }
+
+    /// How many octets the card stores now: of control frames and messages that wait, of assignments that are remembered,
+    /// and of contents in slots. It keeps nothing of the frames that come and go: it is a card of octets but for what that
+    /// holds of frames on their way. They are never more than [`crate::limit`] says.
+    pub fn stored(&self) -> u32
+        ensures { (m : machine.Card) → Stands S.store self.now m → result + sum_by held_sent m.lines ≡ stored m }
+    {
+        (self.lines.held() + self.shelf.octets()) as u32
+    }
+
+    /// How many octets the card stores at most, whatever happens: [`crate::limit`] of its configuration.
+    pub fn limit(&self) -> u32
+        ensures { (m : machine.Card) → Stands S.store self.now m → result ≡ limit m.config }
+    {
+        crate::stored::limit(&self.config)
+    }
+}

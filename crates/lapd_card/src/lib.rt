@@ -38,6 +38,11 @@
 //! # Only tested
 //!
 //! Starts, with each fault; an answer that is kept has its contents; single events and long runs (`test_card`).
+//!
+//! # Open
+//!
+//! Of a card for frames: whole lists of what happens at it (`drive` is of a card of octets), its calls in C and in scripts,
+//! and a bound of what it stores that leaves out the room of frames on their way. No test starts one yet.
 #![tactic(auto)]
 
 mod card;

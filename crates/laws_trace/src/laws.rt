@@ -20,7 +20,8 @@ pub fn units_go_out()
 
 /// What goes out is what began. The frames that a receiver hears in the octets that a line puts are those that began on it, in
 /// order, whole, each once, and no other; the last may be on its way. So nothing goes out of a card before a frame begins on
-/// it (Q.921 clauses 2.2 to 2.7 and 2.9).
+/// it. Of each number of a frame its eight low bits are heard, so an octet, 0 to 255, as it is (Q.921 clauses 2.2 to 2.7 and
+/// 2.9).
 pub fn frames_go_out()
     ensures { Always FramesGoOut }
 {}

@@ -41,8 +41,8 @@
 //!
 //! # Open
 //!
-//! Of a card for frames: whole lists of what happens at it (`drive` is of a card of octets), its calls in C and in scripts,
-//! and a bound of what it stores that leaves out the room of frames on their way. No test starts one yet.
+//! Of a card for frames: a `drive` (there is one for octets only), its calls in C and in scripts, and a bound of what it
+//! stores that leaves out the room of frames on their way. No test starts one yet.
 #![tactic(auto)]
 
 mod card;

@@ -19,7 +19,7 @@ pub fn units_go_out()
 {}
 
 /// What goes out is what began. The frames that a receiver hears in the octets that a line puts are those that began on it, in
-/// order, whole, each once, and no other; the last may be on its way. So nothing goes out of a card before a frame begins on
+/// order, whole, each once, and no other; the last may be on its way. So nothing is heard on a line before a frame begins on
 /// it. Of each number of a frame its eight low bits are heard, so an octet, 0 to 255, as it is (Q.921 clauses 2.2 to 2.7 and
 /// 2.9).
 pub fn frames_go_out()
@@ -36,8 +36,8 @@ pub fn all_frames_go_out()
 
 /// Unit data is heard at the other end. The UI frames that a receiver hears in the octets that a line puts, but those of TEI
 /// management, are the first of the unit data that was granted: in order, whole, each once, with its service and its TEI
-/// (`front`). And they are all of it, once the line was only pulled, as often as the configuration says (`all`). The contents
-/// that were granted are octets, each 0 to 255 (Q.921 clauses 2.2 to 2.7, 3.6.5 and 5.2.2).
+/// (`front`). And they are all of it, once the line was only pulled, as often as the configuration says (`all`). This holds
+/// where the contents that were granted are octets, each 0 to 255 (Q.921 clauses 2.2 to 2.7, 3.6.5 and 5.2.2).
 pub fn units_are_heard()
     ensures front { Always UnitsAreHeard }
     ensures all { Always AllUnitsAreHeard }

@@ -1,4 +1,4 @@
--- What a card for frames holds of its past, which is that of a card of octets: those that its frames mean.
+-- What a card for frames holds of its past, which is that of a card of octets: those that its frames and faults mean.
 use Rattle.std.specs.Prelude.{◌≡◌, ◌≤◌}
 use Rattle.model_card.specs.Card as machine
 use Rattle.model_card.specs.Reached.{IsReached}

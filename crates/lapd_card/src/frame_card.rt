@@ -23,7 +23,7 @@ use model_frames::Fault;
 use std::marker::Model;
 use thiserror::Error;
 
-/// There is no room for every frame that may be next. Nothing has changed, and the frame waits.
+/// There is no room for every frame that may be next. Nothing has changed, and what waits, if anything does, waits.
 #[derive(Clone, Copy, PartialEq, Eq, Debug, Error)]
 #[error("a frame has up to {room} octets")]
 pub struct RoomTooSmall {
@@ -34,7 +34,7 @@ pub struct RoomTooSmall {
 /// A line card over a shelf for the contents that wait, whose lines' flags, stuffed 0s and checks are a controller's: it takes
 /// and gives whole frames, from the address to the information.
 ///
-/// It is a card of octets, [`crate::Card`], at whose lines no other octets come than those which the frames mean. All memory
+/// It is a card of octets, [`crate::Card`], at whose lines no other octets come than those which frames and faults mean. All memory
 /// is taken by [`FrameCard::start`]; no other call takes any. Lines are counted from 0, and each call but `state` needs one
 /// that the card has.
 #[derive(Debug, Drop)]
@@ -78,7 +78,8 @@ impl<S: Shelf> FrameCard<S> {
     }
 
     /// Takes a frame that came from a line, from its address to its information, without its check, and tells what it led
-    /// to. One that is too short, or longer than N201 has room for, is answered as these octets between flags would be.
+    /// to. One that is too short, or longer than N201 has room for, is answered as these octets between flags would be (Q.921
+    /// clause 2.9).
     /// Contents that it delivers are lent from the octets themselves.
     pub fn frame<'a>(&mut self, line: usize, octets: &'a [u8]) -> Report<'a>
         requires { line < line_count self.old }
@@ -91,7 +92,8 @@ impl<S: Shelf> FrameCard<S> {
         self.lines.frame(line, octets, &mut self.shelf)
     }
 
-    /// The controller of a line told a fault in place of a frame. It is reported with its cause, and has no other effect.
+    /// The controller of a line told a fault in place of a frame. It is reported with its cause, and has no other
+    /// effect (Q.921 clauses 2.7, 2.9 and 2.10).
     pub fn failed(&self, line: usize, fault: Fault) -> Report<'static>
         requires { line < line_count self.now }
         ensures told { (m : machine.Card) → Stands S.store self.now m

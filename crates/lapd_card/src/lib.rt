@@ -42,7 +42,8 @@
 //! # Open
 //!
 //! Of a card for frames: a `drive` (there is one for octets only), its calls in C and in scripts, and a bound of what it
-//! stores that leaves out the room of frames on their way. No test starts one yet.
+//! stores that leaves out the room of frames on their way; how much room a link has; within how many calls a control frame
+//! begins. No test starts one yet.
 #![tactic(auto)]
 
 mod card;

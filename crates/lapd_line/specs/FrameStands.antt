@@ -1,4 +1,4 @@
--- What a line for whole frames holds of its past, which is that of a line of octets: those that its frames mean.
+-- What a line for whole frames holds of its past, which is that of a line of octets: those that its frames and faults mean.
 use Rattle.std.specs.Prelude.{◌≡◌, List, ℕ, ◌++◌, length, take, Option, Some, None}
 use Rattle.lapd_frame.specs.ShortLists.{listed}
 use Rattle.lapd_store.specs.Ownership.{Owned}

@@ -19,7 +19,7 @@
 //!
 //! # Only tested
 //!
-//! Starts, through the tests of the card.
+//! Starts of a `Line`, through the tests of the card; no test starts a `FrameLine`.
 #![tactic(auto)]
 
 mod addressing;

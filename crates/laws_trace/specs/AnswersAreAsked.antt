@@ -61,7 +61,9 @@ pub data IsPart : List Exchange → List Exchange → Type 0 where
   taken : (x : Exchange) (some all : List Exchange) → IsPart some all → IsPart (x ∷ some) (x ∷ all)
 
 -- The answers of a link that begin are among what was asked of it: each for one frame heard, of its kind and with its bit, in
--- their order, and none twice. (What finds no room to wait, or what waits where a TEI leaves the line, is never answered.)
+-- their order, and none twice. (Not all that is asked is answered: not what finds no room to wait, what waits where a TEI leaves,
+-- what is asked of a TEI that is not on the line, nor a poll in states 4 to 6. Which answer it is, and its N(R), are not
+-- said; and a frame that the grammar does not read is no answer.)
 abbrev pub AnswersAreAsked : Config → List Event → ℕ → Type 0
 AnswersAreAsked c events number =
     (service : Service) (tei : ℕ) →

@@ -13,7 +13,8 @@ use Rattle.model_card.specs.Event as card
 use Rattle.model_card.specs.Pulled.{frame_in, octet_in}
 use Rattle.model_card.specs.Run.{Moment, moments, AreAtLines}
 
--- The octets that come are heard as a frame, or as none; a frame begins, of these octets, and an octet is put on the
+-- The octets that come (those that the line keeps as received: `received` of `Promises` says that they are those that came)
+-- are heard as a frame, or as none; a frame begins, of these octets, and an octet is put on the
 -- line; layer 3 and management are told notes, with contents; a request is granted; and frames are told as lost.
 pub data Seen : Type 0 where
   heard : stream.Event → Seen

@@ -19,7 +19,7 @@ pub fn units_go_out()
 {}
 
 /// What goes out is what began. The frames that a receiver hears in the octets that a line puts are those that began on it, in
-/// order, whole, each once, and no other; the last may be on its way. So nothing is heard on a line before a frame begins on
+/// order, whole, each once, and no other; the last may be on its way. So no frame is heard of a line before one begins on
 /// it. Of each number of a frame its eight low bits are heard, so an octet, 0 to 255, as it is (Q.921 clauses 2.2 to 2.7 and
 /// 2.9).
 pub fn frames_go_out()
@@ -27,8 +27,8 @@ pub fn frames_go_out()
 {}
 
 /// In the end all frames go out. Once a line was only pulled, as often as the configuration says, a receiver has heard each
-/// frame that began, and none is on its way (`all`); and each control frame that waited on a link before has begun (`waited`;
-/// Q.921 clauses 2.2 to 2.7 and 5.5 to 5.8).
+/// frame that began, and none is on its way (`all`); and each control frame that waited on a link before has begun (`waited`; two
+/// alike may be one; Q.921 clauses 2.2 to 2.7 and 5.5 to 5.8).
 pub fn all_frames_go_out()
     ensures all { Always AllFramesGoOut }
     ensures waited { Always AllThatWaitedBegins }
@@ -62,8 +62,9 @@ pub fn messages_come_first()
 {}
 
 /// Answers are asked for. The UA, the DM, and the responses RR, RNR and REJ with F=1 of a link that begin are among what was
-/// asked of it: each answers one SABME or DISC, or another command with P=1, that was heard for the link before, of its kind
-/// and with F = P; in their order, and none twice (Q.921 clauses 3.5.1, 5.5 and 5.6).
+/// asked of it: each answers one SABME or DISC, or another command with P=1, of its kind and with F = P, that was heard before
+/// with the SAPI of its service and its TEI, whichever terminal had that TEI then; in their order, and none twice (Q.921
+/// clauses 3.5.1, 5.5 and 5.6).
 pub fn answers_are_asked()
     ensures { Always AnswersAreAsked }
 {}

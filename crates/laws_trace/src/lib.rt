@@ -9,10 +9,12 @@
 //! # Open
 //!
 //! That the octets of the frames that begin are 0 to 255 where those of contents are (`frames_go_out` and
-//! `all_frames_go_out` say what is heard without it); when unit data goes, where other events of the line come between its
-//! pulls; that each frame that asks for an answer is answered, or its answer told as lost (`answers_are_asked` says that none
-//! is given unasked); how many equal control frames that waited begin (`all_frames_go_out` says that one with their text
-//! does); why a command begins. No law here speaks of what is noted or lost in a trace.
+//! `all_frames_go_out` say what is heard without it), and that each of these frames is one of the grammar; that what is
+//! heard is what came (`received` of `Promises` says so); that messages of TEI management and I-frames begin, and of two
+//! control frames alike both; when unit data goes, where other events of the line come between its pulls; that each frame
+//! that asks for an answer is answered, or its answer told as lost (`answers_are_asked` says that none is given unasked);
+//! why a command begins; turns, where the place of the first link changes. No law here speaks of what is noted or lost in a
+//! trace.
 #![tactic(auto)]
 
 mod laws;

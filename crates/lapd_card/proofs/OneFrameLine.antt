@@ -8,7 +8,7 @@ use Rattle.lapd_line.proofs.FrameStood.{held_of, stands_on}
 use Rattle.model_line.specs.declared.config.Config.{Config}
 use Rattle.model_line.specs.Event.{Event}
 use Rattle.model_line.specs.Line as machine
-use Rattle.model_frames.specs.AtLine.{after_events}
+use Rattle.model_line.specs.WholeAtLine.{after_events}
 use Rattle.lapd_store.specs.Ownership.{Owned}
 use Rattle.lapd_store.specs.Store.{Store, SameLimits}
 use Rattle.lapd_store.proofs.Focus.{FocusPair, focus_pair}

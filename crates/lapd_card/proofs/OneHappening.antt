@@ -29,12 +29,12 @@ use Rattle.model_link.specs.Told.{starts}
 use Rattle.model_card.proofs.Starts.{expiry_starts}
 use Rattle.model_card.proofs.Reaching.{reached-after, reached-sound}
 use Rattle.model_card.proofs.Refusals.{refused_by_the_table}
-use Rattle.model_frames.specs.declared.faults.Fault.{Fault}
-use Rattle.model_frames.specs.AtCard.{Happening, comes, failed, goes, expires, asks, line_of, events_at, events_of, with_line}
-use Rattle.model_frames.specs.AtLine.{after_events, pulls_for}
-use Rattle.model_frames.specs.Whole.{line_octets, fault_octets}
-use Rattle.model_frames.specs.Said.{says, said}
-use Rattle.model_frames.proofs.AtCard.{all_at, config_stays, frames_are_of_lines}
+use Rattle.model_line.specs.declared.faults.Fault.{Fault}
+use Rattle.model_card.specs.Happening.{Happening, comes, failed, goes, expires, asks, line_of, events_at, events_of, with_line}
+use Rattle.model_line.specs.WholeAtLine.{after_events, pulls_for}
+use Rattle.model_line.specs.Whole.{line_octets, fault_octets}
+use Rattle.model_card.specs.Said.{says, said}
+use Rattle.model_card.proofs.Happening.{all_at, config_stays, frames_are_of_lines}
 use Rattle.lapd_store.specs.Ownership.{owned_octets}
 use Rattle.lapd_store.specs.Store.{Store, used_slots, stored_octets}
 use Rattle.lapd_store.proofs.Ownership.{used_slots-held, stored_octets-held}

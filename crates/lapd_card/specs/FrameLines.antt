@@ -7,7 +7,7 @@ use Rattle.lapd_line.specs.FrameStands.{config_of, pairs_of}
 use Rattle.model_line.specs.declared.config.Config.{Config}
 use Rattle.model_line.specs.Event.{Event}
 use Rattle.model_line.specs.Line as machine
-use Rattle.model_frames.specs.AtLine.{after_events}
+use Rattle.model_line.specs.WholeAtLine.{after_events}
 use Rattle.lapd_store.specs.Ownership.{Owned, Holds}
 use Rattle.lapd_store.specs.Store.{Store, SameLimits}
 use Rattle.lapd_card.specs.Lines.{line_in}

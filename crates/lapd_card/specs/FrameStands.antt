@@ -3,7 +3,7 @@ use Rattle.std.specs.Prelude.{◌≡◌, ◌≤◌}
 use Rattle.model_card.specs.Card as machine
 use Rattle.model_card.specs.Reached.{IsReached}
 use Rattle.model_card.specs.Run.{after_all}
-use Rattle.model_frames.specs.AtCard.{Happening, events_of}
+use Rattle.model_card.specs.Happening.{Happening, events_of}
 use Rattle.lapd_card.specs.FrameCard.{Held}
 use Rattle.lapd_card.specs.FrameLines as lines
 use Rattle.lapd_store.specs.Store.{Store}

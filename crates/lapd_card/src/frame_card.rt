@@ -10,8 +10,8 @@ ghost use Rattle.model_line.specs.Refusal.{refusal};
 ghost use Rattle.model_line.specs.Request.{request_of};
 ghost use Rattle.model_line.specs.Stored.{held_sent};
 ghost use Rattle.model_link.specs.Told.{starts};
-ghost use Rattle.model_frames.specs.AtCard.{comes, failed, goes, expires, asks, events_of};
-ghost use Rattle.model_frames.specs.Said.{says, said};
+ghost use Rattle.model_card.specs.Happening.{comes, failed, goes, expires, asks, events_of};
+ghost use Rattle.model_card.specs.Said.{says, said};
 ghost use Rattle.lapd_line.specs.FrameStands.{IsNext, written};
 ghost use Rattle.lapd_line.specs.Reports.{report_told};
 
@@ -19,7 +19,7 @@ use crate::frame_lines::FrameLines;
 use lapd_frame::{Refusal, Service, Timer};
 use lapd_line::{Config, NextFrame, Report, Request};
 use lapd_store::Shelf;
-use model_frames::Fault;
+use model_line::Fault;
 use std::marker::Model;
 use thiserror::Error;
 

@@ -66,7 +66,7 @@ pub use frame_card::{FrameCard, RoomTooSmall};
 pub use kept::{Kept, KeptReply};
 pub use lapd_line::{BareReport, Config, Field, NextFrame, Pulled, Report, Request, Room};
 pub use model_card::Event;
-pub use model_frames::Fault;
+pub use model_line::Fault;
 pub use replies::Reply;
 pub use sink::{Sink, SinkFailed, SinkFault};
 pub use stored::limit;

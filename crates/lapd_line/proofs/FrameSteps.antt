@@ -28,13 +28,13 @@ use Rattle.model_line.specs.Sound.{IsInRange, IsSound}
 use Rattle.model_line.proofs.LineSound.{after_sound}
 use Rattle.model_line.proofs.Ranges.{ranges_of}
 use Rattle.model_line.proofs.PullSound.{TakesSoundly, taken_sound}
-use Rattle.model_frames.specs.declared.faults.Fault.{Fault}
-use Rattle.model_frames.specs.Whole.{IsIdle, line_octets, came, fault_octets, cause_of}
-use Rattle.model_frames.specs.AtLine.{after_events, receiving, of_heard, AreOneEvent, pulls_to_begin, pulls_for, GoesWhole}
-use Rattle.model_frames.proofs.Hearing.{frames_are_heard}
-use Rattle.model_frames.proofs.Comes.{frames_come_whole}
-use Rattle.model_frames.proofs.Goes.{frames_go_whole}
-use Rattle.model_frames.proofs.Received.{nothing_else_is_received}
+use Rattle.model_line.specs.declared.faults.Fault.{Fault}
+use Rattle.model_line.specs.Whole.{IsIdle, line_octets, came, fault_octets, cause_of}
+use Rattle.model_line.specs.WholeAtLine.{after_events, receiving, of_heard, AreOneEvent, pulls_to_begin, pulls_for, GoesWhole}
+use Rattle.model_line.proofs.FramesHeard.{frames_are_heard}
+use Rattle.model_line.proofs.FramesCome.{frames_come_whole}
+use Rattle.model_line.proofs.FramesGo.{frames_go_whole}
+use Rattle.model_line.proofs.FramesReceived.{nothing_else_is_received}
 use Rattle.lapd_line.specs.declared.frame_line.FrameLine.{FrameLine}
 use Rattle.lapd_line.specs.declared.frame_line.NextFrame.{NextFrame}
 use Rattle.lapd_line.specs.declared.link_layer.LinkLayer.{LinkLayer}

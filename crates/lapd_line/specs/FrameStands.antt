@@ -7,8 +7,8 @@ use Rattle.model_line.specs.declared.config.Config.{Config}
 use Rattle.model_line.specs.Event.{Event}
 use Rattle.model_line.specs.Line as machine
 use Rattle.model_line.specs.Pull.{Taken}
-use Rattle.model_frames.specs.Whole.{IsIdle}
-use Rattle.model_frames.specs.AtLine.{after_events}
+use Rattle.model_line.specs.Whole.{IsIdle}
+use Rattle.model_line.specs.WholeAtLine.{after_events}
 use Rattle.lapd_line.specs.declared.frame_line.FrameLine.{FrameLine}
 use Rattle.lapd_line.specs.declared.frame_line.NextFrame.{NextFrame}
 use Rattle.lapd_line.specs.LinkLayer as layer

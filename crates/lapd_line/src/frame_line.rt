@@ -14,8 +14,8 @@ ghost use Rattle.model_line.specs.Refusal.{refusal};
 ghost use Rattle.model_line.specs.Request.{request_of};
 ghost use Rattle.model_line.specs.Sound.{IsInRange};
 ghost use Rattle.model_line.specs.Stored.{held_in, held_sent};
-ghost use Rattle.model_frames.specs.Whole.{line_octets, fault_octets, came, is_too_short, cause_of};
-ghost use Rattle.model_frames.specs.AtLine.{of_heard, pulls_for};
+ghost use Rattle.model_line.specs.Whole.{line_octets, fault_octets, came, is_too_short, cause_of};
+ghost use Rattle.model_line.specs.WholeAtLine.{of_heard, pulls_for};
 ghost use Rattle.lapd_line.specs.Loading.{in_octets};
 
 use crate::fault::StartFault;
@@ -25,7 +25,7 @@ use crate::reports::{BareReport, Report};
 use lapd_bits::{Cause, Heard};
 use lapd_frame::{Order, Refusal, Service, ShortList, Timer};
 use lapd_store::Shelf;
-use model_frames::Fault;
+use model_line::Fault;
 use model_line::{Config, Request};
 use std::alloc::Global;
 

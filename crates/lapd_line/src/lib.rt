@@ -5,7 +5,7 @@
 //! too. After the start no call takes memory.
 //!
 //! A [`FrameLine`] is the same for a line whose flags, stuffed 0s and checks are a controller's. It takes and gives whole
-//! frames, and stands for a line that has had the octets which these mean (`model_frames`).
+//! frames, and stands for a line that has had the octets which these mean (`model_line`).
 //!
 //! - `line`: the calls: an octet that comes, a timer that expires, a request, and an octet that goes out; and the state
 //!   of a link, how much room it has, and how many octets the line stores; `frame_line`: the same for whole frames.

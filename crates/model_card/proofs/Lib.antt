@@ -17,3 +17,6 @@ pub mod Isolated
 pub mod Linear
 pub mod NeverFull
 pub mod Rooms
+pub mod Happening
+pub mod Saying
+pub mod Spelling

@@ -1,7 +1,8 @@
 -- The machine of a card.
 --
 -- Read in this order: Event, Card, Machine, Run. Stored, Counts, ByEvent, Drops, Numbered, Pulled, Isolation and
--- Sound are the words of the laws, Promises and Laws their statements. Room is what a card answers about itself.
+-- Sound are the words of the laws, Promises and Laws their statements. Room is what a card answers about itself. Happening is
+-- what happens at a card for whole frames, and Said what it answers.
 pub mod Event
 pub mod Card
 pub mod Machine
@@ -19,3 +20,7 @@ pub mod Isolation
 pub mod Promises
 pub mod Laws
 pub mod Worked
+pub mod Happening
+pub mod Said
+pub mod HappeningLaws
+pub mod WorkedHappenings

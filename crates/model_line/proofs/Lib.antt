@@ -25,3 +25,12 @@ pub mod Short
 pub mod Starts
 pub mod Drops
 pub mod InTurn
+pub mod FramesIdle
+pub mod FramesJudged
+pub mod FramesHeard
+pub mod FramesReceived
+pub mod FramesTaken
+pub mod FramesCome
+pub mod FramesGo
+pub mod FrameLengths
+pub mod FrameCalls

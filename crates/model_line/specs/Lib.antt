@@ -2,7 +2,8 @@
 --
 -- Read in this order: Config, Event, Request; Line; Effect, whom an event concerns and what comes of it; Octet,
 -- Expiry, Refusal, Requested, Pull; Machine. Room is what a line answers about itself. Stored, Counts, Deliveries,
--- Sound and Turns are the words of the laws, whose sentences stand in `src/laws.rt`.
+-- Sound and Turns are the words of the laws, whose sentences stand in `src/laws.rt`. Whole is what a whole frame means in
+-- octets, and WholeAtLine what such octets and pulls are at a line.
 pub mod Config
 pub mod Request
 pub mod Event
@@ -22,3 +23,7 @@ pub mod Worked
 pub mod Sound
 pub mod Laws
 pub mod Turns
+pub mod Whole
+pub mod WholeAtLine
+pub mod WholeLaws
+pub mod WorkedWhole

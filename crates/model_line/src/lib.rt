@@ -11,14 +11,32 @@
 //!
 //! - `config`: `Config`, the sizes and limits of a card.
 //! - `requests`: `Request`, what layer 3 and management ask of a line.
+//! - `faults`: `Fault`, what a controller tells in place of a frame.
 //! - `laws`: what holds of the machine itself, as calls without effect.
+//! - `frame_laws`: what is heard in the octets that whole frames mean, and what these are at a line.
+//!
+//! Where a controller keeps the flags, stuffed 0s and checks of a line (clause 2), a frame that comes means the octets that
+//! would have brought it on an idle line (`Whole`), a fault that the controller tells means octets that would have brought
+//! the fault, and the next frame to be sent means the pulls up to the one that begins it (`WholeAtLine`). So no machine has
+//! an event for a frame, and all that is promised of octets holds of frames.
+//!
+//! # Open
+//!
+//! No law says that a controller's frame is what stood on its line, or that it sends what it was given.
 #![tactic(auto)]
 
 mod config;
+mod faults;
+mod frame_laws;
 mod laws;
 mod requests;
 
 pub use config::{Config, Field};
+pub use faults::Fault;
+pub use frame_laws::{
+    calls_come_to_an_end, frames_are_heard, frames_come_whole, frames_go_whole, frames_have_lengths,
+    nothing_else_is_received,
+};
 pub use laws::{
     answers_are_short, drops_change_nothing, lines_rise, lines_stay_sound, links_take_turns,
 };

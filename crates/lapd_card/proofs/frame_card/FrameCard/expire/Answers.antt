@@ -3,7 +3,7 @@ use Rattle.std.proofs.Common.{◌<◌, sym, subst}
 use Rattle.model_card.specs.ByEvent.{RisesByExpiry}
 use Rattle.model_card.proofs.ByEvent.{frames_by_event}
 use Rattle.model_card.proofs.Reaching.{reached-sound}
-use Rattle.model_frames.specs.AtCard.{expires}
+use Rattle.model_card.specs.Happening.{expires}
 use Rattle.lapd_line.specs.Reports.{report_told}
 use Rattle.lapd_card.specs.FrameCard.{line_count}
 use Rattle.lapd_card.specs.FrameStands.{Stands, Leads}

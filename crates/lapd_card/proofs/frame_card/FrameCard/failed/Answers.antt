@@ -2,10 +2,10 @@
 use Rattle.std.proofs.Common.{◌<◌, sym, subst, ap}
 use Rattle.lapd_bits.specs.Stream.{dropped}
 use Rattle.model_line.specs.Event.{told}
-use Rattle.model_frames.specs.AtCard.{failed}
-use Rattle.model_frames.specs.AtLine.{of_heard}
-use Rattle.model_frames.specs.Said.{says}
-use Rattle.model_frames.specs.Whole.{cause_of}
+use Rattle.model_card.specs.Happening.{failed}
+use Rattle.model_line.specs.WholeAtLine.{of_heard}
+use Rattle.model_card.specs.Said.{says}
+use Rattle.model_line.specs.Whole.{cause_of}
 use Rattle.lapd_card.specs.FrameCard.{line_count}
 use Rattle.lapd_card.specs.FrameStands.{Stands, Leads}
 use Rattle.lapd_card.proofs.OneHappening.{line-there, happening_leads, line_says, fault_alone}

@@ -4,10 +4,10 @@ use Rattle.model_line.specs.Event.{told}
 use Rattle.model_card.specs.ByEvent.{ArePriced}
 use Rattle.model_card.proofs.ByEvent.{frames_by_event}
 use Rattle.model_card.proofs.Reaching.{reached-sound}
-use Rattle.model_frames.specs.AtCard.{comes, events_of}
-use Rattle.model_frames.specs.AtLine.{of_heard}
-use Rattle.model_frames.specs.Said.{says}
-use Rattle.model_frames.specs.Whole.{came}
+use Rattle.model_card.specs.Happening.{comes, events_of}
+use Rattle.model_line.specs.WholeAtLine.{of_heard}
+use Rattle.model_card.specs.Said.{says}
+use Rattle.model_line.specs.Whole.{came}
 use Rattle.lapd_card.specs.FrameCard.{line_count}
 use Rattle.lapd_card.specs.FrameStands.{Stands, Leads}
 use Rattle.lapd_card.proofs.OneHappening.{line-there, lines-serve, happening_leads, past_after, line_says, frame_alone, at_lines}

@@ -1,8 +1,8 @@
 -- Hand-written answers for `FrameCard::give`.
 use Rattle.std.proofs.Common.{◌+◌, ◌≤◌, ◌<◌, length, sym, subst}
 use Rattle.model_line.specs.Pull.{taken}
-use Rattle.model_frames.specs.AtCard.{goes}
-use Rattle.model_frames.specs.AtLine.{pulls_for}
+use Rattle.model_card.specs.Happening.{goes}
+use Rattle.model_line.specs.WholeAtLine.{pulls_for}
 use Rattle.lapd_line.specs.FrameStands.{IsNext}
 use Rattle.lapd_card.specs.FrameCard.{line_count, room_for_frames}
 use Rattle.lapd_card.specs.FrameStands.{Stands, Leads}

@@ -2,7 +2,7 @@
 use Rattle.std.proofs.Common.{◌<◌, sym, subst, Some, None}
 use Rattle.std.proofs.lemmas.Result.{IfOk-weaker, IfErr-weaker}
 use Rattle.model_line.specs.Request.{request_of}
-use Rattle.model_frames.specs.AtCard.{asks}
+use Rattle.model_card.specs.Happening.{asks}
 use Rattle.model_card.proofs.ByEvent.{frames_by_event}
 use Rattle.lapd_card.specs.FrameCard.{line_count}
 use Rattle.lapd_card.specs.FrameStands.{Stands, Leads}

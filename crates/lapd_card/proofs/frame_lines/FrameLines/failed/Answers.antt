@@ -2,8 +2,8 @@
 use Rattle.std.proofs.Common.{map}
 use Rattle.lapd_bits.specs.Stream.{dropped}
 use Rattle.model_line.specs.Event as line_event
-use Rattle.model_frames.specs.Whole.{fault_octets, cause_of}
-use Rattle.model_frames.specs.AtLine.{of_heard}
+use Rattle.model_line.specs.Whole.{fault_octets, cause_of}
+use Rattle.model_line.specs.WholeAtLine.{of_heard}
 use Rattle.lapd_card.proofs.OneFrameLine.{one_says, one_stays}
 use Rattle.lapd_card.proofs.frame_lines.FrameLines.failed.Goals as goal
 

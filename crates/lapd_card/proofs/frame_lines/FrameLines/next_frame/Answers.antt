@@ -1,7 +1,7 @@
 -- Hand-written answers for `FrameLines::next_frame`.
 use Rattle.std.proofs.Common.{◌+◌, ◌≤◌, length, sym, subst}
 use Rattle.model_line.specs.Pull.{taken}
-use Rattle.model_frames.specs.AtLine.{pulls_for}
+use Rattle.model_line.specs.WholeAtLine.{pulls_for}
 use Rattle.lapd_line.specs.FrameStands.{IsNext}
 use Rattle.lapd_card.proofs.OneFrameLine.{one_serves, one_leads, one_holds, focused_at}
 use Rattle.lapd_card.proofs.frame_lines.FrameLines.next_frame.Goals as goal

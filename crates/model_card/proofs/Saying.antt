@@ -1,0 +1,39 @@
+-- What happenings are answered with, in the answers to their events.
+use Rattle.std.proofs.Common.{◌≡◌, ℕ, [], ◌∷◌, ◌++◌, map, replicate, Option, Some, None, option_map, is_some, if◌then◌else◌, refl, ap, subst, ◌∙◌}
+use Rattle.model_line.specs.Event as line_event
+use Rattle.model_line.specs.Pull.{Taken, taken}
+use Rattle.model_card.specs.Card.{Card, line_at}
+use Rattle.model_card.specs.Run.{moments}
+use Rattle.model_line.specs.WholeAtLine.{answers_to, pulls_to_begin}
+use Rattle.model_card.specs.Happening.{Happening, comes, failed, goes, expires, asks, events_of, HappensAt, AreIdle, answer_in}
+use Rattle.model_card.specs.HappeningLaws.{AnswersSayIt}
+use Rattle.model_card.specs.Said.{said, gives, next_of, Means}
+use Rattle.model_card.proofs.Happening.{frames_are_of_lines}
+use Rattle.model_line.proofs.FrameCalls.{calls_for}
+use Rattle.model_line.proofs.FramesCome.{frames_come_whole}
+use Rattle.model_line.proofs.FramesGo.{frames_go_whole}
+
+pub answers_say_it : AnswersSayIt
+unfolding moments
+answers_say_it m (comes number octets) idle h =
+    let one = frames_come_whole.frames m.config (line_at number m) octets (idle.each number h.0) h.1 in
+    (one.before, one.behind, (frames_are_of_lines.frames m number octets idle.count h.0).answers ∙ one.answers)
+answers_say_it m (failed number fault) idle h =
+    let one = frames_come_whole.faults m.config (line_at number m) fault (idle.each number h.0) in
+    (one.before, one.behind, (frames_are_of_lines.faults m number fault idle.count h.0).answers ∙ one.answers)
+answers_say_it m (goes number) idle h = go (taken m.config (line_at number m)) refl
+  where
+    go : (o : Option Taken) → taken m.config (line_at number m) ≡ o → Means (gives (option_map next_of o)) (map answer_in (moments m (events_of m (goes number))))
+    go None is =
+        (frames_are_of_lines.calls m number idle.count h.0).answers
+        ∙ ap (λ events. answers_to m.config events (line_at number m)) (calls_for m.config (line_at number m) None is)
+    go (Some t) is =
+        let whole = frames_go_whole m.config (line_at number m) t is in (
+          whole.front,
+          whole.last,
+          (frames_are_of_lines.calls m number idle.count h.0).answers
+              ∙ ap (λ events. answers_to m.config events (line_at number m)) (calls_for m.config (line_at number m) (Some t) is)
+              ∙ whole.answers,
+        )
+answers_say_it m (expires number timer) idle h = (0, 0, refl)
+answers_say_it m (asks number r) idle h = (0, 0, refl)

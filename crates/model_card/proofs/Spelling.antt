@@ -1,0 +1,33 @@
+-- What happenings are, and lists of them.
+use Rattle.std.proofs.Common.{◌≡◌, List, [], ◌∷◌, ◌++◌, refl, ap, sym, ◌∙◌, append_assoc, append-nil}
+use Rattle.model_card.specs.Card.{Card}
+use Rattle.model_card.specs.Event.{Event}
+use Rattle.model_card.specs.Machine.{after}
+use Rattle.model_card.specs.Run.{after_all}
+use Rattle.model_card.specs.Happening.{Happening, comes, failed, goes, expires, asks, events_of, spelled}
+use Rattle.model_card.specs.HappeningLaws.{HappeningsAreSpelled}
+
+after-both : (m : Card) (front behind : List Event) → after_all m (front ++ behind) ≡ after_all (after_all m front) behind
+unfolding after_all
+after-both m [] behind = refl
+after-both m (e ∷ front) behind = after-both (after e m) front behind
+
+joined : (m : Card) (front behind : List Happening) → spelled m (front ++ behind) ≡ spelled m front ++ spelled (after_all m (spelled m front)) behind
+unfolding after_all
+joined m [] behind = refl
+joined m (h ∷ front) behind =
+    let events = events_of m h in
+    let next = after_all m events in
+    ap (λ es. events ++ es) (joined next front behind)
+    ∙ sym (append_assoc events (spelled next front) (spelled (after_all next (spelled next front)) behind))
+    ∙ ap (λ card. (events ++ spelled next front) ++ spelled card behind) (sym (after-both m events (spelled next front)))
+
+pub happenings_are_spelled : HappeningsAreSpelled
+happenings_are_spelled = record {
+  frames = λ m n octets. append-nil (events_of m (comes n octets));
+  faults = λ m n fault. append-nil (events_of m (failed n fault));
+  calls = λ m n. append-nil (events_of m (goes n));
+  expiries = λ m n timer. refl;
+  requests = λ m n r. refl;
+  joined = joined;
+}

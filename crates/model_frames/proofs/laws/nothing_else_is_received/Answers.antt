@@ -1,6 +1,0 @@
--- The law is that of Received.
-use Rattle.model_frames.proofs.Received.{nothing_else_is_received}
-use Rattle.model_frames.proofs.laws.nothing_else_is_received.Goals as goal
-
-pub returns : goal.returns
-returns c = nothing_else_is_received

@@ -1,0 +1,127 @@
+-- The pulls up to the one that begins the next frame.
+use Rattle.std.proofs.Common.{◌≡◌, ℕ, zero, suc, ◌+◌, ◌-◌, ◌*◌, ◌/◌, ◌≤◌, ◌<◌, Bool, true, false, List, [], ◌∷◌, ◌++◌, length, map, replicate, drop, Option, Some, None, option_map, is_some, refl, ap, sym, ◌∙◌, arith, append_assoc, length-append, add-one}
+use Rattle.std.specs.Prelude.{nat_lt, if◌then◌else◌}
+use Rattle.std.specs.Option.{option_map_or}
+use Rattle.std.proofs.lemmas.Bool.{lt-ltb, le-ltb}
+use Rattle.std.proofs.lemmas.List.{length-drop}
+use Rattle.lapd_bits.specs.Bits.{bits}
+use Rattle.lapd_bits.specs.Sent.{frame, line_text}
+use Rattle.lapd_bits.proofs.BitLemmas.{length-bits}
+use Rattle.model_line.specs.declared.config.Config.{Config}
+use Rattle.model_line.specs.Event.{Event, pull, Answer, pulled}
+use Rattle.model_line.specs.Line.{Line}
+use Rattle.model_line.specs.Machine as lines
+use Rattle.model_line.specs.Pull.{Taken, taken, left_of, is_due, with_item, with_due, with_octet, next_octet, begun, orders_of}
+use Rattle.model_line.specs.WholeAtLine.{after_events, answers_to, giving, octet_alone, pulls_to_begin, GoesWhole}
+use Rattle.model_line.specs.WholeLaws.{FramesGoWhole}
+use Rattle.model_line.proofs.FramesTaken.{taken_moved, taken_same, taken_keeps, taken_keeps_given}
+
+-- ---- one pull
+
+-- too few bits are left: the frame that is taken begins
+record Begins (c : Config) (l : Line) (t : Taken) : Type 0 where
+  last : ℕ
+  answer : lines.answer c pull l ≡ pulled last true t.orders
+  line : lines.after c pull l ≡ record t.line { items = l.items ++ frame t.frame ∷ []; given = t.line.given ++ last ∷ [] }
+
+begins : (c : Config) (l : Line) (t : Taken) → taken c l ≡ Some t → length (left_of l) < 8 → Begins c l t
+unfolding lines.answer lines.after
+begins c l t is few =
+    let due : is_due l ≡ true = lt-ltb (length (left_of l)) 8 few in
+    let new = with_item (Some t) l in
+    let with_frame : with_due c l ≡ new = ap (λ b. if b then with_item (taken c l) l else l) due ∙ ap (λ o. with_item o l) is in
+    let began : begun c l ≡ Some t = ap (λ b. if b then taken c l else None) due ∙ is in
+    record {
+      last = next_octet new;
+      answer =
+          ap (λ m. pulled (next_octet m) (is_some (begun c l)) (option_map_or orders_of (begun c l) [])) with_frame
+          ∙ ap (λ o. pulled (next_octet new) (is_some o) (option_map_or orders_of o [])) began;
+      line = ap with_octet with_frame;
+    }
+
+-- else the next octet is given
+record Gives (c : Config) (l : Line) : Type 0 where
+  octet : ℕ
+  answer : lines.answer c pull l ≡ octet_alone octet
+  line : lines.after c pull l ≡ giving (l.given ++ octet ∷ []) l
+
+gives : (c : Config) (l : Line) → 8 ≤ length (left_of l) → Gives c l
+unfolding lines.answer lines.after
+gives c l many =
+    let due : is_due l ≡ false = le-ltb (length (left_of l)) 8 many in
+    let same : with_due c l ≡ l = ap (λ b. if b then with_item (taken c l) l else l) due in
+    let began : begun c l ≡ None = ap (λ b. if b then taken c l else None) due in
+    record {
+      octet = next_octet l;
+      answer =
+          ap (λ m. pulled (next_octet m) (is_some (begun c l)) (option_map_or orders_of (begun c l) [])) same
+          ∙ ap (λ o. pulled (next_octet l) (is_some o) (option_map_or orders_of o [])) began;
+      line = ap with_octet same;
+    }
+
+-- eight bits fewer are left then
+eight_fewer : (l : Line) (o : ℕ) → length (left_of (giving (l.given ++ o ∷ []) l)) ≡ length (left_of l) - 8
+eight_fewer l o =
+    let text = line_text l.items in
+    let given = l.given ++ o ∷ [] in
+    omega (
+      arith,
+      length-drop (length (bits given)) text,
+      length-drop (length (bits l.given)) text,
+      length-bits given,
+      length-bits l.given,
+      length-append l.given (o ∷ []),
+    )
+
+-- ---- so many pulls
+
+record GoesAfter (c : Config) (n : ℕ) (l : Line) (t : Taken) : Type 0 where
+  front : List ℕ
+  last : ℕ
+  answers : answers_to c (replicate (suc n) pull) l ≡ map octet_alone front ++ pulled last true t.orders ∷ []
+  line : after_events c (replicate (suc n) pull) l
+      ≡ record t.line { items = l.items ++ frame t.frame ∷ []; given = l.given ++ (front ++ last ∷ []) }
+
+goes_after : (c : Config) (n : ℕ) (l : Line) (t : Taken) → taken c l ≡ Some t → length (left_of l) / 8 ≡ n → GoesAfter c n l t
+goes_after c zero l t is few =
+    let b = begins c l t is (omega (arith, few)) in
+    record {
+      front = [];
+      last = b.last;
+      answers = ap (λ a. a ∷ []) b.answer;
+      line =
+          b.line
+          ∙ ap (λ g. record t.line { items = l.items ++ frame t.frame ∷ []; given = g ++ b.last ∷ [] }) (taken_keeps_given c l t is);
+    }
+goes_after c (suc n) l t is many =
+    let g = gives c l (omega (arith, many)) in
+    let given = l.given ++ g.octet ∷ [] in
+    let next = giving given l in
+    let still : taken c next ≡ Some (taken_moved l.received given t) =
+    taken_same c l.received given l ∙ ap (option_map (taken_moved l.received given)) is in
+    let more = goes_after c n next (taken_moved l.received given t) still (omega (arith, many, eight_fewer l g.octet)) in
+    let items = l.items ++ frame t.frame ∷ [] in
+    record {
+      front = g.octet ∷ more.front;
+      last = more.last;
+      answers =
+          ap (λ a. a ∷ answers_to c (replicate (suc n) pull) (lines.after c pull l)) g.answer
+          ∙ ap (λ m. octet_alone g.octet ∷ answers_to c (replicate (suc n) pull) m) g.line
+          ∙ ap (λ a. octet_alone g.octet ∷ a) more.answers;
+      line =
+          ap (after_events c (replicate (suc n) pull)) g.line
+          ∙ more.line
+          ∙ ap (λ r. record t.line { received = r; items = items; given = given ++ (more.front ++ more.last ∷ []) }) (sym (taken_keeps c l t is))
+          ∙ ap (λ o. record t.line { items = items; given = o }) (append_assoc l.given (g.octet ∷ []) (more.front ++ more.last ∷ []));
+    }
+
+pub frames_go_whole : FramesGoWhole
+frames_go_whole c l t is =
+    let n = length (left_of l) / 8 in
+    let g = goes_after c n l t is refl in
+    record {
+      front = g.front;
+      last = g.last;
+      answers = ap (λ k. answers_to c (replicate k pull) l) (add-one n) ∙ g.answers;
+      line = ap (λ k. after_events c (replicate k pull) l) (add-one n) ∙ g.line;
+    }

@@ -1,0 +1,108 @@
+-- What is heard is the same to a line whatever it has received, and leaves what it has received.
+use Rattle.std.proofs.Common.{◌≡◌, ℕ, List, Option, Some, None, Result, Ok, Err, refl, ap, ◌∙◌, if◌then◌else◌}
+use Rattle.std.specs.Prelude.{◌==◌, Bool, true, false}
+use Rattle.lapd_bits.specs.Stream as stream
+use Rattle.lapd_bits.specs.declared.heard.Cause.TheVariants.{Tei}
+use Rattle.lapd_frame.specs.declared.addresses.Address.{Address}
+use Rattle.lapd_frame.specs.declared.addresses.Side.TheVariants.{User}
+use Rattle.lapd_frame.specs.declared.faults.ReadFault.{ReadFault}
+use Rattle.lapd_frame.specs.declared.faults.ReadFault.TheVariants.{BadExtension, Undefined, WrongSize, Short}
+use Rattle.lapd_frame.specs.declared.overlong.Long.{Long}
+use Rattle.lapd_frame.specs.declared.overlong.Long.TheVariants as long
+use Rattle.lapd_frame.specs.declared.services.Service.{Service}
+use Rattle.lapd_frame.specs.Grammar.{Parts}
+use Rattle.lapd_frame.specs.Reading.{reading, long_reading}
+use Rattle.lapd_frame.specs.Services.{service_of}
+use Rattle.model_link.specs.Events as link
+use Rattle.lapd_tei.specs.Events as teis
+use Rattle.lapd_tei.specs.Machine as tei
+use Rattle.lapd_tei.specs.declared.outcome.Change.{Change}
+use Rattle.lapd_tei.specs.declared.outcome.Change.TheVariants.{Gained, Left}
+use Rattle.model_line.specs.declared.config.Config.{Config}
+use Rattle.model_line.specs.Event.{LineTold}
+use Rattle.model_line.specs.Line.{Line}
+use Rattle.model_line.specs.Effect.{Effect, Aim, at_none, at_link, at_management, at_units, told_of_management, of_change, of_management, of_aim}
+use Rattle.model_line.specs.Expiry.{aim_of_expiry}
+use Rattle.model_line.specs.Machine as lines
+use Rattle.model_line.specs.Octet.{drop_for, group_tei, management_sapi, at_place, to_service, addressed, message_of, aim_of_reading, unless_at_link, aim_of_long, aim_of_heard}
+use Rattle.model_line.specs.Pull.{Taken, taken, is_due, with_item, with_due}
+use Rattle.model_line.specs.Refusal.{refusal}
+use Rattle.model_line.specs.Requested.{aim_of_request}
+use Rattle.model_line.specs.WholeAtLine.{receiving}
+use Rattle.model_line.specs.WholeLaws.{NothingElseIsReceived}
+use Rattle.model_line.proofs.FramesTaken.{taken_keeps}
+
+-- ---- what is heard is the same event of a part
+
+module _ (r : List ℕ) (l : Line) where
+  service_same : (tei : ℕ) (what : link.Received) (o : Option Service) → to_service (receiving r l) tei what o ≡ to_service l tei what o
+  service_same tei what None = refl
+  service_same tei what (Some service) = refl
+
+  address_same : (a : Address) (what : link.Received) (managed : Aim) → addressed (receiving r l) a what managed ≡ addressed l a what managed
+  address_same a what managed =
+      ap (λ x. if a.sapi == management_sapi then (if a.tei == group_tei then managed else drop_for Tei) else x)
+      (service_same a.tei what (service_of a.sapi))
+
+  reading_same : (o : Result Parts ReadFault) → aim_of_reading (receiving r l) o ≡ aim_of_reading l o
+  reading_same (Ok parts) = address_same parts.address (link.frame parts) (message_of parts.control parts.info)
+  reading_same (Err BadExtension) = refl
+  reading_same (Err (Undefined a)) = address_same a link.undefined _
+  reading_same (Err (WrongSize a)) = address_same a link.wrong_size _
+  reading_same (Err Short) = refl
+
+  long_same : (o : Result Long ReadFault) → aim_of_long (receiving r l) o ≡ aim_of_long l o
+  long_same (Ok (long.Information a)) = address_same a link.overlong _
+  long_same (Ok (long.Unnumbered a)) = ap unless_at_link (address_same a link.overlong _)
+  long_same (Err BadExtension) = refl
+  long_same (Err (Undefined a)) = address_same a link.undefined _
+  long_same (Err (WrongSize a)) = address_same a link.wrong_size _
+  long_same (Err Short) = refl
+
+  pub heard_same : (e : stream.Event) → aim_of_heard (receiving r l) e ≡ aim_of_heard l e
+  heard_same (stream.frame octets) = reading_same (reading User octets)
+  heard_same (stream.overlong head) = long_same (long_reading User head)
+  heard_same (stream.dropped cause) = refl
+
+-- ---- and no part knows what was received
+
+abbrev pub effect_receiving : List ℕ → Effect → Effect
+effect_receiving r out = record { line = receiving r out.line; told = out.told }
+
+change_same : (c : Config) (change : Option Change) (told : LineTold) (r : List ℕ) (l : Line) → of_change c change told (receiving r l) ≡ effect_receiving r (of_change c change told l)
+change_same c None told r l = refl
+change_same c (Some (Gained tei place)) told r l = refl
+change_same c (Some (Left tei place)) told r l = refl
+
+pub aim_same : (c : Config) (aim : Aim) (r : List ℕ) (l : Line) → of_aim c aim (receiving r l) ≡ effect_receiving r (of_aim c aim l)
+aim_same c (at_none told) r l = refl
+aim_same c (at_link service tei place event) r l = refl
+aim_same c (at_management event) r l =
+    let t = teis.told event l.management in
+    change_same c t.change (told_of_management t) r (record l { management = teis.after event l.management })
+aim_same c (at_units unit) r l = refl
+
+-- so it stays as it was
+pub aim_keeps : (c : Config) (aim : Aim) (l : Line) → (of_aim c aim l).line.received ≡ l.received
+aim_keeps c aim l = ap (λ out. out.line.received) (aim_same c aim l.received l)
+
+-- ---- an expiry, a request, and a pull
+
+due_keeps : (c : Config) (l : Line) → (with_due c l).received ≡ l.received
+due_keeps c l = go (is_due l)
+  where
+    item_keeps : (o : Option Taken) → taken c l ≡ o → (with_item o l).received ≡ l.received
+    item_keeps None e = refl
+    item_keeps (Some t) e = taken_keeps c l t e
+
+    go : (due : Bool) → (if due then with_item (taken c l) l else l).received ≡ l.received
+    go true = item_keeps (taken c l) refl
+    go false = refl
+
+pub nothing_else_is_received : NothingElseIsReceived
+unfolding lines.after
+nothing_else_is_received = record {
+  expiries = λ c timer l. aim_keeps c (aim_of_expiry timer l) l;
+  requests = λ c r l. aim_keeps c (lines.unless_refused (refusal c false r l) (aim_of_request r l)) l;
+  pulls = due_keeps;
+}

@@ -34,8 +34,8 @@ mod requests;
 pub use config::{Config, Field};
 pub use faults::Fault;
 pub use frame_laws::{
-    calls_come_to_an_end, frames_are_heard, frames_come_whole, frames_go_whole, frames_have_lengths,
-    nothing_else_is_received,
+    calls_come_to_an_end, frames_are_heard, frames_come_whole, frames_go_whole,
+    frames_have_lengths, nothing_else_is_received,
 };
 pub use laws::{
     answers_are_short, drops_change_nothing, lines_rise, lines_stay_sound, links_take_turns,

@@ -311,6 +311,16 @@ struct lapd_room {
  */
 uint32_t lapd_room(lapd_card *card, uint32_t line, uint8_t service, uint8_t tei, struct lapd_room *room);
 
+/* How a frame begins, and how long it is. */
+typedef struct lapd_head {
+    uint16_t length;   /* octets from its address to its information, without its check: 3 or more */
+    uint8_t octets[4]; /* its address and its control field; where that has one octet, the first of the information, or 0 */
+} lapd_head;
+
+/* Which frame a pull of the line began last, as after one whose report says `begun`: it stays until a pull begins
+ * another. The length is 0 where no pull has begun one yet. */
+uint32_t lapd_begun(lapd_card *card, uint32_t line, lapd_head *head);
+
 /* How many octets the card stores now, of frames, messages and contents; at most lapd_limit's. */
 uint32_t lapd_stored(lapd_card *card, uint32_t *octets);
 

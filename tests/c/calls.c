@@ -1,8 +1,8 @@
 /*
  * calls.c: calls that no script makes. The links of a line, as lapd_next_link tells them, are those that lapd_state has
  * a state of, in order, from each place on; contents of a report go back with the same report; the room of a link is
- * what it refuses contents by; lengths of timers that are out of range change nothing; and the version is the header's.
- * For tests alone.
+ * what it refuses contents by; the frame begun last is the one that goes; lengths of timers that are out of range change
+ * nothing; and the version is the header's. For tests alone.
  */
 #include <stdio.h>
 #include <string.h>
@@ -62,6 +62,11 @@ static void wrong_calls(void) {
     uint8_t place = 7;
     wants(lapd_next_link(&none, 0, &place, &link) == LAPD_NO_CARD, "a link of no card");
     wants(lapd_next_link(&card, LINES, &place, &link) == LAPD_WRONG_LINE, "a link of no line");
+    lapd_head head = {1, {2, 3, 4, 5}};
+    wants(lapd_begun(&none, 0, &head) == LAPD_NO_CARD, "a frame of no card");
+    wants(lapd_begun(&card, LINES, &head) == LAPD_WRONG_LINE, "a frame of no line");
+    wants(head.length == 1 && memcmp(head.octets, "\x02\x03\x04\x05", 4) == 0, "a wrong call has told a frame");
+    wants(lapd_begun(&card, 1, &head) == LAPD_OK && head.length == 0, "a frame before the first");
     wants(place == 7 && link.service == 1 && link.tei == 2 && link.state == 3, "a wrong call has changed something");
 }
 
@@ -86,6 +91,12 @@ static void send(uint8_t *octets, size_t length) {
         lapd_pull(&card, 0, &octets[i], &report);
 }
 
+/* The frame that a pull of line 0 began last has these octets first, and so many. */
+static bool has_begun(const uint8_t *octets, size_t length) {
+    lapd_head head = {1, {2, 3, 4, 5}};
+    return lapd_begun(&card, 0, &head) == LAPD_OK && head.length == length && memcmp(head.octets, octets, 4) == 0;
+}
+
 /* Information that came goes back from where it stands in the report, acknowledged and not, whole and a part of it. */
 static void echo(void) {
     static const uint8_t sabme[] = {0x00, 0x81, 0x7F}, data[] = {0x00, 0x81, 0x00, 0x00, 0x11, 0x22, 0x33, 0x44};
@@ -101,9 +112,11 @@ static void echo(void) {
     wants(lapd_data(&card, 0, LAPD_CALL, 64, told.contents, told.length, &told) == LAPD_OK, "contents of a report");
     send(octets, sizeof octets);
     wants(memcmp(octets, whole, sizeof whole) == 0, "other contents went back");
+    wants(has_begun(whole, sizeof whole), "another frame was begun than went back");
     wants(lapd_unit(&card, 0, LAPD_CALL, 64, told.contents + 1, 2, &told) == LAPD_OK, "a part of a report");
     send(octets, sizeof octets);
     wants(memcmp(octets, "\x02\x81\x03\x22\x33", 5) == 0, "another part went back");
+    wants(has_begun(octets, 5), "another frame was begun than the part");
     size_t last = sizeof told.contents - 1;
     wants(lapd_data(&card, 0, LAPD_CALL, 64, told.contents + last, 1, &told) == LAPD_OK, "the last octet of a report");
     wants(lapd_data(&card, 0, LAPD_CALL, 64, NULL, 0, &told) == LAPD_OK, "no contents");

@@ -1,9 +1,11 @@
 -- What a framer stands for, one item or one octet more.
-use Rattle.std.proofs.Common.{◌≡◌, ℕ, ◌<◌, ◌≤◌, List, [], ◌∷◌, ◌++◌, length, refl, ap, sym, ◌∙◌, arith, ⊎_elim, append_assoc, length-append}
+use Rattle.std.proofs.Common.{◌≡◌, ℕ, ◌<◌, ◌≤◌, List, [], ◌∷◌, ◌++◌, length, Some, refl, ap, sym, ◌∙◌, arith, ⊎_elim, append_assoc, length-append}
 use Rattle.std.proofs.lemmas.Bool.{lt-ltb, le-ltb, cases_lt}
 use Rattle.std.proofs.lemmas.List.{flat_map_more}
+use Rattle.std.proofs.lemmas.List.Sums.{fold-append}
 use Rattle.lapd_bits.specs.Bits.{bits, flag, low_bits}
 use Rattle.lapd_bits.specs.Sent.{Item, idle, frame, frame_text, item_text, line_text}
+use Rattle.lapd_bits.specs.Heads.{or_later, latest_frame, first_four, head_of}
 use Rattle.lapd_bits.specs.Framer.{Framing, Stands, refilled, with_idle, still_held, item_octets, last_octets}
 use Rattle.lapd_bits.proofs.BitLemmas.{length-low_bits, bits-push}
 
@@ -15,9 +17,18 @@ last_octets-push [] item = refl
 last_octets-push (x ∷ []) item = refl
 last_octets-push (x ∷ y ∷ items) item = last_octets-push (y ∷ items) item
 
+pub latest-push : (items : List Item) (item : Item) → latest_frame (items ++ item ∷ []) ≡ or_later (latest_frame items) item
+latest-push items item = fold-append or_later [] items (item ∷ [])
+
+-- a frame of these octets begins with them
+pub begun_by : (octets first : List ℕ) (size : ℕ) → first ≡ first_four octets → length octets ≡ size → 1 ≤ length octets
+    → Some (record { octets = first; length = size }) ≡ head_of octets
+begun_by [] first size four long some = absurd (omega (arith, some))
+begun_by (octet ∷ octets) first size four long some = ap (λ l. Some (record { octets = l; length = size })) four ∙ ap (λ n. Some (record { octets = first_four (octet ∷ octets); length = n })) (sym long)
+
 -- One octet more is given.
-pub Stands-octet : (old new : Framing) (octet : ℕ) (items : List Item) (given : List ℕ) → low_bits 8 octet ++ new.left ≡ refilled old.left → new.held ≡ still_held new.left old.held → Stands old items given → Stands new (with_idle old.left items) (given ++ octet ∷ [])
-Stands-octet old new octet items given bits_are held_is s =
+pub Stands-octet : (old new : Framing) (octet : ℕ) (items : List Item) (given : List ℕ) → low_bits 8 octet ++ new.left ≡ refilled old.left → new.held ≡ still_held new.left old.held → new.begun ≡ old.begun → Stands old items given → Stands new (with_idle old.left items) (given ++ octet ∷ [])
+Stands-octet old new octet items given bits_are held_is begun_is s =
     let moved : bits given ++ (low_bits 8 octet ++ new.left) ≡ bits (given ++ octet ∷ []) ++ new.left =
     sym (append_assoc (bits given) (low_bits 8 octet) new.left) ∙ ap (λ l. l ++ new.left) (sym (bits-push given octet)) in
     ⊎_elim
@@ -35,6 +46,7 @@ Stands-octet old new octet items given bits_are held_is s =
           ∙ ap (λ l. bits given ++ l) (sym taken)
           ∙ moved;
       held = rw (lt-ltb (length new.left) 8 fewer) (rw (lt-ltb (length new.left) 8 fewer) at held_is);
+      begun = begun_is ∙ s.begun ∙ ap head_of (sym (latest-push items idle));
     })
     (λ enough.
     let taken : low_bits 8 octet ++ new.left ≡ old.left = rw (le-ltb (length old.left) 8 enough) at bits_are in
@@ -43,12 +55,13 @@ Stands-octet old new octet items given bits_are held_is s =
     record {
       text = s.text ∙ ap (λ l. bits given ++ l) (sym taken) ∙ moved;
       held = held_is ∙ ap (still_held new.left) same;
+      begun = begun_is ∙ s.begun;
     })
     (cases_lt (length old.left) 8)
 
 -- One frame more is loaded.
-pub Stands-load : (old new : Framing) (octets : List ℕ) (latest : ℕ) (items : List Item) (given : List ℕ) → new.left ≡ old.left ++ item_text (frame octets) → new.held ≡ still_held new.left latest → latest ≡ length octets → Stands old items given → Stands new (items ++ frame octets ∷ []) given
-Stands-load old new octets latest items given left_is held_is latest_is s =
+pub Stands-load : (old new : Framing) (octets : List ℕ) (latest : ℕ) (items : List Item) (given : List ℕ) → new.left ≡ old.left ++ item_text (frame octets) → new.held ≡ still_held new.left latest → latest ≡ length octets → new.begun ≡ head_of octets → Stands old items given → Stands new (items ++ frame octets ∷ []) given
+Stands-load old new octets latest items given left_is held_is latest_is begun_is s =
     let text = item_text (frame octets) in
     let many : 8 ≤ length new.left =
     omega (arith, ap length left_is, length-append old.left text, length-append (frame_text octets) flag) in
@@ -59,4 +72,5 @@ Stands-load old new octets latest items given left_is held_is latest_is s =
           ∙ append_assoc (bits given) old.left text
           ∙ ap (λ l. bits given ++ l) (sym left_is);
       held = rw (le-ltb (length new.left) 8 many) (rw (le-ltb (length new.left) 8 many) at held_is ∙ latest_is ∙ sym (last_octets-push items (frame octets)));
+      begun = begun_is ∙ ap head_of (sym (latest-push items (frame octets)));
     }

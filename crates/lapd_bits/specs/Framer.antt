@@ -4,15 +4,19 @@
 -- A framer begins with no items; the opening flag belongs to the line. `load` adds a frame to the items, and `octet`
 -- an idle flag where the bits run low. So the octets given are a beginning of the bits of the items at all times:
 -- nothing is left out, put in or changed.
-use Rattle.std.specs.Prelude.{◌≡◌, ℕ, nat_lt, Bool, List, [], ◌∷◌, ◌++◌, length, if◌then◌else◌}
+use Rattle.std.specs.Prelude.{◌≡◌, ℕ, nat_lt, Bool, List, [], ◌∷◌, ◌++◌, length, Option, if◌then◌else◌}
 use Rattle.lapd_bits.specs.Bits.{bits, flag}
+use Rattle.lapd_bits.specs.Heads.{latest_frame, head_of}
 use Rattle.lapd_bits.specs.Sent.{Item, idle, frame, line_text}
+use Rattle.lapd_bits.specs.declared.heads.Head.{Head}
 
 -- What a framer holds: the bits that are left to give; the octets, without check, of the last item, where that
--- is a frame and eight bits or more are left, else 0; and how many octets of information a frame may have.
+-- is a frame and eight bits or more are left, else 0; how the latest frame begins; and how many octets of information
+-- a frame may have.
 pub record Framing : Type 0 where
   pub left : List Bool
   pub held : ℕ
+  pub begun : Option Head
   pub room : ℕ
 
 -- Fewer than eight bits are left: not enough for an octet.
@@ -47,3 +51,4 @@ last_octets (_ ∷ item ∷ items) = last_octets (item ∷ items)
 pub record Stands (framer : Framing) (items : List Item) (given : List ℕ) : Type 0 where
   pub text : line_text items ≡ bits given ++ framer.left
   pub held : framer.held ≡ still_held framer.left (last_octets items)
+  pub begun : framer.begun ≡ head_of (latest_frame items)

@@ -7,7 +7,7 @@ use Rattle.lapd_bits.specs.declared.framer.Framer.TheInside.{Inside}
 abbrev pub framing_of : Inside → Framing
 framing_of a =
     let left = to_give a.octets.items a.next a.end a.after in
-    record { left = left; held = still_held left a.latest; room = a.n201 }
+    record { left = left; held = still_held left a.latest; begun = a.begun; room = a.n201 }
 
 pub record IsSound (a : Inside) : Type 0 where
   pub room : a.n201 ≤ 1024

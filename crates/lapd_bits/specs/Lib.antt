@@ -12,6 +12,7 @@ pub mod Stream
 pub mod StreamLaws
 pub mod FlagLaws
 pub mod Sent
+pub mod Heads
 pub mod Vectors
 pub mod Deframer
 pub mod Heard

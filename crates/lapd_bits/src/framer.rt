@@ -1,10 +1,12 @@
 //! What goes out on a line (clauses 2.2, 2.6 and 2.7): frames, and idle flags between them.
-ghost use Rattle.std.specs.Prelude.{◌≡◌, ℕ, ◌+◌, ◌<◌, ◌≤◌, ◌↔◌, List, [], ◌∷◌, ◌++◌, length, take, min, IsTrue, IfOk};
+ghost use Rattle.std.specs.Prelude.{◌≡◌, ℕ, ◌+◌, ◌<◌, ◌≤◌, ◌↔◌, List, [], ◌∷◌, ◌++◌, length, take, min, IsTrue, None, IfOk};
 ghost use Rattle.lapd_bits.specs.Bits.{low_bits, flag, number_of};
+ghost use Rattle.lapd_bits.specs.Heads.{head_of};
 ghost use Rattle.lapd_bits.specs.Sent.{Item, frame, item_text};
 ghost use Rattle.lapd_bits.specs.Framer.{Framing, Stands, refilled, with_idle, still_held};
 
 use crate::check::fcs_of_both;
+use crate::heads::{Head, first_four};
 use crate::start_fault::StartFault;
 use crate::stuffed_text::StuffedText;
 use crate::waiting::{FLAG, Waiting};
@@ -30,6 +32,8 @@ pub struct Framer {
     after: Waiting,
     /// The octets, without check, of the latest frame.
     latest: u16,
+    /// How it begins.
+    begun: Option<Head>,
     n201: u16,
 }
 
@@ -52,7 +56,7 @@ impl Framer {
     /// [`StartFault::OutOfMemory`], where there is no memory for the longest frame.
     pub fn start(alloc: Global, n201: u16) -> Result<Framer, StartFault>
         requires { n201 ≤ 1024 }
-        ensures begins { IfOk result (λ framer. framer ≡ record { left = flag; held = 0; room = n201 }) }
+        ensures begins { IfOk result (λ framer. framer ≡ record { left = flag; held = 0; begun = None; room = n201 }) }
         ensures stands { IfOk result (λ framer. Stands framer [] []) }
     {
         // A 0 more for five 1s at most, the bits that were left, and a flag.
@@ -65,6 +69,7 @@ impl Framer {
             end: 1,
             after: Waiting::none(),
             latest: 0,
+            begun: None,
             n201,
         })
     }
@@ -99,6 +104,13 @@ impl Framer {
         }
     }
 
+    /// How the latest frame that was loaded begins, and how long it is; none where none was.
+    pub fn begun(&self) -> Option<Head>
+        ensures { result ≡ self.now.begun }
+    {
+        self.begun
+    }
+
     /// Takes the frame of these octets, without its check: `head`, its address and control field, and then `info`, its
     /// information. It goes out after the bits that are left, with its check and a closing flag.
     ///
@@ -113,6 +125,7 @@ impl Framer {
         requires a_frame { 3 ≤ length head.now + length info.now }
         ensures left { self.new.left ≡ self.old.left ++ item_text (frame (head.now ++ info.now)) }
         ensures held { self.new.held ≡ length head.now + length info.now }
+        ensures begun { self.new.begun ≡ head_of (head.now ++ info.now) }
         ensures room { self.new.room ≡ self.old.room }
         ensures stands { (items : List Item) (given : List ℕ) → Stands self.old items given
             → Stands self.new (items ++ frame (head.now ++ info.now) ∷ []) given }
@@ -125,7 +138,12 @@ impl Framer {
         self.next = 0;
         self.end = text.end();
         self.after = text.waiting();
-        self.latest = (head.len() + info.len()) as u16;
+        let length = (head.len() + info.len()) as u16;
+        self.latest = length;
+        self.begun = Some(Head {
+            octets: first_four(head, info),
+            length,
+        });
     }
 
     /// The next octet of the line, low bit first. Where fewer than eight bits are left, an idle flag goes on
@@ -135,6 +153,7 @@ impl Framer {
         ensures octet { result ≡ number_of (take 8 (refilled self.old.left)) }
         ensures bits { low_bits 8 result ++ self.new.left ≡ refilled self.old.left }
         ensures held { self.new.held ≡ still_held self.new.left self.old.held }
+        ensures begun { self.new.begun ≡ self.old.begun }
         ensures room { self.new.room ≡ self.old.room }
         ensures stands { (items : List Item) (given : List ℕ) → Stands self.old items given
             → Stands self.new (with_idle self.old.left items) (given ++ result ∷ []) }

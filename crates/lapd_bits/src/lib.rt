@@ -9,7 +9,7 @@
 //!
 //! - `deframer`, over `gap`, `unstuffer` and `flag_end`: from octets to frames; `heard`: what it answers; `latest`: what
 //!   it keeps of that.
-//! - `framer`, over `stuffed_text`, `stuffer` and `waiting`: from frames to octets.
+//! - `framer`, over `stuffed_text`, `stuffer` and `waiting`: from frames to octets; `heads`: how the latest one begins.
 //! - `start_fault`: why neither could be started.
 //! - `check`: the frame check sequence.
 //! - `stuffing`, `one_event`, `heard_within`, `flag_places`, `round_trip`: laws, as functions with no effect.
@@ -30,6 +30,7 @@ mod flag_end;
 mod flag_places;
 mod framer;
 mod gap;
+mod heads;
 mod heard;
 mod heard_within;
 mod latest;
@@ -46,6 +47,7 @@ pub use check::{fcs, only_check};
 pub use deframer::Deframer;
 pub use flag_places::{abort_after_flag, flag_after_flag};
 pub use framer::Framer;
+pub use heads::Head;
 pub use heard::{Cause, Ended, Heard};
 pub use heard_within::heard_within_stream;
 pub use one_event::one_event_an_octet;

@@ -6,7 +6,7 @@
 //!
 //! - `card`: a card in C, how it begins and ends; `card_slot`, where it lies; `events`, what happens at it; `exchange`,
 //!   octets taken and given in turn; `questions`, what it answers about itself; `links`, which links it has, and
-//!   `rooms`, how many contents more one takes.
+//!   `rooms`, how many contents more one takes; `begun`, which frame a pull began.
 //! - `clock`: a clock in C, and its exports; `clock_reports`, the orders of a report; `clock_slot`, where it lies.
 //! - `laws`: what holds of the machine's answers, so that a report has room for each.
 //! - `loose`: a box as the address of its block; `version`: which version this is.
@@ -22,6 +22,7 @@
 //! What a C compiler makes of `lapd.h`; what becomes of a caller that breaks the conditions at its top.
 #![tactic(auto)]
 
+mod begun;
 mod card;
 mod card_slot;
 mod clock;

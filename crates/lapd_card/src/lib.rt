@@ -25,7 +25,8 @@
 //! - `card`: the card, one call an event.
 //! - `drive` with `sink` and `replies`: whole lists of events; `kept`: a sink that keeps the replies.
 //! - `start` with `fault`: how a card begins, and why it does not.
-//! - `stored`: how many octets it stores, and how many it may; `rooms`: how many contents more a link takes.
+//! - `stored`: how many octets it stores, and how many it may; `rooms`: how many contents more a link takes;
+//!   `begun`: which frame a pull began.
 //! - `lines`: the lines as one part.
 //! - `frame_card` with `frame_start` and `frame_lines`: [`FrameCard`], a card at whose lines a controller keeps flags, stuffed
 //!   0s and checks, and gives and takes whole frames. What kind a card is, is said at its start and stays.
@@ -46,6 +47,7 @@
 //! begins. No test starts one yet.
 #![tactic(auto)]
 
+mod begun;
 mod card;
 mod drive;
 mod fault;
@@ -64,6 +66,7 @@ pub use card::Card;
 pub use fault::CardFault;
 pub use frame_card::{FrameCard, RoomTooSmall};
 pub use kept::{Kept, KeptReply};
+pub use lapd_bits::Head;
 pub use lapd_line::{BareReport, Config, Field, NextFrame, Pulled, Report, Request, Room};
 pub use model_card::Event;
 pub use model_line::Fault;

@@ -2,6 +2,7 @@
 
 ghost use Rattle.std.specs.Prelude.{◌≡◌, ◌-◌, ◌≤◌, ◌<◌, List, length, nat_le, sum_by, Some, None, IfOk, IfErr, OnErr};
 ghost use Rattle.lapd_line.specs.Reports.{report_told, pulled_of};
+ghost use Rattle.model_line.specs.Begun.{head_begun};
 ghost use Rattle.model_line.specs.Event as line_event;
 ghost use Rattle.model_line.specs.Line as machine;
 ghost use Rattle.model_line.specs.Machine.{answer};
@@ -13,6 +14,7 @@ ghost use Rattle.model_line.specs.Stored.{held_in};
 ghost use Rattle.lapd_store.specs.Store.{Store, used_slots};
 ghost use Rattle.lapd_card.specs.Lines.{Stand, Serve, Lead, AreFresh, line_in, told_at, told_if_at};
 
+use lapd_bits::Head;
 use lapd_frame::{Refusal, Service, Timer};
 use lapd_line::{BareReport, Config, Line, Pulled, Report, Request, Room, StartFault};
 use lapd_store::Shelf;
@@ -152,6 +154,15 @@ impl Lines {
             → result ≡ room_in c (slots - used_slots (S.store shelf.now)) service tei (line_in c line ms) }
     {
         self.lines[line].room(service, tei, shelf, slots)
+    }
+
+    /// How the frame that a pull of a line began last begins.
+    pub(crate) fn begun(&self, line: usize) -> Option<Head>
+        requires { line < length self.now }
+        ensures { (c : Config) (store : Store) (ms : List machine.Line) → Stand c self.now store ms
+            → result ≡ head_begun (line_in c line ms) }
+    {
+        self.lines[line].begun()
     }
 
     /// How many octets the lines hold beside those in slots.

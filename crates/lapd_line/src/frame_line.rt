@@ -25,8 +25,7 @@ use crate::reports::{BareReport, Report};
 use lapd_bits::{Cause, Heard};
 use lapd_frame::{Order, Refusal, Service, ShortList, Timer};
 use lapd_store::Shelf;
-use model_line::Fault;
-use model_line::{Config, Request};
+use model_line::{Config, Fault, Request};
 use std::alloc::Global;
 
 /// The octets of the longest frame without its check: four, and the greatest N201 of a [`Config`].

@@ -4,6 +4,7 @@ ghost use Rattle.std.specs.Prelude.{◌≡◌, ◌-◌, ◌<◌, ◌≤◌, List
 ghost use Rattle.lapd_bits.specs.Deframer.{latest_of};
 ghost use Rattle.lapd_store.specs.Ownership.{Owned, Holds};
 ghost use Rattle.lapd_store.specs.Store.{Store, used_slots};
+ghost use Rattle.model_line.specs.Begun.{head_begun};
 ghost use Rattle.model_line.specs.Event as line_event;
 ghost use Rattle.model_line.specs.Event.{told};
 ghost use Rattle.model_line.specs.Line as machine;
@@ -20,7 +21,7 @@ use crate::fault::StartFault;
 use crate::link_layer::LinkLayer;
 use crate::pulled::Pulled;
 use crate::reports::{BareReport, Report};
-use lapd_bits::{Deframer, Ended, Framer, Heard};
+use lapd_bits::{Deframer, Ended, Framer, Head, Heard};
 use lapd_frame::{Order, Refusal, Service, ShortList, Timer};
 use lapd_link::Room;
 use lapd_store::Shelf;
@@ -265,6 +266,15 @@ impl Line {
             → result ≡ room_in (config_of self.now) (slots - used_slots (S.store shelf.now)) service tei m }
     {
         self.layer.room(service, tei, shelf, slots)
+    }
+
+    /// How the frame that a pull began last begins, and how long it is; none where none was begun yet. So after a pull that
+    /// has [`begun`](Pulled::begun) a frame, this is that frame, until a pull begins another.
+    pub fn begun(&self) -> Option<Head>
+        ensures { (store : Store) (others : List Owned) (m : machine.Line) → Stands self.now store others m
+            → result ≡ head_begun m }
+    {
+        self.framer.begun()
     }
 
     /// How many octets the line stores beside those in slots of the shelf: of the frame that is received, of the frame

@@ -5,6 +5,7 @@ pub mod Config
 pub mod Timers
 pub mod Links
 pub mod Rooms
+pub mod Heads
 pub mod Notes
 pub mod Requests
 pub mod Reports

@@ -7,13 +7,14 @@
 //! - `statuses`: what a call answers: refusals, wrong calls, fields of a configuration.
 //! - `config`: the configuration.
 //! - `timers`: timers and orders, there and back.
-//! - `links`: the links of a line, in order; `rooms`: how much room one has.
+//! - `links`: the links of a line, in order; `rooms`: how much room one has; `heads`: how a frame begins.
 //! - `requests`: what is asked of a line, from numbers.
 //! - `notes`: notes, and why something was dropped.
 //! - `reports`: the report of an event.
 #![tactic(auto)]
 
 mod config;
+mod heads;
 mod links;
 mod notes;
 mod reports;
@@ -23,6 +24,7 @@ mod statuses;
 mod timers;
 
 pub use config::PlainConfig;
+pub use heads::PlainHead;
 pub use links::{LINK_PLACES, PlainLink, service_at};
 pub use notes::{PlainNote, cause_number};
 pub use reports::PlainReport;

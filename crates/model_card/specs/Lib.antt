@@ -1,7 +1,7 @@
 -- The machine of a card.
 --
 -- Read in this order: Event, Card, Machine, Run. Stored, Counts, ByEvent, Drops, Numbered, Pulled, Isolation and
--- Sound are the words of the laws, Promises and Laws their statements. Room is what a card answers about itself. Happening is
+-- Sound are the words of the laws, Promises and Laws their statements. Room and Begun are what a card answers about itself. Happening is
 -- what happens at a card for whole frames, and Said what it answers.
 pub mod Event
 pub mod Card
@@ -12,6 +12,7 @@ pub mod Reached
 pub mod Stored
 pub mod Counts
 pub mod Room
+pub mod Begun
 pub mod ByEvent
 pub mod Drops
 pub mod Numbered

@@ -34,3 +34,4 @@ pub mod FramesCome
 pub mod FramesGo
 pub mod FrameLengths
 pub mod FrameCalls
+pub mod Begun

@@ -1,7 +1,7 @@
 -- The machine of a line, and worked values of it.
 --
 -- Read in this order: Config, Event, Request; Line; Effect, whom an event concerns and what comes of it; Octet,
--- Expiry, Refusal, Requested, Pull; Machine. Room is what a line answers about itself. Stored, Counts, Deliveries,
+-- Expiry, Refusal, Requested, Pull; Machine. Room and Begun are what a line answers about itself. Stored, Counts, Deliveries,
 -- Sound and Turns are the words of the laws, whose sentences stand in `src/laws.rt`. Whole is what a whole frame means in
 -- octets, and WholeAtLine what such octets and pulls are at a line.
 pub mod Config
@@ -16,6 +16,7 @@ pub mod Room
 pub mod Requested
 pub mod Pull
 pub mod Machine
+pub mod Begun
 pub mod Stored
 pub mod Counts
 pub mod Deliveries

@@ -1,5 +1,6 @@
 //! What holds of the machine of a line itself. Each law is the contract of a call that does nothing.
 
+ghost use Rattle.model_line.specs.Begun.{LatestIsBegun};
 ghost use Rattle.model_line.specs.Laws.{AnswersAreShort, DropsChangeNothing, LinesRise, LinesStaySound};
 ghost use Rattle.model_line.specs.Turns.{LinksTakeTurns};
 
@@ -30,6 +31,12 @@ pub fn answers_are_short()
 /// was but for the octet received, and so what may be sent stays as it is.
 pub fn drops_change_nothing()
     ensures { DropsChangeNothing }
+{}
+
+/// The latest frame that was put on a line is the one that a pull began last: each pull that begins a frame makes it that
+/// frame, and nothing else changes it.
+pub fn latest_is_begun()
+    ensures { LatestIsBegun }
 {}
 
 /// Links take turns: a frame of a link that a pull takes is that of the first link in the round that has one, and the

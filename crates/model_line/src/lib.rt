@@ -38,6 +38,7 @@ pub use frame_laws::{
     frames_have_lengths, nothing_else_is_received,
 };
 pub use laws::{
-    answers_are_short, drops_change_nothing, lines_rise, lines_stay_sound, links_take_turns,
+    answers_are_short, drops_change_nothing, latest_is_begun, lines_rise, lines_stay_sound,
+    links_take_turns,
 };
 pub use requests::Request;

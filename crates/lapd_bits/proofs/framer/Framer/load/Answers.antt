@@ -6,7 +6,7 @@ use Rattle.lapd_bits.specs.Stuffer.{Goes, last_ones}
 use Rattle.lapd_bits.specs.FramerText.{waits, made, to_give}
 use Rattle.lapd_bits.proofs.FramerGiven.{length-to_give, to_give-none}
 use Rattle.lapd_bits.proofs.FramerLoad.{frame_made, written_back}
-use Rattle.lapd_bits.proofs.FramerStands.{Stands-load}
+use Rattle.lapd_bits.proofs.FramerStands.{Stands-load, begun_by}
 use Rattle.lapd_bits.proofs.StuffingAtOnce.{last_ones-none}
 use Rattle.lapd_bits.proofs.framer.Framer.load.Goals as goal
 
@@ -43,8 +43,12 @@ returns-clause-left c =
     ∙ frame_made start middle head info c.fcs_of_both-check.result (last_ones one.latest) c.fcs_of_both-check.ensures.is_check from_none
     ∙ ap (λ l. l ++ (frame_text (head ++ info) ++ flag)) before
 
+-- it begins as the two do, and is as long
+pub returns-clause-begun : goal.returns-clause-begun
+returns-clause-begun c = begun_by _ _ _ c.first_four.ensures (length-append c.args.head.now c.args.info.now) (omega (arith, length-append c.args.head.now c.args.info.now, c.requires.a_frame))
+
 pub returns-clause-stands : goal.returns-clause-stands
 returns-clause-stands c = λ items given s.
     let octets = c.args.head.now ++ c.args.info.now in
     Stands-load c.args.self.now _ octets (length c.args.head.now + length c.args.info.now) items given (returns-clause-left c) refl
-    (sym (length-append c.args.head.now c.args.info.now)) s
+    (sym (length-append c.args.head.now c.args.info.now)) (returns-clause-begun c) s

@@ -1,5 +1,5 @@
 -- One flag lies in the buffer.
-use Rattle.std.proofs.Common.{◌≡◌, ◌<◌, [], ◌∷◌, ◌++◌, vec_len, rules, refl, sym, ap, ◌∙◌, arith}
+use Rattle.std.proofs.Common.{◌≡◌, ◌<◌, None, [], ◌∷◌, ◌++◌, vec_len, rules, refl, sym, ap, ◌∙◌, arith}
 use Rattle.std.proofs.lemmas.Grind.{take-set_at}
 use Rattle.lapd_bits.specs.Bits.{bits, low_bits, flag}
 use Rattle.lapd_bits.specs.Framer.{still_held}
@@ -15,7 +15,7 @@ left_is c =
     ∙ ap (λ l. bits (126 ∷ []) ++ l) c.none.ensures.bits
 
 pub returns-clause-begins : goal.returns-clause-begins
-returns-clause-begins c = ap (λ l. record { left = l; held = still_held l 0; room = c.args.n201 }) (left_is c)
+returns-clause-begins c = ap (λ l. record { left = l; held = still_held l 0; begun = None; room = c.args.n201 }) (left_is c)
 
 pub returns-clause-stands : goal.returns-clause-stands
-returns-clause-stands c = record { text = sym (left_is c); held = refl }
+returns-clause-stands c = record { text = sym (left_is c); held = refl; begun = refl }

@@ -1,0 +1,45 @@
+//! How the latest frame of a line begins.
+
+ghost use Rattle.std.specs.Prelude.{◌≡◌, ◌++◌, get_or};
+ghost use Rattle.lapd_bits.specs.Heads.{first_four};
+
+/// How a frame begins, and how long it is.
+#[derive(Clone, Copy, PartialEq, Eq, Debug)]
+pub struct Head {
+    /// Its first four octets: the address, the control field, and where that has one octet, the first octet of the
+    /// information (Q.921 clause 2.1). 0 behind the end of a frame of three.
+    pub octets: [u8; 4],
+    /// How many octets it has, from its address to its information, without its check: 3 or more.
+    pub length: u16,
+}
+
+/// The first four octets of both, one after the other; 0 where there are fewer.
+#[inline(always)]
+pub(crate) fn first_four(head: &[u8], info: &[u8]) -> [u8; 4]
+    ensures { result ≡ first_four (head.now ++ info.now) }
+{
+    // So it is where the control field has two octets.
+    if head.len() >= 4 {
+        return [head[0], head[1], head[2], head[3]];
+    }
+    [
+        octet_at(head, info, 0),
+        octet_at(head, info, 1),
+        octet_at(head, info, 2),
+        octet_at(head, info, 3),
+    ]
+}
+
+/// The octet at a place of both, one after the other; 0 where they end before it.
+fn octet_at(head: &[u8], info: &[u8], place: usize) -> u8
+    ensures { result ≡ get_or (head.now ++ info.now) place 0 }
+{
+    if place < head.len() {
+        return head[place];
+    }
+    let behind = place - head.len();
+    if behind < info.len() {
+        return info[behind];
+    }
+    0
+}

@@ -1,0 +1,54 @@
+//! Which frame a pull began.
+
+ghost use Rattle.std.specs.Prelude.{◌≡◌, ◌≤◌, ◌<◌, None};
+ghost use Rattle.model_card.specs.Begun.{head_begun_at};
+ghost use Rattle.model_card.specs.Card as machine;
+ghost use Rattle.lapd_plain.specs.Heads.{plain_head};
+ghost use Rattle.lapd_plain.specs.Statuses as status;
+ghost use Rattle.lapd_c.specs.Cards.{card_of, IsHandle, Stands, CardStands};
+
+use crate::card::CardHandle;
+use lapd_card::Card;
+use lapd_plain::{NO_CARD, OK, PlainHead, WRONG_LINE};
+use lapd_store::RawShelf;
+use std::alloc::Global;
+
+/// How the frame that a pull of a line began last begins, and how long it is.
+#[unsafe(no_mangle)]
+pub extern "C" fn lapd_begun(
+    alloc: Global,
+    handle: &mut CardHandle,
+    line: u32,
+    head: &mut PlainHead,
+) -> u32
+    requires { IsHandle handle.old }
+    ensures handle { IsHandle handle.new }
+    ensures no_card { card_of handle.old ≡ None
+        → (result ≡ status.no_card) × (handle.new ≡ handle.old) × (head.new ≡ head.old) }
+    ensures unchanged { card_of handle.new ≡ card_of handle.old }
+    ensures wrong_line { (m : machine.Card) → Stands handle.old m → m.config.lines ≤ line
+        → (result ≡ status.wrong_line) × (head.new ≡ head.old) }
+    ensures told { (m : machine.Card) → Stands handle.old m → line < m.config.lines
+        → (result ≡ status.ok) × (head.new ≡ plain_head (head_begun_at line m)) }
+{
+    let Some(card) = handle.take(alloc) else {
+        return NO_CARD;
+    };
+    let status = tell_begun(&card, line, head);
+    handle.put(card);
+    status
+}
+
+fn tell_begun(card: &Card<RawShelf>, line: u32, head: &mut PlainHead) -> u32
+    ensures wrong_line { (m : machine.Card) → CardStands card.now m → m.config.lines ≤ line
+        → (result ≡ status.wrong_line) × (head.new ≡ head.old) }
+    ensures told { (m : machine.Card) → CardStands card.now m → line < m.config.lines
+        → (result ≡ status.ok) × (head.new ≡ plain_head (head_begun_at line m)) }
+{
+    let line = line as usize;
+    if line >= card.lines() {
+        return WRONG_LINE;
+    }
+    *head = PlainHead::of(card.begun(line));
+    OK
+}

@@ -1,0 +1,45 @@
+-- The latest frame of a line is the one that a pull began last.
+use Rattle.std.proofs.Common.{◌≡◌, Bool, true, false, ◌∷◌, [], ◌++◌, Option, Some, None, refl, ap, cond}
+use Rattle.std.specs.Option.{option_map_or}
+use Rattle.lapd_bits.specs.Heads.{latest_frame}
+use Rattle.lapd_bits.specs.Sent.{idle, frame}
+use Rattle.lapd_bits.proofs.FramerStands.{latest-push}
+use Rattle.lapd_tei.specs.declared.outcome.Change.{Change}
+use Rattle.lapd_tei.specs.declared.outcome.Change.TheVariants.{Gained, Left}
+use Rattle.model_line.specs.declared.config.Config.{Config}
+use Rattle.model_line.specs.Begun.{frame_taken, LatestIsBegun}
+use Rattle.model_line.specs.Effect.{Aim, at_none, at_link, at_management, at_units, of_aim, of_change}
+use Rattle.model_line.specs.Event.{Event, octet, expiry, request, pull, LineTold}
+use Rattle.model_line.specs.Expiry.{aim_of_expiry}
+use Rattle.model_line.specs.Line.{Line}
+use Rattle.model_line.specs.Machine.{after, unless_refused}
+use Rattle.model_line.specs.Octet.{aim_of_octet, with_received}
+use Rattle.model_line.specs.Pull.{Taken, taken, is_due, with_item}
+use Rattle.model_line.specs.Refusal.{refusal}
+use Rattle.model_line.specs.Requested.{aim_of_request}
+
+-- The parts of a line leave its items as they were.
+by_change : (c : Config) (o : Option Change) (t : LineTold) (l : Line) → (of_change c o t l).line.items ≡ l.items
+by_change c None t l = refl
+by_change c (Some (Gained tei place)) t l = refl
+by_change c (Some (Left tei place)) t l = refl
+
+by_aim : (c : Config) (aim : Aim) (l : Line) → (of_aim c aim l).line.items ≡ l.items
+by_aim c (at_none t) l = refl
+by_aim c (at_link service tei place e) l = refl
+by_aim c (at_management e) l = by_change c _ _ (record l { management = _ })
+by_aim c (at_units unit) l = refl
+
+-- A pull adds what is due.
+by_pull : (l : Line) (due : Bool) (o : Option Taken)
+    → latest_frame (cond due (with_item o l) l).items ≡ option_map_or frame_taken (cond due o None) (latest_frame l.items)
+by_pull l false o = refl
+by_pull l true None = latest-push l.items idle
+by_pull l true (Some t) = latest-push l.items (frame t.frame)
+
+pub latest_is_begun : LatestIsBegun
+unfolding after
+latest_is_begun c (octet value) l = ap latest_frame (by_aim c (aim_of_octet c value l) (with_received value l))
+latest_is_begun c (expiry timer) l = ap latest_frame (by_aim c (aim_of_expiry timer l) l)
+latest_is_begun c (request r) l = ap latest_frame (by_aim c (unless_refused (refusal c false r l) (aim_of_request r l)) l)
+latest_is_begun c pull l = by_pull l (is_due l) (taken c l)

@@ -3,6 +3,8 @@ pub mod OneFrameLine
 pub mod OneHappening
 pub mod FrameAmounts
 pub mod FrameBegins
+pub mod FrameHeadline
+pub mod FrameTaken
 pub mod OneEvent
 pub mod Taken
 pub mod Begins

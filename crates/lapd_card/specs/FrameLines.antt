@@ -1,5 +1,5 @@
 -- The lines of a card for frames and those of its machine, over one shelf.
-use Rattle.std.specs.Prelude.{◌≡◌, ℕ, ◌≤◌, List, [], ◌++◌, length, get_or, set}
+use Rattle.std.specs.Prelude.{◌≡◌, ℕ, ◌≤◌, List, [], ◌++◌, length, set}
 use Rattle.std.specs.List.{All, AllByRecursion, flat_map, zip}
 use Rattle.lapd_line.specs.declared.frame_line.FrameLine.{FrameLine}
 use Rattle.lapd_line.specs.FrameStands as line

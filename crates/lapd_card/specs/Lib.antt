@@ -13,3 +13,5 @@ pub mod Drive
 pub mod FrameCard
 pub mod FrameLines
 pub mod FrameStands
+pub mod FrameReply
+pub mod FrameDrive

@@ -30,6 +30,7 @@
 //! - `lines`: the lines as one part.
 //! - `frame_card` with `frame_start` and `frame_lines`: [`FrameCard`], a card at whose lines a controller keeps flags, stuffed
 //!   0s and checks, and gives and takes whole frames. What kind a card is, is said at its start and stays.
+//! - `frame_drive` with `happenings`, `frame_sink` and `frame_replies`: whole lists of what happens at such a card.
 //!
 //! What the card does is defined below: a row of a link's tables (by state, in `specs/`) and its notes in
 //! `model_link`, those of TEI management in `lapd_tei`, the refusals of a line in `model_line`
@@ -42,9 +43,8 @@
 //!
 //! # Open
 //!
-//! Of a card for frames: a `drive` (there is one for octets only), its calls in C and in scripts, and a bound of what it
-//! stores that leaves out the room of frames on their way; how much room a link has; within how many calls a control frame
-//! begins. No test starts one yet.
+//! Of a card for frames: its calls in C and in scripts, and a bound of what it stores that leaves out the room of frames on
+//! their way; how much room a link has; within how many calls a control frame begins. No test starts one yet.
 #![tactic(auto)]
 
 mod begun;
@@ -52,8 +52,12 @@ mod card;
 mod drive;
 mod fault;
 mod frame_card;
+mod frame_drive;
 mod frame_lines;
+mod frame_replies;
+mod frame_sink;
 mod frame_start;
+mod happenings;
 mod kept;
 mod lines;
 mod replies;
@@ -65,6 +69,9 @@ mod stored;
 pub use card::Card;
 pub use fault::CardFault;
 pub use frame_card::{FrameCard, RoomTooSmall};
+pub use frame_replies::{FrameReply, SentFrame};
+pub use frame_sink::FrameSink;
+pub use happenings::Happening;
 pub use kept::{Kept, KeptReply};
 pub use lapd_bits::Head;
 pub use lapd_line::{BareReport, Config, Field, NextFrame, Pulled, Report, Request, Room};

@@ -1,6 +1,5 @@
 -- Hand-written answers for `FrameCard::expire`.
 use Rattle.std.proofs.Common.{◌<◌, sym, subst}
-use Rattle.model_card.specs.ByEvent.{RisesByExpiry}
 use Rattle.model_card.proofs.ByEvent.{frames_by_event}
 use Rattle.model_card.proofs.Reaching.{reached-sound}
 use Rattle.model_card.specs.Happening.{expires}

@@ -1,7 +1,6 @@
 -- Hand-written answers for `FrameCard::frame`.
 use Rattle.std.proofs.Common.{◌<◌, sym, subst, ap}
 use Rattle.model_line.specs.Event.{told}
-use Rattle.model_card.specs.ByEvent.{ArePriced}
 use Rattle.model_card.proofs.ByEvent.{frames_by_event}
 use Rattle.model_card.proofs.Reaching.{reached-sound}
 use Rattle.model_card.specs.Happening.{comes, events_of}

@@ -1,5 +1,5 @@
 -- Hand-written answers for `FrameCard::give`.
-use Rattle.std.proofs.Common.{◌+◌, ◌≤◌, ◌<◌, length, sym, subst}
+use Rattle.std.proofs.Common.{◌≤◌, ◌<◌, length, sym, subst}
 use Rattle.model_line.specs.Pull.{taken}
 use Rattle.model_card.specs.Happening.{goes}
 use Rattle.model_line.specs.WholeAtLine.{pulls_for}

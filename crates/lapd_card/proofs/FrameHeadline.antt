@@ -1,0 +1,55 @@
+-- A law of the machine holds of the events that a list of happenings at a card for frames means, and of every front of it.
+use Rattle.std.proofs.Common.{ℕ, ◌<◌, List, [], ◌∷◌, take, sym, subst}
+use Rattle.std.proofs.lemmas.List.Elements.{All-nil, All-head, All-tail, All-append, All-map, All-take, All-weaker}
+use Rattle.std.specs.List.{All}
+use Rattle.model_line.specs.declared.config.Config.{Config}
+use Rattle.model_line.specs.Sound.{IsInRange}
+use Rattle.model_card.specs.Card.{Card, fresh}
+use Rattle.model_card.specs.Event.{Event}
+use Rattle.model_card.specs.Run.{IsAtLine, AreAtLines, after_all}
+use Rattle.model_card.specs.Sound.{IsSound}
+use Rattle.model_card.proofs.Reaching.{reached-sound}
+use Rattle.model_card.specs.Happening as happenings
+use Rattle.model_card.specs.Happening.{Happening, events_at, events_of, spelled}
+use Rattle.model_card.proofs.Happening.{all_at, config_stays}
+use Rattle.lapd_store.specs.Store.{Store}
+use Rattle.lapd_card.specs.declared.happenings.Happening as rust
+use Rattle.lapd_card.specs.FrameCard.{Held, line_count}
+use Rattle.lapd_card.specs.FrameDrive.{happening_of, line_of, all_of}
+use Rattle.lapd_card.specs.FrameStands.{Stands}
+
+-- happenings at lines are events at lines
+spelled_at : (m : Card) (hs : List Happening) → All (λ h. happenings.line_of h < m.config.lines) hs → AreAtLines m (spelled m hs)
+spelled_at m [] all = All-nil (IsAtLine m)
+spelled_at m (h ∷ hs) all =
+    let next = after_all m (events_of m h) in
+    let same = config_stays m (events_of m h) in
+    let rest : All (λ x. happenings.line_of x < next.config.lines) hs =
+    subst (λ c. All (λ x. happenings.line_of x < c.lines) hs) (sym same) (All-tail (λ x. happenings.line_of x < m.config.lines) h hs all) in
+    let more : AreAtLines m (spelled next hs) = subst (λ c. All (λ e. e.line < c.lines) (spelled next hs)) same (spelled_at next hs rest) in
+    All-append (IsAtLine m) (events_of m h) (spelled next hs)
+    (all_at m (happenings.line_of h) (events_at m h) (All-head (λ x. happenings.line_of x < m.config.lines) h hs all)) more
+
+-- the events are at lines of the machine
+pub events_at_lines : {S : Type 0} (store : S → Store) (card : Held S) (hs : List rust.Happening) → All (λ h. line_of h < line_count card) hs → (m : Card) → Stands store card m → AreAtLines m (spelled m (all_of hs))
+events_at_lines store card hs within m s =
+    spelled_at m (all_of hs)
+    (All-map (λ h. happenings.line_of h < m.config.lines) happening_of hs
+    (All-weaker (λ h. line_of h < line_count card) (λ h. line_of h < m.config.lines) (λ h below. subst (λ c. line_of h < c.lines) (sym s.config) below) hs within))
+
+-- a law of every sound card and list of events holds of them
+pub whole_list : {S : Type 0} (store : S → Store) (card : Held S) (hs : List rust.Happening) → All (λ h. line_of h < line_count card) hs → (P : Card → List Event → Type 0) → ((m : Card) (es : List Event) → IsSound m → AreAtLines m es → P m es) → (m : Card) → Stands store card m → P m (spelled m (all_of hs))
+whole_list store card hs within P law m s = law m (spelled m (all_of hs)) (reached-sound m s.reached) (events_at_lines store card hs within m s)
+
+-- so are those of a front
+front_at_lines : {S : Type 0} (store : S → Store) (card : Held S) (hs : List rust.Happening) → All (λ h. line_of h < line_count card) hs → (m : Card) (count : ℕ) → Stands store card m → AreAtLines m (take count (spelled m (all_of hs)))
+front_at_lines store card hs within m count s =
+    All-take (IsAtLine m) count (spelled m (all_of hs)) (events_at_lines store card hs within m s)
+
+-- and the law holds of each front
+pub each_front : {S : Type 0} (store : S → Store) (card : Held S) (hs : List rust.Happening) → All (λ h. line_of h < line_count card) hs → (P : Card → List Event → Type 0) → ((m : Card) (es : List Event) → IsSound m → AreAtLines m es → P m es) → (m : Card) (count : ℕ) → Stands store card m → P m (take count (spelled m (all_of hs)))
+each_front store card hs within P law m count s = law m (take count (spelled m (all_of hs))) (reached-sound m s.reached) (front_at_lines store card hs within m count s)
+
+-- and those of a card as it begins of a front
+pub fresh_front : {S : Type 0} (store : S → Store) (card : Held S) (hs : List rust.Happening) → All (λ h. line_of h < line_count card) hs → (P : Config → List Event → Type 0) → ((c : Config) (es : List Event) → IsInRange c → AreAtLines (fresh c) es → P c es) → (count : ℕ) → Stands store card (fresh card.config) → P card.config (take count (spelled (fresh card.config) (all_of hs)))
+fresh_front store card hs within P law count s = law card.config (take count (spelled (fresh card.config) (all_of hs))) s.reached.config (front_at_lines store card hs within (fresh card.config) count s)

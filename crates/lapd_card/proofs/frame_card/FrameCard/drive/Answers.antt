@@ -1,0 +1,153 @@
+-- Hand-written answers for `FrameCard::drive`.
+use Rattle.std.proofs.Common.{[], refl, sym, ◌∙◌}
+use Rattle.std.proofs.lemmas.Option.{slice_get-get_or}
+use Rattle.lapd_card.specs.declared.happenings.Happening.TheVariants.{Comes}
+use Rattle.model_card.proofs.Saying.{answers_say_it}
+use Rattle.lapd_card.proofs.FrameTaken.{ran-more, taken-more, missed-at}
+use Rattle.lapd_card.proofs.Taken.{at_ok, at_err}
+use Rattle.model_card.specs.ByEvent.{ArePriced}
+use Rattle.model_card.specs.Drops.{AreDropsWithoutCost, AreDropsWithoutEffect}
+use Rattle.model_card.proofs.Amortised.{frames_amortised}
+use Rattle.model_card.proofs.Fold.{run_is_moments}
+use Rattle.model_card.proofs.Isolated.{lines_isolated}
+use Rattle.model_card.proofs.Linear.{frames_linear}
+use Rattle.model_card.proofs.NeverFull.{pool_never_full}
+use Rattle.model_card.proofs.Numbering.{deliveries_numbered}
+use Rattle.model_card.proofs.Stored.{stored_within_limit}
+use Rattle.model_card.proofs.TextGoesOn.{text_goes_on}
+use Rattle.model_card.proofs.Refusals.{refused_by_the_table}
+use Rattle.model_card.proofs.ByEvent.{frames_by_event}
+use Rattle.model_card.proofs.Drops.{drops_cost_nothing, drops_change_nothing}
+use Rattle.model_card.specs.Promises.{IsWithinLimit, IsAmortised, IsAmortisedFromZero, HasSixOctetsAFrame, HasSevenOctetsAReject, IsLinear, IsIsolated, IsNeverFull, IsNumbered, IsNumberedFromZero, IsTextual}
+use Rattle.lapd_card.proofs.FrameHeadline.{whole_list, each_front, fresh_front}
+use Rattle.model_card.specs.Run.{after_all}
+use Rattle.lapd_card.proofs.frame_card.FrameCard.drive.Goals as goal
+
+-- nothing has happened
+pub loop-at-init : goal.loop-at-init
+unfolding after_all
+loop-at-init g c = record { config = refl; none_failed = refl; ran = λ m s. s; taken = λ m s. refl }
+
+pub loop-at-preserved : goal.loop-at-preserved
+loop-at-preserved g c =
+    let is = slice_get-get_or c.args.happenings.now c.loop-at.at (Comes 0 (record { ref_ptr = (0, 0); now = [] })) c.loop-at-test.true in
+    let no = sym c.is_err.ensures.value ∙ c.if-is_err.false in
+    record {
+      config = c.answer.ensures.leads.config ∙ c.loop-at.invariant.config;
+      none_failed = at_ok c.answer.result _ no c.answer.ensures.not_failed ∙ c.loop-at.invariant.none_failed;
+      ran = λ m s. ran-more g.S.Shelf.store m c.args.happenings.now c.loop-at.at _ c.loop-at.self c.answer.new.self is c.answer.ensures.leads (c.loop-at.invariant.ran m s);
+      taken = λ m s. taken-more g.K.FrameSink.takes m c.args.happenings.now c.loop-at.at _ c.args.sink.now c.loop-at.sink c.answer.new.sink is (at_ok c.answer.result _ no c.answer.ensures.taken _ (c.loop-at.invariant.ran m s)) (c.loop-at.invariant.taken m s);
+    }
+
+pub returns-then-is_err-clause-stopped : goal.returns-then-is_err-clause-stopped
+returns-then-is_err-clause-stopped g c =
+    let is = slice_get-get_or c.args.happenings.now c.loop-at.at (Comes 0 (record { ref_ptr = (0, 0); now = [] })) c.loop-at-test.true in
+    λ m s. ran-more g.S.Shelf.store m c.args.happenings.now c.loop-at.at _ c.loop-at.self c.answer.new.self is c.answer.ensures.leads (c.loop-at.invariant.ran m s)
+
+pub returns-then-is_err-clause-taken_before : goal.returns-then-is_err-clause-taken_before
+returns-then-is_err-clause-taken_before g c =
+    let is = slice_get-get_or c.args.happenings.now c.loop-at.at (Comes 0 (record { ref_ptr = (0, 0); now = [] })) c.loop-at-test.true in
+    let yes = sym c.is_err.ensures.value ∙ c.if-is_err.true in
+    λ m s. missed-at g.K.FrameSink.takes g.K.FrameSink.misses m c.args.happenings.now c.loop-at.at _ c.args.sink.now c.loop-at.sink c.answer.new.sink is (at_err c.answer.result _ yes c.answer.ensures.not_taken _ (c.loop-at.invariant.ran m s)) (c.loop-at.invariant.taken m s)
+
+pub returns-then-is_err-clause-moments : goal.returns-then-is_err-clause-moments
+returns-then-is_err-clause-moments g c = run_is_moments
+
+pub returns-then-is_err-clause-refused : goal.returns-then-is_err-clause-refused
+returns-then-is_err-clause-refused g c = refused_by_the_table
+
+pub returns-then-is_err-clause-by_event : goal.returns-then-is_err-clause-by_event
+returns-then-is_err-clause-by_event g c = λ m. whole_list g.S.Shelf.store c.args.self.now c.args.happenings.now c.requires ArePriced frames_by_event.in_runs m
+
+pub returns-then-is_err-clause-without_effect : goal.returns-then-is_err-clause-without_effect
+returns-then-is_err-clause-without_effect g c = λ m. whole_list g.S.Shelf.store c.args.self.now c.args.happenings.now c.requires AreDropsWithoutEffect (λ m es s within. drops_change_nothing m es) m
+
+pub returns-then-is_err-clause-drops : goal.returns-then-is_err-clause-drops
+returns-then-is_err-clause-drops g c = λ m. whole_list g.S.Shelf.store c.args.self.now c.args.happenings.now c.requires AreDropsWithoutCost drops_cost_nothing m
+
+pub returns-then-is_err-clause-within_limit : goal.returns-then-is_err-clause-within_limit
+returns-then-is_err-clause-within_limit g c = λ m count. each_front g.S.Shelf.store c.args.self.now c.args.happenings.now c.requires IsWithinLimit stored_within_limit.always m count
+
+pub returns-then-is_err-clause-amortised : goal.returns-then-is_err-clause-amortised
+returns-then-is_err-clause-amortised g c = λ m count. each_front g.S.Shelf.store c.args.self.now c.args.happenings.now c.requires IsAmortised frames_amortised m count
+
+pub returns-then-is_err-clause-amortised_from_zero : goal.returns-then-is_err-clause-amortised_from_zero
+returns-then-is_err-clause-amortised_from_zero g c = λ count. fresh_front g.S.Shelf.store c.args.self.now c.args.happenings.now c.requires IsAmortisedFromZero frames_linear.amortised count
+
+pub returns-then-is_err-clause-six_octets_a_frame : goal.returns-then-is_err-clause-six_octets_a_frame
+returns-then-is_err-clause-six_octets_a_frame g c = λ count. fresh_front g.S.Shelf.store c.args.self.now c.args.happenings.now c.requires HasSixOctetsAFrame frames_linear.frames count
+
+pub returns-then-is_err-clause-seven_octets_a_reject : goal.returns-then-is_err-clause-seven_octets_a_reject
+returns-then-is_err-clause-seven_octets_a_reject g c = λ count. fresh_front g.S.Shelf.store c.args.self.now c.args.happenings.now c.requires HasSevenOctetsAReject frames_linear.rejects count
+
+pub returns-then-is_err-clause-linear : goal.returns-then-is_err-clause-linear
+returns-then-is_err-clause-linear g c = λ count. fresh_front g.S.Shelf.store c.args.self.now c.args.happenings.now c.requires IsLinear frames_linear.linear count
+
+pub returns-then-is_err-clause-isolated : goal.returns-then-is_err-clause-isolated
+returns-then-is_err-clause-isolated g c = λ count. fresh_front g.S.Shelf.store c.args.self.now c.args.happenings.now c.requires IsIsolated lines_isolated count
+
+pub returns-clause-moments : goal.returns-clause-moments
+returns-clause-moments g c = run_is_moments
+
+pub returns-clause-refused : goal.returns-clause-refused
+returns-clause-refused g c = refused_by_the_table
+
+pub returns-clause-by_event : goal.returns-clause-by_event
+returns-clause-by_event g c = λ m. whole_list g.S.Shelf.store c.args.self.now c.args.happenings.now c.requires ArePriced frames_by_event.in_runs m
+
+pub returns-clause-without_effect : goal.returns-clause-without_effect
+returns-clause-without_effect g c = λ m. whole_list g.S.Shelf.store c.args.self.now c.args.happenings.now c.requires AreDropsWithoutEffect (λ m es s within. drops_change_nothing m es) m
+
+pub returns-clause-drops : goal.returns-clause-drops
+returns-clause-drops g c = λ m. whole_list g.S.Shelf.store c.args.self.now c.args.happenings.now c.requires AreDropsWithoutCost drops_cost_nothing m
+
+pub returns-clause-within_limit : goal.returns-clause-within_limit
+returns-clause-within_limit g c = λ m count. each_front g.S.Shelf.store c.args.self.now c.args.happenings.now c.requires IsWithinLimit stored_within_limit.always m count
+
+pub returns-clause-amortised : goal.returns-clause-amortised
+returns-clause-amortised g c = λ m count. each_front g.S.Shelf.store c.args.self.now c.args.happenings.now c.requires IsAmortised frames_amortised m count
+
+pub returns-clause-amortised_from_zero : goal.returns-clause-amortised_from_zero
+returns-clause-amortised_from_zero g c = λ count. fresh_front g.S.Shelf.store c.args.self.now c.args.happenings.now c.requires IsAmortisedFromZero frames_linear.amortised count
+
+pub returns-clause-six_octets_a_frame : goal.returns-clause-six_octets_a_frame
+returns-clause-six_octets_a_frame g c = λ count. fresh_front g.S.Shelf.store c.args.self.now c.args.happenings.now c.requires HasSixOctetsAFrame frames_linear.frames count
+
+pub returns-clause-seven_octets_a_reject : goal.returns-clause-seven_octets_a_reject
+returns-clause-seven_octets_a_reject g c = λ count. fresh_front g.S.Shelf.store c.args.self.now c.args.happenings.now c.requires HasSevenOctetsAReject frames_linear.rejects count
+
+pub returns-clause-linear : goal.returns-clause-linear
+returns-clause-linear g c = λ count. fresh_front g.S.Shelf.store c.args.self.now c.args.happenings.now c.requires IsLinear frames_linear.linear count
+
+pub returns-clause-isolated : goal.returns-clause-isolated
+returns-clause-isolated g c = λ count. fresh_front g.S.Shelf.store c.args.self.now c.args.happenings.now c.requires IsIsolated lines_isolated count
+
+pub returns-then-is_err-clause-numbered : goal.returns-then-is_err-clause-numbered
+returns-then-is_err-clause-numbered g c = λ m count. each_front g.S.Shelf.store c.args.self.now c.args.happenings.now c.requires IsNumbered deliveries_numbered.numbered m count
+
+pub returns-then-is_err-clause-textual : goal.returns-then-is_err-clause-textual
+returns-then-is_err-clause-textual g c = λ m count. each_front g.S.Shelf.store c.args.self.now c.args.happenings.now c.requires IsTextual text_goes_on m count
+
+pub returns-then-is_err-clause-never_full : goal.returns-then-is_err-clause-never_full
+returns-then-is_err-clause-never_full g c = λ count. fresh_front g.S.Shelf.store c.args.self.now c.args.happenings.now c.requires IsNeverFull pool_never_full count
+
+pub returns-then-is_err-clause-from_zero : goal.returns-then-is_err-clause-from_zero
+returns-then-is_err-clause-from_zero g c = λ count. fresh_front g.S.Shelf.store c.args.self.now c.args.happenings.now c.requires IsNumberedFromZero deliveries_numbered.from_zero count
+
+pub returns-clause-numbered : goal.returns-clause-numbered
+returns-clause-numbered g c = λ m count. each_front g.S.Shelf.store c.args.self.now c.args.happenings.now c.requires IsNumbered deliveries_numbered.numbered m count
+
+pub returns-clause-textual : goal.returns-clause-textual
+returns-clause-textual g c = λ m count. each_front g.S.Shelf.store c.args.self.now c.args.happenings.now c.requires IsTextual text_goes_on m count
+
+pub returns-clause-never_full : goal.returns-clause-never_full
+returns-clause-never_full g c = λ count. fresh_front g.S.Shelf.store c.args.self.now c.args.happenings.now c.requires IsNeverFull pool_never_full count
+
+pub returns-clause-from_zero : goal.returns-clause-from_zero
+returns-clause-from_zero g c = λ count. fresh_front g.S.Shelf.store c.args.self.now c.args.happenings.now c.requires IsNumberedFromZero deliveries_numbered.from_zero count
+
+pub returns-then-is_err-clause-answers : goal.returns-then-is_err-clause-answers
+returns-then-is_err-clause-answers g c = answers_say_it
+
+pub returns-clause-answers : goal.returns-clause-answers
+returns-clause-answers g c = answers_say_it

@@ -1,0 +1,26 @@
+//! What happenings at a card for frames are answered with.
+
+ghost use Rattle.std.specs.Prelude.{◌≡◌, ◌≤◌, length};
+
+use lapd_frame::Refusal;
+use lapd_line::{NextFrame, Report};
+
+/// The next frame, as it was taken.
+#[derive(Clone, Copy, PartialEq, Eq, Debug)]
+pub struct SentFrame<'a> {
+    /// The frame lies in front of these octets.
+    pub octets: &'a [u8],
+    /// How many of them it has, and what is to be done with timers of its link.
+    pub next: NextFrame,
+}
+
+/// The answer to a happening.
+#[derive(Clone, Copy, PartialEq, Eq, Debug)]
+pub enum FrameReply<'a> {
+    /// To a frame, to a fault, to an expiry, or to a request that was accepted.
+    Report(Report<'a>),
+    /// To a request that was refused. The card is as it was before.
+    Refused(Refusal),
+    /// To a call for the next frame; none where none waits.
+    Next(Option<SentFrame<'a>>),
+}

@@ -1,0 +1,21 @@
+//! What happens at a card for frames.
+
+use lapd_frame::Timer;
+use lapd_line::Request;
+use model_line::Fault;
+
+/// What happens at a card whose lines' frames a controller gives and takes whole, with the line that it happens at. Lines
+/// are counted from 0.
+#[derive(Clone, Copy, PartialEq, Eq, Debug)]
+pub enum Happening<'a> {
+    /// A frame came from the line: its octets from the address to the information, without its check.
+    Comes(usize, &'a [u8]),
+    /// The controller told a fault in place of a frame.
+    Failed(usize, Fault),
+    /// The line takes the next frame to send.
+    Goes(usize),
+    /// A timer of the line expired. One that does not run has no effect.
+    Expires(usize, Timer),
+    /// Layer 3 or management asks for something.
+    Asks(usize, Request<'a>),
+}

@@ -1,5 +1,5 @@
 -- As octets, each frame that begins is unit data where it was, and has the same head.
-use Rattle.std.proofs.Common.{◌≡◌, ℕ, ◌+◌, ◌*◌, ◌%◌, ◌<◌, ◌≤◌, ◌&&◌, ◌==◌, Bool, true, false, cond, List, [], ◌∷◌, ◌++◌, drop, take, length, map, Option, Some, None, option_map, inl, inr, refl, sym, ap, ◌∙◌, subst, arith, true≢false}
+use Rattle.std.proofs.Common.{◌≡◌, ℕ, ◌+◌, ◌*◌, ◌%◌, ◌<◌, ◌≤◌, ◌&&◌, ◌==◌, Bool, true, false, cond, List, [], ◌∷◌, ◌++◌, drop, take, map, Option, Some, None, option_map, inl, inr, refl, sym, ap, ◌∙◌, subst, arith, true≢false}
 use Rattle.std.specs.Prelude.{All, not, filter, option_to_list}
 use Rattle.std.specs.Option.{unwrap_or}
 use Rattle.std.proofs.lemmas.Grind.{flat_map-append}
@@ -26,7 +26,7 @@ use Rattle.model_line.specs.Pull.{Taken, unit_frame}
 use Rattle.model_line.specs.Request as asked
 use Rattle.model_line.specs.Request.{Request}
 use Rattle.model_line.specs.Sound.{IsInRange, IsSound}
-use Rattle.laws_line.specs.Pulls.{IsOfLink, IsOwed, IsIdle, contents_of}
+use Rattle.laws_line.specs.Pulls.{IsOwed, IsIdle, contents_of}
 use Rattle.laws_line.proofs.Serving.{served}
 use Rattle.model_card.specs.Pulled.{frame_taken}
 use Rattle.laws_trace.specs.FramesGoOut.{as_octets}
@@ -80,7 +80,7 @@ few-cr : (command : Bool) → cr_bit Network command ≤ 1
 few-cr true = omega arith
 few-cr false = omega arith
 
-head : (a : Address) (c : Control) → a.sapi < 64 → a.tei < 128 → AreOctets (head_of Network a c)
+pub head : (a : Address) (c : Control) → a.sapi < 64 → a.tei < 128 → AreOctets (head_of Network a c)
 head a c sapi tei =
     All-append (λ octet. octet < 256) ((4 * a.sapi + 2 * cr_bit Network a.command) ∷ (2 * a.tei + 1) ∷ []) (row c).field
     (both (4 * a.sapi + 2 * cr_bit Network a.command) (2 * a.tei + 1) (omega (arith, sapi, few-cr a.command)) (omega (arith, tei))) (field c)
@@ -105,7 +105,7 @@ no-unit a c info frame sapi tei other spelled =
       head = λ is. absurd (true≢false (sym is ∙ none));
     }
 
-few-sapi : (service : Service) → sapi_of service < 64
+pub few-sapi : (service : Service) → sapi_of service < 64
 few-sapi Call = omega arith
 few-sapi Packet = omega arith
 

@@ -10,6 +10,9 @@ pub mod Octets
 pub mod AsOctets
 pub mod Fitting
 pub mod FramesGoOut
+pub mod Spelled
+pub mod SmallMessages
+pub mod OctetsBegin
 pub mod Flags
 pub mod Heads
 pub mod AllFramesGoOut

@@ -3,6 +3,7 @@ pub mod Trace
 pub mod Units
 pub mod UnitsGoOut
 pub mod FramesGoOut
+pub mod FramesAreRead
 pub mod UnitsAreHeard
 pub mod LinksTakeTurns
 pub mod TurnsMeanwhile

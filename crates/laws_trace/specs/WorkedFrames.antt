@@ -1,10 +1,19 @@
--- Worked values: what a receiver hears in the octets that a line puts, and octets that break the law.
-use Rattle.std.specs.Prelude.{◌≡◌, ℕ, List, [], ◌∷◌, map, refl}
+-- Worked values: what a receiver hears in the octets that a line puts, and octets and frames that break the laws.
+use Rattle.std.specs.Prelude.{◌≡◌, ℕ, ◌<◌, List, [], ◌∷◌, map, All, true, false, refl}
+use Rattle.std.proofs.Common.{arith, lit<}
+use Rattle.std.proofs.lemmas.List.Elements.{All-head, All-tail}
 use Rattle.lapd_bits.specs.Bits.{low_bits}
 use Rattle.lapd_bits.specs.Stream as stream
+use Rattle.lapd_bits.specs.StuffingLaws.{AreOctets}
+use Rattle.lapd_frame.specs.declared.addresses.Side.TheVariants.{Network}
+use Rattle.lapd_frame.specs.declared.controls.Control.{Control}
+use Rattle.lapd_frame.specs.declared.controls.Control.TheVariants as control
+use Rattle.lapd_frame.specs.declared.controls.Control.TheVariants.{Ui}
+use Rattle.lapd_frame.specs.Grammar.{Parts, spelling}
 use Rattle.model_line.specs.Machine as lines
 use Rattle.model_card.specs.Run.{moments}
 use Rattle.laws_card.specs.Worked.{usual, on_0}
+use Rattle.laws_trace.specs.FramesAreRead.{IsNetworks}
 use Rattle.laws_trace.specs.FramesGoOut.{GoOut}
 use Rattle.laws_trace.specs.Trace.{trace_of, frames_begun, octets_put}
 use Rattle.laws_trace.specs.UnitsAreHeard.{frames_heard}
@@ -39,3 +48,33 @@ is_not_out out = cc out.heard
 is_not_all : map stream.frame (spelled 1 ∷ []) ≡ stream.heard_in 260 (0x7E ∷ 0x02 ∷ 0xFF ∷ []) → ⊥
 unfolding low_bits
 is_not_all all = cc all
+
+-- Each of the two is one of the grammar, and of octets.
+unit_parts : ℕ → Parts
+unit_parts n = record { address = record { sapi = 0; command = true; tei = 127 }; control = Ui false; info = n ∷ [] }
+
+is_networks : (n : ℕ) → IsNetworks (spelled n)
+unfolding unit_parts
+is_networks n = (unit_parts n, record { is_frame = record { sapi = lit< tt; tei = lit< tt; kind = refl; size = refl }; octets_are = refl })
+
+-- Where two octets begin as a frame, or a number that is no octet, the laws are broken.
+no_frame : IsNetworks (0x02 ∷ 0xFF ∷ []) → ⊥
+no_frame (f, h) = none f.control h.octets_are
+  where
+    none : (k : Control) → (0x02 ∷ 0xFF ∷ []) ≡ spelling Network (record { address = f.address; control = k; info = f.info }) → ⊥
+    none (control.Information ns nr p) e = cc e
+    none (control.ReceiveReady nr pf) e = cc e
+    none (control.ReceiveNotReady nr pf) e = cc e
+    none (control.Reject nr pf) e = cc e
+    none (control.Sabme p) e = cc e
+    none (control.Disc p) e = cc e
+    none (control.Ui p) e = cc e
+    none (control.Ua f) e = cc e
+    none (control.Dm f) e = cc e
+    none (control.Frmr f) e = cc e
+    none (control.Xid pf) e = cc e
+
+no_octet : All AreOctets (spelled 300 ∷ []) → ⊥
+no_octet h = let behind = All-head AreOctets (spelled 300) [] h in
+    let last : 300 < 256 = All-head (λ octet. octet < 256) 300 [] (All-tail (λ octet. octet < 256) 0x03 (300 ∷ []) (All-tail (λ octet. octet < 256) 0xFF (0x03 ∷ 300 ∷ []) (All-tail (λ octet. octet < 256) 0x02 (0xFF ∷ 0x03 ∷ 300 ∷ []) behind))) in
+    omega (arith, last)

@@ -2,6 +2,7 @@
 
 ghost use Rattle.laws_trace.specs.Trace.{Always};
 ghost use Rattle.laws_trace.specs.AnswersAreAsked.{AnswersAreAsked};
+ghost use Rattle.laws_trace.specs.FramesAreRead.{FramesAreRead, FramesAreOctets, FramesGoOutAsTheyAre};
 ghost use Rattle.laws_trace.specs.FramesGoOut.{FramesGoOut, AllFramesGoOut, AllThatWaitedBegins};
 ghost use Rattle.laws_trace.specs.LinksTakeTurns.{LinksTakeTurns};
 ghost use Rattle.laws_trace.specs.MessagesComeFirst.{MessagesComeFirst};
@@ -24,6 +25,15 @@ pub fn units_go_out()
 /// 2.9).
 pub fn frames_go_out()
     ensures { Always FramesGoOut }
+{}
+
+/// What begins on a line are frames. Each is one that the grammar has, as the network's (`grammar`), and, where the contents
+/// that were granted are octets, each 0 to 255, it consists of octets (`octets`), and a receiver hears it as it is (`heard`;
+/// Q.921 clauses 2 and 3).
+pub fn frames_are_read()
+    ensures grammar { Always FramesAreRead }
+    ensures octets { Always FramesAreOctets }
+    ensures heard { Always FramesGoOutAsTheyAre }
 {}
 
 /// In the end all frames go out. Once a line was only pulled, as often as the configuration says, a receiver has heard each

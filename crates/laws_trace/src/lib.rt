@@ -8,9 +8,7 @@
 //!
 //! # Open
 //!
-//! That the octets of the frames that begin are 0 to 255 where those of contents are (`frames_go_out` and
-//! `all_frames_go_out` say what is heard without it), and that each of these frames is one of the grammar; that what is
-//! heard is what came (`received` of `Promises` says so); that messages of TEI management and I-frames begin, and of two
+//! That what is heard is what came (`received` of `Promises` says so); that messages of TEI management and I-frames begin, and of two
 //! control frames alike both; when unit data goes, where other events of the line come between its pulls; that each frame
 //! that asks for an answer is answered, or its answer told as lost (`answers_are_asked` says that none is given unasked);
 //! why a command begins; turns, where the place of the first link changes. No law here speaks of what is noted or lost in a
@@ -20,6 +18,6 @@
 mod laws;
 
 pub use laws::{
-    all_frames_go_out, answers_are_asked, frames_go_out, links_take_turns,
+    all_frames_go_out, answers_are_asked, frames_are_read, frames_go_out, links_take_turns,
     links_take_turns_meanwhile, messages_come_first, units_are_heard, units_go_out,
 };

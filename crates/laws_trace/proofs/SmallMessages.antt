@@ -1,0 +1,162 @@
+-- The Ri of each message of TEI management that waits on a line has two octets.
+use Rattle.std.proofs.Common.{ℕ, ◌+◌, ◌*◌, ◌/◌, ◌%◌, ◌<◌, ◌≤◌, ◌==◌, ◌&&◌, Bool, true, false, cond, List, [], ◌∷◌, ◌++◌, nat_le, Option, Some, None, arith}
+use Rattle.std.specs.Prelude.{All}
+use Rattle.std.proofs.lemmas.List.Elements.{All-nil, All-cons, All-head, All-tail, All-append}
+use Rattle.lapd_bits.specs.StuffingLaws.{AreOctets}
+use Rattle.lapd_frame.specs.declared.refusals.Refusal.{Refusal}
+use Rattle.lapd_tei.specs.Events as teis
+use Rattle.lapd_tei.specs.Machine.{Management}
+use Rattle.lapd_tei.specs.declared.check.Check.{Check}
+use Rattle.lapd_tei.specs.declared.messages.Message.{Message}
+use Rattle.lapd_tei.specs.declared.messages.Message.TheVariants.{IdentityAssigned, IdentityDenied, IdentityCheckRequest, IdentityRemove}
+use Rattle.lapd_tei.specs.declared.check.Period.{Period}
+use Rattle.lapd_tei.specs.declared.check.Period.TheVariants.{First, Second}
+use Rattle.lapd_tei.specs.Messages.{heard_of_type, heard_in, action_of, information_of}
+use Rattle.lapd_tei.specs.Rows as rows
+use Rattle.lapd_tei.specs.Table.{free_place, free_tei}
+use Rattle.lapd_tei.specs.Words as words
+use Rattle.lapd_tei.specs.Words.{Course, begun, no_room, with_message}
+
+abbrev pub ri_of : Message → ℕ
+ri_of (IdentityAssigned ri tei) = ri
+ri_of (IdentityDenied ri) = ri
+ri_of (IdentityCheckRequest tei) = 0
+ri_of (IdentityRemove tei) = 0
+
+abbrev pub IsSmall : Message → Type 0
+IsSmall m = ri_of m < 65536
+
+abbrev AreSmall : Course → Type 0
+AreSmall c = All IsSmall c.now.waiting
+
+sent : (m : Message) (waiting : List Message) → IsSmall m → All IsSmall waiting → All IsSmall (with_message m waiting)
+sent m waiting small h = go (no_room waiting)
+  where
+    go : (b : Bool) → All IsSmall (cond b waiting (waiting ++ m ∷ []))
+    go true = h
+    go false = All-append IsSmall waiting (m ∷ []) h (All-cons IsSmall m [] small (All-nil IsSmall))
+
+either : (b : Bool) (u v : Course) → AreSmall u → AreSmall v → AreSmall (cond b u v)
+either true u v h k = h
+either false u v h k = k
+
+-- The rows.
+request-small : (ri : ℕ) (c : Course) → ri < 65536 → AreSmall c → AreSmall (rows.request ri c)
+request-small ri c small h = go (no_room c.now.waiting)
+  where
+    new : (place tei : Option ℕ) → AreSmall (rows.assign_new ri place tei c)
+    new (Some place) (Some tei) = sent (IdentityAssigned ri tei) c.now.waiting small h
+    new (Some place) None = sent (IdentityDenied ri) c.now.waiting small h
+    new None (Some tei) = sent (IdentityDenied ri) c.now.waiting small h
+    new None None = sent (IdentityDenied ri) c.now.waiting small h
+
+    known : (o : Option ℕ) → AreSmall (rows.assign ri o c)
+    known (Some tei) = sent (IdentityAssigned ri tei) c.now.waiting small h
+    known None = new (free_place c.now.places) (free_tei c.now.places)
+
+    go : (b : Bool) → AreSmall ((cond b words.lose_one (rows.assign ri (rows.remembered_in ri c.now.remembered))) c)
+    go true = h
+    go false = known (rows.remembered_in ri c.now.remembered)
+
+none : 0 < 65536
+none = omega arith
+
+verify-small : (tei : ℕ) (c : Course) → AreSmall c → AreSmall (rows.verify tei c)
+verify-small tei c h = go (rows.may_be_checked tei c.now)
+  where
+    go : (b : Bool) → AreSmall ((cond b (words.begin_check tei) words.unserved) c)
+    go true = sent (IdentityCheckRequest tei) c.now.waiting none h
+    go false = h
+
+respond-small : (tei : ℕ) (o : Option Check) (c : Course) → AreSmall c → AreSmall (rows.respond tei o c)
+respond-small tei None c h = h
+respond-small tei (Some check) c h = go (check.tei == tei) (nat_le 2 (rows.responses (rows.counted check)))
+  where
+    go : (own second : Bool) → AreSmall ((cond own (cond second (rows.doubled tei) (words.check_is (Some (rows.counted check)))) words.unserved) c)
+    go true true = sent (IdentityRemove tei) c.now.waiting none h
+    go true false = h
+    go false second = h
+
+-- A message that is served, and what octets say.
+either-served : {X : Type 0} (f : X → Course) (b : Bool) (u v : X) → AreSmall (f u) → AreSmall (f v) → AreSmall (f (cond b u v))
+either-served f true u v h k = h
+either-served f false u v h k = k
+
+of-type : (type ri action : ℕ) (c : Course) → ri < 65536 → AreSmall c → AreSmall (rows.serve (heard_of_type type ri action) c)
+of-type type ri action c small h =
+    either-served (λ o. rows.serve o c) (type == 1 && action == 127) _ _ (request-small ri c small h)
+    (either-served (λ o. rows.serve o c) (type == 5) _ _ (respond-small action c.now.check c h)
+    (either-served (λ o. rows.serve o c) (type == 7) _ _ (verify-small action c h) h))
+
+served : (info : List ℕ) (c : Course) → AreOctets info → AreSmall c → AreSmall (rows.serve (heard_in info) c)
+served [] c octets h = h
+served (a ∷ []) c octets h = h
+served (a ∷ high ∷ []) c octets h = h
+served (a ∷ high ∷ low ∷ []) c octets h = h
+served (a ∷ high ∷ low ∷ type ∷ []) c octets h = h
+served (a ∷ high ∷ low ∷ type ∷ last ∷ []) c octets h =
+    let behind = All-tail (λ octet. octet < 256) a (high ∷ low ∷ type ∷ last ∷ []) octets in
+    let first : high < 256 = All-head (λ octet. octet < 256) high (low ∷ type ∷ last ∷ []) behind in
+    let second : low < 256 = All-head (λ octet. octet < 256) low (type ∷ last ∷ []) (All-tail (λ octet. octet < 256) high (low ∷ type ∷ last ∷ []) behind) in
+    either-served (λ o. rows.serve o c) (a == 0x0F && last % 2 == 1) _ _ (of-type type (256 * high + low) (last / 2) c (omega (arith, first, second)) h) h
+served (a ∷ high ∷ low ∷ type ∷ last ∷ sixth ∷ more) c octets h = h
+
+expire-small : (o : Option Check) (c : Course) → AreSmall c → AreSmall (rows.expire_check o c)
+expire-small None c h = h
+expire-small (Some check) c h = by-period check.period
+  where
+    over : (b : Bool) → AreSmall ((cond b (rows.removed check.tei) words.end_check) c)
+    over true = h
+    over false = h
+
+    by-period : (p : Period) → AreSmall (rows.expire_period check p c)
+    by-period First = sent (IdentityCheckRequest check.tei) c.now.waiting none h
+    by-period Second = over (rows.is_unanswered check)
+
+put-small : (tei : ℕ) (o : Option ℕ) (c : Course) → AreSmall c → AreSmall (rows.join_at tei o c)
+put-small tei None c h = h
+put-small tei (Some place) c h = h
+
+take-small : (tei : ℕ) (c : Course) → AreSmall c → AreSmall (rows.take_off tei c)
+take-small tei c h = go (rows.is_checked tei c.now.check)
+  where
+    w : All IsSmall (with_message (IdentityRemove tei) c.now.waiting)
+    w = sent (IdentityRemove tei) c.now.waiting none h
+
+    go : (b : Bool) → All IsSmall ((cond b words.end_check rows.nothing_happens) (words.send (IdentityRemove tei) c)).now.waiting
+    go true = w
+    go false = w
+
+-- An event of TEI management: a message is of octets.
+abbrev pub IsOfOctets : teis.Event → Type 0
+IsOfOctets (teis.message octets) = AreOctets octets
+IsOfOctets other = Unit {0}
+
+step-small : (e : teis.Event) (c : Course) → IsOfOctets e → AreSmall c → AreSmall (teis.step e c)
+step-small (teis.message octets) c fits h = served octets c fits h
+step-small teis.expiry c fits h = expire-small c.now.check c h
+step-small (teis.assign tei) c fits h = put-small tei (free_place c.now.places) c h
+step-small (teis.remove tei) c fits h = take-small tei c h
+step-small (teis.check tei) c fits h = sent (IdentityCheckRequest tei) c.now.waiting none h
+
+pub after-small : (e : teis.Event) (m : Management) → IsOfOctets e → All IsSmall m.waiting → All IsSmall (teis.after e m).waiting
+unfolding teis.course
+after-small e m fits h = go (teis.refusal e m)
+  where
+    go : (o : Option Refusal) → All IsSmall (teis.unless_refused o (teis.step e) m).now.waiting
+    go None = step-small e (begun m) fits h
+    go (Some why) = h
+
+-- So a message is of octets.
+five : (ri type action : ℕ) → ri < 65536 → type < 256 → action ≤ 127 → AreOctets (0x0F ∷ (ri / 256) ∷ (ri % 256) ∷ type ∷ (2 * action + 1) ∷ [])
+five ri type action small few low =
+    let last = All-cons (λ octet. octet < 256) (2 * action + 1) [] (omega (arith, low)) (All-nil (λ octet. octet < 256)) in
+    let three = All-cons (λ octet. octet < 256) (ri % 256) (type ∷ (2 * action + 1) ∷ []) (omega arith) (All-cons (λ octet. octet < 256) type ((2 * action + 1) ∷ []) few last) in
+    All-cons (λ octet. octet < 256) 0x0F ((ri / 256) ∷ (ri % 256) ∷ type ∷ (2 * action + 1) ∷ []) (omega arith)
+    (All-cons (λ octet. octet < 256) (ri / 256) ((ri % 256) ∷ type ∷ (2 * action + 1) ∷ []) (omega (arith, small)) three)
+
+pub message-octets : (m : Message) → IsSmall m → action_of m ≤ 127 → AreOctets (information_of m)
+message-octets (IdentityAssigned ri tei) small low = five ri 2 tei small (omega arith) low
+message-octets (IdentityDenied ri) small low = five ri 3 127 small (omega arith) (omega arith)
+message-octets (IdentityCheckRequest tei) small low = five 0 4 tei none (omega arith) low
+message-octets (IdentityRemove tei) small low = five 0 6 tei none (omega arith) low

@@ -1,0 +1,126 @@
+-- Each frame that begins on a line is one that the grammar has, as the network's: the law.
+use Rattle.std.proofs.Common.{◌≡◌, ◌<◌, ◌≤◌, Bool, true, false, cond, List, [], ◌∷◌, ◌++◌, slice_get, Option, Some, None, IfSome, option_map, refl, sym, subst, arith}
+use Rattle.std.specs.Prelude.{All, option_to_list}
+use Rattle.std.specs.Option.{option_or, unwrap_or}
+use Rattle.std.proofs.lemmas.Grind.{flat_map-append}
+use Rattle.std.proofs.lemmas.List.Elements.{All-nil, All-cons, All-head, All-append}
+use Rattle.lapd_frame.specs.declared.services.Service.{Service}
+use Rattle.lapd_frame.specs.declared.services.Service.TheVariants.{Call, Packet}
+use Rattle.lapd_frame.specs.Grammar.{Parts}
+use Rattle.lapd_frame.specs.declared.controls.Control.TheVariants.{Ui}
+use Rattle.lapd_frame.specs.Services.{sapi_of}
+use Rattle.lapd_tei.specs.Messages.{information_of, frame_of as message_frame}
+use Rattle.lapd_tei.specs.declared.messages.Message.{Message}
+use Rattle.model_link.specs.Link.{address_at}
+use Rattle.model_link.specs.Machine as links
+use Rattle.model_link.specs.Sound as link_sound
+use Rattle.model_link.specs.Sound.{IsGiven}
+use Rattle.model_link.specs.Told.{Given}
+use Rattle.model_link.specs.declared.terms.Terms.{Terms}
+use Rattle.model_link.proofs.Giving.{given_is_frame}
+use Rattle.model_line.specs.declared.config.Config.{Config}
+use Rattle.model_line.specs.Event.{Event, octet, expiry, request, pull}
+use Rattle.model_line.specs.Line.{Line, UnitData, service_at, place_at, terms, link_at}
+use Rattle.model_line.specs.Machine.{after, answer}
+use Rattle.model_line.specs.Octet.{gained}
+use Rattle.model_line.specs.Pull as pulls
+use Rattle.model_line.specs.Pull.{Taken, with_message, with_unit, with_given_frame, unit_frame, frame_of, first_taken, round, taken, is_due}
+use Rattle.model_line.specs.Sound.{IsInRange, IsSoundAt, IsSound, IsUnitData}
+use Rattle.model_line.proofs.PullSound.{round_below}
+use Rattle.model_line.proofs.Ranges.{terms_in_range}
+use Rattle.laws_line.proofs.LinkMoves.{OfLink, of-links}
+use Rattle.model_card.specs.Card.{fresh}
+use Rattle.model_card.specs.Pulled.{frame_taken}
+use Rattle.model_card.proofs.CardSound.{fresh_is_sound}
+use Rattle.laws_trace.specs.FramesAreRead.{IsNetworks, FramesAreRead}
+use Rattle.laws_trace.specs.Trace as traces
+use Rattle.laws_trace.specs.Trace.{Seen, seen, frames_begun, Always}
+use Rattle.laws_trace.proofs.Fitting.{Anything}
+use Rattle.laws_trace.proofs.Octets.{no-frame, no-frame-asked}
+use Rattle.laws_trace.proofs.Runs.{run-shows}
+use Rattle.laws_trace.proofs.Units.{pulled-frames}
+
+small-sapi : (service : Service) → sapi_of service < 64
+small-sapi Call = omega arith
+small-sapi Packet = omega arith
+
+-- messages of TEI management, and unit data
+message-spelled : (m : Message) → IsNetworks (message_frame m)
+message-spelled m =
+    let parts : Parts = record { address = record { sapi = 63; command = true; tei = 127 }; control = Ui false; info = information_of m } in
+    (parts, record { is_frame = record { sapi = omega arith; tei = omega arith; kind = refl; size = refl }; octets_are = refl })
+
+unit-spelled : (u : UnitData) → u.tei ≤ 127 → IsNetworks (unit_frame u)
+unit-spelled u small =
+    let parts : Parts = record { address = record { sapi = sapi_of u.service; command = true; tei = u.tei }; control = Ui false; info = u.contents } in
+    (parts, record { is_frame = record { sapi = small-sapi u.service; tei = omega (arith, small); kind = refl; size = refl }; octets_are = refl })
+
+-- what a link gives
+pub whole-parts : Terms → Given → Parts
+whole-parts t g = record { address = address_at t g.frame.command; control = g.frame.control; info = unwrap_or g.contents [] }
+
+given-spelled : (t : Terms) (g : Given) → IsGiven t g.frame g.contents → IsNetworks (frame_of t g)
+unfolding whole-parts
+given-spelled t g h = (whole-parts t g, record { is_frame = h.whole; octets_are = refl })
+
+module _ (c : Config) (ranged : IsInRange c) (l : Line) (s : IsSound c l) where
+  abbrev Spelled : Taken → Type 0
+  Spelled t = IsNetworks t.frame
+
+  known : (o : Option Given) (g : Given) (t : Terms) → o ≡ Some g → IfSome o (λ g. IsGiven t g.frame g.contents) → IsGiven t g.frame g.contents
+  known o g t is h = subst (λ o. IfSome o (λ g. IsGiven t g.frame g.contents)) is h
+
+  pub link-given : (t : Taken) → (x : OfLink c l t) → IsGiven (terms c (service_at x.number) x.tei) x.what.frame x.what.contents
+  link-given t x =
+      let own = terms c (service_at x.number) x.tei in
+      let range = terms_in_range c ranged (service_at x.number) x.tei (s.management.table.range (place_at x.number) x.tei x.on_line) in
+      let sound : link_sound.IsSound own (link_at x.number l) = subst (IsSoundAt c x.number (link_at x.number l)) x.on_line (s.links x.number x.few) in
+      known (links.given own (link_at x.number l)) x.what own x.given (given_is_frame own range (link_at x.number l) sound)
+
+  link-spelled : (t : Taken) → OfLink c l t → Spelled t
+  link-spelled t x =
+      let own = terms c (service_at x.number) x.tei in
+      subst Spelled (sym x.is) (given-spelled own x.what (link-given t x))
+
+  first-spelled : (o : Option Taken) → IfSome o (OfLink c l) → IfSome o Spelled
+  first-spelled None x = tt
+  first-spelled (Some t) x = link-spelled t x
+
+  any-spelled : (m : Option Message) (us : List UnitData) → All (IsUnitData c) us
+      → IfSome (option_or (option_map (with_message l) (option_map message_frame m)) (option_or (option_map (with_unit l) (slice_get us 0)) (first_taken c l (round c l)))) Spelled
+  any-spelled (Some m) us h = message-spelled m
+  any-spelled None (u ∷ us) h = unit-spelled u (All-head (IsUnitData c) u us h).tei
+  any-spelled None [] h = first-spelled (first_taken c l (round c l)) (of-links c l s (round c l) (round_below c l))
+
+  taken-spelled : IfSome (taken c l) Spelled
+  taken-spelled = any-spelled (slice_get l.management.waiting 0) l.units s.units
+
+-- Of what begins in a trace.
+abbrev AreSpelled : Config → Line → List Seen → Line → Type 0
+AreSpelled c before t after = All IsNetworks (frames_begun t)
+
+rests : (c : Config) (l : Line) → AreSpelled c l [] l
+rests c l = All-nil IsNetworks
+
+joins : (c : Config) (k l m : Line) (t u : List Seen) → AreSpelled c k t l → AreSpelled c l u m → AreSpelled c k (t ++ u) m
+joins c k l m t u h i = subst (All IsNetworks) (sym (flat_map-append traces.frame_begun t u)) (All-append IsNetworks (frames_begun t) (frames_begun u) h i)
+
+by-pull : (due : Bool) (o : Option Taken) → IfSome o (λ t. IsNetworks t.frame) → All IsNetworks (option_to_list (option_map frame_taken (cond due o None)))
+by-pull true None h = All-nil IsNetworks
+by-pull true (Some t) h = All-cons IsNetworks t.frame [] h (All-nil IsNetworks)
+by-pull false o h = All-nil IsNetworks
+
+event-spelled : (c : Config) → IsInRange c → (e : Event) (l : Line) → IsSound c l → AreSpelled c l (seen c e l (answer c e l)) (after c e l)
+event-spelled c ranged (octet value) l s = subst (All IsNetworks) (sym (no-frame (gained c.n201 l.received value) (answer c (octet value) l))) (All-nil IsNetworks)
+event-spelled c ranged (expiry timer) l s = subst (All IsNetworks) (sym (no-frame None (answer c (expiry timer) l))) (All-nil IsNetworks)
+event-spelled c ranged (request r) l s = subst (All IsNetworks) (sym (no-frame-asked r (answer c (request r) l))) (All-nil IsNetworks)
+event-spelled c ranged pull l s =
+    subst (All IsNetworks) (sym (pulled-frames (pulls.begun c l) (answer c pull l))) (by-pull (is_due l) (taken c l) (taken-spelled c ranged l s))
+
+steps : (c : Config) → IsInRange c → (e : Event) (l : Line) → IsSound c l → Anything c l
+    → AreSpelled c l (seen c e l (answer c e l)) (after c e l) × Anything c (after c e l)
+steps c ranged e l s h = (event-spelled c ranged e l s, tt)
+
+pub frames-are-read : Always FramesAreRead
+frames-are-read c events number ranged all within =
+    (run-shows Anything AreSpelled rests joins steps (fresh c) events number (fresh_is_sound c ranged) all tt).0

@@ -1,0 +1,39 @@
+-- What begins on a line are frames.
+use Rattle.std.specs.Prelude.{ℕ, List, [], All}
+use Rattle.lapd_bits.specs.StuffingLaws.{AreOctets}
+use Rattle.lapd_frame.specs.declared.addresses.Side.TheVariants.{Network}
+use Rattle.lapd_frame.specs.Grammar.{Parts, Spells}
+use Rattle.model_line.specs.declared.config.Config.{Config}
+use Rattle.model_line.specs.Request as asked
+use Rattle.model_line.specs.Request.{Request}
+use Rattle.model_card.specs.Event.{Event}
+use Rattle.laws_trace.specs.Trace.{Seen, granted, trace_of, frames_begun, octets_put}
+use Rattle.laws_trace.specs.FramesGoOut.{GoOut}
+
+-- Each is one that the grammar has, as the network's (Q.921 clauses 2 and 3).
+abbrev pub IsNetworks : List ℕ → Type 0
+IsNetworks octets = (parts : Parts) × Spells Network parts octets
+
+abbrev pub FramesAreRead : Config → List Event → ℕ → Type 0
+FramesAreRead c events number = All IsNetworks (frames_begun (trace_of c events number))
+
+-- The contents that are granted are octets, each 0 to 255.
+abbrev pub contents_given : Request → List ℕ
+contents_given (asked.Data service tei contents) = contents
+contents_given (asked.Unit service tei contents) = contents
+contents_given other = []
+
+abbrev pub GivesOctets : Seen → Type 0
+GivesOctets (granted r) = AreOctets (contents_given r)
+GivesOctets other = Unit {0}
+
+-- Then so are those of the frames that begin, whoever sent what they answer; and a receiver hears them as they are.
+abbrev pub FramesAreOctets : Config → List Event → ℕ → Type 0
+FramesAreOctets c events number =
+    let t = trace_of c events number in
+    All GivesOctets t → All AreOctets (frames_begun t)
+
+abbrev pub FramesGoOutAsTheyAre : Config → List Event → ℕ → Type 0
+FramesGoOutAsTheyAre c events number =
+    let t = trace_of c events number in
+    All GivesOctets t → GoOut c.n201 (octets_put t) (frames_begun t)

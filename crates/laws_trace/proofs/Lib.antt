@@ -1,6 +1,7 @@
 -- Lemmas.
 pub mod Runs
 pub mod OneLink
+pub mod Begins
 pub mod Reading
 pub mod NoUi
 pub mod Units
@@ -27,3 +28,6 @@ pub mod Parts
 pub mod ReadAgain
 pub mod AskedOfLink
 pub mod AnswersAreAsked
+pub mod Deliveries
+pub mod DeliveriesRun
+pub mod AllAreTold

@@ -13,3 +13,5 @@ pub mod WorkedUnits
 pub mod WorkedFrames
 pub mod WorkedTurns
 pub mod WorkedAnswers
+pub mod Deliveries
+pub mod WorkedDeliveries

@@ -4,6 +4,7 @@ ghost use Rattle.laws_trace.specs.Trace.{Always};
 ghost use Rattle.laws_trace.specs.AnswersAreAsked.{AnswersAreAsked};
 ghost use Rattle.laws_trace.specs.FramesAreRead.{FramesAreRead, FramesAreOctets, FramesGoOutAsTheyAre};
 ghost use Rattle.laws_trace.specs.FramesGoOut.{FramesGoOut, AllFramesGoOut, AllThatWaitedBegins};
+ghost use Rattle.laws_trace.specs.Deliveries.{Deliveries, AllAreTold};
 ghost use Rattle.laws_trace.specs.LinksTakeTurns.{LinksTakeTurns};
 ghost use Rattle.laws_trace.specs.MessagesComeFirst.{MessagesComeFirst};
 ghost use Rattle.laws_trace.specs.TurnsMeanwhile.{LinksTakeTurnsMeanwhile};
@@ -77,4 +78,15 @@ pub fn messages_come_first()
 /// clauses 3.5.1, 5.5 and 5.6).
 pub fn answers_are_asked()
     ensures { Always AnswersAreAsked }
+{}
+
+/// What layer 3 is told was heard. Data of a link is the information of an I-frame for it that was heard right before, and the
+/// N(S) of these count them, modulo 128, from the establishment of the link on, without gap; unit data is that of a UI; and
+/// contents that are told are noted as one or the other, once (`heard`). The numbers of a link begin with SABME that is told,
+/// and with UA with F=1 unless it is told as error C, or as the end of the link. And the information of each I-frame that a
+/// link in state 7 or 8 may take is told, in the moment of the frame: with own busy off, of at most N201 octets, and with the
+/// N(S) that is the next (`told`; Q.921 clauses 3.5.2.4 to 3.5.2.6, 5.2.3, 5.5.1.2, 5.6.2, 5.6.6 and 5.7).
+pub fn what_is_told_was_heard()
+    ensures heard { Always Deliveries }
+    ensures told { Always AllAreTold }
 {}

@@ -11,8 +11,8 @@
 //! That what is heard is what came (`received` of `Promises` says so); that messages of TEI management and I-frames begin, and of two
 //! control frames alike both; when unit data goes, where other events of the line come between its pulls; that each frame
 //! that asks for an answer is answered, or its answer told as lost (`answers_are_asked` says that none is given unasked);
-//! why a command begins; turns, where the place of the first link changes. No law here speaks of what is noted or lost in a
-//! trace.
+//! why a command begins; turns, where the place of the first link changes. Of what is noted only contents are spoken of
+//! here (`what_is_told_was_heard`), and of what is lost nothing.
 #![tactic(auto)]
 
 mod laws;
@@ -20,4 +20,5 @@ mod laws;
 pub use laws::{
     all_frames_go_out, answers_are_asked, frames_are_read, frames_go_out, links_take_turns,
     links_take_turns_meanwhile, messages_come_first, units_are_heard, units_go_out,
+    what_is_told_was_heard,
 };

@@ -1,0 +1,268 @@
+-- Contents that may be told are told.
+use Rattle.std.proofs.Common.{◌≡◌, ℕ, ◌+◌, ◌%◌, ◌≤◌, ◌<◌, ◌==◌, ◌&&◌, Bool, true, false, cond, List, [], ◌∷◌, ◌++◌, length, map, Option, Some, None, refl, sym, ap, ◌∙◌, subst, arith, eqb-true, eq-eqb, true≢false, ◌⊎◌, inl, inr, append-nil}
+use Rattle.std.specs.Prelude.{fold, Ok, option_map, flat_map, not, nat_le, option_to_list, is_some}
+use Rattle.std.specs.List.{list_any}
+use Rattle.std.specs.Option.{option_or, option_map_or}
+use Rattle.std.proofs.lemmas.Bool.{and_parts, le-leb}
+use Rattle.std.proofs.lemmas.Grind.{flat_map-append}
+use Rattle.std.proofs.lemmas.List.Elements.{All-head}
+use Rattle.std.proofs.lemmas.Option.{none-some}
+use Rattle.lapd_bits.specs.Stream as stream
+use Rattle.lapd_seq.specs.declared.numbers.Seq.{Seq}
+use Rattle.lapd_frame.specs.declared.addresses.Side.TheVariants.{User}
+use Rattle.lapd_frame.specs.declared.controls.Control.{Control}
+use Rattle.lapd_frame.specs.declared.controls.Control.TheVariants.{Information, ReceiveReady, ReceiveNotReady, Reject, Sabme, Disc, Ui, Ua, Dm, Frmr, Xid}
+use Rattle.lapd_frame.specs.declared.notes.Note.{Note}
+use Rattle.lapd_frame.specs.declared.refusals.Refusal.TheVariants.{PoolFull}
+use Rattle.lapd_frame.specs.declared.services.Service.{Service}
+use Rattle.lapd_frame.specs.Grammar.{Parts}
+use Rattle.lapd_frame.specs.Reading.{reading}
+use Rattle.model_link.specs.declared.terms.Terms.{Terms}
+use Rattle.model_link.specs.Deliveries.{is_eligible, eligible_of, information_of}
+use Rattle.model_link.specs.Events as link
+use Rattle.model_link.specs.Link.{Link, fresh, is_multiple_frame}
+use Rattle.model_link.specs.Machine as links
+use Rattle.laws_link.specs.Heard.{in_sequence}
+use Rattle.laws_link.proofs.Once.{data-is}
+use Rattle.model_line.specs.declared.config.Config.{Config}
+use Rattle.model_line.specs.Event.{Event, octet, expiry, request, pull, Answer, told, refused, pulled}
+use Rattle.model_line.specs.Line.{Line, link_in, link_of, place_in, terms}
+use Rattle.model_line.specs.Machine as lines
+use Rattle.model_line.specs.Octet.{gained}
+use Rattle.model_line.specs.Pull.{Taken, begun}
+use Rattle.model_line.specs.Request.{Request}
+use Rattle.model_line.specs.Sound.{IsInRange, IsSound}
+use Rattle.laws_line.specs.Heard.{notes_of, contents_in, is_data_of}
+use Rattle.laws_line.specs.Steady.{IsBy}
+use Rattle.model_card.specs.Card as cards
+use Rattle.model_card.specs.Card.{Card, line_at, is_full}
+use Rattle.model_card.specs.Event as card
+use Rattle.model_card.specs.Machine.{after, answer}
+use Rattle.model_card.specs.Pulled.{frame_taken, octet_in}
+use Rattle.model_card.specs.Run.{moments, after_all, IsAtLine, AreAtLines}
+use Rattle.model_card.specs.Sound as card_sound
+use Rattle.model_card.proofs.CardSound.{fresh_is_sound, always_sound}
+use Rattle.model_card.proofs.Steps.{has_lines, by_room, line_sound}
+use Rattle.laws_card.proofs.Wherever.{all-left, all-right, config-stays}
+use Rattle.laws_trace.specs.Trace as traces
+use Rattle.laws_trace.specs.Trace.{Seen, heard, noted, lost, seen, seen_told, seen_granted, trace, trace_of, IsAmong, Always}
+use Rattle.laws_trace.specs.Deliveries.{Watched, nothing_yet, parts_of, frame_of, is_for, number_in, watch, MayBeTold, IsTold, AllAreTold}
+use Rattle.laws_trace.proofs.Deliveries.{frame_by, brings-frame, brings-none}
+use Rattle.laws_trace.proofs.DeliveriesRun.{IsCount, event-aims, data-noted, run-passes}
+use Rattle.laws_trace.proofs.OneLink.{HasOne, HasNone, Goes, is_at_link, event-goes}
+use Rattle.laws_trace.proofs.Runs.{nothing-seen}
+
+-- What is heard in a moment is what the octet brings.
+event_heard : Seen → List stream.Event
+event_heard (heard e) = e ∷ []
+event_heard (traces.begun octets) = []
+event_heard (traces.put value) = []
+event_heard (noted ns contents) = []
+event_heard (traces.granted r) = []
+event_heard (lost n) = []
+
+abbrev events_heard : List Seen → List stream.Event
+events_heard t = flat_map event_heard t
+
+abbrev brought : Config → Event → Line → Option stream.Event
+brought c (octet value) l = gained c.n201 l.received value
+brought c (expiry timer) l = None
+brought c (request r) l = None
+brought c pull l = None
+
+one-alone : (x : stream.Event) (o : Option stream.Event) (front back : List stream.Event) → option_to_list o ≡ front ++ x ∷ back → o ≡ Some x
+one-alone x None [] back e = cc e
+one-alone x None (y ∷ front) back e = cc e
+one-alone x (Some z) [] back e = cc e
+one-alone x (Some z) (y ∷ []) back e = cc e
+one-alone x (Some z) (y ∷ u ∷ front) back e = cc e
+
+heard-told : (o : Option stream.Event) (a : Answer) → events_heard (map heard (option_to_list o) ++ seen_told a) ≡ option_to_list o
+unfolding event_heard
+heard-told None (told t) = refl
+heard-told None (refused why) = refl
+heard-told None (pulled value is_begun orders) = refl
+heard-told (Some e) (told t) = refl
+heard-told (Some e) (refused why) = refl
+heard-told (Some e) (pulled value is_begun orders) = refl
+
+heard-asked : (r : Request) (a : Answer) → events_heard (seen_granted r a ++ seen_told a) ≡ []
+unfolding event_heard
+heard-asked r (told t) = refl
+heard-asked r (refused why) = refl
+heard-asked r (pulled value is_begun orders) = refl
+
+heard-pulled : (o : Option Taken) (a : Answer)
+    → events_heard (map traces.begun (option_to_list (option_map frame_taken o)) ++ map traces.put (octet_in a)) ≡ []
+unfolding event_heard
+heard-pulled None (told t) = refl
+heard-pulled None (refused why) = refl
+heard-pulled None (pulled value is_begun orders) = refl
+heard-pulled (Some t) (told u) = refl
+heard-pulled (Some t) (refused why) = refl
+heard-pulled (Some t) (pulled value is_begun orders) = refl
+
+all-heard : (c : Config) (e : Event) (l : Line) (a : Answer) → events_heard (seen c e l a) ≡ option_to_list (brought c e l)
+all-heard c (octet value) l a = heard-told (gained c.n201 l.received value) a
+all-heard c (expiry timer) l a = heard-told None a
+all-heard c (request r) l a = heard-asked r a
+all-heard c pull l a = heard-pulled (begun c l) a
+
+is-brought : (c : Config) (e : Event) (l : Line) (a : Answer) (x : stream.Event) → IsAmong (heard x) (seen c e l a) → brought c e l ≡ Some x
+unfolding event_heard
+is-brought c e l a x among =
+    one-alone x (brought c e l) (events_heard among.front) (events_heard among.back)
+    (sym (all-heard c e l a) ∙ ap events_heard among.split ∙ flat_map-append event_heard among.front (heard x ∷ among.back))
+
+brings-it : (c : Config) (e : Event) (l : Line) (octets : List ℕ) (f : Parts) → brought c e l ≡ Some (stream.frame octets) → reading User octets ≡ Ok f
+    → frame_by c e l ≡ Some f
+brings-it c (octet value) l octets f is read = ap (λ o. option_map_or frame_of o None) is ∙ ap parts_of read
+brings-it c (expiry timer) l octets f is read = absurd (none-some (stream.frame octets) is)
+brings-it c (request r) l octets f is read = absurd (none-some (stream.frame octets) is)
+brings-it c pull l octets f is read = absurd (none-some (stream.frame octets) is)
+
+-- An I-frame in sequence is due to be delivered.
+due : (t : Terms) (k : Link) (m : ℕ) (ct : Control) (info : List ℕ) → number_in ct ≡ Some m → m ≡ k.r % 128 → is_multiple_frame k.state ≡ true → k.own_busy ≡ false
+    → length info ≤ t.n201 → in_sequence k.r (eligible_of t k (information_of ct info)) ≡ Some info
+due t k m (Information ns nr p) info is next up free size =
+    ap (λ b. in_sequence k.r (cond b (Some (record { ns = ns; contents = info })) None)) fits
+    ∙ ap (λ b. cond b (Some info) None) (eq-eqb ns.value (k.r % 128) (some-number ∙ next))
+  where
+    some-number : ns.value ≡ m
+    some-number = cc is
+
+    fits : is_eligible t k (record { ns = ns; contents = info }) ≡ true
+    fits = ap (λ b. b && is_multiple_frame k.state && not k.own_busy) (le-leb (length info) t.n201 size) ∙ ap (λ b. b && not k.own_busy) up ∙ ap not free
+due t k m (ReceiveReady nr pf) info is next up free size = absurd (none-some m is)
+due t k m (ReceiveNotReady nr pf) info is next up free size = absurd (none-some m is)
+due t k m (Reject nr pf) info is next up free size = absurd (none-some m is)
+due t k m (Sabme p) info is next up free size = absurd (none-some m is)
+due t k m (Disc p) info is next up free size = absurd (none-some m is)
+due t k m (Ui p) info is next up free size = absurd (none-some m is)
+due t k m (Ua p) info is next up free size = absurd (none-some m is)
+due t k m (Dm p) info is next up free size = absurd (none-some m is)
+due t k m (Frmr p) info is next up free size = absurd (none-some m is)
+due t k m (Xid p) info is next up free size = absurd (none-some m is)
+
+-- What is noted is seen.
+noted-among : (service : Service) (tei : ℕ) (o : Option stream.Event) (a : Answer) (contents : List ℕ) → list_any (is_data_of service tei) (notes_of a) ≡ true
+    → contents_in a ≡ Some contents → IsTold service tei contents (map heard (option_to_list o) ++ seen_told a)
+noted-among service tei None (told t) contents any is =
+    record { notes = t.notes; told = record { front = []; back = lost t.lost ∷ []; split = ap (λ o. noted t.notes o ∷ lost t.lost ∷ []) is }; as_data = any }
+noted-among service tei (Some e) (told t) contents any is =
+    record {
+      notes = t.notes;
+      told = record { front = heard e ∷ []; back = lost t.lost ∷ []; split = ap (λ o. heard e ∷ noted t.notes o ∷ lost t.lost ∷ []) is };
+      as_data = any;
+    }
+noted-among service tei o (refused why) contents any is = absurd (true≢false (sym any))
+noted-among service tei o (pulled value is_begun orders) contents any is = absurd (true≢false (sym any))
+
+brings-told : (service : Service) (tei : ℕ) (c : Config) (e : Event) (l : Line) (a : Answer) (contents : List ℕ) (x : stream.Event) → brought c e l ≡ Some x
+    → list_any (is_data_of service tei) (notes_of a) ≡ true → contents_in a ≡ Some contents → IsTold service tei contents (seen c e l a)
+brings-told service tei c (octet value) l a contents x is any there = noted-among service tei (gained c.n201 l.received value) a contents any there
+brings-told service tei c (expiry timer) l a contents x is any there = absurd (none-some x is)
+brings-told service tei c (request r) l a contents x is any there = absurd (none-some x is)
+brings-told service tei c pull l a contents x is any there = absurd (none-some x is)
+
+-- The event of the link is the frame.
+is-frame : (c : Config) (l : Line) (e : Event) (a : Answer) (service : Service) (tei : ℕ) (f : Parts) → frame_by c e l ≡ Some f → (le : link.Event)
+    → IsBy c l e a service tei le → le ≡ link.received (link.frame f)
+is-frame c l e a service tei f is (link.received (link.frame g)) by =
+    let same : g ≡ f = cc (sym (brings-frame c l e a service tei g by).0 ∙ is) in
+    ap (λ f. link.received (link.frame f)) same
+is-frame c l e a service tei f is (link.received link.undefined) by = absurd (none-some f (sym (brings-none c l e a service tei link.undefined by) ∙ is))
+is-frame c l e a service tei f is (link.received link.wrong_size) by = absurd (none-some f (sym (brings-none c l e a service tei link.wrong_size by) ∙ is))
+is-frame c l e a service tei f is (link.received link.overlong) by = absurd (none-some f (sym (brings-none c l e a service tei link.overlong by) ∙ is))
+is-frame c l e a service tei f is (link.expired timer) by = absurd (none-some f (sym (ap (λ e. frame_by c e l) by) ∙ is))
+is-frame c l e a service tei f is (link.requested asked full) by = absurd (none-some f (sym (ap (λ e. frame_by c e l) by.0) ∙ is))
+is-frame c l e a service tei f is link.offer by = absurd (none-some f (sym (ap (λ e. frame_by c e l) by) ∙ is))
+is-frame c l e a service tei f is link.cleared by = absurd by
+
+-- One event of a line.
+module _ (c : Config) (ranged : IsInRange c) (l : Line) (s : IsSound c l) (e : Event) (service : Service) (tei n : ℕ) (count : IsCount (link_of service tei l) n) where
+  abbrev a : Answer
+  a = lines.answer c e l
+
+  abbrev k : Link
+  k = link_of service tei l
+
+  abbrev t : Terms
+  t = terms c service tei
+
+  own-told : (f : Parts) → MayBeTold c k n f → (le : link.Event) → le ≡ link.received (link.frame f) → (links.told t le k).delivered ≡ Some f.info
+  own-told f may le is =
+      data-is t k le
+      ∙ ap (λ le. in_sequence k.r (Rattle.model_link.specs.Deliveries.eligible t le k)) is
+      ∙ due t k (n % 128) f.control f.info may.next (ap (λ m. m % 128) (sym (count may.up))) may.up may.free may.size
+
+  on-line : is_multiple_frame k.state ≡ true → (o : Option ℕ) → place_in l tei ≡ o → (place : ℕ) × (place_in l tei ≡ Some place)
+  on-line up (Some place) on = (place, on)
+  on-line up None off = absurd (true≢false (sym up ∙ ap (λ o. is_multiple_frame (option_map_or (link_in l service) o fresh).state) off))
+
+  pub told-here : (octets : List ℕ) (f : Parts) → brought c e l ≡ Some (stream.frame octets) → reading User octets ≡ Ok f → is_for service tei f.address ≡ true
+      → MayBeTold c k n f → IsTold service tei f.info (seen c e l a)
+  told-here octets f is read for may = go (event-goes c e l service tei s)
+    where
+      by : frame_by c e l ≡ Some f
+      by = brings-it c e l octets f is read
+
+      go : Goes c service tei e l (lines.after c e l) a → IsTold service tei f.info (seen c e l a)
+      go (inl x) =
+          let on = on-line may.up (place_in l tei) refl in
+          absurd (true≢false (sym (event-aims c l service tei on.0 on.1 e f by for) ∙ x.aims))
+      go (inr x) =
+          let due = own-told f may x.event (is-frame c l e a service tei f by x.event x.by) in
+          brings-told service tei c e l a f.info (stream.frame octets) is (data-noted c ranged l s e service tei n count x ∙ ap is_some due)
+          (x.contents ∙ ap (λ o. option_or o (links.told t x.event k).unit) due)
+
+-- One event of a card.
+none-among : (x : Seen) (front back : List Seen) → [] ≡ front ++ x ∷ back → ⊥
+none-among x [] back e = cc e
+none-among x (y ∷ front) back e = cc e
+
+module _ (m : Card) (e : card.Event) (s : card_sound.IsSound m) (service : Service) (tei n : ℕ) (octets : List ℕ) (f : Parts)
+    (read : reading User octets ≡ Ok f) (for : is_for service tei f.address ≡ true) where
+  abbrev Tells : ℕ → List Seen → Type 0
+  Tells number t =
+      IsCount (link_of service tei (line_at number m)) n → MayBeTold m.config (link_of service tei (line_at number m)) n f
+      → IsAmong (heard (stream.frame octets)) t → IsTold service tei f.info t
+
+  own : IsAtLine m e → Tells e.line (seen m.config e.what (line_at e.line m) (answer e m))
+  own here count may among =
+      by_room (λ ls a. IsAmong (heard (stream.frame octets)) (seen c e.what l a) → IsTold service tei f.info (seen c e.what l a)) e m
+      (λ full among.
+      let none = subst (λ t. IsAmong (heard (stream.frame octets)) t) (nothing-seen c e.what l (and_parts (lines.takes_slot c e.what l) (is_full m) full).0) among in
+      absurd (none-among (heard (stream.frame octets)) none.front none.back none.split))
+      (λ room among.
+      told-here c s.config l (line_sound m e.line (has_lines m s) here) e.what service tei n count octets f
+      (is-brought c e.what l (lines.answer c e.what l) (stream.frame octets) among) read for may)
+      among
+    where
+      c : Config
+      c = m.config
+
+      l : Line
+      l = line_at e.line m
+
+  at-card : (number : ℕ) → IsAtLine m e → (b : Bool) → (e.line == number) ≡ b → Tells number (cond b (seen m.config e.what (line_at number m) (answer e m)) [])
+  at-card number here true is count may among =
+      subst (λ number. Tells number (seen m.config e.what (line_at number m) (answer e m))) (eqb-true e.line number is) (own here) count may among
+  at-card number here false other count may among = absurd (none-among (heard (stream.frame octets)) among.front among.back among.split)
+
+pub all-are-told : Always AllAreTold
+unfolding moments
+all-are-told c events number ranged all within service tei before e behind split octets f among read for may =
+    let m = after_all (cards.fresh c) before in
+    let these = subst (AreAtLines (cards.fresh c)) split all in
+    let first = all-left (IsAtLine (cards.fresh c)) before (e ∷ behind) these in
+    let here = All-head (IsAtLine (cards.fresh c)) e behind (all-right (IsAtLine (cards.fresh c)) before (e ∷ behind) these) in
+    let kept : m.config ≡ c = config-stays (cards.fresh c) before in
+    let w = fold (watch service tei) nothing_yet (trace_of c before number) in
+    let count = (run-passes c before number ranged first within service tei).2 in
+    let t = cond (e.line == number) (seen m.config e.what (line_at number m) (answer e m)) [] in
+    subst (IsTold service tei f.info) (sym (append-nil t))
+    (at-card m e (always_sound (cards.fresh c) before (fresh_is_sound c ranged) first) service tei w.count octets f read for number
+    (subst (λ (c : Config). e.line < c.lines) (sym kept) here) (e.line == number) refl count
+    (subst (λ c. MayBeTold c (link_of service tei (line_at number m)) w.count f) (sym kept) may)
+    (subst (IsAmong (heard (stream.frame octets))) (append-nil t) among))

@@ -1,0 +1,196 @@
+-- When the numbers of a link begin, by what is heard and noted.
+use Rattle.std.proofs.Common.{◌≡◌, ℕ, ◌==◌, ◌&&◌, Bool, true, false, cond, List, [], ◌∷◌, refl, sym, ap, ◌∙◌, subst, true≢false}
+use Rattle.std.specs.Prelude.{not, if◌then◌else◌}
+use Rattle.std.specs.List.{list_any}
+use Rattle.lapd_frame.specs.Grammar.{Parts}
+use Rattle.lapd_frame.specs.declared.controls.Control.{Control}
+use Rattle.lapd_frame.specs.declared.controls.Control.TheVariants.{Information, ReceiveReady, ReceiveNotReady, Reject, Sabme, Disc, Ui, Ua, Dm, Frmr, Xid}
+use Rattle.lapd_frame.specs.declared.notes.Note.TheVariants.{EstablishIndication, EstablishConfirm}
+use Rattle.model_link.specs.declared.states.State.{State}
+use Rattle.model_link.specs.declared.states.State.TheVariants.{TeiAssigned, AwaitingEstablishment, AwaitingRelease, Established, TimerRecovery}
+use Rattle.model_link.specs.declared.timers.LinkTimer.{LinkTimer}
+use Rattle.model_link.specs.declared.timers.LinkTimer.TheVariants.{T200, T203}
+use Rattle.model_link.specs.declared.terms.Terms.{Terms}
+use Rattle.model_link.specs.Deliveries.{restarts}
+use Rattle.model_link.specs.Events.{Received, Event, received, frame, undefined, wrong_size, overlong, expired, requested, offer, cleared, Request, Establish, Release, Data, SetBusy, ClearBusy}
+use Rattle.model_link.specs.Link.{Link, is_multiple_frame, may_repeat}
+use Rattle.model_link.specs.Machine.{after, told}
+use Rattle.model_link.specs.Told.{runs}
+use Rattle.laws_link.specs.Following.{Leaves}
+use Rattle.laws_link.specs.States.{as_heard, by_frame, by_received, by_expiry, by_request, state_after, numbers_begin}
+use Rattle.laws_link.specs.Telling.{told_by}
+use Rattle.model_link.proofs.Restarts.{establishes}
+use Rattle.laws_link.proofs.Follows.{event-follows}
+use Rattle.laws_trace.specs.Deliveries.{begins_by, is_end}
+
+-- A link in a state is itself.
+pub in-state : (P : Link → Type 0) (l : Link) → ((here : State) → P (record l { state = here })) → P l
+in-state P l h = h l.state
+
+-- What is never true is false.
+pub unless : (b : Bool) → (b ≡ true → ⊥) → false ≡ b
+unless true h = absurd (h refl)
+unless false h = refl
+
+module _ (t : Terms) (f : Parts) where
+  abbrev e : Event
+  e = received (frame f)
+
+  abbrev IsSame : Control → Link → Type 0
+  IsSame control l =
+      let e = received (frame (record f { control = control })) in
+      begins_by control (told_by t e l (state_after t e l)) ≡ numbers_begin e l.state (state_after t e l)
+
+  sabme : (p : Bool) (here : State) (l : Link) → IsSame (Sabme p) (record l { state = here })
+  sabme p TeiAssigned l = refl
+  sabme p AwaitingEstablishment l = refl
+  sabme p AwaitingRelease l = refl
+  sabme p Established l = refl
+  sabme p TimerRecovery l = refl
+
+  -- by whether layer 3 asked for the establishment, and whether contents are outstanding
+  agreed : (asked none : Bool)
+      → not (list_any is_end (if asked then EstablishConfirm t.service t.tei ∷ [] else if none then [] else EstablishIndication t.service t.tei ∷ [])) ≡ true
+  agreed true none = refl
+  agreed false true = refl
+  agreed false false = refl
+
+  ua : (here : State) (l : Link) → IsSame (Ua true) (record l { state = here })
+  ua TeiAssigned l = refl
+  ua AwaitingEstablishment l = agreed l.asked (l.s == l.a)
+  ua AwaitingRelease l = refl
+  ua Established l = refl
+  ua TimerRecovery l = refl
+
+  -- What is heard and noted says whether the numbers begin.
+  abbrev Says : Control → Link → Type 0
+  Says control l =
+      let e = received (frame (record f { control = control })) in
+      begins_by control (told t e l).notes ≡ restarts t e l
+
+  seen-by : (control : Control) (l : Link) → as_heard t (received (frame (record f { control = control }))) ≡ received (frame (record f { control = control }))
+      → IsSame control l → Says control l
+  seen-by control l heard same =
+      let e = received (frame (record f { control = control })) in
+      let x = event-follows t e l in
+      let leaves = subst (λ e'. Leaves t e' l (after t e l) (told t e l).notes (told t e l).lost) heard x.leaves in
+      let numbers = subst (λ e'. restarts t e l ≡ numbers_begin e' l.state (after t e l).state) heard x.numbers in
+      ap (begins_by control) (leaves.tells ∙ ap (told_by t e l) leaves.state) ∙ same ∙ sym (numbers ∙ ap (numbers_begin e l.state) leaves.state)
+
+  by-control : (control : Control) (l : Link) → Says control l
+  by-control (Sabme p) l = seen-by (Sabme p) l refl (in-state (IsSame (Sabme p)) l (λ here. sabme p here l))
+  by-control (Ua true) l = seen-by (Ua true) l refl (in-state (IsSame (Ua true)) l (λ here. ua here l))
+  by-control (Ua false) l = unless _ (λ is. (establishes t l (received (frame (record f { control = Ua false }))) is).by)
+  by-control (Information ns nr p) l = unless _ (λ is. (establishes t l (received (frame (record f { control = Information ns nr p }))) is).by)
+  by-control (ReceiveReady nr p) l = unless _ (λ is. (establishes t l (received (frame (record f { control = ReceiveReady nr p }))) is).by)
+  by-control (ReceiveNotReady nr p) l = unless _ (λ is. (establishes t l (received (frame (record f { control = ReceiveNotReady nr p }))) is).by)
+  by-control (Reject nr p) l = unless _ (λ is. (establishes t l (received (frame (record f { control = Reject nr p }))) is).by)
+  by-control (Disc p) l = unless _ (λ is. (establishes t l (received (frame (record f { control = Disc p }))) is).by)
+  by-control (Ui p) l = unless _ (λ is. (establishes t l (received (frame (record f { control = Ui p }))) is).by)
+  by-control (Dm p) l = unless _ (λ is. (establishes t l (received (frame (record f { control = Dm p }))) is).by)
+  by-control (Frmr p) l = unless _ (λ is. (establishes t l (received (frame (record f { control = Frmr p }))) is).by)
+  by-control (Xid p) l = unless _ (λ is. (establishes t l (received (frame (record f { control = Xid p }))) is).by)
+
+  pub begins-is : (l : Link) → begins_by f.control (told t (received (frame f)) l).notes ≡ restarts t (received (frame f)) l
+  begins-is l = by-control f.control l
+
+-- A link that is in states 7 and 8, and whose numbers do not begin, was there before.
+abbrev IsUp : State → Type 0
+IsUp state = is_multiple_frame state ≡ true
+
+abbrev ComesUp : State → Event → State → Type 0
+ComesUp from e to = IsUp to → numbers_begin e from to ≡ false → IsUp from
+
+by-frame : (from : State) (f : Parts) (control : Control) → let e = received (frame (record f { control = control })) in ComesUp from e (by_frame from f.address.command control)
+by-frame Established f control up none = refl
+by-frame TimerRecovery f control up none = refl
+by-frame TeiAssigned f (Sabme p) up none = absurd (true≢false none)
+by-frame TeiAssigned f (Information ns nr p) up none = up
+by-frame TeiAssigned f (ReceiveReady nr p) up none = up
+by-frame TeiAssigned f (ReceiveNotReady nr p) up none = up
+by-frame TeiAssigned f (Reject nr p) up none = up
+by-frame TeiAssigned f (Disc p) up none = up
+by-frame TeiAssigned f (Ui p) up none = up
+by-frame TeiAssigned f (Ua p) up none = up
+by-frame TeiAssigned f (Dm p) up none = up
+by-frame TeiAssigned f (Frmr p) up none = up
+by-frame TeiAssigned f (Xid p) up none = up
+by-frame AwaitingEstablishment f (Ua true) up none = absurd (true≢false none)
+by-frame AwaitingEstablishment f (Ua false) up none = up
+by-frame AwaitingEstablishment f (Dm true) up none = up
+by-frame AwaitingEstablishment f (Dm false) up none = up
+by-frame AwaitingEstablishment f (Sabme p) up none = up
+by-frame AwaitingEstablishment f (Information ns nr p) up none = up
+by-frame AwaitingEstablishment f (ReceiveReady nr p) up none = up
+by-frame AwaitingEstablishment f (ReceiveNotReady nr p) up none = up
+by-frame AwaitingEstablishment f (Reject nr p) up none = up
+by-frame AwaitingEstablishment f (Disc p) up none = up
+by-frame AwaitingEstablishment f (Ui p) up none = up
+by-frame AwaitingEstablishment f (Frmr p) up none = up
+by-frame AwaitingEstablishment f (Xid p) up none = up
+by-frame AwaitingRelease f (Ua true) up none = up
+by-frame AwaitingRelease f (Ua false) up none = up
+by-frame AwaitingRelease f (Dm true) up none = up
+by-frame AwaitingRelease f (Dm false) up none = up
+by-frame AwaitingRelease f (Sabme p) up none = up
+by-frame AwaitingRelease f (Information ns nr p) up none = up
+by-frame AwaitingRelease f (ReceiveReady nr p) up none = up
+by-frame AwaitingRelease f (ReceiveNotReady nr p) up none = up
+by-frame AwaitingRelease f (Reject nr p) up none = up
+by-frame AwaitingRelease f (Disc p) up none = up
+by-frame AwaitingRelease f (Ui p) up none = up
+by-frame AwaitingRelease f (Frmr p) up none = up
+by-frame AwaitingRelease f (Xid p) up none = up
+
+by-received : (from : State) (r : Received) → ComesUp from (received r) (by_received from r)
+by-received from (frame f) = by-frame from f f.control
+by-received from undefined = λ up none. up
+by-received from wrong_size = λ up none. up
+by-received from overlong = λ up none. up
+
+by-expiry : (from : State) (timer : LinkTimer) (again : Bool) → IsUp (by_expiry from timer again) → IsUp from
+by-expiry Established timer again up = refl
+by-expiry TimerRecovery timer again up = refl
+by-expiry TeiAssigned timer again up = up
+by-expiry AwaitingEstablishment T200 true up = up
+by-expiry AwaitingEstablishment T200 false up = up
+by-expiry AwaitingEstablishment T203 again up = up
+by-expiry AwaitingRelease T200 true up = up
+by-expiry AwaitingRelease T200 false up = up
+by-expiry AwaitingRelease T203 again up = up
+
+by-request : (from : State) (request : Request) → IsUp (by_request from request) → IsUp from
+by-request Established request up = refl
+by-request TimerRecovery request up = refl
+by-request TeiAssigned Establish up = up
+by-request TeiAssigned Release up = up
+by-request TeiAssigned (Data octets) up = up
+by-request TeiAssigned SetBusy up = up
+by-request TeiAssigned ClearBusy up = up
+by-request AwaitingEstablishment Establish up = up
+by-request AwaitingEstablishment Release up = up
+by-request AwaitingEstablishment (Data octets) up = up
+by-request AwaitingEstablishment SetBusy up = up
+by-request AwaitingEstablishment ClearBusy up = up
+by-request AwaitingRelease Establish up = up
+by-request AwaitingRelease Release up = up
+by-request AwaitingRelease (Data octets) up = up
+by-request AwaitingRelease SetBusy up = up
+by-request AwaitingRelease ClearBusy up = up
+
+either : (from : State) (e : Event) (b : Bool) (one other : State) → ComesUp from e one → ComesUp from e other → ComesUp from e (cond b one other)
+either from e true one other h k = h
+either from e false one other h k = k
+
+by-state : (t : Terms) (e : Event) (l : Link) → ComesUp l.state e (state_after t e l)
+by-state t (received r) l = either l.state (received r) _ AwaitingEstablishment _ (λ up none. absurd (true≢false (sym up))) (by-received l.state r)
+by-state t (expired timer) l = either l.state (expired timer) (runs timer l.running) _ l.state (λ up none. by-expiry l.state timer (may_repeat t l) up) (λ up none. up)
+by-state t (requested request full) l = λ up none. by-request l.state request up
+by-state t offer l = λ up none. up
+by-state t cleared l = λ up none. absurd (true≢false (sym up))
+
+pub up-before : (t : Terms) (e : Event) (l : Link) → IsUp (after t e l).state → restarts t e l ≡ false → IsUp l.state
+up-before t e l up none =
+    let x = event-follows t e l in
+    by-state t (as_heard t e) l (ap is_multiple_frame (sym x.leaves.state) ∙ up)
+    (ap (numbers_begin (as_heard t e) l.state) (sym x.leaves.state) ∙ sym x.numbers ∙ none)

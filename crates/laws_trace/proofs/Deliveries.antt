@@ -1,0 +1,308 @@
+-- What is told is what was heard.
+use Rattle.std.proofs.Common.{◌≡◌, ℕ, ◌+◌, ◌%◌, ◌≤◌, ◌<◌, ◌==◌, ◌&&◌, Bool, true, false, cond, List, [], ◌∷◌, ◌++◌, length, map, Option, Some, None, option_map, Result, Ok, Err, refl, sym, ap, ◌∙◌, subst, arith, eqb-true, eq-eqb, true≢false, ◌⊎◌, inl, inr}
+use Rattle.std.specs.Prelude.{All, ◌||◌, not, nat_le, count_by, option_to_list}
+use Rattle.std.specs.List.{list_any}
+use Rattle.std.specs.Option.{option_or, option_map_or}
+use Rattle.std.proofs.lemmas.Bool.{and_parts}
+use Rattle.std.proofs.lemmas.List.Elements.{All-head, All-tail}
+use Rattle.std.proofs.lemmas.List.Sums.{sum_by-cons}
+use Rattle.std.proofs.lemmas.Option.{none-some}
+use Rattle.lapd_bits.specs.Stream as stream
+use Rattle.lapd_seq.specs.declared.numbers.Seq.{Seq}
+use Rattle.lapd_frame.specs.declared.addresses.Address.{Address}
+use Rattle.lapd_frame.specs.declared.addresses.Side.TheVariants.{User}
+use Rattle.lapd_frame.specs.declared.controls.Control.{Control}
+use Rattle.lapd_frame.specs.declared.controls.Control.TheVariants as control
+use Rattle.lapd_frame.specs.declared.faults.ReadFault.TheVariants.{Undefined, WrongSize}
+use Rattle.lapd_frame.specs.declared.notes.Note.{Note}
+use Rattle.lapd_frame.specs.declared.notes.Note.TheVariants as notes
+use Rattle.lapd_frame.specs.declared.services.Service.{Service}
+use Rattle.lapd_frame.specs.Grammar.{Parts, AreOctets}
+use Rattle.lapd_frame.specs.Reading.{reading}
+use Rattle.lapd_frame.specs.Services.{sapi_of, service_of, same_service}
+use Rattle.lapd_frame.proofs.Spelling.{fault-again}
+use Rattle.model_link.specs.declared.terms.Terms.{Terms}
+use Rattle.model_link.specs.Deliveries.{Arrived, restarts, eligible, eligible_of, is_eligible, information_of}
+use Rattle.model_link.specs.Events as link
+use Rattle.model_link.specs.Known.{IsOwn}
+use Rattle.model_link.specs.Link.{Link, is_multiple_frame}
+use Rattle.model_link.specs.Machine as links
+use Rattle.model_link.proofs.OwnNotes.{notes-own}
+use Rattle.model_link.proofs.Restarts.{establishes}
+use Rattle.laws_link.specs.Heard.{unit_heard, in_ui_frame}
+use Rattle.model_line.specs.declared.config.Config.{Config}
+use Rattle.model_line.specs.Event.{Event, octet, expiry, request, pull, Answer}
+use Rattle.model_line.specs.Line.{Line, link_in, terms}
+use Rattle.model_line.specs.Machine.{aim_of, answer}
+use Rattle.model_line.specs.Octet.{gained}
+use Rattle.model_line.specs.Sound.{IsInRange, IsSound}
+use Rattle.laws_line.specs.Heard.{Ends, EndsOverlong, IsMalformed, IsTooLong, notes_of, contents_in, is_data_of, is_unit_of, tells_contents}
+use Rattle.laws_line.specs.Heard as line_heard
+use Rattle.laws_line.specs.Steady.{IsBy, Brings, BringsMalformed}
+use Rattle.laws_line.proofs.Ending.{ended-octets, gained-is}
+use Rattle.laws_line.proofs.HandedOn.{contents-heard}
+use Rattle.laws_line.proofs.Hearing.{sapi-is, frame-aim, one-event}
+use Rattle.laws_line.proofs.Obeyed.{services-equal, service-same, both-true}
+use Rattle.laws_line.proofs.ToldOnce.{told-once}
+use Rattle.laws_trace.specs.Deliveries.{parts_of, frame_of, is_for, begins_by, begins, number_in, IsOfFrame}
+use Rattle.laws_trace.specs.Units.{is_ui}
+use Rattle.laws_trace.proofs.Begins.{unless, begins-is}
+use Rattle.laws_trace.proofs.OneLink.{is_at_link}
+
+-- The frame that an event brings, as the grammar reads it.
+abbrev pub frame_by : Config → Event → Line → Option Parts
+frame_by c (octet value) l = option_map_or frame_of (gained c.n201 l.received value) None
+frame_by c (expiry timer) l = None
+frame_by c (request r) l = None
+frame_by c pull l = None
+
+-- What is noted of contents is counted, and what a link notes is its own.
+any-counted : (p q : Note → Bool) → ((n : Note) → p n ≡ true → q n ≡ true) → (ns : List Note) → list_any p ns ≡ true → 1 ≤ count_by q ns
+any-counted p q h [] e = absurd (true≢false (sym e))
+any-counted p q h (n ∷ ns) e = go (p n) refl e (λ any. any-counted p q h ns any)
+  where
+    go : (b : Bool) → p n ≡ b → (b || list_any p ns) ≡ true → (list_any p ns ≡ true → 1 ≤ count_by q ns) → 1 ≤ count_by q (n ∷ ns)
+    go true is any more =
+        let one : cond {A = ℕ} (q n) 1 0 ≡ 1 = ap (λ b. cond {A = ℕ} b 1 0) (h n is) in
+        omega (arith, one, sum_by-cons (λ n. cond (q n) 1 0) n ns)
+    go false is any more = let rest = more any in omega (arith, rest, sum_by-cons (λ n. cond (q n) 1 0) n ns)
+
+some-own : (t : Terms) (q : Note → Bool) (P : Type 0) → ((n : Note) → IsOwn t n → q n ≡ true → P) → (ns : List Note) → All (IsOwn t) ns → list_any q ns ≡ true → P
+some-own t q P h [] own e = absurd (true≢false (sym e))
+some-own t q P h (n ∷ ns) own e = go (q n) refl e (λ any. some-own t q P h ns (All-tail (IsOwn t) n ns own) any)
+  where
+    go : (b : Bool) → q n ≡ b → (b || list_any q ns) ≡ true → (list_any q ns ≡ true → P) → P
+    go true is any more = h n (All-head (IsOwn t) n ns own) is
+    go false is any more = more any
+
+module _ (service : Service) (tei : ℕ) where
+  pub data-tells : (n : Note) → is_data_of service tei n ≡ true → tells_contents n ≡ true
+  data-tells (notes.EstablishIndication s n) e = absurd (true≢false (sym e))
+  data-tells (notes.EstablishConfirm s n) e = absurd (true≢false (sym e))
+  data-tells (notes.ReleaseIndication s n) e = absurd (true≢false (sym e))
+  data-tells (notes.ReleaseConfirm s n) e = absurd (true≢false (sym e))
+  data-tells (notes.Data s n) e = refl
+  data-tells (notes.Unit s n) e = absurd (true≢false (sym e))
+  data-tells (notes.Error s n k) e = absurd (true≢false (sym e))
+  data-tells (notes.Assigned n) e = absurd (true≢false (sym e))
+  data-tells (notes.Removed n) e = absurd (true≢false (sym e))
+  data-tells (notes.Doubled n) e = absurd (true≢false (sym e))
+  data-tells (notes.Xid s n) e = absurd (true≢false (sym e))
+
+  pub unit-tells : (n : Note) → is_unit_of service tei n ≡ true → tells_contents n ≡ true
+  unit-tells (notes.EstablishIndication s n) e = absurd (true≢false (sym e))
+  unit-tells (notes.EstablishConfirm s n) e = absurd (true≢false (sym e))
+  unit-tells (notes.ReleaseIndication s n) e = absurd (true≢false (sym e))
+  unit-tells (notes.ReleaseConfirm s n) e = absurd (true≢false (sym e))
+  unit-tells (notes.Data s n) e = absurd (true≢false (sym e))
+  unit-tells (notes.Unit s n) e = refl
+  unit-tells (notes.Error s n k) e = absurd (true≢false (sym e))
+  unit-tells (notes.Assigned n) e = absurd (true≢false (sym e))
+  unit-tells (notes.Removed n) e = absurd (true≢false (sym e))
+  unit-tells (notes.Doubled n) e = absurd (true≢false (sym e))
+  unit-tells (notes.Xid s n) e = absurd (true≢false (sym e))
+
+  module _ (t : Terms) where
+    abbrev pub IsIts : Type 0
+    IsIts = (same_service t.service service && t.tei == tei) ≡ true
+
+    its : (s : Service) (n : ℕ) → (s ≡ t.service) × (n ≡ t.tei) → (same_service s service && n == tei) ≡ true → IsIts
+    its s n own e = ap (λ z. same_service z service && t.tei == tei) (sym own.0) ∙ ap (λ m. same_service s service && m == tei) (sym own.1) ∙ e
+
+    pub data-own : (n : Note) → IsOwn t n → is_data_of service tei n ≡ true → IsIts
+    data-own (notes.EstablishIndication s n) own e = absurd (true≢false (sym e))
+    data-own (notes.EstablishConfirm s n) own e = absurd (true≢false (sym e))
+    data-own (notes.ReleaseIndication s n) own e = absurd (true≢false (sym e))
+    data-own (notes.ReleaseConfirm s n) own e = absurd (true≢false (sym e))
+    data-own (notes.Data s n) own e = its s n own e
+    data-own (notes.Unit s n) own e = absurd (true≢false (sym e))
+    data-own (notes.Error s n k) own e = absurd (true≢false (sym e))
+    data-own (notes.Assigned n) own e = absurd (true≢false (sym e))
+    data-own (notes.Removed n) own e = absurd (true≢false (sym e))
+    data-own (notes.Doubled n) own e = absurd (true≢false (sym e))
+    data-own (notes.Xid s n) own e = absurd (true≢false (sym e))
+
+    pub unit-own : (n : Note) → IsOwn t n → is_unit_of service tei n ≡ true → IsIts
+    unit-own (notes.EstablishIndication s n) own e = absurd (true≢false (sym e))
+    unit-own (notes.EstablishConfirm s n) own e = absurd (true≢false (sym e))
+    unit-own (notes.ReleaseIndication s n) own e = absurd (true≢false (sym e))
+    unit-own (notes.ReleaseConfirm s n) own e = absurd (true≢false (sym e))
+    unit-own (notes.Data s n) own e = absurd (true≢false (sym e))
+    unit-own (notes.Unit s n) own e = its s n own e
+    unit-own (notes.Error s n k) own e = absurd (true≢false (sym e))
+    unit-own (notes.Assigned n) own e = absurd (true≢false (sym e))
+    unit-own (notes.Removed n) own e = absurd (true≢false (sym e))
+    unit-own (notes.Doubled n) own e = absurd (true≢false (sym e))
+    unit-own (notes.Xid s n) own e = absurd (true≢false (sym e))
+
+-- An event that is none of the link notes no contents of it.
+module _ (c : Config) (ranged : IsInRange c) (l : Line) (s : IsSound c l) (e : Event) (service : Service) (tei : ℕ) where
+  abbrev a : Answer
+  a = answer c e l
+
+  -- where contents are noted, there are some
+  has-contents : (q : Note → Bool) → ((n : Note) → q n ≡ true → tells_contents n ≡ true) → list_any q (notes_of a) ≡ true
+      → (o : Option (List ℕ)) → contents_in a ≡ o → (contents : List ℕ) × (contents_in a ≡ Some contents)
+  has-contents q h some (Some contents) is = (contents, is)
+  has-contents q h some None is =
+      let many = any-counted q tells_contents h (notes_of a) some in
+      let none : count_by tells_contents (notes_of a) ≡ 0 = told-once c e l ranged s ∙ ap (λ o. length (option_to_list o)) is in
+      absurd (omega (arith, many, none))
+
+  noted-aim : (q : Note → Bool) → ((t : Terms) (n : Note) → IsOwn t n → q n ≡ true → (same_service t.service service && t.tei == tei) ≡ true)
+      → list_any q (notes_of a) ≡ true → (contents : List ℕ) → line_heard.IsHeard c l e a contents → is_at_link service tei (aim_of c e l) ≡ true
+  noted-aim q own some contents x =
+      let t = terms c x.service x.tei in
+      let aims = frame-aim c l x.value x.service x.tei x.place x.parts x.octets x.ends x.whose in
+      let one = one-event c l x.value x.service x.tei x.place x.parts x.octets x.ends x.whose in
+      let le = link.received (link.frame x.parts) in
+      let same : answer c (octet x.value) l ≡ a = ap (λ e. answer c e l) (sym x.by) in
+      let told : notes_of a ≡ (links.told t le (link_in l x.service x.place)).notes = ap notes_of (sym same ∙ one.answer_is.is) ∙ one.answer_is.notes in
+      ap (λ e. is_at_link service tei (aim_of c e l)) x.by ∙ ap (is_at_link service tei) aims
+      ∙ some-own t q ((same_service x.service service && x.tei == tei) ≡ true) (own t) (links.told t le (link_in l x.service x.place)).notes
+      (notes-own t le (link_in l x.service x.place)) (ap (list_any q) (sym told) ∙ some)
+
+  pub none-noted : (q : Note → Bool) → ((n : Note) → q n ≡ true → tells_contents n ≡ true)
+      → ((t : Terms) (n : Note) → IsOwn t n → q n ≡ true → (same_service t.service service && t.tei == tei) ≡ true)
+      → is_at_link service tei (aim_of c e l) ≡ false → list_any q (notes_of a) ≡ true → ⊥
+  none-noted q tells own none some =
+      let x = has-contents q tells some (contents_in a) refl in
+      true≢false (sym (noted-aim q own some x.0 (contents-heard c e l x.0 ranged s x.1)) ∙ none)
+
+-- The frame that an event of the link brings.
+module _ (c : Config) (l : Line) (e : Event) (a : Answer) (service : Service) (tei : ℕ) where
+  its-address : (f : Parts) → service_of f.address.sapi ≡ Some service → f.address.tei ≡ tei → is_for service tei f.address ≡ true
+  its-address f sapi is =
+      ap (λ b. b && f.address.tei == tei) (eq-eqb f.address.sapi (sapi_of service) (sapi-is f.address.sapi service sapi)) ∙ eq-eqb f.address.tei tei is
+
+  pub brings-frame : (f : Parts) → Brings c l e service tei f → (frame_by c e l ≡ Some f) × (is_for service tei f.address ≡ true)
+  brings-frame f x = (
+    ap (λ e. frame_by c e l) x.by ∙ ap (λ o. option_map_or frame_of o None) (gained-is c l x.value (Some (stream.frame x.octets)) x.ends) ∙ ap parts_of x.read,
+    its-address f x.sapi x.tei_is,
+  )
+
+  is-fault : (address : Address) (octets : List ℕ) (what : link.Received) → AreOctets octets → IsMalformed address octets what → parts_of (reading User octets) ≡ None
+  is-fault address octets link.undefined small is = ap parts_of (fault-again User octets (Undefined address) small is)
+  is-fault address octets link.wrong_size small is = ap parts_of (fault-again User octets (WrongSize address) small is)
+  is-fault address octets link.overlong small is = absurd is
+  is-fault address octets (link.frame parts) small is = absurd is
+
+  pub brings-none : (what : link.Received) → BringsMalformed c l e service tei what → frame_by c e l ≡ None
+  brings-none what x = ap (λ e. frame_by c e l) x.by ∙ go x.ends
+    where
+      go : (Ends c l x.value x.octets × IsMalformed x.address x.octets what) ⊎ (EndsOverlong c l x.value x.octets × IsTooLong x.address x.octets what)
+          → option_map_or frame_of (gained c.n201 l.received x.value) None ≡ None
+      go (inl y) =
+          ap (λ o. option_map_or frame_of o None) (gained-is c l x.value (Some (stream.frame x.octets)) y.0)
+          ∙ is-fault x.address x.octets what (ended-octets c l x.value (stream.frame x.octets) y.0) y.1
+      go (inr y) = ap (λ o. option_map_or frame_of o None) (gained-is c l x.value (Some (stream.overlong x.octets)) y.0)
+
+  none-begins : (le : link.Event) (k : Link) → ((restarts (terms c service tei) le k ≡ true) → ⊥) → (ns : List Note) → frame_by c e l ≡ None
+      → begins service tei (frame_by c e l) ns ≡ restarts (terms c service tei) le k
+  none-begins le k never ns none = ap (λ o. begins service tei o ns) none ∙ unless (restarts (terms c service tei) le k) never
+
+  -- whether the numbers begin with it
+  pub one-begins : (le : link.Event) → IsBy c l e a service tei le → (k : Link)
+      → begins service tei (frame_by c e l) (links.told (terms c service tei) le k).notes ≡ restarts (terms c service tei) le k
+  one-begins (link.received (link.frame f)) by k =
+      let t = terms c service tei in
+      let x = brings-frame f by in
+      let ns = (links.told t (link.received (link.frame f)) k).notes in
+      ap (λ o. begins service tei o ns) x.0 ∙ ap (λ b. b && begins_by f.control ns) x.1 ∙ begins-is t f k
+  one-begins (link.received link.undefined) by k = none-begins (link.received link.undefined) k (establishes (terms c service tei) k (link.received link.undefined)) (links.told (terms c service tei) (link.received link.undefined) k).notes (brings-none link.undefined by)
+  one-begins (link.received link.wrong_size) by k = none-begins (link.received link.wrong_size) k (establishes (terms c service tei) k (link.received link.wrong_size)) (links.told (terms c service tei) (link.received link.wrong_size) k).notes (brings-none link.wrong_size by)
+  one-begins (link.received link.overlong) by k = none-begins (link.received link.overlong) k (establishes (terms c service tei) k (link.received link.overlong)) (links.told (terms c service tei) (link.received link.overlong) k).notes (brings-none link.overlong by)
+  one-begins (link.expired timer) by k = none-begins (link.expired timer) k (establishes (terms c service tei) k (link.expired timer)) (links.told (terms c service tei) (link.expired timer) k).notes (ap (λ e. frame_by c e l) by)
+  one-begins (link.requested asked full) by k = none-begins (link.requested asked full) k (establishes (terms c service tei) k (link.requested asked full)) (links.told (terms c service tei) (link.requested asked full) k).notes (ap (λ e. frame_by c e l) by.0)
+  one-begins link.offer by k = none-begins link.offer k (establishes (terms c service tei) k link.offer) (links.told (terms c service tei) link.offer k).notes (ap (λ e. frame_by c e l) by)
+  one-begins link.cleared by k = absurd by
+
+  -- an I-frame that is delivered
+  record Carried (t : Terms) (k : Link) (ct : Control) (octets : List ℕ) (i : Arrived) : Type 0 where
+    ns : Seq
+    nr : Seq
+    p : Bool
+    is : ct ≡ control.Information ns nr p
+    number : i.ns ≡ ns
+    contents : i.contents ≡ octets
+    up : is_multiple_frame k.state ≡ true
+
+  carried : (t : Terms) (k : Link) (ct : Control) (octets : List ℕ) (i : Arrived) → eligible_of t k (information_of ct octets) ≡ Some i → Carried t k ct octets i
+  carried t k (control.Information ns nr p) octets i h = go (is_eligible t k (record { ns = ns; contents = octets })) refl h
+    where
+      go : (b : Bool) → is_eligible t k (record { ns = ns; contents = octets }) ≡ b → cond b (Some (record { ns = ns; contents = octets })) None ≡ Some i
+          → Carried t k (control.Information ns nr p) octets i
+      go true fits e =
+          let same : record { ns = ns; contents = octets } ≡ i = cc e in
+          record {
+            ns = ns;
+            nr = nr;
+            p = p;
+            is = refl;
+            number = ap (λ (j : Arrived). j.ns) (sym same);
+            contents = ap (λ (j : Arrived). j.contents) (sym same);
+            up =
+                (and_parts (nat_le (length octets) t.n201) (is_multiple_frame k.state)
+                (and_parts (nat_le (length octets) t.n201 && is_multiple_frame k.state) (not k.own_busy) fits).0).1;
+          }
+      go false fits e = absurd (none-some i e)
+  carried t k (control.ReceiveReady nr pf) octets i h = absurd (none-some i h)
+  carried t k (control.ReceiveNotReady nr pf) octets i h = absurd (none-some i h)
+  carried t k (control.Reject nr pf) octets i h = absurd (none-some i h)
+  carried t k (control.Sabme p) octets i h = absurd (none-some i h)
+  carried t k (control.Disc p) octets i h = absurd (none-some i h)
+  carried t k (control.Ui p) octets i h = absurd (none-some i h)
+  carried t k (control.Ua f) octets i h = absurd (none-some i h)
+  carried t k (control.Dm f) octets i h = absurd (none-some i h)
+  carried t k (control.Frmr f) octets i h = absurd (none-some i h)
+  carried t k (control.Xid pf) octets i h = absurd (none-some i h)
+
+  pub data-of : (le : link.Event) → IsBy c l e a service tei le → (k : Link) (n : ℕ) → (is_multiple_frame k.state ≡ true → k.r ≡ n) → (contents : List ℕ)
+      → (i : Arrived) → eligible (terms c service tei) le k ≡ Some i → i.contents ≡ contents → i.ns.value ≡ k.r % 128
+      → IsOfFrame service tei (record { frame = frame_by c e l; count = n }) (λ control. number_in control ≡ Some (n % 128)) (Some contents)
+  data-of (link.received (link.frame f)) by k n up contents i h same number =
+      let x = brings-frame f by in
+      let y = carried (terms c service tei) k f.control f.info i h in
+      record {
+        frame = f;
+        heard = x.0;
+        whose = x.1;
+        control = ap number_in y.is ∙ ap (λ (s : Seq). Some s.value) (sym y.number) ∙ ap (λ m. Some m) (number ∙ ap (λ m. m % 128) (up y.up));
+        told = ap (λ o. Some o) (sym same ∙ y.contents);
+      }
+  data-of (link.received link.undefined) by k n up contents i h same number = absurd (none-some i h)
+  data-of (link.received link.wrong_size) by k n up contents i h same number = absurd (none-some i h)
+  data-of (link.received link.overlong) by k n up contents i h same number = absurd (none-some i h)
+  data-of (link.expired timer) by k n up contents i h same number = absurd (none-some i h)
+  data-of (link.requested asked full) by k n up contents i h same number = absurd (none-some i h)
+  data-of link.offer by k n up contents i h same number = absurd (none-some i h)
+  data-of link.cleared by k n up contents i h same number = absurd (none-some i h)
+
+  -- a UI that is told
+  ui-of : (f : Parts) (contents : List ℕ) → (ct : Control) → f.control ≡ ct → in_ui_frame ct f.info ≡ Some contents
+      → (p : Bool) × (f.control ≡ control.Ui p) × (Some contents ≡ Some f.info)
+  ui-of f contents (control.Ui p) is h = (p, is, sym h)
+  ui-of f contents (control.Information ns nr p) is h = absurd (none-some contents h)
+  ui-of f contents (control.ReceiveReady nr pf) is h = absurd (none-some contents h)
+  ui-of f contents (control.ReceiveNotReady nr pf) is h = absurd (none-some contents h)
+  ui-of f contents (control.Reject nr pf) is h = absurd (none-some contents h)
+  ui-of f contents (control.Sabme p) is h = absurd (none-some contents h)
+  ui-of f contents (control.Disc p) is h = absurd (none-some contents h)
+  ui-of f contents (control.Ua b) is h = absurd (none-some contents h)
+  ui-of f contents (control.Dm b) is h = absurd (none-some contents h)
+  ui-of f contents (control.Frmr b) is h = absurd (none-some contents h)
+  ui-of f contents (control.Xid pf) is h = absurd (none-some contents h)
+
+  pub unit-of : (le : link.Event) → IsBy c l e a service tei le → (n : ℕ) (contents : List ℕ) → unit_heard le ≡ Some contents
+      → IsOfFrame service tei (record { frame = frame_by c e l; count = n }) (λ control. is_ui control ≡ true) (Some contents)
+  unit-of (link.received (link.frame f)) by n contents h =
+      let x = brings-frame f by in
+      let y = ui-of f contents f.control refl h in
+      record { frame = f; heard = x.0; whose = x.1; control = ap is_ui y.1; told = y.2 }
+  unit-of (link.received link.undefined) by n contents h = absurd (none-some contents h)
+  unit-of (link.received link.wrong_size) by n contents h = absurd (none-some contents h)
+  unit-of (link.received link.overlong) by n contents h = absurd (none-some contents h)
+  unit-of (link.expired timer) by n contents h = absurd (none-some contents h)
+  unit-of (link.requested asked full) by n contents h = absurd (none-some contents h)
+  unit-of link.offer by n contents h = absurd (none-some contents h)
+  unit-of link.cleared by n contents h = absurd (none-some contents h)

@@ -1,0 +1,317 @@
+-- What is told is what was heard: over runs.
+use Rattle.std.proofs.Common.{◌≡◌, ℕ, ◌+◌, ◌%◌, ◌<◌, ◌&&◌, Bool, true, false, cond, List, [], ◌∷◌, ◌++◌, map, Option, Some, None, option_map, refl, sym, ap, ◌∙◌, subst, arith, eqb-true, eq-eqb, ◌==◌, Result, Ok, Err, true≢false, ◌⊎◌, inl, inr}
+use Rattle.std.specs.Prelude.{fold, option_to_list, is_some}
+use Rattle.std.specs.List.{list_any}
+use Rattle.std.specs.Option.{option_or, option_map_or}
+use Rattle.std.proofs.lemmas.List.{get_or-replicate}
+use Rattle.std.proofs.lemmas.List.Sums.{fold-append}
+use Rattle.std.proofs.lemmas.Option.{none-some}
+use Rattle.lapd_bits.specs.Stream as stream
+use Rattle.lapd_frame.specs.declared.addresses.Address.{Address}
+use Rattle.lapd_frame.specs.declared.addresses.Side.TheVariants.{User}
+use Rattle.lapd_frame.specs.declared.faults.ReadFault.{ReadFault}
+use Rattle.lapd_frame.specs.Reading.{reading}
+use Rattle.lapd_frame.specs.Services.{sapi_of}
+use Rattle.lapd_frame.specs.declared.services.Service.{Service}
+use Rattle.lapd_frame.specs.Grammar.{Parts}
+use Rattle.model_link.specs.declared.terms.Terms.{Terms}
+use Rattle.model_link.specs.Deliveries.{Arrived, restarts, eligible}
+use Rattle.model_link.specs.Events as link
+use Rattle.model_link.specs.Link.{Link, fresh, is_multiple_frame}
+use Rattle.model_link.specs.Machine as links
+use Rattle.model_link.specs.Notes.{is_data, is_unit}
+use Rattle.model_link.specs.Sound as link_sound
+use Rattle.model_link.proofs.Delivering.{event-delivers}
+use Rattle.model_link.proofs.Numbering.{delivered-at_once}
+use Rattle.model_link.proofs.OwnNotes.{notes-own}
+use Rattle.model_link.proofs.TellRows.{event-tells}
+use Rattle.laws_link.specs.Heard.{unit_heard}
+use Rattle.laws_link.proofs.Keeping.{event-unit}
+use Rattle.laws_link.proofs.Once.{within-is}
+use Rattle.lapd_tei.proofs.Tables.{place_of-is}
+use Rattle.model_line.specs.declared.config.Config.{Config}
+use Rattle.model_line.specs.Effect.{at_none, at_link}
+use Rattle.model_line.specs.Event.{Event, octet, expiry, request, pull, Answer, LineTold, told, refused, pulled, nothing}
+use Rattle.model_line.specs.Line.{Line, place_in, link_in, link_of, terms, fresh_line}
+use Rattle.model_line.specs.Machine.{aim_of, of_octet, after, answer}
+use Rattle.model_line.specs.Octet.{gained, aim_of_heard, aim_of_reading, message_of}
+use Rattle.model_line.specs.Pull.{Taken, begun}
+use Rattle.model_line.specs.Request.{Request}
+use Rattle.model_line.specs.Sound.{IsInRange, IsSound}
+use Rattle.model_line.specs.Sound as line
+use Rattle.model_line.proofs.LinksSound.{sound_in}
+use Rattle.laws_line.specs.Heard.{notes_of, contents_in, is_data_of, is_unit_of}
+use Rattle.laws_line.proofs.HandedOn.{own-all}
+use Rattle.laws_line.proofs.Hearing.{addressed-is}
+use Rattle.laws_line.proofs.Obeyed.{service-same, both-true}
+use Rattle.laws_line.proofs.ToldOnce.{told-once}
+use Rattle.laws_line.proofs.TimersFollow.{nowhere}
+use Rattle.model_card.specs.Card.{line_at}
+use Rattle.model_card.specs.Card as cards
+use Rattle.model_card.specs.Event as card
+use Rattle.model_card.specs.Pulled.{frame_taken, octet_in}
+use Rattle.model_card.specs.Run.{after_all, AreAtLines}
+use Rattle.model_card.proofs.CardSound.{fresh_is_sound}
+use Rattle.laws_trace.specs.Trace as traces
+use Rattle.laws_trace.specs.Trace.{Seen, seen_told, seen, Always}
+use Rattle.laws_trace.specs.Deliveries.{Watched, nothing_yet, parts_of, frame_of, is_for, begins, counted, watch, number_in, IsOfFrame, IsHeard, AreHeard, Deliveries}
+use Rattle.laws_trace.specs.Units.{is_ui}
+use Rattle.laws_trace.proofs.Begins.{unless, up-before}
+use Rattle.laws_trace.proofs.Deliveries.{frame_by, data-tells, unit-tells, data-own, unit-own, none-noted, one-begins, data-of, unit-of}
+use Rattle.laws_trace.proofs.OneLink.{HasOne, HasNone, Goes, is_at_link, event-goes}
+use Rattle.laws_trace.proofs.Runs.{run-shows}
+
+-- V(R) is what was counted, while the link is up.
+abbrev pub IsCount : Link → ℕ → Type 0
+IsCount k n = is_multiple_frame k.state ≡ true → k.r ≡ n
+
+-- A frame for a link of a TEI on the line is an event of this link.
+its-aim : (l : Line) (service : Service) (tei place : ℕ) → place_in l tei ≡ Some place → (r : Result Parts ReadFault) (f : Parts) → parts_of r ≡ Some f
+    → is_for service tei f.address ≡ true → is_at_link service tei (aim_of_reading l r) ≡ true
+its-aim l service tei place on (Err fault) f is for = absurd (none-some f is)
+its-aim l service tei place on (Ok g) f is for =
+    let same : g ≡ f = cc is in
+    let parts = both-true (g.address.sapi == sapi_of service) (g.address.tei == tei) (ap (λ (x : Parts). is_for service tei x.address) same ∙ for) in
+    ap (is_at_link service tei)
+    (addressed-is l g.address service tei place (link.frame g) (message_of g.control g.info) (eqb-true g.address.sapi (sapi_of service) parts.0) (eqb-true g.address.tei tei parts.1) on)
+    ∙ ap (λ b. b && tei == tei) (service-same service) ∙ eq-eqb tei tei refl
+
+heard-aims-at : (l : Line) (service : Service) (tei place : ℕ) → place_in l tei ≡ Some place → (o : Option stream.Event) (f : Parts)
+    → option_map_or frame_of o None ≡ Some f → is_for service tei f.address ≡ true
+    → is_at_link service tei (option_map_or (aim_of_heard l) o (at_none nothing)) ≡ true
+heard-aims-at l service tei place on None f is for = absurd (none-some f is)
+heard-aims-at l service tei place on (Some (stream.frame octets)) f is for = its-aim l service tei place on (reading User octets) f is for
+heard-aims-at l service tei place on (Some (stream.overlong head)) f is for = absurd (none-some f is)
+heard-aims-at l service tei place on (Some (stream.dropped cause)) f is for = absurd (none-some f is)
+
+pub event-aims : (c : Config) (l : Line) (service : Service) (tei place : ℕ) → place_in l tei ≡ Some place → (e : Event) (f : Parts) → frame_by c e l ≡ Some f
+    → is_for service tei f.address ≡ true → is_at_link service tei (aim_of c e l) ≡ true
+event-aims c l service tei place on (octet value) f is for = heard-aims-at l service tei place on (gained c.n201 l.received value) f is for
+event-aims c l service tei place on (expiry timer) f is for = absurd (none-some f is)
+event-aims c l service tei place on (request r) f is for = absurd (none-some f is)
+event-aims c l service tei place on pull f is for = absurd (none-some f is)
+
+and-false : (a b : Bool) → (a ≡ true → ⊥) → (a && b) ≡ false
+and-false true b h = absurd (h refl)
+and-false false b h = refl
+
+module _ (c : Config) (ranged : IsInRange c) (l : Line) (s : IsSound c l) (e : Event) (service : Service) (tei : ℕ) (n : ℕ) (before : IsCount (link_of service tei l) n) where
+  abbrev a : Answer
+  a = answer c e l
+
+  abbrev k : Link
+  k = link_of service tei l
+
+  abbrev w : Watched
+  w = record { frame = frame_by c e l; count = n }
+
+  abbrev Data : Option (List ℕ) → Type 0
+  Data contents = IsOfFrame service tei w (λ control. number_in control ≡ Some (n % 128)) contents
+
+  abbrev UnitData : Option (List ℕ) → Type 0
+  UnitData contents = IsOfFrame service tei w (λ control. is_ui control ≡ true) contents
+
+  -- One event of the link.
+  module _ (x : HasOne c service tei e l (after c e l) a) where
+    abbrev t : Terms
+    t = terms c service tei
+
+    own-sound : link_sound.IsSound t k
+    own-sound =
+        subst (link_sound.IsSound t) (sym (ap (λ o. option_map_or (link_in l service) o fresh) x.placed))
+        (sound_in c ranged l s service tei x.place (place_of-is l.management.places tei x.place x.placed).1)
+
+    pub data-noted : list_any (is_data_of service tei) (notes_of a) ≡ is_some (links.told t x.event k).delivered
+    data-noted =
+        ap (list_any (is_data_of service tei)) x.notes ∙ (own-all t (links.told t x.event k).notes (notes-own t x.event k)).0 ∙ (event-tells t x.event k).1
+
+    unit-noted : list_any (is_unit_of service tei) (notes_of a) ≡ is_some (links.told t x.event k).unit
+    unit-noted =
+        ap (list_any (is_unit_of service tei)) x.notes ∙ (own-all t (links.told t x.event k).notes (notes-own t x.event k)).1 ∙ (event-tells t x.event k).3
+
+    one-data : list_any (is_data_of service tei) (notes_of a) ≡ true → Data (contents_in a)
+    one-data some = go (links.told t x.event k).delivered refl
+      where
+        go : (o : Option (List ℕ)) → (links.told t x.event k).delivered ≡ o → Data (contents_in a)
+        go None is = absurd (true≢false (sym some ∙ data-noted ∙ ap is_some is))
+        go (Some contents) is =
+            let y = delivered-at_once t x.event k contents is in
+            let told : contents_in a ≡ Some contents = x.contents ∙ ap (λ o. option_or o (links.told t x.event k).unit) is in
+            subst Data (sym told) (data-of c l e a service tei x.event x.by k n before contents y.0 y.1 y.2 y.3)
+
+    one-unit : list_any (is_unit_of service tei) (notes_of a) ≡ true → UnitData (contents_in a)
+    one-unit some = go (links.told t x.event k).unit refl
+      where
+        alone : (contents : List ℕ) → (links.told t x.event k).unit ≡ Some contents
+            → ((links.told t x.event k).delivered ≡ None) ⊎ ((links.told t x.event k).unit ≡ None) → (links.told t x.event k).delivered ≡ None
+        alone contents is (inl none) = none
+        alone contents is (inr none) = absurd (none-some contents (sym none ∙ is))
+
+        go : (o : Option (List ℕ)) → (links.told t x.event k).unit ≡ o → UnitData (contents_in a)
+        go None is = absurd (true≢false (sym some ∙ unit-noted ∙ ap is_some is))
+        go (Some contents) is =
+            let none = alone contents is (event-tells t x.event k).2 in
+            let told : contents_in a ≡ Some contents = x.contents ∙ ap (λ o. option_or o (links.told t x.event k).unit) none ∙ is in
+            let heard = within-is t.n201 (unit_heard x.event) contents (sym (event-unit t k own-sound x.event) ∙ is) in
+            subst UnitData (sym told) (unit-of c l e a service tei x.event x.by n contents heard)
+
+    one-counts : IsCount (link_of service tei (after c e l)) (counted service tei w (notes_of a))
+    one-counts up = go (restarts t x.event k) refl
+      where
+        begins-is : begins service tei (frame_by c e l) (notes_of a) ≡ restarts t x.event k
+        begins-is = ap (begins service tei (frame_by c e l)) x.notes ∙ one-begins c l e a service tei x.event x.by k
+
+        r-is : (link_of service tei (after c e l)).r ≡ (links.after t x.event k).r
+        r-is = ap (λ (y : Link). y.r) x.is
+
+        count-is : (b : Bool) → restarts t x.event k ≡ b → counted service tei w (notes_of a) ≡ cond b 0 (cond (is_some (links.told t x.event k).delivered) (n + 1) n)
+        count-is b is =
+            ap (λ b. cond b 0 (cond (list_any (is_data_of service tei) (notes_of a)) (n + 1) n)) (begins-is ∙ is)
+            ∙ ap (λ d. cond b 0 (cond d (n + 1) n)) data-noted
+
+        go : (b : Bool) → restarts t x.event k ≡ b → (link_of service tei (after c e l)).r ≡ counted service tei w (notes_of a)
+        go true is =
+            elim (event-delivers t k x.event) [
+              | inl y ↦ absurd (true≢false (sym is ∙ y.goes_on))
+              | inr y ↦ r-is ∙ y.number ∙ sym (count-is true is)
+            ]
+        go false is =
+            elim (event-delivers t k x.event) [
+              | inl y ↦
+                  let was = before (up-before t x.event k (ap (λ (z : Link). is_multiple_frame z.state) (sym x.is) ∙ up) is) in
+                  r-is ∙ y.number ∙ ap (λ o. cond {A = ℕ} (is_some o) (k.r + 1) k.r) (sym y.delivered)
+                  ∙ ap (λ r. cond {A = ℕ} (is_some (links.told t x.event k).delivered) (r + 1) r) was ∙ sym (count-is false is)
+              | inr y ↦ absurd (true≢false (sym y.begins ∙ is))
+            ]
+
+  -- None of it.
+  module _ (x : HasNone c service tei e l (after c e l) a) where
+    no-data : list_any (is_data_of service tei) (notes_of a) ≡ true → ⊥
+    no-data = none-noted c ranged l s e service tei (is_data_of service tei) (data-tells service tei) (data-own service tei) x.aims
+
+    no-unit : list_any (is_unit_of service tei) (notes_of a) ≡ true → ⊥
+    no-unit = none-noted c ranged l s e service tei (is_unit_of service tei) (unit-tells service tei) (unit-own service tei) x.aims
+
+    none-counts : IsCount (link_of service tei (after c e l)) (counted service tei w (notes_of a))
+    none-counts up = go x.is
+      where
+        fresh-down : (p : Option ℕ) → place_in l tei ≡ p → is_multiple_frame k.state ≡ true → (f : Parts) → frame_by c e l ≡ Some f
+            → is_for service tei f.address ≡ true → ⊥
+        fresh-down None off up f is for = true≢false (sym up ∙ ap (λ o. is_multiple_frame (option_map_or (link_in l service) o fresh).state) off)
+        fresh-down (Some place) on up f is for = true≢false (sym (event-aims c l service tei place on e f is for) ∙ x.aims)
+
+        by-frame : (o : Option Parts) → frame_by c e l ≡ o → is_multiple_frame k.state ≡ true → begins service tei o (notes_of a) ≡ false
+        by-frame None is up = refl
+        by-frame (Some f) is up = and-false (is_for service tei f.address) _ (λ for. fresh-down (place_in l tei) refl up f is for)
+
+        go : (link_of service tei (after c e l) ≡ k) ⊎ (link_of service tei (after c e l) ≡ fresh)
+            → (link_of service tei (after c e l)).r ≡ counted service tei w (notes_of a)
+        go (inl same) =
+            let was = ap (λ (y : Link). is_multiple_frame y.state) (sym same) ∙ up in
+            ap (λ (y : Link). y.r) same ∙ before was
+            ∙ ap (λ b. cond b 0 n) (sym (by-frame (frame_by c e l) refl was))
+            ∙ ap (λ d. cond (begins service tei (frame_by c e l) (notes_of a)) 0 (cond d (n + 1) n)) (unless _ no-data)
+        go (inr new) = absurd (true≢false (sym up ∙ ap (λ (y : Link). is_multiple_frame y.state) new))
+
+  -- So of every event.
+  pub event-told : IsHeard service tei w (notes_of a) (contents_in a) × IsCount (link_of service tei (after c e l)) (counted service tei w (notes_of a))
+  event-told = go (event-goes c e l service tei s)
+    where
+      go : Goes c service tei e l (after c e l) a → IsHeard service tei w (notes_of a) (contents_in a) × IsCount (link_of service tei (after c e l)) (counted service tei w (notes_of a))
+      go (inl x) = (
+        record { data_is = λ some. absurd (no-data x some); unit_is = λ some. absurd (no-unit x some); once = told-once c e l ranged s },
+        none-counts x,
+      )
+      go (inr x) = (
+        record { data_is = one-data x; unit_is = one-unit x; once = told-once c e l ranged s },
+        one-counts x,
+      )
+
+-- What is seen of an event, to whoever watches the link.
+module _ (service : Service) (tei : ℕ) where
+  abbrev pub Passes : Watched → List Seen → Link → Type 0
+  Passes w t k = AreHeard service tei w t × ((fold (watch service tei) w t).frame ≡ None) × IsCount k (fold (watch service tei) w t).count
+
+  after-heard : (g : Option stream.Event) (n : ℕ) (k : Link) (t : LineTold) → let w : Watched = record { frame = option_map_or frame_of g None; count = n } in
+      IsHeard service tei w t.notes t.contents → IsCount k (counted service tei w t.notes)
+      → Passes (record { frame = None; count = n }) (map traces.heard (option_to_list g) ++ traces.noted t.notes t.contents ∷ traces.lost t.lost ∷ []) k
+  after-heard None n k t h count = ((h, (tt, tt)), refl, count)
+  after-heard (Some e) n k t h count = ((tt, (h, (tt, tt))), refl, count)
+
+  after-told : (n : ℕ) (k : Link) (a : Answer) → let w : Watched = record { frame = None; count = n } in
+      IsHeard service tei w (notes_of a) (contents_in a) → IsCount k (counted service tei w (notes_of a)) → Passes w (seen_told a) k
+  after-told n k (told t) h count = ((h, (tt, tt)), refl, count)
+  after-told n k (refused why) h count = (tt, refl, count)
+  after-told n k (pulled value is_begun orders) h count = (tt, refl, count)
+
+  after-asked : (r : Request) (n : ℕ) (k : Link) (a : Answer) → let w : Watched = record { frame = None; count = n } in
+      IsHeard service tei w (notes_of a) (contents_in a) → IsCount k (counted service tei w (notes_of a)) → Passes w (traces.seen_granted r a ++ seen_told a) k
+  after-asked r n k (told t) h count = ((tt, (h, (tt, tt))), refl, count)
+  after-asked r n k (refused why) h count = (tt, refl, count)
+  after-asked r n k (pulled value is_begun orders) h count = (tt, refl, count)
+
+  after-pull : (o : Option Taken) (n : ℕ) (k : Link) (a : Answer) → IsCount k n
+      → Passes (record { frame = None; count = n }) (map traces.begun (option_to_list (option_map frame_taken o)) ++ map traces.put (octet_in a)) k
+  after-pull None n k (told t) count = (tt, refl, count)
+  after-pull None n k (refused why) count = (tt, refl, count)
+  after-pull None n k (pulled value is_begun orders) count = ((tt, tt), refl, count)
+  after-pull (Some t) n k (told u) count = ((tt, tt), refl, count)
+  after-pull (Some t) n k (refused why) count = ((tt, tt), refl, count)
+  after-pull (Some t) n k (pulled value is_begun orders) count = ((tt, (tt, tt)), refl, count)
+
+  event-passes : (c : Config) → IsInRange c → (e : Event) (l : Line) → IsSound c l → (n : ℕ) → IsCount (link_of service tei l) n
+      → Passes (record { frame = None; count = n }) (seen c e l (answer c e l)) (link_of service tei (after c e l))
+  unfolding answer
+  event-passes c ranged (octet value) l s n before =
+      let h = event-told c ranged l s (octet value) service tei n before in
+      after-heard (gained c.n201 l.received value) n (link_of service tei (after c (octet value) l)) (of_octet c value l).told h.0 h.1
+  event-passes c ranged (expiry timer) l s n before =
+      let h = event-told c ranged l s (expiry timer) service tei n before in
+      after-told n (link_of service tei (after c (expiry timer) l)) (answer c (expiry timer) l) h.0 h.1
+  event-passes c ranged (request r) l s n before =
+      let h = event-told c ranged l s (request r) service tei n before in
+      after-asked r n (link_of service tei (after c (request r) l)) (answer c (request r) l) h.0 h.1
+  event-passes c ranged pull l s n before =
+      let h = event-told c ranged l s pull service tei n before in
+      after-pull (begun c l) n (link_of service tei (after c pull l)) (answer c pull l) h.1
+
+  -- one trace behind another
+  pub heard-append : (w : Watched) (t u : List Seen) → AreHeard service tei w t → AreHeard service tei (fold (watch service tei) w t) u → AreHeard service tei w (t ++ u)
+  heard-append w [] u h i = i
+  heard-append w (x ∷ t) u h i = (h.0, heard-append (watch service tei w x) t u h.1 i)
+
+-- Over runs.
+abbrev Stands : Config → Line → Type 0
+Stands c l = Unit {0}
+
+abbrev Shows : Config → Line → List Seen → Line → Type 0
+Shows c k t l =
+    (service : Service) (tei n : ℕ) → IsCount (link_of service tei k) n → Passes service tei (record { frame = None; count = n }) t (link_of service tei l)
+
+rests : (c : Config) (l : Line) → Shows c l [] l
+rests c l service tei n count = (tt, refl, count)
+
+joins : (c : Config) (k l m : Line) (t u : List Seen) → Shows c k t l → Shows c l u m → Shows c k (t ++ u) m
+joins c k l m t u h i service tei n count =
+    let first = h service tei n count in
+    let w = fold (watch service tei) (record { frame = None; count = n }) t in
+    let second = subst (λ o. Passes service tei (record { frame = o; count = w.count }) u (link_of service tei m)) (sym first.1) (i service tei w.count first.2) in (
+      heard-append service tei (record { frame = None; count = n }) t u first.0 second.0,
+      ap (λ (w : Watched). w.frame) (fold-append (watch service tei) (record { frame = None; count = n }) t u) ∙ second.1,
+      λ up. second.2 up ∙ sym (ap (λ (w : Watched). w.count) (fold-append (watch service tei) (record { frame = None; count = n }) t u)),
+    )
+
+steps : (c : Config) → IsInRange c → (e : Event) (l : Line) → IsSound c l → Stands c l → Shows c l (seen c e l (answer c e l)) (after c e l) × Stands c (after c e l)
+steps c ranged e l s stands = ((λ service tei n count. event-passes service tei c ranged e l s n count), tt)
+
+-- What is told in a run is heard, and V(R) is what was counted.
+pub run-passes : (c : Config) (events : List card.Event) (number : ℕ) → IsInRange c → AreAtLines (cards.fresh c) events → number < c.lines → (service : Service) (tei : ℕ)
+    → Passes service tei nothing_yet (traces.trace_of c events number) (link_of service tei (line_at number (after_all (cards.fresh c) events)))
+run-passes c events number ranged all within service tei =
+    let start : line_at number (cards.fresh c) ≡ fresh_line c = get_or-replicate c.lines number (fresh_line c) (fresh_line c) within in
+    let off : link_of service tei (line_at number (cards.fresh c)) ≡ fresh =
+    ap (link_of service tei) start ∙ ap (λ o. option_map_or (link_in (fresh_line c) service) o fresh) (nowhere c tei) in
+    (run-shows Stands Shows rests joins steps (cards.fresh c) events number (fresh_is_sound c ranged) all tt).0 service tei 0 (λ up. ap (λ (k : Link). k.r) off)
+
+pub deliveries : Always Deliveries
+deliveries c events number ranged all within service tei = (run-passes c events number ranged all within service tei).0

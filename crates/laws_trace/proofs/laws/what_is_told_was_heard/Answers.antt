@@ -1,0 +1,10 @@
+-- Hand-written answers for `what_is_told_was_heard`.
+use Rattle.laws_trace.proofs.AllAreTold.{all-are-told}
+use Rattle.laws_trace.proofs.DeliveriesRun.{deliveries}
+use Rattle.laws_trace.proofs.laws.what_is_told_was_heard.Goals as goal
+
+pub returns-clause-heard : goal.returns-clause-heard
+returns-clause-heard c = λ config events number ranged all within. deliveries config events number ranged all within
+
+pub returns-clause-told : goal.returns-clause-told
+returns-clause-told c = λ config events number ranged all within. all-are-told config events number ranged all within

@@ -1,0 +1,130 @@
+-- What layer 3 is told of what is heard.
+use Rattle.std.specs.Prelude.{◌≡◌, ◌≤◌, ℕ, ◌+◌, ◌%◌, ◌==◌, ◌&&◌, not, Bool, true, false, List, [], ◌∷◌, ◌++◌, length, fold, option_to_list, count_by, Option, Some, None, Result, Ok, Err, if◌then◌else◌}
+use Rattle.std.specs.List.{list_any}
+use Rattle.lapd_bits.specs.Stream as stream
+use Rattle.lapd_frame.specs.declared.addresses.Address.{Address}
+use Rattle.lapd_frame.specs.declared.addresses.Side.TheVariants.{User}
+use Rattle.lapd_frame.specs.declared.controls.Control.{Control}
+use Rattle.lapd_frame.specs.declared.controls.Control.TheVariants.{Information, Sabme, Ua}
+use Rattle.lapd_frame.specs.declared.faults.ReadFault.{ReadFault}
+use Rattle.lapd_frame.specs.declared.notes.ErrorCode.TheVariants.{C}
+use Rattle.lapd_frame.specs.declared.notes.Note.{Note}
+use Rattle.lapd_frame.specs.declared.notes.Note.TheVariants.{Error, ReleaseConfirm}
+use Rattle.lapd_frame.specs.declared.services.Service.{Service}
+use Rattle.lapd_frame.specs.Grammar.{Parts}
+use Rattle.lapd_frame.specs.Reading.{reading}
+use Rattle.lapd_frame.specs.Services.{sapi_of}
+use Rattle.model_link.specs.Link.{Link, is_multiple_frame}
+use Rattle.model_line.specs.declared.config.Config.{Config}
+use Rattle.model_line.specs.Line.{link_of}
+use Rattle.model_card.specs.Card.{fresh, line_at}
+use Rattle.model_card.specs.Event.{Event}
+use Rattle.model_card.specs.Run.{moments, after_all}
+use Rattle.laws_line.specs.Heard.{is_data_of, is_unit_of, tells_contents}
+use Rattle.laws_trace.specs.Trace.{Seen, heard, noted, trace, trace_of, IsAmong}
+use Rattle.laws_trace.specs.Units.{is_ui}
+
+-- Whoever watches the link of a service with a TEI keeps in mind the frame that was heard right before, as the grammar
+-- reads it, and how many contents were told as data of the link since its numbers began.
+pub record Watched : Type 0 where
+  pub frame : Option Parts
+  pub count : ℕ
+
+abbrev pub nothing_yet : Watched
+nothing_yet = record { frame = None; count = 0 }
+
+abbrev pub parts_of : Result Parts ReadFault → Option Parts
+parts_of (Ok parts) = Some parts
+parts_of (Err fault) = None
+
+abbrev pub frame_of : stream.Event → Option Parts
+frame_of (stream.frame octets) = parts_of (reading User octets)
+frame_of (stream.overlong head) = None
+frame_of (stream.dropped cause) = None
+
+abbrev pub is_for : Service → ℕ → Address → Bool
+is_for service tei address = address.sapi == sapi_of service && address.tei == tei
+
+-- The numbers begin with SABME that is told, and with UA with F=1 unless it is told as error C, or as the end of the link
+-- (Q.921 clauses 5.5.1.2, 5.5.3.2, 5.7 and 5.8.7).
+abbrev pub is_told : List Note → Bool
+is_told [] = false
+is_told (n ∷ ns) = true
+
+abbrev pub is_end : Note → Bool
+is_end (ReleaseConfirm service tei) = true
+is_end (Error service tei C) = true
+is_end other = false
+
+abbrev pub begins_by : Control → List Note → Bool
+begins_by (Sabme p) ns = is_told ns
+begins_by (Ua f) ns = f && not (list_any is_end ns)
+begins_by other ns = false
+
+abbrev pub begins : Service → ℕ → Option Parts → List Note → Bool
+begins service tei None ns = false
+begins service tei (Some f) ns = is_for service tei f.address && begins_by f.control ns
+
+abbrev pub counted : Service → ℕ → Watched → List Note → ℕ
+counted service tei w ns =
+    if begins service tei w.frame ns then 0 else if list_any (is_data_of service tei) ns then w.count + 1 else w.count
+
+abbrev pub watch : Service → ℕ → Watched → Seen → Watched
+watch service tei w (heard e) = record w { frame = frame_of e }
+watch service tei w (noted ns contents) = record { frame = None; count = counted service tei w ns }
+watch service tei w other = record w { frame = None }
+
+-- N(S) of an I-frame, the one field that none but it has.
+abbrev pub number_in : Control → Option ℕ
+number_in (Information ns nr p) = Some ns.value
+number_in other = None
+
+-- The contents are the information of a frame of the link that was heard right before, and that is as it is said,
+pub record IsOfFrame (service : Service) (tei : ℕ) (w : Watched) (Is : Control → Type 0) (contents : Option (List ℕ)) : Type 0 where
+  pub frame : Parts
+  pub heard : w.frame ≡ Some frame
+  pub whose : is_for service tei frame.address ≡ true
+  pub control : Is frame.control
+  pub told : contents ≡ Some frame.info
+
+-- data of an I-frame, whose N(S) is the number of contents told of the link since its numbers began, modulo 128 (clauses
+-- 3.5.2.4 to 3.5.2.6 and 5.6.2); unit data of a UI (clause 5.2.3); and contents that are told are noted as one or the other,
+-- once.
+pub record IsHeard (service : Service) (tei : ℕ) (w : Watched) (ns : List Note) (contents : Option (List ℕ)) : Type 0 where
+  pub data_is : list_any (is_data_of service tei) ns ≡ true → IsOfFrame service tei w (λ control. number_in control ≡ Some (w.count % 128)) contents
+  pub unit_is : list_any (is_unit_of service tei) ns ≡ true → IsOfFrame service tei w (λ control. is_ui control ≡ true) contents
+  pub once : count_by tells_contents ns ≡ length (option_to_list contents)
+
+abbrev pub IsHeardIn : Service → ℕ → Watched → Seen → Type 0
+IsHeardIn service tei w (noted ns contents) = IsHeard service tei w ns contents
+IsHeardIn service tei w other = Unit {0}
+
+abbrev pub AreHeard : Service → ℕ → Watched → List Seen → Type 0
+AreHeard service tei w [] = Unit {0}
+AreHeard service tei w (x ∷ t) = IsHeardIn service tei w x × AreHeard service tei (watch service tei w x) t
+
+-- So it is of every link, from the start of the card on.
+abbrev pub Deliveries : Config → List Event → ℕ → Type 0
+Deliveries c events number = (service : Service) (tei : ℕ) → AreHeard service tei nothing_yet (trace_of c events number)
+
+-- And contents that may be told are told, in the moment of their frame: an I-frame for a link in state 7 or 8, own busy off, of
+-- at most N201 octets, whose N(S) is the number of contents told, modulo 128 (clauses 5.6.2 and 5.6.6).
+pub record MayBeTold (c : Config) (l : Link) (count : ℕ) (frame : Parts) : Type 0 where
+  pub up : is_multiple_frame l.state ≡ true
+  pub free : l.own_busy ≡ false
+  pub size : length frame.info ≤ c.n201
+  pub next : number_in frame.control ≡ Some (count % 128)
+
+pub record IsTold (service : Service) (tei : ℕ) (contents : List ℕ) (now : List Seen) : Type 0 where
+  pub notes : List Note
+  pub told : IsAmong (noted notes (Some contents)) now
+  pub as_data : list_any (is_data_of service tei) notes ≡ true
+
+abbrev pub AllAreTold : Config → List Event → ℕ → Type 0
+AllAreTold c events number =
+    (service : Service) (tei : ℕ) (before : List Event) (e : Event) (behind : List Event) → events ≡ before ++ e ∷ behind →
+    let card = after_all (fresh c) before in
+    let now = trace number (moments card (e ∷ [])) in
+    let w = fold (watch service tei) nothing_yet (trace_of c before number) in
+    (octets : List ℕ) (frame : Parts) → IsAmong (heard (stream.frame octets)) now → reading User octets ≡ Ok frame →
+    is_for service tei frame.address ≡ true → MayBeTold c (link_of service tei (line_at number card)) w.count frame → IsTold service tei frame.info now

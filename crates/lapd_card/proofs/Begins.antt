@@ -15,6 +15,8 @@ use Rattle.model_card.proofs.Reaching.{reached-fresh}
 use Rattle.lapd_store.specs.Ownership.{Holds}
 use Rattle.lapd_store.specs.Store.{Store, used_slots}
 use Rattle.lapd_store.proofs.Ownership.{Holds-unused, used_slots-held}
+use Rattle.lapd_count.specs.Counters.{none_counted}
+use Rattle.lapd_card.specs.Counted.{counters_in}
 use Rattle.lapd_card.specs.Lines.{IsFit, owned, IsFresh, AreFresh}
 use Rattle.lapd_card.specs.Stands.{Stands}
 use Rattle.lapd_card.specs.Start.{is_too_small}
@@ -43,6 +45,14 @@ fresh_owned c [] s wide none all = refl
 fresh_owned c (l ∷ ls) s wide none (one, all) =
     ap (λ ps. ps ++ flat_map owned (zip ls (replicate (length ls) (fresh_line c)))) (owns_nothing c l s wide none one)
     ∙ fresh_owned c ls s wide none all
+
+-- nothing is counted of them
+fresh_counters : (c : Config) (ls : List Line) → AllByRecursion (IsFresh c) ls → counters_in ls ≡ replicate (length ls) none_counted
+fresh_counters c [] all = refl
+fresh_counters c (l ∷ ls) (one, all) = ap (λ k. k ∷ counters_in ls) one.counters ∙ ap (λ ks. none_counted ∷ ks) (fresh_counters c ls all)
+
+pub none_is_counted : (c : Config) (ls : List Line) → AreFresh c ls → counters_in ls ≡ replicate c.lines none_counted
+none_is_counted c ls all = fresh_counters c ls all.each ∙ ap (λ n. replicate n none_counted) all.count
 
 -- lines as they begin stand, on a shelf that is not too small
 pub fresh_stands : {S : Type 0} (store : S → Store) (c : Config) (ls : List Line) (shelf : S) → first_fault c ≡ None → is_too_small c (store shelf) ≡ false → AreFresh c ls → Stands store (record { config = c; lines = ls; shelf = shelf }) (fresh c)

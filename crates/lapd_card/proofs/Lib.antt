@@ -7,6 +7,7 @@ pub mod FrameHeadline
 pub mod FrameTaken
 pub mod OneEvent
 pub mod Taken
+pub mod Counting
 pub mod Begins
 pub mod Amounts
 pub mod Headline

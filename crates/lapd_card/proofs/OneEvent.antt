@@ -1,12 +1,13 @@
 -- An event at a card is one at one of its lines.
 use Rattle.std.proofs.Common.{if◌then◌else◌, ◌≡◌, ℕ, ◌≤◌, ◌<◌, Bool, true, false, ◌&&◌, List, [], ◌++◌, length, nat_le, refl, sym, ap, subst, ◌∙◌, Some, None, IsSome, Option, arith, Ok, Err, Result, IfOk, IfErr, OnErr}
 use Rattle.std.proofs.lemmas.Bool.{lt-ltb}
-use Rattle.std.proofs.lemmas.List.{append-nil}
+use Rattle.std.proofs.lemmas.List.{append-nil, set-get_or}
 use Rattle.std.proofs.lemmas.Option.{none-some}
 use Rattle.std.specs.List.{flat_map, sum_by, zip}
 use Rattle.lapd_frame.specs.declared.refusals.Refusal.{Refusal}
 use Rattle.lapd_frame.specs.declared.refusals.Refusal.TheVariants.{PoolFull}
 use Rattle.lapd_frame.specs.declared.services.Service.{Service}
+use Rattle.lapd_count.specs.Counters.{none_counted}
 use Rattle.lapd_line.specs.declared.line.Line.{Line}
 use Rattle.lapd_line.specs.declared.reports.Report.{Report}
 use Rattle.lapd_line.specs.Reports.{report_told}
@@ -30,6 +31,7 @@ use Rattle.lapd_store.specs.Store.{Store, used_slots, stored_octets}
 use Rattle.lapd_store.proofs.Ownership.{used_slots-held, stored_octets-held}
 use Rattle.lapd_store.proofs.Focus.{slots-machines, octets-machines}
 use Rattle.lapd_card.specs.Card.{Held, line_count}
+use Rattle.lapd_card.specs.Counted.{counters_in, one_counted}
 use Rattle.lapd_card.specs.Lines.{IsFit, owned, Stand, Lead, line_in, after_event}
 use Rattle.lapd_card.specs.Reply.{answer_of_result}
 use Rattle.lapd_card.specs.Stands.{Stands, Leads, HasPast}
@@ -83,6 +85,11 @@ event_leads {S} store what number old ls shelf within room lead =
             slots = subst (λ n. old.config.slots ≤ n) (sym lead.limits.slots) s.slots;
             reached = subst IsReached is (reached-after m (at number what) s.reached (subst (λ c. number < c.lines) (sym s.config) within));
           });
+      counted = λ m s.
+          let there : Config → line.Line = λ c. line_in c number m.lines in
+          lead.counted old.config m.lines s.lines
+          ∙ ap (λ c. one_counted number c what (there c) (lines.answer c what (there c)) (counters_in old.lines)) (sym s.config)
+          ∙ ap (λ a. one_counted number m.config what (there m.config) a (counters_in old.lines)) (sym (answer_served (at number what) m (room m s)));
     }
 
 -- and answers what its line answers
@@ -152,6 +159,11 @@ request_leads {S} store r number old ls shelf (Err why) within refused accepted 
       stands = λ m s.
           let some = subst (λ o. IsSome o) (sym (refused m s)) refl in
           subst (Stands store new) (sym (refused_by_the_table.unchanged m number r some)) (subst (λ card. Stands store card m) (sym new_is) s);
+      counted = λ m s.
+          let all = counters_in old.lines in
+          ap counters_in same
+          ∙ sym (set-get_or all number none_counted)
+          ∙ ap (λ a. one_counted number m.config (line_event.request r) (line_at number m) a all) (sym ((refused_by_the_table.refused_exactly m number r why).1 (refused m s)));
     }
 request_leads store r number old ls shelf (Ok report) within refused accepted same kept leads =
     event_leads store (line_event.request r) number old ls shelf within (λ m s. accepted_has_room r number m (accepted m s)) leads

@@ -1,8 +1,10 @@
 -- One line of a card, taken out of its lines and put back.
 use Rattle.std.proofs.Common.{Option, None, Some, ◌≡◌, ℕ, ◌≤◌, ◌<◌, List, [], length, sym, ap, subst, ◌∙◌, arith, get_or, set, length-set, refl}
-use Rattle.std.proofs.lemmas.List.{get_or_default, get_or-set_same}
+use Rattle.std.proofs.lemmas.List.{get_or_default, get_or-set_same, get_or-map, map-set}
 use Rattle.std.proofs.lemmas.Option.{slice_get-get_or}
 use Rattle.std.specs.Option.{option_map_or}
+use Rattle.lapd_count.specs.Counters.{none_counted, with_all}
+use Rattle.lapd_line.specs.Counted.{shown}
 use Rattle.lapd_line.specs.declared.reports.BareReport.{BareReport}
 use Rattle.lapd_line.specs.declared.line.Line.{Line}
 use Rattle.lapd_line.specs.Stands as line
@@ -12,10 +14,11 @@ use Rattle.lapd_line.proofs.Stood.{held_of, stands_on}
 use Rattle.model_line.specs.declared.config.Config.{Config}
 use Rattle.model_line.specs.Event.{Event, nothing}
 use Rattle.model_line.specs.Line as machine
-use Rattle.model_line.specs.Machine.{after}
+use Rattle.model_line.specs.Machine.{after, answer}
 use Rattle.lapd_store.specs.Ownership.{Owned}
 use Rattle.lapd_store.specs.Store.{Store, SameLimits}
 use Rattle.lapd_store.proofs.Focus.{FocusPair, focus_pair}
+use Rattle.lapd_card.specs.Counted.{counters_of, counters_in}
 use Rattle.lapd_card.specs.Lines.{IsFit, owned, Stand, Serve, Lead, line_in, told_of, told_at, told_if_at}
 
 -- A line stands for its part of the machine, beside what the other lines own; and whatever it and the shelf are
@@ -64,6 +67,11 @@ one_serves items lines i x at s (c, ms, stand) =
     let focus = focused_at items lines i x at c s ms stand in
     (focus.rest, line_in c i ms, focus.stands)
 
+-- its counters are those at its place
+pub counters_at : (items lines : List Line) (i : ℕ) (x : Line) → IsAt items lines i x → x.counters ≡ get_or (counters_in lines) i none_counted
+counters_at items lines i x at =
+    ap counters_of (subst (λ ls. x ≡ get_or ls i x) at.same at.is) ∙ sym (get_or-map counters_of lines i x none_counted at.within)
+
 -- what a call on it does, it does among all
 pub one_leads : (e : Event) (items lines : List Line) (i : ℕ) (x : Line) → IsAt items lines i x → (s : Store) (y : Line) (t : Store) → line.Leads e x s y t → Lead i e lines s (set items i y) t
 one_leads e items lines i x at s y t leads = subst (λ ls. Lead i e lines s (set ls i y) t) (sym at.same) (record {
@@ -73,6 +81,14 @@ one_leads e items lines i x at s y t leads = subst (λ ls. Lead i e lines s (set
       let focus = focused_at items lines i x at c s ms stand in
       focus.back t y _ leads.limits leads.config
       (subst (λ d. line.Stands y t focus.rest (after d e (line_in c i ms))) focus.config (leads.stands focus.rest (line_in c i ms) focus.stands));
+  counted = λ c ms stand.
+      let focus = focused_at items lines i x at c s ms stand in
+      let l = line_in c i ms in
+      map-set counters_of lines i y
+      ∙ ap (set (counters_in lines) i)
+      (leads.counted focus.rest l focus.stands
+      ∙ ap (λ d. with_all x.counters (shown d e l (answer d e l))) focus.config
+      ∙ ap (λ k. with_all k (shown c e l (answer c e l))) (counters_at items lines i x at));
 })
 
 -- what is said of every past of the line is said of the line of the machine

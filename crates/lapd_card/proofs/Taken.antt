@@ -26,7 +26,7 @@ events-next [] at e is = absurd (none-some e is)
 events-next (x ∷ xs) zero e is = ap (λ y. event_of y ∷ []) (same_Some x e is)
 events-next (x ∷ xs) (suc at) e is = ap (λ l. event_of x ∷ l) (events-next xs at e is)
 
-events-more : (events : List rust.Event) (at : ℕ) (e : rust.Event) → slice_get events at ≡ Some e → take (at + 1) (events_of events) ≡ take at (events_of events) ++ event_of e ∷ []
+pub events-more : (events : List rust.Event) (at : ℕ) (e : rust.Event) → slice_get events at ≡ Some e → take (at + 1) (events_of events) ≡ take at (events_of events) ++ event_of e ∷ []
 events-more events at e is = ap (λ n. take n (events_of events)) one_more_is ∙ events-next events at e is
   where
     one_more_is : at + 1 ≡ suc at

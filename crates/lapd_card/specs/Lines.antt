@@ -10,7 +10,9 @@ use Rattle.lapd_line.specs.Stands.{config_of, pairs_of, latest_frame}
 use Rattle.model_line.specs.declared.config.Config.{Config}
 use Rattle.model_line.specs.Event.{Event, LineTold, nothing}
 use Rattle.model_line.specs.Line as machine
-use Rattle.model_line.specs.Machine.{after}
+use Rattle.model_line.specs.Machine.{after, answer}
+use Rattle.lapd_count.specs.Counters.{none_counted}
+use Rattle.lapd_card.specs.Counted.{counters_in, one_counted}
 use Rattle.lapd_store.specs.Ownership.{Owned, Holds}
 use Rattle.lapd_store.specs.Store.{Store, SameLimits}
 
@@ -49,6 +51,8 @@ pub record Lead (number : ℕ) (e : Event) (old : List Line) (s : Store) (new : 
   pub count : length new ≡ length old
   pub limits : SameLimits s t
   pub stand : (c : Config) (ms : List machine.Line) → Stand c old s ms → Stand c new t (after_event c number e ms)
+  pub counted : (c : Config) (ms : List machine.Line) → Stand c old s ms
+      → counters_in new ≡ one_counted number c e (line_in c number ms) (answer c e (line_in c number ms)) (counters_in old)
 
 -- What an outcome tells of the line at a place.
 abbrev pub told_of : BareReport → Line → LineTold
@@ -66,6 +70,7 @@ told_if_at lines number (Some outcome) = told_at lines number outcome
 pub record IsFresh (c : Config) (l : Line) : Type 0 where
   pub config : config_of l ≡ c
   pub stands : (store : Store) (others : List Owned) → c.n201 ≤ store.width → Holds store others → line.Stands l store others (machine.fresh_line c)
+  pub counters : l.counters ≡ none_counted
 
 pub record AreFresh (c : Config) (lines : List Line) : Type 0 where
   pub count : length lines ≡ c.lines

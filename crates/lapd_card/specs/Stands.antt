@@ -5,6 +5,7 @@ use Rattle.model_card.specs.Event.{Event}
 use Rattle.model_card.specs.Machine.{after}
 use Rattle.model_card.specs.Reached.{IsReached}
 use Rattle.lapd_card.specs.Card.{Held}
+use Rattle.lapd_card.specs.Counted.{counters_in, moment_counted, moment_of}
 use Rattle.lapd_card.specs.Lines as lines
 use Rattle.lapd_store.specs.Store.{Store}
 
@@ -21,7 +22,9 @@ abbrev pub HasPast : {S : Type 0} → (S → Store) → Held S → Type 0
 HasPast store card = (m : machine.Card) × Stands store card m
 
 -- An event leads a card from one value to another: for every machine for which the card stood, it stands for that
--- machine after the event.
+-- machine after the event; and its counters count the event.
 pub record Leads {S : Type 0} (store : S → Store) (event : Event) (old new : Held S) : Type 0 where
   pub config : new.config ≡ old.config
   pub stands : (m : machine.Card) → Stands store old m → Stands store new (after event m)
+  -- at its line what it shows is counted, and on no other line anything
+  pub counted : (m : machine.Card) → Stands store old m → counters_in new.lines ≡ moment_counted (counters_in old.lines) (moment_of m event)

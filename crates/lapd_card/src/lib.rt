@@ -26,7 +26,7 @@
 //! - `drive` with `sink` and `replies`: whole lists of events; `kept`: a sink that keeps the replies.
 //! - `start` with `fault`: how a card begins, and why it does not.
 //! - `stored`: how many octets it stores, and how many it may; `rooms`: how many contents more a link takes;
-//!   `begun`: which frame a pull began.
+//!   `begun`: which frame a pull began; `counted`: what was counted of a line.
 //! - `lines`: the lines as one part.
 //! - `frame_card` with `frame_start` and `frame_lines`: [`FrameCard`], a card at whose lines a controller keeps flags, stuffed
 //!   0s and checks, and gives and takes whole frames. What kind a card is, is said at its start and stays.
@@ -49,6 +49,7 @@
 
 mod begun;
 mod card;
+mod counted;
 mod drive;
 mod fault;
 mod frame_card;
@@ -74,6 +75,7 @@ pub use frame_sink::FrameSink;
 pub use happenings::Happening;
 pub use kept::{Kept, KeptReply};
 pub use lapd_bits::Head;
+pub use lapd_count::{Counter, Counters, Kind, Way};
 pub use lapd_line::{BareReport, Config, Field, NextFrame, Pulled, Report, Request, Room};
 pub use model_card::Event;
 pub use model_line::Fault;

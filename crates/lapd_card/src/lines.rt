@@ -1,6 +1,6 @@
 //! The lines of a card, over its shelf.
 
-ghost use Rattle.std.specs.Prelude.{◌≡◌, ◌-◌, ◌≤◌, ◌<◌, List, length, nat_le, sum_by, Some, None, IfOk, IfErr, OnErr};
+ghost use Rattle.std.specs.Prelude.{◌≡◌, ◌-◌, ◌≤◌, ◌<◌, List, get_or, length, nat_le, sum_by, Some, None, IfOk, IfErr, OnErr};
 ghost use Rattle.lapd_line.specs.Reports.{report_told, pulled_of};
 ghost use Rattle.model_line.specs.Begun.{head_begun};
 ghost use Rattle.model_line.specs.Event as line_event;
@@ -12,9 +12,12 @@ ghost use Rattle.model_line.specs.Room.{room_in};
 ghost use Rattle.model_line.specs.Sound.{IsInRange};
 ghost use Rattle.model_line.specs.Stored.{held_in};
 ghost use Rattle.lapd_store.specs.Store.{Store, used_slots};
+ghost use Rattle.lapd_count.specs.Counters.{none_counted};
+ghost use Rattle.lapd_card.specs.Counted.{counters_in};
 ghost use Rattle.lapd_card.specs.Lines.{Stand, Serve, Lead, AreFresh, line_in, told_at, told_if_at};
 
 use lapd_bits::Head;
+use lapd_count::Counters;
 use lapd_frame::{Refusal, Service, Timer};
 use lapd_line::{BareReport, Config, Line, Pulled, Report, Request, Room, StartFault};
 use lapd_store::Shelf;
@@ -163,6 +166,14 @@ impl Lines {
             → result ≡ head_begun (line_in c line ms) }
     {
         self.lines[line].begun()
+    }
+
+    /// What was counted of a line.
+    pub(crate) fn counters(&self, line: usize) -> &Counters
+        requires { line < length self.now }
+        ensures { result.now ≡ get_or (counters_in self.now) line none_counted }
+    {
+        self.lines[line].counters()
     }
 
     /// How many octets the lines hold beside those in slots.

@@ -1,8 +1,10 @@
 //! How a card begins.
 
-ghost use Rattle.std.specs.Prelude.{◌≡◌, IfOk, IfSome, IfNone, Err, IsOkUnless};
+ghost use Rattle.std.specs.Prelude.{◌≡◌, replicate, IfOk, IfSome, IfNone, Err, IsOkUnless};
 ghost use Rattle.model_card.specs.Card as machine;
 ghost use Rattle.lapd_card.specs.declared.fault.CardFault.TheVariants.{OutOfMemory};
+ghost use Rattle.lapd_count.specs.Counters.{none_counted};
+ghost use Rattle.lapd_card.specs.Counted.{counters_in};
 ghost use Rattle.lapd_card.specs.Start.{start_fault, is_too_small};
 ghost use Rattle.lapd_card.specs.Stands.{Stands};
 
@@ -27,6 +29,7 @@ impl<S: Shelf> Card<S> {
         ensures config { IfOk result (λ card. card.config ≡ config) }
         ensures shelf { IfOk result (λ card. card.shelf ≡ shelf) }
         ensures fresh { IfOk result (λ card. Stands S.store card (machine.fresh config)) }
+        ensures counters { IfOk result (λ card. counters_in card.lines ≡ replicate config.lines none_counted) }
     {
         if let Some(field) = config.fault() {
             return Err(CardFault::BadConfig(field));

@@ -6,6 +6,7 @@ pub mod AddressSteps
 pub mod TeiChangeSteps
 pub mod Quiet
 pub mod LineSteps
+pub mod CountSteps
 pub mod LayerRequests
 pub mod RequestSteps
 pub mod StartSteps

@@ -30,7 +30,7 @@ use Rattle.lapd_line.specs.declared.reports.Report.{Report}
 use Rattle.lapd_line.specs.LinkLayer as layer
 use Rattle.lapd_line.specs.LinkLayer.{Serves, aim_of_event}
 use Rattle.lapd_line.specs.Reports.{report_told, told_in}
-use Rattle.lapd_line.specs.Stands.{Stands, Leads, config_of, latest_frame}
+use Rattle.lapd_line.specs.Stands.{Stands, Moves, config_of, latest_frame}
 use Rattle.lapd_line.proofs.Quiet.{none_taken}
 
 -- what is heard with one octet more is what that octet brought
@@ -39,7 +39,7 @@ last_gained [] None = refl
 last_gained [] (Some x) = refl
 last_gained (y ∷ xs) o = last_gained xs o
 
-gained_is : (n201 octet : ℕ) (received : List ℕ) (o : Option stream.Event) → heard_in n201 (received ++ octet ∷ []) ≡ heard_in n201 received ++ option_to_list o → gained n201 received octet ≡ o
+pub gained_is : (n201 octet : ℕ) (received : List ℕ) (o : Option stream.Event) → heard_in n201 (received ++ octet ∷ []) ≡ heard_in n201 received ++ option_to_list o → gained n201 received octet ≡ o
 gained_is n201 octet received o is = ap (λ l. slice_get l (length (heard_in n201 received))) is ∙ last_gained (heard_in n201 received) o
 
 -- an octet that ended nothing brought no event
@@ -103,9 +103,10 @@ pub stepped : (old new : Line) (s t : Store) (octet : ℕ) (o : BareReport)
     → new.framer ≡ old.framer
     → (new.nothing_waits ≡ true → (old.nothing_waits ≡ true) × (deframer.latest_of new.deframer ≡ None))
     → Serves (aim_of_event (deframer.latest_of new.deframer)) (latest_frame new) old.layer s new.layer t o
-    → Leads (line_event.octet octet) old s new t
+    → new.counters ≡ old.counters
+    → Moves (line_event.octet octet) old s new t
 unfolding after
-stepped old new s t octet o heard goes_on framed still served = record {
+stepped old new s t octet o heard goes_on framed still served uncounted = record {
   config = served.config;
   limits = served.limits;
   stands = λ others m st.
@@ -129,6 +130,7 @@ stepped old new s t octet o heard goes_on framed still served = record {
             ∙ ap (λ h. taken c (of_aim c (aim_of_event h m') m').line) none
             ∙ none_taken c m (m.received ++ octet ∷ []) m.items m.given (st.nothing_waits before);
       });
+  uncounted = uncounted;
 }
 
 pub step_told : (old new : Line) (s t : Store) (octet : ℕ) (o : BareReport)
@@ -155,14 +157,14 @@ pub unheard : (old new : Line) (s : Store) (octet : ℕ)
     → ((n201 : ℕ) (past : List ℕ) → deframer.Stands n201 old.deframer past → heard_in n201 (past ++ octet ∷ []) ≡ heard_in n201 past ++ option_to_list (deframer.latest_of new.deframer))
     → ((n201 : ℕ) (past : List ℕ) → deframer.Stands n201 old.deframer past → deframer.Stands n201 new.deframer (past ++ octet ∷ []))
     → new.framer ≡ old.framer → new.nothing_waits ≡ old.nothing_waits → new.layer ≡ old.layer
-    → deframer.latest_of new.deframer ≡ None
-    → Leads (line_event.octet octet) old s new s
+    → deframer.latest_of new.deframer ≡ None → new.counters ≡ old.counters
+    → Moves (line_event.octet octet) old s new s
     × ((others : List Owned) (m : machine.Line) → Stands old s others m → told nothing ≡ answer (config_of old) (line_event.octet octet) m)
-unheard old new s octet heard goes_on framed same entities none =
+unheard old new s octet heard goes_on framed same entities none uncounted =
     let served : Serves (aim_of_event (deframer.latest_of new.deframer)) (latest_frame new) old.layer s new.layer s nothing_told =
     subst (λ e. Serves (aim_of_event (deframer.latest_of new.deframer)) (latest_frame new) old.layer s e s nothing_told) (sym entities)
     (nothing_served old.layer s (latest_frame new) (deframer.latest_of new.deframer) none) in (
-      stepped old new s s octet nothing_told heard goes_on framed (λ on. (sym same ∙ on, none)) served,
+      stepped old new s s octet nothing_told heard goes_on framed (λ on. (sym same ∙ on, none)) served uncounted,
       step_told old new s s octet nothing_told heard served,
     )
 
@@ -181,12 +183,13 @@ with_layer old t others m e aim s st same h =
     }
 
 pub expired : (old : Line) (s : Store) (e : LinkLayer) (t : Store) (timer : Timer) (o : BareReport) → Serves (aim_of_expiry timer) [] old.layer s e t o
-    → Leads (line_event.expiry timer) old s (record old { layer = e; nothing_waits = false }) t
+    → Moves (line_event.expiry timer) old s (record old { layer = e; nothing_waits = false }) t
 unfolding after
 expired old s e t timer o served = record {
   config = served.config;
   limits = served.limits;
   stands = λ others m st. with_layer old t others m e (aim_of_expiry timer m) s st served.config (served.stands others m st.layer);
+  uncounted = refl;
 }
 
 pub expiry_told : (old : Line) (s : Store) (e : LinkLayer) (t : Store) (timer : Timer) (o : BareReport) (r : Report) → report_told r ≡ told_in [] o → Serves (aim_of_expiry timer) [] old.layer s e t o

@@ -30,7 +30,7 @@ use Rattle.lapd_line.specs.declared.link_layer.LinkLayer.{LinkLayer}
 use Rattle.lapd_line.specs.Begins.{Begins, with_frame}
 use Rattle.lapd_line.specs.LinkLayer as layer
 use Rattle.lapd_line.specs.Loading.{Loading, in_bits, in_octets}
-use Rattle.lapd_line.specs.Stands.{Stands, Leads, config_of}
+use Rattle.lapd_line.specs.Stands.{Stands, Moves, config_of}
 use Rattle.lapd_line.specs.Pulls.{Took, Takes, orders_taken}
 use Rattle.lapd_line.proofs.Quiet.{none_taken}
 
@@ -63,6 +63,7 @@ none_due line s busy = record {
   limits = record { slots = refl; width = refl };
   stands = λ others m st. subst (λ o. Stands line s others (with_frame o m)) (sym (none others m st)) st;
   told = λ others m st. ap (option_map orders_of) (sym (none others m st));
+  uncounted = refl;
 }
   where
     none : (others : List Owned) (m : machine.Line) → Stands line s others m → begun (config_of line) m ≡ None
@@ -76,6 +77,7 @@ none_waits line s nothing_waits = record {
   limits = record { slots = refl; width = refl };
   stands = λ others m st. subst (λ o. Stands line s others (with_frame o m)) (sym (none others m st)) st;
   told = λ others m st. ap (option_map orders_of) (sym (none others m st));
+  uncounted = refl;
 }
   where
     either : (b : Bool) → cond {A = Option Taken} b None None ≡ None
@@ -105,6 +107,7 @@ due_taken old s e t g orders q low none h = record {
       (stands others m st (taken c m) refl orders none (h.took others m st.layer));
   told = λ others m st.
       same_orders others m (taken c m) orders (h.took others m st.layer) ∙ ap (option_map orders_of) (sym (is_taken others m st));
+  uncounted = refl;
 }
   where
     c : Config
@@ -228,7 +231,7 @@ module _ {old : Line} {s : Store} {b : Line} {t : Store} (orders : Option (Short
       ∙ ap (λ l. with_given l octet) (sym (due_gone_on others m st))
 
   -- so a pull leads the line on
-  pub pulls : Leads line_event.pull old s (record b { framer = g }) t
+  pub pulls : Moves line_event.pull old s (record b { framer = g }) t
   unfolding after
   pulls = record {
     config = begins.config;
@@ -251,6 +254,7 @@ module _ {old : Line} {s : Store} {b : Line} {t : Store} (orders : Option (Short
               (subst (λ x. IsSound x (record l { items = items; given = given })) (sym begins.config) sound);
           nothing_waits = λ on. none_taken (config_of b) l l.received items given (there.nothing_waits on);
         });
+    uncounted = begins.uncounted;
   }
 
   -- and is told what the machine answers

@@ -26,7 +26,7 @@ use Rattle.lapd_line.specs.declared.reports.Report.{Report}
 use Rattle.lapd_line.specs.LinkLayer as layer
 use Rattle.lapd_line.specs.LinkLayer.{Serves}
 use Rattle.lapd_line.specs.Reports.{report_told, told_in}
-use Rattle.lapd_line.specs.Stands.{Stands, Leads, config_of}
+use Rattle.lapd_line.specs.Stands.{Stands, Moves, config_of}
 use Rattle.lapd_line.proofs.LayerRequests.{establish_rows, release_rows, data_rows, set_busy_rows, clear_busy_rows}
 use Rattle.lapd_line.proofs.LinkSteps.{if_err, on_ok}
 use Rattle.lapd_line.proofs.LineSteps.{with_layer}
@@ -97,7 +97,7 @@ with_room c full (ClearBusy service tei) l e = e
 module _ (old : Line) (s : Store) (e : LinkLayer) (t : Store) (full : Bool) (r : Request) (o : BareReport)
     (granted : (others : List Owned) (m : machine.Line) → layer.Stands old.layer s others m → refusal (config_of old) full r m ≡ None)
     (served : Serves (aim_of_request r) [] old.layer s e t o) where
-  pub requested : Leads (line_event.request r) old s (record old { layer = e; nothing_waits = false }) t
+  pub requested : Moves (line_event.request r) old s (record old { layer = e; nothing_waits = false }) t
   unfolding after
   requested = record {
     config = served.config;
@@ -106,6 +106,7 @@ module _ (old : Line) (s : Store) (e : LinkLayer) (t : Store) (full : Bool) (r :
         let c = config_of old in
         subst (λ why. Stands (record old { layer = e; nothing_waits = false }) t others (of_aim c (unless_refused why (aim_of_request r m)) m).line) (sym (with_room c full r m (granted others m st.layer)))
         (with_layer old t others m e (aim_of_request r m) s st served.config (served.stands others m st.layer));
+    uncounted = refl;
   }
 
   pub request_told : (report : Report) → report_told report ≡ told_in [] o → (others : List Owned) (m : machine.Line) → Stands old s others m

@@ -20,3 +20,4 @@ pub record Begins (old : Line) (s : Store) (new : Line) (t : Store) (orders : Op
   pub limits : SameLimits s t
   pub stands : (others : List Owned) (m : machine.Line) → Stands old s others m → Stands new t others (with_frame (begun (config_of old) m) m)
   pub told : (others : List Owned) (m : machine.Line) → Stands old s others m → orders ≡ option_map orders_of (begun (config_of old) m)
+  pub uncounted : new.counters ≡ old.counters

@@ -1,7 +1,7 @@
 -- What a line answers and stands for.
 --
 -- Read after those of `model_line`, in this order: Reports; Units and Links, what waits and in which slots; Awake;
--- LinkLayer; Stands. The other files are named by private functions alone.
+-- LinkLayer; Counted; Stands. The other files are named by private functions alone.
 pub mod Reports
 pub mod Units
 pub mod Links
@@ -10,6 +10,7 @@ pub mod Starts
 pub mod LinkLayer
 pub mod Addressing
 pub mod TeiChanges
+pub mod Counted
 pub mod Stands
 pub mod Requests
 pub mod Loading

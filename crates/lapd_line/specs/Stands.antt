@@ -20,6 +20,7 @@ use Rattle.model_line.specs.Pull.{taken}
 use Rattle.lapd_line.specs.declared.line.Line.{Line}
 use Rattle.lapd_line.specs.declared.link_layer.LinkLayer.{LinkLayer}
 use Rattle.lapd_line.specs.LinkLayer as layer
+use Rattle.lapd_line.specs.Counted.{counted}
 use Rattle.lapd_line.specs.Links.{links_pairs}
 use Rattle.lapd_line.specs.Reports.{octets_of}
 use Rattle.lapd_line.specs.Units.{unit_pairs}
@@ -49,9 +50,17 @@ pub record Stands (line : Line) (store : Store) (others : List Owned) (m : machi
   -- where the line takes it for known that nothing waits, there is nothing that a pull could take
   pub nothing_waits : line.nothing_waits ≡ true → taken (config_of line) m ≡ None
 
--- An event leads a line and its shelf from one value to another: for every past, and every list of what others own, for
--- which they stood, they stand for that past with the event, and for the same others.
+-- An event moves a line and its shelf from one value to another: for every past, and every list of what others own, for
+-- which they stood, they stand for that past with the event, and for the same others. Nothing is counted yet.
+pub record Moves (event : Event) (old : Line) (s : Store) (new : Line) (t : Store) : Type 0 where
+  pub config : config_of new ≡ config_of old
+  pub limits : SameLimits s t
+  pub stands : (others : List Owned) (m : machine.Line) → Stands old s others m → Stands new t others (after (config_of old) event m)
+  pub uncounted : new.counters ≡ old.counters
+
+-- An event leads a line on where it moves it, and its counters count what the event and its answer show.
 pub record Leads (event : Event) (old : Line) (s : Store) (new : Line) (t : Store) : Type 0 where
   pub config : config_of new ≡ config_of old
   pub limits : SameLimits s t
   pub stands : (others : List Owned) (m : machine.Line) → Stands old s others m → Stands new t others (after (config_of old) event m)
+  pub counted : (others : List Owned) (m : machine.Line) → Stands old s others m → new.counters ≡ counted (config_of old) event m old.counters

@@ -1,7 +1,10 @@
 //! The line: one call an event.
 
-ghost use Rattle.std.specs.Prelude.{◌≡◌, ◌-◌, ◌<◌, ◌≤◌, List, length, IsTrue, IsFalse, Some, None, IsSome, IfOk, IfErr, OnErr, nat_le};
+ghost use Rattle.std.specs.Option.{option_map_or};
+ghost use Rattle.std.specs.Prelude.{◌≡◌, ◌-◌, ◌<◌, ◌≤◌, ◌++◌, List, [], length, IsTrue, IsFalse, Some, None, IsSome, IfNone, IfOk, IfErr, OnErr, nat_le};
 ghost use Rattle.lapd_bits.specs.Deframer.{latest_of};
+ghost use Rattle.lapd_count.specs.Counters.{none_counted};
+ghost use Rattle.lapd_count.specs.Shown.{head_shown, heard_shown};
 ghost use Rattle.lapd_store.specs.Ownership.{Owned, Holds};
 ghost use Rattle.lapd_store.specs.Store.{Store, used_slots};
 ghost use Rattle.model_line.specs.Begun.{head_begun};
@@ -11,6 +14,7 @@ ghost use Rattle.model_line.specs.Line as machine;
 ghost use Rattle.model_line.specs.Counts.{may_send};
 ghost use Rattle.model_link.specs.Told.{starts};
 ghost use Rattle.model_line.specs.Machine.{after, answer};
+ghost use Rattle.model_line.specs.Octet.{gained};
 ghost use Rattle.model_line.specs.Refusal.{refusal};
 ghost use Rattle.model_line.specs.Request.{request_of};
 ghost use Rattle.model_line.specs.Room.{room_in};
@@ -22,6 +26,7 @@ use crate::link_layer::LinkLayer;
 use crate::pulled::Pulled;
 use crate::reports::{BareReport, Report};
 use lapd_bits::{Deframer, Ended, Framer, Head, Heard};
+use lapd_count::Counters;
 use lapd_frame::{Order, Refusal, Service, ShortList, Timer};
 use lapd_link::Room;
 use lapd_store::Shelf;
@@ -40,6 +45,8 @@ pub struct Line {
     /// A pull found nothing to send, and nothing has happened since but octets that ended nothing and pulls. So the next
     /// pull need not look for messages, unit data and links that are awake again.
     nothing_waits: bool,
+    /// What was counted since the start.
+    counters: Counters,
 }
 
 impl Line {
@@ -48,8 +55,9 @@ impl Line {
     ghost use Rattle.lapd_line.specs.contracts.line.Line.{the_row};
     ghost use Rattle.lapd_line.specs.LinkLayer.{Standing, Serves, aim_of_event};
     ghost use Rattle.lapd_line.specs.Reports.{report_told, told_in, told_if, pulled_of};
+    ghost use Rattle.lapd_line.specs.Counted.{with_counted, told_in_report, bare_shown};
     ghost use Rattle.lapd_line.specs.Begins.{Begins};
-    ghost use Rattle.lapd_line.specs.Stands.{Stands, Leads, config_of, latest_frame, with_served};
+    ghost use Rattle.lapd_line.specs.Stands.{Stands, Moves, Leads, config_of, latest_frame, with_served};
     ghost use Rattle.lapd_line.specs.Pulls.{orders_taken};
 
     /// A line of a card with these sizes and limits, all in range. No TEI is on it.
@@ -63,6 +71,7 @@ impl Line {
         // On a shelf that is wide enough it stands for an empty past, whatever the others own.
         ensures fresh { IfOk result (λ line. (store : Store) (others : List Owned) → config.now.n201 ≤ store.width
             → Holds store others → Stands line store others (machine.fresh_line config.now)) }
+        ensures counters { IfOk result (λ line. line.counters ≡ none_counted) }
     {
         let deframer = Deframer::start(alloc, config.n201)?;
         let framer = Framer::start(alloc, config.n201)?;
@@ -72,6 +81,7 @@ impl Line {
             framer,
             layer,
             nothing_waits: false,
+            counters: Counters::new(),
         })
     }
 
@@ -111,9 +121,55 @@ impl Line {
             → told (told_if (latest_frame self.new) result) ≡ answer (config_of self.old) (line_event.octet octet) m }
         ensures after { Leads (line_event.octet octet) self.old (S.store shelf.old) self.new (S.store shelf.new) }
     {
+        match self.take_in(octet, shelf) {
+            None => None,
+            Some(bare) => {
+                self.count_heard(&bare);
+                Some(bare)
+            }
+        }
+    }
+
+    /// Takes an octet, and counts nothing.
+    #[inline(always)]
+    fn take_in<S: Shelf>(&mut self, octet: u8, shelf: &mut S) -> Option<BareReport>
+        requires { (others : List Owned) × (m : machine.Line) × Stands self.old (S.store shelf.old) others m }
+        ensures told { (others : List Owned) (m : machine.Line) → Stands self.old (S.store shelf.old) others m
+            → told (told_if (latest_frame self.new) result) ≡ answer (config_of self.old) (line_event.octet octet) m }
+        ensures after { Moves (line_event.octet octet) self.old (S.store shelf.old) self.new (S.store shelf.new) }
+        ensures gained { (others : List Owned) (m : machine.Line) → Stands self.old (S.store shelf.old) others m
+            → gained (config_of self.old).n201 m.received octet ≡ latest_of self.new.deframer }
+        ensures silent { IfNone result (latest_of self.new.deframer ≡ None) }
+    {
         match self.deframer.step(octet) {
             Ended::Nothing => None,
             Ended::Dropped(_) | Ended::Frame(_) | Ended::Overlong => Some(self.serve(shelf)),
+        }
+    }
+
+    /// Counts what the latest octet ended, and what was told of it.
+    fn count_heard(&mut self, bare: &BareReport)
+        ensures { self.new ≡ with_counted self.old (heard_shown (latest_of self.old.deframer) ++ bare_shown bare.now) }
+    {
+        self.counters.heard(self.deframer.latest());
+        self.counters
+            .told(bare.notes.as_slice(), bare.cause, bare.lost);
+    }
+
+    /// Counts what was told.
+    fn count_told(&mut self, report: &Report<'_>)
+        ensures { self.new ≡ with_counted self.old (told_in_report (report_told report.now)) }
+    {
+        self.counters
+            .told(report.notes(), report.cause, report.lost);
+    }
+
+    /// Counts the frame that was begun last.
+    fn count_begun(&mut self)
+        ensures { self.new ≡ with_counted self.old (option_map_or head_shown self.old.framer.begun []) }
+    {
+        if let Some(head) = self.framer.begun() {
+            self.counters.begun(&head);
         }
     }
 
@@ -145,6 +201,19 @@ impl Line {
         ensures starts { starts (report_told result).orders ≤ 1 }
         ensures after { Leads (line_event.expiry timer) self.old (S.store shelf.old) self.new (S.store shelf.new) }
     {
+        let report = self.expire_timer(timer, shelf);
+        self.count_told(&report);
+        report
+    }
+
+    /// A timer expires, and nothing is counted.
+    fn expire_timer<S: Shelf>(&mut self, timer: Timer, shelf: &mut S) -> Report<'static>
+        requires { (others : List Owned) × (m : machine.Line) × Stands self.old (S.store shelf.old) others m }
+        ensures told { (others : List Owned) (m : machine.Line) → Stands self.old (S.store shelf.old) others m
+            → told (report_told result) ≡ answer (config_of self.old) (line_event.expiry timer) m }
+        ensures starts { starts (report_told result).orders ≤ 1 }
+        ensures after { Moves (line_event.expiry timer) self.old (S.store shelf.old) self.new (S.store shelf.new) }
+    {
         self.nothing_waits = false;
         self.layer.expire(timer, shelf).report(&[])
     }
@@ -175,6 +244,35 @@ impl Line {
         ensures after { IfOk result (λ report.
             Leads (line_event.request (request_of request.entry)) self.old (S.store shelf.old) self.new (S.store shelf.new)) }
     {
+        match self.serve_request(request, shelf, slots) {
+            Ok(report) => {
+                self.count_told(&report);
+                Ok(report)
+            }
+            Err(why) => Err(why),
+        }
+    }
+
+    /// Serves a request, and counts nothing.
+    fn serve_request<S: Shelf>(
+        &mut self,
+        request: Request<'_>,
+        shelf: &mut S,
+        slots: u32,
+    ) -> Result<Report<'static>, Refusal>
+        requires stands { (others : List Owned) × (m : machine.Line) × Stands self.old (S.store shelf.old) others m }
+        requires slots { slots ≤ (S.store shelf.old).slots }
+        ensures refused { IfErr result (λ why. (others : List Owned) (m : machine.Line) → Stands self.old (S.store shelf.old) others m
+            → refusal (config_of self.old) (nat_le slots (used_slots (S.store shelf.old))) (request_of request.entry) m ≡ Some why) }
+        ensures unchanged { OnErr result (self.new ≡ self.old) }
+        ensures kept { OnErr result (shelf.new ≡ shelf.old) }
+        ensures accepted { IfOk result (λ report. (others : List Owned) (m : machine.Line) → Stands self.old (S.store shelf.old) others m
+            → refusal (config_of self.old) (nat_le slots (used_slots (S.store shelf.old))) (request_of request.entry) m ≡ None) }
+        ensures told { IfOk result (λ report. (others : List Owned) (m : machine.Line) → Stands self.old (S.store shelf.old) others m
+            → told (report_told report) ≡ answer (config_of self.old) (line_event.request (request_of request.entry)) m) }
+        ensures after { IfOk result (λ report.
+            Moves (line_event.request (request_of request.entry)) self.old (S.store shelf.old) self.new (S.store shelf.new)) }
+    {
         match self.layer.request(request, shelf, slots) {
             Ok(bare) => {
                 self.nothing_waits = false;
@@ -193,6 +291,21 @@ impl Line {
         ensures told { (others : List Owned) (m : machine.Line) → Stands self.old (S.store shelf.old) others m
             → pulled_of result ≡ answer (config_of self.old) line_event.pull m }
         ensures after { Leads line_event.pull self.old (S.store shelf.old) self.new (S.store shelf.new) }
+    {
+        let pulled = self.give(shelf);
+        if pulled.begun {
+            self.count_begun();
+        }
+        pulled
+    }
+
+    /// Gives the next octet, and counts nothing.
+    #[inline(always)]
+    fn give<S: Shelf>(&mut self, shelf: &mut S) -> Pulled
+        requires { (others : List Owned) × (m : machine.Line) × Stands self.old (S.store shelf.old) others m }
+        ensures told { (others : List Owned) (m : machine.Line) → Stands self.old (S.store shelf.old) others m
+            → pulled_of result ≡ answer (config_of self.old) line_event.pull m }
+        ensures after { Moves line_event.pull self.old (S.store shelf.old) self.new (S.store shelf.new) }
     {
         if self.begins_nothing() {
             return Pulled::octet_alone(self.framer.octet());
@@ -219,7 +332,7 @@ impl Line {
         requires few { length self.old.framer.left < 8 }
         ensures told { (others : List Owned) (m : machine.Line) → Stands self.old (S.store shelf.old) others m
             → pulled_of result ≡ answer (config_of self.old) line_event.pull m }
-        ensures after { Leads line_event.pull self.old (S.store shelf.old) self.new (S.store shelf.new) }
+        ensures after { Moves line_event.pull self.old (S.store shelf.old) self.new (S.store shelf.new) }
     {
         let taken = self.begin(shelf);
         Pulled {
@@ -275,6 +388,13 @@ impl Line {
             → result ≡ head_begun m }
     {
         self.framer.begun()
+    }
+
+    /// What was counted of the line since its start.
+    pub fn counters(&self) -> &Counters
+        ensures { result.now ≡ self.now.counters }
+    {
+        &self.counters
     }
 
     /// How many octets the line stores beside those in slots of the shelf: of the frame that is received, of the frame

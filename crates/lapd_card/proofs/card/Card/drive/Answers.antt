@@ -1,8 +1,9 @@
 -- Hand-written answers for `Card::drive`.
-use Rattle.std.proofs.Common.{sym, ◌∙◌}
+use Rattle.std.proofs.Common.{refl, sym, ◌∙◌}
 use Rattle.std.proofs.lemmas.Option.{slice_get-get_or}
 use Rattle.model_card.specs.declared.events.Event.TheVariants.{Octet}
 use Rattle.lapd_card.proofs.Taken.{ran-more, taken-more, missed-at, at_ok, at_err}
+use Rattle.lapd_card.proofs.Counting.{none-counted, counted-more, numbers_in_runs}
 use Rattle.model_card.specs.ByEvent.{ArePriced}
 use Rattle.model_card.specs.Drops.{AreDropsWithoutCost, AreDropsWithoutEffect}
 use Rattle.model_card.proofs.Amortised.{frames_amortised}
@@ -17,8 +18,18 @@ use Rattle.model_card.proofs.Refusals.{refused_by_the_table}
 use Rattle.model_card.proofs.ByEvent.{frames_by_event}
 use Rattle.model_card.proofs.Drops.{drops_cost_nothing, drops_change_nothing}
 use Rattle.model_card.specs.Promises.{IsWithinLimit, IsAmortised, IsAmortisedFromZero, HasSixOctetsAFrame, HasSevenOctetsAReject, IsLinear, IsIsolated, IsNeverFull, IsNumbered, IsNumberedFromZero, IsTextual}
+use Rattle.lapd_card.specs.Counted.{counters_in}
 use Rattle.lapd_card.proofs.Headline.{whole_list, each_front, fresh_front}
 use Rattle.lapd_card.proofs.card.Card.drive.Goals as goal
+
+pub loop-at-init : goal.loop-at-init
+loop-at-init g c = record {
+  config = refl;
+  none_failed = refl;
+  ran = λ m s. s;
+  counted = λ m s. none-counted (counters_in c.args.self.now.lines) m;
+  taken = λ m s. refl;
+}
 
 pub loop-at-preserved : goal.loop-at-preserved
 loop-at-preserved g c =
@@ -28,6 +39,7 @@ loop-at-preserved g c =
       config = c.answer.ensures.leads.config ∙ c.loop-at.invariant.config;
       none_failed = at_ok c.answer.result _ no c.answer.ensures.not_failed ∙ c.loop-at.invariant.none_failed;
       ran = λ m s. ran-more g.S.Shelf.store m c.args.events.now c.loop-at.at _ c.loop-at.self c.answer.new.self is c.answer.ensures.leads (c.loop-at.invariant.ran m s);
+      counted = λ m s. counted-more g.S.Shelf.store m c.args.events.now c.loop-at.at _ c.args.self.now c.loop-at.self c.answer.new.self is c.answer.ensures.leads (c.loop-at.invariant.ran m s) (c.loop-at.invariant.counted m s);
       taken = λ m s. taken-more g.K.Sink.takes m c.args.events.now c.loop-at.at _ c.args.sink.now c.loop-at.sink c.answer.new.sink is (at_ok c.answer.result _ no c.answer.ensures.taken _ (c.loop-at.invariant.ran m s)) (c.loop-at.invariant.taken m s);
     }
 
@@ -36,11 +48,22 @@ returns-then-is_err-clause-stopped g c =
     let is = slice_get-get_or c.args.events.now c.loop-at.at (Octet 0 0) c.loop-at-test.true in
     λ m s. ran-more g.S.Shelf.store m c.args.events.now c.loop-at.at _ c.loop-at.self c.answer.new.self is c.answer.ensures.leads (c.loop-at.invariant.ran m s)
 
+pub returns-then-is_err-clause-counted_before : goal.returns-then-is_err-clause-counted_before
+returns-then-is_err-clause-counted_before g c =
+    let is = slice_get-get_or c.args.events.now c.loop-at.at (Octet 0 0) c.loop-at-test.true in
+    λ m s. counted-more g.S.Shelf.store m c.args.events.now c.loop-at.at _ c.args.self.now c.loop-at.self c.answer.new.self is c.answer.ensures.leads (c.loop-at.invariant.ran m s) (c.loop-at.invariant.counted m s)
+
 pub returns-then-is_err-clause-taken_before : goal.returns-then-is_err-clause-taken_before
 returns-then-is_err-clause-taken_before g c =
     let is = slice_get-get_or c.args.events.now c.loop-at.at (Octet 0 0) c.loop-at-test.true in
     let yes = sym c.is_err.ensures.value ∙ c.if-is_err.true in
     λ m s. missed-at g.K.Sink.takes g.K.Sink.misses m c.args.events.now c.loop-at.at _ c.args.sink.now c.loop-at.sink c.answer.new.sink is (at_err c.answer.result _ yes c.answer.ensures.not_taken _ (c.loop-at.invariant.ran m s)) (c.loop-at.invariant.taken m s)
+
+pub returns-then-is_err-clause-numbers : goal.returns-then-is_err-clause-numbers
+returns-then-is_err-clause-numbers g c = numbers_in_runs
+
+pub returns-clause-numbers : goal.returns-clause-numbers
+returns-clause-numbers g c = numbers_in_runs
 
 pub returns-then-is_err-clause-moments : goal.returns-then-is_err-clause-moments
 returns-then-is_err-clause-moments g c = run_is_moments

@@ -1,9 +1,9 @@
--- Hand-written answers for `Line::expire`.
+-- Hand-written answers for `Line::expire_timer`.
 use Rattle.lapd_line.proofs.AnswerLaws.{starts_one}
 use Rattle.lapd_line.specs.Reports.{report_told}
 use Rattle.lapd_line.specs.Stands.{config_of}
 use Rattle.lapd_line.proofs.LineSteps.{expired, expiry_told}
-use Rattle.lapd_line.proofs.line.Line.expire.Goals as goal
+use Rattle.lapd_line.proofs.line.Line.expire_timer.Goals as goal
 
 pub returns-clause-told : goal.returns-clause-told
 returns-clause-told g c = λ others m st. expiry_told c.args.self.now (g.S.Shelf.store c.args.shelf.now) c.expire.new.self (g.S.Shelf.store c.expire.new.shelf) c.args.timer c.expire.result c.report.result c.report.ensures c.expire.ensures others m st

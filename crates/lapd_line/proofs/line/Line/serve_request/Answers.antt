@@ -1,9 +1,9 @@
--- Hand-written answers for `Line::request`.
+-- Hand-written answers for `Line::serve_request`.
 use Rattle.std.proofs.Common.{ap, nat_le}
 use Rattle.lapd_store.specs.Store.{used_slots}
 use Rattle.model_line.specs.Request.{request_of}
 use Rattle.lapd_line.proofs.RequestSteps.{requested, request_told}
-use Rattle.lapd_line.proofs.line.Line.request.Goals as goal
+use Rattle.lapd_line.proofs.line.Line.serve_request.Goals as goal
 
 pub request-requires-clause-stands : goal.request-requires-clause-stands
 request-requires-clause-stands g c =

@@ -1,0 +1,14 @@
+-- Hand-written answers for `Card::counters`.
+use Rattle.std.proofs.Common.{◌<◌, sym, subst, ap, get_or, ◌∙◌}
+use Rattle.lapd_count.specs.Counters.{none_counted}
+use Rattle.lapd_card.specs.Card.{line_count}
+use Rattle.lapd_card.specs.Counted.{counters_in}
+use Rattle.lapd_card.proofs.OneEvent.{line-there}
+use Rattle.lapd_card.proofs.card.Card.counters.Goals as goal
+
+-- the line is there
+pub counters-requires : goal.counters-requires
+counters-requires g c = line-there g.S.Shelf.store (record { config = c.self.inside.config; lines = c.self.inside.lines; shelf = c.self.inside.shelf }) c.args.line c.self.invariant (subst (λ card. c.args.line < line_count card) (sym c.self.view_is) c.requires)
+
+pub returns : goal.returns
+returns g c = c.counters.ensures ∙ ap (λ card. get_or (counters_in card.lines) c.args.line none_counted) c.self.view_is

@@ -1,0 +1,121 @@
+-- A counter is a number.
+use Rattle.std.proofs.Common.{◌≡◌, ℕ, ◌+◌, ◌≤◌, ◌<◌, ◌==◌, Bool, true, false, cond, List, [], ◌∷◌, length, length-set, get_or, set, min, refl, sym, ap, subst, ◌∙◌, arith}
+use Rattle.std.proofs.lemmas.Bool.{eqb-true, eqb-false}
+use Rattle.std.proofs.lemmas.List.{get_or-set_same, get_or-set_other}
+use Rattle.std.proofs.lemmas.List.Sums.{sum_by-cons}
+use Rattle.lapd_bits.specs.declared.heard.Cause.{Cause}
+use Rattle.lapd_bits.specs.declared.heard.Cause.TheVariants.{Abort, Ragged, Short, Fcs, Extension, Sapi, Tei, Unserved}
+use Rattle.lapd_frame.specs.declared.notes.ErrorCode.{ErrorCode}
+use Rattle.lapd_frame.specs.declared.notes.ErrorCode.TheVariants as code
+use Rattle.lapd_count.specs.declared.counter.Counter.{Counter}
+use Rattle.lapd_count.specs.declared.counter.Counter.TheVariants.{Frames, Octets, Polls, Overlong, Dropped, Errors, EstablishIndications, EstablishConfirms, ReleaseIndications, ReleaseConfirms, Data, Units, Xids, Assigned, Removed, Doubled, Lost}
+use Rattle.lapd_count.specs.declared.counter.Way.TheVariants.{Heard, Begun}
+use Rattle.lapd_count.specs.declared.counters.Counters.{Counters}
+use Rattle.lapd_count.specs.declared.kinds.Kind.{Kind}
+use Rattle.lapd_count.specs.declared.kinds.Kind.TheVariants as kind
+use Rattle.lapd_count.specs.Kinds.{kind_place}
+use Rattle.lapd_count.specs.Counters.{More, count, most, place, cause_place, error_place, value_in, with_more, with_all, amount_of, amount_in}
+use Rattle.lapd_count.specs.Laws.{CountersAreNumbers}
+
+kind_within : (k : Kind) → kind_place k < 12
+kind_within kind.Information = omega arith
+kind_within kind.ReceiveReady = omega arith
+kind_within kind.ReceiveNotReady = omega arith
+kind_within kind.Reject = omega arith
+kind_within kind.Sabme = omega arith
+kind_within kind.Disc = omega arith
+kind_within kind.Ui = omega arith
+kind_within kind.Ua = omega arith
+kind_within kind.Dm = omega arith
+kind_within kind.Frmr = omega arith
+kind_within kind.Xid = omega arith
+kind_within kind.Undefined = omega arith
+
+cause_within : (c : Cause) → cause_place c < 8
+cause_within Abort = omega arith
+cause_within Ragged = omega arith
+cause_within Short = omega arith
+cause_within Fcs = omega arith
+cause_within Extension = omega arith
+cause_within Sapi = omega arith
+cause_within Tei = omega arith
+cause_within Unserved = omega arith
+
+error_within : (e : ErrorCode) → error_place e < 14
+error_within code.A = omega arith
+error_within code.B = omega arith
+error_within code.C = omega arith
+error_within code.D = omega arith
+error_within code.E = omega arith
+error_within code.F = omega arith
+error_within code.G = omega arith
+error_within code.H = omega arith
+error_within code.I = omega arith
+error_within code.J = omega arith
+error_within code.K = omega arith
+error_within code.L = omega arith
+error_within code.N = omega arith
+error_within code.O = omega arith
+
+-- each has a place
+pub place_within : (counter : Counter) → place counter < count
+place_within (Frames Heard k) = omega (arith, kind_within k)
+place_within (Frames Begun k) = omega (arith, kind_within k)
+place_within (Octets Heard) = omega arith
+place_within (Octets Begun) = omega arith
+place_within (Polls Heard) = omega arith
+place_within (Polls Begun) = omega arith
+place_within Overlong = omega arith
+place_within (Dropped cause) = omega (arith, cause_within cause)
+place_within (Errors e) = omega (arith, error_within e)
+place_within EstablishIndications = omega arith
+place_within EstablishConfirms = omega arith
+place_within ReleaseIndications = omega arith
+place_within ReleaseConfirms = omega arith
+place_within Data = omega arith
+place_within Units = omega arith
+place_within Xids = omega arith
+place_within Assigned = omega arith
+place_within Removed = omega arith
+place_within Doubled = omega arith
+place_within Lost = omega arith
+
+-- so many more of one are so many more of it, and of no other
+one_more : (counters : Counters) (other counter : Counter) (amount : ℕ) → length counters.values ≡ count → value_in counters counter ≤ most
+    → value_in (with_more counters (other, amount)) counter ≡ min (value_in counters counter + amount_of counter (other, amount)) most
+one_more counters other counter amount whole few = go (place other == place counter) refl
+  where
+    small : (n : ℕ) → n ≤ most → min (n + 0) most ≡ n
+    small n few = omega (arith, few)
+
+    go : (b : Bool) → (place other == place counter) ≡ b
+        → value_in (with_more counters (other, amount)) counter ≡ min (value_in counters counter + (cond b amount 0)) most
+    go true is =
+        let same : place other ≡ place counter = eqb-true (place other) (place counter) is in
+        let within : place counter < length counters.values = omega (arith, whole, place_within counter) in
+        ap (λ p. get_or (set counters.values p (min (get_or counters.values p 0 + amount) most)) (place counter) 0) same
+        ∙ get_or-set_same counters.values (place counter) (min (value_in counters counter + amount) most) 0 within
+    go false is =
+        get_or-set_other counters.values (place other) (place counter) (min (value_in counters other + amount) most) 0 (λ e. eqb-false (place other) (place counter) is (sym e))
+        ∙ sym (small (value_in counters counter) few)
+
+-- amounts add up, up to the greatest value
+adds_up : (v n r : ℕ) → min (min (v + n) most + r) most ≡ min (v + (n + r)) most
+adds_up v n r = omega arith
+
+most_stays : (n : ℕ) → min n most ≤ most
+most_stays n = omega arith
+
+pub counters_are_numbers : CountersAreNumbers
+counters_are_numbers counters [] counter whole few = empty (value_in counters counter) few
+  where
+    empty : (n : ℕ) → n ≤ most → n ≡ min (n + 0) most
+    empty n few = omega (arith, few)
+counters_are_numbers counters ((other, amount) ∷ all) counter whole few =
+    let next : Counters = with_more counters (other, amount) in
+    let one = one_more counters other counter amount whole few in
+    counters_are_numbers next all counter (length-set counters.values (place other) (min (value_in counters other + amount) most) ∙ whole)
+    (subst (λ n. n ≤ most) (sym one) (most_stays (value_in counters counter + amount_of counter (other, amount))))
+    ∙ ap (λ n. min (n + amount_in counter all) most) one
+    ∙ adds_up (value_in counters counter) (amount_of counter (other, amount)) (amount_in counter all)
+    ∙ ap (λ n. min (value_in counters counter + n) most) (sym (sum_by-cons (amount_of counter) (other, amount) all))

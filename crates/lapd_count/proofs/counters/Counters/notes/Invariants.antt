@@ -1,0 +1,9 @@
+-- The invariants of the loops of `Counters::notes`.
+use Rattle.std.proofs.Common.{◌≡◌, map, take}
+use Rattle.lapd_count.specs.Counters.{with_all}
+use Rattle.lapd_count.specs.Shown.{note_shown}
+use Rattle.lapd_count.proofs.counters.Counters.notes.Given as goal
+
+-- the notes so far are counted
+abbrev pub invariant-loop-note : goal.invariant-loop-note
+invariant-loop-note l = l.self ≡ with_all l.fn.self (map note_shown (take l.note-index l.notes))

@@ -1,0 +1,70 @@
+-- What is counted of a frame, of what is heard, and of what is told.
+use Rattle.std.specs.Prelude.{ℕ, ◌%◌, ◌/◌, ◌==◌, ◌&&◌, ◌||◌, Bool, List, [], ◌∷◌, ◌++◌, length, get_or, map, Option, Some, None, if◌then◌else◌}
+use Rattle.lapd_bits.specs.declared.heard.Cause.{Cause}
+use Rattle.lapd_bits.specs.declared.heads.Head.{Head}
+use Rattle.lapd_bits.specs.Stream.{Event, frame, overlong, dropped}
+use Rattle.lapd_frame.specs.declared.notes.Note.{Note}
+use Rattle.lapd_frame.specs.declared.notes.Note.TheVariants as note
+use Rattle.lapd_count.specs.declared.counter.Counter.{Counter}
+use Rattle.lapd_count.specs.declared.counter.Counter.TheVariants.{Frames, Octets, Polls, Overlong, Dropped, Errors, EstablishIndications, EstablishConfirms, ReleaseIndications, ReleaseConfirms, Data, Units, Xids, Assigned, Removed, Doubled, Lost}
+use Rattle.lapd_count.specs.declared.counter.Way.{Way}
+use Rattle.lapd_count.specs.declared.counter.Way.TheVariants.{Heard, Begun}
+use Rattle.lapd_count.specs.Counters.{More}
+use Rattle.lapd_count.specs.Kinds.{kind_of}
+
+-- The C/R bit of a command: 0 of a terminal's, 1 of the network's (Q.921 clause 3.3.2).
+abbrev pub command_bit : Way → ℕ
+command_bit Heard = 0
+command_bit Begun = 1
+
+-- A poll: an I-frame or a supervisory command whose P bit, the lowest of the second control octet, is 1 (clauses 3.4.1,
+-- 3.4.2 and 3.5.1).
+abbrev pub is_poll : Way → ℕ → ℕ → ℕ → Bool
+is_poll way first control second =
+    (first / 2 % 2 == command_bit way) && (second % 2 == 1) && ((control % 2 == 0) || (control % 4 == 1))
+
+-- A frame whose first octet is `first`, and whose control field is these two octets, or the first of them.
+abbrev pub frame_shown : Way → ℕ → ℕ → ℕ → ℕ → List More
+frame_shown way first control second octets =
+    (Frames way (kind_of control), 1) ∷ (Octets way, octets)
+    ∷ (if is_poll way first control second then (Polls way, 1) ∷ [] else [])
+
+abbrev pub octets_shown : Way → List ℕ → List More
+octets_shown way octets = frame_shown way (get_or octets 0 0) (get_or octets 2 0) (get_or octets 3 0) (length octets)
+
+abbrev pub head_shown : Head → List More
+head_shown head = frame_shown Begun (get_or head.octets 0 0) (get_or head.octets 2 0) (get_or head.octets 3 0) head.length
+
+-- What is heard. (What is dropped is counted by what is told of it.)
+abbrev pub heard_shown : Option Event → List More
+heard_shown None = []
+heard_shown (Some (frame octets)) = octets_shown Heard octets
+heard_shown (Some (overlong head)) = (Overlong, 1) ∷ []
+heard_shown (Some (dropped cause)) = []
+
+-- What is told: each note, the cause of a drop, and what found no room.
+abbrev pub counter_of : Note → Counter
+counter_of (note.EstablishIndication service tei) = EstablishIndications
+counter_of (note.EstablishConfirm service tei) = EstablishConfirms
+counter_of (note.ReleaseIndication service tei) = ReleaseIndications
+counter_of (note.ReleaseConfirm service tei) = ReleaseConfirms
+counter_of (note.Data service tei) = Data
+counter_of (note.Unit service tei) = Units
+counter_of (note.Error service tei code) = Errors code
+counter_of (note.Assigned tei) = Assigned
+counter_of (note.Removed tei) = Removed
+counter_of (note.Doubled tei) = Doubled
+counter_of (note.Xid service tei) = Xids
+
+abbrev pub note_shown : Note → More
+note_shown told = (counter_of told, 1)
+
+abbrev pub drop_shown : Option Cause → List More
+drop_shown None = []
+drop_shown (Some cause) = (Dropped cause, 1) ∷ []
+
+abbrev pub lost_shown : ℕ → List More
+lost_shown lost = if lost == 0 then [] else (Lost, lost) ∷ []
+
+abbrev pub told_shown : List Note → Option Cause → ℕ → List More
+told_shown notes cause lost = map note_shown notes ++ drop_shown cause ++ lost_shown lost

@@ -1,0 +1,44 @@
+-- Worked values: what frames are counted as, and what counters are after them.
+use Rattle.std.specs.Prelude.{◌≡◌, ◌-◌, [], ◌∷◌, Some, None, refl}
+use Rattle.lapd_bits.specs.declared.heard.Cause.TheVariants.{Fcs}
+use Rattle.lapd_bits.specs.Stream.{frame}
+use Rattle.lapd_frame.specs.declared.notes.ErrorCode.TheVariants.{F}
+use Rattle.lapd_frame.specs.declared.notes.Note.TheVariants.{Error}
+use Rattle.lapd_frame.specs.declared.services.Service.TheVariants.{Call}
+use Rattle.lapd_count.specs.declared.counter.Counter.TheVariants.{Frames, Octets, Polls, Dropped, Errors, Lost}
+use Rattle.lapd_count.specs.declared.counter.Way.TheVariants.{Heard, Begun}
+use Rattle.lapd_count.specs.declared.kinds.Kind.TheVariants.{Information, ReceiveReady, Sabme, Ua}
+use Rattle.lapd_count.specs.Counters.{most, none_counted, value_in, with_all, with_more}
+use Rattle.lapd_count.specs.Shown.{heard_shown, octets_shown, told_shown}
+
+-- An RR command with P=1 is a poll of a terminal; an RR response with F=1 is none.
+worked_poll : heard_shown (Some (frame (0x00 ∷ 0x81 ∷ 0x01 ∷ 0x01 ∷ []))) ≡ (Frames Heard ReceiveReady, 1) ∷ (Octets Heard, 4) ∷ (Polls Heard, 1) ∷ []
+worked_poll = refl
+
+worked_answer : octets_shown Heard (0x02 ∷ 0x81 ∷ 0x01 ∷ 0x01 ∷ []) ≡ (Frames Heard ReceiveReady, 1) ∷ (Octets Heard, 4) ∷ []
+worked_answer = refl
+
+-- The network's command has C/R = 1.
+worked_own_poll : octets_shown Begun (0x02 ∷ 0x81 ∷ 0x00 ∷ 0x01 ∷ 0x08 ∷ []) ≡ (Frames Begun Information, 1) ∷ (Octets Begun, 5) ∷ (Polls Begun, 1) ∷ []
+worked_own_poll = refl
+
+-- SABME with P=1 asks for an answer, too, but is no poll.
+worked_sabme : octets_shown Heard (0x00 ∷ 0x81 ∷ 0x7F ∷ []) ≡ (Frames Heard Sabme, 1) ∷ (Octets Heard, 3) ∷ []
+worked_sabme = refl
+
+worked_told : told_shown (Error Call 64 F ∷ []) (Some Fcs) 2 ≡ (Errors F, 1) ∷ (Dropped Fcs, 1) ∷ (Lost, 2) ∷ []
+worked_told = refl
+
+worked_nothing : told_shown [] None 0 ≡ []
+worked_nothing = refl
+
+-- Two SABME, heard and counted; no UA was.
+worked_two : value_in (with_all none_counted ((Frames Heard Sabme, 1) ∷ (Octets Heard, 3) ∷ (Frames Heard Sabme, 1) ∷ [])) (Frames Heard Sabme) ≡ 2
+worked_two = refl
+
+worked_none : value_in (with_all none_counted ((Frames Heard Sabme, 1) ∷ (Octets Heard, 3) ∷ [])) (Frames Begun Ua) ≡ 0
+worked_none = refl
+
+-- The greatest value stays.
+worked_most : value_in (with_all none_counted ((Octets Heard, most - 2) ∷ (Octets Heard, 3) ∷ (Octets Heard, 1) ∷ [])) (Octets Heard) ≡ most
+worked_most = refl

@@ -1,0 +1,127 @@
+//! What is counted.
+
+ghost use Rattle.std.specs.Prelude.{◌≡◌, ◌<◌};
+ghost use Rattle.lapd_count.specs.Counters.{place, cause_place, error_place};
+
+use crate::kinds::Kind;
+use lapd_bits::Cause;
+use lapd_frame::ErrorCode;
+
+/// From where a frame comes, and where it goes.
+#[derive(Clone, Copy, PartialEq, Eq, Debug)]
+pub enum Way {
+    /// It was heard: a terminal sent it.
+    Heard,
+    /// It was begun: a pull has begun to send it, or it was given whole.
+    Begun,
+}
+
+/// The name of a counter of a line.
+#[derive(Clone, Copy, PartialEq, Eq, Debug)]
+pub enum Counter {
+    /// Frames of this kind. What is dropped before its check is found good (`Abort`, `Ragged`, `Short`, `Fcs`) is no frame,
+    /// and one that is too long is counted as `Overlong` alone.
+    Frames(Way, Kind),
+    /// Octets of these frames, from the address to the information.
+    Octets(Way),
+    /// Those of them that ask for an answer in states 7 and 8: I-frames, and RR, RNR and REJ commands, with P=1 (Q.921
+    /// clauses 3.5.1 and 5.6).
+    Polls(Way),
+    /// Frames heard that are longer than N201 allows by so much that they are not kept, but otherwise good.
+    Overlong,
+    /// What was dropped without effect, for this cause.
+    Dropped(Cause),
+    /// MDL-ERROR indications with this code (appendix II, table II.1).
+    Errors(ErrorCode),
+    /// DL-ESTABLISH indications.
+    EstablishIndications,
+    /// DL-ESTABLISH confirms.
+    EstablishConfirms,
+    /// DL-RELEASE indications.
+    ReleaseIndications,
+    /// DL-RELEASE confirms.
+    ReleaseConfirms,
+    /// DL-DATA indications: I-frames whose contents were delivered.
+    Data,
+    /// DL-UNIT DATA indications: UI frames whose contents were delivered.
+    Units,
+    /// XID frames that were told.
+    Xids,
+    /// TEIs that were assigned to terminals that asked for one.
+    Assigned,
+    /// TEIs that left the line, since no terminal answered a check.
+    Removed,
+    /// TEIs that left the line, since two terminals answered a check.
+    Doubled,
+    /// Control frames and messages of TEI management that found no room to wait.
+    Lost,
+}
+
+impl Counter {
+    /// Its place among the counters.
+    pub(crate) fn place(self) -> usize
+        ensures value { result ≡ place self }
+        ensures bound { result < 62 }
+    {
+        match self {
+            Counter::Frames(Way::Heard, kind) => kind.place(),
+            Counter::Frames(Way::Begun, kind) => 12 + kind.place(),
+            Counter::Octets(Way::Heard) => 24,
+            Counter::Octets(Way::Begun) => 25,
+            Counter::Polls(Way::Heard) => 26,
+            Counter::Polls(Way::Begun) => 27,
+            Counter::Overlong => 28,
+            Counter::Dropped(cause) => 29 + cause_place(cause),
+            Counter::Errors(code) => 37 + error_place(code),
+            Counter::EstablishIndications => 51,
+            Counter::EstablishConfirms => 52,
+            Counter::ReleaseIndications => 53,
+            Counter::ReleaseConfirms => 54,
+            Counter::Data => 55,
+            Counter::Units => 56,
+            Counter::Xids => 57,
+            Counter::Assigned => 58,
+            Counter::Removed => 59,
+            Counter::Doubled => 60,
+            Counter::Lost => 61,
+        }
+    }
+}
+
+fn cause_place(cause: Cause) -> usize
+    ensures value { result ≡ cause_place cause }
+    ensures bound { result < 8 }
+{
+    match cause {
+        Cause::Abort => 0,
+        Cause::Ragged => 1,
+        Cause::Short => 2,
+        Cause::Fcs => 3,
+        Cause::Extension => 4,
+        Cause::Sapi => 5,
+        Cause::Tei => 6,
+        Cause::Unserved => 7,
+    }
+}
+
+fn error_place(code: ErrorCode) -> usize
+    ensures value { result ≡ error_place code }
+    ensures bound { result < 14 }
+{
+    match code {
+        ErrorCode::A => 0,
+        ErrorCode::B => 1,
+        ErrorCode::C => 2,
+        ErrorCode::D => 3,
+        ErrorCode::E => 4,
+        ErrorCode::F => 5,
+        ErrorCode::G => 6,
+        ErrorCode::H => 7,
+        ErrorCode::I => 8,
+        ErrorCode::J => 9,
+        ErrorCode::K => 10,
+        ErrorCode::L => 11,
+        ErrorCode::N => 12,
+        ErrorCode::O => 13,
+    }
+}

@@ -1,0 +1,154 @@
+//! The counters of a line.
+
+ghost use Rattle.std.specs.Prelude.{◌≡◌, get_or, map};
+ghost use Rattle.lapd_bits.specs.Heard.{heard_of};
+ghost use Rattle.lapd_count.specs.Counters.{value_in, with_more, with_all, none_counted};
+ghost use Rattle.lapd_count.specs.Shown.{frame_shown, is_poll, head_shown, heard_shown, counter_of, note_shown, told_shown, drop_shown, lost_shown};
+
+use crate::counter::{Counter, Way};
+use crate::kinds::Kind;
+use lapd_bits::{Cause, Head, Heard};
+use lapd_frame::Note;
+
+/// How many counters there are.
+const COUNT: usize = 62;
+
+/// What was counted of a line: a number of 64 bits for each [`Counter`], which stays at its greatest value once it is there.
+#[derive(Clone, Copy, PartialEq, Eq, Debug)]
+pub struct Counters {
+    values: [u64; COUNT],
+}
+
+impl Counters {
+    /// Nothing was counted yet.
+    pub fn new() -> Counters
+        ensures { result ≡ none_counted }
+    {
+        Counters { values: [0; COUNT] }
+    }
+
+    /// How many there were.
+    pub fn value(&self, counter: Counter) -> u64
+        ensures { result ≡ value_in self.now counter }
+    {
+        self.values[counter.place()]
+    }
+
+    /// So many more of one.
+    fn add(&mut self, counter: Counter, amount: u64)
+        ensures { self.new ≡ with_more self.old (counter, amount) }
+    {
+        let place = counter.place();
+        self.values[place] = self.values[place].saturating_add(amount);
+    }
+
+    /// A frame, by the octets in which its C/R bit and its control field stand, and its length.
+    fn frame(&mut self, way: Way, first: u8, control: u8, second: u8, length: usize)
+        ensures { self.new ≡ with_all self.old (frame_shown way first control second length) }
+    {
+        self.add(Counter::Frames(way, Kind::of(control)), 1);
+        self.add(Counter::Octets(way), length as u64);
+        if is_poll(way, first, control, second) {
+            self.add(Counter::Polls(way), 1);
+        }
+    }
+
+    /// What is heard.
+    pub fn heard(&mut self, heard: Heard<'_>)
+        ensures { self.new ≡ with_all self.old (heard_shown (heard_of heard.entry)) }
+    {
+        match heard {
+            Heard::Nothing | Heard::Dropped(_) => {}
+            Heard::Overlong(_) => self.add(Counter::Overlong, 1),
+            Heard::Frame(octets) => self.frame(
+                Way::Heard,
+                octet_at(octets, 0),
+                octet_at(octets, 2),
+                octet_at(octets, 3),
+                octets.len(),
+            ),
+        }
+    }
+
+    /// A frame is begun.
+    pub fn begun(&mut self, head: &Head)
+        ensures { self.new ≡ with_all self.old (head_shown head.now) }
+    {
+        let [first, _, control, second] = head.octets;
+        self.frame(Way::Begun, first, control, second, usize::from(head.length));
+    }
+
+    /// What is told of an event.
+    pub fn told(&mut self, notes: &[Note], cause: Option<Cause>, lost: u8)
+        ensures { self.new ≡ with_all self.old (told_shown notes.now cause lost) }
+    {
+        self.notes(notes);
+        self.dropped(cause);
+        self.lost(lost);
+    }
+
+    fn notes(&mut self, notes: &[Note])
+        ensures { self.new ≡ with_all self.old (map note_shown notes.now) }
+    {
+        for note in notes {
+            self.add(counter_of(note), 1);
+        }
+    }
+
+    fn dropped(&mut self, cause: Option<Cause>)
+        ensures { self.new ≡ with_all self.old (drop_shown cause) }
+    {
+        if let Some(cause) = cause {
+            self.add(Counter::Dropped(cause), 1);
+        }
+    }
+
+    fn lost(&mut self, lost: u8)
+        ensures { self.new ≡ with_all self.old (lost_shown lost) }
+    {
+        if lost > 0 {
+            self.add(Counter::Lost, u64::from(lost));
+        }
+    }
+}
+
+/// The counter of a note.
+fn counter_of(note: &Note) -> Counter
+    ensures { result ≡ counter_of note.now }
+{
+    match *note {
+        Note::EstablishIndication(..) => Counter::EstablishIndications,
+        Note::EstablishConfirm(..) => Counter::EstablishConfirms,
+        Note::ReleaseIndication(..) => Counter::ReleaseIndications,
+        Note::ReleaseConfirm(..) => Counter::ReleaseConfirms,
+        Note::Data(..) => Counter::Data,
+        Note::Unit(..) => Counter::Units,
+        Note::Error(_, _, code) => Counter::Errors(code),
+        Note::Assigned(_) => Counter::Assigned,
+        Note::Removed(_) => Counter::Removed,
+        Note::Doubled(_) => Counter::Doubled,
+        Note::Xid(..) => Counter::Xids,
+    }
+}
+
+/// Whether it is a poll.
+fn is_poll(way: Way, first: u8, control: u8, second: u8) -> bool
+    ensures { result ≡ is_poll way first control second }
+{
+    let bit = match way {
+        Way::Heard => 0,
+        Way::Begun => 1,
+    };
+    first / 2 % 2 == bit && second % 2 == 1 && (control % 2 == 0 || control % 4 == 1)
+}
+
+/// The octet at a place; 0 where there is none.
+fn octet_at(octets: &[u8], place: usize) -> u8
+    ensures { result ≡ get_or octets.now place 0 }
+{
+    if place < octets.len() {
+        octets[place]
+    } else {
+        0
+    }
+}

@@ -1,0 +1,21 @@
+//! Counters of a line: what an operator asks of it. How many frames of each kind came and went, why some were dropped, which
+//! errors were told, how many frames found no room to wait.
+//!
+//! [`Counters`] has a number of 64 bits for each [`Counter`], which stays at its greatest value. What is counted is what a
+//! moment of a line shows: of an octet the frame that is heard with it, of a pull the frame that it begins, and of an answer
+//! what it tells (`specs/Shown.antt`). So each counter is the number of what its name says, from the start of the line on
+//! (`counters_are_numbers`).
+//!
+//! - `kinds`: the kinds of frames, by their control fields; `counter`: the names of the counters; `counters`: their values.
+//! - `laws`: that a counter is a number.
+#![tactic(auto)]
+
+mod counter;
+mod counters;
+mod kinds;
+mod laws;
+
+pub use counter::{Counter, Way};
+pub use counters::Counters;
+pub use kinds::Kind;
+pub use laws::{controls_have_kinds, counters_are_numbers};

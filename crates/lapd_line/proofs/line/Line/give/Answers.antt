@@ -1,0 +1,18 @@
+-- Hand-written answers for `Line::give`.
+use Rattle.std.proofs.Common.{None, refl, ◌∙◌}
+use Rattle.lapd_frame.specs.declared.short_lists.ShortList.TheVariants as short
+use Rattle.lapd_line.proofs.PullSteps.{Gives, pulls, pull_told}
+use Rattle.lapd_line.proofs.line.Line.give.Goals as goal
+
+pub returns-then-begins_nothing-clause-told : goal.returns-then-begins_nothing-clause-told
+returns-then-begins_nothing-clause-told g c = λ others m st.
+    let gives : Gives c.args.self.now.framer c.octet.new.self c.octet.result =
+    record { value = c.octet.ensures.octet; bits = c.octet.ensures.bits; room = c.octet.ensures.room; stands = c.octet.ensures.stands } in
+    c.octet_alone.ensures
+    ∙ pull_told None (c.if-begins_nothing.ensures.nothing (g.S.Shelf.store c.args.shelf.now) refl) gives _ refl short.None short.None refl refl others m st
+
+pub returns-then-begins_nothing-clause-after : goal.returns-then-begins_nothing-clause-after
+returns-then-begins_nothing-clause-after g c =
+    let gives : Gives c.args.self.now.framer c.octet.new.self c.octet.result =
+    record { value = c.octet.ensures.octet; bits = c.octet.ensures.bits; room = c.octet.ensures.room; stands = c.octet.ensures.stands } in
+    pulls None (c.if-begins_nothing.ensures.nothing (g.S.Shelf.store c.args.shelf.now) refl) gives

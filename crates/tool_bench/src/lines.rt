@@ -13,10 +13,10 @@ use lapd_store::SlabShelf;
 use std::alloc::{AllocError, Global};
 
 /// The TEI of the terminal on each line.
-const TEI: u8 = 64;
+pub const TEI: u8 = 64;
 
 /// A SABME command of it: it establishes the link, or does so again.
-const SABME: [u8; 3] = [0x00, 0x81, 0x7F];
+pub const SABME: [u8; 3] = [0x00, 0x81, 0x7F];
 
 /// How many slots a card has for each of its lines.
 const SLOTS: u16 = 8;
@@ -25,7 +25,7 @@ const SLOTS: u16 = 8;
 const PULLED: usize = 80;
 
 /// What an I-frame carries.
-const INFORMATION: [u8; 64] = [0x5A; 64];
+pub const INFORMATION: [u8; 64] = [0x5A; 64];
 
 /// What the terminals do.
 #[derive(Clone, Copy)]
@@ -46,7 +46,8 @@ pub enum Traffic {
     Faulty,
 }
 
-fn config(lines: u16) -> Config {
+/// The configuration of a card with so many lines.
+pub fn config(lines: u16) -> Config {
     Config {
         lines,
         terminals: 8,

@@ -12,6 +12,7 @@ mod busy;
 mod copies;
 mod done;
 mod fault;
+mod frames;
 mod lengths;
 mod line;
 mod lines;

@@ -6,6 +6,7 @@ use crate::busy::busy;
 use crate::copies::Copying;
 use crate::done::Done;
 use crate::fault::Fault;
+use crate::frames::{Whole, serve};
 use crate::lengths::Lengths;
 use crate::line::{ROUND, framed, in_no_order, information, repeated};
 use crate::lines::{Traffic, exchange};
@@ -45,6 +46,8 @@ pub enum Work {
     SendLong,
     /// A card with so many lines.
     Card(Traffic, u16),
+    /// A card for frames, with so many lines.
+    Frames(Whole, u16),
     /// A card with 64 busy lines.
     Busy,
     /// Contents that are put on a shelf, or lent.
@@ -58,7 +61,7 @@ pub fn works() -> &'static [(&'static str, Work)] {
     &WORKS
 }
 
-const WORKS: [(&str, Work); 69] = [
+const WORKS: [(&str, Work); 75] = [
     ("check", Work::Check),
     ("hear-short", Work::HearShort),
     ("hear-long", Work::HearLong),
@@ -81,6 +84,12 @@ const WORKS: [(&str, Work); 69] = [
     ("sabme-64", Work::Card(Traffic::Sabme, 64)),
     ("faulty-1", Work::Card(Traffic::Faulty, 1)),
     ("faulty-64", Work::Card(Traffic::Faulty, 64)),
+    ("frame-polls-1", Work::Frames(Whole::Polls, 1)),
+    ("frame-polls-64", Work::Frames(Whole::Polls, 64)),
+    ("frames-came-1", Work::Frames(Whole::Came, 1)),
+    ("frames-came-64", Work::Frames(Whole::Came, 64)),
+    ("frames-gone-1", Work::Frames(Whole::Gone, 1)),
+    ("frames-gone-64", Work::Frames(Whole::Gone, 64)),
     ("busy-64", Work::Busy),
     ("raw-start", Work::Keep(Keeping::Start(Shelves::Raw))),
     (
@@ -269,6 +278,7 @@ impl Work {
             Work::SendShort => send(alloc, SHORT, rounds),
             Work::SendLong => send(alloc, LONG, rounds),
             Work::Card(traffic, lines) => exchange(alloc, traffic, lines, rounds),
+            Work::Frames(kind, lines) => serve(alloc, kind, lines, rounds),
             Work::Busy => busy(alloc, rounds),
             Work::Keep(keeping) => keeping.run(alloc, rounds),
             Work::Copy(copying) => copying.run(alloc, rounds),

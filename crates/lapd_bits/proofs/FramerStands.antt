@@ -7,6 +7,7 @@ use Rattle.lapd_bits.specs.Bits.{bits, flag, low_bits}
 use Rattle.lapd_bits.specs.Sent.{Item, idle, frame, frame_text, item_text, line_text}
 use Rattle.lapd_bits.specs.Heads.{or_later, latest_frame, first_four, head_of}
 use Rattle.lapd_bits.specs.Framer.{Framing, Stands, refilled, with_idle, still_held, item_octets, last_octets}
+use Rattle.lapd_bits.specs.FramerFields.{begun_of}
 use Rattle.lapd_bits.proofs.BitLemmas.{length-low_bits, bits-push}
 
 pub line_text-push : (items : List Item) (item : Item) → line_text (items ++ item ∷ []) ≡ line_text items ++ item_text item
@@ -22,9 +23,11 @@ latest-push items item = fold-append or_later [] items (item ∷ [])
 
 -- a frame of these octets begins with them
 pub begun_by : (octets first : List ℕ) (size : ℕ) → first ≡ first_four octets → length octets ≡ size → 1 ≤ length octets
-    → Some (record { octets = first; length = size }) ≡ head_of octets
+    → begun_of first size ≡ head_of octets
 begun_by [] first size four long some = absurd (omega (arith, some))
-begun_by (octet ∷ octets) first size four long some = ap (λ l. Some (record { octets = l; length = size })) four ∙ ap (λ n. Some (record { octets = first_four (octet ∷ octets); length = n })) (sym long)
+begun_by (octet ∷ octets) first size four long some =
+    ap (λ l. begun_of l size) four ∙ ap (λ n. begun_of (first_four (octet ∷ octets)) n) (sym long)
+    ∙ rw (lt-ltb 0 (length (octet ∷ octets)) some) refl
 
 -- One octet more is given.
 pub Stands-octet : (old new : Framing) (octet : ℕ) (items : List Item) (given : List ℕ) → low_bits 8 octet ++ new.left ≡ refilled old.left → new.held ≡ still_held new.left old.held → new.begun ≡ old.begun → Stands old items given → Stands new (with_idle old.left items) (given ++ octet ∷ [])

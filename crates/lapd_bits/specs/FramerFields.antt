@@ -1,13 +1,18 @@
 -- A framer's fields as what it holds, and what is true of them. No clause of its surface names these.
-use Rattle.std.specs.Prelude.{◌+◌, ◌*◌, ◌<◌, ◌≤◌, vec_len}
+use Rattle.std.specs.Prelude.{ℕ, nat_lt, List, ◌+◌, ◌*◌, ◌<◌, ◌≤◌, vec_len, Option, Some, None, if◌then◌else◌}
 use Rattle.lapd_bits.specs.Framer.{Framing, still_held}
 use Rattle.lapd_bits.specs.FramerText.{to_give}
+use Rattle.lapd_bits.specs.declared.heads.Head.{Head}
 use Rattle.lapd_bits.specs.declared.framer.Framer.TheInside.{Inside}
+
+-- How the latest frame begins, of these first octets and so many; none where it has no octets, as no frame has.
+abbrev pub begun_of : List ℕ → ℕ → Option Head
+begun_of first size = if nat_lt 0 size then Some (record { octets = first; length = size }) else None
 
 abbrev pub framing_of : Inside → Framing
 framing_of a =
     let left = to_give a.octets.items a.next a.end a.after in
-    record { left = left; held = still_held left a.latest; begun = a.begun; room = a.n201 }
+    record { left = left; held = still_held left a.latest; begun = begun_of a.first a.latest; room = a.n201 }
 
 pub record IsSound (a : Inside) : Type 0 where
   pub room : a.n201 ≤ 1024

@@ -6,7 +6,7 @@ ghost use Rattle.lapd_bits.specs.Sent.{Item, frame, item_text};
 ghost use Rattle.lapd_bits.specs.Framer.{Framing, Stands, refilled, with_idle, still_held};
 
 use crate::check::fcs_of_both;
-use crate::heads::{Head, first_four};
+use crate::heads::{Head, keep_first_four};
 use crate::start_fault::StartFault;
 use crate::stuffed_text::StuffedText;
 use crate::waiting::{FLAG, Waiting};
@@ -32,8 +32,8 @@ pub struct Framer {
     after: Waiting,
     /// The octets, without check, of the latest frame.
     latest: u16,
-    /// How it begins.
-    begun: Option<Head>,
+    /// Its first four octets. No frame has fewer than three, so where `latest` is 0 there was none.
+    first: [u8; 4],
     n201: u16,
 }
 
@@ -69,7 +69,7 @@ impl Framer {
             end: 1,
             after: Waiting::none(),
             latest: 0,
-            begun: None,
+            first: [0; 4],
             n201,
         })
     }
@@ -108,7 +108,14 @@ impl Framer {
     pub fn begun(&self) -> Option<Head>
         ensures { result ≡ self.now.begun }
     {
-        self.begun
+        if 0 < self.latest {
+            Some(Head {
+                octets: self.first,
+                length: self.latest,
+            })
+        } else {
+            None
+        }
     }
 
     /// Takes the frame of these octets, without its check: `head`, its address and control field, and then `info`, its
@@ -138,12 +145,8 @@ impl Framer {
         self.next = 0;
         self.end = text.end();
         self.after = text.waiting();
-        let length = (head.len() + info.len()) as u16;
-        self.latest = length;
-        self.begun = Some(Head {
-            octets: first_four(head, info),
-            length,
-        });
+        self.latest = (head.len() + info.len()) as u16;
+        keep_first_four(&mut self.first, head, info);
     }
 
     /// The next octet of the line, low bit first. Where fewer than eight bits are left, an idle flag goes on

@@ -13,15 +13,24 @@ pub struct Head {
     pub length: u16,
 }
 
-/// The first four octets of both, one after the other; 0 where there are fewer.
+/// Keeps the first four octets of both, one after the other; 0 where there are fewer.
 #[inline(always)]
-pub(crate) fn first_four(head: &[u8], info: &[u8]) -> [u8; 4]
-    ensures { result ≡ first_four (head.now ++ info.now) }
+pub(crate) fn keep_first_four(first: &mut [u8; 4], head: &[u8], info: &[u8])
+    ensures { first.new ≡ first_four (head.now ++ info.now) }
 {
     // So it is where the control field has two octets.
     if head.len() >= 4 {
-        return [head[0], head[1], head[2], head[3]];
+        *first = [head[0], head[1], head[2], head[3]];
+    } else {
+        *first = first_of_both(head, info);
     }
+}
+
+// Apart, so that four octets of a head are one load and one store.
+#[inline(never)]
+fn first_of_both(head: &[u8], info: &[u8]) -> [u8; 4]
+    ensures { result ≡ first_four (head.now ++ info.now) }
+{
     [
         octet_at(head, info, 0),
         octet_at(head, info, 1),

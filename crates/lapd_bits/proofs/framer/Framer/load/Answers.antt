@@ -45,7 +45,7 @@ returns-clause-left c =
 
 -- it begins as the two do, and is as long
 pub returns-clause-begun : goal.returns-clause-begun
-returns-clause-begun c = begun_by _ _ _ c.first_four.ensures (length-append c.args.head.now c.args.info.now) (omega (arith, length-append c.args.head.now c.args.info.now, c.requires.a_frame))
+returns-clause-begun c = begun_by _ _ _ c.keep_first_four.ensures (length-append c.args.head.now c.args.info.now) (omega (arith, length-append c.args.head.now c.args.info.now, c.requires.a_frame))
 
 pub returns-clause-stands : goal.returns-clause-stands
 returns-clause-stands c = λ items given s.

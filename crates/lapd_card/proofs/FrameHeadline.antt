@@ -23,7 +23,7 @@ use Rattle.lapd_card.proofs.OneFrameLine.{IsAt, focused_at}
 use Rattle.lapd_card.proofs.OneHappening.{line-there, line-of}
 
 -- happenings at lines are events at lines
-spelled_at : (m : Card) (hs : List Happening) → All (λ h. happenings.line_of h < m.config.lines) hs → AreAtLines m (spelled m hs)
+pub spelled_at : (m : Card) (hs : List Happening) → All (λ h. happenings.line_of h < m.config.lines) hs → AreAtLines m (spelled m hs)
 spelled_at m [] all = All-nil (IsAtLine m)
 spelled_at m (h ∷ hs) all =
     let next = after_all m (events_of m h) in
@@ -34,12 +34,14 @@ spelled_at m (h ∷ hs) all =
     All-append (IsAtLine m) (events_of m h) (spelled next hs)
     (all_at m (happenings.line_of h) (events_at m h) (All-head (λ x. happenings.line_of x < m.config.lines) h hs all)) more
 
--- the events are at lines of the machine
+-- the happenings and their events are at lines of the machine
+pub happen_at_lines : {S : Type 0} (store : S → Store) (card : Held S) (hs : List rust.Happening) → All (λ h. line_of h < line_count card) hs → (m : Card) → Stands store card m → All (λ h. happenings.line_of h < m.config.lines) (all_of hs)
+happen_at_lines store card hs within m s =
+    All-map (λ h. happenings.line_of h < m.config.lines) happening_of hs
+    (All-weaker (λ h. line_of h < line_count card) (λ h. line_of h < m.config.lines) (λ h below. subst (λ c. line_of h < c.lines) (sym s.config) below) hs within)
+
 pub events_at_lines : {S : Type 0} (store : S → Store) (card : Held S) (hs : List rust.Happening) → All (λ h. line_of h < line_count card) hs → (m : Card) → Stands store card m → AreAtLines m (spelled m (all_of hs))
-events_at_lines store card hs within m s =
-    spelled_at m (all_of hs)
-    (All-map (λ h. happenings.line_of h < m.config.lines) happening_of hs
-    (All-weaker (λ h. line_of h < line_count card) (λ h. line_of h < m.config.lines) (λ h below. subst (λ c. line_of h < c.lines) (sym s.config) below) hs within))
+events_at_lines store card hs within m s = spelled_at m (all_of hs) (happen_at_lines store card hs within m s)
 
 -- a law of every sound card and list of events holds of them
 pub whole_list : {S : Type 0} (store : S → Store) (card : Held S) (hs : List rust.Happening) → All (λ h. line_of h < line_count card) hs → (P : Card → List Event → Type 0) → ((m : Card) (es : List Event) → IsSound m → AreAtLines m es → P m es) → (m : Card) → Stands store card m → P m (spelled m (all_of hs))

@@ -1,5 +1,5 @@
 -- A law of the machine holds of the events that a list of happenings at a card for frames means, and of every front of it.
-use Rattle.std.proofs.Common.{ℕ, ◌<◌, List, [], ◌∷◌, take, sym, subst}
+use Rattle.std.proofs.Common.{refl, ℕ, ◌<◌, List, [], ◌∷◌, take, sym, subst}
 use Rattle.std.proofs.lemmas.List.Elements.{All-nil, All-head, All-tail, All-append, All-map, All-take, All-weaker}
 use Rattle.std.specs.List.{All}
 use Rattle.model_line.specs.declared.config.Config.{Config}
@@ -10,16 +10,20 @@ use Rattle.model_card.specs.Run.{IsAtLine, AreAtLines, after_all}
 use Rattle.model_card.specs.Sound.{IsSound}
 use Rattle.model_card.proofs.Reaching.{reached-sound}
 use Rattle.model_card.specs.Happening as happenings
-use Rattle.model_card.specs.Happening.{Happening, events_at, events_of, spelled}
+use Rattle.model_card.specs.Happening.{Happening, events_at, events_of, spelled, AreIdle}
+use Rattle.model_line.specs.Whole.{IsIdle}
 use Rattle.model_card.proofs.Happening.{all_at, config_stays}
 use Rattle.lapd_store.specs.Store.{Store}
 use Rattle.lapd_card.specs.declared.happenings.Happening as rust
 use Rattle.lapd_card.specs.FrameCard.{Held, line_count}
 use Rattle.lapd_card.specs.FrameDrive.{happening_of, line_of, all_of}
-use Rattle.lapd_card.specs.FrameStands.{Stands}
+use Rattle.lapd_card.specs.FrameStands.{Stands, HasPast}
+use Rattle.lapd_card.specs.Lines.{line_in}
+use Rattle.lapd_card.proofs.OneFrameLine.{IsAt, focused_at}
+use Rattle.lapd_card.proofs.OneHappening.{line-there, line-of}
 
 -- happenings at lines are events at lines
-spelled_at : (m : Card) (hs : List Happening) → All (λ h. happenings.line_of h < m.config.lines) hs → AreAtLines m (spelled m hs)
+pub spelled_at : (m : Card) (hs : List Happening) → All (λ h. happenings.line_of h < m.config.lines) hs → AreAtLines m (spelled m hs)
 spelled_at m [] all = All-nil (IsAtLine m)
 spelled_at m (h ∷ hs) all =
     let next = after_all m (events_of m h) in
@@ -30,12 +34,14 @@ spelled_at m (h ∷ hs) all =
     All-append (IsAtLine m) (events_of m h) (spelled next hs)
     (all_at m (happenings.line_of h) (events_at m h) (All-head (λ x. happenings.line_of x < m.config.lines) h hs all)) more
 
--- the events are at lines of the machine
+-- the happenings and their events are at lines of the machine
+pub happen_at_lines : {S : Type 0} (store : S → Store) (card : Held S) (hs : List rust.Happening) → All (λ h. line_of h < line_count card) hs → (m : Card) → Stands store card m → All (λ h. happenings.line_of h < m.config.lines) (all_of hs)
+happen_at_lines store card hs within m s =
+    All-map (λ h. happenings.line_of h < m.config.lines) happening_of hs
+    (All-weaker (λ h. line_of h < line_count card) (λ h. line_of h < m.config.lines) (λ h below. subst (λ c. line_of h < c.lines) (sym s.config) below) hs within)
+
 pub events_at_lines : {S : Type 0} (store : S → Store) (card : Held S) (hs : List rust.Happening) → All (λ h. line_of h < line_count card) hs → (m : Card) → Stands store card m → AreAtLines m (spelled m (all_of hs))
-events_at_lines store card hs within m s =
-    spelled_at m (all_of hs)
-    (All-map (λ h. happenings.line_of h < m.config.lines) happening_of hs
-    (All-weaker (λ h. line_of h < line_count card) (λ h. line_of h < m.config.lines) (λ h below. subst (λ c. line_of h < c.lines) (sym s.config) below) hs within))
+events_at_lines store card hs within m s = spelled_at m (all_of hs) (happen_at_lines store card hs within m s)
 
 -- a law of every sound card and list of events holds of them
 pub whole_list : {S : Type 0} (store : S → Store) (card : Held S) (hs : List rust.Happening) → All (λ h. line_of h < line_count card) hs → (P : Card → List Event → Type 0) → ((m : Card) (es : List Event) → IsSound m → AreAtLines m es → P m es) → (m : Card) → Stands store card m → P m (spelled m (all_of hs))
@@ -53,3 +59,15 @@ each_front store card hs within P law m count s = law m (take count (spelled m (
 -- and those of a card as it begins of a front
 pub fresh_front : {S : Type 0} (store : S → Store) (card : Held S) (hs : List rust.Happening) → All (λ h. line_of h < line_count card) hs → (P : Config → List Event → Type 0) → ((c : Config) (es : List Event) → IsInRange c → AreAtLines (fresh c) es → P c es) → (count : ℕ) → Stands store card (fresh card.config) → P card.config (take count (spelled (fresh card.config) (all_of hs)))
 fresh_front store card hs within P law count s = law card.config (take count (spelled (fresh card.config) (all_of hs))) s.reached.config (front_at_lines store card hs within (fresh card.config) count s)
+
+-- between happenings its lines are idle
+pub all-idle : {S : Type 0} (store : S → Store) (card : Held S) (m : Card) → Stands store card m → AreIdle m
+all-idle store card m s = record {
+  count = (reached-sound m s.reached).count;
+  each = λ number within.
+      let past : HasPast store card = (m, s) in
+      let there = line-there store card number past (subst (λ c. number < c.lines) s.config within) in
+      let x = line-of card.lines number there in
+      let at : IsAt card.lines card.lines number x.0 = record { same = refl; within = there; is = x.1 } in
+      subst (λ c. IsIdle (line_in c number m.lines).received) (sym s.config) (focused_at card.lines card.lines number x.0 at card.config (store card.shelf) m.lines s.lines).stands.idle;
+}

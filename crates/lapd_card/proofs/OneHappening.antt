@@ -96,22 +96,23 @@ happening_leads store h old ls shelf within events alone lead = record {
   };
 }
 
+-- the line at a place
+pub line-of : (ls : List FrameLine) (i : ℕ) → i < length ls → (x : FrameLine) × (x ≡ get_or ls i x)
+line-of [] i h = absurd (omega (arith, h))
+line-of (l ∷ ls) zero h = (l, refl)
+line-of (l ∷ ls) (suc i) h = line-of ls i (omega (arith, h))
+
 -- each line has the card's configuration
 pub room_at : {S : Type 0} (store : S → Store) (card : Held S) (number room : ℕ) → HasPast store card → number < line_count card → room_for_frames card ≤ room
     → (c : Config) (ms : List line.Line) → Stand c card.lines (store card.shelf) ms → c.n201 + 4 ≤ room
 room_at store card number room past within wide c ms stand =
     let there = line-there store card number past within in
-    let x = slice_at card.lines number there in
+    let x = line-of card.lines number there in
     let at : IsAt card.lines card.lines number x.0 = record { same = refl; within = there; is = x.1 } in
     let (m, s) = past in
     let one = focused_at card.lines card.lines number x.0 at c (store card.shelf) ms stand in
     let other = focused_at card.lines card.lines number x.0 at card.config (store card.shelf) m.lines s.lines in
     subst (λ d. d.n201 + 4 ≤ room) (sym other.config ∙ one.config) wide
-  where
-    slice_at : (ls : List FrameLine) (i : ℕ) → i < length ls → (x : FrameLine) × (x ≡ get_or ls i x)
-    slice_at [] i h = absurd (omega (arith, h))
-    slice_at (l ∷ ls) zero h = (l, refl)
-    slice_at (l ∷ ls) (suc i) h = slice_at ls i (omega (arith, h))
 
 -- what happens keeps a past
 pub past_after : {S : Type 0} (store : S → Store) (h : Happening) (old new : Held S) → Leads store h old new → HasPast store old → HasPast store new

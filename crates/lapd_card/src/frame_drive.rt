@@ -8,7 +8,7 @@ ghost use Rattle.model_card.specs.Laws.{RefusedByTheTable, RunIsMoments};
 ghost use Rattle.model_card.specs.Promises.{IsWithinLimit, IsAmortised, IsAmortisedFromZero, HasSixOctetsAFrame, HasSevenOctetsAReject, IsLinear, IsIsolated, IsNeverFull, IsNumbered, IsNumberedFromZero, IsTextual};
 ghost use Rattle.model_line.specs.Request.{request_of};
 ghost use Rattle.model_card.specs.HappeningLaws.{AnswersSayIt};
-ghost use Rattle.model_card.specs.Happening.{spelled, goes, asks};
+ghost use Rattle.model_card.specs.Happening.{spelled, goes, asks, AreIdle};
 ghost use Rattle.model_card.specs.Said.{said, replies};
 ghost use Rattle.lapd_card.specs.FrameCard.{line_count};
 ghost use Rattle.lapd_card.specs.FrameDrive.{happening_of, line_of, all_of, after_happenings, Taken, MissesAt};
@@ -61,7 +61,9 @@ impl<S: Shelf> FrameCard<S> {
         ensures taken_before { IfErr result (λ fault. (m : machine.Card) → Stands S.store self.old m
             → MissesAt K.takes K.misses m (all_of happenings.now) fault.at sink.old sink.new) }
 
-        // The answers to the events of a happening say what its reply says, and nothing else.
+        // The lines are idle between happenings, and at idle lines the answers to the events of a happening say what its
+        // reply says, and nothing else.
+        ensures idle { (m : machine.Card) → Stands S.store self.old m → AreIdle m }
         ensures answers { AnswersSayIt }
         ensures moments { RunIsMoments }
         ensures refused { RefusedByTheTable }

@@ -39,12 +39,13 @@
 //!
 //! # Only tested
 //!
-//! Starts, with each fault; an answer that is kept has its contents; single events and long runs (`test_card`).
+//! Starts, with each fault; an answer that is kept has its contents; single events and long runs; of a card for frames, one
+//! list of happenings, frames of bad lengths, and a room that is too small (`test_card`).
 //!
 //! # Open
 //!
 //! Of a card for frames: its calls in C and in scripts, and a bound of what it stores that leaves out the room of frames on
-//! their way; how much room a link has; within how many calls a control frame begins. No test starts one yet.
+//! their way; how much room a link has.
 #![tactic(auto)]
 
 mod begun;

@@ -45,7 +45,7 @@ module _ (number : ℕ) where
       let sound = line-sound card number s few in
       card-waits card number s few events all x.only link tei before f behind h
       (enough-before card.config (line_at number card) sound left link (length before) (pulls_at number events) h.few
-      (others-fit card.config s.config (line_at number card) sound left link tei h.few h.on_line before f behind h.waits) x.enough)
+      (others-fit card.config s.config (line_at number card) sound link tei h.few h.on_line before f behind h.waits) x.enough)
 
   module _ (card : Card) (s : IsSound card) (few : number < card.config.lines) (left : HasFewLeft card.config (line_at number card)) (value : ℕ) (service : Service) (tei place : ℕ) (parts : Parts)
       (h : IsHeardThere card number value service tei place parts) (pulls : List Event) (x : ArePullsEnough card number pulls) where

@@ -19,3 +19,6 @@ pub mod Enough
 pub mod Premises
 pub mod EventsMet
 pub mod AmidMet
+pub mod FramesCount
+pub mod FramesGiven
+pub mod FramesAnswered

@@ -8,6 +8,8 @@ use Rattle.model_card.specs.Run.{IsAtLine, AreAtLines}
 use Rattle.model_card.specs.Sound.{IsSound}
 use Rattle.laws_card.specs.Promises.{IsKept, IsCountedIn, BeginsEmpty, IsServedIn, UnitsWaitAll, TurnsStay, ArePulled, AreHeeded, TakeEffect, ExpiriesTakeEffectIn, AreSteady, IsDelivered, AreReceived, BeginsUnheard, RunsWhatIsNeeded, NeedsNone, TimersAreLeft, NotesTell, TeisAreTold, BeginsDown, TeisHaveOnePlace, BegunIsTold, MessagesHaveCauses, ToldTeisAreThere, NotesHaveReasons, NothingElseIsNoted}
 use Rattle.laws_card.specs.Timers.{AllHaveTheirTimers}
+use Rattle.laws_card.specs.Frames.{AreCounted, AreAmortised, AreLinear, CallsEnd, WaitingIsGiven, PollsAreAnswered, CommandsAreAnswered}
+use Rattle.model_card.specs.Happening.{Happening, HappenAt, AreIdle}
 
 pub record NothingIsLost : Type 0 where
   pub kept : (card : Card) (events : List Event) → IsSound card → AreAtLines card events → IsKept card events
@@ -62,3 +64,15 @@ pub record CausesAreKnown : Type 0 where
   pub causes : (card : Card) (events : List Event) → IsSound card → AreAtLines card events → MessagesHaveCauses card events
   pub there : (card : Card) (events : List Event) → IsSound card → AreAtLines card events → ToldTeisAreThere card events
   pub reasons : (card : Card) (events : List Event) → IsSound card → AreAtLines card events → NotesHaveReasons card events
+
+-- Of happenings at a card whose frames come and go whole.
+pub record FramesAreCounted : Type 0 where
+  pub counted : (m : Card) (hs : List Happening) → IsSound m → AreIdle m → HappenAt m hs → AreCounted m hs
+  pub amortised : (m : Card) (hs : List Happening) → IsSound m → AreIdle m → HappenAt m hs → AreAmortised m hs
+  pub linear : (m : Card) (hs : List Happening) → IsSound m → AreIdle m → HappenAt m hs → AreLinear m hs
+
+pub record CallsServe : Type 0 where
+  pub ends : (m : Card) → IsSound m → CallsEnd m
+  pub waiting : (m : Card) → IsSound m → WaitingIsGiven m
+  pub polls : (m : Card) → IsSound m → AreIdle m → PollsAreAnswered m
+  pub commands : (m : Card) → IsSound m → AreIdle m → CommandsAreAnswered m

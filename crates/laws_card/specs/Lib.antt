@@ -19,3 +19,4 @@ pub mod WorkedReasons
 pub mod Among
 pub mod PromisesOfPulls
 pub mod WorkedAmong
+pub mod Frames

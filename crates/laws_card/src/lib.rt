@@ -6,19 +6,22 @@
 //! (`Contents`), what holds in a moment (`Faithful`, `Heard`), what is promised of a list of events (`Promises`), which
 //! timers a caller runs (`Timers`), what a line comes to by its pulls (`Among`, `PromisesOfPulls`), what notes tell
 //! (`Knowledge`), which frames pulls begin (`Begun`), which octets come to a line (`Received`), why messages of TEI
-//! management come to wait (`Messages`), the laws, which say of which cards and lists (`Laws`), and worked values
-//! (`Worked`, `WorkedTimers`, `WorkedNotes`, `WorkedBegun`, `WorkedPlaces`, `WorkedReceived`, `WorkedReasons`). Each
+//! management come to wait (`Messages`), what frames that come and go whole count and how soon they go (`Frames`), the
+//! laws, which say of which cards and lists (`Laws`), and worked values (`Worked`, `WorkedTimers`, `WorkedNotes`,
+//! `WorkedBegun`, `WorkedPlaces`, `WorkedReceived`, `WorkedReasons`). Each
 //! law is the contract of a call that does nothing. `laws_promises` has all promises of a list of events in one record.
 //!
-//! - `laws`, `timers`, `notes`, `management`, `progress`: the laws.
+//! - `laws`, `timers`, `notes`, `management`, `progress`, `frames`: the laws.
 #![tactic(auto)]
 
+mod frames;
 mod laws;
 mod management;
 mod notes;
 mod progress;
 mod timers;
 
+pub use frames::{calls_serve, frames_are_counted};
 pub use laws::{
     expiries_take_effect, frames_are_heeded, heard_is_delivered, links_are_steady, nothing_is_lost,
     pulls_serve, requests_take_effect,

@@ -69,12 +69,18 @@ heard-aim : (c : Config) (l : Line) (value : ℕ) (o : Option stream.Event) → 
     → aim_of_octet c value l ≡ option_map_or (aim_of_heard l) o (at_none nothing)
 heard-aim c l value o gains = ap (λ o. option_map_or (aim_of_heard l) o (at_none nothing)) gains
 
+-- as a frame is that is spelled for this link
+pub aim-of-frame : (l : Line) (service : Service) (tei place : ℕ) (parts : Parts) (octets : List ℕ) → IsFor l service tei place parts octets
+    → aim_of_heard l (stream.frame octets) ≡ at_link service tei place (link.received (link.frame parts))
+aim-of-frame l service tei place parts octets f =
+    ap (aim_of_reading l) (reading-again User parts octets f.spelled)
+    ∙ addressed-is l parts.address service tei place (link.frame parts) (message_of parts.control parts.info) f.sapi f.tei_is f.on_line
+
 pub frame-aim : (c : Config) (l : Line) (value : ℕ) (service : Service) (tei place : ℕ) (parts : Parts) (octets : List ℕ)
     → Ends c l value octets → IsFor l service tei place parts octets → aim_of_octet c value l ≡ at_link service tei place (link.received (link.frame parts))
 frame-aim c l value service tei place parts octets ends f =
     heard-aim c l value (Some (stream.frame octets)) (gained-is c l value (Some (stream.frame octets)) ends)
-    ∙ ap (aim_of_reading l) (reading-again User parts octets f.spelled)
-    ∙ addressed-is l parts.address service tei place (link.frame parts) (message_of parts.control parts.info) f.sapi f.tei_is f.on_line
+    ∙ aim-of-frame l service tei place parts octets f
 
 pub one-event : (c : Config) (l : Line) (value : ℕ) (service : Service) (tei place : ℕ) (parts : Parts) (octets : List ℕ)
     → Ends c l value octets → IsFor l service tei place parts octets

@@ -31,7 +31,7 @@ use Rattle.laws_line.proofs.Leaving.{first-goes, others-wait, now, later, not-em
 use Rattle.laws_line.proofs.Lengths.{text-longest, frame-long, octet-shortens, item-lengthens}
 
 -- What is taken is the frame, or it comes nearer.
-abbrev Nearer : Config → ℕ → Line → List ControlFrame → ControlFrame → List ControlFrame → ℕ → Line → Type 0
+abbrev pub Nearer : Config → ℕ → Line → List ControlFrame → ControlFrame → List ControlFrame → ℕ → Line → Type 0
 Nearer c number l before f behind others l' =
     (before' : List ControlFrame) × ((link_at number l').waiting ≡ before' ++ f ∷ behind) × (frames_before c l' number (length before') + 1 ≤ others)
 

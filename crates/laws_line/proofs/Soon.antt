@@ -18,15 +18,19 @@ way-few count turn number few = go (nat_le turn number) refl
     go false e = let more : number < turn = leb-false turn number e in omega (arith, few, more)
 
 -- by numbers alone
-pub few-before : (c : Config) (l : Line) → IsSound c l → HasFewLeft c l → (number others : ℕ) → number < link_count c → others + 1 ≤ c.control
-    → bits_before c l number others ≤ most_bits_before c
-few-before c l s left number others few room =
+pub frames-few : (c : Config) (l : Line) → IsSound c l → (number others : ℕ) → number < link_count c → others + 1 ≤ c.control
+    → frames_before c l number others ≤ most_frames_before c
+frames-few c l s number others few room =
     let messages = s.management.queue.few in
     let units = s.few_units in
     let way = way-few (link_count c) l.turn number few in
     let own : others * link_count c ≤ (c.control - 1) * link_count c = mul-le-mul_right (link_count c) (omega (arith, room)) in
-    let frames : frames_before c l number others ≤ most_frames_before c = omega (arith, own, messages, units, way) in
-    let most : frames_before c l number others * longest_text c ≤ most_frames_before c * longest_text c = mul-le-mul_right (longest_text c) frames in
+    omega (arith, own, messages, units, way)
+
+pub few-before : (c : Config) (l : Line) → IsSound c l → HasFewLeft c l → (number others : ℕ) → number < link_count c → others + 1 ≤ c.control
+    → bits_before c l number others ≤ most_bits_before c
+few-before c l s left number others few room =
+    let most : frames_before c l number others * longest_text c ≤ most_frames_before c * longest_text c = mul-le-mul_right (longest_text c) (frames-few c l s number others few room) in
     let sum : (1 + most_frames_before c) * longest_text c ≡ longest_text c + most_frames_before c * longest_text c = omega arith in
     subst (λ x. bits_before c l number others ≤ x) (sym sum) (omega (arith, left, most))
 
@@ -37,7 +41,7 @@ enough-before c l s left number others n few room enough =
     inr (omega (arith, before, enough))
 
 -- what waits of a link has room
-module _ (c : Config) (ranged : IsInRange c) (l : Line) (s : IsSound c l) (left : HasFewLeft c l) (number tei : ℕ) (few : number < link_count c)
+module _ (c : Config) (ranged : IsInRange c) (l : Line) (s : IsSound c l) (number tei : ℕ) (few : number < link_count c)
     (at : tei_at (place_at number) l ≡ Some tei) (before : List ControlFrame) (f : ControlFrame) (behind : List ControlFrame)
     (waits : (link_at number l).waiting ≡ before ++ f ∷ behind) where
   ring : length (link_at number l).waiting ≤ c.control
@@ -54,5 +58,9 @@ module _ (c : Config) (ranged : IsInRange c) (l : Line) (s : IsSound c l) (left 
       let most = ring in
       omega (arith, sum, here, most)
 
-  pub goes-soon : (n : ℕ) → most_pulls_before c ≤ n → IsBegunWithin c n l (control_text c number tei f)
-  goes-soon n enough = enough-goes c ranged number tei few n l s at before f behind waits (enough-before c l s left number (length before) n few others-fit enough)
+pub goes-soon : (c : Config) → IsInRange c → (l : Line) → IsSound c l → HasFewLeft c l → (number tei : ℕ) → number < link_count c
+    → tei_at (place_at number) l ≡ Some tei → (before : List ControlFrame) (f : ControlFrame) (behind : List ControlFrame)
+    → (link_at number l).waiting ≡ before ++ f ∷ behind → (n : ℕ) → most_pulls_before c ≤ n → IsBegunWithin c n l (control_text c number tei f)
+goes-soon c ranged l s left number tei few at before f behind waits n enough =
+    enough-goes c ranged number tei few n l s at before f behind waits
+    (enough-before c l s left number (length before) n few (others-fit c ranged l s number tei few at before f behind waits) enough)

@@ -1,2 +1,3 @@
 -- Lemmas.
 pub mod Kept
+pub mod FramesKept

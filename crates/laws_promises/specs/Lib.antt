@@ -1,2 +1,3 @@
 -- What is promised of every list of events.
 pub mod Promises
+pub mod FramePromises

@@ -6,13 +6,17 @@
 //! what bounds storage and frames.
 //!
 //! - `call`: `drive`, a card's call, with its clauses and the promises. A caller that needs no proof calls the card itself.
-//! - `laws`: the promises of every machine of a card that is reached, as a call without effect.
+//! - `frame_call`: `drive_frames`, the same of a card for frames: all promises of the events that its happenings mean, and
+//!   what they are in frames' own terms (`specs/FramePromises`).
+//! - `laws`: the promises of every machine of a card that is reached, as calls without effect.
 #![tactic(auto)]
 
 mod call;
+mod frame_call;
 mod laws;
 #[cfg(test)]
 mod tests;
 
 pub use call::drive;
-pub use laws::promises_are_kept;
+pub use frame_call::drive_frames;
+pub use laws::{frame_promises_are_kept, promises_are_kept};

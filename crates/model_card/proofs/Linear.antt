@@ -41,7 +41,7 @@ event_long card e h within =
       one_line (line.long_frames_heard card.config) card e.line (lines.after card.config e.what l) h within,
     ))
 
-run_long : (card : Card) (events : List Event) → HasLines card → AreAtLines card events
+pub run_long : (card : Card) (events : List Event) → HasLines card → AreAtLines card events
     → rejected (moments card events) + long_frames_heard card ≤ long_frames_heard (after_all card events)
 unfolding moments after_all
 run_long card [] h within = omega arith

@@ -7,6 +7,7 @@
 //! - `refusals`: requests that are refused, and what the card stores before and after.
 //! - `timers`: the orders of single events.
 //! - `own_shelf`: a card over a shelf of the caller's own.
+//! - `frames`: a card for frames, with a list of happenings, bad frames, and a room that is too small.
 //! - `example`: a line that is served, as in the README.
 //! - `rows`: worked rows, with every allocation after the starts refused by `tests/memory`: no answer changes.
 //! - `memory`: starts and long runs, of which `tests/memory` counts the allocations.
@@ -14,6 +15,8 @@
 
 #[cfg(test)]
 mod example;
+#[cfg(test)]
+mod frames;
 mod kept;
 #[cfg(test)]
 mod memory;

@@ -19,7 +19,7 @@ use Rattle.model_card.proofs.Refusals.{refused_by_the_table}
 use Rattle.model_card.proofs.ByEvent.{frames_by_event}
 use Rattle.model_card.proofs.Drops.{drops_cost_nothing, drops_change_nothing}
 use Rattle.model_card.specs.Promises.{IsWithinLimit, IsAmortised, IsAmortisedFromZero, HasSixOctetsAFrame, HasSevenOctetsAReject, IsLinear, IsIsolated, IsNeverFull, IsNumbered, IsNumberedFromZero, IsTextual}
-use Rattle.lapd_card.proofs.FrameHeadline.{whole_list, each_front, fresh_front}
+use Rattle.lapd_card.proofs.FrameHeadline.{whole_list, each_front, fresh_front, all-idle}
 use Rattle.model_card.specs.Run.{after_all}
 use Rattle.lapd_card.proofs.frame_card.FrameCard.drive.Goals as goal
 
@@ -151,3 +151,9 @@ returns-then-is_err-clause-answers g c = answers_say_it
 
 pub returns-clause-answers : goal.returns-clause-answers
 returns-clause-answers g c = answers_say_it
+
+pub returns-then-is_err-clause-idle : goal.returns-then-is_err-clause-idle
+returns-then-is_err-clause-idle g c = λ m s. all-idle g.S.Shelf.store c.args.self.now m s
+
+pub returns-clause-idle : goal.returns-clause-idle
+returns-clause-idle g c = λ m s. all-idle g.S.Shelf.store c.args.self.now m s

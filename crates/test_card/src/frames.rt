@@ -1,0 +1,190 @@
+//! A card for frames: a list of happenings, sinks that fail, frames that are bad, and a room that is too small.
+
+ghost use Rattle.std.specs.Prelude.{◌≡◌, ⊤, IfOk};
+ghost use Rattle.lapd_card.specs.FrameCard.{line_count};
+
+use crate::starts::USUAL;
+use lapd_bits::Cause;
+use lapd_card::{
+    Fault, FrameCard, FrameReply, FrameSink, Happening, Request, RoomTooSmall, SinkFailed,
+    SinkFault,
+};
+use lapd_frame::{Note, Refusal, Service, Timer};
+use lapd_store::SlabShelf;
+use std::alloc::Global;
+use std::test::Fail;
+
+const CALL: Service = Service::Call;
+
+/// A card for frames of the usual sizes.
+fn frame_card(alloc: Global) -> Result<FrameCard<SlabShelf>, Fail>
+    ensures { IfOk result (λ card. line_count card ≡ 1) }
+{
+    Ok(FrameCard::start(alloc, USUAL, SlabShelf::start(alloc, 64, 260)?)?)
+}
+
+/// What a reply says, in short.
+#[derive(Clone, Copy)]
+enum Kind {
+    /// A report of nothing.
+    Silent,
+    /// A report of a note.
+    Noted(Note),
+    /// A report that hands on these contents.
+    Delivered(&'static [u8]),
+    /// A report of why a frame was dropped.
+    Dropped(Cause),
+    /// A request was refused.
+    Refused(Refusal),
+    /// The next frame, or none.
+    Next(Option<&'static [u8]>),
+}
+
+impl Kind {
+    /// Whether a reply says this.
+    fn is_of(self, reply: &FrameReply<'_>) -> bool {
+        match (self, reply) {
+            (Kind::Silent, FrameReply::Report(report)) => report.notes().is_empty()
+                && report.cause.is_none(),
+            (Kind::Noted(note), FrameReply::Report(report)) => report.notes() == [note].as_slice(),
+            (Kind::Delivered(contents), FrameReply::Report(report)) => report.delivered
+                == Some(contents),
+            (Kind::Dropped(cause), FrameReply::Report(report)) => report.cause == Some(cause),
+            (Kind::Refused(refusal), FrameReply::Refused(why)) => refusal == *why,
+            (Kind::Next(None), FrameReply::Next(None)) => true,
+            (Kind::Next(Some(octets)), FrameReply::Next(Some(sent))) => sent
+                .octets
+                .get(..sent.next.length)
+                == Some(octets),
+            _ => false,
+        }
+    }
+}
+
+/// A sink that takes a reply of line 0 if it is the next of `KINDS`.
+#[derive(Drop)]
+struct Expecting {
+    at: usize,
+    failures: u64,
+}
+
+impl FrameSink for Expecting {
+    ghost takes = { λ old line said new. ⊤ };
+
+    ghost misses = { λ old line said new. ⊤ };
+
+    ghost failures = { λ s. s.failures };
+
+    fn take(&mut self, line: usize, reply: &FrameReply<'_>) -> Result<(), SinkFailed> {
+        if let Some(kind) = KINDS.get(self.at) {
+            if line == 0 && kind.is_of(reply) {
+                self.at += 1;
+                return Ok(());
+            }
+        }
+        self.failures = self.failures.saturating_add(1);
+        Err(SinkFailed)
+    }
+}
+
+/// TEI 64 establishes its call control link, and sends contents and asks for an answer; the controller tells a fault; a
+/// timer that does not run expires; and a request is refused.
+const HAPPENINGS: [Happening<'static>; 9] = [
+    Happening::Asks(0, Request::Assign(64)),
+    Happening::Comes(0, &[0x00, 0x81, 0x7F]),
+    Happening::Goes(0),
+    Happening::Comes(0, &[0x00, 0x81, 0x00, 0x01, 0xCB]),
+    Happening::Goes(0),
+    Happening::Goes(0),
+    Happening::Failed(0, Fault::Fcs),
+    Happening::Expires(0, Timer::T200(CALL, 64)),
+    Happening::Asks(0, Request::Assign(64)),
+];
+
+/// What they are answered with: UA, and RR with F=1, are the frames that go.
+const KINDS: [Kind; 9] = [
+    Kind::Silent,
+    Kind::Noted(Note::EstablishIndication(CALL, 64)),
+    Kind::Next(Some(&[0x00, 0x81, 0x73])),
+    Kind::Delivered(&[0xCB]),
+    Kind::Next(Some(&[0x00, 0x81, 0x01, 0x03])),
+    Kind::Next(None),
+    Kind::Dropped(Cause::Fcs),
+    Kind::Silent,
+    Kind::Refused(Refusal::TeiTaken),
+];
+
+#[test]
+fn happenings_are_answered(rt: HostRuntime) -> Result<(), Fail> {
+    let mut card = frame_card(rt.alloc())?;
+    let mut sink = Expecting { at: 0, failures: 0 };
+    assert!(rt; card.drive(&HAPPENINGS, &mut sink) == Ok(9));
+    assert!(rt; sink.at == 9 && sink.failures == 0);
+    assert!(rt; card.lines() == 1);
+    assert!(rt; card.drive(&HAPPENINGS, &mut sink) == Err(SinkFault { at: 0 }));
+    assert!(rt; sink.at == 9 && sink.failures == 1);
+    Ok(())
+}
+
+/// Why a frame of so many octets 00 is dropped.
+fn dropped(card: &mut FrameCard<SlabShelf>, octets: &[u8]) -> Option<Cause> {
+    if card.lines() == 0 {
+        return None;
+    }
+    card.frame(0, octets).cause
+}
+
+/// Frames of each length near a border, and why they are dropped.
+const LENGTHS: [(usize, Cause); 8] = [
+    (0, Cause::Short),
+    (1, Cause::Short),
+    (2, Cause::Short),
+    (3, Cause::Short),
+    (4, Cause::Extension),
+    (264, Cause::Extension),
+    (265, Cause::Extension),
+    (65_535, Cause::Extension),
+];
+
+#[test]
+fn bad_frames_are_dropped(rt: HostRuntime) -> Result<(), Fail> {
+    let mut card = frame_card(rt.alloc())?;
+    let before = card.stored();
+    let octets = vec![in rt.alloc(); 0u8; 65_535]?;
+    for (length, cause) in LENGTHS {
+        let frame = octets.get(..length);
+        assert!(rt; frame.is_some_and(|frame| dropped(&mut card, frame) == Some(cause)));
+    }
+    assert!(rt; card.stored() == before);
+    Ok(())
+}
+
+/// How many octets the next frame has that is written in so much room. Only what lies in front of the room changes.
+fn next_length(
+    card: &mut FrameCard<SlabShelf>,
+    room: &mut [u8],
+) -> Result<Option<usize>, RoomTooSmall> {
+    if card.lines() == 0 {
+        return Ok(None);
+    }
+    Ok(card.next_frame(0, room)?.map(|next| next.length))
+}
+
+#[test]
+fn a_room_that_is_too_small(rt: HostRuntime) -> Result<(), Fail> {
+    let mut card = frame_card(rt.alloc())?;
+    let mut sink = Expecting { at: 0, failures: 0 };
+    assert!(rt; card.drive(&HAPPENINGS[..2], &mut sink) == Ok(2));
+    let mut room = [0x55u8; 264];
+    let fault = RoomTooSmall {
+        room: card.frame_room(),
+    };
+    assert!(rt; next_length(&mut card, &mut room[..263]) == Err(fault));
+    assert!(rt; room == [0x55; 264]);
+    assert!(rt; next_length(&mut card, &mut room) == Ok(Some(3)));
+    assert!(rt; room[..4] == [0x00, 0x81, 0x73, 0x55]);
+    assert!(rt; next_length(&mut card, &mut room) == Ok(None));
+    let shown = format!(in rt.alloc(); "{fault}")?;
+    assert!(rt; shown.as_str() == "a frame has up to 264 octets");
+    Ok(())
+}

@@ -30,24 +30,11 @@ fn faults_of_frames(rt: HostRuntime) {
 
 #[test]
 fn faults_of_starts(rt: HostRuntime) {
-    says(
-        &rt,
-        rt.alloc(),
-        &lapd_store::StartFault::OutOfMemory,
-        "out of memory",
-    );
-    says(
-        &rt,
-        rt.alloc(),
-        &lapd_clock::StartFault::OutOfMemory,
-        "out of memory",
-    );
-    says(
-        &rt,
-        rt.alloc(),
-        &lapd_tei::StartFault::OutOfMemory,
-        "out of memory",
-    );
+    let text = "out of memory";
+    says(&rt, rt.alloc(), &lapd_bits::StartFault::OutOfMemory, text);
+    says(&rt, rt.alloc(), &lapd_store::StartFault::OutOfMemory, text);
+    says(&rt, rt.alloc(), &lapd_clock::StartFault::OutOfMemory, text);
+    says(&rt, rt.alloc(), &lapd_tei::StartFault::OutOfMemory, text);
     assert!(rt; lapd_store::StartFault::OutOfMemory as u8 == 1);
     assert!(rt; lapd_clock::StartFault::OutOfMemory as u8 == 1);
     assert!(rt; lapd_tei::StartFault::OutOfMemory as u8 == 1);

@@ -1,8 +1,9 @@
-//! What a framer gives, octet by octet, worked out by hand.
+//! What a framer gives, octet by octet, worked out by hand. A UA, and the longest frame, are in `tests/scripts/link`.
 
-ghost use Rattle.std.specs.Prelude.{◌≡◌};
+ghost use Rattle.std.specs.Prelude.{◌≡◌, ◌+◌, ◌≤◌, length};
 
 use lapd_bits::Framer;
+use std::alloc::Global;
 use std::process::Abort;
 use std::test::Fail;
 
@@ -15,108 +16,55 @@ fn expect(rt: &impl Abort, framer: &mut Framer, octets: &[u8])
     }
 }
 
-// A UA with its check, between two flags.
-#[test]
-fn a_frame(rt: HostRuntime) -> Result<(), Fail> {
-    let mut framer = Framer::start(rt.alloc(), 260)?;
-    assert!(rt; framer.busy());
-    assert!(rt; framer.held() == 0);
-    expect(&rt, &mut framer, &[0x7E]);
+// Behind a whole flag, the octets of a frame and of the idle flags after it are these.
+fn gives(rt: &impl Abort, alloc: Global, head: &[u8], info: &[u8], octets: &[u8])
+    requires least { 3 ≤ length head.now + length info.now }
+    requires most { length head.now ≤ 4 }
+    requires info { length info.now ≤ 260 }
+{
+    let mut framer = Framer::start(alloc, 260).expect(rt, "memory");
+    expect(rt, &mut framer, &[0x7E]);
     assert!(rt; !framer.busy());
-    assert!(rt; framer.left() == 0);
-    framer.load(&[0x00, 0x81, 0x73], &[]);
-    assert!(rt; framer.busy());
-    assert!(rt; framer.left() == 8);
-    expect(&rt, &mut framer, &[0x00, 0x81, 0x73, 0xC4, 0x12]);
-    assert!(rt; framer.held() == 3);
-    expect(&rt, &mut framer, &[0x7E]);
-    assert!(rt; framer.held() == 0);
-    expect(&rt, &mut framer, &[0x7E, 0x7E]);
-    Ok(())
+    framer.load(head, info);
+    expect(rt, &mut framer, octets);
 }
 
-// A SABME of the terminal, whose closing flag ends in the first bit of the last octet.
 #[test]
-fn a_terminals_sabme(rt: HostRuntime) -> Result<(), Fail> {
-    let mut framer = Framer::start(rt.alloc(), 260)?;
-    expect(&rt, &mut framer, &[0x7E]);
-    assert!(rt; !framer.busy());
-    framer.load(&[0x00, 0x81, 0x7F], &[]);
-    assert!(rt; framer.held() == 3);
-    expect(
-        &rt,
-        &mut framer,
-        &[0x00, 0x81, 0xEF, 0x50, 0xB1, 0xFD, 0xFC],
-    );
-    Ok(())
-}
-
-// A SABME of the network, whose stuffed 0s leave the idle flags after it across octets.
-#[test]
-fn idle_flags_across_octets(rt: HostRuntime) -> Result<(), Fail> {
-    let mut framer = Framer::start(rt.alloc(), 260)?;
-    expect(&rt, &mut framer, &[0x7E]);
-    assert!(rt; !framer.busy());
-    framer.load(&[0x02, 0x81], &[0x7F]);
-    expect(
-        &rt,
-        &mut framer,
-        &[0x02, 0x81, 0xEF, 0x20, 0xDA, 0xFC, 0xFC],
-    );
-    Ok(())
-}
-
-// A UI whose check ends in five 1s, which have a stuffed 0 after them too.
-#[test]
-fn a_last_stuffed_zero(rt: HostRuntime) -> Result<(), Fail> {
-    let mut framer = Framer::start(rt.alloc(), 260)?;
-    expect(&rt, &mut framer, &[0x7E]);
-    assert!(rt; !framer.busy());
-    framer.load(&[0x00, 0x81, 0x03], &[0xCB]);
-    assert!(rt; framer.held() == 4);
-    expect(
-        &rt,
-        &mut framer,
-        &[0x00, 0x81, 0x03, 0xCB, 0x59, 0xF8, 0xFC, 0xFC],
-    );
-    Ok(())
+fn frames_at_whole_octets(rt: HostRuntime) {
+    // A SABME of the terminal, whose closing flag ends in the first bit of the last octet.
+    let ended = [0x00, 0x81, 0xEF, 0x50, 0xB1, 0xFD, 0xFC];
+    gives(&rt, rt.alloc(), &[0x00, 0x81, 0x7F], &[], &ended);
+    // A SABME of the network, whose stuffed 0s leave the idle flags after it across octets.
+    let across = [0x02, 0x81, 0xEF, 0x20, 0xDA, 0xFC, 0xFC];
+    gives(&rt, rt.alloc(), &[0x02, 0x81], &[0x7F], &across);
+    // A UI whose check ends in five 1s, which have a stuffed 0 after them too.
+    let stuffed = [0x00, 0x81, 0x03, 0xCB, 0x59, 0xF8, 0xFC, 0xFC];
+    gives(&rt, rt.alloc(), &[0x00, 0x81, 0x03], &[0xCB], &stuffed);
 }
 
 // A second frame follows the last four bits of an idle flag.
 #[test]
 fn within_an_idle_flag(rt: HostRuntime) -> Result<(), Fail> {
     let mut framer = Framer::start(rt.alloc(), 260)?;
+    assert!(rt; framer.left() == 8);
     expect(&rt, &mut framer, &[0x7E]);
+    assert!(rt; framer.left() == 0);
     assert!(rt; !framer.busy());
     framer.load(&[0x00, 0x81, 0x03], &[0xFF, 0xFF]);
+    assert!(rt; framer.held() == 5);
     expect(
         &rt,
         &mut framer,
         &[0x00, 0x81, 0x03, 0xDF, 0xF7, 0xF5, 0x15, 0xEE, 0xE7],
     );
+    assert!(rt; framer.held() == 0);
     assert!(rt; framer.left() == 4);
     assert!(rt; !framer.busy());
     framer.load(&[0x00, 0x81, 0x73], &[]);
-    assert!(rt; framer.held() == 3);
     expect(
         &rt,
         &mut framer,
         &[0x07, 0x10, 0x38, 0x47, 0x2C, 0xE1, 0xE7],
     );
-    Ok(())
-}
-
-// The longest frame: an I-frame with 260 octets of information.
-#[test]
-fn the_longest_frame(rt: HostRuntime) -> Result<(), Fail> {
-    let mut framer = Framer::start(rt.alloc(), 260)?;
-    expect(&rt, &mut framer, &[0x7E]);
-    assert!(rt; !framer.busy());
-    framer.load(&[0x00, 0x81, 0x00, 0x00], &[0x55; 260]);
-    assert!(rt; framer.held() == 264);
-    expect(&rt, &mut framer, &[0x00, 0x81, 0x00, 0x00]);
-    expect(&rt, &mut framer, &[0x55; 260]);
-    assert!(rt; framer.held() == 264);
-    expect(&rt, &mut framer, &[0xAF, 0x2E, 0x7E, 0x7E]);
     Ok(())
 }

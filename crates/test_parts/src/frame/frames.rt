@@ -45,42 +45,26 @@ fn i_frames(rt: HostRuntime) {
     );
 }
 
-/// Unnumbered commands and responses, with information and without.
-const COMMANDS: [(&[u8], Control, &[u8]); 5] = [
-    (&[0x00, 0x81, 0x7F], Control::Sabme { pf: true }, &[]),
-    (&[0x00, 0x81, 0x6F], Control::Sabme { pf: false }, &[]),
-    (&[0x00, 0x81, 0x53], Control::Disc { pf: true }, &[]),
-    (
-        &[0x00, 0x81, 0x03, 0xCB],
-        Control::Ui { pf: false },
-        &[0xCB],
-    ),
-    (&[0x00, 0x81, 0xBF], Control::Xid { pf: true }, &[]),
-];
-
-const RESPONSES: [(&[u8], Control, &[u8]); 4] = [
-    (&[0x02, 0x81, 0x73], Control::Ua { pf: true }, &[]),
-    (&[0x02, 0x81, 0x0F], Control::Dm { pf: false }, &[]),
-    (
-        &[0x02, 0x81, 0x97, 0x11, 0x22, 0x33, 0x44, 0x55],
-        Control::Frmr { pf: true },
-        &[0x11, 0x22, 0x33, 0x44, 0x55],
-    ),
-    (
-        &[0x02, 0x81, 0xAF, 0x82],
-        Control::Xid { pf: false },
-        &[0x82],
-    ),
-];
+// Unnumbered commands and responses, with information and without.
+#[test]
+fn unnumbered_commands(rt: HostRuntime) {
+    expect_command(&rt, &[0x00, 0x81, 0x7F], Control::Sabme { pf: true }, &[]);
+    expect_command(&rt, &[0x00, 0x81, 0x6F], Control::Sabme { pf: false }, &[]);
+    expect_command(&rt, &[0x00, 0x81, 0x53], Control::Disc { pf: true }, &[]);
+    let unit = [0x00, 0x81, 0x03, 0xCB];
+    expect_command(&rt, &unit, Control::Ui { pf: false }, &[0xCB]);
+    expect_command(&rt, &[0x00, 0x81, 0xBF], Control::Xid { pf: true }, &[]);
+}
 
 #[test]
-fn unnumbered_frames(rt: HostRuntime) {
-    for (octets, control, info) in COMMANDS.iter() {
-        expect_command(&rt, octets, *control, info);
-    }
-    for (octets, control, info) in RESPONSES.iter() {
-        expect_response(&rt, octets, *control, info);
-    }
+fn unnumbered_responses(rt: HostRuntime) {
+    expect_response(&rt, &[0x02, 0x81, 0x73], Control::Ua { pf: true }, &[]);
+    expect_response(&rt, &[0x02, 0x81, 0x0F], Control::Dm { pf: false }, &[]);
+    let rejected = [0x02, 0x81, 0x97, 0x11, 0x22, 0x33, 0x44, 0x55];
+    let kept = [0x11, 0x22, 0x33, 0x44, 0x55];
+    expect_response(&rt, &rejected, Control::Frmr { pf: true }, &kept);
+    let exchange = [0x02, 0x81, 0xAF, 0x82];
+    expect_response(&rt, &exchange, Control::Xid { pf: false }, &[0x82]);
 }
 
 #[test]

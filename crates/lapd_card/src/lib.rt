@@ -39,12 +39,13 @@
 //!
 //! # Only tested
 //!
-//! Starts, with each fault; an answer that is kept has its contents; single events and long runs (`test_card`).
+//! Starts, with each fault; an answer that is kept has its contents; single events and long runs (`test_card`); a card
+//! for frames through C, beside one for octets to which the same happens (`tests/c/run`).
 //!
 //! # Open
 //!
-//! Of a card for frames: its calls in C and in scripts, and a bound of what it stores that leaves out the room of frames on
-//! their way; how much room a link has; within how many calls a control frame begins. No test starts one yet.
+//! Of a card for frames: its calls in scripts, and a bound of what it stores that leaves out the room of frames on their
+//! way; within how many calls a control frame begins.
 #![tactic(auto)]
 
 mod begun;

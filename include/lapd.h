@@ -1,11 +1,15 @@
 /*
  * lapd.h: a line card that ends ISDN D-channels, network side (ITU-T Q.921, modulo 128), for C99 and C++.
  *
- * A card takes the octets of its lines and answers with notes for layer 3, orders for timers, and octets to send. It
- * has no callbacks, starts no thread, prints nothing, sets no errno, and takes memory in lapd_card_start and
- * lapd_clock_start alone. Link as pkg-config says of lapd (-llapd -llapd_malloc), or of lapd-shared. A program without
- * malloc brings three functions of memory of its own, which lapd_memory.h declares. The library is built for Linux on
- * every x86-64 processor.
+ * A card takes what comes from its lines and answers with notes for layer 3, orders for timers, and what to send. It is
+ * one of two kinds, as its start says. Where a driver gives and takes whole frames, as it does over every controller that
+ * has flags, stuffed 0s and checks in hardware, it is a card for frames: lapd_card_start_frames. Where it gives and takes
+ * the octets of the bit stream, it is a card for octets: lapd_card_start.
+ *
+ * A card has no callbacks, starts no thread, prints nothing, sets no errno, and takes memory in its start alone, as a
+ * clock does. Link as pkg-config says of lapd (-llapd -llapd_malloc), or of lapd-shared. A program without malloc brings
+ * three functions of memory of its own, which lapd_memory.h declares. The library is built for Linux on every x86-64
+ * processor.
  *
  * What the caller promises, and no call can test:
  *
@@ -23,8 +27,8 @@
  *
  * Everything else is tested: each function says by its status what was wrong, and then nothing has changed, neither
  * the card or clock nor what is behind the other pointers (except LAPD_NO_PLACE of lapd_clock_apply_report). Where
- * several things are wrong, the first is told: that there is no card or clock, the line, the other arguments in their
- * order; a refusal of a request is told last.
+ * several things are wrong, the first is told: that there is no card or clock, that the card is of the other kind, the
+ * line, the other arguments in their order; a refusal of a request is told last.
  */
 #ifndef LAPD_H
 #define LAPD_H
@@ -76,7 +80,8 @@ enum {
     LAPD_WRONG_TEI = 16,     /* a TEI over 126 */
     LAPD_WRONG_TIMER = 17,   /* none of LAPD_T200, LAPD_T203 and LAPD_T201 */
     LAPD_WRONG_REQUEST = 18, /* none of the requests */
-    LAPD_WRONG_LENGTH = 19,  /* contents of a request that has none; or an exchange of two lengths, or beyond them */
+    LAPD_WRONG_LENGTH = 19,  /* contents of a request that has none; an exchange of two lengths, or beyond them; or too
+                                little room for a frame */
     LAPD_WRONG_ORDER = 20,   /* an order is none, or a report's number of orders is over 4 */
     LAPD_WRONG_TIME = 21,    /* a moment after LAPD_LATEST, or a timer's length out of range */
 
@@ -85,6 +90,11 @@ enum {
     LAPD_NO_TIMER = 23,  /* no timer is due, or none runs */
     LAPD_NO_PLACE = 24,  /* no place for one more timer of the line; tests see none where a card alone orders */
     LAPD_NO_MORE_LINKS = 25, /* the line has no link from that place on */
+
+    /* Of cards for frames. Nothing has changed. */
+    LAPD_WRONG_CARD = 26,  /* a call for octets on a card for frames, or one for frames on a card for octets */
+    LAPD_WRONG_CAUSE = 27, /* none of LAPD_ABORT, LAPD_RAGGED, LAPD_SHORT and LAPD_FCS */
+    LAPD_NO_FRAME = 28,    /* no frame of the line waits to be sent */
 
     /* A field of the configuration is out of range: the first, in their order. */
     LAPD_BAD_LINES = 33,
@@ -127,6 +137,7 @@ enum {
     LAPD_MOST_NOTES = 4,    /* no event tells more notes */
     LAPD_MOST_ORDERS = 4,   /* nor gives more orders */
     LAPD_MOST_OCTETS = 260, /* no configuration allows longer contents */
+    LAPD_MOST_FRAME = 264,  /* no frame to send has more octets: the greatest n201 and four */
     LAPD_MOST_LINES = 64    /* no card has more lines */
 };
 
@@ -200,7 +211,7 @@ typedef struct lapd_report {
     uint8_t order_count; /* 0 to 4 */
     uint8_t cause;       /* 0, or LAPD_ABORT to LAPD_UNSERVED */
     uint8_t lost;        /* so many frames to send found no room to wait, and are lost as if on the line */
-    uint8_t begun;       /* of a pull: 1 where it began a frame that waited; else 0 */
+    uint8_t begun;       /* of a pull: 1 where it began a frame that waited; 1 with the next frame; else 0 */
     uint8_t delivered;   /* 1 where contents were delivered, of `length` octets; else 0, and length is 0 */
     uint16_t length;     /* octets of contents, at most the card's n201 */
     lapd_note notes[LAPD_MOST_NOTES];
@@ -218,18 +229,70 @@ typedef struct lapd_card {
 
 #define LAPD_CARD_NONE { false, 0 }
 
-/* Starts a card on which no TEI is on any line. Takes memory, as the only call on a card. LAPD_SECOND_START, the first
- * bad field (LAPD_BAD_LINES to LAPD_BAD_N200) or LAPD_NO_MEMORY: there is no other card than before. */
+/* Starts a card for octets, on which no TEI is on any line. Takes memory, as only the starts of a card do.
+ * LAPD_SECOND_START, the first bad field (LAPD_BAD_LINES to LAPD_BAD_N200) or LAPD_NO_MEMORY: there is no other card than
+ * before. */
 uint32_t lapd_card_start(lapd_card *card, const lapd_config *config);
 
-/* Ends a card and gives back all memory that its start took. LAPD_NO_CARD: nothing happens. */
+/* Starts a card for frames in the same way. It takes less memory, as no line of it has room for a frame on its way. */
+uint32_t lapd_card_start_frames(lapd_card *card, const lapd_config *config);
+
+/* Ends a card of either kind and gives back all memory that its start took. LAPD_NO_CARD: nothing happens. */
 uint32_t lapd_card_free(lapd_card *card);
+
+/* ---- What happens at a card for octets. On a card for frames: LAPD_WRONG_CARD ------------------------------------- */
 
 /* Takes an octet that came from a line, bit 1 (the low bit) first. */
 uint32_t lapd_octet(lapd_card *card, uint32_t line, uint8_t octet, lapd_report *report);
 
 /* Gives the next octet of a line to send, bit 1 first: of a frame where one waits or is on its way, else of flags. */
 uint32_t lapd_pull(lapd_card *card, uint32_t line, uint8_t *octet, lapd_report *report);
+
+/*
+ * Takes and gives octets in turn: step 2i takes in[i], step 2i+1 gives out[i]. Goes on from step *steps, up to and with
+ * the first step that has something to tell (a note, an order, a cause, a frame lost, contents, a frame begun), or to
+ * the end; *steps is then the next step, and the report is that of this step, or tells nothing where no step had
+ * anything to tell. LAPD_WRONG_LENGTH: the two lengths differ, or *steps is beyond twice the length. For a step that
+ * has nothing to tell no report is written. `in` and `out` are two buffers: what is proved of the octets that are taken
+ * holds while none of them is written over. With one buffer call lapd_octet and lapd_pull in turn.
+ *
+ *     for (size_t steps = 0; steps < 2 * n;) {
+ *         lapd_exchange(&card, line, in, n, out, n, &steps, &report);
+ *         ... what the report tells ...
+ *     }
+ */
+uint32_t lapd_exchange(lapd_card *card, uint32_t line, const uint8_t *in, size_t in_length, uint8_t *out,
+                       size_t out_length, size_t *steps, lapd_report *report);
+
+/* ---- What happens at a card for frames. On a card for octets: LAPD_WRONG_CARD ------------------------------------- */
+
+/*
+ * A frame came from a line: its octets from the address to the information, without the check, which was good. One with
+ * too few octets, or with more than n201 and four, is answered as such octets between flags are: as LAPD_SHORT, or as
+ * information that is too long (error O of a link). The octets lie outside of *report. Whoever gets two octets of check
+ * with each frame, as some drivers give them, leaves them off.
+ */
+uint32_t lapd_frame(lapd_card *card, uint32_t line, const uint8_t *octets, size_t length, lapd_report *report);
+
+/* The controller of a line told a fault in place of a frame: LAPD_ABORT, LAPD_RAGGED (no whole octets), LAPD_SHORT or
+ * LAPD_FCS. The report has it as its cause; nothing else happens. LAPD_WRONG_CAUSE: it is none of these four. */
+uint32_t lapd_frame_failed(lapd_card *card, uint32_t line, uint8_t cause, lapd_report *report);
+
+/*
+ * Gives the next frame of a line to send: writes it in front of `out`, from the address to the information, without a
+ * check, and *length is how many octets it has. The frame counts as sent then, so call it when the controller can take
+ * one. LAPD_NO_FRAME: none waits, and nothing has changed. LAPD_WRONG_LENGTH: `room` is less than n201 and four, whatever
+ * waits. Behind the frame nothing of `out` is written; `out` lies outside of *report. Carry out the report's orders as
+ * those of each other call.
+ *
+ *     uint8_t out[LAPD_MOST_FRAME];
+ *     for (size_t length; lapd_next_frame(&card, line, out, sizeof out, &length, &report) == LAPD_OK;)
+ *         ... the report's orders, then out[0] to out[length - 1] to the controller ...
+ */
+uint32_t lapd_next_frame(lapd_card *card, uint32_t line, uint8_t *out, size_t room, size_t *length,
+                         lapd_report *report);
+
+/* ---- What happens at a card of either kind ---------------------------------------------------------------------- */
 
 /* A timer of a line expired. One that does not run has no effect, and nothing is told. The timer lies outside of
  * *report, which is written while it is read: a lapd_due's does; copy that of one of the report's own orders. */
@@ -254,21 +317,7 @@ enum {
 uint32_t lapd_request(lapd_card *card, uint32_t line, uint8_t request, uint8_t service, uint8_t tei,
                       const uint8_t *contents, size_t length, lapd_report *report);
 
-/*
- * Takes and gives octets in turn: step 2i takes in[i], step 2i+1 gives out[i]. Goes on from step *steps, up to and with
- * the first step that has something to tell (a note, an order, a cause, a frame lost, contents, a frame begun), or to
- * the end; *steps is then the next step, and the report is that of this step, or tells nothing where no step had
- * anything to tell. LAPD_WRONG_LENGTH: the two lengths differ, or *steps is beyond twice the length. For a step that
- * has nothing to tell no report is written. `in` and `out` are two buffers: what is proved of the octets that are taken
- * holds while none of them is written over. With one buffer call lapd_octet and lapd_pull in turn.
- *
- *     for (size_t steps = 0; steps < 2 * n;) {
- *         lapd_exchange(&card, line, in, n, out, n, &steps, &report);
- *         ... what the report tells ...
- *     }
- */
-uint32_t lapd_exchange(lapd_card *card, uint32_t line, const uint8_t *in, size_t in_length, uint8_t *out,
-                       size_t out_length, size_t *steps, lapd_report *report);
+/* ---- What a card says of itself --------------------------------------------------------------------------------- */
 
 /* The state of the link of a service with this TEI, by its number in Q.921: 4 (TEI assigned), 5 (awaiting
  * establishment), 6 (awaiting release), 7 (multiple frame established), 8 (timer recovery); 0 where the TEI is not on
@@ -318,10 +367,11 @@ typedef struct lapd_head {
 } lapd_head;
 
 /* Which frame a pull of the line began last, as after one whose report says `begun`: it stays until a pull begins
- * another. The length is 0 where no pull has begun one yet. */
+ * another. The length is 0 where no pull has begun one yet. LAPD_WRONG_CARD on a card for frames, which has no pulls. */
 uint32_t lapd_begun(lapd_card *card, uint32_t line, lapd_head *head);
 
-/* How many octets the card stores now, of frames, messages and contents; at most lapd_limit's. */
+/* How many octets the card stores now, of frames, messages and contents; at most lapd_limit's. A card for frames stores
+ * none of frames that come and go. */
 uint32_t lapd_stored(lapd_card *card, uint32_t *octets);
 
 /* How many octets the card stores at most, which its configuration alone says. */
@@ -394,8 +444,8 @@ static inline uint64_t lapd_block_octets(uint64_t octets) {
     return (octets + 15) / 16 * 16 + 16;
 }
 
-/* So many octets of memory are enough for the start of a card whose configuration is in range, by blocks as above. This
- * is no promise of the proofs: tests start cards in so many, on a target with 8 octets a pointer. */
+/* So many octets of memory are enough for the start of a card, of either kind, whose configuration is in range, by blocks
+ * as above. This is no promise of the proofs: tests start cards in so many, on a target with 8 octets a pointer. */
 static inline uint64_t lapd_card_octets(const lapd_config *config) {
     uint64_t links = 2 * (uint64_t)config->terminals;
     uint64_t link = lapd_block_octets(16 * (uint64_t)config->control) + lapd_block_octets(8 * (uint64_t)config->queue);
@@ -509,6 +559,9 @@ static inline const char *lapd_status_text(uint32_t status) {
     case LAPD_NO_TIMER: return "no timer";
     case LAPD_NO_PLACE: return "no place";
     case LAPD_NO_MORE_LINKS: return "no more links";
+    case LAPD_WRONG_CARD: return "wrong card";
+    case LAPD_WRONG_CAUSE: return "wrong cause";
+    case LAPD_NO_FRAME: return "no frame";
     case LAPD_BAD_LINES: return "lines is out of range";
     case LAPD_BAD_TERMINALS: return "terminals is out of range";
     case LAPD_BAD_K: return "k is out of range";

@@ -1,6 +1,7 @@
 /*
- * heap_holds.c: a card and its clock fit into the octets that lapd_card_octets and lapd_clock_octets say, over c/heap.c;
- * and what they give back can be taken again. The heap is compiled with room for the largest of these configurations.
+ * heap_holds.c: a card of either kind and its clock fit into the octets that lapd_card_octets and lapd_clock_octets say, over
+ * c/heap.c; where there are fewer and fewer, a start is refused memory at last, and what it had taken is given back; and
+ * what they give back can be taken again. The heap is compiled with room for the largest of these configurations.
  */
 #include <stdbool.h>
 #include <stdint.h>
@@ -31,7 +32,9 @@ static void *all_but(uint64_t octets) {
     return tried.there ? tried.at : NULL;
 }
 
-static int holds(const lapd_config *config) {
+typedef uint32_t starts(lapd_card *card, const lapd_config *config);
+
+static int holds(const lapd_config *config, starts *start) {
     lapd_card card = LAPD_CARD_NONE;
     lapd_clock clock = LAPD_CLOCK_NONE;
     uint64_t octets = lapd_card_octets(config) + lapd_clock_octets(config);
@@ -40,7 +43,7 @@ static int holds(const lapd_config *config) {
         fprintf(stderr, "%u lines: what the heap held before was not given back\n", config->lines);
         return 0;
     }
-    uint32_t one = lapd_card_start(&card, config), other = lapd_clock_start(&clock, config);
+    uint32_t one = start(&card, config), other = lapd_clock_start(&clock, config);
     if (one != LAPD_OK || other != LAPD_OK)
         fprintf(stderr, "%u lines in %llu octets: %s, %s\n", config->lines, (unsigned long long)octets,
                 lapd_status_text(one), lapd_status_text(other));
@@ -50,10 +53,32 @@ static int holds(const lapd_config *config) {
     return one == LAPD_OK && other == LAPD_OK;
 }
 
+/* A start with too little: in so many octets, and in every eighth less, down to none. */
+static int refuses(const lapd_config *config, starts *start) {
+    lapd_card card = LAPD_CARD_NONE;
+    unsigned refused = 0;
+    for (uint64_t octets = lapd_card_octets(config); octets > 16; octets -= (octets / 8 + 15) / 16 * 16) {
+        void *rest = all_but(octets);
+        if (rest == NULL) {
+            fprintf(stderr, "%u lines: what a start had taken was not given back\n", config->lines);
+            return 0;
+        }
+        uint32_t status = start(&card, config);
+        refused += status == LAPD_NO_MEMORY;
+        if (status == LAPD_OK)
+            lapd_card_free(&card);
+        rattle_dealloc(rest);
+    }
+    if (refused < 5)
+        fprintf(stderr, "%u lines: only %u starts were refused memory\n", config->lines, refused);
+    return refused >= 5;
+}
+
 int main(void) {
     int good = 1;
     for (int round = 0; round < 3; round++)
         for (size_t i = 0; i < sizeof configs / sizeof *configs; i++)
-            good &= holds(&configs[i]);
+            good &= holds(&configs[i], lapd_card_start) & holds(&configs[i], lapd_card_start_frames)
+                    & refuses(&configs[i], lapd_card_start) & refuses(&configs[i], lapd_card_start_frames);
     return !good;
 }

@@ -30,7 +30,7 @@ typedef struct {
     lapd_card card;
     lapd_clock clock;
     uint64_t now;
-    bool by_exchange;
+    bool by_exchange, for_frames;
     run run; /* what is not handed over yet */
     hdlc_sender senders[LAPD_MOST_LINES];
     hdlc_listener listeners[LAPD_MOST_LINES];
@@ -77,12 +77,13 @@ static void want_ok(uint32_t status, const char *call) {
     exit(3);
 }
 
-static fault start(station *b, const uint32_t *n) {
+static fault start(station *b, const uint32_t *n, bool for_frames) {
     lapd_config config = {.lines = (uint16_t)n[0], .terminals = (uint16_t)n[1], .k = (uint16_t)n[2],
                           .k16 = (uint16_t)n[9], .queue = (uint16_t)n[3], .unit_queue = (uint16_t)n[4],
                           .control = (uint16_t)n[5], .slots = (uint16_t)n[6], .n201 = (uint16_t)n[7],
                           .n200 = (uint16_t)n[8]};
-    uint32_t status = lapd_card_start(&b->card, &config);
+    uint32_t status = for_frames ? lapd_card_start_frames(&b->card, &config) : lapd_card_start(&b->card, &config);
+    b->for_frames = for_frames;
     if (status == LAPD_OK)
         status = lapd_clock_start(&b->clock, &config);
     if (status >= LAPD_BAD_LINES)
@@ -138,6 +139,53 @@ static void pull(station *b, uint32_t line, uint32_t count) {
         tell(b, line, &report);
     }
     put_given(b, line, octets, count);
+}
+
+/* ---- A card for frames ---------------------------------------------------------------------------------------------- */
+
+static void take_frame(station *b, uint32_t line, const command *c) {
+    static lapd_report report;
+    if (c->verb == FAILED)
+        want_ok(lapd_frame_failed(&b->card, line, c->cause, &report), "frame failed");
+    else
+        want_ok(lapd_frame(&b->card, line, c->octets, c->length, &report), "frame");
+    tell(b, line, &report);
+}
+
+static void give_frame(station *b, uint32_t line) {
+    static lapd_report report;
+    uint8_t octets[LAPD_MOST_FRAME];
+    size_t length;
+    uint32_t status = lapd_next_frame(&b->card, line, octets, sizeof octets, &length, &report);
+    if (status == LAPD_NO_FRAME) {
+        printf("%u nothing\n", line);
+        return;
+    }
+    want_ok(status, "next frame");
+    tell(b, line, &report);
+    printf("%u frame ", line);
+    put_octets(octets, length);
+}
+
+/* Whether a line is about what the other kind of card takes and gives; the library has to say so of its call. */
+static bool is_of_other_card(station *b, const command *c) {
+    static lapd_report report;
+    uint8_t octet[LAPD_MOST_FRAME];
+    size_t length;
+    uint32_t status = LAPD_OK;
+    if (b->for_frames && c->verb == RX)
+        status = lapd_octet(&b->card, c->numbers[0], 0x7E, &report);
+    else if (b->for_frames && c->verb == PULL)
+        status = lapd_pull(&b->card, c->numbers[0], octet, &report);
+    else if (!b->for_frames && c->verb == FAILED)
+        status = lapd_frame_failed(&b->card, c->numbers[0], c->cause, &report);
+    else if (!b->for_frames && c->verb == NEXT)
+        status = lapd_next_frame(&b->card, c->numbers[0], octet, sizeof octet, &length, &report);
+    else
+        return false;
+    if (status != LAPD_WRONG_CARD)
+        want_ok(status == LAPD_OK ? LAPD_WRONG_CARD : status, "a call of the other card");
+    return true;
 }
 
 /* ---- Runs of octets taken and given in turn ------------------------------------------------------------------------- */
@@ -217,11 +265,36 @@ static void show_stored(station *b) {
     printf("stored %u limit %u\n", stored, limit);
 }
 
-/* A line that is about one line of the card, or about all. */
+/* A line that is about one line of the card, which has it. */
+static fault obey_at(station *b, uint32_t line, const command *c) {
+    if (joins(b, c)) {
+        join(b, c);
+        return NO_FAULT;
+    }
+    hand_over(b);
+    if (c->verb == IN && !b->for_frames && (c->length < 3 || c->length > HDLC_MOST_OCTETS))
+        return BAD_FRAME;
+    if (c->verb == FAILED || (c->verb == IN && b->for_frames))
+        take_frame(b, line, c);
+    else if (c->verb == IN)
+        send(b, line, c);
+    else if (c->verb == NEXT)
+        give_frame(b, line);
+    else if (c->verb == PULL)
+        pull(b, line, c->numbers[1]);
+    else if (c->verb == REQUEST)
+        ask(b, line, c);
+    else
+        for (size_t i = 0; i < c->length; i++)
+            receive(b, line, c->octets[i]);
+    return NO_FAULT;
+}
+
+/* A line of a script. */
 static fault obey(station *b, const command *c) {
-    uint32_t lines, line = c->numbers[0];
+    uint32_t lines;
     if (c->verb == CARD)
-        return b->card.started ? SECOND_CARD : start(b, c->numbers);
+        return b->card.started ? SECOND_CARD : start(b, c->numbers, c->for_frames);
     if (lapd_lines(&b->card, &lines) != LAPD_OK)
         return NO_CARD;
     if (c->verb == WAIT || c->verb == TIMERS || c->verb == STORED)
@@ -236,25 +309,9 @@ static fault obey(station *b, const command *c) {
         show_stored(b);
         return NO_FAULT;
     }
-    if (line >= lines)
-        return BAD_LINE;
-    if (joins(b, c)) {
-        join(b, c);
-        return NO_FAULT;
-    }
-    hand_over(b);
-    if (c->verb == IN && (c->length < 3 || c->length > HDLC_MOST_OCTETS))
-        return BAD_FRAME;
-    if (c->verb == IN)
-        send(b, line, c);
-    else if (c->verb == PULL)
-        pull(b, line, c->numbers[1]);
-    else if (c->verb == REQUEST)
-        ask(b, line, c);
-    else
-        for (size_t i = 0; i < c->length; i++)
-            receive(b, line, c->octets[i]);
-    return NO_FAULT;
+    if (is_of_other_card(b, c))
+        return WRONG_CARD;
+    return c->numbers[0] >= lines ? BAD_LINE : obey_at(b, c->numbers[0], c);
 }
 
 int main(int words, char **argv) {

@@ -25,7 +25,8 @@ static const lapd_config config = {1, 8, 7, 7, 8, 4, 4, 8, 260, 3};
 
 /* What is called, and what it is called with. */
 static void (*called)(void);
-static uint8_t octet, octets[32], given[32];
+static uint8_t octet, octets[32], given[32], frame[LAPD_MOST_FRAME];
+static size_t length;
 static lapd_due due;
 static size_t steps;
 static uint32_t status;
@@ -62,6 +63,10 @@ static void ask_data(void) { status = lapd_data(&card, 0, LAPD_CALL, 64, octets,
 static void expire(void) { status = lapd_expire(&card, due.line, &due.timer, &report); }
 static void apply(void) { status = lapd_clock_apply_report(&timers, 0, &report, 0); }
 static void find_due(void) { status = lapd_clock_due(&timers, LAPD_LATEST, &due); }
+static void frames_start(void) { status = lapd_card_start_frames(&card, &config); }
+static void take_frame(void) { status = lapd_frame(&card, 0, octets, length, &report); }
+static void fail_frame(void) { status = lapd_frame_failed(&card, 0, LAPD_FCS, &report); }
+static void give_frame(void) { status = lapd_next_frame(&card, 0, frame, sizeof frame, &length, &report); }
 static void exchange(void) { status = lapd_exchange(&card, 0, octets, sizeof octets, given, sizeof given, &steps, &report); }
 
 static size_t base;
@@ -88,6 +93,24 @@ static void hear(hdlc_sender *sender, const uint8_t *frame, size_t length, size_
         *gives = most(*gives, give);
         *applies = most(*applies, apply);
     }
+}
+
+/* The same of a card for frames: what comes, and what is then sent. */
+static void frames(const uint8_t *const *come, const size_t *lengths, size_t count) {
+    size_t takes = 0, gives = 0;
+    show("lapd_card_start_frames", most(0, frames_start));
+    most(0, assign);
+    for (size_t i = 0; i < count; i++) {
+        length = lengths[i];
+        memcpy(octets, come[i], length);
+        takes = most(takes, take_frame);
+        gives = most(gives, give_frame);
+    }
+    most(0, ask_data);
+    show("lapd_frame", takes);
+    show("lapd_next_frame", most(gives, give_frame));
+    show("lapd_frame_failed", most(0, fail_frame));
+    most(0, card_free);
 }
 
 int main(void) {
@@ -117,5 +140,6 @@ int main(void) {
     show("lapd_expire", most(0, expire));
     show("lapd_card_free", most(0, card_free));
     show("lapd_clock_free", most(0, clock_free));
+    frames((const uint8_t *const[]){request, sabme, data}, (const size_t[]){sizeof request, sizeof sabme, sizeof data}, 3);
     return failed;
 }

@@ -57,7 +57,7 @@ int main(void) {
     static command c;
     for (size_t length; next_line(line, &length);) {
         bool is_read = length > 0 && length <= MOST_LINE && read_command(line, length, &c) == NO_FAULT;
-        if (is_read && c.verb == CARD)
+        if (is_read && c.verb == CARD && !c.for_frames)
             begin(c.numbers[0]);
         if (is_read && turned(&c))
             continue;

@@ -27,6 +27,7 @@ static const meaning meanings[] = {
     {"rx", RX, 0, 0, 1, true, 0, ANY},
     {"in", IN, 0, 0, 1, true, 0, ANY},
     {"pull", PULL, 0, 0, 2, false, 1, 4096},
+    {"next", NEXT, 0, 0, 1, false, 0, ANY},
     {"wait", WAIT, 0, 0, 1, false, 0, 3600000},
     {"stored", STORED, 0, 0, 0, false, 0, ANY},
     {"assign", REQUEST, LAPD_ASSIGN, LAPD_CALL, 2, false, 0, MOST_TEI},
@@ -48,8 +49,8 @@ static const meaning meanings[] = {
 
 const char *fault_text(fault kind) {
     static const char *const texts[] = {
-        "none",     "too long", "unknown word", "bad number of words", "bad number", "bad octets", "no card",
-        "second card", "bad card", "bad line",  "bad frame",           "time over",  "out of memory",
+        "none",        "too long", "unknown word", "bad number of words", "bad number", "bad octets", "bad cause", "no card",
+        "second card", "bad card", "wrong card",   "bad line",            "bad frame",  "time over",  "out of memory",
     };
     return texts[kind];
 }
@@ -102,8 +103,9 @@ static bool read_octets(word w, command *read) {
 }
 
 /* Nine numbers, or ten; the tenth is the window of packet links, which else is that of call control. */
-static fault read_card(const word *words, size_t count, command *read) {
+static fault read_card(const word *words, size_t count, bool for_frames, command *read) {
     read->verb = CARD;
+    read->for_frames = for_frames;
     if (count != 9 && count != 10)
         return BAD_NUMBER_OF_WORDS;
     for (size_t i = 0; i < count; i++)
@@ -125,6 +127,22 @@ static fault read_timers(const word *words, size_t count, command *read) {
     return NO_FAULT;
 }
 
+/* A line, and why its controller has no frame. */
+static fault read_failed(const word *words, size_t count, command *read) {
+    static const uint8_t causes[] = {LAPD_ABORT, LAPD_RAGGED, LAPD_SHORT, LAPD_FCS};
+    read->verb = FAILED;
+    if (count != 2)
+        return BAD_NUMBER_OF_WORDS;
+    if (!read_number(words[0], 0, ANY, &read->numbers[0]))
+        return BAD_NUMBER;
+    for (size_t i = 0; i < sizeof causes; i++)
+        if (is_word(words[1], lapd_cause_text(causes[i]))) {
+            read->cause = causes[i];
+            return NO_FAULT;
+        }
+    return BAD_CAUSE;
+}
+
 static fault read_rest(const meaning *means, const word *words, size_t count, command *read) {
     read->verb = means->verb;
     read->request = means->request;
@@ -143,8 +161,10 @@ static fault read_rest(const meaning *means, const word *words, size_t count, co
 fault read_command(const char *line, size_t length, command *read) {
     word words[MOST_WORDS];
     size_t count = split(line, length, words) - 1;
-    if (is_word(words[0], "card"))
-        return read_card(words + 1, count, read);
+    if (is_word(words[0], "card") || is_word(words[0], "frames"))
+        return read_card(words + 1, count, is_word(words[0], "frames"), read);
+    if (is_word(words[0], "failed"))
+        return read_failed(words + 1, count, read);
     if (is_word(words[0], "timers"))
         return read_timers(words + 1, count, read);
     for (size_t i = 0; i < sizeof meanings / sizeof *meanings; i++)

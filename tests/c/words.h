@@ -16,9 +16,11 @@ typedef enum {
     BAD_NUMBER_OF_WORDS,
     BAD_NUMBER,
     BAD_OCTETS,
+    BAD_CAUSE,
     NO_CARD,
     SECOND_CARD,
     BAD_CARD,
+    WRONG_CARD,
     BAD_LINE,
     BAD_FRAME,
     TIME_OVER,
@@ -27,12 +29,14 @@ typedef enum {
 
 const char *fault_text(fault kind);
 
-typedef enum { CARD, RX, IN, PULL, WAIT, TIMERS, STORED, REQUEST } verb;
+typedef enum { CARD, RX, IN, PULL, FAILED, NEXT, WAIT, TIMERS, STORED, REQUEST } verb;
 
 /* A line that was read: what it says, before a card is asked. */
 typedef struct {
     verb verb;
     uint8_t request, service; /* of a REQUEST */
+    uint8_t cause;            /* of FAILED, as in a report */
+    bool for_frames;          /* of a CARD */
     uint32_t numbers[10];     /* of a card its ten; else the line, then what follows it */
     uint8_t octets[MOST_LINE / 2];
     size_t length;

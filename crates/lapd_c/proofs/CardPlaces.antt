@@ -17,8 +17,7 @@ use denote.Struct.Owning.{shape}
 use Rattle.std.specs.declared.option.Option.TheVariants.{None, Some}
 use Rattle.std.specs.contracts.impls.GlobalAllocator.TheImpl.{ghosts}
 use Rattle.std_alloc.specs.Box.Ownership.{box_owns}
-use Rattle.lapd_card.specs.Card.{Held}
-use Rattle.lapd_store.specs.Store.{Store}
+use Rattle.lapd_c.specs.declared.kinds.AnyCard.{AnyCard}
 use Rattle.lapd_c.specs.CardSlots.{HeldCard, card_owns, card_row}
 use Rattle.lapd_c.specs.ClockSlots.{heap}
 use Rattle.lapd_c.specs.contracts.card_slot.CardSlot as slot
@@ -29,14 +28,14 @@ R = card_row
 
 module _ {M : Type 1} {𝓤 : Ura M} {𝓛 : Logic 𝓤} {K : Type 0} {Γ : List (Item 𝓤)} {G : Goal 𝓤 𝓛.H} where
   by_card : K → (p : Ptr) (held : HeldCard) → IsSome held
-      → ((x : Held Store) → held ≡ Some x → Seq K 𝓛 (‵ (box_owns (ghosts.dealloc_token heap) R p x) ∷ Γ) G)
+      → ((x : AnyCard) → held ≡ Some x → Seq K 𝓛 (‵ (box_owns (ghosts.dealloc_token heap) R p x) ∷ Γ) G)
       → Seq K 𝓛 (‵ (card_owns p held) ∷ Γ) G
   by_card t p None is rest = absurd (false≢true is)
   by_card t p (Some x) is rest = rest x refl
 
   -- the place of a card is taken apart
   pub slot_opens : K → (d : slot.the_row.Denot) (vs : List Val) → IsSome d.card
-      → ((b o : ℕ) (x : Held Store) → d.card ≡ Some x → vs ≡ word (vptr b o) ∷ []
+      → ((b o : ℕ) (x : AnyCard) → d.card ≡ Some x → vs ≡ word (vptr b o) ∷ []
       → Seq K 𝓛 (‵ (box_owns (ghosts.dealloc_token heap) R (block_ptr b o) x) ∷ Γ) G)
       → Seq K 𝓛 (‵ (slot.the_row.own_val d vs) ∷ Γ) G
   slot_opens t d vs is rest =
@@ -47,7 +46,7 @@ module _ {M : Type 1} {𝓤 : Ura M} {𝓛 : Logic 𝓤} {K : Type 0} {Γ : List
       rest b o x held (subst (λ (p : Ptr). vs ≡ vstruct (of_list (ptr_val p ∷ [])) ∷ []) there with_word))))))
 
   -- and made
-  pub slot_made : K → (b o : ℕ) (x : Held Store)
+  pub slot_made : K → (b o : ℕ) (x : AnyCard)
       → Step K 𝓛 (‵ (slot.the_row.own_val (record { at = block_ptr b o; card = Some x }) (word (vptr b o) ∷ [])) ∷ Γ) G
       (‵ (box_owns (ghosts.dealloc_token heap) R (block_ptr b o) x) ∷ Γ) G
   slot_made t b o x = step (λ s.

@@ -38,6 +38,7 @@ use Rattle.model_line.specs.Line.{Line, link_in, terms, place_in}
 use Rattle.model_line.specs.Machine.{answer, unless_refused, unless_refused_told}
 use Rattle.model_line.specs.Octet.{gained, aim_of_heard, with_received}
 use Rattle.model_line.specs.Refusal.{refusal}
+use Rattle.model_line.specs.WholeAtLine.{of_heard}
 use Rattle.model_line.specs.Request.{Request, Establish, Release, Data, Unit, Assign, Remove, Check, SetBusy, ClearBusy}
 use Rattle.model_line.specs.Requested.{at_requested, aim_of_request}
 use Rattle.model_line.proofs.ProperAims.{heard_aims}
@@ -185,3 +186,7 @@ contents_fit card e = go (wants_room e card)
     go : (b : Bool) → IsSmall card.config.n201 (contents_in (cond b (refused PoolFull) (answer card.config e.what (line_at e.line card))))
     go true = omega arith
     go false = line-small card.config e.what (line_at e.line card)
+
+-- and what a frame that came whole, or a fault, is to a line
+pub heard_fits : (c : Config) (e : stream.Event) (l : Line) → length (contents_of (of_heard c e l).told.contents) ≤ c.n201
+heard_fits c e l = octet-small c l l (Some e)

@@ -10,7 +10,8 @@ use Rattle.lapd_store.specs.Store.{Store}
 use Rattle.lapd_card.specs.Card.{Held}
 use Rattle.lapd_card.specs.Stands.{Leads}
 use Rattle.lapd_plain.specs.declared.reports.PlainReport.{PlainReport}
-use Rattle.lapd_c.specs.Cards.{CardStands, ShowsAnswer, shelf_of}
+use Rattle.lapd_c.specs.Cards.{ShowsAnswer}
+use Rattle.lapd_c.specs.Kinds.{CardStands, shelf_of}
 use Rattle.lapd_c.specs.Exchange.{is_quiet, step_event, steps_made, card_after, answer_after, with_step, given_after, AllQuiet, Exchanged, IsThrough, IsTold}
 
 run-more : (m : Card) (es : List Event) (e : Event) → run m (es ++ e ∷ []) ≡ one_more (run m es) e

@@ -1,21 +1,25 @@
 -- What a report shows is what the machine answers.
 use Rattle.std.proofs.Common.{◌≡◌, ℕ, ◌≤◌, ◌<◌, List, length, Option, Some, IfSome, Result, Ok, Err, IfOk, sym, subst, arith}
 use Rattle.std.specs.Option.{option_copied}
+use Rattle.lapd_bits.specs.Stream as stream
 use Rattle.lapd_frame.specs.declared.notes.Note.{Note}
 use Rattle.lapd_frame.specs.declared.timers.Order.{Order}
 use Rattle.lapd_line.specs.declared.reports.Report.{Report}
 use Rattle.lapd_line.specs.Reports.{report_told}
 use Rattle.model_line.specs.Event.{LineTold, told}
+use Rattle.model_line.specs.Line.{Line}
+use Rattle.model_line.specs.WholeAtLine.{of_heard}
 use Rattle.model_line.proofs.Ranges.{ranges_of}
 use Rattle.model_card.specs.Card.{Card}
 use Rattle.model_card.specs.Event.{Event}
 use Rattle.model_card.specs.Machine.{answer}
 use Rattle.model_card.specs.Reached.{IsReached}
+use Rattle.model_card.specs.Said.{says}
 use Rattle.lapd_plain.specs.declared.reports.PlainReport.{PlainReport}
 use Rattle.lapd_plain.specs.Reports.{Shows, told_by, contents_of}
 use Rattle.lapd_c.specs.Cards.{ShowsAnswer}
 use Rattle.lapd_c.specs.Laws.{contents_in}
-use Rattle.lapd_c.proofs.Contents.{contents_fit}
+use Rattle.lapd_c.proofs.Contents.{contents_fit, heard_fits}
 
 -- a result that is known
 pub if_ok : {X E : Type 0} (P : X → Type 0) (o : Result X E) (x : X) → o ≡ Ok x → P x → IfOk o P
@@ -53,3 +57,16 @@ shown_told t r notes orders p is same_notes same_orders h few =
     let all = h (subst (λ (v : LineTold). length (contents_of v.contents) ≤ 260) (sym is) few) in
     let with_notes = subst (λ (n : List Note). Shows p (told_by n orders r.cause r.lost (option_copied r.delivered))) same_notes all in
     subst (Shows p) is (subst (λ (o : List Order). Shows p (told_by u.notes o r.cause r.lost (option_copied r.delivered))) same_orders with_notes)
+
+told_is : (t u : LineTold) → says (told t) ≡ says (told u) → t ≡ u
+told_is t u is = cc
+
+-- and what a frame that came whole, or a fault, is to a line
+pub shown_heard : (m : Card) (e : stream.Event) (l : Line) (r : Report) (notes : List Note) (orders : List Order) (p : PlainReport) → IsReached m
+    → says (told (report_told r)) ≡ says (told (of_heard m.config e l).told) → notes ≡ (report_told r).notes → orders ≡ (report_told r).orders
+    → (length (contents_of (option_copied r.delivered)) ≤ 260 → Shows p (told_by notes orders r.cause r.lost (option_copied r.delivered)))
+    → Shows p (of_heard m.config e l).told
+shown_heard m e l r notes orders p reached is same_notes same_orders h =
+    let fits : length (contents_of (of_heard m.config e l).told.contents) ≤ m.config.n201 = heard_fits m.config e l in
+    let most : m.config.n201 ≤ 260 = (ranges_of m.config reached.config).n201.most in
+    shown_told (of_heard m.config e l).told r notes orders p (told_is _ _ is) same_notes same_orders h (omega arith)

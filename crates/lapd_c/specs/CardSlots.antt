@@ -6,19 +6,16 @@ use denote.RattleType.{RattleType}
 use denote.RawPtr.{Ptr}
 use Rattle.std.specs.contracts.impls.GlobalAllocator.TheImpl.{ghosts}
 use Rattle.std_alloc.specs.Box.Ownership.{box_owns}
-use Rattle.lapd_store.specs.Store.{Store}
-use Rattle.lapd_store.specs.contracts.raw_shelf.RawShelf as shelf
-use Rattle.lapd_store.specs.contracts.raw_shelf.RawShelfShelf.TheImpl as shelf_impl
-use Rattle.lapd_card.specs.Card.{Held}
-use Rattle.lapd_card.specs.contracts.card.Card as card
+use Rattle.lapd_c.specs.declared.kinds.AnyCard.{AnyCard}
+use Rattle.lapd_c.specs.contracts.kinds.AnyCard as card
 use Rattle.lapd_c.specs.ClockSlots.{heap}
 
 abbrev pub card_row : RattleType
-card_row = card.the_row shelf.the_row shelf_impl.ghosts
+card_row = card.the_row
 
--- A card, or none.
+-- A card of either kind, or none.
 abbrev pub HeldCard : Type 0
-HeldCard = Option (Held Store)
+HeldCard = Option AnyCard
 
 abbrev pub held_card_code : Coded HeldCard
 held_card_code = coded_option card_row.coded

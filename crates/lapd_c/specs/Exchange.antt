@@ -8,8 +8,10 @@ use Rattle.model_line.specs.Event.{Answer, octet, pull, told, refused, pulled, n
 use Rattle.lapd_store.specs.Store.{Store}
 use Rattle.lapd_card.specs.Card.{Held}
 use Rattle.lapd_plain.specs.declared.reports.PlainReport.{PlainReport}
-use Rattle.lapd_c.specs.Cards.{CardStands, ShowsAnswer, octet_of}
+use Rattle.lapd_c.specs.declared.kinds.AnyCard.TheVariants.{Octets, Frames}
+use Rattle.lapd_c.specs.Cards.{ShowsAnswer, octet_of}
 use Rattle.lapd_c.specs.CardSlots.{HeldCard}
+use Rattle.lapd_c.specs.Kinds.{CardStands}
 
 -- An answer has nothing to tell.
 abbrev pub is_quiet : Answer → Bool
@@ -76,4 +78,5 @@ pub record Exchanged (line : ℕ) (taken : List ℕ) (from : ℕ) (m : Card) (ca
 
 abbrev pub ExchangedIn : ℕ → List ℕ → ℕ → Card → HeldCard → List ℕ → List ℕ → ℕ → PlainReport → Type 0
 ExchangedIn line taken from m None given given' to r = ⊥
-ExchangedIn line taken from m (Some card) given given' to r = Exchanged line taken from m card given given' to r
+ExchangedIn line taken from m (Some (Octets card)) given given' to r = Exchanged line taken from m card given given' to r
+ExchangedIn line taken from m (Some (Frames card)) given given' to r = ⊥

@@ -1,15 +1,17 @@
 //! Which frame a pull began.
 
-ghost use Rattle.std.specs.Prelude.{◌≡◌, ◌≤◌, ◌<◌, None};
+ghost use Rattle.std.specs.Prelude.{◌≡◌, ◌≤◌, ◌<◌, Some, None};
 ghost use Rattle.model_card.specs.Begun.{head_begun_at};
 ghost use Rattle.model_card.specs.Card as machine;
 ghost use Rattle.lapd_plain.specs.Heads.{plain_head};
 ghost use Rattle.lapd_plain.specs.Statuses as status;
-ghost use Rattle.lapd_c.specs.Cards.{card_of, IsHandle, Stands, CardStands};
+ghost use Rattle.lapd_c.specs.Cards.{card_of, kind_in, IsHandle, OctetsStand};
+ghost use Rattle.lapd_c.specs.Kinds.{CardStands, for_frames};
 
 use crate::card::CardHandle;
+use crate::kinds::AnyCard;
 use lapd_card::Card;
-use lapd_plain::{NO_CARD, OK, PlainHead, WRONG_LINE};
+use lapd_plain::{NO_CARD, OK, PlainHead, WRONG_CARD, WRONG_LINE};
 use lapd_store::RawShelf;
 use std::alloc::Global;
 
@@ -26,15 +28,20 @@ pub extern "C" fn lapd_begun(
     ensures no_card { card_of handle.old ≡ None
         → (result ≡ status.no_card) × (handle.new ≡ handle.old) × (head.new ≡ head.old) }
     ensures unchanged { card_of handle.new ≡ card_of handle.old }
-    ensures wrong_line { (m : machine.Card) → Stands handle.old m → m.config.lines ≤ line
+    ensures wrong_card { kind_in handle.old ≡ Some for_frames → (result ≡ status.wrong_card) × (head.new ≡ head.old) }
+    ensures wrong_line { (m : machine.Card) → OctetsStand handle.old m → m.config.lines ≤ line
         → (result ≡ status.wrong_line) × (head.new ≡ head.old) }
-    ensures told { (m : machine.Card) → Stands handle.old m → line < m.config.lines
+    ensures told { (m : machine.Card) → OctetsStand handle.old m → line < m.config.lines
         → (result ≡ status.ok) × (head.new ≡ plain_head (head_begun_at line m)) }
 {
     let Some(card) = handle.take(alloc) else {
         return NO_CARD;
     };
-    let status = tell_begun(&card, line, head);
+    let AnyCard::Octets(octets) = &*card else {
+        handle.put(card);
+        return WRONG_CARD;
+    };
+    let status = tell_begun(octets, line, head);
     handle.put(card);
     status
 }

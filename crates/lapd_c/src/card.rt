@@ -1,15 +1,16 @@
-//! A card in C: where it lies, how it begins and how it ends.
+//! A card in C: where it lies, how one of either kind begins, and how it ends.
 
-ghost use Rattle.std.specs.Prelude.{◌≡◌, ◌⊎◌, Some, None, IfSome, IfNone, option_map};
+ghost use Rattle.std.specs.Prelude.{◌≡◌, ◌⊎◌, Some, None, Ok, Err, IfOk, IfSome, IfNone, option_map};
 ghost use Rattle.model_card.specs.Card as machine;
 ghost use Rattle.model_line.specs.Config.{first_fault};
 ghost use Rattle.lapd_plain.specs.Config.{config_in};
 ghost use Rattle.lapd_plain.specs.Statuses as status;
 ghost use Rattle.lapd_plain.specs.Statuses.{field_status};
-ghost use Rattle.lapd_c.specs.Cards.{card_of, IsHandle, Stands, CardStands};
+ghost use Rattle.lapd_c.specs.Cards.{card_of, IsHandle, OctetsStand, FramesStand, OctetsStandIn, FramesStandIn};
 
 use crate::card_slot::CardSlot;
-use lapd_card::Card;
+use crate::kinds::AnyCard;
+use lapd_card::{Card, FrameCard};
 use lapd_plain::{NO_CARD, NO_MEMORY, OK, PlainConfig, SECOND_START, field_status};
 use lapd_store::RawShelf;
 use model_line::Config;
@@ -25,7 +26,7 @@ pub struct CardHandle {
 
 impl CardHandle {
     /// Takes the card out.
-    pub(crate) fn take(&mut self, alloc: Global) -> Option<Box<Card<RawShelf>>>
+    pub(crate) fn take(&mut self, alloc: Global) -> Option<Box<AnyCard>>
         requires { IsHandle self.old }
         ensures card { card_of self.old ≡ option_map (λ card. card.value) result }
         ensures none { IfNone result (self.new ≡ self.old) }
@@ -41,7 +42,7 @@ impl CardHandle {
     }
 
     /// Puts a card in, where none is.
-    pub(crate) fn put(&mut self, card: Box<Card<RawShelf>>)
+    pub(crate) fn put(&mut self, card: Box<AnyCard>)
         requires { card_of self.old ≡ None }
         ensures card { card_of self.new ≡ Some card.value }
         ensures handle { IsHandle self.new }
@@ -52,7 +53,27 @@ impl CardHandle {
     }
 }
 
-/// Starts a card on which no TEI is on any line.
+// The configuration of a card that can start: none is there, and it is in range.
+fn startable(handle: &CardHandle, config: &PlainConfig) -> Result<Config, u32>
+    requires { IsHandle handle.now }
+    ensures second { IfSome (card_of handle.now) (λ _. result ≡ Err status.second_start) }
+    ensures fault { card_of handle.now ≡ None → IfSome (first_fault (config_in config.now))
+        (λ field. result ≡ Err (field_status field)) }
+    ensures can { card_of handle.now ≡ None → first_fault (config_in config.now) ≡ None → result ≡ Ok (config_in config.now) }
+    ensures empty { IfOk result (λ c. card_of handle.now ≡ None) }
+    ensures in_range { IfOk result (λ c. first_fault c ≡ None) }
+{
+    if handle.started {
+        return Err(SECOND_START);
+    }
+    let config = config.config();
+    match config.fault() {
+        Some(field) => Err(field_status(field)),
+        None => Ok(config),
+    }
+}
+
+/// Starts a card for octets, on which no TEI is on any line.
 #[unsafe(no_mangle)]
 pub extern "C" fn lapd_card_start(
     alloc: Global,
@@ -66,33 +87,66 @@ pub extern "C" fn lapd_card_start(
         (λ field. (result ≡ field_status field) × (handle.new ≡ handle.old)) }
     ensures otherwise { card_of handle.old ≡ None → first_fault (config_in config.now) ≡ None
         → (result ≡ status.ok) ⊎ (result ≡ status.no_memory) }
-    ensures fresh { result ≡ status.ok → Stands handle.new (machine.fresh (config_in config.now)) }
+    ensures fresh { result ≡ status.ok → OctetsStand handle.new (machine.fresh (config_in config.now)) }
     ensures no_memory { result ≡ status.no_memory → handle.new ≡ handle.old }
 {
-    if handle.started {
-        return SECOND_START;
-    }
-    let config = config.config();
-    if let Some(field) = config.fault() {
-        return field_status(field);
-    }
-    let Some(card) = started(alloc, config) else {
-        return NO_MEMORY;
+    let config = match startable(handle, config) {
+        Ok(config) => config,
+        Err(wrong) => return wrong,
     };
-    let Ok(card) = Box::new(alloc, card) else {
+    let Some(card) = octets_started(alloc, config) else {
         return NO_MEMORY;
     };
     handle.put(card);
     OK
 }
 
-// A card of a configuration that is in range, if there is memory for it.
-fn started(alloc: Global, config: Config) -> Option<Card<RawShelf>>
+// A card for octets of a configuration that is in range, if there is memory for it.
+fn octets_started(alloc: Global, config: Config) -> Option<Box<AnyCard>>
     requires { first_fault config ≡ None }
-    ensures { IfSome result (λ card. CardStands card (machine.fresh config)) }
+    ensures { IfSome result (λ card. OctetsStandIn (Some card.value) (machine.fresh config)) }
 {
     let shelf = RawShelf::start(alloc, u32::from(config.slots), config.n201).ok()?;
-    Card::start(alloc, config, shelf).ok()
+    let card = Card::start(alloc, config, shelf).ok()?;
+    Box::new(alloc, AnyCard::Octets(card)).ok()
+}
+
+/// Starts a card for frames, on which no TEI is on any line.
+#[unsafe(no_mangle)]
+pub extern "C" fn lapd_card_start_frames(
+    alloc: Global,
+    handle: &mut CardHandle,
+    config: &PlainConfig,
+) -> u32
+    requires { IsHandle handle.old }
+    ensures handle { IsHandle handle.new }
+    ensures second { IfSome (card_of handle.old) (λ _. (result ≡ status.second_start) × (handle.new ≡ handle.old)) }
+    ensures fault { card_of handle.old ≡ None → IfSome (first_fault (config_in config.now))
+        (λ field. (result ≡ field_status field) × (handle.new ≡ handle.old)) }
+    ensures otherwise { card_of handle.old ≡ None → first_fault (config_in config.now) ≡ None
+        → (result ≡ status.ok) ⊎ (result ≡ status.no_memory) }
+    ensures fresh { result ≡ status.ok → FramesStand handle.new (machine.fresh (config_in config.now)) }
+    ensures no_memory { result ≡ status.no_memory → handle.new ≡ handle.old }
+{
+    let config = match startable(handle, config) {
+        Ok(config) => config,
+        Err(wrong) => return wrong,
+    };
+    let Some(card) = frames_started(alloc, config) else {
+        return NO_MEMORY;
+    };
+    handle.put(card);
+    OK
+}
+
+// A card for frames of a configuration that is in range, if there is memory for it.
+fn frames_started(alloc: Global, config: Config) -> Option<Box<AnyCard>>
+    requires { first_fault config ≡ None }
+    ensures { IfSome result (λ card. FramesStandIn (Some card.value) (machine.fresh config)) }
+{
+    let shelf = RawShelf::start(alloc, u32::from(config.slots), config.n201).ok()?;
+    let card = FrameCard::start(alloc, config, shelf).ok()?;
+    Box::new(alloc, AnyCard::Frames(card)).ok()
 }
 
 /// Ends a card, and gives back its memory.

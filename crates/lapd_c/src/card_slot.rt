@@ -3,9 +3,8 @@
 ghost use Rattle.std.specs.Prelude.{◌≡◌, None, Some, IsSome};
 ghost use Rattle.lapd_c.specs.CardSlots.{card_owns, HeldCard, held_card_code};
 
+use crate::kinds::AnyCard;
 use crate::loose::Loose;
-use lapd_card::Card;
-use lapd_store::RawShelf;
 use std::alloc::Global;
 use std::marker::Model;
 use std::ptr::null_mut;
@@ -30,14 +29,14 @@ impl CardSlot {
     }
 
     /// The place of this card.
-    pub(crate) fn of(card: Box<Card<RawShelf>>) -> CardSlot
+    pub(crate) fn of(card: Box<AnyCard>) -> CardSlot
         ensures { result.card ≡ Some card.value }
     {
         CardSlot::at(Loose::of(card))
     }
 
     /// The card that lies there.
-    pub(crate) fn into_box(self, alloc: Global) -> Box<Card<RawShelf>>
+    pub(crate) fn into_box(self, alloc: Global) -> Box<AnyCard>
         requires { IsSome self.card }
         ensures { self.card ≡ Some result.value }
     {
@@ -51,20 +50,20 @@ impl CardSlot {
         let CardSlot { at: _ } = self;
     }
 
-    fn at(card: Loose<Card<RawShelf>, Global>) -> CardSlot
+    fn at(card: Loose<AnyCard, Global>) -> CardSlot
         ensures { result.card ≡ Some card.value }
     {
         let Loose { at, alloc: _ } = card;
         CardSlot { at: at as *mut u8 }
     }
 
-    fn into_loose(self, alloc: Global) -> Loose<Card<RawShelf>, Global>
+    fn into_loose(self, alloc: Global) -> Loose<AnyCard, Global>
         requires { IsSome self.card }
         ensures { self.card ≡ Some result.value }
     {
         let CardSlot { at } = self;
         Loose {
-            at: at as *mut Card<RawShelf>,
+            at: at as *mut AnyCard,
             alloc,
         }
     }

@@ -1,4 +1,4 @@
-//! What happens at a card: an octet that comes, one that goes, a timer that expires, and a request.
+//! What happens at a card: for octets, one that comes and one that goes; of either kind, a timer that expires, a request.
 
 ghost use Rattle.std.specs.Prelude.{◌≡◌, ◌≤◌, ◌<◌, Some, None, IfSome, IfOk, IfErr};
 ghost use Rattle.model_card.specs.Card as machine;
@@ -10,11 +10,15 @@ ghost use Rattle.lapd_plain.specs.Statuses as status;
 ghost use Rattle.lapd_plain.specs.Statuses.{refusal_status};
 ghost use Rattle.lapd_plain.specs.Requests.{request_in};
 ghost use Rattle.lapd_plain.specs.Timers.{timer_in};
-ghost use Rattle.lapd_c.specs.Cards.{card_of, IsHandle, Stands, CardStands, ShowsAnswer, octet_of};
+ghost use Rattle.lapd_c.specs.Cards.{card_of, kind_in, IsHandle, Stands, OctetsStand, ShowsAnswer, octet_of};
+ghost use Rattle.lapd_c.specs.Kinds.{CardStands, AnyStands, kind_of, for_frames};
 
 use crate::card::CardHandle;
+use crate::kinds::AnyCard;
 use lapd_card::Card;
-use lapd_plain::{NO_CARD, OK, PlainReport, PlainTimer, WRONG_LINE, refusal_status, request_in};
+use lapd_plain::{
+    NO_CARD, OK, PlainReport, PlainTimer, WRONG_CARD, WRONG_LINE, refusal_status, request_in,
+};
 use lapd_store::RawShelf;
 use std::alloc::Global;
 
@@ -31,16 +35,22 @@ pub extern "C" fn lapd_octet(
     ensures handle { IsHandle handle.new }
     ensures no_card { card_of handle.old ≡ None
         → (result ≡ status.no_card) × (handle.new ≡ handle.old) × (report.new ≡ report.old) }
-    ensures wrong_line { (m : machine.Card) → Stands handle.old m → m.config.lines ≤ line
-        → (result ≡ status.wrong_line) × Stands handle.new m × (report.new ≡ report.old) }
-    ensures served { (m : machine.Card) → Stands handle.old m → line < m.config.lines
-        → (result ≡ status.ok) × Stands handle.new (after (at line (line_event.octet octet)) m)
+    ensures wrong_card { kind_in handle.old ≡ Some for_frames
+        → (result ≡ status.wrong_card) × (card_of handle.new ≡ card_of handle.old) × (report.new ≡ report.old) }
+    ensures wrong_line { (m : machine.Card) → OctetsStand handle.old m → m.config.lines ≤ line
+        → (result ≡ status.wrong_line) × OctetsStand handle.new m × (report.new ≡ report.old) }
+    ensures served { (m : machine.Card) → OctetsStand handle.old m → line < m.config.lines
+        → (result ≡ status.ok) × OctetsStand handle.new (after (at line (line_event.octet octet)) m)
         × ShowsAnswer report.new (answer (at line (line_event.octet octet)) m) }
 {
     let Some(mut card) = handle.take(alloc) else {
         return NO_CARD;
     };
-    let status = take_octet(&mut card, line, octet, report);
+    let AnyCard::Octets(octets) = &mut *card else {
+        handle.put(card);
+        return WRONG_CARD;
+    };
+    let status = take_octet(octets, line, octet, report);
     handle.put(card);
     status
 }
@@ -88,17 +98,24 @@ pub extern "C" fn lapd_pull(
     ensures handle { IsHandle handle.new }
     ensures no_card { card_of handle.old ≡ None
         → (result ≡ status.no_card) × (handle.new ≡ handle.old) × (octet.new ≡ octet.old) × (report.new ≡ report.old) }
-    ensures wrong_line { (m : machine.Card) → Stands handle.old m → m.config.lines ≤ line
-        → (result ≡ status.wrong_line) × Stands handle.new m × (octet.new ≡ octet.old) × (report.new ≡ report.old) }
-    ensures served { (m : machine.Card) → Stands handle.old m → line < m.config.lines
-        → (result ≡ status.ok) × Stands handle.new (after (at line line_event.pull) m)
+    ensures wrong_card { kind_in handle.old ≡ Some for_frames
+        → (result ≡ status.wrong_card) × (card_of handle.new ≡ card_of handle.old) × (octet.new ≡ octet.old)
+        × (report.new ≡ report.old) }
+    ensures wrong_line { (m : machine.Card) → OctetsStand handle.old m → m.config.lines ≤ line
+        → (result ≡ status.wrong_line) × OctetsStand handle.new m × (octet.new ≡ octet.old) × (report.new ≡ report.old) }
+    ensures served { (m : machine.Card) → OctetsStand handle.old m → line < m.config.lines
+        → (result ≡ status.ok) × OctetsStand handle.new (after (at line line_event.pull) m)
         × (octet.new ≡ octet_of (answer (at line line_event.pull) m))
         × ShowsAnswer report.new (answer (at line line_event.pull) m) }
 {
     let Some(mut card) = handle.take(alloc) else {
         return NO_CARD;
     };
-    let status = give_octet(&mut card, line, octet, report);
+    let AnyCard::Octets(octets) = &mut *card else {
+        handle.put(card);
+        return WRONG_CARD;
+    };
+    let status = give_octet(octets, line, octet, report);
     handle.put(card);
     status
 }
@@ -132,6 +149,7 @@ pub extern "C" fn lapd_expire(
 ) -> u32
     requires { IsHandle handle.old }
     ensures handle { IsHandle handle.new }
+    ensures kind { kind_in handle.new ≡ kind_in handle.old }
     ensures no_card { card_of handle.old ≡ None
         → (result ≡ status.no_card) × (handle.new ≡ handle.old) × (report.new ≡ report.old) }
     ensures wrong_line { (m : machine.Card) → Stands handle.old m → m.config.lines ≤ line
@@ -152,20 +170,16 @@ pub extern "C" fn lapd_expire(
     status
 }
 
-fn expire_timer(
-    card: &mut Card<RawShelf>,
-    line: u32,
-    timer: &PlainTimer,
-    report: &mut PlainReport,
-) -> u32
-    ensures wrong_line { (m : machine.Card) → CardStands card.old m → m.config.lines ≤ line
-        → (result ≡ status.wrong_line) × CardStands card.new m × (report.new ≡ report.old) }
-    ensures wrong_timer { (m : machine.Card) → CardStands card.old m → line < m.config.lines
+fn expire_timer(card: &mut AnyCard, line: u32, timer: &PlainTimer, report: &mut PlainReport) -> u32
+    ensures kind { kind_of card.new ≡ kind_of card.old }
+    ensures wrong_line { (m : machine.Card) → AnyStands card.old m → m.config.lines ≤ line
+        → (result ≡ status.wrong_line) × AnyStands card.new m × (report.new ≡ report.old) }
+    ensures wrong_timer { (m : machine.Card) → AnyStands card.old m → line < m.config.lines
         → IfErr (timer_in timer.now) (λ wrong.
-        (result ≡ wrong) × CardStands card.new m × (report.new ≡ report.old)) }
-    ensures served { (m : machine.Card) → CardStands card.old m → line < m.config.lines
+        (result ≡ wrong) × AnyStands card.new m × (report.new ≡ report.old)) }
+    ensures served { (m : machine.Card) → AnyStands card.old m → line < m.config.lines
         → IfOk (timer_in timer.now) (λ expired.
-        (result ≡ status.ok) × CardStands card.new (after (at line (line_event.expiry expired)) m)
+        (result ≡ status.ok) × AnyStands card.new (after (at line (line_event.expiry expired)) m)
         × ShowsAnswer report.new (answer (at line (line_event.expiry expired)) m)) }
 {
     let line = line as usize;
@@ -202,6 +216,7 @@ pub extern "C" fn lapd_request(
 ) -> u32
     requires { IsHandle handle.old }
     ensures handle { IsHandle handle.new }
+    ensures kind { kind_in handle.new ≡ kind_in handle.old }
     ensures no_card { card_of handle.old ≡ None
         → (result ≡ status.no_card) × (handle.new ≡ handle.old) × (report.new ≡ report.old) }
     ensures wrong_line { (m : machine.Card) → Stands handle.old m → m.config.lines ≤ line
@@ -228,7 +243,7 @@ pub extern "C" fn lapd_request(
 }
 
 fn ask(
-    card: &mut Card<RawShelf>,
+    card: &mut AnyCard,
     line: u32,
     request: u8,
     service: u8,
@@ -236,19 +251,20 @@ fn ask(
     contents: &[u8],
     report: &mut PlainReport,
 ) -> u32
-    ensures wrong_line { (m : machine.Card) → CardStands card.old m → m.config.lines ≤ line
-        → (result ≡ status.wrong_line) × CardStands card.new m × (report.new ≡ report.old) }
-    ensures wrong_request { (m : machine.Card) → CardStands card.old m → line < m.config.lines
-        → IfErr (request_in request service tei contents.now) (λ wrong. (result ≡ wrong) × CardStands card.new m
+    ensures kind { kind_of card.new ≡ kind_of card.old }
+    ensures wrong_line { (m : machine.Card) → AnyStands card.old m → m.config.lines ≤ line
+        → (result ≡ status.wrong_line) × AnyStands card.new m × (report.new ≡ report.old) }
+    ensures wrong_request { (m : machine.Card) → AnyStands card.old m → line < m.config.lines
+        → IfErr (request_in request service tei contents.now) (λ wrong. (result ≡ wrong) × AnyStands card.new m
         × (report.new ≡ report.old)) }
-    ensures refused { (m : machine.Card) → CardStands card.old m → line < m.config.lines
+    ensures refused { (m : machine.Card) → AnyStands card.old m → line < m.config.lines
         → IfOk (request_in request service tei contents.now) (λ asked.
         IfSome (refusal m.config (machine.is_full m) asked (machine.line_at line m)) (λ why.
-        (result ≡ refusal_status why) × CardStands card.new m × (report.new ≡ report.old))) }
-    ensures served { (m : machine.Card) → CardStands card.old m → line < m.config.lines
+        (result ≡ refusal_status why) × AnyStands card.new m × (report.new ≡ report.old))) }
+    ensures served { (m : machine.Card) → AnyStands card.old m → line < m.config.lines
         → IfOk (request_in request service tei contents.now) (λ asked.
         refusal m.config (machine.is_full m) asked (machine.line_at line m) ≡ None
-        → (result ≡ status.ok) × CardStands card.new (after (at line (line_event.request asked)) m)
+        → (result ≡ status.ok) × AnyStands card.new (after (at line (line_event.request asked)) m)
         × ShowsAnswer report.new (answer (at line (line_event.request asked)) m)) }
 {
     let line = line as usize;

@@ -1,6 +1,6 @@
 //! Octets taken and given in turn.
 
-ghost use Rattle.std.specs.Prelude.{◌≡◌, ◌≤◌, ◌<◌, ◌*◌, true, false, not, length, None};
+ghost use Rattle.std.specs.Prelude.{◌≡◌, ◌≤◌, ◌<◌, ◌*◌, true, false, not, length, Some, None};
 ghost use Rattle.model_card.specs.Card as machine;
 ghost use Rattle.model_card.specs.Event.{at};
 ghost use Rattle.model_card.specs.Machine.{answer};
@@ -11,12 +11,14 @@ ghost use Rattle.lapd_card.specs.Stands.{Leads};
 ghost use Rattle.lapd_line.specs.Reports.{report_told};
 ghost use Rattle.lapd_plain.specs.Reports.{Shows, contents_of};
 ghost use Rattle.lapd_plain.specs.Statuses as status;
-ghost use Rattle.lapd_c.specs.Cards.{card_of, IsHandle, Stands, CardStands, ShowsAnswer, octet_of, shelf_of};
+ghost use Rattle.lapd_c.specs.Cards.{card_of, kind_in, IsHandle, OctetsStand, ShowsAnswer, octet_of};
+ghost use Rattle.lapd_c.specs.Kinds.{CardStands, for_frames, shelf_of};
 ghost use Rattle.lapd_c.specs.Exchange.{is_quiet, is_exchange, step_event, with_step, Exchanged, ExchangedIn};
 
 use crate::card::CardHandle;
+use crate::kinds::AnyCard;
 use lapd_card::{BareReport, Card, Report};
-use lapd_plain::{NO_CARD, OK, PlainReport, WRONG_LENGTH, WRONG_LINE};
+use lapd_plain::{NO_CARD, OK, PlainReport, WRONG_CARD, WRONG_LENGTH, WRONG_LINE};
 use lapd_store::RawShelf;
 use std::alloc::Global;
 
@@ -37,21 +39,28 @@ pub extern "C" fn lapd_exchange(
     ensures no_card { card_of handle.old ≡ None
         → (result ≡ status.no_card) × (handle.new ≡ handle.old) × (given.new ≡ given.old) × (steps.new ≡ steps.old)
         × (report.new ≡ report.old) }
-    ensures wrong_line { (m : machine.Card) → Stands handle.old m → m.config.lines ≤ line
-        → (result ≡ status.wrong_line) × Stands handle.new m × (given.new ≡ given.old) × (steps.new ≡ steps.old)
+    ensures wrong_card { kind_in handle.old ≡ Some for_frames
+        → (result ≡ status.wrong_card) × (card_of handle.new ≡ card_of handle.old) × (given.new ≡ given.old)
+        × (steps.new ≡ steps.old) × (report.new ≡ report.old) }
+    ensures wrong_line { (m : machine.Card) → OctetsStand handle.old m → m.config.lines ≤ line
+        → (result ≡ status.wrong_line) × OctetsStand handle.new m × (given.new ≡ given.old) × (steps.new ≡ steps.old)
         × (report.new ≡ report.old) }
-    ensures wrong_length { (m : machine.Card) → Stands handle.old m → line < m.config.lines
+    ensures wrong_length { (m : machine.Card) → OctetsStand handle.old m → line < m.config.lines
         → is_exchange taken.now given.old steps.old ≡ false
-        → (result ≡ status.wrong_length) × Stands handle.new m × (given.new ≡ given.old) × (steps.new ≡ steps.old)
+        → (result ≡ status.wrong_length) × OctetsStand handle.new m × (given.new ≡ given.old) × (steps.new ≡ steps.old)
         × (report.new ≡ report.old) }
-    ensures served { (m : machine.Card) → Stands handle.old m → line < m.config.lines
+    ensures served { (m : machine.Card) → OctetsStand handle.old m → line < m.config.lines
         → is_exchange taken.now given.old steps.old ≡ true
         → (result ≡ status.ok) × ExchangedIn line taken.now steps.old m (card_of handle.new) given.old given.new steps.new report.new }
 {
     let Some(mut card) = handle.take(alloc) else {
         return NO_CARD;
     };
-    let status = exchange_at(&mut card, line, taken, given, steps, report);
+    let AnyCard::Octets(octets) = &mut *card else {
+        handle.put(card);
+        return WRONG_CARD;
+    };
+    let status = exchange_at(octets, line, taken, given, steps, report);
     handle.put(card);
     status
 }

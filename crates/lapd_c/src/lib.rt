@@ -4,9 +4,10 @@
 //! it from there, serves, and puts it back; a ghost field says which card it is, so that the contracts speak of the
 //! card's machine (`model_card`) and of the clock's timers (`lapd_clock`).
 //!
-//! - `card`: a card in C, how it begins and ends; `card_slot`, where it lies; `events`, what happens at it; `exchange`,
-//!   octets taken and given in turn; `questions`, what it answers about itself; `links`, which links it has, and
-//!   `rooms`, how many contents more one takes; `begun`, which frame a pull began.
+//! - `card`: a card in C, how it begins and ends; `kinds`, what a card for octets and one for frames do alike;
+//!   `card_slot`, where it lies. `events`, what happens at it; for octets besides `exchange`, octets taken and given in
+//!   turn, and `begun`, which frame a pull began; for frames `frames`, which come and go. `questions`, what it answers
+//!   about itself; `links`, which links it has, and `rooms`, how many contents more one takes.
 //! - `clock`: a clock in C, and its exports; `clock_reports`, the orders of a report; `clock_slot`, where it lies.
 //! - `laws`: what holds of the machine's answers, so that a report has room for each.
 //! - `loose`: a box as the address of its block; `version`: which version this is.
@@ -15,7 +16,8 @@
 //!
 //! `tests/c/run` and `tests/c/declared`: starts; that all memory is given back; that structs, prototypes and
 //! statuses are as `lapd.h` has them, and its inline functions; every stored script, call by call and by
-//! `lapd_exchange`. On demand, a terminal that nobody here wrote (`tests/interop`).
+//! `lapd_exchange`; that a card for frames and one for octets, to which the same happens at random, tell the same.
+//! On demand, a terminal that nobody here wrote (`tests/interop`).
 //!
 //! # Open
 //!
@@ -30,6 +32,8 @@ mod clock_reports;
 mod clock_slot;
 mod events;
 mod exchange;
+mod frames;
+mod kinds;
 mod laws;
 mod links;
 mod loose;

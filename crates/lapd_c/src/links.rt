@@ -3,13 +3,13 @@
 ghost use Rattle.std.specs.Prelude.{◌≡◌, ◌≤◌, ◌<◌, ◌⊎◌, Some, None, IfSome};
 ghost use Rattle.model_card.specs.Card as machine;
 ghost use Rattle.lapd_plain.specs.Statuses as status;
-ghost use Rattle.lapd_c.specs.Cards.{card_of, IsHandle, Stands, CardStands};
+ghost use Rattle.lapd_c.specs.Cards.{card_of, IsHandle, Stands};
+ghost use Rattle.lapd_c.specs.Kinds.{AnyStands};
 ghost use Rattle.lapd_c.specs.Links.{FirstFrom, IsNext, NoneFrom};
 
 use crate::card::CardHandle;
-use lapd_card::Card;
+use crate::kinds::AnyCard;
 use lapd_plain::{LINK_PLACES, NO_CARD, NO_MORE_LINKS, OK, PlainLink, WRONG_LINE, service_at};
-use lapd_store::RawShelf;
 use std::alloc::Global;
 
 /// The first link of a line from a place on, and the place behind it.
@@ -44,14 +44,14 @@ pub extern "C" fn lapd_next_link(
     status
 }
 
-fn tell_next(card: &Card<RawShelf>, line: u32, place: &mut u8, link: &mut PlainLink) -> u32
-    ensures wrong_line { (m : machine.Card) → CardStands card.now m → m.config.lines ≤ line
+fn tell_next(card: &AnyCard, line: u32, place: &mut u8, link: &mut PlainLink) -> u32
+    ensures wrong_line { (m : machine.Card) → AnyStands card.now m → m.config.lines ≤ line
         → (result ≡ status.wrong_line) × (place.new ≡ place.old) × (link.new ≡ link.old) }
-    ensures either { (m : machine.Card) → CardStands card.now m → line < m.config.lines
+    ensures either { (m : machine.Card) → AnyStands card.now m → line < m.config.lines
         → (result ≡ status.ok) ⊎ (result ≡ status.no_more_links) }
-    ensures told { (m : machine.Card) → CardStands card.now m → line < m.config.lines
+    ensures told { (m : machine.Card) → AnyStands card.now m → line < m.config.lines
         → result ≡ status.ok → IsNext line m place.old place.new link.new }
-    ensures none { (m : machine.Card) → CardStands card.now m → line < m.config.lines
+    ensures none { (m : machine.Card) → AnyStands card.now m → line < m.config.lines
         → result ≡ status.no_more_links
         → NoneFrom line m place.old × (place.new ≡ place.old) × (link.new ≡ link.old) }
 {
@@ -70,9 +70,9 @@ fn tell_next(card: &Card<RawShelf>, line: u32, place: &mut u8, link: &mut PlainL
 }
 
 // The place and the state of the first link from a place on.
-fn first_link(card: &Card<RawShelf>, line: usize, from: u8) -> Option<(u8, u8)>
+fn first_link(card: &AnyCard, line: usize, from: u8) -> Option<(u8, u8)>
     ensures within { IfSome result (λ found. found.0 < 254) }
-    ensures first { (m : machine.Card) → CardStands card.now m → FirstFrom line m from result }
+    ensures first { (m : machine.Card) → AnyStands card.now m → FirstFrom line m from result }
 {
     for place in from..LINK_PLACES {
         if let Some(state) = card.state(line, service_at(place), place / 2) {

@@ -1,17 +1,18 @@
 //! What a card answers about itself.
 
-ghost use Rattle.std.specs.Prelude.{◌≡◌, ◌≤◌, ◌<◌, Some, None, IfOk, IfErr};
+ghost use Rattle.std.specs.Prelude.{◌≡◌, ◌+◌, ◌≤◌, ◌<◌, sum_by, Some, None, IfOk, IfErr};
 ghost use Rattle.std.specs.Option.{unwrap_or};
 ghost use Rattle.model_card.specs.Card as machine;
 ghost use Rattle.model_card.specs.Stored.{stored, limit};
+ghost use Rattle.model_line.specs.Stored.{held_sent};
 ghost use Rattle.lapd_plain.specs.Statuses as status;
 ghost use Rattle.lapd_plain.specs.Timers.{link_in};
-ghost use Rattle.lapd_c.specs.Cards.{card_of, IsHandle, Stands, CardStands};
+ghost use Rattle.lapd_c.specs.Cards.{card_of, kind_in, IsHandle, Stands};
+ghost use Rattle.lapd_c.specs.Kinds.{AnyStands, for_octets, for_frames};
 
 use crate::card::CardHandle;
-use lapd_card::Card;
+use crate::kinds::AnyCard;
 use lapd_plain::{NO_CARD, OK, WRONG_LINE, link_in};
-use lapd_store::RawShelf;
 use std::alloc::Global;
 
 /// The most lines of a card.
@@ -48,12 +49,12 @@ pub extern "C" fn lapd_state(
     status
 }
 
-fn tell_state(card: &Card<RawShelf>, line: u32, service: u8, tei: u8, state: &mut u8) -> u32
-    ensures wrong_line { (m : machine.Card) → CardStands card.now m → m.config.lines ≤ line
+fn tell_state(card: &AnyCard, line: u32, service: u8, tei: u8, state: &mut u8) -> u32
+    ensures wrong_line { (m : machine.Card) → AnyStands card.now m → m.config.lines ≤ line
         → (result ≡ status.wrong_line) × (state.new ≡ state.old) }
-    ensures wrong_link { (m : machine.Card) → CardStands card.now m → line < m.config.lines
+    ensures wrong_link { (m : machine.Card) → AnyStands card.now m → line < m.config.lines
         → IfErr (link_in service tei) (λ wrong. (result ≡ wrong) × (state.new ≡ state.old)) }
-    ensures told { (m : machine.Card) → CardStands card.now m → line < m.config.lines
+    ensures told { (m : machine.Card) → AnyStands card.now m → line < m.config.lines
         → IfOk (link_in service tei) (λ link. (result ≡ status.ok)
         × (state.new ≡ unwrap_or (machine.state line link.0 link.1 m) 0)) }
 {
@@ -70,7 +71,7 @@ fn tell_state(card: &Card<RawShelf>, line: u32, service: u8, tei: u8, state: &mu
     }
 }
 
-/// How many octets the card stores now.
+/// How many octets the card stores now. A card for frames has none of frames on their way.
 #[unsafe(no_mangle)]
 pub extern "C" fn lapd_stored(alloc: Global, handle: &mut CardHandle, octets: &mut u32) -> u32
     requires { IsHandle handle.old }
@@ -78,7 +79,10 @@ pub extern "C" fn lapd_stored(alloc: Global, handle: &mut CardHandle, octets: &m
     ensures no_card { card_of handle.old ≡ None
         → (result ≡ status.no_card) × (handle.new ≡ handle.old) × (octets.new ≡ octets.old) }
     ensures unchanged { card_of handle.new ≡ card_of handle.old }
-    ensures told { (m : machine.Card) → Stands handle.old m → (result ≡ status.ok) × (octets.new ≡ stored m) }
+    ensures told { (m : machine.Card) → Stands handle.old m → kind_in handle.old ≡ Some for_octets
+        → (result ≡ status.ok) × (octets.new ≡ stored m) }
+    ensures for_frames { (m : machine.Card) → Stands handle.old m → kind_in handle.old ≡ Some for_frames
+        → (result ≡ status.ok) × (octets.new + sum_by held_sent m.lines ≡ stored m) }
 {
     let Some(card) = handle.take(alloc) else {
         return NO_CARD;
@@ -124,8 +128,8 @@ pub extern "C" fn lapd_lines(alloc: Global, handle: &mut CardHandle, lines: &mut
     OK
 }
 
-fn line_count(card: &Card<RawShelf>) -> u32
-    ensures { (m : machine.Card) → CardStands card.now m → result ≡ m.config.lines }
+fn line_count(card: &AnyCard) -> u32
+    ensures { (m : machine.Card) → AnyStands card.now m → result ≡ m.config.lines }
 {
     card.lines().min(MOST_LINES) as u32
 }

@@ -7,12 +7,12 @@ ghost use Rattle.lapd_plain.specs.Rooms.{plain_room};
 ghost use Rattle.lapd_plain.specs.Statuses as status;
 ghost use Rattle.lapd_plain.specs.Statuses.{refusal_status};
 ghost use Rattle.lapd_plain.specs.Timers.{link_in};
-ghost use Rattle.lapd_c.specs.Cards.{card_of, IsHandle, Stands, CardStands};
+ghost use Rattle.lapd_c.specs.Cards.{card_of, IsHandle, Stands};
+ghost use Rattle.lapd_c.specs.Kinds.{AnyStands};
 
 use crate::card::CardHandle;
-use lapd_card::Card;
+use crate::kinds::AnyCard;
 use lapd_plain::{NO_CARD, OK, PlainRoom, WRONG_LINE, link_in, refusal_status};
-use lapd_store::RawShelf;
 use std::alloc::Global;
 
 /// The room of the link of a service with a TEI, and its V(A).
@@ -49,15 +49,15 @@ pub extern "C" fn lapd_room(
     status
 }
 
-fn tell_room(card: &Card<RawShelf>, line: u32, service: u8, tei: u8, room: &mut PlainRoom) -> u32
-    ensures wrong_line { (m : machine.Card) → CardStands card.now m → m.config.lines ≤ line
+fn tell_room(card: &AnyCard, line: u32, service: u8, tei: u8, room: &mut PlainRoom) -> u32
+    ensures wrong_line { (m : machine.Card) → AnyStands card.now m → m.config.lines ≤ line
         → (result ≡ status.wrong_line) × (room.new ≡ room.old) }
-    ensures wrong_link { (m : machine.Card) → CardStands card.now m → line < m.config.lines
+    ensures wrong_link { (m : machine.Card) → AnyStands card.now m → line < m.config.lines
         → IfErr (link_in service tei) (λ wrong. (result ≡ wrong) × (room.new ≡ room.old)) }
-    ensures no_link { (m : machine.Card) → CardStands card.now m → line < m.config.lines
+    ensures no_link { (m : machine.Card) → AnyStands card.now m → line < m.config.lines
         → IfOk (link_in service tei) (λ link. IfErr (machine_room line link.0 link.1 m) (λ why.
         (result ≡ refusal_status why) × (room.new ≡ room.old))) }
-    ensures told { (m : machine.Card) → CardStands card.now m → line < m.config.lines
+    ensures told { (m : machine.Card) → AnyStands card.now m → line < m.config.lines
         → IfOk (link_in service tei) (λ link. IfOk (machine_room line link.0 link.1 m) (λ is.
         (result ≡ status.ok) × (room.new ≡ plain_room is))) }
 {

@@ -14,3 +14,4 @@ pub mod Headline
 pub mod AnswerLaws
 pub mod Keeping
 pub mod RoomOfCard
+pub mod RoomOfFrames

@@ -1,6 +1,6 @@
 //! The lines of a card for frames, over its shelf.
 
-ghost use Rattle.std.specs.Prelude.{◌≡◌, ◌+◌, ◌≤◌, ◌<◌, List, [], ◌∷◌, length, drop, map, nat_le, sum_by, Some, None, IfOk, IfErr, OnErr};
+ghost use Rattle.std.specs.Prelude.{◌≡◌, ◌+◌, ◌-◌, ◌≤◌, ◌<◌, List, [], ◌∷◌, length, drop, map, nat_le, sum_by, Some, None, IfOk, IfErr, OnErr};
 ghost use Rattle.lapd_bits.specs.Stream.{dropped};
 ghost use Rattle.lapd_line.specs.FrameStands.{IsNext, written};
 ghost use Rattle.lapd_line.specs.Reports.{report_told};
@@ -10,6 +10,7 @@ ghost use Rattle.model_line.specs.Machine.{answer};
 ghost use Rattle.model_line.specs.Pull.{taken};
 ghost use Rattle.model_line.specs.Refusal.{refusal};
 ghost use Rattle.model_line.specs.Request.{request_of};
+ghost use Rattle.model_line.specs.Room.{room_in};
 ghost use Rattle.model_line.specs.Sound.{IsInRange};
 ghost use Rattle.model_line.specs.Stored.{held_in, held_sent};
 ghost use Rattle.model_line.specs.Whole.{line_octets, fault_octets, came, cause_of};
@@ -19,7 +20,7 @@ ghost use Rattle.lapd_card.specs.Lines.{line_in};
 ghost use Rattle.lapd_card.specs.FrameLines.{Stand, Serve, Lead, AreFresh};
 
 use lapd_frame::{Refusal, Service, Timer};
-use lapd_line::{Config, FrameLine, NextFrame, Report, Request, StartFault};
+use lapd_line::{Config, FrameLine, NextFrame, Report, Request, Room, StartFault};
 use lapd_store::Shelf;
 use model_line::Fault;
 use std::alloc::Global;
@@ -150,6 +151,22 @@ impl FrameLines {
             → result ≡ machine.state_of service tei (line_in c line ms) }
     {
         self.lines[line].state(service, tei)
+    }
+
+    /// How much room a link of a line has, where at most `slots` slots may be in use.
+    pub(crate) fn room<S: Shelf>(
+        &self,
+        line: usize,
+        service: Service,
+        tei: u8,
+        shelf: &S,
+        slots: u32,
+    ) -> Result<Room, Refusal>
+        requires { line < length self.now }
+        ensures { (c : Config) (ms : List machine.Line) → Stand c self.now (S.store shelf.now) ms
+            → result ≡ room_in c (slots - used_slots (S.store shelf.now)) service tei (line_in c line ms) }
+    {
+        self.lines[line].room(service, tei, shelf, slots)
     }
 
     /// How many octets the lines hold beside those in slots; what is on its way to a line is the controller's.

@@ -40,12 +40,12 @@
 //! # Only tested
 //!
 //! Starts, with each fault; an answer that is kept has its contents; single events and long runs; of a card for frames, one
-//! list of happenings, frames of bad lengths, and a room that is too small (`test_card`).
+//! list of happenings, frames of bad lengths, and a room that is too small (`test_card`); such a card through C, beside one
+//! for octets to which the same happens (`tests/c/run`).
 //!
 //! # Open
 //!
-//! Of a card for frames: its calls in C and in scripts, and a bound of what it stores that leaves out the room of frames on
-//! their way; how much room a link has.
+//! Of a card for frames: a bound of what it stores that leaves out the room of frames on their way.
 #![tactic(auto)]
 
 mod begun;

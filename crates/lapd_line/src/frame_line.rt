@@ -1,6 +1,6 @@
 //! The line of a controller that gives and takes whole frames: one call a frame.
 
-ghost use Rattle.std.specs.Prelude.{◌≡◌, ◌+◌, ◌<◌, ◌≤◌, ℕ, List, [], ◌∷◌, ◌++◌, length, map, take, drop, All, Some, None, IfOk, IfErr, OnErr, nat_le};
+ghost use Rattle.std.specs.Prelude.{◌≡◌, ◌+◌, ◌-◌, ◌<◌, ◌≤◌, ℕ, List, [], ◌∷◌, ◌++◌, length, map, take, drop, All, Some, None, IfOk, IfErr, OnErr, nat_le};
 ghost use Rattle.lapd_bits.specs.Heard.{heard_of};
 ghost use Rattle.lapd_bits.specs.Stream.{dropped};
 ghost use Rattle.lapd_store.specs.Ownership.{Owned, Holds};
@@ -12,6 +12,7 @@ ghost use Rattle.model_line.specs.Machine.{answer};
 ghost use Rattle.model_line.specs.Pull.{taken};
 ghost use Rattle.model_line.specs.Refusal.{refusal};
 ghost use Rattle.model_line.specs.Request.{request_of};
+ghost use Rattle.model_line.specs.Room.{room_in};
 ghost use Rattle.model_line.specs.Sound.{IsInRange};
 ghost use Rattle.model_line.specs.Stored.{held_in, held_sent};
 ghost use Rattle.model_line.specs.Whole.{line_octets, fault_octets, came, is_too_short, cause_of};
@@ -24,6 +25,7 @@ use crate::outlet::Outlet;
 use crate::reports::{BareReport, Report};
 use lapd_bits::{Cause, Heard};
 use lapd_frame::{Order, Refusal, Service, ShortList, Timer};
+use lapd_link::Room;
 use lapd_store::Shelf;
 use model_line::{Config, Fault, Request};
 use std::alloc::Global;
@@ -228,6 +230,24 @@ impl FrameLine {
             → result ≡ machine.state_of service tei m }
     {
         self.layer.state(service, tei)
+    }
+
+    /// How much room the link of a service with this TEI has, as [`Line::room`](crate::Line::room) tells it.
+    ///
+    /// # Errors
+    ///
+    /// There is no such link: `BadTei` where the TEI is over 126, `NoLink` where it is not on the line.
+    pub fn room<S: Shelf>(
+        &self,
+        service: Service,
+        tei: u8,
+        shelf: &S,
+        slots: u32,
+    ) -> Result<Room, Refusal>
+        ensures { (others : List Owned) (m : machine.Line) → Stands self.now (S.store shelf.now) others m
+            → result ≡ room_in (config_of self.now) (slots - used_slots (S.store shelf.now)) service tei m }
+    {
+        self.layer.room(service, tei, shelf, slots)
     }
 
     /// How many octets the line stores beside those in slots of the shelf: of control frames and messages that wait, and of

@@ -19,7 +19,7 @@
 //!
 //! # Only tested
 //!
-//! Starts of a `Line`, through the tests of the card; no test starts a `FrameLine`.
+//! Starts of a `Line`, through the tests of the card; those of a `FrameLine` through C.
 #![tactic(auto)]
 
 mod addressing;

@@ -7,5 +7,6 @@ pub mod Links
 pub mod Rooms
 pub mod Heads
 pub mod Notes
+pub mod Faults
 pub mod Requests
 pub mod Reports

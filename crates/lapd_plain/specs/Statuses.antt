@@ -53,6 +53,15 @@ no_place = 24
 abbrev pub no_more_links : ℕ
 no_more_links = 25
 
+abbrev pub wrong_card : ℕ
+wrong_card = 26
+
+abbrev pub wrong_cause : ℕ
+wrong_cause = 27
+
+abbrev pub no_frame : ℕ
+no_frame = 28
+
 -- Why a request was refused.
 abbrev pub refusal_status : Refusal → ℕ
 refusal_status BadTei = 1

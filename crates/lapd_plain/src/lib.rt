@@ -8,12 +8,13 @@
 //! - `config`: the configuration.
 //! - `timers`: timers and orders, there and back.
 //! - `links`: the links of a line, in order; `rooms`: how much room one has; `heads`: how a frame begins.
-//! - `requests`: what is asked of a line, from numbers.
+//! - `requests`: what is asked of a line, and `faults`: what a controller tells in place of a frame, from numbers.
 //! - `notes`: notes, and why something was dropped.
 //! - `reports`: the report of an event.
 #![tactic(auto)]
 
 mod config;
+mod faults;
 mod heads;
 mod links;
 mod notes;
@@ -24,6 +25,7 @@ mod statuses;
 mod timers;
 
 pub use config::PlainConfig;
+pub use faults::fault_in;
 pub use heads::PlainHead;
 pub use links::{LINK_PLACES, PlainLink, service_at};
 pub use notes::{PlainNote, cause_number};
@@ -31,8 +33,8 @@ pub use reports::PlainReport;
 pub use requests::request_in;
 pub use rooms::PlainRoom;
 pub use statuses::{
-    NO_CARD, NO_CLOCK, NO_MEMORY, NO_MORE_LINKS, NO_PLACE, NO_TIMER, OK, SECOND_START,
-    WRONG_LENGTH, WRONG_LINE, WRONG_ORDER, WRONG_REQUEST, WRONG_SERVICE, WRONG_TEI, WRONG_TIME,
-    WRONG_TIMER, field_status, refusal_status, service_in,
+    NO_CARD, NO_CLOCK, NO_FRAME, NO_MEMORY, NO_MORE_LINKS, NO_PLACE, NO_TIMER, OK, SECOND_START,
+    WRONG_CARD, WRONG_CAUSE, WRONG_LENGTH, WRONG_LINE, WRONG_ORDER, WRONG_REQUEST, WRONG_SERVICE,
+    WRONG_TEI, WRONG_TIME, WRONG_TIMER, field_status, refusal_status, service_in,
 };
 pub use timers::{PlainDue, PlainOrder, PlainTimer, link_in};

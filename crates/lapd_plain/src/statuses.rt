@@ -25,7 +25,7 @@ pub const WRONG_TEI: u32 = 16;
 pub const WRONG_TIMER: u32 = 17;
 /// Not the number of a request.
 pub const WRONG_REQUEST: u32 = 18;
-/// Contents of a request that has none; or an exchange of two lengths, or beyond them.
+/// Contents of a request that has none; an exchange of two lengths, or beyond them; or too little room for a frame.
 pub const WRONG_LENGTH: u32 = 19;
 /// An order is none, or a report's number of orders is over 4.
 pub const WRONG_ORDER: u32 = 20;
@@ -39,6 +39,12 @@ pub const NO_TIMER: u32 = 23;
 pub const NO_PLACE: u32 = 24;
 /// The line has no link from that place on.
 pub const NO_MORE_LINKS: u32 = 25;
+/// A call for octets on a card for frames, or one for frames on a card for octets.
+pub const WRONG_CARD: u32 = 26;
+/// Not the number of a cause that a controller tells.
+pub const WRONG_CAUSE: u32 = 27;
+/// No frame of the line waits to be sent.
+pub const NO_FRAME: u32 = 28;
 
 /// The status of a request that was refused: 1 to 10.
 pub fn refusal_status(why: Refusal) -> u32

@@ -6,7 +6,8 @@ use Rattle.model_line.specs.Request.{request_of}
 use Rattle.lapd_plain.specs.Requests.{read_of}
 use Rattle.lapd_card.specs.Reply.{answer_of_result}
 use Rattle.model_card.specs.Event.{at}
-use Rattle.lapd_c.specs.Cards.{CardStands}
+use Rattle.lapd_c.specs.Kinds.{AnyStands}
+use Rattle.lapd_c.proofs.Kinded.{reached_of}
 use Rattle.lapd_c.proofs.Served.{if_ok, if_some, shown}
 use Rattle.lapd_c.proofs.events.ask.Goals as goal
 
@@ -14,13 +15,13 @@ pub returns-in-Ok-request-clause-served : goal.returns-in-Ok-request-clause-serv
 returns-in-Ok-request-clause-served c = λ m s w. if_ok _ _ (request_of c.in-Ok.asked) (sym c.request_in.ensures ∙ ap read_of c.in-Ok.is) (λ granted. (
   refl,
   c.request.ensures.after.stands m s,
-  shown m (at c.args.line (line_event.request (request_of c.in-Ok.asked))) c.in-Ok-request.told _ _ c.show.new.self s.reached (ap answer_of_result (sym c.in-Ok-request.is) ∙ c.request.ensures.told m s) c.notes.ensures c.orders.ensures c.show.ensures,
+  shown m (at c.args.line (line_event.request (request_of c.in-Ok.asked))) c.in-Ok-request.told _ _ c.show.new.self (reached_of c.args.card.now m s) (ap answer_of_result (sym c.in-Ok-request.is) ∙ c.request.ensures.told m s) c.notes.ensures c.orders.ensures c.show.ensures,
 ))
 
 pub returns-in-Err-request-clause-refused : goal.returns-in-Err-request-clause-refused
 returns-in-Err-request-clause-refused c = λ m s w. if_ok _ _ (request_of c.in-Ok.asked) (sym c.request_in.ensures ∙ ap read_of c.in-Ok.is)
     (if_some _ _ c.in-Err-request.why (c.in-Err-request.ensures.refused m s)
-    (c.refusal_status.ensures, subst (λ card. CardStands card m) (sym c.in-Err-request.ensures.unchanged) s, refl))
+    (c.refusal_status.ensures, subst (λ card. AnyStands card m) (sym c.in-Err-request.ensures.unchanged) s, refl))
 
 pub returns-in-Err-request-clause-served : goal.returns-in-Err-request-clause-served
 returns-in-Err-request-clause-served c = λ m s w. if_ok _ _ (request_of c.in-Ok.asked) (sym c.request_in.ensures ∙ ap read_of c.in-Ok.is)

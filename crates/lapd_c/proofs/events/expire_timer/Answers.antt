@@ -2,6 +2,7 @@
 use Rattle.std.proofs.Common.{refl, sym, ◌∙◌}
 use Rattle.model_line.specs.Event as line_event
 use Rattle.model_card.specs.Event.{at}
+use Rattle.lapd_c.proofs.Kinded.{reached_of}
 use Rattle.lapd_c.proofs.Served.{if_ok, shown}
 use Rattle.lapd_c.proofs.events.expire_timer.Goals as goal
 
@@ -9,5 +10,5 @@ pub returns-in-Ok-clause-served : goal.returns-in-Ok-clause-served
 returns-in-Ok-clause-served c = λ m s w. if_ok _ _ c.in-Ok.timer (sym c.timer.ensures ∙ c.in-Ok.is) (
   refl,
   c.expire-told.ensures.after.stands m s,
-  shown m (at c.args.line (line_event.expiry c.in-Ok.timer)) c.expire-told.result _ _ c.show.new.self s.reached (c.expire-told.ensures.told m s) c.notes.ensures c.orders.ensures c.show.ensures,
+  shown m (at c.args.line (line_event.expiry c.in-Ok.timer)) c.expire-told.result _ _ c.show.new.self (reached_of c.args.card.now m s) (c.expire-told.ensures.told m s) c.notes.ensures c.orders.ensures c.show.ensures,
 )

@@ -2,7 +2,7 @@
 use Rattle.std.proofs.Common.{◌≡◌, ℕ, suc, ◌+◌, ◌*◌, ◌<◌, ◌≤◌, length, refl, sym, subst, ◌∙◌, arith, inl, inr}
 use Rattle.std.proofs.lemmas.Bool.{and_parts, eqb-true, leb-true}
 use Rattle.model_line.specs.declared.config.Config.{Config}
-use Rattle.lapd_c.specs.Cards.{CardStands}
+use Rattle.lapd_c.specs.Kinds.{CardStands}
 use Rattle.lapd_c.specs.Exchange.{card_after}
 use Rattle.lapd_c.proofs.Exchanging.{card-made, octets-made, quiet-made, quiet-none, given-none, card-none, tells-made, shown-made}
 use Rattle.lapd_c.proofs.exchange.exchange.Goals as goal

@@ -2,7 +2,7 @@
 use Rattle.std.proofs.Common.{◌≡◌, ℕ, ◌+◌, ◌<◌, ◌≤◌, length}
 use Rattle.lapd_card.specs.Card.{line_count}
 use Rattle.model_card.specs.Card.{Card}
-use Rattle.lapd_c.specs.Cards.{CardStands}
+use Rattle.lapd_c.specs.Kinds.{CardStands}
 use Rattle.lapd_c.proofs.Exchanging.{Through}
 use Rattle.lapd_c.proofs.exchange.exchange.Given as goal
 

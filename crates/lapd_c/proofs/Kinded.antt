@@ -1,0 +1,49 @@
+-- A card of either kind.
+use Rattle.std.proofs.Common.{◌≡◌, ℕ, List, [], ◌∷◌, drop, map, replicate, Option, None, is_some, if◌then◌else◌, sym, ap, refl, subst}
+use Rattle.model_line.specs.declared.config.Config.{Config}
+use Rattle.lapd_line.specs.declared.frame_line.NextFrame.{NextFrame}
+use Rattle.lapd_line.specs.FrameStands.{written}
+use Rattle.model_line.specs.Event.{pull}
+use Rattle.model_line.specs.Pull.{Taken}
+use Rattle.model_line.specs.WholeAtLine.{pulls_to_begin}
+use Rattle.model_card.specs.Card as machine
+use Rattle.model_card.specs.Event.{Event, at}
+use Rattle.model_card.specs.Happening.{Happening, goes, events_of}
+use Rattle.model_card.specs.Reached.{IsReached}
+use Rattle.model_card.specs.Run.{after_all}
+use Rattle.lapd_store.specs.Store.{Store}
+use Rattle.lapd_card.specs.FrameCard.{Held}
+use Rattle.lapd_card.specs.FrameStands.{Leads}
+use Rattle.lapd_c.specs.declared.kinds.AnyCard.{AnyCard}
+use Rattle.lapd_c.specs.declared.kinds.AnyCard.TheVariants.{Octets, Frames}
+use Rattle.lapd_c.specs.Frames.{after_happening, next_at}
+use Rattle.lapd_c.specs.Kinds.{AnyStands, AnyLeads, FrameCardStands, line_count, shelf_of}
+
+-- it was reached from a beginning
+pub reached_of : (card : AnyCard) (m : machine.Card) → AnyStands card m → IsReached m
+reached_of (Octets c) m s = s.reached
+reached_of (Frames c) m s = s.reached
+
+-- it has the machine's lines
+pub lines_of : (card : AnyCard) (m : machine.Card) → AnyStands card m → line_count card ≡ m.config.lines
+lines_of (Octets c) m s = ap (λ (config : Config). config.lines) (sym s.config)
+lines_of (Frames c) m s = ap (λ (config : Config). config.lines) (sym s.config)
+
+-- what means one event leads where the event does
+pub leads_by_one : (h : Happening) (e : Event) (old new : Held Store) → ((m : machine.Card) → events_of m h ≡ e ∷ []) → Leads shelf_of h old new
+    → AnyLeads e (Frames old) (Frames new)
+unfolding after_all
+leads_by_one h e old new one leads = record {
+  kind = refl;
+  stands = λ m s. subst (λ events. FrameCardStands new (after_all m events)) (one m) (leads.stands m s);
+}
+
+-- where no frame waits, a call for one means nothing
+pub none_goes : (line : ℕ) (m : machine.Card) (c : Held Store) → next_at line m ≡ None → FrameCardStands c (after_happening (goes line) m) → FrameCardStands c m
+unfolding after_all
+none_goes line m c none s =
+    subst (FrameCardStands c) (ap (λ (t : Option Taken). after_all m (map (at line) (if is_some t then replicate (pulls_to_begin (machine.line_at line m)) pull else []))) none) s
+
+-- and nothing is written
+pub unwritten : (next : Option NextFrame) (out out' : List ℕ) → next ≡ None → drop (written next) out' ≡ drop (written next) out → out' ≡ out
+unwritten next out out' none rest = subst (λ (n : Option NextFrame). drop (written n) out' ≡ drop (written n) out) none rest

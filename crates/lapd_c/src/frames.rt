@@ -1,0 +1,234 @@
+//! What happens at a card for frames: a frame that comes, a fault in place of one, and the frame that goes next.
+
+ghost use Rattle.std.specs.Prelude.{◌≡◌, ◌+◌, ◌≤◌, ◌<◌, true, length, Some, None, IfSome, IfOk, IfErr};
+ghost use Rattle.model_card.specs.Card as machine;
+ghost use Rattle.model_card.specs.Happening.{comes, failed, goes};
+ghost use Rattle.model_card.specs.Said.{said};
+ghost use Rattle.lapd_plain.specs.Faults.{fault_in};
+ghost use Rattle.lapd_plain.specs.Reports.{ShowsPull};
+ghost use Rattle.lapd_plain.specs.Statuses as status;
+ghost use Rattle.lapd_c.specs.Cards.{card_of, kind_in, IsHandle, FramesStand};
+ghost use Rattle.lapd_c.specs.Kinds.{FrameCardStands, for_octets};
+ghost use Rattle.lapd_c.specs.Frames.{after_happening, next_at, IsGiven, ShowsSaid};
+
+use crate::card::CardHandle;
+use crate::kinds::AnyCard;
+use lapd_card::FrameCard;
+use lapd_plain::{
+    NO_CARD, NO_FRAME, OK, PlainReport, WRONG_CARD, WRONG_LENGTH, WRONG_LINE, fault_in,
+};
+use lapd_store::RawShelf;
+use std::alloc::Global;
+
+/// Takes a frame that came from a line, from its address to its information, without its check.
+#[unsafe(no_mangle)]
+pub extern "C" fn lapd_frame(
+    alloc: Global,
+    handle: &mut CardHandle,
+    line: u32,
+    octets: &[u8],
+    report: &mut PlainReport,
+) -> u32
+    requires { IsHandle handle.old }
+    ensures handle { IsHandle handle.new }
+    ensures no_card { card_of handle.old ≡ None
+        → (result ≡ status.no_card) × (handle.new ≡ handle.old) × (report.new ≡ report.old) }
+    ensures wrong_card { kind_in handle.old ≡ Some for_octets
+        → (result ≡ status.wrong_card) × (card_of handle.new ≡ card_of handle.old) × (report.new ≡ report.old) }
+    ensures wrong_line { (m : machine.Card) → FramesStand handle.old m → m.config.lines ≤ line
+        → (result ≡ status.wrong_line) × FramesStand handle.new m × (report.new ≡ report.old) }
+    ensures served { (m : machine.Card) → FramesStand handle.old m → line < m.config.lines
+        → (result ≡ status.ok) × FramesStand handle.new (after_happening (comes line octets.now) m)
+        × ShowsSaid report.new (said m (comes line octets.now)) }
+{
+    let Some(mut card) = handle.take(alloc) else {
+        return NO_CARD;
+    };
+    let AnyCard::Frames(frames) = &mut *card else {
+        handle.put(card);
+        return WRONG_CARD;
+    };
+    let status = take_frame(frames, line, octets, report);
+    handle.put(card);
+    status
+}
+
+fn take_frame(
+    card: &mut FrameCard<RawShelf>,
+    line: u32,
+    octets: &[u8],
+    report: &mut PlainReport,
+) -> u32
+    ensures wrong_line { (m : machine.Card) → FrameCardStands card.old m → m.config.lines ≤ line
+        → (result ≡ status.wrong_line) × FrameCardStands card.new m × (report.new ≡ report.old) }
+    ensures served { (m : machine.Card) → FrameCardStands card.old m → line < m.config.lines
+        → (result ≡ status.ok) × FrameCardStands card.new (after_happening (comes line octets.now) m)
+        × ShowsSaid report.new (said m (comes line octets.now)) }
+{
+    let line = line as usize;
+    if line >= card.lines() {
+        return WRONG_LINE;
+    }
+    let told = card.frame(line, octets);
+    report.show(
+        told.notes(),
+        told.orders(),
+        told.cause,
+        told.lost,
+        told.delivered,
+    );
+    OK
+}
+
+/// The controller of a line told a fault in place of a frame, by its cause: an abort, bits that are no whole octets, a
+/// frame that is too short, or one with an error in its check.
+#[unsafe(no_mangle)]
+pub extern "C" fn lapd_frame_failed(
+    alloc: Global,
+    handle: &mut CardHandle,
+    line: u32,
+    cause: u8,
+    report: &mut PlainReport,
+) -> u32
+    requires { IsHandle handle.old }
+    ensures handle { IsHandle handle.new }
+    ensures no_card { card_of handle.old ≡ None
+        → (result ≡ status.no_card) × (handle.new ≡ handle.old) × (report.new ≡ report.old) }
+    ensures unchanged { card_of handle.new ≡ card_of handle.old }
+    ensures wrong_card { kind_in handle.old ≡ Some for_octets
+        → (result ≡ status.wrong_card) × (report.new ≡ report.old) }
+    ensures wrong_line { (m : machine.Card) → FramesStand handle.old m → m.config.lines ≤ line
+        → (result ≡ status.wrong_line) × (report.new ≡ report.old) }
+    ensures wrong_cause { (m : machine.Card) → FramesStand handle.old m → line < m.config.lines
+        → IfErr (fault_in cause) (λ wrong. (result ≡ wrong) × (report.new ≡ report.old)) }
+    ensures served { (m : machine.Card) → FramesStand handle.old m → line < m.config.lines
+        → IfOk (fault_in cause) (λ fault. (result ≡ status.ok)
+        × FramesStand handle.new (after_happening (failed line fault) m)
+        × ShowsSaid report.new (said m (failed line fault))) }
+{
+    let Some(card) = handle.take(alloc) else {
+        return NO_CARD;
+    };
+    let AnyCard::Frames(frames) = &*card else {
+        handle.put(card);
+        return WRONG_CARD;
+    };
+    let status = tell_fault(frames, line, cause, report);
+    handle.put(card);
+    status
+}
+
+fn tell_fault(card: &FrameCard<RawShelf>, line: u32, cause: u8, report: &mut PlainReport) -> u32
+    ensures wrong_line { (m : machine.Card) → FrameCardStands card.now m → m.config.lines ≤ line
+        → (result ≡ status.wrong_line) × (report.new ≡ report.old) }
+    ensures wrong_cause { (m : machine.Card) → FrameCardStands card.now m → line < m.config.lines
+        → IfErr (fault_in cause) (λ wrong. (result ≡ wrong) × (report.new ≡ report.old)) }
+    ensures served { (m : machine.Card) → FrameCardStands card.now m → line < m.config.lines
+        → IfOk (fault_in cause) (λ fault. (result ≡ status.ok)
+        × FrameCardStands card.now (after_happening (failed line fault) m)
+        × ShowsSaid report.new (said m (failed line fault))) }
+{
+    let line = line as usize;
+    if line >= card.lines() {
+        return WRONG_LINE;
+    }
+    match fault_in(cause) {
+        Ok(fault) => {
+            let told = card.failed(line, fault);
+            report.show(
+                told.notes(),
+                told.orders(),
+                told.cause,
+                told.lost,
+                told.delivered,
+            );
+            OK
+        }
+        Err(wrong) => wrong,
+    }
+}
+
+/// Writes the next frame of a line to be sent in front of `out`, from its address to its information, without its check,
+/// and tells how long it is. There has to be room for the longest: N201 octets and four.
+#[unsafe(no_mangle)]
+pub extern "C" fn lapd_next_frame(
+    alloc: Global,
+    handle: &mut CardHandle,
+    line: u32,
+    out: &mut [u8],
+    count: &mut usize,
+    report: &mut PlainReport,
+) -> u32
+    requires { IsHandle handle.old }
+    ensures handle { IsHandle handle.new }
+    ensures no_card { card_of handle.old ≡ None
+        → (result ≡ status.no_card) × (handle.new ≡ handle.old) × (out.new ≡ out.old) × (count.new ≡ count.old)
+        × (report.new ≡ report.old) }
+    ensures wrong_card { kind_in handle.old ≡ Some for_octets
+        → (result ≡ status.wrong_card) × (card_of handle.new ≡ card_of handle.old) × (out.new ≡ out.old)
+        × (count.new ≡ count.old) × (report.new ≡ report.old) }
+    ensures wrong_line { (m : machine.Card) → FramesStand handle.old m → m.config.lines ≤ line
+        → (result ≡ status.wrong_line) × FramesStand handle.new m × (out.new ≡ out.old) × (count.new ≡ count.old)
+        × (report.new ≡ report.old) }
+    ensures wrong_length { (m : machine.Card) → FramesStand handle.old m → line < m.config.lines
+        → length out.old < m.config.n201 + 4
+        → (result ≡ status.wrong_length) × FramesStand handle.new m × (out.new ≡ out.old) × (count.new ≡ count.old)
+        × (report.new ≡ report.old) }
+    ensures none { (m : machine.Card) → FramesStand handle.old m → line < m.config.lines
+        → m.config.n201 + 4 ≤ length out.old → next_at line m ≡ None
+        → (result ≡ status.no_frame) × FramesStand handle.new m × (out.new ≡ out.old) × (count.new ≡ count.old)
+        × (report.new ≡ report.old) }
+    ensures given { (m : machine.Card) → FramesStand handle.old m → line < m.config.lines
+        → m.config.n201 + 4 ≤ length out.old → IfSome (next_at line m) (λ next.
+        (result ≡ status.ok) × FramesStand handle.new (after_happening (goes line) m)
+        × IsGiven next out.old out.new count.new × ShowsPull report.new true next.orders) }
+{
+    let Some(mut card) = handle.take(alloc) else {
+        return NO_CARD;
+    };
+    let AnyCard::Frames(frames) = &mut *card else {
+        handle.put(card);
+        return WRONG_CARD;
+    };
+    let status = give_frame(frames, line, out, count, report);
+    handle.put(card);
+    status
+}
+
+fn give_frame(
+    card: &mut FrameCard<RawShelf>,
+    line: u32,
+    out: &mut [u8],
+    count: &mut usize,
+    report: &mut PlainReport,
+) -> u32
+    ensures wrong_line { (m : machine.Card) → FrameCardStands card.old m → m.config.lines ≤ line
+        → (result ≡ status.wrong_line) × FrameCardStands card.new m × (out.new ≡ out.old) × (count.new ≡ count.old)
+        × (report.new ≡ report.old) }
+    ensures wrong_length { (m : machine.Card) → FrameCardStands card.old m → line < m.config.lines
+        → length out.old < m.config.n201 + 4
+        → (result ≡ status.wrong_length) × FrameCardStands card.new m × (out.new ≡ out.old)
+        × (count.new ≡ count.old) × (report.new ≡ report.old) }
+    ensures none { (m : machine.Card) → FrameCardStands card.old m → line < m.config.lines
+        → m.config.n201 + 4 ≤ length out.old → next_at line m ≡ None
+        → (result ≡ status.no_frame) × FrameCardStands card.new m × (out.new ≡ out.old)
+        × (count.new ≡ count.old) × (report.new ≡ report.old) }
+    ensures given { (m : machine.Card) → FrameCardStands card.old m → line < m.config.lines
+        → m.config.n201 + 4 ≤ length out.old → IfSome (next_at line m) (λ next.
+        (result ≡ status.ok) × FrameCardStands card.new (after_happening (goes line) m)
+        × IsGiven next out.old out.new count.new × ShowsPull report.new true next.orders) }
+{
+    let line = line as usize;
+    if line >= card.lines() {
+        return WRONG_LINE;
+    }
+    match card.next_frame(line, out) {
+        Ok(Some(next)) => {
+            *count = next.length;
+            report.show_pull(true, next.orders());
+            OK
+        }
+        Ok(None) => NO_FRAME,
+        Err(_) => WRONG_LENGTH,
+    }
+}

@@ -10,7 +10,7 @@ use Rattle.lapd_sim.proofs.setup.Setup.receive.Goals as goal
 pub returns-in-Ok : goal.returns-in-Ok
 returns-in-Ok g c = λ m h.
     let line = c.in_ok-line.ensures.0 in
-    let there : c.args.line < m.card.config.lines = subst (λ n. c.args.line < n) (sym (ap (λ config. config.lines) h.exchange.config)) (subst (λ n. n < c.args.self.now.exchange.config.lines) line c.in_ok-line.ensures.1) in
+    let there : c.args.line < m.card.config.lines = subst (λ n. c.args.line < n) (sym (ap (λ config. config.lines) h.exchange.config)) (subst (λ n. n < c.args.self.now.exchange.plan.config.lines) line c.in_ok-line.ensures.1) in
     let after = after_rx c.args.line c.args.octets.now (scene m) in
     let told : IsPut (output (g.T.Target.taken c.args.target.now) c.args.page.now.items) (output (g.T.Target.taken c.receive.new.target) c.receive.new.page.items) after.text × Holds c.receive.new.exchange after.setup =
     subst (λ n. IsPut (output (g.T.Target.taken c.args.target.now) c.args.page.now.items) (output (g.T.Target.taken c.receive.new.target) c.receive.new.page.items) (after_rx n c.args.octets.now (scene m)).text × Holds c.receive.new.exchange (after_rx n c.args.octets.now (scene m)).setup)

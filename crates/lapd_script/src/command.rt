@@ -1,8 +1,7 @@
 //! What a line of a script says.
 
 use lapd_frame::Service;
-use model_line::Fault;
-use model_line::Config;
+use model_line::{Config, Fault};
 
 /// What layer 3 asks for, in a line that names a card's line and a TEI.
 #[derive(Clone, Copy, PartialEq, Eq, Debug)]

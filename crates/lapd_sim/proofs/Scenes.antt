@@ -5,7 +5,7 @@ use Rattle.std.proofs.lemmas.Bool.{lt-ltb, le-leb, true≢false}
 use Rattle.lapd_script.specs.Meaning as meaning
 use Rattle.lapd_script.specs.declared.command.CardKind.{CardKind}
 use Rattle.lapd_script.specs.declared.command.CardKind.TheVariants.{Octets, Frames}
-use Rattle.lapd_script.specs.declared.kind.FaultKind.TheVariants.{BadNumber, WrongCard, BadLine, BadFrame}
+use Rattle.lapd_script.specs.declared.kind.FaultKind.TheVariants.{BadNumber, BadLine, BadFrame}
 use Rattle.std.proofs.lemmas.List.{append-nil, map-append, take_more, take-append-drop}
 use Rattle.std.proofs.lemmas.Grind.{fold-append}
 use Rattle.model_line.specs.Event.{octet}
@@ -94,22 +94,14 @@ obeyed_at (Err Write) a b P Q true t kind f h = h
 obeyed_at (Err Write) a b P Q false t kind f h = absurd h
 obeyed_at (Err OutOfMemory) a b P Q test t kind f h = absurd h
 
--- a card of the right kind, and of the other
-pub right_octets : (r : Result Unit LineFault) (a b : Output) (Q : Setup → Type 0) {kind : CardKind} (said : Result Scene FaultKind) → kind ≡ Octets → Obeys r a b Q said → Obeys r a b Q (for_octets kind said)
-right_octets r a b Q {Octets} said e h = h
-right_octets r a b Q {Frames} said e h = absurd (cc)
+-- a card of the right kind
+right_octets : (r : Result Unit LineFault) (a b : Output) (Q : Setup → Type 0) (kind : CardKind) (said : Result Scene FaultKind) → kind ≡ Octets → Obeys r a b Q said → Obeys r a b Q (for_octets kind said)
+right_octets r a b Q Octets said e h = h
+right_octets r a b Q Frames said e h = absurd (cc)
 
-pub right_frames : (r : Result Unit LineFault) (a b : Output) (Q : Setup → Type 0) {kind : CardKind} (said : Result Scene FaultKind) → kind ≡ Frames → Obeys r a b Q said → Obeys r a b Q (for_frames kind said)
-right_frames r a b Q {Octets} said e h = absurd (cc)
-right_frames r a b Q {Frames} said e h = h
-
-pub wrong_octets : (a : Output) (Q : Setup → Type 0) (kind : CardKind) (said : Result Scene FaultKind) → (kind ≡ Octets → ⊥) → Obeys (Err (Faulty WrongCard)) a a Q (for_octets kind said)
-wrong_octets a Q Octets said h = absurd (h refl)
-wrong_octets a Q Frames said h = (refl, refl)
-
-pub wrong_frames : (a : Output) (Q : Setup → Type 0) (kind : CardKind) (said : Result Scene FaultKind) → (kind ≡ Frames → ⊥) → Obeys (Err (Faulty WrongCard)) a a Q (for_frames kind said)
-wrong_frames a Q Octets said h = (refl, refl)
-wrong_frames a Q Frames said h = absurd (h refl)
+pub right_frames : (r : Result Unit LineFault) (a b : Output) (Q : Setup → Type 0) (kind : CardKind) (said : Result Scene FaultKind) → kind ≡ Frames → Obeys r a b Q said → Obeys r a b Q (for_frames kind said)
+right_frames r a b Q Octets said e h = absurd (cc)
+right_frames r a b Q Frames said e h = h
 
 -- what happened at a line that is there
 pub obeyed_there : (a b : Output) (Q : Setup → Type 0) (line : ℕ) (s after : Scene) → line < s.setup.card.config.lines → IsPut a b after.text → Q after.setup → Obeys (Ok tt) a b Q (at_line line s after)
@@ -122,16 +114,24 @@ pub pulls_keep : (n line : ℕ) (p : Pulls) → Keeps p.setup (pulls n line p).s
 pulls_keep zero line p = (refl, refl, refl)
 pulls_keep (suc n) line p = pulls_keep n line (one_pull line p)
 
--- what was pulled at a line that is there
-pub pull_obeyed : (a b : Output) (Q : Setup → Type 0) {line at_it : ℕ} → line ≡ at_it → (count : ℕ) (m : Setup) → line < m.card.config.lines
-    → IsPut a b (after_pull line count (scene m)).text → Q (after_pull line count (scene m)).setup → Obeys (Ok tt) a b Q (at_line at_it (scene m) (after_pull at_it count (scene m)))
-pull_obeyed a b Q {line} e count m there written stands =
-    subst (λ n. Obeys (Ok tt) a b Q (at_line n (scene m) (after_pull n count (scene m)))) e (obeyed_there a b Q line (scene m) (after_pull line count (scene m)) there written stands)
+-- octets that came, or were pulled, at a line that is there
+pub rx_obeyed : (a b : Output) (Q : Setup → Type 0) {line at_it : ℕ} → line ≡ at_it → (octets : List ℕ) (m : Setup) → m.kind ≡ Octets → line < m.card.config.lines
+    → IsPut a b (after_rx line octets (scene m)).text → Q (after_rx line octets (scene m)).setup → Obeys (Ok tt) a b Q (with_card (meaning.rx at_it octets) (scene m))
+rx_obeyed a b Q {line} e octets m kind there written stands =
+    subst (λ n. Obeys (Ok tt) a b Q (with_card (meaning.rx n octets) (scene m))) e
+    (right_octets (Ok tt) a b Q m.kind (at_line line (scene m) (after_rx line octets (scene m))) kind (obeyed_there a b Q line (scene m) (after_rx line octets (scene m)) there written stands))
 
-pub pull_broken : (a b : Output) (Q : Setup → Type 0) {line at_it : ℕ} → line ≡ at_it → (count : ℕ) (m : Setup) → line < m.card.config.lines
-    → IsStuck a b (after_pull line count (scene m)).text → Obeys (Err Write) a b Q (at_line at_it (scene m) (after_pull at_it count (scene m)))
-pull_broken a b Q {line} e count m there broken =
-    subst (λ n. Obeys (Err Write) a b Q (at_line n (scene m) (after_pull n count (scene m)))) e (broken_there a b Q line (scene m) (after_pull line count (scene m)) there broken)
+pub pull_obeyed : (a b : Output) (Q : Setup → Type 0) {line at_it : ℕ} → line ≡ at_it → (count : ℕ) (m : Setup) → m.kind ≡ Octets → line < m.card.config.lines
+    → IsPut a b (after_pull line count (scene m)).text → Q (after_pull line count (scene m)).setup → Obeys (Ok tt) a b Q (with_card (meaning.pull at_it count) (scene m))
+pull_obeyed a b Q {line} e count m kind there written stands =
+    subst (λ n. Obeys (Ok tt) a b Q (with_card (meaning.pull n count) (scene m))) e
+    (right_octets (Ok tt) a b Q m.kind (at_line line (scene m) (after_pull line count (scene m))) kind (obeyed_there a b Q line (scene m) (after_pull line count (scene m)) there written stands))
+
+pub pull_broken : (a b : Output) (Q : Setup → Type 0) {line at_it : ℕ} → line ≡ at_it → (count : ℕ) (m : Setup) → m.kind ≡ Octets → line < m.card.config.lines
+    → IsStuck a b (after_pull line count (scene m)).text → Obeys (Err Write) a b Q (with_card (meaning.pull at_it count) (scene m))
+pull_broken a b Q {line} e count m kind there broken =
+    subst (λ n. Obeys (Err Write) a b Q (with_card (meaning.pull n count) (scene m))) e
+    (right_octets (Err Write) a b Q m.kind (at_line line (scene m) (after_pull line count (scene m))) kind (broken_there a b Q line (scene m) (after_pull line count (scene m)) there broken))
 
 -- a frame from the terminal of a line that is there
 three_yes : {X : Type 0} (a b c : Bool) (x : X) (y z : X) → a ≡ true → b ≡ true → c ≡ true → cond a (cond (b && c) x y) z ≡ x

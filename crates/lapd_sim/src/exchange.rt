@@ -177,6 +177,7 @@ impl Exchange {
         requires line { line < self.old.plan.config.lines }
         requires room { 264 ≤ length room.old }
         ensures plan { self.new.plan ≡ self.old.plan }
+        ensures fits { IfSome result (λ count. count ≤ length room.new) }
         ensures next { (m : machine.Setup) → Holds self.old m → IsTaken (taken m.card.config (line_at line m.card)) result room.new }
         ensures after { (m : machine.Setup) → Holds self.old m → Holds self.new (after_happening (goes line) (scene m)).setup }
     {

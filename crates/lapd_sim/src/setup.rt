@@ -13,11 +13,11 @@ use crate::exchange::Exchange;
 use crate::faults::LineFault;
 use crate::parts::{listeners, request_for, terminals};
 use crate::terminal::{LONGEST_FRAME, SHORTEST_FRAME, Terminal};
-use crate::traffic::{pull, receive, send, tell};
+use crate::traffic::{pull, receive, send, tell, tell_next};
 use lapd_bits::Deframer;
 use lapd_card::Fault;
 use lapd_script::{Asked, CardKind, FaultKind};
-use lapd_transcript::{Page, Target, WriteFailed, put_frame, put_nothing};
+use lapd_transcript::{Page, Target, WriteFailed};
 use std::alloc::Global;
 
 /// The card with its clock, and for each line the terminal that sends, and what listens to the octets that are pulled.
@@ -160,11 +160,8 @@ impl Setup {
     {
         self.for_kind(CardKind::Frames)?;
         let line = self.line(line)?;
-        let told = match self.exchange.next(line, room) {
-            Some(count) => put_frame(target, page, line as u16, &room[..count]),
-            None => put_nothing(target, page, line as u16),
-        };
-        match told {
+        let next = self.exchange.next(line, room);
+        match tell_next(line, next, room, target, page) {
             Ok(()) => Ok(()),
             Err(WriteFailed) => Err(LineFault::Write),
         }

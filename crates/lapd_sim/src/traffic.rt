@@ -1,13 +1,15 @@
 //! What comes from a line, and what a line takes.
 
-ghost use Rattle.std.specs.Prelude.{◌≡◌, ◌<◌, ◌≤◌, ℕ, List, [], ◌++◌, length, flat_map, OnOk};
+ghost use Rattle.std.specs.Prelude.{◌≡◌, ◌<◌, ◌≤◌, ℕ, List, [], ◌++◌, length, flat_map, Option, IfSome, OnOk};
 ghost use Rattle.lapd_bits.specs.Framer as framing;
 ghost use Rattle.lapd_bits.specs.Sent.{Item};
 ghost use Rattle.lapd_transcript.specs.Streams.{Puts, output};
 ghost use Rattle.lapd_transcript.specs.Text.{frame_text};
 ghost use Rattle.lapd_script.specs.declared.command.CardKind.TheVariants.{Octets};
 ghost use Rattle.model_sim.specs.Setup as machine;
-ghost use Rattle.model_sim.specs.Steps.{after_rx, pulls, pulled_text};
+ghost use Rattle.model_line.specs.Pull.{Taken};
+ghost use Rattle.model_sim.specs.Steps.{after_rx, pulls, pulled_text, next_text};
+ghost use Rattle.lapd_sim.specs.Boards.{IsTaken};
 ghost use Rattle.lapd_sim.specs.Gives.{Gives};
 ghost use Rattle.lapd_sim.specs.Obeyed.{scene, Tells};
 ghost use Rattle.lapd_sim.specs.Stands.{Hears, Holds, Sends};
@@ -15,7 +17,7 @@ ghost use Rattle.lapd_sim.specs.Stands.{Hears, Holds, Sends};
 use crate::exchange::Exchange;
 use crate::terminal::Terminal;
 use lapd_bits::{Deframer, Heard};
-use lapd_transcript::{Page, Target, WriteFailed, put_frame, put_sent};
+use lapd_transcript::{Page, Target, WriteFailed, put_frame, put_nothing, put_sent};
 
 /// Octets come from a line.
 pub(crate) fn receive<T: Target>(
@@ -127,6 +129,25 @@ pub(crate) fn tell<T: Target>(
         return Err(WriteFailed);
     }
     show_frames(listener, line, octets, target, page)
+}
+
+/// Tells the frame that a line took, of so many octets in the beginning of `room`, or that none waited.
+pub(crate) fn tell_next<T: Target>(
+    line: usize,
+    next: Option<usize>,
+    room: &[u8],
+    target: &mut T,
+    page: &mut Page,
+) -> Result<(), WriteFailed>
+    requires line { line < 65536 }
+    requires fits { IfSome next (λ count. count ≤ length room.now) }
+    ensures { (o : Option Taken) → IsTaken o next room.now
+        → Puts result (output (T.taken target.old) page.old.items) (output (T.taken target.new) page.new.items) (next_text line o) }
+{
+    match next {
+        Some(count) => put_frame(target, page, line as u16, &room[..count]),
+        None => put_nothing(target, page, line as u16),
+    }
 }
 
 /// Tells the frames that are complete in what a line took.

@@ -25,7 +25,7 @@ def packets(steps: Iterable[Step], line: int) -> Iterator[Packet]:
     """The frames of both ways that were heard on a line of the card, with a good check."""
     for step in steps:
         if step.line.about() == line:
-            kind = SENT if step.line.word() == "pull" else RECEIVED
+            kind = SENT if step.line.word() in ("pull", "next") else RECEIVED
             yield from (Packet(step.at, kind, it.octets) for it in step.heard if isinstance(it, Frame))
 
 

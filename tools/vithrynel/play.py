@@ -7,7 +7,7 @@ fall due, so that each note has its moment.
 import math
 from typing import Dict, Iterator, List, NamedTuple, Optional, Set, Tuple
 
-from .bits import Deframer, Heard, Terminal
+from .bits import Deframer, Drop, Frame, Heard, Terminal
 from .program import Ended, Fault, Program
 from .script import Line, lines_of
 
@@ -20,7 +20,7 @@ class Step(NamedTuple):
 
     line: Line
     at: int  # the clock after it, in milliseconds
-    octets: bytes  # those that came from the terminal, or went to it
+    octets: bytes  # those that came from the terminal, or went to it; of a card for frames those of the frame
     heard: List[Heard]  # what ended in them
     answer: List[str]
 
@@ -41,6 +41,7 @@ class Play:
         self.script = script
         self.program = program
         self.clock = 0
+        self.is_for_frames = False
         self.step = SECOND  # what the lengths of all timers are multiples of
         self.moments: Set[int] = set()  # those of lines of the script, but for whole steps
         self.sides: Dict[int, Side] = {}
@@ -56,7 +57,10 @@ class Play:
                         is_early = True
                         break
                     self.clock = at
-                    octets, heard = self.pulled(line, answer) if line.word() == "pull" else (octets, heard)
+                    if line.word() == "pull":
+                        octets, heard = self.pulled(line, answer)
+                    elif line.word() == "next":
+                        octets, heard = taken(answer)
                     yield Step(line, at, octets, heard, answer)
                 else:
                     continue
@@ -78,8 +82,11 @@ class Play:
             self.step = math.gcd(self.step, *line.lengths())
             self.moments = {it % self.step for it in self.moments}
         self.moments.add(self.clock % self.step)
+        self.is_for_frames |= line.word() == "frames"
         if brings is None:
-            yield line.text, self.clock, b"", []
+            yield line.text, self.clock, b"", failed(line)
+        elif self.is_for_frames:
+            yield line.text, self.clock, brings[2], [whole(brings[2])]
         elif brings[0] == "in":
             yield self.framed(line, brings[1], brings[2])
         else:
@@ -115,3 +122,22 @@ class Play:
 
     def side(self, about: int) -> Side:
         return self.sides.setdefault(about, Side())
+
+
+def whole(octets: bytes) -> Heard:
+    """What a frame that comes to a card for frames is heard as."""
+    least = 3 if octets[2:3] and octets[2] & 3 == 3 else 4
+    return Frame(octets) if len(octets) >= least else Drop("short", octets, 8 * len(octets))
+
+
+def failed(line: Line) -> List[Heard]:
+    """What a controller told in place of a frame."""
+    words = line.words()
+    return [Drop(words[2], b"", 0)] if words[0] == "failed" and len(words) == 3 else []
+
+
+def taken(answer: List[str]) -> Tuple[bytes, List[Heard]]:
+    """The frame that a `next` took, if any."""
+    said = answer[0].split(" ") if answer else []
+    octets = bytes.fromhex(said[2]) if said[1:2] == ["frame"] else b""
+    return octets, [Frame(octets)] if octets else []

@@ -38,6 +38,8 @@ def of_frame(at: int, kind: str, octets: bytes) -> Row:
 
 def of_drop(at: int, kind: str, drop: Drop) -> Row:
     """What was no frame, as it stood on the line."""
+    if not drop.bits:
+        return Row(at, kind, "no frame")
     bits = f"{drop.bits} bits" if drop.bits > 1 else "1 bit"
     if drop.cause in ("abort", "ragged"):
         return Row(at, kind, f"{bits}, then seven 1s" if drop.cause == "abort" else bits, digits(drop.octets))
@@ -59,9 +61,9 @@ def of_rest(step: Step) -> Optional[Row]:
 
 
 def of_answer(at: int, said: str) -> Optional[Row]:
-    """What a line of a transcript tells, after the number of its line; nothing of the octets and frames of pulls."""
+    """What a line of a transcript tells, after the number of its line; nothing of what a line takes."""
     word, _, rest = said.partition(" ")
-    if word in ("tx", "frame"):
+    if word in ("tx", "frame", "nothing"):
         return None
     if word in ("dropped", "lost"):
         return Row(at, BESIDE, said)
@@ -89,9 +91,9 @@ def of_step(step: Step, about: int) -> Iterator[Row]:
     """What a step shows on a line of the card."""
     word = step.line.word()
     if step.line.about() == about:
-        if word == "pull":
+        if word in ("pull", "next"):
             yield from (of_heard(step.at, OUT, it) for it in step.heard)
-        elif word in ("rx", "in"):
+        elif word in ("rx", "in", "failed"):
             yield from of_traffic(step)
             rest = of_rest(step) if not step.heard else None
             yield from [rest] if rest else []

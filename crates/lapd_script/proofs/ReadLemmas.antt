@@ -6,7 +6,7 @@ use Rattle.lapd_script.specs.declared.kind.FaultKind.{FaultKind}
 use Rattle.lapd_script.specs.declared.kind.FaultKind.TheVariants.{BadNumberOfWords}
 use Rattle.model_line.specs.declared.config.Config.{Config}
 use Rattle.lapd_script.specs.declared.word.Word.{Word}
-use Rattle.lapd_script.specs.declared.word.Word.TheVariants.{Card, Rx, In, Pull, Wait, Timers, Stored, Ask}
+use Rattle.lapd_script.specs.declared.word.Word.TheVariants.{Card, Rx, In, Failed, Next, Pull, Wait, Timers, Stored, Ask}
 use Rattle.lapd_script.specs.Words.{texts}
 use Rattle.lapd_script.specs.Word.{word_named, carries_octets}
 use Rattle.lapd_script.specs.Number.{number}
@@ -94,9 +94,11 @@ either false x = refl
 
 -- eleven words are too many for each first word, and so are more
 too_many : (word : Word) (a b c d e f g h i j k : List ℕ) (more : List (List ℕ)) → read_as word (a ∷ b ∷ c ∷ d ∷ e ∷ f ∷ g ∷ h ∷ i ∷ j ∷ k ∷ more) ≡ Err BadNumberOfWords
-too_many Card a b c d e f g h i j k more = refl
+too_many (Card kind) a b c d e f g h i j k more = refl
 too_many Rx a b c d e f g h i j k more = refl
 too_many In a b c d e f g h i j k more = refl
+too_many Failed a b c d e f g h i j k more = refl
+too_many Next a b c d e f g h i j k more = refl
 too_many Pull a b c d e f g h i j k more = refl
 too_many Wait a b c d e f g h i j k more = refl
 too_many Timers a b c d e f g h i j k more = refl

@@ -1,6 +1,7 @@
 pub mod Words
 pub mod Number
 pub mod Octets
+pub mod Cause
 pub mod Word
 pub mod Meaning
 pub mod Read

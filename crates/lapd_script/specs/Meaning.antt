@@ -2,19 +2,25 @@
 use Rattle.std.specs.Prelude.{ℕ, ◌≤◌, List, take, Result, Ok, Err}
 use Rattle.lapd_script.specs.declared.kind.FaultKind.{FaultKind}
 use Rattle.lapd_script.specs.declared.command.Asked.{Asked}
+use Rattle.lapd_script.specs.declared.command.CardKind.{CardKind}
+use Rattle.model_line.specs.declared.faults.Fault.{Fault}
 use Rattle.model_line.specs.declared.config.Config.{Config}
 use Rattle.lapd_script.specs.declared.command.Command.{Command}
-use Rattle.lapd_script.specs.declared.command.Command.TheVariants.{Skip, Card, Rx, In, Pull, Wait, Timers, Stored, Ask}
+use Rattle.lapd_script.specs.declared.command.Command.TheVariants.{Skip, Card, Rx, In, Failed, Next, Pull, Wait, Timers, Stored, Ask}
 
 pub data Meaning : Type 0 where
   -- nothing: the line is skipped
   skip : Meaning
-  -- a card is started with this configuration
-  card : Config → Meaning
+  -- a card for octets, or for frames, is started with this configuration
+  card : CardKind → Config → Meaning
   -- these octets come from the line of the card
   rx : ℕ → List ℕ → Meaning
-  -- the line's terminal sends the frame of these octets
+  -- the frame of these octets comes from the line
   into : ℕ → List ℕ → Meaning
+  -- the line's controller tells this fault in place of a frame
+  failed : ℕ → Fault → Meaning
+  -- the line takes the next frame
+  next : ℕ → Meaning
   -- the line takes so many octets
   pull : ℕ → ℕ → Meaning
   -- so many milliseconds pass
@@ -29,9 +35,11 @@ pub data Meaning : Type 0 where
 -- A command counts the octets of its line, which stand at the beginning of a buffer.
 abbrev pub meant : List ℕ → Command → Meaning
 meant buffer Skip = skip
-meant buffer (Card numbers) = card numbers
+meant buffer (Card kind numbers) = card kind numbers
 meant buffer (Rx line count) = rx line (take count buffer)
 meant buffer (In line count) = into line (take count buffer)
+meant buffer (Failed line fault) = failed line fault
+meant buffer (Next line) = next line
 meant buffer (Pull line count) = pull line count
 meant buffer (Wait milliseconds) = wait milliseconds
 meant buffer (Timers t200 t203 t201) = timers t200 t203 t201
@@ -46,9 +54,11 @@ meant_by buffer (Err kind) = Err kind
 -- in one line as a script may say.
 abbrev pub IsCounted : ℕ → Command → Type 0
 IsCounted room Skip = Unit {0}
-IsCounted room (Card numbers) = Unit {0}
+IsCounted room (Card kind numbers) = Unit {0}
 IsCounted room (Rx line count) = count ≤ room
 IsCounted room (In line count) = count ≤ room
+IsCounted room (Failed line fault) = Unit {0}
+IsCounted room (Next line) = Unit {0}
 IsCounted room (Pull line count) = count ≤ 4096
 IsCounted room (Wait milliseconds) = milliseconds ≤ 3600000
 IsCounted room (Timers t200 t203 t201) = Unit {0}

@@ -4,12 +4,13 @@ use Rattle.lapd_script.specs.declared.kind.FaultKind.{FaultKind}
 use Rattle.lapd_script.specs.declared.kind.FaultKind.TheVariants.{UnknownWord, BadNumberOfWords}
 use Rattle.model_line.specs.declared.config.Config.{Config}
 use Rattle.lapd_script.specs.declared.word.Word.{Word}
-use Rattle.lapd_script.specs.declared.word.Word.TheVariants.{Card, Rx, In, Pull, Wait, Timers, Stored, Ask}
+use Rattle.lapd_script.specs.declared.word.Word.TheVariants.{Card, Rx, In, Failed, Next, Pull, Wait, Timers, Stored, Ask}
 use Rattle.lapd_script.specs.Words.{words_of, no_words, one_word, two_words, three_words}
 use Rattle.lapd_script.specs.Number.{number}
 use Rattle.lapd_script.specs.Octets.{octets}
+use Rattle.lapd_script.specs.Cause.{cause}
 use Rattle.lapd_script.specs.Word.{word_named, carries_octets}
-use Rattle.lapd_script.specs.Meaning.{Meaning, skip, card, rx, into, pull, wait, timers, stored, ask}
+use Rattle.lapd_script.specs.Meaning.{Meaning, skip, card, rx, into, failed, next, pull, wait, timers, stored, ask}
 
 -- the second step, where the first one found no fault
 infixl 10 ◌>>=◌
@@ -66,9 +67,9 @@ lengths words = do
 
 -- what each first word takes after it
 abbrev pub read_as : Word → List (List ℕ) → Result Meaning FaultKind
-read_as Card words = do
+read_as (Card kind) words = do
   numbers ← card_numbers words
-  Ok (card numbers)
+  Ok (card kind numbers)
 read_as Rx words = do
   word ← two_words words
   line ← line_number word.0
@@ -79,6 +80,15 @@ read_as In words = do
   line ← line_number word.0
   octets ← octets word.1
   Ok (into line octets)
+read_as Failed words = do
+  word ← two_words words
+  line ← line_number word.0
+  fault ← cause word.1
+  Ok (failed line fault)
+read_as Next words = do
+  word ← one_word words
+  line ← line_number word
+  Ok (next line)
 read_as Pull words = do
   word ← two_words words
   line ← line_number word.0

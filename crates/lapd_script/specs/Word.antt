@@ -3,8 +3,9 @@ use Rattle.std.specs.Prelude.{ℕ, Bool, true, false, if◌then◌else◌, List,
 use Rattle.lapd_frame.specs.declared.services.Service.TheVariants.{Call, Packet}
 use Rattle.lapd_script.specs.declared.command.Asked.{Asked}
 use Rattle.lapd_script.specs.declared.command.Asked.TheVariants.{Assign, Remove, Check, Establish, Release, SetBusy, ClearBusy, Data, Unit}
+use Rattle.lapd_script.specs.declared.command.CardKind.TheVariants.{Octets, Frames}
 use Rattle.lapd_script.specs.declared.word.Word.{Word}
-use Rattle.lapd_script.specs.declared.word.Word.TheVariants.{Card, Rx, In, Pull, Wait, Timers, Stored, Ask}
+use Rattle.lapd_script.specs.declared.word.Word.TheVariants.{Card, Rx, In, Failed, Next, Pull, Wait, Timers, Stored, Ask}
 
 -- what is asked for, of a line and a TEI; for packet links (SAPI 16) with 16 after the word
 abbrev pub asked_named : List ℕ → Option Asked
@@ -28,9 +29,12 @@ asked_named name =
 
 abbrev pub word_named : List ℕ → Option Word
 word_named name =
-    if bytes_eq name (codes "card") then Some Card
+    if bytes_eq name (codes "card") then Some (Card Octets)
+    else if bytes_eq name (codes "frames") then Some (Card Frames)
     else if bytes_eq name (codes "rx") then Some Rx
     else if bytes_eq name (codes "in") then Some In
+    else if bytes_eq name (codes "failed") then Some Failed
+    else if bytes_eq name (codes "next") then Some Next
     else if bytes_eq name (codes "pull") then Some Pull
     else if bytes_eq name (codes "wait") then Some Wait
     else if bytes_eq name (codes "timers") then Some Timers

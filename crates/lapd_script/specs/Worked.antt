@@ -2,9 +2,11 @@
 use Rattle.std.specs.Prelude.{◌≡◌, true, false, [], ◌∷◌, codes, Some, None, Ok, Err, refl}
 use Rattle.hex.specs.Hex.{decode_pairs}
 use Rattle.lapd_frame.specs.declared.services.Service.TheVariants.{Call, Packet}
-use Rattle.lapd_script.specs.declared.kind.FaultKind.TheVariants.{UnknownWord, BadNumberOfWords, BadNumber, BadOctets}
+use Rattle.lapd_script.specs.declared.kind.FaultKind.TheVariants.{UnknownWord, BadNumberOfWords, BadNumber, BadOctets, BadCause}
 use Rattle.lapd_script.specs.declared.command.Asked as asked
-use Rattle.lapd_script.specs.Meaning.{skip, card, rx, into, pull, wait, timers, stored, ask}
+use Rattle.lapd_script.specs.declared.command.CardKind.TheVariants.{Octets, Frames}
+use Rattle.model_line.specs.declared.faults.Fault.TheVariants.{Ragged}
+use Rattle.lapd_script.specs.Meaning.{skip, card, rx, into, failed, next, pull, wait, timers, stored, ask}
 use Rattle.lapd_script.specs.Read.{read}
 use Rattle.lapd_script.specs.Job.{job, run, frame, limits}
 use Rattle.lapd_script.specs.Bound.{bound}
@@ -15,10 +17,10 @@ empty = refl
 comment : read (codes "# anything") ≡ Ok skip
 comment = refl
 
-nine : read (codes "card 1 8 7 8 4 4 64 260 3") ≡ Ok (card (record { lines = 1; terminals = 8; k = 7; queue = 8; unit_queue = 4; control = 4; slots = 64; n201 = 260; n200 = 3; k16 = 7 }))
+nine : read (codes "card 1 8 7 8 4 4 64 260 3") ≡ Ok (card Octets (record { lines = 1; terminals = 8; k = 7; queue = 8; unit_queue = 4; control = 4; slots = 64; n201 = 260; n200 = 3; k16 = 7 }))
 nine = refl
 
-ten : read (codes "card 1 8 7 8 4 4 64 260 3 015") ≡ Ok (card (record { lines = 1; terminals = 8; k = 7; queue = 8; unit_queue = 4; control = 4; slots = 64; n201 = 260; n200 = 3; k16 = 15 }))
+ten : read (codes "card 1 8 7 8 4 4 64 260 3 015") ≡ Ok (card Octets (record { lines = 1; terminals = 8; k = 7; queue = 8; unit_queue = 4; control = 4; slots = 64; n201 = 260; n200 = 3; k16 = 15 }))
 ten = refl
 
 octets_from_line : read (codes "rx 0 7e0081EF") ≡ Ok (rx 0 (126 ∷ 0 ∷ 129 ∷ 239 ∷ []))
@@ -36,6 +38,15 @@ no_digits = refl
 a_frame : read (codes "in 63 00817F") ≡ Ok (into 63 (0 ∷ 129 ∷ 127 ∷ []))
 unfolding decode_pairs
 a_frame = refl
+
+for_frames : read (codes "frames 1 8 7 8 4 4 64 260 3") ≡ Ok (card Frames (record { lines = 1; terminals = 8; k = 7; queue = 8; unit_queue = 4; control = 4; slots = 64; n201 = 260; n200 = 3; k16 = 7 }))
+for_frames = refl
+
+no_frame : read (codes "failed 0 ragged") ≡ Ok (failed 0 Ragged)
+no_frame = refl
+
+next_frame : read (codes "next 63") ≡ Ok (next 63)
+next_frame = refl
 
 pulls : read (codes "pull 0 4096") ≡ Ok (pull 0 4096)
 pulls = refl
@@ -97,6 +108,12 @@ odd_digits = refl
 no_hexadecimal : read (codes "rx 0 7G") ≡ Err BadOctets
 unfolding decode_pairs
 no_hexadecimal = refl
+
+no_cause : read (codes "failed 0 FCS") ≡ Err BadCause
+no_cause = refl
+
+number_before_cause : read (codes "failed x crc") ≡ Err BadNumber
+number_before_cause = refl
 
 -- the program's words
 one_word : job (codes "run" ∷ []) ≡ Some run

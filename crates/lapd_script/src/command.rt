@@ -1,7 +1,7 @@
 //! What a line of a script says.
 
 use lapd_frame::Service;
-use model_line::Config;
+use model_line::{Config, Fault};
 
 /// What layer 3 asks for, in a line that names a card's line and a TEI.
 #[derive(Clone, Copy, PartialEq, Eq, Debug)]
@@ -26,14 +26,23 @@ pub enum Asked {
     Unit(Service),
 }
 
+/// What goes between a card and its lines.
+#[derive(Clone, Copy, PartialEq, Eq, Debug)]
+pub enum CardKind {
+    /// `card`: octets, one after the other.
+    Octets,
+    /// `frames`: whole frames, as a controller does the rest.
+    Frames,
+}
+
 /// What a line of a script says. A line of the card is its number, from 0.
 #[derive(Clone, Copy, PartialEq, Eq, Debug)]
 pub enum Command {
     /// Nothing: the line is empty, or begins with `#`.
     Skip,
-    /// `card`: starts a card with these sizes and limits, which are any numbers of 16 bits. In the line `k16` stands last,
-    /// and it is `k` where it is left out.
-    Card(Config),
+    /// `card`, `frames`: starts a card with these sizes and limits, which are any numbers of 16 bits. In the line `k16`
+    /// stands last, and it is `k` where it is left out.
+    Card(CardKind, Config),
     /// `rx LINE HEX`: octets come from the line.
     Rx {
         /// The card's line.
@@ -41,12 +50,24 @@ pub enum Command {
         /// How many octets HEX stands for.
         octets: usize,
     },
-    /// `in LINE HEX`: the line's terminal sends a frame.
+    /// `in LINE HEX`: a frame comes from the line.
     In {
         /// The card's line.
         line: u16,
         /// How many octets HEX stands for.
         octets: usize,
+    },
+    /// `failed LINE CAUSE`: the line's controller has no frame, where one had begun.
+    Failed {
+        /// The card's line.
+        line: u16,
+        /// Why it has none.
+        fault: Fault,
+    },
+    /// `next LINE`: the line takes the next frame.
+    Next {
+        /// The card's line.
+        line: u16,
     },
     /// `pull LINE N`: the line takes 1 to 4,096 octets.
     Pull {

@@ -20,15 +20,19 @@ pub enum FaultKind {
     BadNumber,
     /// A word that stands for octets is neither an even number of hexadecimal digits nor `-`.
     BadOctets,
+    /// A word that stands for a cause is none of `fcs`, `abort`, `ragged` and `short`.
+    BadCause,
     /// A line that needs the card stands before the card line.
     NoCard,
     /// There was a card line before.
     SecondCard,
     /// The card line has a configuration that is out of range.
     BadCard,
+    /// The line is about octets where the card is for frames, or about frames where it is for octets.
+    WrongCard,
     /// The card does not have the line.
     BadLine,
-    /// The frame of an `in` has fewer than 3 or more than 1,028 octets.
+    /// The frame of an `in` has fewer than 3 or more than 1,028 octets, at a card for octets.
     BadFrame,
     /// The clock would pass `2^63 - 1` ms.
     TimeOver,
@@ -45,9 +49,11 @@ impl FaultKind {
             FaultKind::BadNumberOfWords => "bad number of words",
             FaultKind::BadNumber => "bad number",
             FaultKind::BadOctets => "bad octets",
+            FaultKind::BadCause => "bad cause",
             FaultKind::NoCard => "no card",
             FaultKind::SecondCard => "second card",
             FaultKind::BadCard => "bad card",
+            FaultKind::WrongCard => "wrong card",
             FaultKind::BadLine => "bad line",
             FaultKind::BadFrame => "bad frame",
             FaultKind::TimeOver => "time over",

@@ -5,12 +5,13 @@
 //! - `command`: what a line says.
 //! - `word`: the first words.
 //! - `words`: the words of a line, and how many a line takes.
-//! - `number`, `hex_word`: words that stand for numbers and for octets.
+//! - `number`, `hex_word`, `cause_word`: words that stand for numbers, for octets and for causes.
 //! - `read`: reads a line.
 //! - `jobs`, `arguments`: what the program can be asked for, and its words.
 #![tactic(auto)]
 
 mod arguments;
+mod cause_word;
 mod command;
 mod hex_word;
 mod jobs;
@@ -21,7 +22,7 @@ mod word;
 mod words;
 
 pub use arguments::job;
-pub use command::{Asked, Command};
+pub use command::{Asked, CardKind, Command};
 pub use hex_word::octets;
 pub use jobs::{Job, Limits};
 pub use kind::FaultKind;

@@ -6,6 +6,7 @@ ghost use Rattle.lapd_script.specs.Meaning.{meant_by, IsCounted};
 ghost use Rattle.lapd_script.specs.Read.{read, read_words, read_as, lengths, card_numbers, nine_numbers, three_numbers};
 ghost use Rattle.lapd_script.specs.declared.word.Word.TheVariants.{Ask};
 
+use crate::cause_word::cause;
 use crate::command::{Asked, Command};
 use crate::hex_word::octets;
 use crate::kind::FaultKind;
@@ -21,8 +22,8 @@ use model_line::Config;
 ///
 /// # Errors
 ///
-/// The first that holds of `UnknownWord`, `BadNumberOfWords`, `BadNumber` and `BadOctets`, which are what can be
-/// wrong with a line by itself.
+/// The first that holds of `UnknownWord`, `BadNumberOfWords`, `BadNumber`, `BadOctets` and `BadCause`, which are what
+/// can be wrong with a line by itself.
 pub fn read_line(line: &[u8], room: &mut [u8]) -> Result<Command, FaultKind>
     requires room { length line.now ≤ 2 * length room.old }
     ensures read { meant_by room.new result ≡ read line.now }
@@ -61,7 +62,7 @@ fn read_as(word: Word, words: &[&[u8]], room: &mut [u8]) -> Result<Command, Faul
     ensures rest { (n : ℕ) → All (λ word. length word.now ≤ n) words.now → drop (n / 2) room.new ≡ drop (n / 2) room.old }
 {
     match word {
-        Word::Card => Ok(Command::Card(card_numbers(words)?)),
+        Word::Card(kind) => Ok(Command::Card(kind, card_numbers(words)?)),
         Word::Rx => {
             let (line, digits) = two(words)?;
             let line = short(line)?;
@@ -73,6 +74,16 @@ fn read_as(word: Word, words: &[&[u8]], room: &mut [u8]) -> Result<Command, Faul
             let line = short(line)?;
             let octets = octets(digits, room)?;
             Ok(Command::In { line, octets })
+        }
+        Word::Failed => {
+            let (line, name) = two(words)?;
+            let line = short(line)?;
+            let fault = cause(name)?;
+            Ok(Command::Failed { line, fault })
+        }
+        Word::Next => {
+            let line = short(one(words)?)?;
+            Ok(Command::Next { line })
         }
         Word::Pull => {
             let (line, count) = two(words)?;

@@ -3,15 +3,17 @@
 ghost use Rattle.std.specs.Prelude.{◌≡◌};
 ghost use Rattle.lapd_script.specs.Word.{word_named, asked_named, carries_octets};
 
-use crate::command::Asked;
+use crate::command::{Asked, CardKind};
 use lapd_frame::Service;
 
 /// The first word of a line.
 #[derive(Clone, Copy)]
 pub(crate) enum Word {
-    Card,
+    Card(CardKind),
     Rx,
     In,
+    Failed,
+    Next,
     Pull,
     Wait,
     Timers,
@@ -25,11 +27,17 @@ impl Word {
         ensures { result ≡ word_named name.now }
     {
         if name == b"card".as_slice() {
-            Some(Word::Card)
+            Some(Word::Card(CardKind::Octets))
+        } else if name == b"frames".as_slice() {
+            Some(Word::Card(CardKind::Frames))
         } else if name == b"rx".as_slice() {
             Some(Word::Rx)
         } else if name == b"in".as_slice() {
             Some(Word::In)
+        } else if name == b"failed".as_slice() {
+            Some(Word::Failed)
+        } else if name == b"next".as_slice() {
+            Some(Word::Next)
         } else if name == b"pull".as_slice() {
             Some(Word::Pull)
         } else if name == b"wait".as_slice() {

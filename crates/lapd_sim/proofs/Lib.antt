@@ -11,6 +11,8 @@ pub mod Wholes
 pub mod Playing
 pub mod Paging
 pub mod Exchanges
+pub mod Boards
+pub mod Happened
 pub mod Refusing
 pub mod Waits
 pub mod Octets

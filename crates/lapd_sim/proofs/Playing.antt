@@ -25,9 +25,9 @@ use Rattle.lapd_sim.specs.declared.lines.ScriptLines.{ScriptLines}
 use Rattle.lapd_sim.specs.Faults.{fault_at}
 use Rattle.lapd_sim.specs.Pages.{PutsSome}
 use Rattle.lapd_sim.specs.ScriptLines.{AreLeft, IsNext, IsTooLong, Advances, held}
-use Rattle.lapd_sim.specs.Obeyed.{Said, Does, StartsBy, said, said_by, said_of, said_with, said_without, scene}
+use Rattle.lapd_sim.specs.Obeyed.{Said, Does, Obeys, StartsBy, said, said_by, said_of, said_with, said_without, scene}
 use Rattle.lapd_sim.specs.Plays.{PlaysOn, AreAnswered}
-use Rattle.lapd_sim.specs.Stands.{Has}
+use Rattle.lapd_sim.specs.Stands.{Has, Stands}
 use Rattle.lapd_sim.proofs.Wholes.{AreWhole, no_whole, whole_more, first_whole, some_octet, split_first, read_whole}
 
 -- These pieces of the text have been played without a fault, and what is left of it is still to be read.
@@ -361,3 +361,20 @@ pub starts : (before setup : Option Setup) (a : Output) (meaning : Meaning) (lin
 starts before setup a meaning line m e h is k =
     subst (λ n. Does (Ok tt) a a n (Has setup) (said line n)) (sym (has_none before m e h))
     (subst (λ r. Does (Ok tt) a a None (Has setup) (said_by r None)) is (starts_as setup a (without_card meaning) k))
+
+-- a line that the card obeys
+goes_as : (r : Result Unit LineFault) (setup : Setup) (a b : Output) (m : machine.Setup) (x : Result Scene FaultKind) → Obeys r a b (Stands setup) x
+    → Does r a b (Some m) (Has (Some setup)) (said_with x)
+goes_as (Ok u) setup a b m (Ok s) h = h
+goes_as (Ok u) setup a b m (Err kind) h = absurd h
+goes_as (Err (Faulty kind)) setup a b m x h = (h.0, ap said_with h.1)
+goes_as (Err line.Write) setup a b m (Ok s) h = h
+goes_as (Err line.Write) setup a b m (Err kind) h = absurd h
+goes_as (Err line.OutOfMemory) setup a b m x h = absurd h
+
+pub goes : (before : Option Setup) (old new : Setup) (r : Result Unit LineFault) (a b : Output) (meaning : Meaning) (line : List ℕ) (m : Option machine.Setup) → before ≡ Some old → Has before m → Ok meaning ≡ read line
+    → ((n : machine.Setup) → Stands old n → Obeys r a b (Stands new) (with_card meaning (scene n))) → Does r a b m (Has (Some new)) (said line m)
+goes before old new r a b meaning line None e h is k = absurd (subst (λ x. Has x None) e h)
+goes before old new r a b meaning line (Some n) e h is k =
+    subst (λ x. Does r a b (Some n) (Has (Some new)) (said_by x (Some n))) is
+    (goes_as r new a b n (with_card meaning (scene n)) (k n (subst (λ x. Has x (Some n)) e h)))

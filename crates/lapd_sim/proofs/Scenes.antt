@@ -3,6 +3,8 @@ use Rattle.std.proofs.Common.{◌≡◌, ℕ, zero, suc, ◌+◌, ◌<◌, ◌�
 use Rattle.std.specs.Prelude.{◌&&◌}
 use Rattle.std.proofs.lemmas.Bool.{lt-ltb, le-leb, true≢false}
 use Rattle.lapd_script.specs.Meaning as meaning
+use Rattle.lapd_script.specs.declared.command.CardKind.{CardKind}
+use Rattle.lapd_script.specs.declared.command.CardKind.TheVariants.{Octets, Frames}
 use Rattle.lapd_script.specs.declared.kind.FaultKind.TheVariants.{BadNumber, BadLine, BadFrame}
 use Rattle.std.proofs.lemmas.List.{append-nil, map-append, take_more, take-append-drop}
 use Rattle.std.proofs.lemmas.Grind.{fold-append}
@@ -15,7 +17,7 @@ use Rattle.model_sim.specs.Setup.{Setup}
 use Rattle.lapd_clock.specs.declared.fault.LengthFault.{LengthFault}
 use Rattle.lapd_clock.specs.Timers.{due_at}
 use Rattle.lapd_script.specs.declared.kind.FaultKind.{FaultKind}
-use Rattle.model_sim.specs.Steps.{Scene, with_event, with_events, octets_at, after_rx, at_line, answer_text, expiries, expired, Pulls, pulls, one_pull, after_pull, after_in, with_card}
+use Rattle.model_sim.specs.Steps.{Scene, with_event, with_events, octets_at, after_rx, at_line, answer_text, expiries, expired, Pulls, pulls, one_pull, after_pull, after_in, after_coming, can_come, for_octets, for_frames, with_card}
 use Rattle.lapd_sim.specs.declared.faults.LineFault.{LineFault}
 use Rattle.lapd_sim.specs.declared.faults.LineFault.TheVariants.{Faulty, Write, OutOfMemory}
 use Rattle.lapd_sim.specs.Obeyed.{Obeys, scene}
@@ -92,6 +94,15 @@ obeyed_at (Err Write) a b P Q true t kind f h = h
 obeyed_at (Err Write) a b P Q false t kind f h = absurd h
 obeyed_at (Err OutOfMemory) a b P Q test t kind f h = absurd h
 
+-- a card of the right kind
+right_octets : (r : Result Unit LineFault) (a b : Output) (Q : Setup → Type 0) (kind : CardKind) (said : Result Scene FaultKind) → kind ≡ Octets → Obeys r a b Q said → Obeys r a b Q (for_octets kind said)
+right_octets r a b Q Octets said e h = h
+right_octets r a b Q Frames said e h = absurd (cc)
+
+pub right_frames : (r : Result Unit LineFault) (a b : Output) (Q : Setup → Type 0) (kind : CardKind) (said : Result Scene FaultKind) → kind ≡ Frames → Obeys r a b Q said → Obeys r a b Q (for_frames kind said)
+right_frames r a b Q Octets said e h = absurd (cc)
+right_frames r a b Q Frames said e h = h
+
 -- what happened at a line that is there
 pub obeyed_there : (a b : Output) (Q : Setup → Type 0) (line : ℕ) (s after : Scene) → line < s.setup.card.config.lines → IsPut a b after.text → Q after.setup → Obeys (Ok tt) a b Q (at_line line s after)
 obeyed_there a b Q line s after there written stands = subst (λ said. Obeys (Ok tt) a b Q said) (sym (at_line_is line s after there)) (written, stands)
@@ -103,16 +114,24 @@ pub pulls_keep : (n line : ℕ) (p : Pulls) → Keeps p.setup (pulls n line p).s
 pulls_keep zero line p = (refl, refl, refl)
 pulls_keep (suc n) line p = pulls_keep n line (one_pull line p)
 
--- what was pulled at a line that is there
-pub pull_obeyed : (a b : Output) (Q : Setup → Type 0) {line at_it : ℕ} → line ≡ at_it → (count : ℕ) (m : Setup) → line < m.card.config.lines
-    → IsPut a b (after_pull line count (scene m)).text → Q (after_pull line count (scene m)).setup → Obeys (Ok tt) a b Q (at_line at_it (scene m) (after_pull at_it count (scene m)))
-pull_obeyed a b Q {line} e count m there written stands =
-    subst (λ n. Obeys (Ok tt) a b Q (at_line n (scene m) (after_pull n count (scene m)))) e (obeyed_there a b Q line (scene m) (after_pull line count (scene m)) there written stands)
+-- octets that came, or were pulled, at a line that is there
+pub rx_obeyed : (a b : Output) (Q : Setup → Type 0) {line at_it : ℕ} → line ≡ at_it → (octets : List ℕ) (m : Setup) → m.kind ≡ Octets → line < m.card.config.lines
+    → IsPut a b (after_rx line octets (scene m)).text → Q (after_rx line octets (scene m)).setup → Obeys (Ok tt) a b Q (with_card (meaning.rx at_it octets) (scene m))
+rx_obeyed a b Q {line} e octets m kind there written stands =
+    subst (λ n. Obeys (Ok tt) a b Q (with_card (meaning.rx n octets) (scene m))) e
+    (right_octets (Ok tt) a b Q m.kind (at_line line (scene m) (after_rx line octets (scene m))) kind (obeyed_there a b Q line (scene m) (after_rx line octets (scene m)) there written stands))
 
-pub pull_broken : (a b : Output) (Q : Setup → Type 0) {line at_it : ℕ} → line ≡ at_it → (count : ℕ) (m : Setup) → line < m.card.config.lines
-    → IsStuck a b (after_pull line count (scene m)).text → Obeys (Err Write) a b Q (at_line at_it (scene m) (after_pull at_it count (scene m)))
-pull_broken a b Q {line} e count m there broken =
-    subst (λ n. Obeys (Err Write) a b Q (at_line n (scene m) (after_pull n count (scene m)))) e (broken_there a b Q line (scene m) (after_pull line count (scene m)) there broken)
+pub pull_obeyed : (a b : Output) (Q : Setup → Type 0) {line at_it : ℕ} → line ≡ at_it → (count : ℕ) (m : Setup) → m.kind ≡ Octets → line < m.card.config.lines
+    → IsPut a b (after_pull line count (scene m)).text → Q (after_pull line count (scene m)).setup → Obeys (Ok tt) a b Q (with_card (meaning.pull at_it count) (scene m))
+pull_obeyed a b Q {line} e count m kind there written stands =
+    subst (λ n. Obeys (Ok tt) a b Q (with_card (meaning.pull n count) (scene m))) e
+    (right_octets (Ok tt) a b Q m.kind (at_line line (scene m) (after_pull line count (scene m))) kind (obeyed_there a b Q line (scene m) (after_pull line count (scene m)) there written stands))
+
+pub pull_broken : (a b : Output) (Q : Setup → Type 0) {line at_it : ℕ} → line ≡ at_it → (count : ℕ) (m : Setup) → m.kind ≡ Octets → line < m.card.config.lines
+    → IsStuck a b (after_pull line count (scene m)).text → Obeys (Err Write) a b Q (with_card (meaning.pull at_it count) (scene m))
+pull_broken a b Q {line} e count m kind there broken =
+    subst (λ n. Obeys (Err Write) a b Q (with_card (meaning.pull n count) (scene m))) e
+    (right_octets (Err Write) a b Q m.kind (at_line line (scene m) (after_pull line count (scene m))) kind (broken_there a b Q line (scene m) (after_pull line count (scene m)) there broken))
 
 -- a frame from the terminal of a line that is there
 three_yes : {X : Type 0} (a b c : Bool) (x : X) (y z : X) → a ≡ true → b ≡ true → c ≡ true → cond a (cond (b && c) x y) z ≡ x
@@ -121,20 +140,27 @@ three_yes false b c x y z e f h = absurd (true≢false (sym e))
 three_yes true false c x y z e f h = absurd (true≢false (sym f))
 three_yes true true false x y z e f h = absurd (true≢false (sym h))
 
-frame_is : (line : ℕ) (frame : List ℕ) (s : Scene) → line < s.setup.card.config.lines → 3 ≤ length frame → length frame ≤ 1028
+into_octets : (kind : CardKind) (test : Bool) (line : ℕ) (frame : List ℕ) (s : Scene) → kind ≡ Octets
+    → cond test (cond (can_come kind frame) (Ok (after_coming kind line frame s)) (Err BadFrame)) (Err BadLine)
+    ≡ cond test (cond (nat_le 3 (length frame) && nat_le (length frame) 1028) (Ok (after_in line frame s)) (Err BadFrame)) (Err BadLine)
+into_octets Octets test line frame s e = refl
+into_octets Frames test line frame s e = absurd (cc)
+
+frame_is : (line : ℕ) (frame : List ℕ) (s : Scene) → s.setup.kind ≡ Octets → line < s.setup.card.config.lines → 3 ≤ length frame → length frame ≤ 1028
     → with_card (meaning.into line frame) s ≡ Ok (after_in line frame s)
-frame_is line frame s there short long =
-    three_yes (nat_lt line s.setup.card.config.lines) (nat_le 3 (length frame)) (nat_le (length frame) 1028) (Ok (after_in line frame s)) (Err BadFrame) (Err BadLine)
+frame_is line frame s kind there short long =
+    into_octets s.setup.kind (nat_lt line s.setup.card.config.lines) line frame s kind
+    ∙ three_yes (nat_lt line s.setup.card.config.lines) (nat_le 3 (length frame)) (nat_le (length frame) 1028) (Ok (after_in line frame s)) (Err BadFrame) (Err BadLine)
     (lt-ltb line s.setup.card.config.lines there) (le-leb 3 (length frame) short) (le-leb (length frame) 1028 long)
 
-pub frame_obeyed : (a b : Output) (Q : Setup → Type 0) {line at_it : ℕ} → line ≡ at_it → (frame : List ℕ) (m : Setup) → line < m.card.config.lines → 3 ≤ length frame → length frame ≤ 1028
+pub frame_obeyed : (a b : Output) (Q : Setup → Type 0) {line at_it : ℕ} → line ≡ at_it → (frame : List ℕ) (m : Setup) → m.kind ≡ Octets → line < m.card.config.lines → 3 ≤ length frame → length frame ≤ 1028
     → IsPut a b (after_in line frame (scene m)).text → Q (after_in line frame (scene m)).setup → Obeys (Ok tt) a b Q (with_card (meaning.into at_it frame) (scene m))
-frame_obeyed a b Q {line} e frame m there short long written stands =
+frame_obeyed a b Q {line} e frame m kind there short long written stands =
     subst (λ n. Obeys (Ok tt) a b Q (with_card (meaning.into n frame) (scene m))) e
-    (subst (λ said. Obeys (Ok tt) a b Q said) (sym (frame_is line frame (scene m) there short long)) (written, stands))
+    (subst (λ said. Obeys (Ok tt) a b Q said) (sym (frame_is line frame (scene m) kind there short long)) (written, stands))
 
-pub frame_broken : (a b : Output) (Q : Setup → Type 0) {line at_it : ℕ} → line ≡ at_it → (frame : List ℕ) (m : Setup) → line < m.card.config.lines → 3 ≤ length frame → length frame ≤ 1028
+pub frame_broken : (a b : Output) (Q : Setup → Type 0) {line at_it : ℕ} → line ≡ at_it → (frame : List ℕ) (m : Setup) → m.kind ≡ Octets → line < m.card.config.lines → 3 ≤ length frame → length frame ≤ 1028
     → IsStuck a b (after_in line frame (scene m)).text → Obeys (Err Write) a b Q (with_card (meaning.into at_it frame) (scene m))
-frame_broken a b Q {line} e frame m there short long broken =
+frame_broken a b Q {line} e frame m kind there short long broken =
     subst (λ n. Obeys (Err Write) a b Q (with_card (meaning.into n frame) (scene m))) e
-    (subst (λ said. Obeys (Err Write) a b Q said) (sym (frame_is line frame (scene m) there short long)) broken)
+    (subst (λ said. Obeys (Err Write) a b Q said) (sym (frame_is line frame (scene m) kind there short long)) broken)

@@ -10,11 +10,11 @@ use Rattle.model_line.specs.Event as line_event
 use Rattle.model_sim.specs.Setup.{Setup, happened}
 use Rattle.model_sim.specs.Steps.{Scene, answer_text, with_event, at_expiry, expired, until}
 use Rattle.lapd_sim.specs.Obeyed.{scene, Tells}
-use Rattle.lapd_sim.specs.Stands.{as_store, Holds}
+use Rattle.lapd_sim.specs.Boards.{OnBoard}
+use Rattle.lapd_sim.specs.Stands.{Holds}
+use Rattle.lapd_sim.specs.declared.board.Plan.{Plan}
+use Rattle.lapd_sim.specs.declared.board.Board.{Board}
 use Rattle.lapd_sim.specs.declared.exchange.Exchange.{Exchange}
-use Rattle.lapd_card.specs.Card.{Held}
-use Rattle.lapd_card.specs.Stands.{Stands}
-use Rattle.lapd_store.specs.Store.{Store}
 use Rattle.lapd_transcript.proofs.Known.{puts_nothing, puts_then, stuck_more}
 use Rattle.lapd_transcript.specs.Streams.{Output, IsPut, IsStuck}
 use Rattle.lapd_transcript.specs.declared.streams.WriteFailed.{WriteFailed}
@@ -69,22 +69,23 @@ wait_lowers e middle new end due is out event =
     let prop : IsProp (time_until end new.clock < time_until end e.clock) = hlevel props in
     ∥∥₁_elim e.past prop (λ p.
     let (now, config, stands) = p in
-    let m : Setup = record { card = now; clock = e.clock; now = e.moment; terminals = []; taken = [] } in
+    let m : Setup = record { kind = e.plan.kind; card = now; clock = e.clock; now = e.moment; terminals = []; taken = [] } in
     let held : Holds new (happened (at_expiry end m) (at due.0 (line_event.expiry due.1))) =
-    event (at_expiry end m) (out m (record { config = config; card = stands; clock = refl; now = refl })) in
+    event (at_expiry end m) (out m (record { kind = refl; config = config; card = stands; clock = refl; now = refl })) in
     subst (λ c. time_until end c < time_until end e.clock) (sym held.clock) (expiry_lowers end due.0 due.1 due m e.lengths (sym is)))
 
 -- at the end, the moment is the end
 pub waits_over : (e new : Exchange) (before after : Output) (end : ℕ) (m : Setup) (u : Unit {0}) → None ≡ due_at e.clock end → Waits e before after end m
-    → new.config ≡ e.config → new.card ≡ e.card → new.clock ≡ e.clock → new.moment ≡ end → Tells {E = WriteFailed} (Ok u) before after (Holds new) (until end (scene m))
-waits_over e new before after end m u is w config card clock now =
+    → new.plan ≡ e.plan → new.board ≡ e.board → new.clock ≡ e.clock → new.moment ≡ end → Tells {E = WriteFailed} (Ok u) before after (Holds new) (until end (scene m))
+waits_over e new before after end m u is w plan board clock now =
     let over : until end (scene m) ≡ record w.by_now { setup = record w.by_now.setup { now = end } } =
     w.same ∙ until-over end w.by_now (ap (λ c. due_at c end) (sym w.holds.clock) ∙ sym is) in
     subst (λ (s : Scene). IsPut before after s.text × Holds new s.setup) (sym over) (
       w.written,
       record {
-        config = w.holds.config ∙ sym config;
-        card = subst (λ (c : Held Store). Stands as_store c w.by_now.setup.card) (sym card) w.holds.card;
+        kind = w.holds.kind ∙ ap (λ (p : Plan). p.kind) (sym plan);
+        config = w.holds.config ∙ ap (λ (p : Plan). p.config) (sym plan);
+        card = subst (λ (b : Board). OnBoard b w.by_now.setup.card) (sym board) w.holds.card;
         clock = clock ∙ w.holds.clock;
         now = now;
       },

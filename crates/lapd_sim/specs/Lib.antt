@@ -4,6 +4,7 @@
 -- Kinds of `lapd_script`.
 pub mod Faults
 pub mod ScriptLines
+pub mod Boards
 pub mod Past
 pub mod Stands
 pub mod Obeyed

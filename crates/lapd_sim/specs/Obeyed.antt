@@ -1,5 +1,6 @@
 -- What a line of a script was answered with: what has been written, and what the setup stands for after it.
 use Rattle.std.specs.Prelude.{◌≡◌, ℕ, List, [], Option, None, Some, Result, Ok, Err}
+use Rattle.lapd_script.specs.declared.command.CardKind.{CardKind}
 use Rattle.lapd_script.specs.declared.kind.FaultKind.{FaultKind}
 use Rattle.lapd_script.specs.Meaning.{Meaning}
 use Rattle.lapd_script.specs.Read.{read}
@@ -35,11 +36,11 @@ Obeys (Err Write) old new stands said = Breaks old new said
 Obeys (Err OutOfMemory) old new stands said = ⊥
 
 -- What is begun at a card line: for want of memory alone it may not begin where the configuration is in range.
-abbrev pub Begins : {X : Type 0} → Result X LineFault → Config → (X → Setup → Type 0) → Type 0
-Begins (Ok x) c stands = (first_fault c ≡ None) × stands x (begun c)
-Begins (Err (Faulty kind)) c stands = begun_with c ≡ Err kind
-Begins (Err Write) c stands = ⊥
-Begins (Err OutOfMemory) c stands = first_fault c ≡ None
+abbrev pub Begins : {X : Type 0} → Result X LineFault → CardKind → Config → (X → Setup → Type 0) → Type 0
+Begins (Ok x) kind c stands = (first_fault c ≡ None) × stands x (begun kind c)
+Begins (Err (Faulty fault)) kind c stands = begun_with kind c ≡ Err fault
+Begins (Err Write) kind c stands = ⊥
+Begins (Err OutOfMemory) kind c stands = first_fault c ≡ None
 
 -- The same of any line where there is no card yet: memory is taken, and can be refused, at a card line alone.
 abbrev pub StartsBy : Result (Option rust.Setup) LineFault → Result (Option Setup) FaultKind → Type 0

@@ -6,21 +6,17 @@ use Rattle.std.specs.Prelude.{◌≡◌, ℕ, List, [], ◌∷◌, length, Optio
 use Rattle.lapd_bits.specs.Framer as framing
 use Rattle.lapd_bits.specs.Deframer as deframing
 use Rattle.lapd_bits.specs.declared.deframer.Deframer.{Deframer}
-use Rattle.lapd_card.specs.Stands as card
-use Rattle.lapd_store.specs.Store.{Store}
 use Rattle.model_sim.specs.Setup as machine
+use Rattle.lapd_sim.specs.Boards.{OnBoard}
 use Rattle.lapd_sim.specs.declared.setup.Setup.{Setup}
 use Rattle.lapd_sim.specs.declared.exchange.Exchange.{Exchange}
 use Rattle.lapd_sim.specs.declared.terminal.Terminal.{Terminal}
 
--- a shelf is seen as what it stores
-abbrev pub as_store : Store → Store
-as_store shelf = shelf
-
 -- The card, its clock and the moment.
 pub record Holds (e : Exchange) (m : machine.Setup) : Type 0 where
-  pub config : m.card.config ≡ e.config
-  pub card : card.Stands as_store e.card m.card
+  pub kind : m.kind ≡ e.plan.kind
+  pub config : m.card.config ≡ e.plan.config
+  pub card : OnBoard e.board m.card
   pub clock : e.clock ≡ m.clock
   pub now : e.moment ≡ m.now
 

@@ -1,7 +1,6 @@
 //! The card that a script is played on, with the clock of its lines.
 
-ghost use Rattle.std.specs.Prelude.{◌≡◌, ◌<◌, ◌^◌, fold, Ok, IfOk, IfSome, IfNone};
-ghost use Rattle.lapd_card.specs.Card.{line_count};
+ghost use Rattle.std.specs.Prelude.{◌≡◌, ◌<◌, ◌≤◌, ◌^◌, length, fold, Ok, IfOk, IfSome, IfNone};
 ghost use Rattle.lapd_card.specs.Reply.{answer_of_result};
 ghost use Rattle.model_card.specs.Event.{at};
 ghost use Rattle.model_card.specs.Machine.{answer};
@@ -11,17 +10,22 @@ ghost use Rattle.model_line.specs.Event as line_event;
 ghost use Rattle.model_line.specs.Laws.{orders_in};
 ghost use Rattle.model_line.specs.Request.{request_of};
 ghost use Rattle.model_line.specs.Sound.{IsInRange};
+ghost use Rattle.lapd_script.specs.declared.command.CardKind.TheVariants.{Octets, Frames};
+ghost use Rattle.lapd_sim.specs.Boards.{kind_of, line_count, IsTaken};
 ghost use Rattle.lapd_sim.specs.Past.{HasPast};
 ghost use Rattle.model_sim.specs.Setup as machine;
-ghost use Rattle.model_sim.specs.Steps.{answer_text, with_event, octet_in, at_expiry, until, in_time, with_timers, after_stored};
+ghost use Rattle.model_sim.specs.Steps.{answer_text, with_event, octet_in, at_expiry, until, in_time, with_timers, after_stored, after_happening};
+ghost use Rattle.model_card.specs.Card.{line_at};
+ghost use Rattle.model_card.specs.Happening.{comes, failed, goes};
+ghost use Rattle.model_line.specs.Pull.{taken};
 ghost use Rattle.lapd_transcript.specs.Streams.{Output, Puts, output};
 
+use crate::board::{Board, Plan};
 use crate::faults::LineFault;
-use lapd_card::{Card, CardFault, Config, Report, Request, limit};
+use lapd_card::{Fault, Report, Request, limit};
 use lapd_clock::{Clock, Lengths};
 use lapd_frame::{Order, Timer};
-use lapd_script::FaultKind;
-use lapd_store::RawShelf;
+use lapd_script::{CardKind, FaultKind};
 use lapd_transcript::{Page, Target, WriteFailed, put_refused, put_report, put_stored};
 use std::alloc::Global;
 
@@ -31,14 +35,15 @@ const LAST_MOMENT: u64 = (1 << 63) - 1;
 /// A card, the clock of its lines, and the moment on it in milliseconds.
 #[derive(Drop)]
 pub(crate) struct Exchange {
-    config: Config,
-    card: Card<RawShelf>,
+    plan: Plan,
+    board: Board,
     clock: Clock,
     moment: u64,
-    ghost in_range: { IsInRange config },
-    ghost same_lines: { line_count card ≡ config.lines },
-    ghost past: { ∥ HasPast config card ∥₁ },
-    ghost clock_lines: { clock.lines ≡ config.lines },
+    ghost in_range: { IsInRange plan.config },
+    ghost same_lines: { line_count board ≡ plan.config.lines },
+    ghost same_kind: { kind_of board ≡ plan.kind },
+    ghost past: { ∥ HasPast plan.config board ∥₁ },
+    ghost clock_lines: { clock.lines ≡ plan.config.lines },
     ghost lengths: { AreInRange clock.lengths },
     ghost in_time: { moment < 2 ^ 63 },
 }
@@ -47,41 +52,38 @@ impl Exchange {
     ghost use Rattle.lapd_sim.specs.Obeyed.{scene, Tells, Obeys, Begins};
     ghost use Rattle.lapd_sim.specs.Stands.{Holds};
 
-    pub(crate) fn start(alloc: Global, config: Config) -> Result<Exchange, LineFault>
-        ensures config { IfOk result (λ exchange. exchange.config ≡ config) }
-        ensures begun { Begins result config Holds }
+    pub(crate) fn start(alloc: Global, plan: Plan) -> Result<Exchange, LineFault>
+        ensures plan { IfOk result (λ exchange. exchange.plan ≡ plan) }
+        ensures begun { Begins result plan.kind plan.config Holds }
     {
-        if config.fault().is_some() {
-            return Err(LineFault::Faulty(FaultKind::BadCard));
-        }
-        let Ok(shelf) = RawShelf::start(alloc, config.slots.into(), config.n201) else {
-            return Err(LineFault::OutOfMemory);
-        };
-        let card = match Card::start(alloc, config, shelf) {
-            Ok(card) => card,
-            Err(CardFault::BadConfig(_)) => return Err(LineFault::Faulty(FaultKind::BadCard)),
-            Err(_) => return Err(LineFault::OutOfMemory),
-        };
-        let lines = usize::from(config.lines);
-        let Ok(clock) = Clock::start(alloc, lines, config.terminals.into()) else {
+        let board = Board::start(alloc, plan)?;
+        let terminals = usize::from(plan.config.terminals);
+        let Ok(clock) = Clock::start(alloc, board.lines(), terminals) else {
             return Err(LineFault::OutOfMemory);
         };
         Ok(Exchange {
-            config,
-            card,
+            plan,
+            board,
             clock,
             moment: 0,
         })
     }
 
-    /// How many lines there are.
-    pub(crate) fn lines(&self) -> usize
-        ensures { result ≡ self.now.config.lines }
+    /// What the card is for: octets, or frames.
+    pub(crate) fn kind(&self) -> CardKind
+        ensures { result ≡ self.now.plan.kind }
     {
-        self.card.lines()
+        self.plan.kind
     }
 
-    /// An octet comes from a line.
+    /// How many lines there are.
+    pub(crate) fn lines(&self) -> usize
+        ensures { result ≡ self.now.plan.config.lines }
+    {
+        self.board.lines()
+    }
+
+    /// An octet comes from a line of a card for octets.
     pub(crate) fn octet<T: Target>(
         &mut self,
         line: usize,
@@ -89,25 +91,107 @@ impl Exchange {
         target: &mut T,
         page: &mut Page,
     ) -> Result<(), WriteFailed>
-        requires { line < self.old.config.lines }
-        ensures config { self.new.config ≡ self.old.config }
+        requires kind { self.old.plan.kind ≡ Octets }
+        requires line { line < self.old.plan.config.lines }
+        ensures plan { self.new.plan ≡ self.old.plan }
         ensures told { (m : machine.Setup) → Holds self.old m
             → Tells result (output (T.taken target.old) page.old.items) (output (T.taken target.new) page.new.items) (Holds self.new) (with_event (scene m) (at line (line_event.octet octet))) }
     {
-        let report = self.card.octet(line, octet);
-        carry_out(&mut self.clock, line, &report, self.moment, target, page)
+        match &mut self.board {
+            Board::Octets(card) => {
+                let report = card.octet(line, octet);
+                carry_out(&mut self.clock, line, &report, self.moment, target, page)
+            }
+            Board::Frames(_) => unreachable!(),
+        }
     }
 
-    /// A line takes an octet.
+    /// A line of a card for octets takes one.
     pub(crate) fn pull(&mut self, line: usize) -> u8
-        requires { line < self.old.config.lines }
-        ensures config { self.new.config ≡ self.old.config }
+        requires kind { self.old.plan.kind ≡ Octets }
+        requires line { line < self.old.plan.config.lines }
+        ensures plan { self.new.plan ≡ self.old.plan }
         ensures pulled { (m : machine.Setup) → Holds self.old m → result ≡ octet_in (answer (at line line_event.pull) m.card) }
         ensures after { (m : machine.Setup) → Holds self.old m → Holds self.new (machine.happened m (at line line_event.pull)) }
     {
-        let pulled = self.card.pull(line);
-        order(&mut self.clock, line, pulled.orders(), self.moment);
-        pulled.octet
+        match &mut self.board {
+            Board::Octets(card) => {
+                let pulled = card.pull(line);
+                order(&mut self.clock, line, pulled.orders(), self.moment);
+                pulled.octet
+            }
+            Board::Frames(_) => unreachable!(),
+        }
+    }
+
+    /// A frame comes from a line of a card for frames.
+    pub(crate) fn frame<T: Target>(
+        &mut self,
+        line: usize,
+        octets: &[u8],
+        target: &mut T,
+        page: &mut Page,
+    ) -> Result<(), WriteFailed>
+        requires kind { self.old.plan.kind ≡ Frames }
+        requires line { line < self.old.plan.config.lines }
+        ensures plan { self.new.plan ≡ self.old.plan }
+        ensures told { (m : machine.Setup) → Holds self.old m
+            → Tells result (output (T.taken target.old) page.old.items) (output (T.taken target.new) page.new.items) (Holds self.new) (after_happening (comes line octets.now) (scene m)) }
+    {
+        match &mut self.board {
+            Board::Frames(card) => {
+                let report = card.frame(line, octets);
+                carry_out(&mut self.clock, line, &report, self.moment, target, page)
+            }
+            Board::Octets(_) => unreachable!(),
+        }
+    }
+
+    /// The controller of a line of a card for frames tells a fault in place of one.
+    pub(crate) fn failed<T: Target>(
+        &mut self,
+        line: usize,
+        fault: Fault,
+        target: &mut T,
+        page: &mut Page,
+    ) -> Result<(), WriteFailed>
+        requires kind { self.old.plan.kind ≡ Frames }
+        requires line { line < self.old.plan.config.lines }
+        ensures plan { self.new.plan ≡ self.old.plan }
+        ensures told { (m : machine.Setup) → Holds self.old m
+            → Tells result (output (T.taken target.old) page.old.items) (output (T.taken target.new) page.new.items) (Holds self.new) (after_happening (failed line fault) (scene m)) }
+    {
+        match &mut self.board {
+            Board::Frames(card) => {
+                let report = card.failed(line, fault);
+                carry_out(&mut self.clock, line, &report, self.moment, target, page)
+            }
+            Board::Octets(_) => unreachable!(),
+        }
+    }
+
+    /// A line of a card for frames takes the next one, which is put into the beginning of `room`: there is room for each
+    /// frame that a card has. It tells how many octets the frame has, or that none waits.
+    pub(crate) fn next(&mut self, line: usize, room: &mut [u8]) -> Option<usize>
+        requires kind { self.old.plan.kind ≡ Frames }
+        requires line { line < self.old.plan.config.lines }
+        requires room { 264 ≤ length room.old }
+        ensures plan { self.new.plan ≡ self.old.plan }
+        ensures fits { IfSome result (λ count. count ≤ length room.new) }
+        ensures next { (m : machine.Setup) → Holds self.old m → IsTaken (taken m.card.config (line_at line m.card)) result room.new }
+        ensures after { (m : machine.Setup) → Holds self.old m → Holds self.new (after_happening (goes line) (scene m)).setup }
+    {
+        match &mut self.board {
+            Board::Frames(card) => match card.next_frame(line, room) {
+                Ok(Some(next)) => {
+                    order(&mut self.clock, line, next.orders(), self.moment);
+                    Some(next.length)
+                }
+                Ok(None) => None,
+                Err(_) => unreachable!(),
+            },
+            Board::Octets(_) => unreachable!(),
+        }
     }
 
     /// Layer 3 asks for something.
@@ -118,13 +202,13 @@ impl Exchange {
         target: &mut T,
         page: &mut Page,
     ) -> Result<(), WriteFailed>
-        requires { line < self.old.config.lines }
-        ensures config { self.new.config ≡ self.old.config }
+        requires { line < self.old.plan.config.lines }
+        ensures plan { self.new.plan ≡ self.old.plan }
         ensures told { (m : machine.Setup) → Holds self.old m
             → Tells result (output (T.taken target.old) page.old.items) (output (T.taken target.new) page.new.items) (Holds self.new)
             (with_event (scene m) (at line (line_event.request (request_of request.entry)))) }
     {
-        match self.card.request(line, request) {
+        match self.board.request(line, request) {
             Ok(report) => carry_out(&mut self.clock, line, &report, self.moment, target, page),
             Err(refusal) => put_refused(target, page, line as u16, refusal),
         }
@@ -132,7 +216,7 @@ impl Exchange {
 
     /// Timers that are started from now on run so long; each has to run a millisecond to an hour.
     pub(crate) fn set_timers(&mut self, t200: u32, t203: u32, t201: u32) -> Result<(), LineFault>
-        ensures config { self.new.config ≡ self.old.config }
+        ensures plan { self.new.plan ≡ self.old.plan }
         ensures told { (m : machine.Setup) (before : Output) → Holds self.old m
             → Obeys result before before (Holds self.new) (with_timers (record { t200 = t200; t203 = t203; t201 = t201 }) (scene m)) }
     {
@@ -152,7 +236,7 @@ impl Exchange {
         target: &mut T,
         page: &mut Page,
     ) -> Result<(), LineFault>
-        ensures config { self.new.config ≡ self.old.config }
+        ensures plan { self.new.plan ≡ self.old.plan }
         ensures told { (m : machine.Setup) → Holds self.old m
             → Obeys result (output (T.taken target.old) page.old.items) (output (T.taken target.new) page.new.items) (Holds self.new) (in_time milliseconds (scene m)) }
     {
@@ -174,7 +258,7 @@ impl Exchange {
         page: &mut Page,
     ) -> Result<(), WriteFailed>
         requires { end < 2 ^ 63 }
-        ensures config { self.new.config ≡ self.old.config }
+        ensures plan { self.new.plan ≡ self.old.plan }
         ensures told { (m : machine.Setup) → Holds self.old m
             → Tells result (output (T.taken target.old) page.old.items) (output (T.taken target.new) page.new.items) (Holds self.new) (until end (scene m)) }
     {
@@ -190,8 +274,8 @@ impl Exchange {
     /// Takes out the timer that falls due first, if it does until `end`, at its moment.
     fn due(&mut self, end: u64) -> Option<(usize, Timer)>
         requires { end < 2 ^ 63 }
-        ensures config { self.new.config ≡ self.old.config }
-        ensures line { IfSome result (λ due. due.0 < self.old.config.lines) }
+        ensures plan { self.new.plan ≡ self.old.plan }
+        ensures line { IfSome result (λ due. due.0 < self.old.plan.config.lines) }
         ensures due { result ≡ clocks.due_at self.old.clock end }
         ensures after { IfSome result (λ due. (m : machine.Setup) → Holds self.old m → Holds self.new (at_expiry end m)) }
         ensures unchanged { IfNone result (self.new ≡ self.old) }
@@ -211,12 +295,12 @@ impl Exchange {
         target: &mut T,
         page: &mut Page,
     ) -> Result<(), WriteFailed>
-        requires { line < self.old.config.lines }
-        ensures config { self.new.config ≡ self.old.config }
+        requires { line < self.old.plan.config.lines }
+        ensures plan { self.new.plan ≡ self.old.plan }
         ensures told { (m : machine.Setup) → Holds self.old m
             → Tells result (output (T.taken target.old) page.old.items) (output (T.taken target.new) page.new.items) (Holds self.new) (with_event (scene m) (at line (line_event.expiry timer))) }
     {
-        let report = self.card.expire(line, timer);
+        let report = self.board.expire(line, timer);
         carry_out(&mut self.clock, line, &report, self.moment, target, page)
     }
 
@@ -229,7 +313,7 @@ impl Exchange {
         ensures { (m : machine.Setup) → Holds self.now m
             → Tells result (output (T.taken target.old) page.old.items) (output (T.taken target.new) page.new.items) (Holds self.now) (after_stored (scene m)) }
     {
-        put_stored(target, page, self.card.stored(), limit(&self.config))
+        put_stored(target, page, self.board.stored(), limit(&self.plan.config))
     }
 }
 

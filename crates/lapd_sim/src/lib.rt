@@ -2,7 +2,7 @@
 //! `docs/FORMAT.md` describes both texts.
 //!
 //! - `lines`: how the lines of a script are read, in pieces.
-//! - `exchange`: the card that a script is played on, and its clock.
+//! - `exchange`: the card that a script is played on, and its clock; `board`: the card, for octets or for frames.
 //! - `terminal`: the sender of a terminal.
 //! - `setup`: the card with the terminals and listeners of its lines; `parts`, what it begins with; `traffic`, what
 //!   comes from a line and what a line takes.
@@ -21,6 +21,7 @@
 //! Scripts of more than 2^63 octets; what the system's own streams hold, since they tell nothing of it.
 #![tactic(auto)]
 
+mod board;
 mod exchange;
 mod faults;
 mod lines;

@@ -12,6 +12,7 @@ ghost use Rattle.lapd_sim.specs.ScriptLines.{AreLeft};
 ghost use Rattle.lapd_transcript.specs.Streams.{Taken, output};
 ghost use Rattle.lapd_sim.specs.Stands.{Has, Stands};
 
+use crate::board::Plan;
 use crate::faults::{LineFault, PlayFault};
 use crate::lines::ScriptLines;
 use crate::setup::Setup;
@@ -189,9 +190,11 @@ fn without_card(alloc: Global, command: Command) -> Result<Option<Setup>, LineFa
 {
     match command {
         Command::Skip => Ok(None),
-        Command::Card(config) => Ok(Some(Setup::start(alloc, config)?)),
+        Command::Card(kind, config) => Ok(Some(Setup::start(alloc, Plan { kind, config })?)),
         Command::Rx { .. } => Err(LineFault::Faulty(FaultKind::NoCard)),
         Command::In { .. } => Err(LineFault::Faulty(FaultKind::NoCard)),
+        Command::Failed { .. } => Err(LineFault::Faulty(FaultKind::NoCard)),
+        Command::Next { .. } => Err(LineFault::Faulty(FaultKind::NoCard)),
         Command::Pull { .. } => Err(LineFault::Faulty(FaultKind::NoCard)),
         Command::Wait { .. } => Err(LineFault::Faulty(FaultKind::NoCard)),
         Command::Timers { .. } => Err(LineFault::Faulty(FaultKind::NoCard)),
@@ -215,9 +218,11 @@ fn with_card<T: Target>(
 {
     match command {
         Command::Skip => Ok(()),
-        Command::Card(_) => Err(LineFault::Faulty(FaultKind::SecondCard)),
+        Command::Card(_, _) => Err(LineFault::Faulty(FaultKind::SecondCard)),
         Command::Rx { line, octets } => setup.receive(line, &room[..octets], target, page),
-        Command::In { line, octets } => setup.send(line, &room[..octets], target, page),
+        Command::In { line, octets } => setup.come(line, &room[..octets], target, page),
+        Command::Failed { line, fault } => setup.fail(line, fault, target, page),
+        Command::Next { line } => setup.take(line, room, target, page),
         Command::Pull { line, count } => setup.pull(line, count as usize, room, target, page),
         Command::Wait { milliseconds } => setup.wait(milliseconds, target, page),
         Command::Timers { t200, t203, t201 } => setup.set_timers(t200, t203, t201),

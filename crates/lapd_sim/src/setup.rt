@@ -1,20 +1,22 @@
 //! What a script is played on: a card, and for each of its lines a terminal and a listener.
 
-ghost use Rattle.std.specs.Prelude.{◌≡◌, ◌<◌, ◌≤◌, length, vec_len, MatchResult};
+ghost use Rattle.std.specs.Prelude.{◌≡◌, ◌≢◌, ◌<◌, ◌≤◌, length, vec_len, MatchResult};
 ghost use Rattle.lapd_script.specs.Meaning as meaning;
-ghost use Rattle.lapd_script.specs.declared.kind.FaultKind.TheVariants.{BadLine};
+ghost use Rattle.lapd_script.specs.declared.command.CardKind.TheVariants.{Octets, Frames};
+ghost use Rattle.lapd_script.specs.declared.kind.FaultKind.TheVariants.{BadLine, WrongCard};
 ghost use Rattle.model_sim.specs.Setup as machine;
 ghost use Rattle.model_sim.specs.Steps.{with_card};
 ghost use Rattle.lapd_transcript.specs.Streams.{Output, output};
 
+use crate::board::Plan;
 use crate::exchange::Exchange;
 use crate::faults::LineFault;
 use crate::parts::{listeners, request_for, terminals};
 use crate::terminal::{LONGEST_FRAME, SHORTEST_FRAME, Terminal};
-use crate::traffic::{pull, receive, send, tell};
+use crate::traffic::{pull, receive, send, tell, tell_next};
 use lapd_bits::Deframer;
-use lapd_card::Config;
-use lapd_script::{Asked, FaultKind};
+use lapd_card::Fault;
+use lapd_script::{Asked, CardKind, FaultKind};
 use lapd_transcript::{Page, Target, WriteFailed};
 use std::alloc::Global;
 
@@ -24,18 +26,18 @@ pub(crate) struct Setup {
     exchange: Exchange,
     terminals: Vec<Terminal>,
     listeners: Vec<Deframer>,
-    ghost each_sends: { vec_len terminals ≡ exchange.config.lines },
-    ghost each_listens: { vec_len listeners ≡ exchange.config.lines },
+    ghost each_sends: { vec_len terminals ≡ exchange.plan.config.lines },
+    ghost each_listens: { vec_len listeners ≡ exchange.plan.config.lines },
 }
 
 impl Setup {
     ghost use Rattle.lapd_sim.specs.Obeyed.{scene, Obeys, Begins};
     ghost use Rattle.lapd_sim.specs.Stands.{Stands};
 
-    pub(crate) fn start(alloc: Global, config: Config) -> Result<Setup, LineFault>
-        ensures { Begins result config Stands }
+    pub(crate) fn start(alloc: Global, plan: Plan) -> Result<Setup, LineFault>
+        ensures { Begins result plan.kind plan.config Stands }
     {
-        let exchange = Exchange::start(alloc, config)?;
+        let exchange = Exchange::start(alloc, plan)?;
         let terminals = terminals(alloc, exchange.lines())?;
         let listeners = listeners(alloc, exchange.lines())?;
         Ok(Setup {
@@ -45,10 +47,22 @@ impl Setup {
         })
     }
 
+    /// Tests that the card is of this kind.
+    fn for_kind(&self, kind: CardKind) -> Result<(), FaultKind>
+        ensures { MatchResult result (λ _. self.now.exchange.plan.kind ≡ kind)
+            (λ fault. (fault ≡ WrongCard) × (self.now.exchange.plan.kind ≢ kind)) }
+    {
+        if self.exchange.kind() == kind {
+            Ok(())
+        } else {
+            Err(FaultKind::WrongCard)
+        }
+    }
+
     /// The number of a line of the card.
     fn line(&self, line: u16) -> Result<usize, FaultKind>
-        ensures { MatchResult result (λ number. (number ≡ line) × (number < self.now.exchange.config.lines))
-            (λ kind. (kind ≡ BadLine) × (self.now.exchange.config.lines ≤ line)) }
+        ensures { MatchResult result (λ number. (number ≡ line) × (number < self.now.exchange.plan.config.lines))
+            (λ kind. (kind ≡ BadLine) × (self.now.exchange.plan.config.lines ≤ line)) }
     {
         let line = usize::from(line);
         if line < self.exchange.lines() {
@@ -69,6 +83,7 @@ impl Setup {
         ensures { (m : machine.Setup) → Stands self.old m
             → Obeys result (output (T.taken target.old) page.old.items) (output (T.taken target.new) page.new.items) (Stands self.new) (with_card (meaning.rx line octets.now) (scene m)) }
     {
+        self.for_kind(CardKind::Octets)?;
         let line = self.line(line)?;
         match receive(&mut self.exchange, line, octets, target, page) {
             Ok(()) => Ok(()),
@@ -76,14 +91,90 @@ impl Setup {
         }
     }
 
-    /// The terminal of a line sends a frame, up to and with the last bit of its closing flag.
-    pub(crate) fn send<T: Target>(
+    /// A frame comes from a line. At a card for octets the terminal of the line sends it, up to and with the last bit of its
+    /// closing flag.
+    pub(crate) fn come<T: Target>(
         &mut self,
         line: u16,
         frame: &[u8],
         target: &mut T,
         page: &mut Page,
     ) -> Result<(), LineFault>
+        ensures { (m : machine.Setup) → Stands self.old m
+            → Obeys result (output (T.taken target.old) page.old.items) (output (T.taken target.new) page.new.items) (Stands self.new) (with_card (meaning.into line frame.now) (scene m)) }
+    {
+        match self.exchange.kind() {
+            CardKind::Octets => self.send(line, frame, target, page),
+            CardKind::Frames => self.frame(line, frame, target, page),
+        }
+    }
+
+    fn frame<T: Target>(
+        &mut self,
+        line: u16,
+        frame: &[u8],
+        target: &mut T,
+        page: &mut Page,
+    ) -> Result<(), LineFault>
+        requires { self.old.exchange.plan.kind ≡ Frames }
+        ensures { (m : machine.Setup) → Stands self.old m
+            → Obeys result (output (T.taken target.old) page.old.items) (output (T.taken target.new) page.new.items) (Stands self.new) (with_card (meaning.into line frame.now) (scene m)) }
+    {
+        let line = self.line(line)?;
+        match self.exchange.frame(line, frame, target, page) {
+            Ok(()) => Ok(()),
+            Err(WriteFailed) => Err(LineFault::Write),
+        }
+    }
+
+    /// The controller of a line tells a fault in place of a frame.
+    pub(crate) fn fail<T: Target>(
+        &mut self,
+        line: u16,
+        fault: Fault,
+        target: &mut T,
+        page: &mut Page,
+    ) -> Result<(), LineFault>
+        ensures { (m : machine.Setup) → Stands self.old m
+            → Obeys result (output (T.taken target.old) page.old.items) (output (T.taken target.new) page.new.items) (Stands self.new) (with_card (meaning.failed line fault) (scene m)) }
+    {
+        self.for_kind(CardKind::Frames)?;
+        let line = self.line(line)?;
+        match self.exchange.failed(line, fault, target, page) {
+            Ok(()) => Ok(()),
+            Err(WriteFailed) => Err(LineFault::Write),
+        }
+    }
+
+    /// A line takes the next frame, which is put into the beginning of `room`.
+    pub(crate) fn take<T: Target>(
+        &mut self,
+        line: u16,
+        room: &mut [u8],
+        target: &mut T,
+        page: &mut Page,
+    ) -> Result<(), LineFault>
+        requires { 264 ≤ length room.old }
+        ensures { (m : machine.Setup) → Stands self.old m
+            → Obeys result (output (T.taken target.old) page.old.items) (output (T.taken target.new) page.new.items) (Stands self.new) (with_card (meaning.next line) (scene m)) }
+    {
+        self.for_kind(CardKind::Frames)?;
+        let line = self.line(line)?;
+        let next = self.exchange.next(line, room);
+        match tell_next(line, next, room, target, page) {
+            Ok(()) => Ok(()),
+            Err(WriteFailed) => Err(LineFault::Write),
+        }
+    }
+
+    fn send<T: Target>(
+        &mut self,
+        line: u16,
+        frame: &[u8],
+        target: &mut T,
+        page: &mut Page,
+    ) -> Result<(), LineFault>
+        requires { self.old.exchange.plan.kind ≡ Octets }
         ensures { (m : machine.Setup) → Stands self.old m
             → Obeys result (output (T.taken target.old) page.old.items) (output (T.taken target.new) page.new.items) (Stands self.new) (with_card (meaning.into line frame.now) (scene m)) }
     {
@@ -117,6 +208,7 @@ impl Setup {
         ensures { (m : machine.Setup) → Stands self.old m
             → Obeys result (output (T.taken target.old) page.old.items) (output (T.taken target.new) page.new.items) (Stands self.new) (with_card (meaning.pull line count) (scene m)) }
     {
+        self.for_kind(CardKind::Octets)?;
         let line = self.line(line)?;
         let octets = &mut room[..count];
         pull(&mut self.exchange, line, octets);

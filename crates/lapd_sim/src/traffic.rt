@@ -1,12 +1,15 @@
 //! What comes from a line, and what a line takes.
 
-ghost use Rattle.std.specs.Prelude.{◌≡◌, ◌<◌, ◌≤◌, ℕ, List, [], ◌++◌, length, flat_map, OnOk};
+ghost use Rattle.std.specs.Prelude.{◌≡◌, ◌<◌, ◌≤◌, ℕ, List, [], ◌++◌, length, flat_map, Option, IfSome, OnOk};
 ghost use Rattle.lapd_bits.specs.Framer as framing;
 ghost use Rattle.lapd_bits.specs.Sent.{Item};
 ghost use Rattle.lapd_transcript.specs.Streams.{Puts, output};
 ghost use Rattle.lapd_transcript.specs.Text.{frame_text};
+ghost use Rattle.lapd_script.specs.declared.command.CardKind.TheVariants.{Octets};
 ghost use Rattle.model_sim.specs.Setup as machine;
-ghost use Rattle.model_sim.specs.Steps.{after_rx, pulls, pulled_text};
+ghost use Rattle.model_line.specs.Pull.{Taken};
+ghost use Rattle.model_sim.specs.Steps.{after_rx, pulls, pulled_text, next_text};
+ghost use Rattle.lapd_sim.specs.Boards.{IsTaken};
 ghost use Rattle.lapd_sim.specs.Gives.{Gives};
 ghost use Rattle.lapd_sim.specs.Obeyed.{scene, Tells};
 ghost use Rattle.lapd_sim.specs.Stands.{Hears, Holds, Sends};
@@ -14,7 +17,7 @@ ghost use Rattle.lapd_sim.specs.Stands.{Hears, Holds, Sends};
 use crate::exchange::Exchange;
 use crate::terminal::Terminal;
 use lapd_bits::{Deframer, Heard};
-use lapd_transcript::{Page, Target, WriteFailed, put_frame, put_sent};
+use lapd_transcript::{Page, Target, WriteFailed, put_frame, put_nothing, put_sent};
 
 /// Octets come from a line.
 pub(crate) fn receive<T: Target>(
@@ -24,8 +27,9 @@ pub(crate) fn receive<T: Target>(
     target: &mut T,
     page: &mut Page,
 ) -> Result<(), WriteFailed>
-    requires { line < exchange.old.config.lines }
-    ensures config { exchange.new.config ≡ exchange.old.config }
+    requires kind { exchange.old.plan.kind ≡ Octets }
+    requires line { line < exchange.old.plan.config.lines }
+    ensures plan { exchange.new.plan ≡ exchange.old.plan }
     ensures told { (m : machine.Setup) → Holds exchange.old m
         → Tells result (output (T.taken target.old) page.old.items) (output (T.taken target.new) page.new.items) (Holds exchange.new) (after_rx line octets.now (scene m)) }
 {
@@ -46,10 +50,11 @@ pub(crate) fn send<T: Target>(
     target: &mut T,
     page: &mut Page,
 ) -> Result<(), WriteFailed>
-    requires line { line < exchange.old.config.lines }
+    requires kind { exchange.old.plan.kind ≡ Octets }
+    requires line { line < exchange.old.plan.config.lines }
     requires short { 3 ≤ length frame.now }
     requires long { length frame.now ≤ 1028 }
-    ensures config { exchange.new.config ≡ exchange.old.config }
+    ensures plan { exchange.new.plan ≡ exchange.old.plan }
     ensures told { (m : machine.Setup) (t : machine.Terminal) → Holds exchange.old m → Sends terminal.old t
         → Tells result (output (T.taken target.old) page.old.items) (output (T.taken target.new) page.new.items) (Holds exchange.new) (after_rx line (machine.octets_sent frame.now t) (scene m)) }
     ensures after { OnOk result ((t : machine.Terminal) → Sends terminal.old t → Sends terminal.new (machine.after_sending frame.now t)) }
@@ -76,8 +81,9 @@ fn give<T: Target>(
     target: &mut T,
     page: &mut Page,
 ) -> Result<(), WriteFailed>
-    requires { line < exchange.old.config.lines }
-    ensures config { exchange.new.config ≡ exchange.old.config }
+    requires kind { exchange.old.plan.kind ≡ Octets }
+    requires line { line < exchange.old.plan.config.lines }
+    ensures plan { exchange.new.plan ≡ exchange.old.plan }
     ensures rest { OnOk result (length terminal.new.framer.left < 8) }
     ensures told { (items : List Item) (given : List ℕ) → framing.Stands terminal.old.framer items given
         → Gives result (output (T.taken target.old) page.old.items) (output (T.taken target.new) page.new.items) (Holds exchange.old) (Holds exchange.new) line items given terminal.new.framer }
@@ -93,8 +99,9 @@ fn give<T: Target>(
 
 /// A line takes as many octets as there is room for.
 pub(crate) fn pull(exchange: &mut Exchange, line: usize, room: &mut [u8])
-    requires { line < exchange.old.config.lines }
-    ensures config { exchange.new.config ≡ exchange.old.config }
+    requires kind { exchange.old.plan.kind ≡ Octets }
+    requires line { line < exchange.old.plan.config.lines }
+    ensures plan { exchange.new.plan ≡ exchange.old.plan }
     ensures pulled { (m : machine.Setup) → Holds exchange.old m
         → room.new ≡ (pulls (length room.old) line (record { setup = m; octets = [] })).octets }
     ensures after { (m : machine.Setup) → Holds exchange.old m
@@ -122,6 +129,25 @@ pub(crate) fn tell<T: Target>(
         return Err(WriteFailed);
     }
     show_frames(listener, line, octets, target, page)
+}
+
+/// Tells the frame that a line took, of so many octets in the beginning of `room`, or that none waited.
+pub(crate) fn tell_next<T: Target>(
+    line: usize,
+    next: Option<usize>,
+    room: &[u8],
+    target: &mut T,
+    page: &mut Page,
+) -> Result<(), WriteFailed>
+    requires line { line < 65536 }
+    requires fits { IfSome next (λ count. count ≤ length room.now) }
+    ensures { (o : Option Taken) → IsTaken o next room.now
+        → Puts result (output (T.taken target.old) page.old.items) (output (T.taken target.new) page.new.items) (next_text line o) }
+{
+    match next {
+        Some(count) => put_frame(target, page, line as u16, &room[..count]),
+        None => put_nothing(target, page, line as u16),
+    }
 }
 
 /// Tells the frames that are complete in what a line took.

@@ -88,12 +88,16 @@ refusal_name ControlFull = codes "control-full"
 abbrev pub refused_text : ℕ → Refusal → List ℕ
 refused_text line refusal = line_text line (codes "refused " ++ refusal_name refusal)
 
--- The octets of a pull, and a frame that was found complete in them.
+-- The octets of a pull, and a frame that was found complete in them, or that was called for.
 abbrev pub sent_text : ℕ → List ℕ → List ℕ
 sent_text line octets = line_text line (codes "tx " ++ octets_text octets)
 
 abbrev pub frame_text : ℕ → List ℕ → List ℕ
 frame_text line octets = line_text line (codes "frame " ++ octets_text octets)
+
+-- No frame, where the next one was called for and none waits.
+abbrev pub nothing_text : ℕ → List ℕ
+nothing_text line = line_text line (codes "nothing")
 
 -- A faulty line of a script, and what is wrong with it.
 abbrev pub faulty_text : ℕ → List ℕ → List ℕ

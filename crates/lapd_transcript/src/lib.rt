@@ -28,7 +28,9 @@ mod shown;
 mod streams;
 mod write_to;
 
-pub use lines::{put_frame, put_refused, put_report, put_sent, put_stored, write_faulty};
+pub use lines::{
+    put_frame, put_nothing, put_refused, put_report, put_sent, put_stored, write_faulty,
+};
 pub use output::{Page, send};
 pub use read_from::ReadFrom;
 pub use shown::{write_bound, write_line_octets, write_shown};

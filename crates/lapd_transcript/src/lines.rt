@@ -2,7 +2,7 @@
 
 ghost use Rattle.std.specs.Prelude.{◌++◌, option_copied};
 ghost use Rattle.lapd_transcript.specs.Streams.{Writes, Puts, output};
-ghost use Rattle.lapd_transcript.specs.Text.{line_text, octets_text, report_text, refused_text, sent_text, frame_text, faulty_text, stored_text};
+ghost use Rattle.lapd_transcript.specs.Text.{line_text, octets_text, report_text, refused_text, sent_text, frame_text, nothing_text, faulty_text, stored_text};
 
 use crate::names::refusal_name;
 use crate::notes::put_brought;
@@ -66,7 +66,7 @@ pub fn put_sent<T: Target>(
     put_named_octets(target, page, line, b"tx ", octets)
 }
 
-/// A frame, without its frame check, that was found complete in what a line took.
+/// A frame, without its frame check, that was found complete in what a line took, or that it called for.
 ///
 /// # Errors
 ///
@@ -80,6 +80,18 @@ pub fn put_frame<T: Target>(
     ensures { Puts result (output (T.taken target.old) page.old.items) (output (T.taken target.new) page.new.items) (frame_text line octets.now) }
 {
     put_named_octets(target, page, line, b"frame ", octets)
+}
+
+/// No frame, where a line called for the next one and none waits.
+///
+/// # Errors
+///
+/// [`WriteFailed`] where a write failed: a beginning has been written then of the page and of this.
+pub fn put_nothing<T: Target>(target: &mut T, page: &mut Page, line: u16) -> Result<(), WriteFailed>
+    ensures { Puts result (output (T.taken target.old) page.old.items) (output (T.taken target.new) page.new.items) (nothing_text line) }
+{
+    let line = decimal(u64::from(line));
+    put_all(target, page, &[line.as_slice(), b" nothing\n"])
 }
 
 fn put_named_octets<T: Target>(

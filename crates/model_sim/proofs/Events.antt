@@ -1,9 +1,9 @@
 -- A script is a run of the card: each line's events lead the card as the line does.
 use Rattle.std.proofs.Common.{◌≡◌, ℕ, zero, suc, ◌+◌, ◌<◌, Bool, true, false, cond, List, [], ◌∷◌, ◌++◌, replicate, Option, Some, None, Result, Ok, Err, refl, sym, ap, ◌∙◌, subst, not, nat_lt, nat_le, arith, ◌≤◌}
-use Rattle.std.specs.Prelude.{fold, All}
+use Rattle.std.specs.Prelude.{fold, map, All}
 use Rattle.std.proofs.lemmas.Bool.{ltb-true}
 use Rattle.std.proofs.lemmas.Bool.Decides.{nat_tests}
-use Rattle.std.proofs.lemmas.List.Elements.{All-nil, All-cons, All-append, recursion_from_All}
+use Rattle.std.proofs.lemmas.List.Elements.{All-nil, All-cons, All-append, All-map, recursion_from_All}
 use Rattle.std.proofs.lemmas.Option.{none-some}
 use Rattle.lapd_frame.specs.declared.timers.Timer.{Timer}
 use Rattle.lapd_clock.specs.declared.fault.LengthFault.{LengthFault}
@@ -13,21 +13,25 @@ use Rattle.lapd_clock.specs.Timers as clocks
 use Rattle.model_line.specs.declared.config.Config.{Config}
 use Rattle.model_line.specs.declared.config.Field.{Field}
 use Rattle.model_line.specs.Config as configs
+use Rattle.model_line.specs.Event as line_event
 use Rattle.model_line.specs.Event.{pull, expiry, request}
 use Rattle.model_line.specs.Sound.{IsInRange}
 use Rattle.model_card.specs.Event.{Event, at}
 use Rattle.model_card.specs.Card.{Card, fresh}
 use Rattle.model_card.specs.Machine.{after}
 use Rattle.model_card.specs.Run.{after_all, IsAtLine, AreAtLines}
+use Rattle.model_card.specs.Happening.{Happening, comes, failed, goes, line_of, events_at, events_of}
+use Rattle.lapd_script.specs.declared.command.CardKind.{CardKind}
+use Rattle.lapd_script.specs.declared.command.CardKind.TheVariants.{Octets, Frames}
 use Rattle.lapd_script.specs.declared.kind.FaultKind.{FaultKind}
 use Rattle.lapd_script.specs.declared.kind.FaultKind.TheVariants.{TooLong, BadNumber, BadCard, BadLine, BadFrame, TimeOver}
 use Rattle.lapd_script.specs.Meaning as line
 use Rattle.lapd_script.specs.Read.{read}
 use Rattle.model_sim.specs.Pieces.{pieces_of, line_in}
 use Rattle.model_sim.specs.Setup.{Setup, begun, terminal_at, octets_sent, after_sending, with_terminal}
-use Rattle.model_sim.specs.Steps.{Scene, with_event, with_events, octets_at, Pulls, one_pull, pulls, expired, expiries, after_rx, after_in, after_pull, after_wait, after_timers, with_timers, with_card, without_card, is_frame, last_moment, request_for}
+use Rattle.model_sim.specs.Steps.{Scene, with_event, with_events, octets_at, Pulls, one_pull, pulls, expired, expiries, after_rx, after_in, after_pull, after_happening, after_next, after_coming, can_come, for_octets, for_frames, after_wait, after_timers, with_timers, with_card, without_card, last_moment, request_for}
 use Rattle.model_sim.specs.Script.{Fault, Played, not_begun, played, faulty, is_too_long, after_scene, after_bench, after_reading, unless_faulty, one_more}
-use Rattle.model_sim.specs.Events.{expiry_events, events_until, meant_events, read_events, unless_fault, line_events, events_from, card_meant, first_card, ScriptsAreRuns}
+use Rattle.model_sim.specs.Events.{expiry_events, events_until, coming_events, meant_events, read_events, unless_fault, line_events, events_from, card_meant, first_card, ScriptsAreRuns}
 use Rattle.model_sim.proofs.Expiries.{drained}
 use Rattle.model_sim.proofs.Kept.{IsKept, events_kept, pulls_kept, octets_within, pulls_within, wait_ticks, none_later}
 
@@ -106,6 +110,17 @@ in_led number octets s within =
     let led = octets_led number (octets_sent octets terminal) (record s { setup = with_terminal number (after_sending octets terminal) s.setup }) within in
     record { card = led.card; kept = led.kept }
 
+happening_led : (h : Happening) (s : Scene) → line_of h < s.setup.card.config.lines → Led s.setup (events_of s.setup.card h) (after_happening h s).setup
+happening_led h s within =
+    let events = events_of s.setup.card h in
+    let at_lines : AreAtLines s.setup.card events = All-map (IsAtLine s.setup.card) (at (line_of h)) (events_at s.setup.card h) (λ i d below. within) in
+    record { card = events_lead events s; kept = λ k. (events_kept events s at_lines k, at_lines) }
+
+coming_led : (kind : CardKind) (number : ℕ) (octets : List ℕ) (s : Scene) → number < s.setup.card.config.lines
+    → Led s.setup (coming_events kind number octets s) (after_coming kind number octets s).setup
+coming_led Octets number octets s within = in_led number octets s within
+coming_led Frames number octets s within = happening_led (comes number octets) s within
+
 pulls_led : (number count : ℕ) (s : Scene) → number < s.setup.card.config.lines → Led s.setup (replicate count (at number pull)) (after_pull number count s).setup
 pulls_led number count s within =
     let start : Pulls = record { setup = s.setup; octets = [] } in
@@ -168,19 +183,42 @@ timers_led lengths s = go (first_out_of_range lengths) refl
       kept = λ k. (record { ticks = record { in_order = k.ticks.in_order; on_lines = k.ticks.on_lines; lengths = in_range lengths e }; later = k.later }, All-nil (IsAtLine s.setup.card));
     }
 
+-- at a card of the other kind a line is faulty
+octets_only : (kind : CardKind) (b : Setup) (events : List Event) (r : Result Scene FaultKind) → Leads b events r → Leads b events (for_octets kind r)
+octets_only Octets b events r h = h
+octets_only Frames b events r h = tt
+
+frames_only : (kind : CardKind) (b : Setup) (events : List Event) (r : Result Scene FaultKind) → Leads b events r → Leads b events (for_frames kind r)
+frames_only Octets b events r h = tt
+frames_only Frames b events r h = h
+
 meaning_leads : (m : line.Meaning) (s : Scene) → Leads s.setup (meant_events m s) (with_card m s)
 meaning_leads line.skip s = nothing_led s.setup
-meaning_leads (line.card config) s = tt
+meaning_leads (line.card kind config) s = tt
 meaning_leads (line.rx number octets) s =
-    if_good (nat_lt number s.setup.card.config.lines) s.setup (octets_at number octets) (Ok (after_rx number octets s)) BadLine
-    (λ good. octets_led number octets s (ltb-true _ _ good))
+    octets_only s.setup.kind s.setup (octets_at number octets) _
+    (if_good (nat_lt number s.setup.card.config.lines) s.setup (octets_at number octets) (Ok (after_rx number octets s)) BadLine
+    (λ good. octets_led number octets s (ltb-true _ _ good)))
 meaning_leads (line.into number octets) s =
-    let events = octets_at number (octets_sent octets (terminal_at number s.setup)) in
-    if_good (nat_lt number s.setup.card.config.lines) s.setup events (cond (is_frame octets) (Ok (after_in number octets s)) (Err BadFrame)) BadLine
-    (λ good. if_good (is_frame octets) s.setup events (Ok (after_in number octets s)) BadFrame (λ _. in_led number octets s (ltb-true _ _ good)))
+    let kind = s.setup.kind in
+    let events = coming_events kind number octets s in
+    let come = Ok (after_coming kind number octets s) in
+    if_good (nat_lt number s.setup.card.config.lines) s.setup events (cond (can_come kind octets) come (Err BadFrame)) BadLine
+    (λ good. if_good (can_come kind octets) s.setup events come BadFrame (λ _. coming_led kind number octets s (ltb-true _ _ good)))
+meaning_leads (line.failed number fault) s =
+    let h : Happening = failed number fault in
+    frames_only s.setup.kind s.setup (events_of s.setup.card h) _
+    (if_good (nat_lt number s.setup.card.config.lines) s.setup (events_of s.setup.card h) (Ok (after_happening h s)) BadLine
+    (λ good. happening_led h s (ltb-true _ _ good)))
+meaning_leads (line.next number) s =
+    let h : Happening = goes number in
+    frames_only s.setup.kind s.setup (events_of s.setup.card h) _
+    (if_good (nat_lt number s.setup.card.config.lines) s.setup (events_of s.setup.card h) (Ok (after_next number s)) BadLine
+    (λ good. happening_led h s (ltb-true _ _ good)))
 meaning_leads (line.pull number count) s =
-    if_good (nat_lt number s.setup.card.config.lines) s.setup (replicate count (at number pull)) (Ok (after_pull number count s)) BadLine
-    (λ good. pulls_led number count s (ltb-true _ _ good))
+    octets_only s.setup.kind s.setup (replicate count (at number pull)) _
+    (if_good (nat_lt number s.setup.card.config.lines) s.setup (replicate count (at number pull)) (Ok (after_pull number count s)) BadLine
+    (λ good. pulls_led number count s (ltb-true _ _ good)))
 meaning_leads (line.wait milliseconds) s =
     let end = s.setup.now + milliseconds in
     if_good (nat_le end last_moment) s.setup (events_until end s) (Ok (after_wait milliseconds s)) TimeOver (λ _. wait_led milliseconds s)
@@ -254,22 +292,25 @@ lines_go (piece ∷ pieces) p b e last there =
 pub data Begins (r : Result line.Meaning FaultKind) (q : Played) : Type 0 where
   waits : q.setup ≡ None → card_meant r ≡ None → Begins r q
   stops : q.setup ≡ None → (fault : Fault) → q.fault ≡ Some fault → Begins r q
-  begins : (c : Config) → card_meant r ≡ Some c → q.setup ≡ Some (begun c) → IsInRange c → Begins r q
+  begins : (kind : CardKind) (c : Config) → card_meant r ≡ Some c → q.setup ≡ Some (begun kind c) → IsInRange c → Begins r q
 
-card_begins : (piece : List ℕ) (config : Config) (p : Played) → p.setup ≡ None → Begins (Ok (line.card config)) (after_bench piece (without_card (line.card config)) p)
-card_begins piece config p e = go (configs.first_fault config) refl
+card_begins : (piece : List ℕ) (kind : CardKind) (config : Config) (p : Played) → p.setup ≡ None
+    → Begins (Ok (line.card kind config)) (after_bench piece (without_card (line.card kind config)) p)
+card_begins piece kind config p e = go (configs.first_fault config) refl
   where
-    go : (o : Option Field) → configs.first_fault config ≡ o → Begins (Ok (line.card config))
-        (after_bench piece (elim o as (λ o. Result (Option Setup) FaultKind) [ None ↦ Ok (Some (begun config)) | Some field ↦ Err BadCard ]) p)
-    go None ranged = begins config refl refl ranged
+    go : (o : Option Field) → configs.first_fault config ≡ o → Begins (Ok (line.card kind config))
+        (after_bench piece (elim o as (λ o. Result (Option Setup) FaultKind) [ None ↦ Ok (Some (begun kind config)) | Some field ↦ Err BadCard ]) p)
+    go None ranged = begins kind config refl refl ranged
     go (Some field) fault = stops e _ refl
 
 reading_begins : (piece : List ℕ) (r : Result line.Meaning FaultKind) (p : Played) → Begins r (after_reading piece r (on None None p))
 reading_begins piece (Err kind) p = stops refl _ refl
 reading_begins piece (Ok line.skip) p = waits refl refl
-reading_begins piece (Ok (line.card config)) p = card_begins piece config (on None None p) refl
+reading_begins piece (Ok (line.card kind config)) p = card_begins piece kind config (on None None p) refl
 reading_begins piece (Ok (line.rx number octets)) p = stops refl _ refl
 reading_begins piece (Ok (line.into number octets)) p = stops refl _ refl
+reading_begins piece (Ok (line.failed number fault)) p = stops refl _ refl
+reading_begins piece (Ok (line.next number)) p = stops refl _ refl
 reading_begins piece (Ok (line.pull number count)) p = stops refl _ refl
 reading_begins piece (Ok (line.wait milliseconds)) p = stops refl _ refl
 reading_begins piece (Ok (line.timers t200 t203 t201)) p = stops refl _ refl
@@ -302,8 +343,8 @@ stopped (piece ∷ pieces) p fault e =
     stopped pieces (one_more p piece) fault (ap (λ (q : Played). q.fault) same ∙ e) ∙ ap (λ (q : Played). q.setup) same
 
 -- On a card that has just begun, no timer runs.
-fresh_kept : (c : Config) → IsKept (begun c)
-fresh_kept c = record { ticks = record { in_order = tt; on_lines = tt; lengths = in_range standard refl }; later = tt }
+fresh_kept : (kind : CardKind) (c : Config) → IsKept (begun kind c)
+fresh_kept kind c = record { ticks = record { in_order = tt; on_lines = tt; lengths = in_range standard refl }; later = tt }
 
 pub record Ran (p : Played) (pieces : List (List ℕ)) (last : Setup) : Type 0 where
   pub config : Config
@@ -338,9 +379,9 @@ lines_run (piece ∷ pieces) p last e there = go (λ f. lines_run pieces (one_mo
           kept = ran.kept;
         }
     go later (stops none fault f) = absurd (none-some last (sym none ∙ sym (stopped pieces next fault f) ∙ there))
-    go later (begins c is_card starts ranged) =
-        let led = lines_go pieces next (begun c) starts last there in
-        let kept = led.kept (fresh_kept c) in
+    go later (begins kind c is_card starts ranged) =
+        let led = lines_go pieces next (begun kind c) starts last there in
+        let kept = led.kept (fresh_kept kind c) in
         record {
           config = c;
           begun = ap after_line is_card;

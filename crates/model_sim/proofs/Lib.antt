@@ -6,3 +6,4 @@ pub mod Waits
 pub mod Within
 pub mod Asked
 pub mod Heard
+pub mod AtOnce

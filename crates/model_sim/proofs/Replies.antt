@@ -12,15 +12,18 @@ use Rattle.model_card.specs.Event.{Event, at}
 use Rattle.model_card.specs.Card.{Card, fresh}
 use Rattle.model_card.specs.Machine.{after, answer}
 use Rattle.model_card.specs.Run.{moments, after_all}
+use Rattle.model_card.specs.Happening.{comes, failed, goes, events_of}
+use Rattle.lapd_script.specs.declared.command.CardKind.{CardKind}
+use Rattle.lapd_script.specs.declared.command.CardKind.TheVariants.{Octets, Frames}
 use Rattle.lapd_script.specs.declared.kind.FaultKind.{FaultKind}
 use Rattle.lapd_script.specs.declared.kind.FaultKind.TheVariants.{TooLong, BadNumber, BadLine, BadFrame, TimeOver}
 use Rattle.lapd_script.specs.Meaning as line
 use Rattle.lapd_script.specs.Read.{read}
 use Rattle.model_sim.specs.Pieces.{pieces_of, line_in}
 use Rattle.model_sim.specs.Setup.{Setup, begun, terminal_at, octets_sent}
-use Rattle.model_sim.specs.Steps.{Scene, answer_text, octet_in, pulled_text, with_event, with_events, octets_at, Pulls, one_pull, pulls, expired, expiries, after_rx, after_in, after_pull, after_wait, after_timers, with_timers, with_card, without_card, is_frame, last_moment}
+use Rattle.model_sim.specs.Steps.{Scene, answer_text, octet_in, pulled_text, with_event, with_events, octets_at, Pulls, one_pull, pulls, expired, expiries, after_rx, after_in, after_pull, after_happening, after_next, after_coming, can_come, for_octets, for_frames, after_wait, after_timers, with_timers, with_card, without_card, last_moment}
 use Rattle.model_sim.specs.Script.{Fault, Played, not_begun, faulty, is_too_long, after_scene, after_bench, after_reading, one_more}
-use Rattle.model_sim.specs.Events.{expiry_events, read_events, unless_fault, line_events, events_from, first_card}
+use Rattle.model_sim.specs.Events.{expiry_events, coming_events, read_events, unless_fault, line_events, events_from, first_card}
 use Rattle.model_sim.specs.Replies.{replies_text, octet_given, said, meant_moments, read_moments, read_text, line_moments, line_text, moments_from, text_from, TranscriptsAreReplies}
 use Rattle.model_sim.proofs.Events.{one_goes, Begins, waits, stops, begins, one_begins, nothing_brought, stopped}
 
@@ -92,21 +95,46 @@ timers_say lengths b = go (first_out_of_range lengths)
     go (Some timer) = tt
     go None = refl
 
+-- at a card of the other kind a line says nothing
+octets_only : (kind : CardKind) (text : List ℕ) (r : Result Scene FaultKind) → Says text r → Says text (for_octets kind r)
+octets_only Octets text r h = h
+octets_only Frames text r h = tt
+
+frames_only : (kind : CardKind) (text : List ℕ) (r : Result Scene FaultKind) → Says text r → Says text (for_frames kind r)
+frames_only Octets text r h = tt
+frames_only Frames text r h = h
+
+-- a frame that comes
+coming_says : (kind : CardKind) (number : ℕ) (octets : List ℕ) (b : Setup)
+    → (after_coming kind number octets (scene_of b)).text ≡ replies_text (moments b.card (coming_events kind number octets (scene_of b)))
+coming_says Octets number octets b = events_say (octets_at number (octets_sent octets (terminal_at number b))) _
+coming_says Frames number octets b = events_say (events_of b.card (comes number octets)) (scene_of b)
+
 meaning_says : (m : line.Meaning) (b : Setup) → Says (said m b (meant_moments m b)) (with_card m (scene_of b))
 meaning_says line.skip b = refl
-meaning_says (line.card config) b = tt
+meaning_says (line.card kind config) b = tt
 meaning_says (line.rx number octets) b =
-    if_good (nat_lt number b.card.config.lines) _ (Ok (after_rx number octets (scene_of b))) BadLine
-    (events_say (octets_at number octets) (scene_of b))
+    octets_only b.kind _ _
+    (if_good (nat_lt number b.card.config.lines) _ (Ok (after_rx number octets (scene_of b))) BadLine
+    (events_say (octets_at number octets) (scene_of b)))
 meaning_says (line.into number octets) b =
-    let events = octets_at number (octets_sent octets (terminal_at number b)) in
-    if_good (nat_lt number b.card.config.lines) (replies_text (moments b.card events)) (cond (is_frame octets) (Ok (after_in number octets (scene_of b))) (Err BadFrame)) BadLine
-    (if_good (is_frame octets) (replies_text (moments b.card events)) (Ok (after_in number octets (scene_of b))) BadFrame (events_say events _))
+    let text = replies_text (moments b.card (coming_events b.kind number octets (scene_of b))) in
+    let come = Ok (after_coming b.kind number octets (scene_of b)) in
+    if_good (nat_lt number b.card.config.lines) text (cond (can_come b.kind octets) come (Err BadFrame)) BadLine
+    (if_good (can_come b.kind octets) text come BadFrame (coming_says b.kind number octets b))
+meaning_says (line.failed number fault) b =
+    frames_only b.kind _ _
+    (if_good (nat_lt number b.card.config.lines) _ (Ok (after_happening (failed number fault) (scene_of b))) BadLine
+    (events_say (events_of b.card (failed number fault)) (scene_of b)))
+meaning_says (line.next number) b =
+    frames_only b.kind _ _
+    (if_good (nat_lt number b.card.config.lines) _ (Ok (after_next number (scene_of b))) BadLine refl)
 meaning_says (line.pull number count) b =
     let start : Pulls = record { setup = b; octets = [] } in
     let text = said (line.pull number count) b (meant_moments (line.pull number count) b) in
-    if_good (nat_lt number b.card.config.lines) text (Ok (after_pull number count (scene_of b))) BadLine
-    (pulls_text number _ _ _ _ (pulls_keep count number start) (pulls_give count number start))
+    octets_only b.kind text _
+    (if_good (nat_lt number b.card.config.lines) text (Ok (after_pull number count (scene_of b))) BadLine
+    (pulls_text number _ _ _ _ (pulls_keep count number start) (pulls_give count number start)))
   where
     pulls_text : (number : ℕ) (t u : List (List ℕ)) (x y : List ℕ) → t ≡ u → x ≡ y
         → pulled_text number (get_or t number []) x ≡ pulled_text number (get_or u number []) y
@@ -212,10 +240,10 @@ moments_run (piece ∷ pieces) p last c e there is_card =
         → Begins (read (line_in piece)) next → moments (fresh c) (events_from next pieces) ≡ moments_from next pieces
     go more (waits none no_card) = more none (sym (ap after_line no_card) ∙ is_card)
     go more (stops none fault f) = absurd (none-some last (sym none ∙ sym (stopped pieces next fault f) ∙ there))
-    go more (begins d begun_with starts ranged) =
+    go more (begins kind d begun_with starts ranged) =
         let told : Some d ≡ Some c = sym (ap after_line begun_with) ∙ is_card in
         let same : d ≡ c = cc in
-        subst (λ x. moments (fresh x) (events_from next pieces) ≡ moments_from next pieces) same (lines_moments pieces next (begun d) starts)
+        subst (λ x. moments (fresh x) (events_from next pieces) ≡ moments_from next pieces) same (lines_moments pieces next (begun kind d) starts)
 
 pub transcripts_are_replies : TranscriptsAreReplies
 transcripts_are_replies = record {

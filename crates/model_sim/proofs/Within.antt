@@ -1,5 +1,5 @@
 -- What a script's card stores is within its bound, as it is after every list of events.
-use Rattle.std.proofs.Common.{◌≡◌, ℕ, ◌≤◌, List, take, refl, sym, ap, ◌∙◌, subst}
+use Rattle.std.proofs.Common.{◌≡◌, ℕ, ◌≤◌, List, take, refl, sym, ap, ◌∙◌, subst, arith}
 use Rattle.std.proofs.lemmas.List.Elements.{All-take}
 use Rattle.model_line.specs.declared.config.Config.{Config}
 use Rattle.model_card.specs.Card.{Card, fresh}
@@ -9,7 +9,10 @@ use Rattle.model_card.specs.Stored.{stored}
 use Rattle.model_line.specs.Sound.{IsInRange}
 use Rattle.model_card.proofs.CardSound.{cards_stay_sound}
 use Rattle.model_card.proofs.Stored.{stored_within_limit}
+use Rattle.lapd_script.specs.declared.command.CardKind.{CardKind}
+use Rattle.lapd_script.specs.declared.command.CardKind.TheVariants.{Octets, Frames}
 use Rattle.model_sim.specs.Setup.{Setup}
+use Rattle.model_sim.specs.Steps.{held}
 use Rattle.model_sim.specs.Events.{script_events, HasRun}
 use Rattle.model_sim.specs.Within.{bound_of, ScriptsStayWithin}
 use Rattle.model_sim.proofs.Events.{config_stays, scripts_are_runs}
@@ -31,9 +34,14 @@ module _ (text : List ℕ) (setup : Setup) (run : HasRun text setup) where
       subst (λ c. stored setup.card ≤ bound_of c) same_config
       (subst (λ card. stored card ≤ bound_of run.config) (sym run.card) (run_within run.config (script_events text) run.in_range run.at_lines))
 
+less : (kind : CardKind) (card : Card) → held kind card ≤ stored card
+less Octets card = omega arith
+less Frames card = omega arith
+
 pub scripts_stay_within : ScriptsStayWithin
 scripts_stay_within = record {
   always = λ text setup count there. always_within text setup (scripts_are_runs text setup there) count;
   last = λ text setup there. last_within text setup (scripts_are_runs text setup there);
+  shown = λ text setup there. omega (arith, less setup.kind setup.card, last_within text setup (scripts_are_runs text setup there));
   same = λ c. refl;
 }

@@ -7,6 +7,9 @@ use Rattle.model_line.specs.Sound.{IsInRange}
 use Rattle.model_card.specs.Event.{Event, at}
 use Rattle.model_card.specs.Card.{fresh}
 use Rattle.model_card.specs.Run.{after_all, AreAtLines}
+use Rattle.model_card.specs.Happening.{comes, failed, goes, events_of}
+use Rattle.lapd_script.specs.declared.command.CardKind.{CardKind}
+use Rattle.lapd_script.specs.declared.command.CardKind.TheVariants.{Octets, Frames}
 use Rattle.lapd_script.specs.declared.kind.FaultKind.{FaultKind}
 use Rattle.lapd_script.specs.Meaning as line
 use Rattle.lapd_script.specs.Read.{read}
@@ -23,12 +26,19 @@ expiry_events (suc more) end s = elim (clocks.due_at s.setup.clock end) [ None �
 abbrev pub events_until : ℕ → Scene → List Event
 events_until end s = expiry_events (clocks.time_until end s.setup.clock) end s
 
+-- `in`: the octets of the terminal, or what a frame that comes means.
+abbrev pub coming_events : CardKind → ℕ → List ℕ → Scene → List Event
+coming_events Octets number octets s = octets_at number (octets_sent octets (terminal_at number s.setup))
+coming_events Frames number octets s = events_of s.setup.card (comes number octets)
+
 -- What a line brings where there is a card.
 abbrev pub meant_events : line.Meaning → Scene → List Event
 meant_events line.skip s = []
-meant_events (line.card config) s = []
+meant_events (line.card kind config) s = []
 meant_events (line.rx number octets) s = octets_at number octets
-meant_events (line.into number octets) s = octets_at number (octets_sent octets (terminal_at number s.setup))
+meant_events (line.into number octets) s = coming_events s.setup.kind number octets s
+meant_events (line.failed number fault) s = events_of s.setup.card (failed number fault)
+meant_events (line.next number) s = events_of s.setup.card (goes number)
 meant_events (line.pull number count) s = replicate count (at number pull)
 meant_events (line.wait milliseconds) s = events_until (s.setup.now + milliseconds) s
 meant_events (line.timers t200 t203 t201) s = []
@@ -61,9 +71,11 @@ script_events text = events_from not_begun (pieces_of text)
 abbrev pub card_meant : Result line.Meaning FaultKind → Option Config
 card_meant (Err kind) = None
 card_meant (Ok line.skip) = None
-card_meant (Ok (line.card config)) = Some config
+card_meant (Ok (line.card kind config)) = Some config
 card_meant (Ok (line.rx number octets)) = None
 card_meant (Ok (line.into number octets)) = None
+card_meant (Ok (line.failed number fault)) = None
+card_meant (Ok (line.next number)) = None
 card_meant (Ok (line.pull number count)) = None
 card_meant (Ok (line.wait milliseconds)) = None
 card_meant (Ok (line.timers t200 t203 t201)) = None

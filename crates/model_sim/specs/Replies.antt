@@ -1,16 +1,17 @@
 -- The text of a script, by the answers to its events.
 use Rattle.std.specs.Prelude.{◌≡◌, ℕ, List, [], ◌∷◌, ◌++◌, map, flat_map, Option, None, Some, Result, Ok, Err}
 use Rattle.model_line.specs.declared.config.Config.{Config}
-use Rattle.model_card.specs.Card.{fresh}
+use Rattle.model_line.specs.Pull.{taken}
+use Rattle.model_card.specs.Card.{fresh, line_at}
 use Rattle.model_card.specs.Run.{Moment, moments}
-use Rattle.model_card.specs.Stored.{stored, limit}
+use Rattle.model_card.specs.Stored.{limit}
 use Rattle.lapd_script.specs.declared.kind.FaultKind.{FaultKind}
 use Rattle.lapd_script.specs.Meaning as line
 use Rattle.lapd_script.specs.Read.{read}
 use Rattle.lapd_transcript.specs.Text.{stored_text}
 use Rattle.model_sim.specs.Pieces.{pieces_of, line_in}
 use Rattle.model_sim.specs.Setup.{Setup, taken_at}
-use Rattle.model_sim.specs.Steps.{answer_text, octet_in, pulled_text}
+use Rattle.model_sim.specs.Steps.{answer_text, octet_in, pulled_text, next_text, held}
 use Rattle.model_sim.specs.Script.{Played, not_begun, one_more, played, transcript}
 use Rattle.model_sim.specs.Events.{meant_events, unless_fault, script_events, first_card}
 
@@ -24,17 +25,19 @@ replies_text ms = flat_map reply_text ms
 abbrev pub octet_given : Moment → ℕ
 octet_given m = octet_in m.answer
 
--- What a line says, where its events have these answers: of the octets that it pulls, all together; `stored` shows the
--- card.
+-- What a line says, where its events have these answers: of the octets that it pulls, all together; `next` tells the
+-- frame that is taken from the card, and `stored` shows the card.
 abbrev pub said : line.Meaning → Setup → List Moment → List ℕ
 said line.skip b ms = []
-said (line.card config) b ms = []
+said (line.card kind config) b ms = []
 said (line.rx number octets) b ms = replies_text ms
 said (line.into number octets) b ms = replies_text ms
+said (line.failed number fault) b ms = replies_text ms
+said (line.next number) b ms = next_text number (taken b.card.config (line_at number b.card))
 said (line.pull number count) b ms = pulled_text number (taken_at number b) (map octet_given ms)
 said (line.wait milliseconds) b ms = replies_text ms
 said (line.timers t200 t203 t201) b ms = []
-said line.stored b ms = stored_text (stored b.card) (limit b.card.config)
+said line.stored b ms = stored_text (held b.kind b.card) (limit b.card.config)
 said (line.ask number tei what octets) b ms = replies_text ms
 
 -- The moments of a line, and what it says; before the card line, and from the first faulty line on, nothing.

@@ -1,10 +1,12 @@
--- What a script is played on: a card, the clock of its timers, and at each line a terminal and a listener.
+-- What a script is played on: a card for octets or for frames, the clock of its timers, and for octets, at each line, a
+-- terminal and a listener.
 use Rattle.std.specs.Prelude.{ℕ, ◌+◌, ◌*◌, ◌%◌, ◌==◌, if◌then◌else◌, List, [], ◌∷◌, ◌++◌, length, drop, set, get_or, replicate, fold, filter_map, Option, None, Some}
 use Rattle.lapd_bits.specs.Bits.{octets_of}
 use Rattle.lapd_bits.specs.Stream as stream
 use Rattle.lapd_bits.specs.Sent.{Item, idle, frame, line_text}
 use Rattle.lapd_frame.specs.declared.timers.Order.{Order}
 use Rattle.lapd_clock.specs.Timers as clocks
+use Rattle.lapd_script.specs.declared.command.CardKind.{CardKind}
 use Rattle.model_line.specs.declared.config.Config.{Config}
 use Rattle.model_line.specs.Laws.{orders_in}
 use Rattle.model_card.specs.Event.{Event}
@@ -18,6 +20,7 @@ pub record Terminal : Type 0 where
 
 -- The moment is in milliseconds; the octets of a line are all that it has taken.
 pub record Setup : Type 0 where
+  pub kind : CardKind
   pub card : Card
   pub clock : clocks.Timers
   pub now : ℕ
@@ -25,8 +28,9 @@ pub record Setup : Type 0 where
   pub taken : List (List ℕ)
 
 -- As a card line sets it up.
-abbrev pub begun : Config → Setup
-begun c = record {
+abbrev pub begun : CardKind → Config → Setup
+begun kind c = record {
+  kind = kind;
   card = fresh c;
   clock = clocks.idle c.lines c.terminals;
   now = 0;

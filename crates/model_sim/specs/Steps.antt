@@ -1,5 +1,5 @@
 -- What each line of a script makes of the setup, and what it says in the transcript.
-use Rattle.std.specs.Prelude.{ℕ, zero, suc, ◌+◌, ◌-◌, ◌^◌, nat_lt, nat_le, Bool, ◌&&◌, if◌then◌else◌, List, [], ◌∷◌, ◌++◌, length, map, fold, flat_map, Option, None, Some, Result, Ok, Err}
+use Rattle.std.specs.Prelude.{ℕ, zero, suc, ◌+◌, ◌-◌, ◌^◌, nat_lt, nat_le, Bool, true, ◌&&◌, if◌then◌else◌, List, [], ◌∷◌, ◌++◌, length, map, fold, flat_map, sum_by, Option, None, Some, Result, Ok, Err}
 use Rattle.lapd_frame.specs.declared.timers.Timer.{Timer}
 use Rattle.lapd_clock.specs.Timer.{Lengths, first_out_of_range}
 use Rattle.lapd_clock.specs.Timers as clocks
@@ -7,15 +7,21 @@ use Rattle.model_line.specs.declared.config.Config.{Config}
 use Rattle.model_line.specs.Config.{first_fault}
 use Rattle.model_line.specs.Event.{Answer, told, refused, pulled, octet, expiry, request, pull}
 use Rattle.model_line.specs.Request as asking
+use Rattle.model_line.specs.Pull.{Taken, taken}
+use Rattle.model_line.specs.Stored.{held_sent}
+use Rattle.model_card.specs.Card.{Card, line_at}
 use Rattle.model_card.specs.Event.{Event, at}
 use Rattle.model_card.specs.Machine.{answer}
 use Rattle.model_card.specs.Stored.{stored, limit}
+use Rattle.model_card.specs.Happening.{Happening, comes, failed, goes, events_of}
 use Rattle.lapd_script.specs.declared.kind.FaultKind.{FaultKind}
-use Rattle.lapd_script.specs.declared.kind.FaultKind.TheVariants.{BadNumber, NoCard, SecondCard, BadCard, BadLine, BadFrame, TimeOver}
+use Rattle.lapd_script.specs.declared.kind.FaultKind.TheVariants.{BadNumber, NoCard, SecondCard, BadCard, WrongCard, BadLine, BadFrame, TimeOver}
 use Rattle.lapd_script.specs.declared.command.Asked.{Asked}
 use Rattle.lapd_script.specs.declared.command.Asked.TheVariants as asked
+use Rattle.lapd_script.specs.declared.command.CardKind.{CardKind}
+use Rattle.lapd_script.specs.declared.command.CardKind.TheVariants.{Octets, Frames}
 use Rattle.lapd_script.specs.Meaning as line
-use Rattle.lapd_transcript.specs.Text.{report_text, refused_text, sent_text, frame_text, stored_text}
+use Rattle.lapd_transcript.specs.Text.{report_text, refused_text, sent_text, frame_text, nothing_text, stored_text}
 use Rattle.model_sim.specs.Setup.{Setup, begun, happened, terminal_at, taken_at, octets_sent, after_sending, with_terminal, found, with_taken}
 
 -- A scene: the setup, and what has been said.
@@ -43,7 +49,7 @@ octets_at line octets = map (λ value. at line (octet value)) octets
 abbrev pub after_rx : ℕ → List ℕ → Scene → Scene
 after_rx line octets s = with_events (octets_at line octets) s
 
--- `in`: the terminal's octets come from the line.
+-- On a card for octets, the octets of a terminal that sends a frame come from its line.
 abbrev pub after_in : ℕ → List ℕ → Scene → Scene
 after_in line frame s =
     let terminal = terminal_at line s.setup in
@@ -74,6 +80,27 @@ after_pulls line p text = record { setup = with_taken line p.octets p.setup; tex
 
 abbrev pub after_pull : ℕ → ℕ → Scene → Scene
 after_pull line count s = after_pulls line (pulls count line (record { setup = s.setup; octets = [] })) s.text
+
+-- On a card for frames a frame that comes, a fault that is told in its place (`failed`), and a call for the next frame are
+-- the events that they spell.
+abbrev pub after_happening : Happening → Scene → Scene
+after_happening h s = with_events (events_of s.setup.card h) s
+
+-- `next`: what is taken, if anything.
+abbrev pub next_text : ℕ → Option Taken → List ℕ
+next_text line None = nothing_text line
+next_text line (Some t) = frame_text line t.frame
+
+abbrev pub after_next : ℕ → Scene → Scene
+after_next line s = record {
+  setup = (after_happening (goes line) s).setup;
+  text = s.text ++ next_text line (taken s.setup.card.config (line_at line s.setup.card));
+}
+
+-- `in`: a frame comes, on either kind of card.
+abbrev pub after_coming : CardKind → ℕ → List ℕ → Scene → Scene
+after_coming Octets line frame s = after_in line frame s
+after_coming Frames line frame s = after_happening (comes line frame) s
 
 -- `wait`: what falls due at or before the end, one after the other, each at its moment. A timer that expires is taken
 -- from the clock, and the orders of its event are applied at that moment. It ends: with each expiry, the time that the
@@ -119,19 +146,36 @@ request_for (asked.Unit service) tei octets = asking.Unit service tei octets
 abbrev pub after_request : ℕ → ℕ → Asked → List ℕ → Scene → Scene
 after_request line tei what octets s = with_event s (at line (request (request_for what tei octets)))
 
--- `stored`: what the card holds, and its bound.
-abbrev pub after_stored : Scene → Scene
-after_stored s = record s { text = s.text ++ stored_text (stored s.setup.card) (limit s.setup.card.config) }
+-- `stored`: what the card holds, and its bound. A card for frames keeps nothing of those that came and went.
+abbrev pub held : CardKind → Card → ℕ
+held Octets card = stored card
+held Frames card = stored card - sum_by held_sent card.lines
 
--- What can be wrong with a line once there is a card: it is not there, the frame's length, the time.
+abbrev pub after_stored : Scene → Scene
+after_stored s = record s { text = s.text ++ stored_text (held s.setup.kind s.setup.card) (limit s.setup.card.config) }
+
+-- What can be wrong with a line once there is a card: it is about octets, and the card for frames, or the other way
+-- round; the card's line is not there; the frame's length, where a terminal sends it; the time.
+abbrev pub for_octets : CardKind → Result Scene FaultKind → Result Scene FaultKind
+for_octets Octets said = said
+for_octets Frames said = Err WrongCard
+
+abbrev pub for_frames : CardKind → Result Scene FaultKind → Result Scene FaultKind
+for_frames Octets said = Err WrongCard
+for_frames Frames said = said
+
 abbrev pub at_line : ℕ → Scene → Scene → Result Scene FaultKind
 at_line line s after = if nat_lt line s.setup.card.config.lines then Ok after else Err BadLine
 
 abbrev pub is_frame : List ℕ → Bool
 is_frame octets = nat_le 3 (length octets) && nat_le (length octets) 1028
 
+abbrev pub can_come : CardKind → List ℕ → Bool
+can_come Octets octets = is_frame octets
+can_come Frames octets = true
+
 abbrev pub in_at_line : ℕ → List ℕ → Scene → Result Scene FaultKind
-in_at_line line octets s = if is_frame octets then Ok (after_in line octets s) else Err BadFrame
+in_at_line line octets s = if can_come s.setup.kind octets then Ok (after_coming s.setup.kind line octets s) else Err BadFrame
 
 abbrev pub last_moment : ℕ
 last_moment = 2 ^ 63 - 1
@@ -146,24 +190,28 @@ with_timers lengths s = elim (first_out_of_range lengths) [ None ↦ Ok (after_t
 -- What a line does where there is a card,
 abbrev pub with_card : line.Meaning → Scene → Result Scene FaultKind
 with_card line.skip s = Ok s
-with_card (line.card config) s = Err SecondCard
-with_card (line.rx number octets) s = at_line number s (after_rx number octets s)
+with_card (line.card kind config) s = Err SecondCard
+with_card (line.rx number octets) s = for_octets s.setup.kind (at_line number s (after_rx number octets s))
 with_card (line.into number octets) s = if nat_lt number s.setup.card.config.lines then in_at_line number octets s else Err BadLine
-with_card (line.pull number count) s = at_line number s (after_pull number count s)
+with_card (line.failed number fault) s = for_frames s.setup.kind (at_line number s (after_happening (failed number fault) s))
+with_card (line.next number) s = for_frames s.setup.kind (at_line number s (after_next number s))
+with_card (line.pull number count) s = for_octets s.setup.kind (at_line number s (after_pull number count s))
 with_card (line.wait milliseconds) s = in_time milliseconds s
 with_card (line.timers t200 t203 t201) s = with_timers (record { t200 = t200; t203 = t203; t201 = t201 }) s
 with_card line.stored s = Ok (after_stored s)
 with_card (line.ask number tei what octets) s = at_line number s (after_request number tei what octets s)
 
 -- and where there is none.
-abbrev pub begun_with : Config → Result (Option Setup) FaultKind
-begun_with c = elim (first_fault c) [ None ↦ Ok (Some (begun c)) | Some field ↦ Err BadCard ]
+abbrev pub begun_with : CardKind → Config → Result (Option Setup) FaultKind
+begun_with kind c = elim (first_fault c) [ None ↦ Ok (Some (begun kind c)) | Some field ↦ Err BadCard ]
 
 abbrev pub without_card : line.Meaning → Result (Option Setup) FaultKind
 without_card line.skip = Ok None
-without_card (line.card config) = begun_with config
+without_card (line.card kind config) = begun_with kind config
 without_card (line.rx number octets) = Err NoCard
 without_card (line.into number octets) = Err NoCard
+without_card (line.failed number fault) = Err NoCard
+without_card (line.next number) = Err NoCard
 without_card (line.pull number count) = Err NoCard
 without_card (line.wait milliseconds) = Err NoCard
 without_card (line.timers t200 t203 t201) = Err NoCard

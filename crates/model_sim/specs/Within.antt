@@ -7,6 +7,7 @@ use Rattle.model_card.specs.Stored.{stored, limit}
 use Rattle.lapd_script.specs.Bound.{bound}
 use Rattle.model_sim.specs.Pieces.{pieces_of}
 use Rattle.model_sim.specs.Setup.{Setup}
+use Rattle.model_sim.specs.Steps.{held}
 use Rattle.model_sim.specs.Script.{played}
 use Rattle.model_sim.specs.Events.{script_events}
 
@@ -18,6 +19,7 @@ bound_of c = bound c.lines c.terminals c.control c.slots c.n201
 pub record ScriptsStayWithin : Type 0 where
   pub always : (text : List ℕ) (setup : Setup) (count : ℕ) → (played (pieces_of text)).setup ≡ Some setup
       → stored (after_all (fresh setup.card.config) (take count (script_events text))) ≤ bound_of setup.card.config
-  -- and so after its last line. The limit that the line `stored` tells is the same number.
+  -- and so after its last line; what the line `stored` tells is no more. The limit that it tells is the same number.
   pub last : (text : List ℕ) (setup : Setup) → (played (pieces_of text)).setup ≡ Some setup → stored setup.card ≤ bound_of setup.card.config
+  pub shown : (text : List ℕ) (setup : Setup) → (played (pieces_of text)).setup ≡ Some setup → held setup.kind setup.card ≤ bound_of setup.card.config
   pub same : (c : Config) → limit c ≡ bound_of c

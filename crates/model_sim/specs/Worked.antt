@@ -1,6 +1,6 @@
 -- Whole scripts and their transcripts: each computes.
 use Rattle.std.specs.Prelude.{◌≡◌, codes, Some, refl}
-use Rattle.lapd_script.specs.declared.kind.FaultKind.TheVariants.{NoCard, BadLine, SecondCard, BadCard}
+use Rattle.lapd_script.specs.declared.kind.FaultKind.TheVariants.{NoCard, BadLine, SecondCard, BadCard, WrongCard}
 use Rattle.model_sim.specs.Script.{transcript, first_fault}
 
 empty : transcript (codes "") ≡ codes ""
@@ -20,3 +20,9 @@ second_card = refl
 
 bad_line : first_fault (codes "card 1 8 7 8 4 4 64 260 3\nassign 1 64") ≡ Some (record { line = 2; kind = BadLine })
 bad_line = refl
+
+octets_for_frames : first_fault (codes "frames 1 8 7 8 4 4 64 260 3\npull 9 1\n") ≡ Some (record { line = 2; kind = WrongCard })
+octets_for_frames = refl
+
+frames_for_octets : first_fault (codes "card 1 8 7 8 4 4 64 260 3\nnext 0\n") ≡ Some (record { line = 2; kind = WrongCard })
+frames_for_octets = refl

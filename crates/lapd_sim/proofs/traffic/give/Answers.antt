@@ -16,7 +16,7 @@ returns-in-Err-clause-told g c = λ items given s.
 
 pub loop-terminal-preserved : goal.loop-terminal-preserved
 loop-terminal-preserved g c = (
-  c.octet.ensures.config ∙ c.loop-terminal.invariant.0,
+  c.octet.ensures.plan ∙ c.loop-terminal.invariant.0,
   λ items given s.
       gives_more (Ok c.in_default.field-0) tt (output (g.T.Target.taken c.args.target.now) c.args.page.now.items) (output (g.T.Target.taken c.loop-terminal.target) c.loop-terminal.page.items) (output (g.T.Target.taken c.octet.new.target) c.octet.new.page.items)
       (Holds c.args.exchange.now) (Holds c.loop-terminal.exchange) (Holds c.octet.new.self) c.args.line c.octet-octet.result items given c.loop-terminal.terminal.framer c.octet-octet.new.self.framer

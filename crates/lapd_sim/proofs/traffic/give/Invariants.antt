@@ -10,7 +10,7 @@ use Rattle.lapd_sim.proofs.traffic.give.Given as goal
 -- the lines are the same, and the octets so far have come
 abbrev pub invariant-loop-terminal : goal.invariant-loop-terminal
 invariant-loop-terminal g l =
-    (l.exchange.config ≡ l.fn.exchange.config)
+    (l.exchange.plan ≡ l.fn.exchange.plan)
     × ((items : List Item) (given : List ℕ) → framing.Stands l.fn.terminal.framer items given
     → Gives (Ok tt) (output (g.T.Target.taken l.fn.target) l.fn.page.items) (output (g.T.Target.taken l.target) l.page.items) (Holds l.fn.exchange) (Holds l.exchange) l.line items given l.terminal.framer)
 

@@ -23,7 +23,7 @@ returns-in-Err-clause-told g c = λ m h.
 
 pub loop-octet-preserved : goal.loop-octet-preserved
 loop-octet-preserved g c = (
-  c.in_default.ensures.config ∙ c.loop-octet.invariant.0,
+  c.in_default.ensures.plan ∙ c.loop-octet.invariant.0,
   λ m h.
       let i = c.loop-octet.octet-index in
       let s = after_rx c.args.line (take i c.args.octets.now) (scene m) in

@@ -11,6 +11,6 @@ use Rattle.lapd_sim.proofs.traffic.receive.Given as goal
 -- the lines are the same, and the octets so far have come
 abbrev pub invariant-loop-octet : goal.invariant-loop-octet
 invariant-loop-octet g l =
-    (l.exchange.config ≡ l.fn.exchange.config)
+    (l.exchange.plan ≡ l.fn.exchange.plan)
     × ((m : machine.Setup) → Holds l.fn.exchange m
     → Tells {E = WriteFailed} (Ok tt) (output (g.T.Target.taken l.fn.target) l.fn.page.items) (output (g.T.Target.taken l.target) l.page.items) (Holds l.exchange) (after_rx l.line (take l.octet-index l.octets) (scene m)))

@@ -1,8 +1,7 @@
 -- Hand-written answers for `Exchange::ask`.
-use Rattle.std.proofs.Common.{ap, ◌∙◌, sym, subst}
+use Rattle.std.proofs.Common.{◌∙◌, sym, subst}
 use Rattle.lapd_clock.specs.Timer.{AreInRange}
 use Rattle.model_card.specs.Event.{at}
-use Rattle.model_line.specs.declared.config.Config.{Config}
 use Rattle.model_line.specs.Event as line_event
 use Rattle.model_line.specs.Request.{request_of}
 use Rattle.lapd_sim.proofs.Exchanges.{past_on}
@@ -12,8 +11,9 @@ use Rattle.lapd_sim.proofs.exchange.Exchange.ask.Goals as goal
 pub invariant_of-self : goal.invariant_of-self
 invariant_of-self g c = record {
   in_range = c.args.self.now.in_range;
-  same_lines = ap (λ (x : Config). x.lines) c.request.ensures.after.config ∙ c.args.self.now.same_lines;
-  past = past_on c.args.self.now.config (at c.args.line (line_event.request (request_of c.args.request))) c.args.self.now.card c.request.new.self c.request.ensures.after c.args.self.now.past;
+  same_lines = c.request.ensures.after.lines ∙ c.args.self.now.same_lines;
+  same_kind = c.request.ensures.after.kind ∙ c.args.self.now.same_kind;
+  past = past_on c.args.self.now.plan.config (at c.args.line (line_event.request (request_of c.args.request))) c.args.self.now.board c.request.new.self c.request.ensures.after c.args.self.now.past;
   clock_lines = c.carry_out.ensures.lines ∙ c.args.self.now.clock_lines;
   lengths = subst AreInRange (sym c.carry_out.ensures.lengths) c.args.self.now.lengths;
   in_time = c.args.self.now.in_time;
@@ -22,8 +22,9 @@ invariant_of-self g c = record {
 pub invariant_of-self-in-Err-1 : goal.invariant_of-self-in-Err-1
 invariant_of-self-in-Err-1 g c = record {
   in_range = c.args.self.now.in_range;
-  same_lines = ap (λ (x : Config). x.lines) c.request.ensures.after.config ∙ c.args.self.now.same_lines;
-  past = past_on c.args.self.now.config (at c.args.line (line_event.request (request_of c.args.request))) c.args.self.now.card c.request.new.self c.request.ensures.after c.args.self.now.past;
+  same_lines = c.request.ensures.after.lines ∙ c.args.self.now.same_lines;
+  same_kind = c.request.ensures.after.kind ∙ c.args.self.now.same_kind;
+  past = past_on c.args.self.now.plan.config (at c.args.line (line_event.request (request_of c.args.request))) c.args.self.now.board c.request.new.self c.request.ensures.after c.args.self.now.past;
   clock_lines = c.args.self.now.clock_lines;
   lengths = c.args.self.now.lengths;
   in_time = c.args.self.now.in_time;
@@ -34,6 +35,7 @@ returns-in-Err-clause-told g c = λ m h.
     let e = at c.args.line (line_event.request (request_of c.args.request)) in
     let is = c.in-Err.ensures.told m.card h.card in
     refused-told c.put_refused.result _ _ c.in-Err.refusal m e _ is c.put_refused.ensures (record {
+      kind = h.kind;
       config = h.config;
       card = c.in-Err.ensures.after.stands m.card h.card;
       clock = refused-clock c.args.self.now.clock c.in-Err.refusal m e is h.clock;

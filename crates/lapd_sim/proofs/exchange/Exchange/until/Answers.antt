@@ -8,7 +8,7 @@ use Rattle.lapd_sim.proofs.exchange.Exchange.until.Goals as goal
 
 pub loop-line-init : goal.loop-line-init
 loop-line-init g c = record {
-  config = refl;
+  plan = refl;
   waits = λ m h. waits_begins c.args.self.now (output (g.T.Target.taken c.args.target.now) c.args.page.now.items) c.args.end m h;
 }
 
@@ -26,7 +26,7 @@ loop-line-smaller g c =
 
 pub loop-line-preserved : goal.loop-line-preserved
 loop-line-preserved g c = record {
-  config = c.expire.ensures.config ∙ c.due.ensures.config ∙ c.loop-line.invariant.config;
+  plan = c.expire.ensures.plan ∙ c.due.ensures.plan ∙ c.loop-line.invariant.plan;
   waits = λ m h.
       let w = c.loop-line.invariant.waits m h in
       waits_on c.loop-line.self c.expire.new.self (output (g.T.Target.taken c.args.target.now) c.args.page.now.items) (output (g.T.Target.taken c.loop-line.target) c.loop-line.page.items) (output (g.T.Target.taken c.expire.new.target) c.expire.new.page.items)
@@ -38,5 +38,5 @@ pub returns-clause-told : goal.returns-clause-told
 returns-clause-told g c = λ m h.
     waits_over c.loop-line.self _ (output (g.T.Target.taken c.args.target.now) c.args.page.now.items) (output (g.T.Target.taken c.loop-line.target) c.loop-line.page.items) c.args.end m tt c.in_default.ensures.due
     (c.loop-line.invariant.waits m h)
-    (ap (λ (e : Exchange). e.config) c.in_default.ensures.unchanged) (ap (λ (e : Exchange). e.card) c.in_default.ensures.unchanged)
+    (ap (λ (e : Exchange). e.plan) c.in_default.ensures.unchanged) (ap (λ (e : Exchange). e.board) c.in_default.ensures.unchanged)
     (ap (λ (e : Exchange). e.clock) c.in_default.ensures.unchanged) refl

@@ -10,7 +10,7 @@ use Rattle.lapd_sim.proofs.exchange.Exchange.until.Given as goal
 -- from every setup for which the exchange stood, some timers have expired
 abbrev pub invariant-loop-line : goal.invariant-loop-line
 invariant-loop-line g l = record {
-  config : l.self.config ≡ l.fn.self.config;
+  plan : l.self.plan ≡ l.fn.self.plan;
   waits : (m : machine.Setup) → Holds l.fn.self m → Waits l.self (output (g.T.Target.taken l.fn.target) l.fn.page.items) (output (g.T.Target.taken l.target) l.page.items) l.end m;
 }
 

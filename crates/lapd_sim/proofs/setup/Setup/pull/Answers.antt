@@ -1,5 +1,5 @@
 -- Hand-written answers for `Setup::pull`.
-use Rattle.std.proofs.Common.{◌≡◌, ◌<◌, ◌++◌, [], length, take, get_or, sym, ap, subst, arith}
+use Rattle.std.proofs.Common.{◌≡◌, ◌<◌, ◌++◌, [], length, take, get_or, sym, ap, ◌∙◌, subst, arith}
 use Rattle.std.proofs.lemmas.List.{length-take}
 use Rattle.lapd_transcript.specs.Streams.{IsPut, IsStuck, output}
 use Rattle.model_sim.specs.Setup.{taken_at}
@@ -21,10 +21,10 @@ returns-in-Ok g c = λ m h.
     let hears = subst (λ d. Hears d (get_or m.taken line [])) (sym c.index_mut.ensures.value)
     (each_at Hears c.args.self.now.listeners.items m.taken line c.index_mut.result.now [] bound h.listeners) in
     let past = subst (λ taken. Hears c.index_mut.result.now (get_or taken line [])) (sym keep.1) hears in
-    pull_obeyed _ _ _ c.in_ok-line.ensures.0 c.args.count m (subst (λ n. line < n) (sym (ap (λ config. config.lines) h.exchange.config)) c.in_ok-line.ensures.1)
+    pull_obeyed _ _ _ c.in_ok-line.ensures.0 c.args.count m (h.exchange.kind ∙ c.in_ok-for_kind.ensures) (subst (λ n. line < n) (sym (ap (λ config. config.lines) h.exchange.config)) c.in_ok-line.ensures.1)
     (subst (λ xs. IsPut (output (g.T.Target.taken c.args.target.now) c.args.page.now.items) (output (g.T.Target.taken c.tell.new.target) c.tell.new.page.items) (pulled_text line (taken_at line p.setup) xs)) octets (c.in-Ok.ensures.told (taken_at line p.setup) past))
     (record {
-      exchange = record { config = holds.config; card = holds.card; clock = holds.clock; now = holds.now };
+      exchange = record { kind = holds.kind; config = holds.config; card = holds.card; clock = holds.clock; now = holds.now };
       terminals = subst (λ ts. Each Sends c.args.self.now.terminals.items ts) (sym keep.0) h.terminals;
       listeners = each_set Hears c.args.self.now.listeners.items p.setup.taken line c.tell.new.listener (taken_at line p.setup ++ p.octets)
           (subst (λ xs. Hears c.tell.new.listener (taken_at line p.setup ++ xs)) octets (c.in-Ok.ensures.after (taken_at line p.setup) past))
@@ -42,5 +42,5 @@ returns-in-Err g c = λ m h.
     let hears = subst (λ d. Hears d (get_or m.taken line [])) (sym c.index_mut.ensures.value)
     (each_at Hears c.args.self.now.listeners.items m.taken line c.index_mut.result.now [] bound h.listeners) in
     let past = subst (λ taken. Hears c.index_mut.result.now (get_or taken line [])) (sym keep.1) hears in
-    pull_broken _ _ (Stands c.args.self.now) c.in_ok-line.ensures.0 c.args.count m (subst (λ n. line < n) (sym (ap (λ config. config.lines) h.exchange.config)) c.in_ok-line.ensures.1)
+    pull_broken _ _ (Stands c.args.self.now) c.in_ok-line.ensures.0 c.args.count m (h.exchange.kind ∙ c.in_ok-for_kind.ensures) (subst (λ n. line < n) (sym (ap (λ config. config.lines) h.exchange.config)) c.in_ok-line.ensures.1)
     (subst (λ xs. IsStuck (output (g.T.Target.taken c.args.target.now) c.args.page.now.items) (output (g.T.Target.taken c.tell.new.target) c.tell.new.page.items) (pulled_text line (taken_at line p.setup) xs)) octets (c.in-Err.ensures.told (taken_at line p.setup) past))

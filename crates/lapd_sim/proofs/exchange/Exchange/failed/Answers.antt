@@ -1,0 +1,38 @@
+-- Hand-written answers for `Exchange::failed`.
+use Rattle.std.proofs.Common.{◌<◌, ◌∙◌, refl, sym, subst}
+use Rattle.lapd_clock.specs.Timer.{AreInRange}
+use Rattle.lapd_line.specs.Reports.{report_told}
+use Rattle.model_line.specs.declared.config.Config.{Config}
+use Rattle.model_line.specs.Event.{told}
+use Rattle.model_line.specs.Laws.{orders_in}
+use Rattle.model_card.specs.Happening.{failed}
+use Rattle.model_sim.specs.Steps.{answer_text}
+use Rattle.model_sim.proofs.AtOnce.{fault_at_once}
+use Rattle.lapd_sim.specs.declared.board.Board.TheVariants.{Frames}
+use Rattle.lapd_sim.specs.Obeyed.{scene}
+use Rattle.lapd_sim.specs.Stands.{Holds}
+use Rattle.lapd_sim.proofs.Boards.{exchange_leads, on_frames, holds_once, told_as}
+use Rattle.lapd_sim.proofs.Exchanges.{past_by}
+use Rattle.lapd_sim.proofs.exchange.Exchange.failed.Goals as goal
+
+pub invariant_of-self : goal.invariant_of-self
+invariant_of-self g c =
+    let leads = exchange_leads c.args.self.now c.in-Frames.card c.in-Frames.is (failed c.args.line c.args.fault) c.in-Frames.card (λ m there. (there, tt)) c.requires.line c.failed-report.ensures.after in
+    record {
+      in_range = c.args.self.now.in_range;
+      same_lines = leads.lines ∙ c.args.self.now.same_lines;
+      same_kind = leads.kind ∙ c.args.self.now.same_kind;
+      past = past_by c.args.self.now.plan.config (failed c.args.line c.args.fault) c.args.self.now.board (Frames c.in-Frames.card) leads c.args.self.now.past;
+      clock_lines = c.carry_out.ensures.lines ∙ c.args.self.now.clock_lines;
+      lengths = subst AreInRange (sym c.carry_out.ensures.lengths) c.args.self.now.lengths;
+      in_time = c.args.self.now.in_time;
+    }
+
+pub returns-clause-told : goal.returns-clause-told
+returns-clause-told g c = λ m h.
+    let a = told (report_told c.failed-report.result) in
+    let leads = exchange_leads c.args.self.now c.in-Frames.card c.in-Frames.is (failed c.args.line c.args.fault) c.in-Frames.card (λ m there. (there, tt)) c.requires.line c.failed-report.ensures.after in
+    let on = on_frames c.args.self.now c.in-Frames.card c.in-Frames.is m.card h.card in
+    let there : c.args.line < m.card.config.lines = subst (λ (k : Config). c.args.line < k.lines) (sym h.config) c.requires.line in
+    told_as c.carry_out.result _ _ (Holds _) _ _ (fault_at_once c.args.line c.args.fault a (scene m) on.1 there (c.failed-report.ensures.told m.card on.0)) c.carry_out.ensures.written
+    (holds_once (failed c.args.line c.args.fault) (orders_in a) (answer_text c.args.line a) c.args.self.now _ m h leads refl refl c.carry_out.ensures.ordered)

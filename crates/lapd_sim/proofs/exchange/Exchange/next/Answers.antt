@@ -1,0 +1,74 @@
+-- Hand-written answers for `Exchange::next`.
+use Rattle.std.proofs.Common.{◌<◌, ◌∙◌, [], fold, refl, sym, ap, subst, arith}
+use Rattle.lapd_clock.specs.Timer.{AreInRange}
+use Rattle.lapd_line.specs.FrameStands.{IsNext}
+use Rattle.model_line.specs.declared.config.Config.{Config}
+use Rattle.model_line.specs.Pull.{taken}
+use Rattle.model_card.specs.Card.{line_at}
+use Rattle.model_card.specs.Happening.{goes}
+use Rattle.model_sim.specs.Setup.{ordered}
+use Rattle.model_sim.proofs.AtOnce.{orders_of, next_at_once}
+use Rattle.lapd_sim.specs.declared.board.Board.TheVariants.{Frames}
+use Rattle.lapd_sim.specs.Obeyed.{scene}
+use Rattle.lapd_sim.specs.Stands.{Holds}
+use Rattle.lapd_sim.proofs.Boards.{exchange_leads, on_frames, room_is, fits_is, holds_once, taken_is, orders_are, none_is}
+use Rattle.lapd_sim.proofs.Exchanges.{past_by}
+use Rattle.lapd_sim.proofs.exchange.Exchange.next.Goals as goal
+
+pub invariant_of-self : goal.invariant_of-self
+invariant_of-self c =
+    let leads = exchange_leads c.args.self.now c.in-Frames.card c.in-Frames.is (goes c.args.line) c.next_frame.new.self (λ m there. (there, tt)) c.requires.line c.in-Ok-Some.ensures.after in
+    record {
+      in_range = c.args.self.now.in_range;
+      same_lines = leads.lines ∙ c.args.self.now.same_lines;
+      same_kind = leads.kind ∙ c.args.self.now.same_kind;
+      past = past_by c.args.self.now.plan.config (goes c.args.line) c.args.self.now.board (Frames c.next_frame.new.self) leads c.args.self.now.past;
+      clock_lines = c.order.ensures.lines ∙ c.args.self.now.clock_lines;
+      lengths = subst AreInRange (sym c.order.ensures.lengths) c.args.self.now.lengths;
+      in_time = c.args.self.now.in_time;
+    }
+
+pub invariant_of-self-in-Ok-None : goal.invariant_of-self-in-Ok-None
+invariant_of-self-in-Ok-None c =
+    let leads = exchange_leads c.args.self.now c.in-Frames.card c.in-Frames.is (goes c.args.line) c.next_frame.new.self (λ m there. (there, tt)) c.requires.line c.in-Ok-None.ensures.after in
+    record {
+      in_range = c.args.self.now.in_range;
+      same_lines = leads.lines ∙ c.args.self.now.same_lines;
+      same_kind = leads.kind ∙ c.args.self.now.same_kind;
+      past = past_by c.args.self.now.plan.config (goes c.args.line) c.args.self.now.board (Frames c.next_frame.new.self) leads c.args.self.now.past;
+      clock_lines = c.args.self.now.clock_lines;
+      lengths = c.args.self.now.lengths;
+      in_time = c.args.self.now.in_time;
+    }
+
+-- there is room
+pub unreachable-requires : goal.unreachable-requires
+unreachable-requires c = room_is c.args.self.now c.in-Frames.card c.in-Frames.is _ c.requires.room (c.in-Err.ensures.refused.0 refl)
+
+pub returns-in-Ok-Some-clause-fits : goal.returns-in-Ok-Some-clause-fits
+returns-in-Ok-Some-clause-fits c =
+    fits_is c.args.self.now c.in-Frames.card c.in-Frames.is c.args.line c.in-Ok-Some.next c.next_frame.new.out
+    (λ m s. subst (λ n. IsNext (taken m.config (line_at c.args.line m)) n c.next_frame.new.out) c.in-Ok-Some.field-0-is (c.in-Ok-Some.ensures.gives m s))
+
+pub returns-in-Ok-Some-clause-next : goal.returns-in-Ok-Some-clause-next
+returns-in-Ok-Some-clause-next c = λ m h.
+    let on = on_frames c.args.self.now c.in-Frames.card c.in-Frames.is m.card h.card in
+    taken_is (taken m.card.config (line_at c.args.line m.card)) c.in-Ok-Some.next c.next_frame.new.out (subst (λ n. IsNext (taken m.card.config (line_at c.args.line m.card)) n c.next_frame.new.out) c.in-Ok-Some.field-0-is (c.in-Ok-Some.ensures.gives m.card on.0))
+
+pub returns-in-Ok-Some-clause-after : goal.returns-in-Ok-Some-clause-after
+returns-in-Ok-Some-clause-after c = λ m h.
+    let leads = exchange_leads c.args.self.now c.in-Frames.card c.in-Frames.is (goes c.args.line) c.next_frame.new.self (λ m there. (there, tt)) c.requires.line c.in-Ok-Some.ensures.after in
+    let on = on_frames c.args.self.now c.in-Frames.card c.in-Frames.is m.card h.card in
+    let there : c.args.line < m.card.config.lines = subst (λ (k : Config). c.args.line < k.lines) (sym h.config) c.requires.line in
+    let o = taken m.card.config (line_at c.args.line m.card) in
+    subst (Holds _) (sym (next_at_once c.args.line (scene m) on.1 there))
+    (holds_once (goes c.args.line) (orders_of o) [] c.args.self.now _ m h leads refl refl (c.order.ensures.ordered ∙ ap (λ orders. fold (ordered c.args.line c.args.self.now.moment) c.args.self.now.clock orders) (c.orders.ensures ∙ orders_are o c.in-Ok-Some.next c.next_frame.new.out (subst (λ n. IsNext (taken m.card.config (line_at c.args.line m.card)) n c.next_frame.new.out) c.in-Ok-Some.field-0-is (c.in-Ok-Some.ensures.gives m.card on.0)))))
+
+pub returns-in-Ok-None-clause-after : goal.returns-in-Ok-None-clause-after
+returns-in-Ok-None-clause-after c = λ m h.
+    let leads = exchange_leads c.args.self.now c.in-Frames.card c.in-Frames.is (goes c.args.line) c.next_frame.new.self (λ m there. (there, tt)) c.requires.line c.in-Ok-None.ensures.after in
+    let on = on_frames c.args.self.now c.in-Frames.card c.in-Frames.is m.card h.card in
+    let there : c.args.line < m.card.config.lines = subst (λ (k : Config). c.args.line < k.lines) (sym h.config) c.requires.line in
+    let o = taken m.card.config (line_at c.args.line m.card) in
+    subst (Holds _) (sym (next_at_once c.args.line (scene m) on.1 there))
+    (holds_once (goes c.args.line) (orders_of o) [] c.args.self.now _ m h leads refl refl (ap (λ orders. fold (ordered c.args.line c.args.self.now.moment) c.args.self.now.clock orders) (none_is o c.next_frame.new.out (subst (λ n. IsNext (taken m.card.config (line_at c.args.line m.card)) n c.next_frame.new.out) c.in-Ok-None.field-0-is (c.in-Ok-None.ensures.gives m.card on.0)))))

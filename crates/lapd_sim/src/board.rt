@@ -1,0 +1,113 @@
+//! The card of an exchange, of either kind.
+
+ghost use Rattle.std.specs.Prelude.{◌≡◌, ◌<◌, IfOk};
+ghost use Rattle.model_card.specs.Card as machine;
+ghost use Rattle.model_card.specs.Event.{at};
+ghost use Rattle.model_card.specs.Machine.{answer};
+ghost use Rattle.model_line.specs.Event as line_event;
+ghost use Rattle.model_line.specs.Request.{request_of};
+ghost use Rattle.model_sim.specs.Steps.{held};
+ghost use Rattle.lapd_card.specs.Reply.{answer_of_result};
+ghost use Rattle.lapd_line.specs.Reports.{report_told};
+
+use crate::faults::LineFault;
+use lapd_card::{Card, CardFault, Config, FrameCard, Report, Request};
+use lapd_frame::{Refusal, Timer};
+use lapd_script::{CardKind, FaultKind};
+use lapd_store::RawShelf;
+use std::alloc::Global;
+
+/// What a card line says.
+#[derive(Clone, Copy)]
+pub(crate) struct Plan {
+    pub(crate) kind: CardKind,
+    pub(crate) config: Config,
+}
+
+/// A card for octets, or for frames.
+#[derive(Drop)]
+pub(crate) enum Board {
+    Octets(Card<RawShelf>),
+    Frames(FrameCard<RawShelf>),
+}
+
+impl Board {
+    ghost use Rattle.lapd_sim.specs.Boards.{kind_of, line_count, OnBoard, Leads};
+    ghost use Rattle.lapd_sim.specs.Obeyed.{Begins};
+
+    pub(crate) fn start(alloc: Global, plan: Plan) -> Result<Board, LineFault>
+        ensures kind { IfOk result (λ board. kind_of board ≡ plan.kind) }
+        ensures lines { IfOk result (λ board. line_count board ≡ plan.config.lines) }
+        ensures begun { Begins result plan.kind plan.config (λ board m. OnBoard board m.card) }
+    {
+        let config = plan.config;
+        if config.fault().is_some() {
+            return Err(LineFault::Faulty(FaultKind::BadCard));
+        }
+        let Ok(shelf) = RawShelf::start(alloc, config.slots.into(), config.n201) else {
+            return Err(LineFault::OutOfMemory);
+        };
+        match plan.kind {
+            CardKind::Octets => match Card::start(alloc, config, shelf) {
+                Ok(card) => Ok(Board::Octets(card)),
+                Err(CardFault::BadConfig(_)) => Err(LineFault::Faulty(FaultKind::BadCard)),
+                Err(_) => Err(LineFault::OutOfMemory),
+            },
+            CardKind::Frames => match FrameCard::start(alloc, config, shelf) {
+                Ok(card) => Ok(Board::Frames(card)),
+                Err(CardFault::BadConfig(_)) => Err(LineFault::Faulty(FaultKind::BadCard)),
+                Err(_) => Err(LineFault::OutOfMemory),
+            },
+        }
+    }
+
+    /// How many lines there are.
+    pub(crate) fn lines(&self) -> usize
+        ensures { result ≡ line_count self.now }
+    {
+        match self {
+            Board::Octets(card) => card.lines(),
+            Board::Frames(card) => card.lines(),
+        }
+    }
+
+    /// A timer of a line expires.
+    pub(crate) fn expire(&mut self, line: usize, timer: Timer) -> Report<'static>
+        requires { line < line_count self.old }
+        ensures told { (m : machine.Card) → OnBoard self.old m
+            → line_event.told (report_told result) ≡ answer (at line (line_event.expiry timer)) m }
+        ensures after { Leads (at line (line_event.expiry timer)) self.old self.new }
+    {
+        match self {
+            Board::Octets(card) => card.expire(line, timer),
+            Board::Frames(card) => card.expire(line, timer),
+        }
+    }
+
+    /// Layer 3 asks for something.
+    pub(crate) fn request(
+        &mut self,
+        line: usize,
+        request: Request<'_>,
+    ) -> Result<Report<'static>, Refusal>
+        requires { line < line_count self.old }
+        ensures told { (m : machine.Card) → OnBoard self.old m
+            → answer_of_result result ≡ answer (at line (line_event.request (request_of request.entry))) m }
+        ensures after { Leads (at line (line_event.request (request_of request.entry))) self.old self.new }
+    {
+        match self {
+            Board::Octets(card) => card.request(line, request),
+            Board::Frames(card) => card.request(line, request),
+        }
+    }
+
+    /// How many octets the card holds.
+    pub(crate) fn stored(&self) -> u32
+        ensures { (m : machine.Card) → OnBoard self.now m → result ≡ held (kind_of self.now) m }
+    {
+        match self {
+            Board::Octets(card) => card.stored(),
+            Board::Frames(card) => card.stored(),
+        }
+    }
+}

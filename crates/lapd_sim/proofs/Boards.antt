@@ -1,15 +1,12 @@
 -- What happens on a card of either kind.
-use Rattle.std.proofs.Common.{◌≡◌, ℕ, ◌+◌, ◌-◌, ◌<◌, ◌≤◌, List, [], ◌∷◌, ◌++◌, fold, length, take, Option, None, Some, Result, Ok, Err, refl, sym, ap, ◌∙◌, subst, arith}
-use Rattle.std.specs.Prelude.{sum_by}
+use Rattle.std.proofs.Common.{◌≡◌, ℕ, ◌+◌, ◌-◌, ◌<◌, ◌≤◌, List, [], ◌∷◌, fold, length, Option, None, Some, Result, Ok, Err, refl, sym, ap, ◌∙◌, subst, arith}
 use Rattle.std.proofs.Math.Logic.{∥∥₁_elim}
 use Rattle.std.proofs.Props.{props}
 use Rattle.std.proofs.lemmas.List.{length-take}
-use Rattle.lapd_bits.specs.StuffingLaws.{AreOctets}
 use Rattle.lapd_card.specs.Card as octets_card
 use Rattle.lapd_card.specs.Stands as octets
 use Rattle.lapd_card.specs.FrameCard as frames_card
 use Rattle.lapd_card.specs.FrameStands as frames
-use Rattle.lapd_clock.specs.Timers as clocks
 use Rattle.lapd_frame.specs.ShortLists.{listed}
 use Rattle.lapd_frame.specs.declared.timers.Order.{Order}
 use Rattle.lapd_frame.specs.declared.timers.Timer.{Timer}
@@ -26,7 +23,7 @@ use Rattle.model_card.specs.Card as machine
 use Rattle.model_card.specs.Event.{Event, at}
 use Rattle.model_card.specs.Machine.{after}
 use Rattle.model_card.specs.Run.{after_all}
-use Rattle.model_card.specs.Happening.{Happening, comes, failed, goes, expires, asks, line_of, events_of, HappensAt, AreIdle}
+use Rattle.model_card.specs.Happening.{Happening, expires, asks, line_of, events_of, HappensAt}
 use Rattle.model_sim.specs.Setup.{Setup, ordered}
 use Rattle.model_sim.specs.Steps.{Scene}
 use Rattle.model_sim.proofs.AtOnce.{at_once, orders_of, idle_after}

@@ -5,7 +5,6 @@ use Rattle.model_line.specs.Pull.{Taken}
 use Rattle.lapd_script.specs.Meaning as meaning
 use Rattle.lapd_script.specs.declared.command.CardKind.{CardKind}
 use Rattle.lapd_script.specs.declared.command.CardKind.TheVariants.{Octets, Frames}
-use Rattle.lapd_script.specs.declared.kind.FaultKind.{FaultKind}
 use Rattle.lapd_script.specs.declared.kind.FaultKind.TheVariants.{BadLine, BadFrame}
 use Rattle.lapd_transcript.specs.Streams.{Output, IsPut, IsStuck, Puts}
 use Rattle.lapd_transcript.specs.Text.{frame_text, nothing_text}

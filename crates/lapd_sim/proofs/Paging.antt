@@ -1,5 +1,5 @@
 -- The page on its way, while a script is played.
-use Rattle.std.proofs.Common.{◌≡◌, ◌++◌, ◌∙◌, ℕ, List, [], fold, Bool, Option, Ok, Err, sym, ap, subst}
+use Rattle.std.proofs.Common.{◌≡◌, ◌++◌, ◌∙◌, ℕ, List, [], Bool, Option, Ok, Err, sym, ap, subst}
 use Rattle.std.proofs.lemmas.List.{append-nil}
 use Rattle.std.proofs.lemmas.Grind.{fold-append}
 use Rattle.lapd_transcript.specs.Streams.{Output, IsPut, IsStuck}
@@ -11,7 +11,6 @@ use Rattle.lapd_sim.specs.declared.faults.PlayFault.{PlayFault}
 use Rattle.lapd_sim.specs.declared.faults.PlayFault.TheVariants.{Read, Write, Script, OutOfMemory}
 use Rattle.lapd_sim.specs.declared.lines.ScriptLines.{ScriptLines}
 use Rattle.lapd_sim.specs.Pages.{PutsNone, PutsSome, Reaches}
-use Rattle.lapd_sim.specs.ScriptLines.{AreLeft}
 use Rattle.lapd_sim.specs.Plays.{PlaysOn}
 use Rattle.lapd_sim.proofs.Playing.{IsPlayed, grows, stops_reading}
 

@@ -1,7 +1,5 @@
 -- Hand-written answers for `tell_next`.
-use Rattle.std.proofs.Common.{Some, None, sym, subst}
-use Rattle.lapd_transcript.specs.Streams.{Puts, output}
-use Rattle.lapd_transcript.specs.Text.{frame_text}
+use Rattle.std.proofs.Common.{subst}
 use Rattle.lapd_sim.specs.Boards.{IsTaken}
 use Rattle.lapd_sim.proofs.Happened.{told_frame, told_nothing}
 use Rattle.lapd_sim.proofs.traffic.tell_next.Goals as goal

@@ -1,5 +1,5 @@
 -- Hand-written answers for `Exchange::next`.
-use Rattle.std.proofs.Common.{◌<◌, ◌∙◌, [], fold, refl, sym, ap, subst, arith}
+use Rattle.std.proofs.Common.{◌<◌, ◌∙◌, [], fold, refl, sym, ap, subst}
 use Rattle.lapd_clock.specs.Timer.{AreInRange}
 use Rattle.lapd_line.specs.FrameStands.{IsNext}
 use Rattle.model_line.specs.declared.config.Config.{Config}

@@ -1,10 +1,8 @@
 -- Hand-written answers for `Setup::frame`.
 use Rattle.std.proofs.Common.{◌<◌, ◌∙◌, sym, subst, ap}
-use Rattle.lapd_transcript.specs.Streams.{IsPut, output}
 use Rattle.model_card.specs.Happening.{comes, events_of}
-use Rattle.model_sim.specs.Steps.{after_happening}
 use Rattle.lapd_sim.specs.Obeyed.{scene}
-use Rattle.lapd_sim.specs.Stands.{Each, Hears, Holds, Sends}
+use Rattle.lapd_sim.specs.Stands.{Each, Hears, Sends}
 use Rattle.lapd_sim.proofs.Scenes.{events_keep}
 use Rattle.lapd_sim.proofs.Happened.{frame_came}
 use Rattle.lapd_sim.proofs.setup.Setup.frame.Goals as goal

@@ -79,19 +79,19 @@ module _ (c : Config) (events : List Event) (number : ℕ) (ranged : line.IsInRa
   first : AreAtLines (fresh c) before
   first = all-left (IsAtLine (fresh c)) before pulls these
 
-  kept : card.config ≡ c
+  pub kept : card.config ≡ c
   kept = config-stays (fresh c) before
 
-  sound : IsSound card
+  pub sound : IsSound card
   sound = always_sound (fresh c) before (fresh_is_sound c ranged) first
 
-  few : number < card.config.lines
+  pub few : number < card.config.lines
   few = subst (λ (c : Config). number < c.lines) (sym kept) within
 
-  later : AreAtLines card pulls
+  pub later : AreAtLines card pulls
   later = subst (λ (c : Config). All (λ (e : Event). e.line < c.lines) pulls) (sym kept) (all-right (IsAtLine (fresh c)) before pulls these)
 
-  short : bits_to_go card.config (line_at number card) < 8 * pulls_at number pulls
+  pub short : bits_to_go card.config (line_at number card) < 8 * pulls_at number pulls
   short =
       let most : bits_to_go c (line_at number card) ≤ most_bits c = (few-to-go (fresh c) before (fresh_is_sound c ranged) first number within (begins-with-few c number within)).bits in
       let pulled : most_bits c / 8 + 1 ≤ pulls_at number pulls = enough in

@@ -31,3 +31,9 @@ pub mod AnswersAreAsked
 pub mod Deliveries
 pub mod DeliveriesRun
 pub mod AllAreTold
+pub mod DataOfLink
+pub mod DataKnown
+pub mod DataGoesOut
+pub mod DataAsked
+pub mod DataRun
+pub mod AllDataGoesOut

@@ -80,6 +80,7 @@ pub record HasOne (c : Config) (service : Service) (tei : ℕ) (e : Event) (befo
   pub placed : place_in before tei ≡ Some place
   pub event : link.Event
   pub by : IsBy c before e a service tei event
+  pub aimed : (e ≡ pull) ⊎ (aim_of c e before ≡ at_link service tei place event)
   pub is : link_of service tei after ≡ links.after (terms c service tei) event (link_of service tei before)
   pub notes : notes_of a ≡ (links.told (terms c service tei) event (link_of service tei before)).notes
   pub contents : contents_in a ≡ option_or (links.told (terms c service tei) event (link_of service tei before)).delivered
@@ -202,6 +203,7 @@ module _ (c : Config) (l : Line) (s : IsSound c l) (service : Service) (tei : �
               placed = has-place l.management.places by place s.management.table at;
               event = event;
               by = ties;
+              aimed = inr is;
               is = read.same-read fresh itself its by (with_link (link_number place its) (y its by place event at) l) (of_aim c (at_link its by place event) now).line refl refl
                   ∙ own-after its by place event at;
               notes = tells.0 ∙ ap (λ x. (links.told (terms c its by) event x).notes) before;
@@ -371,6 +373,7 @@ module _ (c : Config) (l : Line) (s : IsSound c l) (service : Service) (tei : �
             placed = x.1;
             event = link.offer;
             by = refl;
+            aimed = inl refl;
             is = x.2;
             notes = sym q.0;
             contents = sym (ap (λ o. option_or o (links.told Own link.offer (link_of service tei l)).unit) q.1 ∙ q.2);

@@ -15,3 +15,5 @@ pub mod WorkedTurns
 pub mod WorkedAnswers
 pub mod Deliveries
 pub mod WorkedDeliveries
+pub mod DataGoesOut
+pub mod WorkedData

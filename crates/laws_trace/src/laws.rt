@@ -4,6 +4,7 @@ ghost use Rattle.laws_trace.specs.Trace.{Always};
 ghost use Rattle.laws_trace.specs.AnswersAreAsked.{AnswersAreAsked};
 ghost use Rattle.laws_trace.specs.FramesAreRead.{FramesAreRead, FramesAreOctets, FramesGoOutAsTheyAre};
 ghost use Rattle.laws_trace.specs.FramesGoOut.{FramesGoOut, AllFramesGoOut, AllThatWaitedBegins};
+ghost use Rattle.laws_trace.specs.DataGoesOut.{DataGoesOut, AllDataGoesOut};
 ghost use Rattle.laws_trace.specs.Deliveries.{Deliveries, AllAreTold};
 ghost use Rattle.laws_trace.specs.LinksTakeTurns.{LinksTakeTurns};
 ghost use Rattle.laws_trace.specs.MessagesComeFirst.{MessagesComeFirst};
@@ -89,4 +90,16 @@ pub fn answers_are_asked()
 pub fn what_is_told_was_heard()
     ensures heard { Always Deliveries }
     ensures told { Always AllAreTold }
+{}
+
+/// Data goes out. Of each link, since its numbers began: the contents of new I-frames that begin are the first of the data
+/// that was granted, in order, each once; N(S) counts them from 0 on, modulo 128; and an I-frame that goes again, which is one
+/// of the last 127, has the contents that its number had. N(R) of each I-frame is the number of contents told of the link
+/// since then, modulo 128. Where numbers begin, contents that had not gone stay, and take the first numbers, or none stays
+/// (`front`). And all of it has gone, once the line was only pulled, as often as the configuration says, on a link in state 7
+/// whose terminal is not busy, with fewer than k I-frames outstanding (`all`; Q.921 clauses 3.5.2.1 to 3.5.2.6, 5.5.1.2, 5.6.1,
+/// 5.6.4, 5.6.5 and 5.7).
+pub fn data_goes_out()
+    ensures front { Always DataGoesOut }
+    ensures all { Always AllDataGoesOut }
 {}

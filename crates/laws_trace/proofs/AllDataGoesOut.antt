@@ -1,0 +1,72 @@
+-- All data goes out, where a line is only pulled, as often as the configuration says: the law.
+use Rattle.std.proofs.Common.{◌≡◌, ℕ, ◌<◌, get_or, Option, Some, None, sym, ap, ◌∙◌, subst, true≢false, refl, arith}
+use Rattle.std.specs.Option.{option_map_or}
+use Rattle.lapd_frame.specs.declared.services.Service.{Service}
+use Rattle.lapd_tei.proofs.Tables.{place_of-is}
+use Rattle.model_link.specs.Link.{fresh, is_multiple_frame}
+use Rattle.model_link.specs.Sound as link_sound
+use Rattle.model_link.specs.declared.states.State.TheVariants.{Established}
+use Rattle.model_line.specs.declared.config.Config.{Config}
+use Rattle.model_line.specs.Line.{Line, link_in, link_of, link_at, link_number, place_at, place_in, service_at, tei_at, terms}
+use Rattle.model_line.specs.Sound.{IsSound}
+use Rattle.model_line.proofs.LinksSound.{sound_in}
+use Rattle.model_line.proofs.Numbers.{place_at-number, service_at-number, number_within}
+use Rattle.laws_line.specs.Pulls.{HasNothing, IsSilent}
+use Rattle.model_card.specs.Card as cards
+use Rattle.model_card.specs.Card.{line_at}
+use Rattle.model_card.specs.Run.{after_all}
+use Rattle.model_card.proofs.CardSound.{fresh_is_sound, always_sound}
+use Rattle.laws_card.proofs.Meanwhile.{line-sound, card-drains}
+use Rattle.laws_card.proofs.Wherever.{config-stays}
+use Rattle.laws_trace.specs.DataGoesOut.{AllDataGoesOut}
+use Rattle.laws_trace.specs.Trace.{Always}
+use Rattle.laws_trace.proofs.AllFramesGoOut as frames
+use Rattle.laws_trace.proofs.DataGoesOut.{quiet}
+use Rattle.laws_trace.proofs.DataKnown.{all-has-gone}
+use Rattle.laws_trace.proofs.DataRun.{at-end}
+use Rattle.laws_trace.proofs.UnitsGoOut.{after-both}
+
+-- A link of a line that has nothing to send has nothing to send.
+silent-there : (c : Config) (l : Line) → IsSound c l → HasNothing c l → (service : Service) (tei place : ℕ) → place_in l tei ≡ Some place
+    → IsSilent (terms c service tei) (link_of service tei l)
+silent-there c l s h service tei place is =
+    let found = place_of-is l.management.places tei place is in
+    let within : place < c.terminals = omega (arith, s.places, found.0) in
+    let number = link_number place service in
+    let there : tei_at (place_at number) l ≡ Some tei = ap (λ p. get_or l.management.places p None) (place_at-number place service) ∙ found.1 in
+    let known : IsSilent (terms c (service_at number) tei) (link_at number l) = h.links number (number_within place c.terminals service within) tei there in
+    subst (IsSilent (terms c service tei)) (sym (ap (λ o. option_map_or (link_in l service) o fresh) is))
+    (subst (λ x. IsSilent (terms c x tei) (link_at number l)) (service_at-number place service) known)
+
+-- A link that is up is one of a TEI on the line.
+on-line : (l : Line) (service : Service) (tei : ℕ) → (link_of service tei l).state ≡ Established → (o : Option ℕ) → place_in l tei ≡ o → (place : ℕ) × (place_in l tei ≡ Some place)
+on-line l service tei up (Some place) on = (place, on)
+on-line l service tei up None off =
+    absurd (true≢false (sym (ap is_multiple_frame up) ∙ ap (λ o. is_multiple_frame (option_map_or (link_in l service) o fresh).state) off))
+
+pub all-data-goes-out : Always AllDataGoesOut
+all-data-goes-out c events number ranged all within service tei before pulls split only enough may =
+    let m = after_all (cards.fresh c) before in
+    let m_sound = frames.sound c events number ranged all within before pulls split only enough in
+    let kept = frames.kept c events number ranged all within before pulls split only enough in
+    let nothing =
+    card-drains m number pulls m_sound (frames.few c events number ranged all within before pulls split only enough)
+    (frames.later c events number ranged all within before pulls split only enough) only
+    (frames.short c events number ranged all within before pulls split only enough) in
+    let last : after_all (cards.fresh c) events ≡ after_all m pulls = ap (after_all (cards.fresh c)) split ∙ after-both (cards.fresh c) before pulls in
+    let l = line_at number (after_all (cards.fresh c) events) in
+    let there : HasNothing c l =
+    subst (λ x. HasNothing c (line_at number x)) (sym last) (subst (λ d. HasNothing d (line_at number (after_all m pulls))) kept nothing) in
+    let end_sound = always_sound (cards.fresh c) events (fresh_is_sound c ranged) all in
+    let end_config : (after_all (cards.fresh c) events).config ≡ c = config-stays (cards.fresh c) events in
+    let s : IsSound c l =
+    subst (λ d. IsSound d l) end_config
+    (line-sound (after_all (cards.fresh c) events) number end_sound (subst (λ (d : Config). number < d.lines) (sym end_config) within)) in
+    let on = on-line l service tei may.state (place_in l tei) refl in
+    let x = at-end c events number ranged all within service tei in
+    let own = subst (link_sound.IsSound (terms c service tei)) (sym (ap (λ o. option_map_or (link_in l service) o fresh) on.1))
+    (sound_in c ranged l s service tei on.0 (place_of-is l.management.places tei on.0 on.1).1) in (
+      quiet x.told_count x.contents x.gone,
+      x.reaches,
+      all-has-gone (terms c service tei) (link_of service tei l) own x.contents x.gone x.knows (silent-there c l s there service tei on.0 on.1) may,
+    )

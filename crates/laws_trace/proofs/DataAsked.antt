@@ -1,0 +1,104 @@
+-- What an event of a line is to the data of a link: what it asks for, and what it does not.
+use Rattle.std.proofs.Common.{◌≡◌, ℕ, ◌==◌, ◌&&◌, Bool, true, false, cond, List, [], ◌∷◌, Option, Some, None, refl, sym, ap, ◌∙◌, true≢false, eq-eqb}
+use Rattle.std.specs.Prelude.{is_some}
+use Rattle.lapd_frame.specs.declared.services.Service.{Service}
+use Rattle.lapd_frame.specs.Services.{same_service}
+use Rattle.lapd_tei.proofs.Tables.{not_not}
+use Rattle.model_link.specs.declared.terms.Terms.{Terms}
+use Rattle.model_link.specs.Events as link
+use Rattle.model_link.specs.Link.{Link}
+use Rattle.model_link.specs.Requests as requests
+use Rattle.laws_link.specs.Accepted.{accepted}
+use Rattle.laws_link.specs.Offered.{i_frames}
+use Rattle.model_line.specs.declared.config.Config.{Config}
+use Rattle.model_line.specs.Event.{Event, octet, request, pull, Answer}
+use Rattle.model_line.specs.Line.{Line, has_tei, place_in}
+use Rattle.model_line.specs.Machine.{aim_of, answer, unless_refused}
+use Rattle.model_line.specs.Refusal.{refusal, bad_tei, no_link, wrong_state, too_long, queue_full, pool_full}
+use Rattle.model_line.specs.Request.{Request, Establish, Release, Data, Assign, Remove, Check, SetBusy, ClearBusy}
+use Rattle.model_line.specs.Requested.{at_requested}
+use Rattle.laws_line.specs.Requests.{of_link}
+use Rattle.laws_line.specs.Share.{is_granted}
+use Rattle.laws_line.specs.Steady.{IsBy}
+use Rattle.laws_line.proofs.Asked.{passed}
+use Rattle.laws_line.proofs.Granting.{not-refused}
+use Rattle.laws_line.proofs.Obeyed.{service-same}
+use Rattle.laws_line.proofs.Places.{is-off}
+use Rattle.laws_trace.specs.DataGoesOut.{data_asked}
+use Rattle.laws_trace.proofs.OneLink.{is_at_link}
+
+-- What an event that is no request and no pull is to its link: it accepts nothing, and gives nothing.
+pub no-data : (c : Config) (l : Line) (e : Event) (a : Answer) (service : Service) (tei : ℕ) (t : Terms) (k : Link) → ((r : Request) → e ≡ request r → ⊥) → (e ≡ pull → ⊥)
+    → (le : link.Event) → IsBy c l e a service tei le → (accepted t le k ≡ []) × (i_frames t le k ≡ 0)
+no-data c l e a service tei t k no-request no-pull (link.received r) by = (refl, refl)
+no-data c l e a service tei t k no-request no-pull (link.expired timer) by = (refl, refl)
+no-data c l e a service tei t k no-request no-pull (link.requested what full) by = absurd (no-request (of_link service tei what) by.0)
+no-data c l e a service tei t k no-request no-pull link.offer by = absurd (no-pull by)
+no-data c l e a service tei t k no-request no-pull link.cleared by = absurd by
+
+-- What a request is to its link.
+pub only-requested : (c : Config) (l : Line) (r : Request) (a : Answer) (service : Service) (tei : ℕ) (le : link.Event) → IsBy c l (request r) a service tei le
+    → (what : link.Request) × (full : Bool) × (le ≡ link.requested what full) × (r ≡ of_link service tei what) × (is_granted a ≡ true)
+only-requested c l r a service tei (link.received (link.frame f)) by = let e : request r ≡ octet by.value = by.by in cc e
+only-requested c l r a service tei (link.received link.undefined) by = let e : request r ≡ octet by.value = by.by in cc e
+only-requested c l r a service tei (link.received link.wrong_size) by = let e : request r ≡ octet by.value = by.by in cc e
+only-requested c l r a service tei (link.received link.overlong) by = let e : request r ≡ octet by.value = by.by in cc e
+only-requested c l r a service tei (link.expired timer) by = cc by
+only-requested c l r a service tei (link.requested what full) by = let e : request r ≡ request (of_link service tei what) = by.0 in (what, full, refl, cc e, by.1)
+only-requested c l r a service tei link.offer by = cc by
+only-requested c l r a service tei link.cleared by = absurd by
+
+pub only-offered : (c : Config) (l : Line) (a : Answer) (service : Service) (tei : ℕ) (le : link.Event) → IsBy c l pull a service tei le → le ≡ link.offer
+only-offered c l a service tei (link.received (link.frame f)) by = let e : pull ≡ octet by.value = by.by in cc e
+only-offered c l a service tei (link.received link.undefined) by = let e : pull ≡ octet by.value = by.by in cc e
+only-offered c l a service tei (link.received link.wrong_size) by = let e : pull ≡ octet by.value = by.by in cc e
+only-offered c l a service tei (link.received link.overlong) by = let e : pull ≡ octet by.value = by.by in cc e
+only-offered c l a service tei (link.expired timer) by = cc by
+only-offered c l a service tei (link.requested what full) by = let e : pull ≡ request (of_link service tei what) = by.0 in cc e
+only-offered c l a service tei link.offer by = refl
+only-offered c l a service tei link.cleared by = absurd by
+
+either-none : (b : Bool) → cond {A = List (List ℕ)} b [] [] ≡ []
+either-none true = refl
+either-none false = refl
+
+-- Data that is granted is accepted by its link,
+pub granted-data : (service : Service) (tei : ℕ) (t : Terms) (k : Link) (full : Bool) (what : link.Request)
+    → ((contents : List ℕ) → what ≡ link.Data contents → requests.refusal t k full (link.Data contents) ≡ None)
+    → accepted t (link.requested what full) k ≡ data_asked service tei (of_link service tei what)
+granted-data service tei t k full link.Establish h = either-none (is_some (requests.refusal t k full link.Establish))
+granted-data service tei t k full link.Release h = either-none (is_some (requests.refusal t k full link.Release))
+granted-data service tei t k full (link.Data contents) h =
+    ap (λ o. cond {A = List (List ℕ)} (is_some o) [] (contents ∷ [])) (h contents refl)
+    ∙ sym (ap (λ b. cond {A = List (List ℕ)} b (contents ∷ []) []) (ap (λ b. b && tei == tei) (service-same service) ∙ eq-eqb tei tei refl))
+granted-data service tei t k full link.SetBusy h = either-none (is_some (requests.refusal t k full link.SetBusy))
+granted-data service tei t k full link.ClearBusy h = either-none (is_some (requests.refusal t k full link.ClearBusy))
+
+-- and data for another link is none for this one.
+module _ (c : Config) (l : Line) (service : Service) (tei : ℕ) where
+  on-the-line : (its : Service) (by : ℕ) (contents : List ℕ) → refusal c false (Data its by contents) l ≡ None → has_tei by l ≡ true
+  on-the-line its by contents e =
+      let last = queue_full c its by l ∷ pool_full false ∷ [] in
+      let bad = passed (bad_tei by) (no_link by l ∷ wrong_state its by (link.Data contents) l ∷ too_long c contents ∷ last) e in
+      not_not (has_tei by l) (passed (no_link by l) (wrong_state its by (link.Data contents) l ∷ too_long c contents ∷ last) bad.1).0
+
+  pub elsewhere : (r : Request) → is_granted (answer c (request r) l) ≡ true → is_at_link service tei (aim_of c (request r) l) ≡ false → data_asked service tei r ≡ []
+  elsewhere (Establish its by) g away = refl
+  elsewhere (Release its by) g away = refl
+  elsewhere (Data its by contents) g away = go (place_in l by) refl
+    where
+      none : refusal c false (Data its by contents) l ≡ None
+      none = not-refused c (Data its by contents) l g
+
+      go : (o : Option ℕ) → place_in l by ≡ o → cond {A = List (List ℕ)} (same_service its service && by == tei) (contents ∷ []) [] ≡ []
+      go (Some place) on =
+          ap (λ b. cond {A = List (List ℕ)} b (contents ∷ []) [])
+          (sym (ap (λ o. is_at_link service tei (unless_refused o (at_requested its by (link.Data contents) (place_in l by)))) none
+          ∙ ap (λ o. is_at_link service tei (at_requested its by (link.Data contents) o)) on) ∙ away)
+      go None off = absurd (true≢false (sym (on-the-line its by contents none) ∙ is-off l.management.places by off))
+  elsewhere (Request.Unit its by contents) g away = refl
+  elsewhere (Assign by) g away = refl
+  elsewhere (Remove by) g away = refl
+  elsewhere (Check by) g away = refl
+  elsewhere (SetBusy its by) g away = refl
+  elsewhere (ClearBusy its by) g away = refl

@@ -1,0 +1,107 @@
+-- Data goes out.
+use Rattle.std.specs.Prelude.{◌≡◌, ◌⊎◌, ◌≤◌, ◌<◌, ◌==◌, ◌&&◌, ℕ, ◌+◌, ◌%◌, false, List, [], ◌∷◌, ◌++◌, length, drop, slice_get, Option, Some, None, IfSome, Result, Ok, Err, if◌then◌else◌}
+use Rattle.lapd_frame.specs.declared.addresses.Side.TheVariants.{Network}
+use Rattle.lapd_frame.specs.declared.controls.Control.{Control}
+use Rattle.lapd_frame.specs.declared.controls.Control.TheVariants.{Information}
+use Rattle.lapd_frame.specs.declared.faults.ReadFault.{ReadFault}
+use Rattle.lapd_frame.specs.declared.services.Service.{Service}
+use Rattle.lapd_frame.specs.Grammar.{Parts}
+use Rattle.lapd_frame.specs.Reading.{reading}
+use Rattle.lapd_frame.specs.Services.{same_service}
+use Rattle.model_link.specs.declared.states.State.TheVariants.{Established}
+use Rattle.model_link.specs.declared.terms.Terms.{Terms}
+use Rattle.model_link.specs.Link.{Link}
+use Rattle.model_line.specs.declared.config.Config.{Config}
+use Rattle.model_line.specs.Line.{link_of, terms}
+use Rattle.model_line.specs.Request as asked
+use Rattle.model_line.specs.Request.{Request}
+use Rattle.laws_line.specs.Drains.{most_pulls}
+use Rattle.model_card.specs.Card.{fresh, line_at}
+use Rattle.model_card.specs.Event.{Event}
+use Rattle.model_card.specs.Run.{after_all}
+use Rattle.laws_card.specs.Among.{ArePullsAt, pulls_at}
+use Rattle.laws_trace.specs.Deliveries.{Watched, nothing_yet, is_for, begins, watch}
+use Rattle.laws_trace.specs.Trace.{Seen, begun, noted, granted, trace_of}
+
+-- Whoever watches the link of a service with a TEI keeps in mind what was told of it, the contents that have numbers 0, 1, ..
+-- since its numbers began, and how many of these have gone.
+pub record Going : Type 0 where
+  pub told : Watched
+  pub contents : List (List ℕ)
+  pub gone : ℕ
+
+abbrev pub none_yet : Going
+none_yet = record { told = nothing_yet; contents = []; gone = 0 }
+
+-- An I-frame of the link that begins.
+pub record Sent : Type 0 where
+  pub ns : ℕ
+  pub nr : ℕ
+  pub contents : List ℕ
+
+abbrev pub sent_by : Control → List ℕ → Option Sent
+sent_by (Information ns nr p) info = Some (record { ns = ns.value; nr = nr.value; contents = info })
+sent_by other info = None
+
+abbrev pub sent_in : Service → ℕ → Result Parts ReadFault → Option Sent
+sent_in service tei (Ok frame) = if is_for service tei frame.address then sent_by frame.control frame.info else None
+sent_in service tei (Err fault) = None
+
+-- Its contents are those with a number, which N(S) is modulo 128: the next that has not gone, or again one of the last 127. N(R)
+-- is the number of contents told of the link since its numbers began (Q.921 clauses 3.5.2.1 to 3.5.2.6, 5.6.1 and 5.6.4).
+pub record HasNumber (g : Going) (sent : Sent) : Type 0 where
+  pub number : ℕ
+  pub is : slice_get g.contents number ≡ Some sent.contents
+  pub ns : sent.ns ≡ number % 128
+  pub nr : sent.nr ≡ g.told.count % 128
+  pub next_or_again : number ≤ g.gone
+  pub lately : g.gone ≤ number + 127
+
+abbrev pub IsSent : Service → ℕ → Going → Seen → Type 0
+IsSent service tei g (begun octets) = IfSome (sent_in service tei (reading Network octets)) (HasNumber g)
+IsSent service tei g other = Unit {0}
+
+-- Data that is granted takes the next number; and the next has gone once an I-frame has it.
+abbrev pub data_asked : Service → ℕ → Request → List (List ℕ)
+data_asked service tei (asked.Data its by contents) = if same_service its service && by == tei then contents ∷ [] else []
+data_asked service tei other = []
+
+abbrev pub gone_with : ℕ → Option Sent → ℕ
+gone_with gone None = gone
+gone_with gone (Some sent) = if sent.ns == gone % 128 then gone + 1 else gone
+
+-- Where the numbers begin, none has gone, and the contents that stay take the first numbers: all but the oldest n.
+abbrev pub goes_on : Service → ℕ → ℕ → Going → Seen → Going
+goes_on service tei n g (begun octets) =
+    record { told = watch service tei g.told (begun octets); contents = g.contents; gone = gone_with g.gone (sent_in service tei (reading Network octets)) }
+goes_on service tei n g (granted r) =
+    record { told = watch service tei g.told (granted r); contents = g.contents ++ data_asked service tei r; gone = g.gone }
+goes_on service tei n g (noted ns contents) =
+    let anew = begins service tei g.told.frame ns in
+    record { told = watch service tei g.told (noted ns contents); contents = if anew then drop n g.contents else g.contents; gone = if anew then 0 else g.gone }
+goes_on service tei n g other = record g { told = watch service tei g.told other }
+
+-- From one thing seen to the next, up to what is kept in mind at the end. Contents that leave where the numbers begin had gone,
+-- or none stays (clauses 5.5.1.2 and 5.7).
+abbrev pub Reaches : Service → ℕ → Going → List Seen → Going → Type 0
+Reaches service tei g [] end = g ≡ end
+Reaches service tei g (x ∷ t) end =
+    IsSent service tei g x × ((n : ℕ) × ((n ≤ g.gone) ⊎ (length g.contents ≤ n)) × Reaches service tei (goes_on service tei n g x) t end)
+
+-- So it is of every link, from the start of the card on: the contents of new I-frames are the first of the data granted, in
+-- order, each once, and those of I-frames that go again are what their number had.
+abbrev pub DataGoesOut : Config → List Event → ℕ → Type 0
+DataGoesOut c events number = (service : Service) (tei : ℕ) → (end : Going) × Reaches service tei none_yet (trace_of c events number) end
+
+-- And they are all of it, once the line was only pulled, as often as the configuration says: on a link in state 7 whose terminal
+-- is not busy, with fewer than k I-frames outstanding (clauses 5.6.1 and 5.6.5).
+pub record IsOpen (t : Terms) (l : Link) : Type 0 where
+  pub state : l.state ≡ Established
+  pub free : l.peer_busy ≡ false
+  pub window : l.s < l.a + t.k
+
+abbrev pub AllDataGoesOut : Config → List Event → ℕ → Type 0
+AllDataGoesOut c events number =
+    (service : Service) (tei : ℕ) (before pulls : List Event) → events ≡ before ++ pulls → ArePullsAt number pulls → most_pulls c ≤ pulls_at number pulls →
+    IsOpen (terms c service tei) (link_of service tei (line_at number (after_all (fresh c) events))) →
+    (end : Going) × Reaches service tei none_yet (trace_of c events number) end × (end.gone ≡ length end.contents)

@@ -1,11 +1,11 @@
-//! The lengths of contents that are put or copied one after the other.
+//! The lengths of contents that are put one after the other.
 
 use crate::fault::Fault;
 use crate::line::Shuffled;
 use crate::size::Size;
 use std::alloc::Global;
 
-/// How many contents are put or copied in a round.
+/// How many contents are put in a round.
 pub const CONTENTS: usize = 128;
 
 /// How many rounds have lengths of their own, so that a run of lengths comes again only after 8192.

@@ -9,7 +9,6 @@
 #![tactic(auto)]
 
 mod busy;
-mod copies;
 mod done;
 mod fault;
 mod frames;

@@ -15,13 +15,13 @@ use std::alloc::Global;
 const KEPT: u32 = 1000;
 
 /// How many shelves are filled in turn, so that no `put` has to wait for the one before it.
-pub const SHELVES: usize = 4;
+const SHELVES: usize = 4;
 
 /// How many slots a shelf has: with contents of 260 octets all of them lie in the nearest cache.
-pub const SLOTS: usize = CONTENTS / SHELVES;
+const SLOTS: usize = CONTENTS / SHELVES;
 
 /// How wide a slot is.
-pub const WIDTH: u16 = 260;
+const WIDTH: u16 = 260;
 
 /// The kinds of shelves.
 #[derive(Clone, Copy)]

@@ -2,7 +2,7 @@
 
 ghost use Rattle.std.specs.Prelude.{◌≤◌};
 
-/// How long contents are that are kept or copied.
+/// How long contents are that are kept.
 #[derive(Clone, Copy)]
 pub enum Size {
     /// 8 octets, the narrowest width of a slot.

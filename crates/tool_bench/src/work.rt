@@ -3,7 +3,6 @@
 ghost use Rattle.std.specs.Prelude.{◌≤◌};
 
 use crate::busy::busy;
-use crate::copies::Copying;
 use crate::done::Done;
 use crate::fault::Fault;
 use crate::frames::{Whole, serve};
@@ -52,8 +51,6 @@ pub enum Work {
     Busy,
     /// Contents that are put on a shelf, or lent.
     Keep(Keeping),
-    /// Contents that are copied.
-    Copy(Copying),
 }
 
 /// All of them, each with its word on the command line.
@@ -61,7 +58,7 @@ pub fn works() -> &'static [(&'static str, Work)] {
     &WORKS
 }
 
-const WORKS: [(&str, Work); 75] = [
+const WORKS: [(&str, Work); 51] = [
     ("check", Work::Check),
     ("hear-short", Work::HearShort),
     ("hear-long", Work::HearLong),
@@ -97,16 +94,8 @@ const WORKS: [(&str, Work); 75] = [
         Work::Keep(Keeping::Fill(Shelves::Raw, Lengths::Equal(Size::Narrow))),
     ),
     (
-        "raw-fill-20",
-        Work::Keep(Keeping::Fill(Shelves::Raw, Lengths::Equal(Size::Short))),
-    ),
-    (
         "raw-fill-64",
         Work::Keep(Keeping::Fill(Shelves::Raw, Lengths::Equal(Size::Middle))),
-    ),
-    (
-        "raw-fill-128",
-        Work::Keep(Keeping::Fill(Shelves::Raw, Lengths::Equal(Size::Long))),
     ),
     (
         "raw-fill-260",
@@ -121,16 +110,8 @@ const WORKS: [(&str, Work); 75] = [
         Work::Keep(Keeping::Keep(Shelves::Raw, Size::Narrow)),
     ),
     (
-        "raw-keep-20",
-        Work::Keep(Keeping::Keep(Shelves::Raw, Size::Short)),
-    ),
-    (
         "raw-keep-64",
         Work::Keep(Keeping::Keep(Shelves::Raw, Size::Middle)),
-    ),
-    (
-        "raw-keep-128",
-        Work::Keep(Keeping::Keep(Shelves::Raw, Size::Long)),
     ),
     (
         "raw-keep-260",
@@ -141,16 +122,8 @@ const WORKS: [(&str, Work); 75] = [
         Work::Keep(Keeping::Lend(Shelves::Raw, Size::Narrow)),
     ),
     (
-        "raw-lend-20",
-        Work::Keep(Keeping::Lend(Shelves::Raw, Size::Short)),
-    ),
-    (
         "raw-lend-64",
         Work::Keep(Keeping::Lend(Shelves::Raw, Size::Middle)),
-    ),
-    (
-        "raw-lend-128",
-        Work::Keep(Keeping::Lend(Shelves::Raw, Size::Long)),
     ),
     (
         "raw-lend-260",
@@ -162,16 +135,8 @@ const WORKS: [(&str, Work); 75] = [
         Work::Keep(Keeping::Fill(Shelves::Slab, Lengths::Equal(Size::Narrow))),
     ),
     (
-        "slab-fill-20",
-        Work::Keep(Keeping::Fill(Shelves::Slab, Lengths::Equal(Size::Short))),
-    ),
-    (
         "slab-fill-64",
         Work::Keep(Keeping::Fill(Shelves::Slab, Lengths::Equal(Size::Middle))),
-    ),
-    (
-        "slab-fill-128",
-        Work::Keep(Keeping::Fill(Shelves::Slab, Lengths::Equal(Size::Long))),
     ),
     (
         "slab-fill-260",
@@ -186,16 +151,8 @@ const WORKS: [(&str, Work); 75] = [
         Work::Keep(Keeping::Keep(Shelves::Slab, Size::Narrow)),
     ),
     (
-        "slab-keep-20",
-        Work::Keep(Keeping::Keep(Shelves::Slab, Size::Short)),
-    ),
-    (
         "slab-keep-64",
         Work::Keep(Keeping::Keep(Shelves::Slab, Size::Middle)),
-    ),
-    (
-        "slab-keep-128",
-        Work::Keep(Keeping::Keep(Shelves::Slab, Size::Long)),
     ),
     (
         "slab-keep-260",
@@ -206,63 +163,13 @@ const WORKS: [(&str, Work); 75] = [
         Work::Keep(Keeping::Lend(Shelves::Slab, Size::Narrow)),
     ),
     (
-        "slab-lend-20",
-        Work::Keep(Keeping::Lend(Shelves::Slab, Size::Short)),
-    ),
-    (
         "slab-lend-64",
         Work::Keep(Keeping::Lend(Shelves::Slab, Size::Middle)),
-    ),
-    (
-        "slab-lend-128",
-        Work::Keep(Keeping::Lend(Shelves::Slab, Size::Long)),
     ),
     (
         "slab-lend-260",
         Work::Keep(Keeping::Lend(Shelves::Slab, Size::Wide)),
     ),
-    (
-        "copy-8",
-        Work::Copy(Copying::Here(Lengths::Equal(Size::Narrow))),
-    ),
-    (
-        "copy-20",
-        Work::Copy(Copying::Here(Lengths::Equal(Size::Short))),
-    ),
-    (
-        "copy-64",
-        Work::Copy(Copying::Here(Lengths::Equal(Size::Middle))),
-    ),
-    (
-        "copy-128",
-        Work::Copy(Copying::Here(Lengths::Equal(Size::Long))),
-    ),
-    (
-        "copy-260",
-        Work::Copy(Copying::Here(Lengths::Equal(Size::Wide))),
-    ),
-    ("copy-mixed", Work::Copy(Copying::Here(Lengths::Mixed))),
-    (
-        "spread-8",
-        Work::Copy(Copying::Apart(Lengths::Equal(Size::Narrow))),
-    ),
-    (
-        "spread-20",
-        Work::Copy(Copying::Apart(Lengths::Equal(Size::Short))),
-    ),
-    (
-        "spread-64",
-        Work::Copy(Copying::Apart(Lengths::Equal(Size::Middle))),
-    ),
-    (
-        "spread-128",
-        Work::Copy(Copying::Apart(Lengths::Equal(Size::Long))),
-    ),
-    (
-        "spread-260",
-        Work::Copy(Copying::Apart(Lengths::Equal(Size::Wide))),
-    ),
-    ("spread-mixed", Work::Copy(Copying::Apart(Lengths::Mixed))),
 ];
 
 impl Work {
@@ -281,7 +188,6 @@ impl Work {
             Work::Frames(kind, lines) => serve(alloc, kind, lines, rounds),
             Work::Busy => busy(alloc, rounds),
             Work::Keep(keeping) => keeping.run(alloc, rounds),
-            Work::Copy(copying) => copying.run(alloc, rounds),
         }
     }
 }

@@ -1,9 +1,9 @@
-//! Tests of data links over a shelf; there is nothing to call but what the tests stand on.
+//! Tests of data links over a shelf; there is nothing to call but what the tests stand on. Refusals are in docs/TABLES.md,
+//! which `tool_tables` prints, and in `tests/scripts/link`.
 //!
 //! - `shelved_link`: a link with its shelf.
 //! - `starts`: a link at each end of each range of its start.
 //! - `life`: each call of a link once, from the establishment to the end of its TEI.
-//! - `refusals`: each refusal once, with the link and the shelf as before.
 //! - `recovery`: an I-frame that is lost between two links comes again after REJ.
 #![tactic(auto)]
 
@@ -15,7 +15,5 @@ pub use shelved_link::{Seen, ShelvedLink};
 mod life;
 #[cfg(test)]
 mod recovery;
-#[cfg(test)]
-mod refusals;
 #[cfg(test)]
 mod starts;

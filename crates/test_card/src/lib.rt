@@ -2,10 +2,9 @@
 //! call shows by its contract what a caller of `drive` can conclude.
 //!
 //! - `kept`: what a sink that keeps replies has kept after a list of events.
-//! - `starts`: which configurations and shelves a card starts with, and its faults in words.
+//! - `starts`: which shelves a card starts with, and its faults in words.
 //! - `sinks`: whole lists of events, and sinks that fail.
-//! - `refusals`: requests that are refused, and what the card stores before and after.
-//! - `timers`: the orders of single events.
+//! - `refusals`: requests that are refused, over any shelf, and what the card stores before and after.
 //! - `own_shelf`: a card over a shelf of the caller's own.
 //! - `frames`: a card for frames, with a list of happenings, bad frames, and a room that is too small.
 //! - `example`: a line that is served, as in the README.
@@ -30,7 +29,5 @@ mod rows;
 mod sinks;
 #[cfg(test)]
 mod starts;
-#[cfg(test)]
-mod timers;
 
 pub use kept::keep_replies;

@@ -1,11 +1,10 @@
-//! Requests that are refused.
+//! Requests that are refused, for `own_shelf`. Over the shelves of the product scripts show them: `card/assign-refusals`,
+//! `link/refusals-of-data`, `link/queue-full`, `unit/queue`, `tei/four-messages-wait` and `card/pool-full`.
 
-use crate::starts::{USUAL, usual_card};
-use lapd_card::{Card, Config, Request};
+use lapd_card::{Card, Request};
 use lapd_frame::{Refusal, Service};
-use lapd_store::{Shelf, SlabShelf};
+use lapd_store::Shelf;
 use std::process::Abort;
-use std::test::Fail;
 
 /// An opening flag, SABME with P=1 of TEI 64, and the flag after it.
 pub const SABME: [u8; 8] = [0x7E, 0x00, 0x81, 0xEF, 0x50, 0xB1, 0xFD, 0xFC];
@@ -55,13 +54,6 @@ pub fn refuse_at_a_line<S: Shelf>(rt: &impl Abort, card: &mut Card<S>) {
     assert!(rt; refused(card, Request::Check(64)) == Some(Refusal::CheckRunning));
 }
 
-#[test]
-fn refusals_of_a_line(rt: HostRuntime) -> Result<(), Fail> {
-    let mut card = usual_card(rt.alloc())?;
-    refuse_at_a_line(&rt, &mut card);
-    Ok(())
-}
-
 const DATA: Request<'static> = Request::Data(CALL, 64, &[1]);
 
 const UNIT: Request<'static> = Request::Unit(CALL, 127, &[2]);
@@ -101,39 +93,4 @@ pub fn refuse_when_full<S: Shelf>(rt: &impl Abort, card: &mut Card<S>) {
     for (request, refusal) in REFUSED_WHEN_FULL {
         assert!(rt; refused(card, request) == Some(refusal));
     }
-}
-
-#[test]
-fn refusals_of_full_queues(rt: HostRuntime) -> Result<(), Fail> {
-    let mut card = usual_card(rt.alloc())?;
-    refuse_when_full(&rt, &mut card);
-    Ok(())
-}
-
-/// Two lines that share two slots.
-const SMALL: Config = Config {
-    lines: 2,
-    terminals: 1,
-    k: 1,
-    k16: 1,
-    queue: 2,
-    unit_queue: 1,
-    slots: 2,
-    ..USUAL
-};
-
-#[test]
-fn a_pool_that_all_lines_share(rt: HostRuntime) -> Result<(), Fail> {
-    let shelf = SlabShelf::start(rt.alloc(), 8, 260)?;
-    let mut card = Card::start(rt.alloc(), SMALL, shelf)?;
-    bring_up(&rt, &mut card);
-    let unit = Request::Unit(CALL, 127, &[0xAB]);
-    assert!(rt; card.lines() == 2);
-    assert!(rt; card.request(1, unit).is_ok());
-    assert!(rt; accepts(&mut card, DATA, 1));
-    assert!(rt; refused(&mut card, Request::Data(CALL, 64, &[2])) == Some(Refusal::PoolFull));
-    assert!(rt; refused(&mut card, Request::Assign(65)) == Some(Refusal::TableFull));
-    // One unit of 1 octet, one content of 1, and UA with 3.
-    assert!(rt; card.stored() == 5);
-    Ok(())
 }

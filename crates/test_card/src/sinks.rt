@@ -2,8 +2,10 @@
 
 use crate::kept::keep_replies;
 use crate::starts::usual_card;
-use lapd_card::{Event, Kept, KeptReply, Reply, Request, SinkFailed, SinkFault};
+use lapd_card::{Event, Kept, Reply, Report, Request, SinkFailed, SinkFault};
 use lapd_frame::{Refusal, Service};
+use std::alloc::Global;
+use std::process::Abort;
 use std::test::Fail;
 
 /// What a reply says, in short.
@@ -19,11 +21,17 @@ enum Kind {
     Pulled(u8, bool),
 }
 
+fn kind_of(report: &Report<'_>) -> Kind {
+    if report.notes().is_empty() && report.cause.is_none() {
+        Kind::Silent
+    } else {
+        Kind::Told
+    }
+}
+
 fn kind_in(reply: &Reply<'_>) -> Kind {
     match reply {
-        Reply::Report(report) if report.notes().is_empty() && report.cause.is_none() =>
-            Kind::Silent,
-        Reply::Report(_) => Kind::Told,
+        Reply::Report(report) => kind_of(report),
         Reply::Refused(refusal) => Kind::Refused(*refusal),
         Reply::Pulled(pulled) => Kind::Pulled(pulled.octet, pulled.begun),
     }
@@ -81,15 +89,13 @@ const UNIT: [Event<'static>; 10] = [
 
 /// Whether contents were kept with the latest reply, and are these.
 fn has_kept(sink: &Kept, contents: &[u8]) -> bool {
-    match sink.replies.last() {
-        Some(
-            KeptReply {
-                contents: Some(copy),
-                ..
-            },
-        ) => copy.as_slice() == contents,
-        _ => false,
-    }
+    let Some(kept) = sink.replies.last() else {
+        return false;
+    };
+    let Some(copy) = &kept.contents else {
+        return false;
+    };
+    copy.as_slice() == contents
 }
 
 #[test]
@@ -101,18 +107,22 @@ fn contents_are_kept(rt: HostRuntime) -> Result<(), Fail> {
     Ok(())
 }
 
+/// A sink with room for so many replies ends the run, and leaves the link of TEI 64 in this state.
+fn fails_at(rt: &impl Abort, alloc: Global, room: usize, state: Option<u8>) -> Result<(), Fail> {
+    let mut card = usual_card(alloc)?;
+    let mut sink = Kept::start(alloc, room)?;
+    let ended = keep_replies(&mut card, &EVENTS, &mut sink);
+    assert!(rt; ended == Err(SinkFault { at: room }));
+    assert!(rt; sink.replies.len() == room && sink.failures == 1);
+    assert!(rt; card.state(0, Service::Call, 64) == state);
+    Ok(())
+}
+
+// The TEI is put on the line by the third event.
 #[test]
 fn a_sink_that_fails_ends_the_run(rt: HostRuntime) -> Result<(), Fail> {
-    // The TEI is put on the line by the third event.
-    for (room, state) in [(2, Some(4)), (1, None)] {
-        let mut card = usual_card(rt.alloc())?;
-        let mut sink = Kept::start(rt.alloc(), room)?;
-        let ended = keep_replies(&mut card, &EVENTS, &mut sink);
-        assert!(rt; ended == Err(SinkFault { at: room }));
-        assert!(rt; sink.replies.len() == room && sink.failures == 1);
-        assert!(rt; card.state(0, Service::Call, 64) == state);
-    }
-    Ok(())
+    fails_at(&rt, rt.alloc(), 2, Some(4))?;
+    fails_at(&rt, rt.alloc(), 1, None)
 }
 
 #[test]

@@ -1,4 +1,4 @@
-//! Rows of what is heard in a stream, of TEI management and of unit data.
+//! Rows of what is heard in a stream, of TEI management and of unit data. More of them are in `tests/scripts/line`.
 //!
 //! Their octets, and the length and the check of what is delivered and sent, were worked out from the rules of
 //! docs/MACHINE.md by another program, not by this card.
@@ -9,11 +9,11 @@ use lapd_card::Request;
 use lapd_frame::{Note, Order, Timer};
 
 /// The rows.
-pub fn line_rows() -> [Row; 11] {
+pub fn line_rows() -> [Row; 6] {
     LINE_ROWS
 }
 
-const LINE_ROWS: [Row; 11] = [
+const LINE_ROWS: [Row; 6] = [
     // SABME is answered by UA.
     Row {
         config: USUAL,
@@ -26,46 +26,7 @@ const LINE_ROWS: [Row; 11] = [
         orders: Some(&[START_T203]),
         state: Some(7),
     },
-    // A line of 1s and of flags.
-    Row {
-        config: USUAL,
-        before: &ON_THE_LINE,
-        steps: &[Step::Line(&[0xFF, 0xFF, 0xFF, 0xFF, 0x7E, 0x7E, 0x7E])],
-        said: &[],
-        data: 0,
-        delivered: Text(0, 0x0000),
-        sent: Text(0, 0x0000),
-        orders: Some(&[]),
-        state: Some(4),
-    },
-    // A wrong check.
-    Row {
-        config: USUAL,
-        before: &ON_THE_LINE,
-        steps: &[
-            Step::Line(&[0x7E, 0x00, 0x81, 0xEF, 0x50, 0xB0, 0xFD, 0xFC]),
-            Step::Pull(1),
-        ],
-        said: &[Said::Dropped(Cause::Fcs)],
-        data: 0,
-        delivered: Text(0, 0x0000),
-        sent: Text(8, 0xB06B),
-        orders: Some(&[]),
-        state: Some(4),
-    },
-    // The last stuffed 0 is missing.
-    Row {
-        config: USUAL,
-        before: &ON_THE_LINE,
-        steps: &[Step::Line(&[0x7E, 0x00, 0x81, 0x03, 0xCB, 0x59, 0xF8, 0x7E])],
-        said: &[Said::Dropped(Cause::Ragged)],
-        data: 0,
-        delivered: Text(0, 0x0000),
-        sent: Text(0, 0x0000),
-        orders: Some(&[]),
-        state: Some(4),
-    },
-    // The same with it.
+    // A UI whose check ends in five 1s, with the stuffed 0 after them.
     Row {
         config: USUAL,
         before: &ON_THE_LINE,
@@ -93,35 +54,6 @@ const LINE_ROWS: [Row; 11] = [
         sent: Text(8, 0xBB84),
         orders: Some(&[START_T203]),
         state: Some(7),
-    },
-    // Too short for a frame.
-    Row {
-        config: USUAL,
-        before: &ON_THE_LINE,
-        steps: &[Step::Line(&[0x7E, 0x00, 0x81, 0x7E])],
-        said: &[Said::Dropped(Cause::Short)],
-        data: 0,
-        delivered: Text(0, 0x0000),
-        sent: Text(0, 0x0000),
-        orders: Some(&[]),
-        state: Some(4),
-    },
-    // A terminal asks for a TEI.
-    Row {
-        config: USUAL,
-        before: &[],
-        steps: &[
-            Step::Line(&[
-                0x7E, 0x7C, 0xDF, 0x17, 0x78, 0x90, 0xA0, 0x09, 0xF8, 0x6E, 0xA1, 0xE1, 0xE7,
-            ]),
-            Step::Pull(2),
-        ],
-        said: &[Said::Note(Note::Assigned(64))],
-        data: 0,
-        delivered: Text(0, 0x0000),
-        sent: Text(16, 0x9F22),
-        orders: Some(&[]),
-        state: Some(4),
     },
     // Nine terminals ask for a TEI: eight get one.
     Row {

@@ -1,4 +1,6 @@
-//! Rows of a link: its establishment, its transfer of contents, and its release.
+//! Rows of a link: its establishment, its transfer of contents, and its release. Numbers that go round, the longest frames
+//! and a window that is sent again and again are in `tests/scripts` (`link/numbers-go-round`, `link/longest-default`,
+//! `hostile/rej-after-each-window`).
 //!
 //! Their octets, and the length and the check of what is delivered and sent, were worked out from the rules of
 //! docs/MACHINE.md by another program, not by this card.
@@ -6,9 +8,6 @@
 use super::row::{
     CALL, ESTABLISHED, ON_THE_LINE, Row, START_T200, START_T203, STOP_T203, Said, Step, Text, UP,
     USUAL,
-};
-use super::streams::{
-    LONGEST_OCTETS, NUMBERS_GO_ROUND_OCTETS, TOO_LONG_OCTETS, WINDOW_AGAIN_OCTETS,
 };
 use lapd_card::{Config, Request};
 use lapd_frame::{ErrorCode, Note, Refusal, Timer};
@@ -25,30 +24,11 @@ const NARROW: Config = Config {
 const ONE_SLOT: Config = Config { slots: 1, ..USUAL };
 
 /// The rows.
-pub fn link_rows() -> [Row; 13] {
+pub fn link_rows() -> [Row; 9] {
     LINK_ROWS
 }
 
-const LINK_ROWS: [Row; 13] = [
-    // 129 I-frames, each answered: after number 127 comes 0.
-    Row {
-        config: USUAL,
-        before: &UP,
-        steps: &[
-            Step::Each {
-                octets: &NUMBERS_GO_ROUND_OCTETS,
-                size: 11,
-                eights: 1,
-            },
-            Step::Pull(1),
-        ],
-        said: &[ESTABLISHED],
-        data: 129,
-        delivered: Text(129, 0x0A09),
-        sent: Text(1048, 0xF7F4),
-        orders: None,
-        state: Some(7),
-    },
+const LINK_ROWS: [Row; 9] = [
     // The same I-frame twice: it is delivered once, and asked for once.
     Row {
         config: USUAL,
@@ -112,56 +92,6 @@ const LINK_ROWS: [Row; 13] = [
         delivered: Text(0, 0x0000),
         sent: Text(8, 0xBB84),
         orders: Some(&[START_T203]),
-        state: Some(7),
-    },
-    // 260 octets.
-    Row {
-        config: USUAL,
-        before: &UP,
-        steps: &[Step::Line(&LONGEST_OCTETS), Step::Pull(2)],
-        said: &[ESTABLISHED],
-        data: 1,
-        delivered: Text(260, 0x06F6),
-        sent: Text(24, 0x9D89),
-        orders: Some(&[START_T203, START_T203]),
-        state: Some(7),
-    },
-    // 261 octets.
-    Row {
-        config: USUAL,
-        before: &UP,
-        steps: &[Step::Line(&TOO_LONG_OCTETS), Step::Pull(2)],
-        said: &[ESTABLISHED, Said::Note(Note::Error(CALL, 64, ErrorCode::O))],
-        data: 0,
-        delivered: Text(0, 0x0000),
-        sent: Text(24, 0x4166),
-        orders: Some(&[START_T203, START_T200, STOP_T203]),
-        state: Some(5),
-    },
-    // Fifty REJ of a window of seven: 358 frames go out.
-    Row {
-        config: USUAL,
-        before: &UP,
-        steps: &[
-            Step::Ask(Request::Data(CALL, 64, &[0])),
-            Step::Ask(Request::Data(CALL, 64, &[1])),
-            Step::Ask(Request::Data(CALL, 64, &[2])),
-            Step::Ask(Request::Data(CALL, 64, &[3])),
-            Step::Ask(Request::Data(CALL, 64, &[4])),
-            Step::Ask(Request::Data(CALL, 64, &[5])),
-            Step::Ask(Request::Data(CALL, 64, &[6])),
-            Step::Pull(8),
-            Step::Each {
-                octets: &WINDOW_AGAIN_OCTETS,
-                size: 10,
-                eights: 8,
-            },
-        ],
-        said: &[ESTABLISHED],
-        data: 0,
-        delivered: Text(0, 0x0000),
-        sent: Text(3272, 0x3B56),
-        orders: None,
         state: Some(7),
     },
     // Enquiries that nobody answers.

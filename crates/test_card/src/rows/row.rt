@@ -17,12 +17,6 @@ pub enum Step {
     Expire(Timer),
     /// So many times eight octets are pulled.
     Pull(usize),
-    /// Octets come, and after each so many of them are pulled.
-    Each {
-        octets: &'static [u8],
-        size: usize,
-        eights: usize,
-    },
 }
 
 /// What an answer says, but for octets and for data.

@@ -59,32 +59,12 @@ impl Trial {
         true
     }
 
-    fn each(&mut self, octets: &[u8], size: usize, eights: usize) -> bool {
-        let mut rest = octets;
-        for _ in 0..octets.len() {
-            if rest.is_empty() {
-                return true;
-            }
-            let (first, more) = rest.split_at(size.min(rest.len()));
-            if !self.line(first) || !self.pull(eights) {
-                return false;
-            }
-            rest = more;
-        }
-        rest.is_empty()
-    }
-
     fn step(&mut self, step: Step) -> bool {
         match step {
             Step::Line(octets) => self.line(octets),
             Step::Ask(request) => self.run(Event::Request(0, request)),
             Step::Expire(timer) => self.run(Event::Expire(0, timer)),
             Step::Pull(eights) => self.pull(eights),
-            Step::Each {
-                octets,
-                size,
-                eights,
-            } => self.each(octets, size, eights),
         }
     }
 
@@ -127,7 +107,7 @@ fn answer_all(rt: &impl Abort, trials: &mut [Trial], rows: &[Row]) {
 fn the_starts(rt: HostRuntime) -> Result<(), Fail> {
     let of_lines = trials(rt.alloc(), &line_rows())?;
     let of_links = trials(rt.alloc(), &link_rows())?;
-    assert!(rt; of_lines.len() == 11 && of_links.len() == 13);
+    assert!(rt; of_lines.len() == 6 && of_links.len() == 9);
     Ok(())
 }
 

@@ -370,6 +370,51 @@ typedef struct lapd_head {
  * another. The length is 0 where no pull has begun one yet. LAPD_WRONG_CARD on a card for frames, which has no pulls. */
 uint32_t lapd_begun(lapd_card *card, uint32_t line, lapd_head *head);
 
+/*
+ * What is counted of a line: the place of each number in lapd_counters.
+ */
+enum {
+    /* frames heard, by the first octet of their control field, whether or not they are otherwise well formed; what is
+     * dropped before its check is found good, and what is too long to be kept, is none of them. SABME heard are
+     * isdnLapdPeerSabme of RFC 2127, and FRMR heard isdnLapdRecvdFrmr */
+    LAPD_HEARD_I = 0, LAPD_HEARD_RR = 1, LAPD_HEARD_RNR = 2, LAPD_HEARD_REJ = 3, LAPD_HEARD_SABME = 4,
+    LAPD_HEARD_DISC = 5, LAPD_HEARD_UI = 6, LAPD_HEARD_UA = 7, LAPD_HEARD_DM = 8, LAPD_HEARD_FRMR = 9,
+    LAPD_HEARD_XID = 10, LAPD_HEARD_UNDEFINED = 11,
+    /* frames begun: a pull has begun to send them */
+    LAPD_BEGUN_I = 12, LAPD_BEGUN_RR = 13, LAPD_BEGUN_RNR = 14, LAPD_BEGUN_REJ = 15, LAPD_BEGUN_SABME = 16,
+    LAPD_BEGUN_DISC = 17, LAPD_BEGUN_UI = 18, LAPD_BEGUN_UA = 19, LAPD_BEGUN_DM = 20, LAPD_BEGUN_FRMR = 21,
+    LAPD_BEGUN_XID = 22, LAPD_BEGUN_UNDEFINED = 23,
+    /* octets of these frames, from the address to the information */
+    LAPD_HEARD_OCTETS = 24, LAPD_BEGUN_OCTETS = 25,
+    /* of these frames, I-frames and supervisory commands with P=1 */
+    LAPD_HEARD_POLLS = 26, LAPD_BEGUN_POLLS = 27,
+    /* good frames that are too long to be kept */
+    LAPD_HEARD_OVERLONG = 28,
+    /* what was dropped, by its cause */
+    LAPD_DROPPED_ABORT = 29, LAPD_DROPPED_RAGGED = 30, LAPD_DROPPED_SHORT = 31, LAPD_DROPPED_FCS = 32,
+    LAPD_DROPPED_EXTENSION = 33, LAPD_DROPPED_SAPI = 34, LAPD_DROPPED_TEI = 35, LAPD_DROPPED_UNSERVED = 36,
+    /* MDL-ERROR indications, by their code */
+    LAPD_ERRORS_A = 37, LAPD_ERRORS_B = 38, LAPD_ERRORS_C = 39, LAPD_ERRORS_D = 40, LAPD_ERRORS_E = 41,
+    LAPD_ERRORS_F = 42, LAPD_ERRORS_G = 43, LAPD_ERRORS_H = 44, LAPD_ERRORS_I = 45, LAPD_ERRORS_J = 46,
+    LAPD_ERRORS_K = 47, LAPD_ERRORS_L = 48, LAPD_ERRORS_N = 49, LAPD_ERRORS_O = 50,
+    /* other notes */
+    LAPD_TOLD_ESTABLISH_INDICATION = 51, LAPD_TOLD_ESTABLISH_CONFIRM = 52, LAPD_TOLD_RELEASE_INDICATION = 53,
+    LAPD_TOLD_RELEASE_CONFIRM = 54, LAPD_TOLD_DATA = 55, LAPD_TOLD_UNIT = 56, LAPD_TOLD_XID = 57,
+    LAPD_TOLD_ASSIGNED = 58, LAPD_TOLD_REMOVED = 59, LAPD_TOLD_DOUBLED = 60,
+    /* control frames and messages that found no room to wait */
+    LAPD_LOST = 61,
+    LAPD_COUNTERS = 62
+};
+
+/* As the call has the same name, it is `struct lapd_counters` also in C++. */
+struct lapd_counters {
+    uint64_t values[LAPD_COUNTERS]; /* each stays at its greatest value once it is there */
+};
+
+/* What was counted of a line since the card began. A request that is refused is not counted. It changes nothing.
+ * LAPD_WRONG_CARD on a card for frames. */
+uint32_t lapd_counters(lapd_card *card, uint32_t line, struct lapd_counters *counters);
+
 /* How many octets the card stores now, of frames, messages and contents; at most lapd_limit's. A card for frames stores
  * none of frames that come and go. */
 uint32_t lapd_stored(lapd_card *card, uint32_t *octets);

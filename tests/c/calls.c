@@ -1,7 +1,8 @@
 /*
  * calls.c: calls that no script makes. The links of a line, as lapd_next_link tells them, are those that lapd_state has
  * a state of, in order, from each place on; contents of a report go back with the same report; the room of a link is
- * what it refuses contents by; the frame begun last is the one that goes; lengths of timers that are out of range change
+ * what it refuses contents by; the frame begun last is the one that goes; what is counted is what
+ * came, went and was told; lengths of timers that are out of range change
  * nothing; and the version is the header's. For tests alone.
  */
 #include <stdio.h>
@@ -181,6 +182,28 @@ static void lengths(void) {
     lapd_clock_free(&clock);
 }
 
+/* Of line 0 the counter is this. */
+static bool has_counted(unsigned place, uint64_t value) {
+    struct lapd_counters counters;
+    return lapd_counters(&card, 0, &counters) == LAPD_OK && counters.values[place] == value;
+}
+
+/* After an echo of one I-frame, and an acknowledgement. */
+static void counts(void) {
+    struct lapd_counters counters = {{7}};
+    lapd_card none = LAPD_CARD_NONE;
+    wants(lapd_counters(&none, 0, &counters) == LAPD_NO_CARD, "counters of no card");
+    wants(lapd_counters(&card, LINES, &counters) == LAPD_WRONG_LINE, "counters of no line");
+    wants(counters.values[0] == 7, "a wrong call has told counters");
+    wants(has_counted(LAPD_HEARD_SABME, 1) && has_counted(LAPD_BEGUN_UA, 1), "another number of establishments");
+    wants(has_counted(LAPD_HEARD_I, 1) && has_counted(LAPD_BEGUN_I, 1), "another number of I-frames");
+    wants(has_counted(LAPD_HEARD_RR, 1) && has_counted(LAPD_HEARD_POLLS, 0), "another number of RR");
+    wants(has_counted(LAPD_BEGUN_UI, 1) && has_counted(LAPD_HEARD_OCTETS, 3 + 8 + 4), "another number of octets");
+    wants(has_counted(LAPD_TOLD_ESTABLISH_INDICATION, 1) && has_counted(LAPD_TOLD_DATA, 1), "other notes");
+    wants(has_counted(LAPD_LOST, 0) && has_counted(LAPD_DROPPED_FCS, 0), "something was lost or dropped");
+    wants(lapd_counters(&card, 1, &counters) == LAPD_OK && counters.values[LAPD_HEARD_SABME] == 0, "another line counts");
+}
+
 int main(void) {
     static const uint8_t teis[] = {0, 1, 63, 64, 65, 100, 125, 126};
     wants(lapd_version() == LAPD_VERSION, "the library has another version");
@@ -196,6 +219,7 @@ int main(void) {
     look_at(1, 0);
     echo();
     rooms();
+    counts();
     look_at(0, 2 * sizeof teis);
     wants(lapd_remove(&card, 0, 126, &report) == LAPD_OK, "the TEI stays");
     look_at(0, 2 * sizeof teis - 2);

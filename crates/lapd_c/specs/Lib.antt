@@ -9,3 +9,4 @@ pub mod Links
 pub mod Orders
 pub mod Frames
 pub mod Exchange
+pub mod Counted

@@ -6,7 +6,8 @@
 //!
 //! - `card`: a card in C, how it begins and ends; `kinds`, what a card for octets and one for frames do alike;
 //!   `card_slot`, where it lies. `events`, what happens at it; for octets besides `exchange`, octets taken and given in
-//!   turn, and `begun`, which frame a pull began; for frames `frames`, which come and go. `questions`, what it answers
+//!   turn, `begun`, which frame a pull began, and
+//!   `counters`, what was counted of a line; for frames `frames`, which come and go. `questions`, what it answers
 //!   about itself; `links`, which links it has, and `rooms`, how many contents more one takes.
 //! - `clock`: a clock in C, and its exports; `clock_reports`, the orders of a report; `clock_slot`, where it lies.
 //! - `laws`: what holds of the machine's answers, so that a report has room for each.
@@ -21,7 +22,8 @@
 //!
 //! # Open
 //!
-//! What a C compiler makes of `lapd.h`; what becomes of a caller that breaks the conditions at its top.
+//! That each event is counted: the contracts of the card say it (`Leads` of `lapd_card`), those of the exports do not. What a
+//! C compiler makes of `lapd.h`; what becomes of a caller that breaks the conditions at its top.
 #![tactic(auto)]
 
 mod begun;
@@ -30,6 +32,7 @@ mod card_slot;
 mod clock;
 mod clock_reports;
 mod clock_slot;
+mod counters;
 mod events;
 mod exchange;
 mod frames;

@@ -58,8 +58,9 @@ pub enum Counter {
 }
 
 impl Counter {
-    /// Its place among the counters.
-    pub(crate) fn place(self) -> usize
+    /// Its place among the counters: those of frames heard and of frames begun by their kinds, then the others in the order
+    /// above. `include/lapd.h` has them by name.
+    pub fn place(self) -> usize
         ensures value { result ≡ place self }
         ensures bound { result < 62 }
     {

@@ -34,6 +34,13 @@ impl Counters {
         self.values[counter.place()]
     }
 
+    /// All of them, each at its [`place`](Counter::place).
+    pub fn values(&self) -> [u64; 62]
+        ensures { result ≡ self.now.values }
+    {
+        self.values
+    }
+
     /// So many more of one.
     fn add(&mut self, counter: Counter, amount: u64)
         ensures { self.new ≡ with_more self.old (counter, amount) }

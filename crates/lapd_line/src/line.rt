@@ -1,7 +1,7 @@
 //! The line: one call an event.
 
 ghost use Rattle.std.specs.Option.{option_map_or};
-ghost use Rattle.std.specs.Prelude.{◌≡◌, ◌-◌, ◌<◌, ◌≤◌, ◌++◌, List, [], length, IsTrue, IsFalse, Some, None, IsSome, IfNone, IfOk, IfErr, OnErr, nat_le};
+ghost use Rattle.std.specs.Prelude.{◌≡◌, ◌-◌, ◌<◌, ◌≤◌, ◌++◌, List, [], length, IsTrue, IsFalse, Some, None, IsSome, IfOk, IfErr, OnErr, nat_le};
 ghost use Rattle.lapd_bits.specs.Deframer.{latest_of};
 ghost use Rattle.lapd_count.specs.Counters.{none_counted};
 ghost use Rattle.lapd_count.specs.Shown.{head_shown, heard_shown};
@@ -14,7 +14,6 @@ ghost use Rattle.model_line.specs.Line as machine;
 ghost use Rattle.model_line.specs.Counts.{may_send};
 ghost use Rattle.model_link.specs.Told.{starts};
 ghost use Rattle.model_line.specs.Machine.{after, answer};
-ghost use Rattle.model_line.specs.Octet.{gained};
 ghost use Rattle.model_line.specs.Refusal.{refusal};
 ghost use Rattle.model_line.specs.Request.{request_of};
 ghost use Rattle.model_line.specs.Room.{room_in};
@@ -121,30 +120,23 @@ impl Line {
             → told (told_if (latest_frame self.new) result) ≡ answer (config_of self.old) (line_event.octet octet) m }
         ensures after { Leads (line_event.octet octet) self.old (S.store shelf.old) self.new (S.store shelf.new) }
     {
-        match self.take_in(octet, shelf) {
-            None => None,
-            Some(bare) => {
-                self.count_heard(&bare);
-                Some(bare)
-            }
+        match self.deframer.step(octet) {
+            Ended::Nothing => None,
+            Ended::Dropped(_) | Ended::Frame(_) | Ended::Overlong => Some(self.take_in(shelf)),
         }
     }
 
-    /// Takes an octet, and counts nothing.
-    #[inline(always)]
-    fn take_in<S: Shelf>(&mut self, octet: u8, shelf: &mut S) -> Option<BareReport>
-        requires { (others : List Owned) × (m : machine.Line) × Stands self.old (S.store shelf.old) others m }
-        ensures told { (others : List Owned) (m : machine.Line) → Stands self.old (S.store shelf.old) others m
-            → told (told_if (latest_frame self.new) result) ≡ answer (config_of self.old) (line_event.octet octet) m }
-        ensures after { Moves (line_event.octet octet) self.old (S.store shelf.old) self.new (S.store shelf.new) }
-        ensures gained { (others : List Owned) (m : machine.Line) → Stands self.old (S.store shelf.old) others m
-            → gained (config_of self.old).n201 m.received octet ≡ latest_of self.new.deframer }
-        ensures silent { IfNone result (latest_of self.new.deframer ≡ None) }
+    /// Serves what the latest octet has ended, and counts it. It stands behind the test of [`Line::hear`], so that an octet
+    /// that ended nothing costs no copy of a report.
+    fn take_in<S: Shelf>(&mut self, shelf: &mut S) -> BareReport
+        requires { Standing self.old.layer (S.store shelf.old) }
+        ensures line { self.new ≡ with_counted (with_served self.new.layer self.old) (heard_shown (latest_of self.old.deframer) ++ bare_shown result) }
+        ensures served { Serves (aim_of_event (latest_of self.old.deframer)) (latest_frame self.old)
+            self.old.layer (S.store shelf.old) self.new.layer (S.store shelf.new) result }
     {
-        match self.deframer.step(octet) {
-            Ended::Nothing => None,
-            Ended::Dropped(_) | Ended::Frame(_) | Ended::Overlong => Some(self.serve(shelf)),
-        }
+        let bare = self.serve(shelf);
+        self.count_heard(&bare);
+        bare
     }
 
     /// Counts what the latest octet ended, and what was told of it.

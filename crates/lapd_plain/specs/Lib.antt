@@ -10,3 +10,4 @@ pub mod Notes
 pub mod Faults
 pub mod Requests
 pub mod Reports
+pub mod Counters

@@ -7,13 +7,15 @@
 //! - `statuses`: what a call answers: refusals, wrong calls, fields of a configuration.
 //! - `config`: the configuration.
 //! - `timers`: timers and orders, there and back.
-//! - `links`: the links of a line, in order; `rooms`: how much room one has; `heads`: how a frame begins.
+//! - `links`: the links of a line, in order; `rooms`: how much room one has; `heads`: how a frame begins; `counters`: what
+//!   was counted of a line.
 //! - `requests`: what is asked of a line, and `faults`: what a controller tells in place of a frame, from numbers.
 //! - `notes`: notes, and why something was dropped.
 //! - `reports`: the report of an event.
 #![tactic(auto)]
 
 mod config;
+mod counters;
 mod faults;
 mod heads;
 mod links;
@@ -25,6 +27,7 @@ mod statuses;
 mod timers;
 
 pub use config::PlainConfig;
+pub use counters::PlainCounters;
 pub use faults::fault_in;
 pub use heads::PlainHead;
 pub use links::{LINK_PLACES, PlainLink, service_at};

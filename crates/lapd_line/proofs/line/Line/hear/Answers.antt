@@ -1,0 +1,53 @@
+-- Hand-written answers for `Line::hear`.
+use Rattle.std.proofs.Common.{◌≡◌, ℕ, ◌++◌, [], ◌∷◌, List, Option, None, option_to_list, false, refl, sym, subst, ◌∙◌}
+use Rattle.std.proofs.lemmas.Bool.{false≢true}
+use Rattle.lapd_bits.specs.Deframer.{latest_of}
+use Rattle.lapd_count.specs.Shown.{heard_shown}
+use Rattle.model_line.specs.Event as line_event
+use Rattle.model_line.specs.Event.{told, nothing}
+use Rattle.model_line.specs.Machine.{answer}
+use Rattle.lapd_line.specs.Counted.{bare_shown}
+use Rattle.lapd_line.specs.declared.line.Line.{Line}
+use Rattle.lapd_line.specs.Reports.{told_in}
+use Rattle.lapd_line.specs.Stands.{config_of, latest_frame}
+use Rattle.lapd_line.proofs.CountSteps.{counted_on, none_counted, octet_shown}
+use Rattle.lapd_line.proofs.LineSteps.{stepped, step_told, unheard, nothing_heard, gained_is}
+use Rattle.lapd_line.proofs.line.Line.hear.Goals as goal
+
+pub returns-in-Nothing-clause-told : goal.returns-in-Nothing-clause-told
+returns-in-Nothing-clause-told g c =
+    let new : Line = record { deframer = c.step.new.self; framer = c.args.self.now.framer; layer = c.args.self.now.layer; nothing_waits = c.args.self.now.nothing_waits; counters = c.args.self.now.counters } in
+    (unheard c.args.self.now new (g.S.Shelf.store c.args.shelf.now) c.args.octet c.step.ensures.heard c.step.ensures.after refl refl refl (nothing_heard (latest_of c.step.new.self) c.in-Nothing.ensures.told) refl).1
+
+pub returns-in-Nothing-clause-after : goal.returns-in-Nothing-clause-after
+returns-in-Nothing-clause-after g c =
+    let old = c.args.self.now in
+    let new : Line = record { deframer = c.step.new.self; framer = old.framer; layer = old.layer; nothing_waits = old.nothing_waits; counters = old.counters } in
+    let none = nothing_heard (latest_of c.step.new.self) c.in-Nothing.ensures.told in
+    let both = unheard old new (g.S.Shelf.store c.args.shelf.now) c.args.octet c.step.ensures.heard c.step.ensures.after refl refl refl none refl in
+    none_counted both.0
+    (λ others m st.
+    octet_shown (config_of old) c.args.octet m None nothing
+    (gained_is (config_of old).n201 c.args.octet m.received _ (c.step.ensures.heard (config_of old).n201 m.received st.received) ∙ none)
+    (both.1 others m st))
+
+pub returns-in-Dropped : goal.returns-in-Dropped
+returns-in-Dropped g c =
+    let old = c.args.self.now in
+    let s = g.S.Shelf.store c.args.shelf.now in
+    let t = g.S.Shelf.store c.take_in.new.shelf in
+    let mid : Line = record { deframer = c.step.new.self; framer = old.framer; layer = c.take_in.new.self.layer; nothing_waits = false; counters = old.counters } in
+    let told_of = step_told old mid s t c.args.octet c.take_in.result c.step.ensures.heard c.take_in.ensures.served in
+    record {
+      told = λ others m st.
+          subst (λ l. told (told_in (latest_frame l) c.take_in.result) ≡ answer (config_of old) (line_event.octet c.args.octet) m) (sym c.take_in.ensures.line)
+          (told_of others m st);
+      after =
+          counted_on
+          (stepped old mid s t c.args.octet c.take_in.result c.step.ensures.heard c.step.ensures.after refl (λ on. absurd (false≢true on)) c.take_in.ensures.served refl)
+          c.take_in.new.self (heard_shown (latest_of c.step.new.self) ++ bare_shown c.take_in.result) c.take_in.ensures.line
+          (λ others m st.
+          octet_shown (config_of old) c.args.octet m (latest_of c.step.new.self) (told_in (latest_frame mid) c.take_in.result)
+          (gained_is (config_of old).n201 c.args.octet m.received _ (c.step.ensures.heard (config_of old).n201 m.received st.received))
+          (told_of others m st));
+    }

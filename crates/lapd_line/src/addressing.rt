@@ -52,6 +52,8 @@ impl LinkLayer {
     ghost use Rattle.lapd_line.specs.Reports.{octets_of};
 
     /// Serves what the octets of the line have brought.
+    // A program with both kinds of cards calls it from two places, and would keep it apart.
+    #[inline(always)]
     pub(crate) fn serve<S: Shelf>(&mut self, heard: Heard<'_>, shelf: &mut S) -> BareReport
         requires { Standing self.old (S.store shelf.old) }
         ensures { Serves (aim_of_event (heard_of heard.entry)) (octets_of (heard_of heard.entry)) self.old (S.store shelf.old) self.new (S.store shelf.new) result }

@@ -120,6 +120,8 @@ impl Links {
     }
 
     /// What a link has to give, if it has something.
+    // As `LinkLayer::serve` is, it is called from two places.
+    #[inline(always)]
     pub(crate) fn offer(&mut self, number: usize) -> Option<Offer>
         requires within { number < length self.old }
         requires stands { (c : Config) × (store : Store) × (others : List Owned) × (ms : List machine.Link) × LinksStand c self.old store others ms }

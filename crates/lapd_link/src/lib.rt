@@ -19,7 +19,7 @@
 //! # Only tested
 //!
 //! Starts with queues of 1 and 127 contents and rings of 2 and 16 control frames; a link's life, each refusal, and
-//! a lost frame that comes again after REJ (`test_link`).
+//! a lost frame that comes again after REJ (`test_parts`).
 #![tactic(auto)]
 
 mod events;

@@ -1,1 +1,2 @@
 pub mod Outbox
+pub mod Works

@@ -1,11 +1,11 @@
 //! What happens to a link, and what it leads to.
 
-ghost use Rattle.test_link.specs.Works.{Works};
+ghost use Rattle.test_parts.specs.Works.{Works};
 
 use lapd_frame::{Control, Refusal};
 use lapd_link::{Answer, LinkRequest, LinkTimer, Offer, Received};
 use lapd_seq::Seq;
-use test_link::ShelvedLink;
+use test_parts::ShelvedLink;
 
 /// As many slots as the shelf of a link has.
 pub const SLOTS: u32 = 2;

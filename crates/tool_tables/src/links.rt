@@ -10,7 +10,7 @@ use crate::words;
 use lapd_frame::Control;
 use lapd_link::Offer;
 use std::alloc::Global;
-use test_link::ShelvedLink;
+use test_parts::ShelvedLink;
 
 const HEAD: &str = "# What a card does, printed by itself
 

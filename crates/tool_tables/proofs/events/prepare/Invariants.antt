@@ -1,5 +1,5 @@
 -- The link works.
-use Rattle.test_link.specs.Works.{Works}
+use Rattle.test_parts.specs.Works.{Works}
 use Rattle.tool_tables.proofs.events.prepare.Given as goal
 
 abbrev pub invariant-loop-event : goal.invariant-loop-event

@@ -4,7 +4,7 @@ use Rattle.lapd_store.specs.Store.{Store, empty_store}
 use Rattle.lapd_store.proofs.Ownership.{Holds-empty}
 use Rattle.model_link.specs.Link.{fresh}
 use Rattle.lapd_link.specs.Stands.{Stands}
-use Rattle.test_link.proofs.shelved_link.ShelvedLink.with_room.Goals as goal
+use Rattle.test_parts.proofs.link.shelved_link.ShelvedLink.with_room.Goals as goal
 
 pub open-requires-clause-down : goal.open-requires-clause-down
 open-requires-clause-down c =

@@ -18,7 +18,7 @@ pub struct ShelvedLink {
 }
 
 impl ShelvedLink {
-    ghost use Rattle.test_link.specs.Works.{Works};
+    ghost use Rattle.test_parts.specs.Works.{Works};
 
     /// A link that was opened, with a window and a queue of `k` contents of at most 8 octets, over as many slots, where
     /// four control frames may wait.

@@ -2,7 +2,7 @@
 use Rattle.std.specs.Prelude.{◌≡◌, ℕ, []}
 use Rattle.model_link.specs.Link as machine
 use Rattle.lapd_link.specs.Stands.{Stands}
-use Rattle.test_link.specs.declared.shelved_link.ShelvedLink.{ShelvedLink}
+use Rattle.test_parts.specs.declared.link.shelved_link.ShelvedLink.{ShelvedLink}
 
 -- The link stands for some link of the machine, and nobody else uses the shelf of so many slots.
 abbrev pub Works : ℕ → ShelvedLink → Type 0

@@ -1,9 +1,9 @@
 //! Starts at both ends of each range, and the text of a start's fault.
 
 ghost use Rattle.std.specs.Prelude.{◌≤◌};
-ghost use Rattle.test_link.specs.Works.{Works};
+ghost use Rattle.test_parts.specs.Works.{Works};
 
-use crate::shelved_link::ShelvedLink;
+use crate::link::shelved_link::ShelvedLink;
 use lapd_frame::{Control, Refusal};
 use lapd_link::{LinkRequest, StartFault};
 use std::alloc::Global;

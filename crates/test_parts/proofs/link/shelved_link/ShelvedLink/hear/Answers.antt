@@ -1,6 +1,6 @@
 -- Hand-written answers for `ShelvedLink::hear`.
 use Rattle.std.proofs.Common.{[], ◌∙◌}
-use Rattle.test_link.proofs.shelved_link.ShelvedLink.hear.Goals as goal
+use Rattle.test_parts.proofs.link.shelved_link.ShelvedLink.hear.Goals as goal
 
 pub receive-requires : goal.receive-requires
 receive-requires c = ([], c.requires.0, c.requires.1)

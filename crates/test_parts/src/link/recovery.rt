@@ -1,8 +1,8 @@
 //! An I-frame that is lost between two links.
 
-ghost use Rattle.test_link.specs.Works.{Works};
+ghost use Rattle.test_parts.specs.Works.{Works};
 
-use crate::shelved_link::ShelvedLink;
+use crate::link::shelved_link::ShelvedLink;
 use lapd_frame::Control;
 use lapd_link::{LinkRequest, StartFault};
 use lapd_seq::Seq;

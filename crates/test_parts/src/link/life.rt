@@ -1,8 +1,8 @@
 //! Each call of a link once.
 
-ghost use Rattle.test_link.specs.Works.{Works};
+ghost use Rattle.test_parts.specs.Works.{Works};
 
-use crate::shelved_link::ShelvedLink;
+use crate::link::shelved_link::ShelvedLink;
 use lapd_frame::{Control, ErrorCode, Note, Order, Service, ShortList, Timer};
 use lapd_link::{LinkRequest, LinkTimer, StartFault};
 use lapd_seq::Seq;

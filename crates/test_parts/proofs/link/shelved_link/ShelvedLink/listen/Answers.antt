@@ -1,6 +1,6 @@
 -- Hand-written answers for `ShelvedLink::listen`.
 use Rattle.std.proofs.Common.{[], ◌∙◌}
-use Rattle.test_link.proofs.shelved_link.ShelvedLink.listen.Goals as goal
+use Rattle.test_parts.proofs.link.shelved_link.ShelvedLink.listen.Goals as goal
 
 pub frame-requires : goal.frame-requires
 frame-requires c = ([], c.requires.0, c.requires.1)

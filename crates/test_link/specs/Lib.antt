@@ -1,2 +1,0 @@
--- What a link with its shelf is.
-pub mod Works

@@ -16,6 +16,7 @@ ghost use Rattle.lapd_line.specs.FrameStands.{IsNext, written};
 ghost use Rattle.lapd_line.specs.Reports.{report_told};
 
 use crate::frame_lines::FrameLines;
+use crate::frame_stored::frame_limit;
 use lapd_frame::{Refusal, Service, Timer};
 use lapd_line::{Config, NextFrame, Report, Request};
 use lapd_store::Shelf;
@@ -59,7 +60,7 @@ impl<S: Shelf> Model for FrameCard<S> {
 }
 
 impl<S: Shelf> FrameCard<S> {
-    ghost use Rattle.lapd_card.specs.FrameCard.{line_count, room_for_frames};
+    ghost use Rattle.lapd_card.specs.FrameCard.{line_count, room_for_frames, frame_limit};
     ghost use Rattle.lapd_card.specs.FrameStands.{Stands, Leads};
     ghost use Rattle.lapd_card.specs.Reply.{answer_of_result};
 
@@ -198,17 +199,25 @@ impl<S: Shelf> FrameCard<S> {
 
     /// How many octets the card stores now: of control frames and messages that wait, of assignments that are remembered,
     /// and of contents in slots. It keeps nothing of the frames that come and go: it is a card of octets but for what that
-    /// holds of frames on their way. They are never more than [`crate::limit`] says.
+    /// holds of frames on their way. They are never more than [`FrameCard::frame_limit`] says.
     pub fn stored(&self) -> u32
-        ensures { (m : machine.Card) → Stands S.store self.now m → result + sum_by held_sent m.lines ≡ stored m }
+        ensures octets { (m : machine.Card) → Stands S.store self.now m → result + sum_by held_sent m.lines ≡ stored m }
+        ensures few { result ≤ frame_limit self.now.config }
     {
         (self.lines.held() + self.shelf.octets()) as u32
     }
 
-    /// How many octets the card stores at most, whatever happens: [`crate::limit`] of its configuration.
+    /// How many octets a card of octets with its configuration stores at most: [`crate::limit`].
     pub fn limit(&self) -> u32
         ensures { (m : machine.Card) → Stands S.store self.now m → result ≡ limit m.config }
     {
         crate::stored::limit(&self.config)
+    }
+
+    /// How many octets the card stores at most, whatever happens: [`frame_limit`] of its configuration.
+    pub fn frame_limit(&self) -> u32
+        ensures { result ≡ frame_limit self.now.config }
+    {
+        frame_limit(&self.config)
     }
 }

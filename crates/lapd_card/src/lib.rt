@@ -30,6 +30,7 @@
 //! - `lines`: the lines as one part.
 //! - `frame_card` with `frame_start` and `frame_lines`: [`FrameCard`], a card at whose lines a controller keeps flags, stuffed
 //!   0s and checks, and gives and takes whole frames. What kind a card is, is said at its start and stays.
+//! - `frame_stored`: how many octets such a card may store.
 //! - `frame_drive` with `happenings`, `frame_sink` and `frame_replies`: whole lists of what happens at such a card.
 //!
 //! What the card does is defined below: a row of a link's tables (by state, in `specs/`) and its notes in
@@ -45,7 +46,7 @@
 //!
 //! # Open
 //!
-//! Of a card for frames: a bound of what it stores that leaves out the room of frames on their way.
+//! Of a card for frames: its counters.
 #![tactic(auto)]
 
 mod begun;
@@ -59,6 +60,7 @@ mod frame_lines;
 mod frame_replies;
 mod frame_sink;
 mod frame_start;
+mod frame_stored;
 mod happenings;
 mod kept;
 mod lines;
@@ -73,6 +75,7 @@ pub use fault::CardFault;
 pub use frame_card::{FrameCard, RoomTooSmall};
 pub use frame_replies::{FrameReply, SentFrame};
 pub use frame_sink::FrameSink;
+pub use frame_stored::frame_limit;
 pub use happenings::Happening;
 pub use kept::{Kept, KeptReply};
 pub use lapd_bits::Head;

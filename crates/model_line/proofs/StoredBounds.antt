@@ -14,6 +14,7 @@ use Rattle.lapd_bits.specs.Sent.{Item}
 use Rattle.lapd_bits.specs.Stream.{room_for}
 use Rattle.lapd_frame.specs.declared.addresses.Side.TheVariants.{Network}
 use Rattle.lapd_frame.specs.Grammar.{spelling}
+use Rattle.lapd_tei.specs.Machine.{held}
 use Rattle.model_link.specs.Link.{Link, frame_of, queue_of}
 use Rattle.model_link.specs.Rises as links
 use Rattle.model_link.specs.Sound.{IsWaitingFrame}
@@ -74,11 +75,15 @@ link_few c l s n few = go (tei_at (place_at n) l) (s.links n few)
     go None is_fresh = subst (λ x. links.held (terms c (service_at n) 0) x ≤ 4 * c.control) (sym is_fresh) (omega arith)
     go (Some tei) sound = ring_few (terms c (service_at n) tei) c.control (link_at n l).waiting sound.frames sound.ring
 
+-- of what waits and is remembered
+pub waiting_few : (c : Config) (l : Line) → IsSound c l → held l.management + sum_of_links c (held_by_link c l) ≤ 8 * c.control * c.terminals + 32 + 12
+waiting_few c l s =
+    let rings = sum_bounded (held_by_link c l) 0 (link_count c) (4 * c.control) (λ n few. link_few c l s n (omega (arith, few))) in
+    omega (arith, s.management.queue.few, s.management.memory.few, rings)
+
 -- all of it
 pub held_few : (c : Config) (l : Line) → IsSound c l → held_in c l ≤ 2 * c.n201 + 10 + 8 * c.control * c.terminals + 32 + 12
-held_few c l s =
-    let rings = sum_bounded (held_by_link c l) 0 (link_count c) (4 * c.control) (λ n few. link_few c l s n (omega (arith, few))) in
-    omega (arith, received_few c l, sent_few c l s, s.management.queue.few, s.management.memory.few, rings)
+held_few c l s = omega (arith, received_few c l, sent_few c l s, waiting_few c l s)
 
 -- ---- contents
 

@@ -1,8 +1,9 @@
 -- Hand-written answers for `FrameCard::stored`.
-use Rattle.std.proofs.Common.{sym, subst}
+use Rattle.std.proofs.Common.{◌+◌, ◌≤◌, sym, subst}
+use Rattle.lapd_card.specs.FrameCard.{frame_limit}
 use Rattle.lapd_card.specs.FrameStands.{Stands}
 use Rattle.lapd_card.proofs.Amounts.{fits_32, fits_64}
-use Rattle.lapd_card.proofs.FrameAmounts.{stored_is, frames_small}
+use Rattle.lapd_card.proofs.FrameAmounts.{stored_is, frames_small, within_frame_limit}
 use Rattle.lapd_card.proofs.OneHappening.{few-lines}
 use Rattle.lapd_card.proofs.frame_card.FrameCard.stored.Goals as goal
 
@@ -22,5 +23,11 @@ overflow_cast-result g c =
     let (m, s) = c.self.invariant in
     fits_32 _ (frames_small g.S.Shelf.store (record { config = c.self.inside.config; lines = c.self.inside.lines; shelf = c.self.inside.shelf }) m c.held.result c.octets.result s c.held.ensures c.octets.ensures)
 
-pub returns : goal.returns
-returns g c = λ m s. stored_is g.S.Shelf.store _ m c.held.result c.octets.result (subst (λ card. Stands g.S.Shelf.store card m) (sym c.self.view_is) s) c.held.ensures c.octets.ensures
+pub returns-clause-octets : goal.returns-clause-octets
+returns-clause-octets g c = λ m s. stored_is g.S.Shelf.store _ m c.held.result c.octets.result (subst (λ card. Stands g.S.Shelf.store card m) (sym c.self.view_is) s) c.held.ensures c.octets.ensures
+
+pub returns-clause-few : goal.returns-clause-few
+returns-clause-few g c =
+    let (m, s) = c.self.invariant in
+    subst (λ card. c.held.result + c.octets.result ≤ frame_limit card.config) c.self.view_is
+    (within_frame_limit g.S.Shelf.store (record { config = c.self.inside.config; lines = c.self.inside.lines; shelf = c.self.inside.shelf }) m c.held.result c.octets.result s c.held.ensures c.octets.ensures)

@@ -16,8 +16,8 @@ after_front m happenings count = after_all m (spelled m (take count happenings))
 pub record FramePromises (m : Card) (happenings : List Happening) : Type 0 where
   -- All that is promised of the events that the happenings mean.
   pub promises : Promises m (spelled m happenings)
-  -- A frame that comes is heard once, unless it is too short, and a fault never; of the octets that they mean it counts its
-  -- own and three at least (Q.921 clauses 2.2, 2.7 and 2.9).
+  -- A frame that comes is heard once, unless it is too short, and a fault never; and a frame of n octets counts as n + 3
+  -- octets received at least: its own, its check and a flag (Q.921 clauses 2.2, 2.7 and 2.9).
   pub counted : (count : ℕ) → HappenAt m happenings → AreCounted m (take count happenings)
   -- So the frames that calls give, with those still to be sent, are at most those that could be sent before, two for each
   -- frame that came and was not too short, one for each accepted request, k + 1 for each expiry of a running timer and k
@@ -29,13 +29,14 @@ pub record FramePromises (m : Card) (happenings : List Happening) : Type 0 where
   -- After as many calls for the next frame of a line as frames may be sent there, with nothing else between them, there is
   -- none.
   pub calls_end : (count : ℕ) → CallsEnd (after_front m happenings count)
-  -- A control frame that waits is given by the call after so many as frames go before it: messages of TEI management, unit
-  -- data, for each control frame of its link that waits before it at most one frame of every link, and at most one of each
-  -- link that comes before its own in the round. The configuration gives a number of calls that is enough: 72 with eight
-  -- terminals, 4 unit data and 4 control frames (profile).
+  -- A control frame that waits is given within a number of calls that the configuration gives. Before it go messages of TEI
+  -- management, unit data, for each control frame of its link that waits before it at most one frame of every link, and at
+  -- most one of each link that comes before its own in the round; so 72 calls are enough with eight terminals, 4 unit data
+  -- and 4 control frames (profile).
   pub waiting_is_given : (count : ℕ) → WaitingIsGiven (after_front m happenings count)
-  -- So after a poll that comes for a link in state 7 or 8 with a valid N(R) one of that many calls gives the answer, RR, RNR
-  -- or REJ with F=1 and N(R) = V(R) (clauses 5.6.2 to 5.6.7 and 5.8.1);
+  -- So after a poll with a valid N(R), for a link in state 7 or 8 where one control frame more finds room, one of that many
+  -- calls gives the answer, RR, RNR or REJ with F=1 and N(R) = V(R) (clauses 5.6.2 to 5.6.7 and 5.8.1).
   pub polls_are_answered : (count : ℕ) → HappenAt m happenings → PollsAreAnswered (after_front m happenings count)
-  -- and after SABME or DISC its UA or DM with F = P, in whatever state (clauses 5.5.1.2, 5.5.3.2, 5.5.4 and 5.5.5).
+  -- And after SABME or DISC, where there is such room, its UA or DM with F = P, in whatever state (clauses 5.5.1.2,
+  -- 5.5.3.2, 5.5.4 and 5.5.5).
   pub commands_are_answered : (count : ℕ) → HappenAt m happenings → CommandsAreAnswered (after_front m happenings count)

@@ -3,8 +3,9 @@
  * access line, point to multipoint; the network side is a card through the C library, with a handful of Q.931 messages
  * for layer 3. Octets pass between them in memory, as true HDLC, both at 16 kbit/s of real time or faster.
  *
- * It gets its TEI, comes up, calls, is called, loses frames both ways and recovers, answers an identity check, is
- * released and removed, and comes again. Each step is told; status 1 where one did not come in time. For tests alone: see tests/interop.
+ * It gets its TEI, comes up, calls, is called, loses frames both ways and recovers, answers an identity check, is released
+ * and removed, and comes again. Each step is told; status 1 where one did not come in time. For tests alone: see
+ * tests/interop.
  */
 #define _POSIX_C_SOURCE 200809L
 

@@ -8,8 +8,9 @@
 //! (`Knowledge`), which frames pulls begin (`Begun`), which octets come to a line (`Received`), why messages of TEI
 //! management come to wait (`Messages`), what frames that come and go whole count and how soon they go (`Frames`), the
 //! laws, which say of which cards and lists (`Laws`), and worked values (`Worked`, `WorkedTimers`, `WorkedNotes`,
-//! `WorkedBegun`, `WorkedPlaces`, `WorkedReceived`, `WorkedReasons`). Each
-//! law is the contract of a call that does nothing. `laws_promises` has all promises of a list of events in one record.
+//! `WorkedBegun`, `WorkedPlaces`, `WorkedReceived`, `WorkedReasons`). Each law is the contract of a call that does nothing.
+//! `laws_promises` has all promises of a list of events in one record, `Promises`: a law here names the fields that it
+//! proves, and their comments say it in words.
 //!
 //! - `laws`, `timers`, `notes`, `management`, `progress`, `frames`: the laws.
 #![tactic(auto)]

@@ -50,7 +50,8 @@ pub record BringsMalformed (c : Config) (l : Line) (e : Event) (service : Servic
   pub sapi : service_of address.sapi ≡ Some service
   pub tei_is : address.tei ≡ tei
 
--- The event of the line is this event of the link of a service with a TEI: a frame is brought, or one that is malformed; its timer expires; a request of it is granted; or a pull takes what it gives.
+-- The event of the line is this event of the link of a service with a TEI: a frame is brought, or one that is malformed;
+-- its timer expires; a request of it is granted; or a pull takes what it gives.
 abbrev pub timer_of : Service → ℕ → LinkTimer → Timer
 timer_of service tei T200 = timers.T200 service tei
 timer_of service tei T203 = timers.T203 service tei

@@ -11,7 +11,8 @@
 //! values (`Worked`, `WorkedPulls`, `WorkedHeard`, `WorkedLinks`, `WorkedMessages`, `WorkedNoted`). `Drains` and
 //! `Among` say what a line comes to with pulls, or with other events between them; their bounds are numbers of pulls,
 //! which are octets of the line, and speak of no time (`docs/PROGRESS.md` has numbers for usual configurations). Each
-//! law is the contract of a call that does nothing.
+//! law is the contract of a call that does nothing; `laws`, `timers`, `notes` and `management` name the fields of `Promises`
+//! (crate `laws_promises`) that say the same of a card, in words.
 //!
 //! - `laws`, `timers`, `notes`, `management`, `progress`: the laws.
 //!

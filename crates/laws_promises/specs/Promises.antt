@@ -61,8 +61,8 @@ pub record Promises (m : Card) (events : List Event) : Type 0 where
   -- releases, each by an indication or a confirm, data, unit data and XID, and errors by their codes (clauses 3.5.2.2,
   -- 5.2.3 and 5.5 to 5.8, appendix II).
   pub links_are_steady : AreSteady m events
-  -- The answer says that a pull began a frame exactly where it did. The frame stands behind what was on the line, and
-  -- the octet pulled has its first bit (clause 2.2).
+  -- The answer says that a pull began a frame exactly where it did. The frame stands behind what was on the line, and the
+  -- octet pulled has its first bit; no other event puts a frame on a line (clause 2.2).
   pub begun_is_told : BegunIsTold m events
   -- A message of TEI management comes to wait exactly where one of six causes occurs, or it is counted as lost. The
   -- causes: an octet ends an identity request (the answer has the TEI that is remembered for its Ri; else the lowest

@@ -1,5 +1,5 @@
-//! Laws of progress of a link, alone and of two that face each other, over the machine of `model_link`, alone and for two links that face
-//! each other. There is nothing to call: each law is the contract of a function that does nothing.
+//! Laws of progress over the machine of `model_link`: of a link alone, and of two links that face each other. There is
+//! nothing to call: each law is the contract of a function that does nothing.
 //!
 //! `specs/` has the statements: what waits and what goes (`Waits`), polls and their answers (`Polls`), I-frames out of
 //! sequence (`Gaps`), a busy terminal (`Heeds`), the timer that a link needs (`Needed`), two ends in rounds (`Rounds`)

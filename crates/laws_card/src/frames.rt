@@ -3,7 +3,7 @@
 
 ghost use Rattle.laws_card.specs.Laws.{FramesAreCounted, CallsServe};
 
-/// Frames that come are what is counted. From any card on whose lines are idle, a frame that comes is heard once, unless it
+/// Frames that come are what is counted. From any sound card whose lines are idle, a frame that comes is heard once, unless it
 /// is too short, and nothing else is; of the octets that it means it counts its own and three at least, its check and a
 /// flag. So the frames sent, and those that may still be sent, are at most those that might be sent before, two for each
 /// frame that came and was not too short, one for each accepted request, k + 1 for each expiry of a running timer, and k
@@ -13,8 +13,9 @@ pub fn frames_are_counted()
     ensures { FramesAreCounted }
 {}
 
-/// Calls for the next frame of a line, one after the other with nothing else between them, serve all that waits. After as
-/// many as frames may be sent on the line there is none. A control frame that waits on a link of a TEI on the line is given
+/// What a call for the next frame gives is what goes: the whole frame stands behind what was on its line, and nothing else
+/// does; where it gives none, nothing has happened. Calls for the next frame of a line, one after the other with nothing
+/// else between them, serve all that waits. After as many as frames may be sent on the line there is none. A control frame that waits on a link of a TEI on the line is given
 /// by the call after so many as go before it, which the configuration bounds: four messages of TEI management, its unit
 /// data, one frame of every link for each other control frame that a link has room for, and one of each other link. So after
 /// a poll that comes whole for a link in state 7 or 8, with a valid N(R), one of that many calls gives the response with F=1

@@ -1,22 +1,23 @@
 /*
- * hardware.c: a small line card in C whose controller has flags, stuffed 0s and checks in hardware. One D-channel is a
- * socket with one frame a datagram on standard input, as the drivers of such controllers give and take them. Timers are
- * the library's clock, by the system's monotonic time. Layer 3 is three functions below; this one answers every call.
+ * hardware.c: a small line card in C whose controller has flags, stuffed 0s and checks in hardware. One D-channel is
+ * standard input, as the drivers of such controllers give and take frames: a socket with one frame a datagram, or a device
+ * with one frame a read and a write. Timers are the library's clock, by the system's monotonic time. Layer 3 is three
+ * functions below; this one answers every call.
  *
- *     hardware [--check] [RECORD] <> SOCKET
+ *     hardware [--check] [RECORD] <> LINE
  *
  * With --check two octets stand behind each frame, in place of its check, as DAHDI's D-channels have them; without it the
  * frame is all, as in Linux's LAPD devices. Standard error tells what layer 3 is told. With RECORD, all that happens is
- * written there as a script of docs/FORMAT.md: `lapdsim run < RECORD` then shows the same. A datagram of no octets, or
- * the other side's end, ends the program.
+ * written there as a script of docs/FORMAT.md: `lapdsim run < RECORD` then shows the same. A frame of no octets, or the
+ * other side's end, ends the program.
  */
 #define _POSIX_C_SOURCE 200809L
 
 #include <errno.h>
 #include <poll.h>
+#include <signal.h>
 #include <stdio.h>
 #include <string.h>
-#include <sys/socket.h>
 #include <time.h>
 #include <unistd.h>
 
@@ -150,7 +151,7 @@ static int patience(void) {
 
 /* ---- The line ----------------------------------------------------------------------------------------------------- */
 
-/* A frame came. A driver that tells of aborts and bad checks hands them to lapd_frame_failed; this socket has none. */
+/* A frame came. A driver that tells of aborts and bad checks hands them to lapd_frame_failed; this one has none. */
 static bool take(const uint8_t *datagram, size_t length) {
     static lapd_report report;
     length -= length < check_octets ? length : check_octets;
@@ -176,7 +177,7 @@ static bool give(bool *is_full) {
         if (record != NULL)
             fprintf(record, "next 0\n");
         memset(datagram + length, 0, check_octets);
-        if (send(STDIN_FILENO, datagram, length + check_octets, MSG_NOSIGNAL) < 0 && errno != EPIPE)
+        if (write(STDIN_FILENO, datagram, length + check_octets) < 0 && errno != EPIPE)
             return false;
     }
     return true;
@@ -191,7 +192,7 @@ static bool serve(void) {
     while (good && poll(&line, 1, patience()) >= 0) {
         good = pass(monotonic() - start);
         if (good && (line.revents & (POLLIN | POLLHUP | POLLERR)) != 0) {
-            ssize_t length = recv(STDIN_FILENO, datagram, sizeof datagram, 0);
+            ssize_t length = read(STDIN_FILENO, datagram, sizeof datagram);
             if (length <= 0)
                 return length == 0 || errno == ECONNRESET;
             good = take(datagram, (size_t)length);
@@ -209,9 +210,10 @@ int main(int words, char **argv) {
         argv++;
     }
     if (words > 2 || (words == 2 && (record = fopen(argv[1], "w")) == NULL)) {
-        fprintf(stderr, "usage: hardware [--check] [RECORD] <> SOCKET\n");
+        fprintf(stderr, "usage: hardware [--check] [RECORD] <> LINE\n");
         return 2;
     }
+    signal(SIGPIPE, SIG_IGN); /* a write to a side that has ended fails instead */
     if (record != NULL)
         fprintf(record, "frames 1 8 7 8 4 4 64 260 3\n");
     if (!is_ok(lapd_card_start_frames(&card, &config), "card") || !is_ok(lapd_clock_start(&timers, &config), "clock"))

@@ -77,13 +77,16 @@ static void of_no_card(void) {
 
 static void of_other_kind(lapd_card *frames, lapd_card *octets) {
     lapd_head head = {1, {2, 3, 4, 5}};
+    struct lapd_counters counters = {{7}};
     size_t steps = 3;
     lay_paint();
     refused(lapd_octet(frames, 9, 0x7E, &report), LAPD_WRONG_CARD, "an octet at a card for frames");
     refused(lapd_pull(frames, 0, out, &report), LAPD_WRONG_CARD, "a pull of a card for frames");
     refused(lapd_exchange(frames, 0, sabme, 3, out, 3, &steps, &report), LAPD_WRONG_CARD, "an exchange at a card for frames");
     refused(lapd_begun(frames, 0, &head), LAPD_WRONG_CARD, "a frame begun by no pull");
-    wants(steps == 3 && head.length == 1 && head.octets[3] == 5, "a call of the other kind has written something");
+    refused(lapd_counters(frames, 0, &counters), LAPD_WRONG_CARD, "counters of a card for frames");
+    wants(steps == 3 && head.length == 1 && head.octets[3] == 5 && counters.values[0] == 7,
+          "a call of the other kind has written something");
     refused(lapd_frame(octets, 9, sabme, 3, &report), LAPD_WRONG_CARD, "a frame at a card for octets");
     refused(lapd_frame_failed(octets, 9, 99, &report), LAPD_WRONG_CARD, "a fault at a card for octets");
     refused(next(octets, 9), LAPD_WRONG_CARD, "the next frame of a card for octets");
@@ -174,6 +177,16 @@ static bool is_same(const lapd_report *one, const lapd_report *two) {
            && memcmp(one->contents, two->contents, one->length) == 0;
 }
 
+/* An octet comes; how many of its frame, or fault, have told something so far. */
+static unsigned hear_octet(pair *both, uint32_t line, uint8_t octet, unsigned tells, lapd_report *told) {
+    lapd_octet(&both->octets, line, octet, &report);
+    if (!lapd_tells(&report))
+        return tells;
+    if (tells == 0)
+        *told = report;
+    return tells + 1;
+}
+
 /* The octets of a frame come on an idle line, and 1s after them: at most one octet has anything to tell. */
 static void hear(pair *both, uint32_t line, const uint8_t *frame, size_t count, lapd_report *told) {
     static hdlc_sender sender;
@@ -182,12 +195,24 @@ static void hear(pair *both, uint32_t line, const uint8_t *frame, size_t count, 
     for (size_t ones = 14 - (hdlc_left(&sender) + 6) % 8; ones > 0; ones--)
         sender.bits[sender.to++] = 1;
     unsigned tells = 0;
-    while (hdlc_busy(&sender)) {
-        lapd_octet(&both->octets, line, hdlc_octet(&sender), &report);
-        if (lapd_tells(&report) && tells++ == 0)
-            *told = report;
-    }
+    while (hdlc_busy(&sender))
+        tells = hear_octet(both, line, hdlc_octet(&sender), tells, told);
     wants(tells <= 1, "two octets of a frame tell something");
+}
+
+/* The octets that a fault means, by its cause: from a flag to the 1s of an idle line. One of them tells it. */
+static void hear_fault(pair *both, uint32_t line, uint8_t cause, lapd_report *told) {
+    static const struct {
+        size_t count;
+        uint8_t octets[9];
+    } faults[] = {[LAPD_ABORT] = {3, {0x7E, 0x00, 0xFF}},
+                  [LAPD_RAGGED] = {4, {0x7E, 0xE0, 0xF7, 0xFF}},
+                  [LAPD_SHORT] = {4, {0x7E, 0x00, 0x7E, 0xFF}},
+                  [LAPD_FCS] = {9, {0x7E, 0x00, 0x00, 0x00, 0x00, 0x00, 0x00, 0x7E, 0xFF}}};
+    unsigned tells = 0;
+    for (size_t i = 0; i < faults[cause].count; i++)
+        tells = hear_octet(both, line, faults[cause].octets[i], tells, told);
+    wants(tells == 1, "not one octet of a fault tells it");
 }
 
 /* A frame as a terminal may send it, or a little different, or anything. */
@@ -256,6 +281,10 @@ static void happens(pair *both) {
         lapd_timer timer = {(uint8_t)(1 + chance(3)), (uint8_t)(16 * chance(2)), (uint8_t)(64 + chance(2))};
         status = lapd_expire(&both->frames, line, &timer, &one);
         other = lapd_expire(&both->octets, line, &timer, &two);
+    } else if (what < 15) {
+        uint8_t cause = (uint8_t)(LAPD_ABORT + chance(4));
+        status = lapd_frame_failed(&both->frames, line, cause, &one);
+        hear_fault(both, line, cause, &two);
     } else {
         take_next(both, line);
         return;

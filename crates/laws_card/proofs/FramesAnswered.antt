@@ -1,5 +1,5 @@
 -- A frame that asks for an answer comes whole, and one of the next calls gives the answer.
-use Rattle.std.proofs.Common.{◌≡◌, ℕ, ◌+◌, ◌<◌, ◌≤◌, false, List, [], ◌∷◌, ◌++◌, length, map, get_or, Option, Some, None, refl, sym, ap, subst, ◌∙◌, arith, append-nil}
+use Rattle.std.proofs.Common.{◌≡◌, ℕ, ◌+◌, ◌<◌, false, List, [], ◌∷◌, ◌++◌, map, get_or, Option, Some, None, sym, ap, subst, ◌∙◌, arith, append-nil}
 use Rattle.std.proofs.lemmas.List.{get_or-set_same}
 use Rattle.std.proofs.lemmas.List.Elements.{All-nil, All-cons}
 use Rattle.lapd_bits.specs.Stream.{frame}
@@ -18,7 +18,7 @@ use Rattle.model_line.specs.Effect.{at_link, of_aim}
 use Rattle.model_line.specs.Event.{octet}
 use Rattle.model_line.specs.Line.{Line, link_number, link_count, place_at, tei_at, link_at, link_in, terms, fresh_line}
 use Rattle.model_line.specs.Sound.{IsSound}
-use Rattle.model_line.specs.Whole.{line_octets, came}
+use Rattle.model_line.specs.Whole.{line_octets}
 use Rattle.model_line.specs.WholeAtLine.{after_events, of_heard, receiving}
 use Rattle.model_line.proofs.FramesCome.{frames_come_whole}
 use Rattle.model_line.proofs.Numbers.{place_at-number, number_within}
@@ -32,7 +32,6 @@ use Rattle.model_card.proofs.CardSound.{cards_stay_sound}
 use Rattle.model_card.proofs.Happening.{config_stays, frames_are_of_lines, happenings_are_events}
 use Rattle.model_card.proofs.Steps.{has_lines, line_sound}
 use Rattle.laws_card.specs.Frames.{after_frame, ComesFor, IsGivenWithin, IsAnswered, PollsAreAnswered, CommandsAreAnswered}
-use Rattle.laws_card.specs.PromisesOfPulls.{IsWaiting}
 use Rattle.laws_card.proofs.FramesGiven.{given-soon}
 
 module _ (m : Card) (s : card.IsSound m) (idle : AreIdle m) (number : ℕ) (octets : List ℕ) (service : Service) (tei place : ℕ) (parts : Parts)

@@ -1,21 +1,16 @@
 -- Calls for the next frame of a line, one after the other.
-use Rattle.std.proofs.Common.{◌≡◌, ◌≢◌, ℕ, zero, suc, ◌+◌, ◌-◌, ◌*◌, ◌<◌, ◌≤◌, Bool, true, false, cond, List, [], ◌∷◌, ◌++◌, length, map, replicate, set, get_or, Option, Some, None, option_map, refl, sym, ap, subst, ◌∙◌, ◌⊎◌, inl, inr, ⊎_elim, arith, drop, take, length-set}
+use Rattle.std.proofs.Common.{◌≡◌, ℕ, zero, suc, ◌+◌, ◌<◌, ◌≤◌, List, [], ◌∷◌, ◌++◌, length, replicate, get_or, Option, Some, None, option_map, refl, sym, ap, subst, ◌∙◌, ⊎_elim, arith, drop, take, length-set}
 use Rattle.std.specs.List.{range_with_len}
 use Rattle.std.specs.Option.{option_or}
-use Rattle.std.proofs.Math.Nat.{mul-le-mul_right}
 use Rattle.std.proofs.lemmas.List.{get_or-set_same, take-append-drop}
 use Rattle.std.proofs.lemmas.List.FromFn.{get_or-range_with_len, length-range_with_len}
-use Rattle.lapd_frame.specs.declared.controls.Control.{Control}
-use Rattle.lapd_frame.specs.declared.services.Service.{Service}
-use Rattle.lapd_frame.specs.Grammar.{Parts}
-use Rattle.lapd_bits.specs.Sent.{frame}
 use Rattle.model_link.specs.declared.frames.ControlFrame.{ControlFrame}
 use Rattle.model_link.specs.Machine as links
 use Rattle.model_link.specs.Told.{Given}
 use Rattle.laws_two_links.specs.Waits.{GoesWhole}
 use Rattle.model_line.specs.declared.config.Config.{Config}
 use Rattle.model_line.specs.Counts as line
-use Rattle.model_line.specs.Event.{Event, pull}
+use Rattle.model_line.specs.Event.{pull}
 use Rattle.model_line.specs.Line.{Line, link_count, place_at, tei_at, terms_at, link_at, fresh_line}
 use Rattle.model_line.specs.Machine as lines
 use Rattle.model_line.specs.Pull.{Taken, with_given_frame, message_taken, unit_taken, link_taken, first_taken, round, taken}
@@ -29,14 +24,13 @@ use Rattle.laws_line.specs.Drains.{frames_before, most_frames_before, control_te
 use Rattle.laws_line.proofs.Leaving.{pull-moves, same-place, first-goes}
 use Rattle.laws_line.proofs.Ordered.{taken-step}
 use Rattle.laws_line.proofs.Soon.{frames-few, others-fit}
-use Rattle.model_card.specs.Card as cards
 use Rattle.model_card.specs.Card.{Card, line_at}
-use Rattle.model_card.specs.Happening.{Happening, goes, events_of, spelled, with_line}
+use Rattle.model_card.specs.Happening.{goes, events_of, spelled}
 use Rattle.model_card.specs.Run.{after_all}
-use Rattle.model_card.specs.Said.{Next, next_of, said, gives}
+use Rattle.model_card.specs.Said.{next_of, said, gives}
 use Rattle.model_card.specs.Sound as card
 use Rattle.model_card.proofs.Happening.{config_stays, frames_are_of_lines, after_all-append}
-use Rattle.model_card.proofs.Steps.{HasLines, has_lines, line_sound}
+use Rattle.model_card.proofs.Steps.{has_lines, line_sound}
 use Rattle.laws_card.specs.Frames.{after_calls, CallsEnd, IsGivenWithin, WaitingIsGiven}
 use Rattle.laws_card.specs.PromisesOfPulls.{IsWaiting}
 

@@ -22,3 +22,4 @@ pub mod AmidMet
 pub mod FramesCount
 pub mod FramesGiven
 pub mod FramesAnswered
+pub mod FramesGo

@@ -1,7 +1,7 @@
 -- The contents of the links of a card, from moment to moment, and since their numbers began.
-use Rattle.std.specs.Prelude.{◌≡◌, ◌<◌, ℕ, Bool, List, [], fold, if◌then◌else◌}
+use Rattle.std.specs.Prelude.{ℕ, List, fold, if◌then◌else◌}
 use Rattle.model_link.specs.Link.{Link}
-use Rattle.laws_link.specs.History.{Share, History, with_share, IsCounted}
+use Rattle.laws_link.specs.History.{Share, History, with_share}
 use Rattle.model_line.specs.Counts.{is_pool_full}
 use Rattle.model_line.specs.Line.{Line, link_at}
 use Rattle.laws_line.specs.Share as line
@@ -10,7 +10,7 @@ use Rattle.model_card.specs.Card.{Card, line_at}
 use Rattle.model_card.specs.Event.{Event}
 use Rattle.model_card.specs.Machine.{after}
 use Rattle.model_card.specs.Numbered.{LinkName, is_at}
-use Rattle.model_card.specs.Run.{Moment, moments, after_all}
+use Rattle.model_card.specs.Run.{Moment, moments}
 
 abbrev pub link_named : LinkName → Card → Link
 link_named name card = link_at name.number (line_at name.line card)

@@ -1,8 +1,9 @@
 -- What is promised of happenings at a card whose frames come and go whole, in frames' own terms.
-use Rattle.std.specs.Prelude.{◌≡◌, ℕ, ◌+◌, ◌*◌, ◌<◌, ◌≤◌, Bool, not, nat_le, false, List, [], ◌∷◌, ◌++◌, length, replicate, count_by, sum_by, Some, None}
+use Rattle.std.specs.Prelude.{◌≡◌, ℕ, ◌+◌, ◌*◌, ◌<◌, ◌≤◌, Bool, not, false, List, [], ◌∷◌, ◌++◌, length, replicate, count_by, sum_by, Some, None}
 use Rattle.lapd_frame.specs.declared.controls.Control.{Control}
 use Rattle.lapd_frame.specs.declared.services.Service.{Service}
 use Rattle.lapd_frame.specs.Grammar.{Parts}
+use Rattle.lapd_bits.specs.Sent as line_text
 use Rattle.lapd_bits.specs.Stream.{frame}
 use Rattle.model_link.specs.declared.frames.ControlFrame.{ControlFrame}
 use Rattle.laws_two_links.specs.Polls.{IsPollWhileUp, SaysReceived, asked_of}
@@ -13,7 +14,7 @@ use Rattle.laws_line.specs.Heard.{IsFor}
 use Rattle.laws_line.specs.Drains.{frames_before, most_frames_before, control_text}
 use Rattle.model_card.specs.Card.{Card, line_at}
 use Rattle.model_card.specs.Counts.{may_send, octets_received, window, sent, heard, accepted, expired, rejected}
-use Rattle.model_card.specs.Happening.{Happening, comes, failed, goes, expires, asks, spelled, HappensAt}
+use Rattle.model_card.specs.Happening.{Happening, comes, failed, goes, expires, asks, events_of, spelled, HappensAt}
 use Rattle.model_card.specs.Run.{moments, after_all}
 use Rattle.model_card.specs.Said.{Next, said, gives}
 use Rattle.laws_card.specs.PromisesOfPulls.{IsWaiting}
@@ -63,6 +64,13 @@ AreLinear m hs =
     let k = window m.config in
     21 * (sent ms + may_send end)
     ≤ 21 * may_send m + (7 + 3 * k) * sum_by octets_taken (frames_in hs) + 21 * accepted ms + 21 * (k + 1) * expired ms
+
+-- What a call for the next frame gives is what goes: the whole frame stands behind what was on the line, and nothing else
+-- does (clause 2.2). Where it gives none, nothing has happened.
+pub record GivesWhatGoes (m : Card) : Type 0 where
+  pub whole : (number : ℕ) (next : Next) → number < m.config.lines → said m (goes number) ≡ gives (Some next) →
+      (line_at number (after_all m (events_of m (goes number)))).items ≡ (line_at number m).items ++ line_text.frame next.octets ∷ []
+  pub none : (number : ℕ) → number < m.config.lines → said m (goes number) ≡ gives None → after_all m (events_of m (goes number)) ≡ m
 
 -- A card after so many calls for the next frame of a line, with nothing else between them.
 abbrev pub after_calls : Card → ℕ → ℕ → Card

@@ -8,7 +8,7 @@ use Rattle.model_card.specs.Run.{IsAtLine, AreAtLines}
 use Rattle.model_card.specs.Sound.{IsSound}
 use Rattle.laws_card.specs.Promises.{IsKept, IsCountedIn, BeginsEmpty, IsServedIn, UnitsWaitAll, TurnsStay, ArePulled, AreHeeded, TakeEffect, ExpiriesTakeEffectIn, AreSteady, IsDelivered, AreReceived, BeginsUnheard, RunsWhatIsNeeded, NeedsNone, TimersAreLeft, NotesTell, TeisAreTold, BeginsDown, TeisHaveOnePlace, BegunIsTold, MessagesHaveCauses, ToldTeisAreThere, NotesHaveReasons, NothingElseIsNoted}
 use Rattle.laws_card.specs.Timers.{AllHaveTheirTimers}
-use Rattle.laws_card.specs.Frames.{AreCounted, AreAmortised, AreLinear, CallsEnd, WaitingIsGiven, PollsAreAnswered, CommandsAreAnswered}
+use Rattle.laws_card.specs.Frames.{AreCounted, AreAmortised, AreLinear, GivesWhatGoes, CallsEnd, WaitingIsGiven, PollsAreAnswered, CommandsAreAnswered}
 use Rattle.model_card.specs.Happening.{Happening, HappenAt, AreIdle}
 
 pub record NothingIsLost : Type 0 where
@@ -72,6 +72,7 @@ pub record FramesAreCounted : Type 0 where
   pub linear : (m : Card) (hs : List Happening) → IsSound m → AreIdle m → HappenAt m hs → AreLinear m hs
 
 pub record CallsServe : Type 0 where
+  pub goes : (m : Card) → IsSound m → GivesWhatGoes m
   pub ends : (m : Card) → IsSound m → CallsEnd m
   pub waiting : (m : Card) → IsSound m → WaitingIsGiven m
   pub polls : (m : Card) → IsSound m → AreIdle m → PollsAreAnswered m

@@ -13,6 +13,7 @@ use Rattle.model_card.proofs.Reaching.{reached-sound}
 use Rattle.laws_card.proofs.FramesAnswered.{polls-answered, commands-answered}
 use Rattle.laws_card.proofs.FramesCount.{are-counted, are-amortised, are-linear}
 use Rattle.laws_card.proofs.FramesGiven.{calls-end, waiting-is-given}
+use Rattle.laws_card.proofs.FramesGo.{gives-what-goes}
 use Rattle.lapd_card.proofs.FrameHeadline.{spelled_at}
 use Rattle.laws_promises.specs.FramePromises.{after_front, FramePromises}
 use Rattle.laws_promises.proofs.Kept.{promises-kept}
@@ -39,6 +40,7 @@ module _ (m : Card) (hs : List Happening) (reached : IsReached m) (idle : AreIdl
     counted = λ count all. are-counted m (take count hs) sound idle (front-happens count all);
     amortised = λ count all. are-amortised m (take count hs) sound idle (front-happens count all);
     linear = λ count all. are-linear m (take count hs) sound idle (front-happens count all);
+    given_goes = λ count. gives-what-goes (after_front m hs count) (front-sound count);
     calls_end = λ count. calls-end (after_front m hs count) (front-sound count);
     waiting_is_given = λ count. waiting-is-given (after_front m hs count) (front-sound count);
     polls_are_answered = λ count all. polls-answered (after_front m hs count) (front-sound count) (front-idle count all);

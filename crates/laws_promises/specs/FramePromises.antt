@@ -4,7 +4,7 @@ use Rattle.std.specs.Prelude.{ℕ, List, take}
 use Rattle.model_card.specs.Card.{Card}
 use Rattle.model_card.specs.Happening.{Happening, spelled, HappenAt}
 use Rattle.model_card.specs.Run.{after_all}
-use Rattle.laws_card.specs.Frames.{AreCounted, AreAmortised, AreLinear, CallsEnd, WaitingIsGiven, PollsAreAnswered, CommandsAreAnswered}
+use Rattle.laws_card.specs.Frames.{AreCounted, AreAmortised, AreLinear, GivesWhatGoes, CallsEnd, WaitingIsGiven, PollsAreAnswered, CommandsAreAnswered}
 use Rattle.laws_promises.specs.Promises.{Promises}
 
 -- The card after so many of these happenings.
@@ -26,6 +26,9 @@ pub record FramePromises (m : Card) (happenings : List Happening) : Type 0 where
   -- And they are linear in the octets of the frames that came, of which each counts n + 3, in accepted requests and in
   -- expiries.
   pub linear : (count : ℕ) → HappenAt m happenings → AreLinear m (take count happenings)
+  -- What a call for the next frame gives is what goes: the whole frame stands behind what was on its line, and nothing else
+  -- does; where it gives none, nothing has happened (clause 2.2).
+  pub given_goes : (count : ℕ) → GivesWhatGoes (after_front m happenings count)
   -- After as many calls for the next frame of a line as frames may be sent there, with nothing else between them, there is
   -- none.
   pub calls_end : (count : ℕ) → CallsEnd (after_front m happenings count)

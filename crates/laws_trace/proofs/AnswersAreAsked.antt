@@ -57,7 +57,7 @@ same-sapi Call Packet = refl
 same-sapi Packet Call = refl
 same-sapi Packet Packet = refl
 
-either-none : (b : Bool) → cond {A = List Exchange} b [] [] ≡ []
+pub either-none : (b : Bool) → cond {A = List Exchange} b [] [] ≡ []
 either-none true = refl
 either-none false = refl
 
@@ -98,7 +98,7 @@ module _ (service : Service) (tei : ℕ) where
   by-begun (Some t) (refused why) = refl
   by-begun (Some t) (pulled value is_begun orders) = refl
 
-  answered-is : (c : Config) (e : Event) (l : Line) (a : Answer) → answered (seen c e l a) ≡ flat_map answered_in (frame_in c e l)
+  pub answered-is : (c : Config) (e : Event) (l : Line) (a : Answer) → answered (seen c e l a) ≡ flat_map answered_in (frame_in c e l)
   answered-is c (octet value) l a = none-told (gained c.n201 l.received value) a
   answered-is c (expiry timer) l a = none-told None a
   answered-is c (request r) l a = none-granted r a
@@ -122,7 +122,7 @@ module _ (service : Service) (tei : ℕ) where
       ∙ read-again (λ r. exchanges.of_link service tei answered_by r ≡ []) (address_at t g.frame.command) g.frame.control
       (λ info. ap (λ b. cond b (answered_by g.frame.command g.frame.control) []) away) (λ fault. refl) (unwrap_or g.contents [])
 
-  all-foreign : (frames : List (List ℕ)) → All (IsForeign service tei) frames → flat_map answered_in frames ≡ []
+  pub all-foreign : (frames : List (List ℕ)) → All (IsForeign service tei) frames → flat_map answered_in frames ≡ []
   all-foreign [] h = refl
   all-foreign (f ∷ frames) h =
       ap (λ xs. xs ++ flat_map answered_in frames) (foreign f (All-head (IsForeign service tei) f frames h))

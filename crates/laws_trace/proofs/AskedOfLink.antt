@@ -32,7 +32,7 @@ asked_of (received (frame f)) = asked_by f.address.command f.control
 asked_of other = []
 
 -- an answer is asked for
-a-receipt : (own_busy : Bool) (r : ℕ) → answers_in (as_response (receipt_as own_busy r true)) ≡ poll ∷ []
+pub a-receipt : (own_busy : Bool) (r : ℕ) → answers_in (as_response (receipt_as own_busy r true)) ≡ poll ∷ []
 a-receipt true r = refl
 a-receipt false r = refl
 

@@ -1,5 +1,6 @@
 -- Lemmas.
 pub mod Runs
+pub mod Configurations
 pub mod OneLink
 pub mod Begins
 pub mod Reading
@@ -37,3 +38,9 @@ pub mod DataGoesOut
 pub mod DataAsked
 pub mod DataRun
 pub mod AllDataGoesOut
+pub mod HeardLengths
+pub mod Answering
+pub mod AllAreAnswered
+pub mod CommandsPut
+pub mod CommandsCaused
+pub mod CommandsHaveCauses

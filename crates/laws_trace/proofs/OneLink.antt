@@ -38,7 +38,7 @@ use Rattle.model_line.specs.declared.config.Config.{Config}
 use Rattle.model_line.specs.Event.{Event, octet, expiry, request, pull, Answer, told, nothing}
 use Rattle.model_line.specs.Effect.{Aim, at_none, at_link, at_management, at_units, told_of_management, of_change, of_aim}
 use Rattle.model_line.specs.Expiry.{at_timer, aim_of_expiry}
-use Rattle.model_line.specs.Line.{Line, UnitData, link_number, service_at, place_at, place_in, tei_at, link_at, link_in, link_of, link_count, terms, with_link}
+use Rattle.model_line.specs.Line.{Line, UnitData, link_number, service_at, place_at, place_in, tei_at, has_tei, link_at, link_in, link_of, link_count, terms, with_link}
 use Rattle.model_line.specs.Machine.{aim_of, after, answer, unless_refused, unless_refused_told}
 use Rattle.model_line.specs.Octet.{gained, aim_of_heard, aim_of_octet, with_received}
 use Rattle.model_line.specs.Pull.{Taken, with_message, with_unit, unit_frame, with_given_frame, frame_of, taken, is_due, with_item, after_pull, answer_to_pull, first_taken, round}
@@ -56,7 +56,7 @@ use Rattle.laws_line.specs.Steady.{IsBy}
 use Rattle.laws_line.proofs.Following.{some-same}
 use Rattle.laws_line.proofs.LinkMoves.{OfLink, of-links}
 use Rattle.laws_line.proofs.Obeyed.{services-equal, both-true}
-use Rattle.laws_line.proofs.Places.{has-place}
+use Rattle.laws_line.proofs.Places.{is-off, has-no-place, has-place}
 use Rattle.laws_line.proofs.Readings as read
 use Rattle.laws_line.proofs.Tied.{Ties, octet-ties, expiry-ties, request-ties}
 use Rattle.laws_line.proofs.TimersFollow.{number-is}
@@ -94,9 +94,10 @@ IsForeign service tei frame =
     ((message : Message) × (frame ≡ message_frame message)) ⊎ ((unit : UnitData) × (frame ≡ unit_frame unit))
     ⊎ ((t : Terms) × (g : Given) × (frame ≡ frame_of t g) × ((same_service t.service service && t.tei == tei) ≡ false))
 
--- No event of the link: it stays as it is, or its TEI leaves the line, and it is as one that begins.
+-- No event of the link: it stays as it is, or its TEI comes or leaves, and it is as one that begins.
 pub record HasNone (c : Config) (service : Service) (tei : ℕ) (e : Event) (before after : Line) (a : Answer) : Type 0 where
   pub is : (link_of service tei after ≡ link_of service tei before) ⊎ (link_of service tei after ≡ fresh)
+  pub stays : has_tei tei before ≡ true → has_tei tei after ≡ true → link_of service tei after ≡ link_of service tei before
   pub aims : is_at_link service tei (aim_of c e before) ≡ false
   pub begins : All (IsForeign service tei) (frame_in c e before)
 
@@ -150,6 +151,12 @@ module _ (c : Config) (l : Line) (s : IsSound c l) (service : Service) (tei : �
   alike : (before after : Line) → after.management.places ≡ before.management.places → after.links ≡ before.links → link_of service tei after ≡ link_of service tei before
   alike before after places links = read.same-read fresh itself service tei before after places links
 
+  -- It stays as it is, or its TEI comes or leaves.
+  abbrev Remains : Line → Type 0
+  Remains next =
+      (link_of service tei next ≡ link_of service tei l)
+      ⊎ ((link_of service tei next ≡ fresh) × (has_tei tei l ≡ true → has_tei tei next ≡ true → ⊥))
+
   -- An event of one link, by whether it is this one.
   module _ (its : Service) (by place : ℕ) (event : link.Event) (at : IsAt l.management.places place by) where
     abbrev x : Link
@@ -175,9 +182,10 @@ module _ (c : Config) (l : Line) (s : IsSound c l) (service : Service) (tei : �
     no-frame : All (IsForeign service tei) (frame_in c e l)
     no-frame = subst (All (IsForeign service tei)) (sym none_begins) (All-nil (IsForeign service tei))
 
-    stays : (aim : Aim) → aim_of c e l ≡ aim → is_at_link service tei aim ≡ false → (next : Line)
-        → (link_of service tei next ≡ link_of service tei l) ⊎ (link_of service tei next ≡ fresh) → Goes c service tei e l next a
-    stays aim is none next same = inl (record { is = same; aims = ap (is_at_link service tei) is ∙ none; begins = no-frame })
+    stays : (aim : Aim) → aim_of c e l ≡ aim → is_at_link service tei aim ≡ false → (next : Line) → Remains next → Goes c service tei e l next a
+    stays aim is none next (inl same) = inl (record { is = inl same; stays = λ was there. same; aims = ap (is_at_link service tei) is ∙ none; begins = no-frame })
+    stays aim is none next (inr anew) =
+        inl (record { is = inr anew.0; stays = λ was there. absurd (anew.1 was there); aims = ap (is_at_link service tei) is ∙ none; begins = no-frame })
 
     abbrev Tells : Aim → Type 0
     Tells aim =
@@ -224,19 +232,26 @@ module _ (c : Config) (l : Line) (s : IsSound c l) (service : Service) (tei : �
     next o = (of_change c o (told_of_management (teis.told me l.management)) (record l { received = received; management = m })).line
 
     abbrev Stays : Option Change → Type 0
-    Stays o = (link_of service tei (next o) ≡ link_of service tei l) ⊎ (link_of service tei (next o) ≡ fresh)
+    Stays o = Remains (next o)
 
     comes : (by place : ℕ) → tei_laws.HasJoined l.management.places m.places by place → (b : Bool) → (by == tei) ≡ b → Stays (Some (Gained by place))
     comes by place joined true same =
-        inr (read.filled-read fresh itself refl c l s m table place (Some by) joined.is_there joined.within service tei (ap Some (eqb-true by tei same)))
+        inr (
+          read.filled-read fresh itself refl c l s m table place (Some by) joined.is_there joined.within service tei (ap Some (eqb-true by tei same)),
+          λ was there. true≢false (sym was ∙ ap (λ n. has_tei n l) (sym (eqb-true by tei same)) ∙ joined.was_off),
+        )
     comes by place joined false other =
         inl (read.elsewhere fresh itself refl c l s m table place (Some by) joined.is_there joined.within service tei
         (λ same. true≢false (sym (eq-eqb by tei (some-same by tei same)) ∙ other)) (λ at. none-some tei (sym joined.was_free ∙ at)))
 
     leaves : (by place : ℕ) → tei_laws.HasLeft l.management.places m.places by place → (b : Bool) → (by == tei) ≡ b → Stays (Some (Left by place))
     leaves by place gone true same =
-        inr (read.emptied-read fresh itself refl c l s m table place None gone.is_free gone.within service tei refl
-        (gone.was_there ∙ ap Some (eqb-true by tei same)))
+        let was-there = gone.was_there ∙ ap Some (eqb-true by tei same) in
+        inr (
+          read.emptied-read fresh itself refl c l s m table place None gone.is_free gone.within service tei refl was-there,
+          λ was there. true≢false (sym there
+              ∙ is-off m.places tei (has-no-place m.places tei (read.emptied fresh itself refl c l s m table place None gone.is_free gone.within tei refl was-there))),
+        )
     leaves by place gone false other =
         inl (read.elsewhere fresh itself refl c l s m table place None gone.is_free gone.within service tei (λ same. none-some tei same)
         (λ at. true≢false (sym (eq-eqb by tei (some-same by tei (sym gone.was_there ∙ at))) ∙ other)))
@@ -365,7 +380,7 @@ module _ (c : Config) (l : Line) (s : IsSound c l) (service : Service) (tei : �
   pull-goes = go (pulled (is_due l) (taken c l) (took-any (slice_get l.management.waiting 0) (slice_get l.units 0)))
     where
       go : Pulled (after_pull c l) (frame_in c pull l) → Goes c service tei pull l (after_pull c l) (answer_to_pull c l)
-      go (inl x) = inl (record { is = inl x.0; aims = refl; begins = x.1 })
+      go (inl x) = inl (record { is = inl x.0; stays = λ was there. x.0; aims = refl; begins = x.1 })
       go (inr x) =
           let q = offer-tells_nothing Own (link_of service tei l) in
           inr (record {
@@ -405,6 +420,7 @@ event-goes c (request r) l service tei s = go (refusal c false r l) refl
     go (Some why) some =
         inl (record {
           is = inl refl;
+          stays = λ was there. refl;
           aims = ap (λ o. is_at_link service tei (unless_refused o (aim_of_request r l))) some;
           begins = All-nil (IsForeign service tei);
         })

@@ -6,7 +6,8 @@ use Rattle.std.proofs.lemmas.Grind.{flat_map-append}
 use Rattle.std.proofs.lemmas.List.Elements.{All-nil, All-cons, All-head, All-append}
 use Rattle.lapd_frame.specs.declared.services.Service.{Service}
 use Rattle.lapd_frame.specs.declared.services.Service.TheVariants.{Call, Packet}
-use Rattle.lapd_frame.specs.Grammar.{Parts}
+use Rattle.lapd_frame.specs.declared.addresses.Side.TheVariants.{Network}
+use Rattle.lapd_frame.specs.Grammar.{Parts, Spells}
 use Rattle.lapd_frame.specs.declared.controls.Control.TheVariants.{Ui}
 use Rattle.lapd_frame.specs.Services.{sapi_of}
 use Rattle.lapd_tei.specs.Messages.{information_of, frame_of as message_frame}
@@ -56,12 +57,14 @@ unit-spelled u small =
     (parts, record { is_frame = record { sapi = small-sapi u.service; tei = omega (arith, small); kind = refl; size = refl }; octets_are = refl })
 
 -- what a link gives
-pub whole-parts : Terms → Given → Parts
+abbrev pub whole-parts : Terms → Given → Parts
 whole-parts t g = record { address = address_at t g.frame.command; control = g.frame.control; info = unwrap_or g.contents [] }
 
+pub given-spells : (t : Terms) (g : Given) → IsGiven t g.frame g.contents → Spells Network (whole-parts t g) (frame_of t g)
+given-spells t g h = record { is_frame = h.whole; octets_are = refl }
+
 given-spelled : (t : Terms) (g : Given) → IsGiven t g.frame g.contents → IsNetworks (frame_of t g)
-unfolding whole-parts
-given-spelled t g h = (whole-parts t g, record { is_frame = h.whole; octets_are = refl })
+given-spelled t g h = (whole-parts t g, given-spells t g h)
 
 module _ (c : Config) (ranged : IsInRange c) (l : Line) (s : IsSound c l) where
   abbrev Spelled : Taken → Type 0

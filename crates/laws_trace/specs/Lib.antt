@@ -1,5 +1,6 @@
 -- The trace of a line, and what is promised of it.
 pub mod Trace
+pub mod Configurations
 pub mod Units
 pub mod UnitsGoOut
 pub mod FramesGoOut
@@ -9,6 +10,8 @@ pub mod LinksTakeTurns
 pub mod TurnsMeanwhile
 pub mod MessagesComeFirst
 pub mod AnswersAreAsked
+pub mod AllAreAnswered
+pub mod CommandsHaveCauses
 pub mod WorkedUnits
 pub mod WorkedFrames
 pub mod WorkedTurns
@@ -17,3 +20,4 @@ pub mod Deliveries
 pub mod WorkedDeliveries
 pub mod DataGoesOut
 pub mod WorkedData
+pub mod WorkedCommands

@@ -1,12 +1,14 @@
--- Worked values: what is asked and answered, and an answer that breaks the law.
-use Rattle.std.specs.Prelude.{◌≡◌, ℕ, true, List, [], ◌∷◌, ◌++◌, flat_map, refl}
+-- Worked values: what is asked and answered, and answers that break the laws.
+use Rattle.std.specs.Prelude.{◌≡◌, ℕ, true, List, [], ◌∷◌, ◌++◌, filter, flat_map, Some, refl}
 use Rattle.lapd_bits.specs.Bits.{low_bits}
 use Rattle.lapd_frame.specs.declared.services.Service.TheVariants.{Call, Packet}
 use Rattle.lapd_frame.specs.Reading.{reading, header_of, control_of, unnumbered_of}
 use Rattle.lapd_tei.specs.Events as teis
 use Rattle.model_line.specs.Machine as lines
+use Rattle.model_card.specs.Card.{fresh}
 use Rattle.model_card.specs.Run.{moments}
 use Rattle.laws_card.specs.Worked.{usual, up}
+use Rattle.laws_trace.specs.AllAreAnswered.{is_answered as has_answer, due}
 use Rattle.laws_trace.specs.AnswersAreAsked.{Exchange, mode, poll, IsPart, none, left_out, taken, asked_at, answered_at}
 use Rattle.laws_trace.specs.Trace.{Seen, begun, trace_of}
 use Rattle.laws_trace.specs.WorkedUnits.{pulls}
@@ -37,3 +39,15 @@ is_no_part : (some all : List Exchange) → IsPart some all → some ≡ mode tr
 is_no_part xs ys none e f = cc e
 is_no_part xs ys (left_out x some all h) e f = cc f
 is_no_part xs ys (taken x some all h) e f = cc f
+
+-- SABME is heard where TEI 64 is on the line, and its answer is due; a poll in state 4 has none.
+sabme_due : due Call 64 0 (moments (fresh usual) up) ≡ mode true ∷ []
+unfolding moments lines.after lines.answer lines.takes_slot teis.course teis.refusal low_bits reading header_of control_of unnumbered_of
+sabme_due = refl
+
+none_due : filter (has_answer (Some 4)) (poll ∷ []) ≡ []
+none_due = refl
+
+-- Where it is due, and never begins, that all is answered is broken.
+unanswered : IsPart (mode true ∷ []) [] → ⊥
+unanswered part = is_no_part (mode true ∷ []) [] part refl refl

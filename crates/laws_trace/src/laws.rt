@@ -1,7 +1,10 @@
 //! The laws. Each is the contract of a call that does nothing.
 
 ghost use Rattle.laws_trace.specs.Trace.{Always};
+ghost use Rattle.laws_trace.specs.AllAreAnswered.{AllAreAnswered};
 ghost use Rattle.laws_trace.specs.AnswersAreAsked.{AnswersAreAsked};
+ghost use Rattle.laws_trace.specs.CommandsHaveCauses.{CommandsHaveCauses};
+ghost use Rattle.laws_trace.specs.Configurations.{RangesAreServed};
 ghost use Rattle.laws_trace.specs.FramesAreRead.{FramesAreRead, FramesAreOctets, FramesGoOutAsTheyAre};
 ghost use Rattle.laws_trace.specs.FramesGoOut.{FramesGoOut, AllFramesGoOut, AllThatWaitedBegins};
 ghost use Rattle.laws_trace.specs.DataGoesOut.{DataGoesOut, AllDataGoesOut};
@@ -11,6 +14,12 @@ ghost use Rattle.laws_trace.specs.MessagesComeFirst.{MessagesComeFirst};
 ghost use Rattle.laws_trace.specs.TurnsMeanwhile.{LinksTakeTurnsMeanwhile};
 ghost use Rattle.laws_trace.specs.UnitsAreHeard.{UnitsAreHeard, AllUnitsAreHeard};
 ghost use Rattle.laws_trace.specs.UnitsGoOut.{UnitsGoOut, AllUnitsGoOut};
+
+/// Each configuration within the ranges is served: no fault is found in it, so `Card::start` starts a card with it, as far as
+/// its shelf and memory allow, and every law here speaks of it. With any other no card starts (profile).
+pub fn ranges_are_served()
+    ensures { RangesAreServed }
+{}
 
 /// Unit data goes out. The UI frames that begin on a line, but those of TEI management, are the first of the unit data that
 /// was granted: in order, whole, each once, with its service and its TEI (`front`). And they are all of it, once the line was
@@ -102,4 +111,20 @@ pub fn what_is_told_was_heard()
 pub fn data_goes_out()
     ensures front { Always DataGoesOut }
     ensures all { Always AllDataGoesOut }
+{}
+
+/// All that is asked is answered. Whatever happened before: of a link whose TEI stays on the line, each SABME and each DISC
+/// that is heard is answered by UA or DM with F = P, and each command with P=1 that is heard in state 7 or 8 by RR, RNR or
+/// REJ with F=1, but where the answer to its octet counts a frame as lost: once the line was only pulled, as often as the
+/// configuration says, one answer has begun for each, in their order (Q.921 clauses 3.5.1, 5.5 and 5.6).
+pub fn all_are_answered()
+    ensures { Always AllAreAnswered }
+{}
+
+/// Commands have causes. No more SABME of a link begin than requests to establish it were granted, errors of it were noted of
+/// what was heard, and its T200 expired; no more DISC than requests to release it were granted, and its T200 expired; and no
+/// more enquiries, which are supervisory commands with P=1, than its T200 and its T203 expired (Q.921 clauses 5.5.1, 5.5.3,
+/// 5.6.7, 5.7.1 and 5.10.3).
+pub fn commands_have_causes()
+    ensures { Always CommandsHaveCauses }
 {}

@@ -31,7 +31,7 @@ abbrev pub HasOctets : Seen → Type 0
 HasOctets (granted r) = AreOctets (contents_asked r)
 HasOctets other = Unit {0}
 
--- Then the UI frames that a receiver hears in the octets that a line puts, but those of TEI management, are the first of the
+-- Then the UI frames that a receiver hears in the octets that a line puts, except those of TEI management, are the first of the
 -- unit data that is granted: in order, whole, each once, with its service and its TEI.
 abbrev pub UnitsAreHeard : Config → List Event → ℕ → Type 0
 UnitsAreHeard c events number =

@@ -7,7 +7,7 @@ use Rattle.model_card.specs.Event.{Event}
 use Rattle.laws_trace.specs.Trace.{trace_of, IsFront}
 use Rattle.laws_trace.specs.Units.{units_begun, units_granted}
 
--- The UI frames that begin on a line, but those of TEI management, are the first of the unit data that is granted: in
+-- The UI frames that begin on a line, except those of TEI management, are the first of the unit data that is granted: in
 -- order, whole, each once, with its service and its TEI (Q.921 clause 5.2.2).
 abbrev pub UnitsGoOut : Config → List Event → ℕ → Type 0
 UnitsGoOut c events number = IsFront (units_begun (trace_of c events number)) (units_granted (trace_of c events number))

@@ -21,7 +21,7 @@ pub fn ranges_are_served()
     ensures { RangesAreServed }
 {}
 
-/// Unit data goes out. The UI frames that begin on a line, but those of TEI management, are the first of the unit data that
+/// Unit data goes out. The UI frames that begin on a line, except those of TEI management, are the first of the unit data that
 /// was granted: in order, whole, each once, with its service and its TEI (`front`). And they are all of it, once the line was
 /// only pulled, as often as the configuration says, 64,346 times with eight terminals, N201 of 260, windows of 7, 4 unit data
 /// and 4 control frames (`all`; Q.921 clauses 3.6.5 and 5.2.2).
@@ -115,7 +115,7 @@ pub fn data_goes_out()
 
 /// All that is asked is answered. Whatever happened before: of a link whose TEI stays on the line, each SABME and each DISC
 /// that is heard is answered by UA or DM with F = P, and each command with P=1 that is heard in state 7 or 8 by RR, RNR or
-/// REJ with F=1, but where the answer to its octet counts a frame as lost: once the line was only pulled, as often as the
+/// REJ with F=1, except where the answer to its octet counts a frame as lost: once the line was only pulled, as often as the
 /// configuration says, one answer has begun for each, in their order (Q.921 clauses 3.5.1, 5.5 and 5.6).
 pub fn all_are_answered()
     ensures { Always AllAreAnswered }

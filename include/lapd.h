@@ -48,6 +48,7 @@ extern "C" {
  * the same. While the major number stays, what compiled goes on compiling, and a program that was linked with the
  * shared library runs with a later one: no function goes, and no type, number or meaning changes. A new minor number
  * brings functions and statuses at most. A new major number may change anything; its shared library has another name.
+ * No version was released yet: what comes before that is all 1.0.
  */
 #define LAPD_VERSION 1000
 
@@ -374,9 +375,9 @@ uint32_t lapd_begun(lapd_card *card, uint32_t line, lapd_head *head);
  * What is counted of a line: the place of each number in lapd_counters.
  */
 enum {
-    /* frames heard, by the first octet of their control field, whether or not they are otherwise well formed; what is
-     * dropped before its check is found good, and what is too long to be kept, is none of them. SABME heard are
-     * isdnLapdPeerSabme of RFC 2127, and FRMR heard isdnLapdRecvdFrmr */
+    /* frames heard, by their third octet, the first of their control field, whether or not they are otherwise well formed
+     * and for a TEI of the line; what is dropped before its check is found good, and what is too long to be kept, is none
+     * of them. SABME heard are isdnLapdPeerSabme of RFC 2127, and FRMR heard isdnLapdRecvdFrmr */
     LAPD_HEARD_I = 0, LAPD_HEARD_RR = 1, LAPD_HEARD_RNR = 2, LAPD_HEARD_REJ = 3, LAPD_HEARD_SABME = 4,
     LAPD_HEARD_DISC = 5, LAPD_HEARD_UI = 6, LAPD_HEARD_UA = 7, LAPD_HEARD_DM = 8, LAPD_HEARD_FRMR = 9,
     LAPD_HEARD_XID = 10, LAPD_HEARD_UNDEFINED = 11,
@@ -386,7 +387,7 @@ enum {
     LAPD_BEGUN_XID = 22, LAPD_BEGUN_UNDEFINED = 23,
     /* octets of these frames, from the address to the information */
     LAPD_HEARD_OCTETS = 24, LAPD_BEGUN_OCTETS = 25,
-    /* of these frames, I-frames and supervisory commands with P=1 */
+    /* of these frames, I-frames and supervisory frames that are commands with P=1, also those that are undefined */
     LAPD_HEARD_POLLS = 26, LAPD_BEGUN_POLLS = 27,
     /* good frames that are too long to be kept */
     LAPD_HEARD_OVERLONG = 28,

@@ -14,6 +14,7 @@ static const lapd_config configs[] = {
     {1, 8, 7, 7, 8, 4, 4, 64, 260, 3},
     {4, 4, 7, 3, 16, 8, 8, 300, 128, 3},
     {64, 8, 7, 7, 8, 4, 4, 1024, 260, 3},
+    {64, 1, 1, 1, 1, 1, 2, 1, 8, 0},
 };
 
 /* So many octets that lie together are free; each is written and read. */

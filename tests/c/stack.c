@@ -14,7 +14,7 @@
 #include "hdlc.h"
 #include "lapd.h"
 
-enum { PAINT = 0xA5, MOST = 2048, STACK = 65536 };
+enum { PAINT = 0xA5, MOST = 2048, MOST_OF_START = 4096, STACK = 65536 };
 
 static uint8_t stack[STACK];
 static ucontext_t here, there;
@@ -29,6 +29,11 @@ static uint8_t octet, octets[32], given[32], frame[LAPD_MOST_FRAME];
 static size_t length;
 static lapd_due due;
 static size_t steps;
+static uint8_t place;
+static lapd_link link;
+static struct lapd_room room;
+static lapd_head head;
+static struct lapd_counters counters;
 static uint32_t status;
 
 static void run(void) {
@@ -67,15 +72,25 @@ static void frames_start(void) { status = lapd_card_start_frames(&card, &config)
 static void take_frame(void) { status = lapd_frame(&card, 0, octets, length, &report); }
 static void fail_frame(void) { status = lapd_frame_failed(&card, 0, LAPD_FCS, &report); }
 static void give_frame(void) { status = lapd_next_frame(&card, 0, frame, sizeof frame, &length, &report); }
+static void find_link(void) { status = lapd_next_link(&card, 0, &place, &link); }
+static void ask_room(void) { status = lapd_room(&card, 0, LAPD_CALL, 64, &room); }
+static void ask_begun(void) { status = lapd_begun(&card, 0, &head); }
+static void ask_counters(void) { status = lapd_counters(&card, 0, &counters); }
 static void exchange(void) { status = lapd_exchange(&card, 0, octets, sizeof octets, given, sizeof given, &steps, &report); }
 
 static size_t base;
 static bool failed;
 
+/* What a call took, which is no more than that. */
+static size_t within(size_t limit, void (*call)(void)) {
+    size_t own = taken(call) - base;
+    failed |= status != LAPD_OK || own > limit;
+    return own;
+}
+
 /* The most that calls of a kind took. */
 static size_t most(size_t before, void (*call)(void)) {
-    size_t own = taken(call) - base;
-    failed |= status != LAPD_OK || own > MOST;
+    size_t own = within(MOST, call);
     return own > before ? own : before;
 }
 
@@ -98,7 +113,7 @@ static void hear(hdlc_sender *sender, const uint8_t *frame, size_t length, size_
 /* The same of a card for frames: what comes, and what is then sent. */
 static void frames(const uint8_t *const *come, const size_t *lengths, size_t count) {
     size_t takes = 0, gives = 0;
-    show("lapd_card_start_frames", most(0, frames_start));
+    show("lapd_card_start_frames", within(MOST_OF_START, frames_start));
     most(0, assign);
     for (size_t i = 0; i < count; i++) {
         length = lengths[i];
@@ -119,7 +134,7 @@ int main(void) {
                          data[] = {0x00, 0x81, 0x00, 0x00, 0x08, 0x01}, twice[] = {0x00, 0x81, 0x06, 0x01, 0x08};
     size_t takes = 0, gives = 0, applies = 0;
     base = taken(nothing);
-    show("lapd_card_start", most(0, card_start));
+    show("lapd_card_start", within(MOST_OF_START, card_start));
     show("lapd_clock_start", most(0, clock_start));
     show("lapd_request, assign", most(0, assign));
     hdlc_begin(&sender);
@@ -138,6 +153,10 @@ int main(void) {
     show("lapd_clock_apply_report", applies);
     show("lapd_clock_due", most(0, find_due));
     show("lapd_expire", most(0, expire));
+    show("lapd_next_link", most(0, find_link));
+    show("lapd_room", most(0, ask_room));
+    show("lapd_begun", most(0, ask_begun));
+    show("lapd_counters", most(0, ask_counters));
     show("lapd_card_free", most(0, card_free));
     show("lapd_clock_free", most(0, clock_free));
     frames((const uint8_t *const[]){request, sabme, data}, (const size_t[]){sizeof request, sizeof sabme, sizeof data}, 3);

@@ -71,6 +71,17 @@ static void wrong_calls(void) {
     wants(place == 7 && link.service == 1 && link.tei == 2 && link.state == 3, "a wrong call has changed something");
 }
 
+/* How many I-frames have begun on line 0, by how each frame begins. */
+static unsigned i_frames;
+
+/* The next octet of line 0. */
+static void pull(uint8_t *octet) {
+    lapd_head head;
+    lapd_pull(&card, 0, octet, &report);
+    if (report.begun && lapd_begun(&card, 0, &head) == LAPD_OK && head.octets[2] % 2 == 0)
+        i_frames++;
+}
+
 /* A frame that comes on line 0, and as many octets as go out meanwhile. */
 static void hear(hdlc_sender *sender, const uint8_t *frame, size_t length, lapd_report *told) {
     hdlc_load(sender, frame, length);
@@ -79,17 +90,17 @@ static void hear(hdlc_sender *sender, const uint8_t *frame, size_t length, lapd_
         lapd_octet(&card, 0, octet, &report);
         if (report.delivered)
             *told = report;
-        lapd_pull(&card, 0, &octet, &report);
+        pull(&octet);
     }
 }
 
 /* The octets of the next command that line 0 sends; flags and responses go by. */
 static void send(uint8_t *octets, size_t length) {
     do
-        lapd_pull(&card, 0, octets, &report);
+        pull(octets);
     while (!report.begun || octets[0] != 0x02);
     for (size_t i = 1; i < length; i++)
-        lapd_pull(&card, 0, &octets[i], &report);
+        pull(&octets[i]);
 }
 
 /* The frame that a pull of line 0 began last has these octets first, and so many. */
@@ -107,7 +118,7 @@ static void echo(void) {
     hdlc_begin(&sender);
     hear(&sender, sabme, sizeof sabme, &told);
     for (int i = 0; i < 64; i++)
-        lapd_pull(&card, 0, octets, &report);
+        pull(octets);
     hear(&sender, data, sizeof data, &told);
     wants(told.delivered && told.length == 4, "nothing was delivered");
     wants(lapd_data(&card, 0, LAPD_CALL, 64, told.contents, told.length, &told) == LAPD_OK, "contents of a report");
@@ -196,7 +207,7 @@ static void counts(void) {
     wants(lapd_counters(&card, LINES, &counters) == LAPD_WRONG_LINE, "counters of no line");
     wants(counters.values[0] == 7, "a wrong call has told counters");
     wants(has_counted(LAPD_HEARD_SABME, 1) && has_counted(LAPD_BEGUN_UA, 1), "another number of establishments");
-    wants(has_counted(LAPD_HEARD_I, 1) && has_counted(LAPD_BEGUN_I, 1), "another number of I-frames");
+    wants(has_counted(LAPD_HEARD_I, 1) && i_frames > 0 && has_counted(LAPD_BEGUN_I, i_frames), "another number of I-frames");
     wants(has_counted(LAPD_HEARD_RR, 1) && has_counted(LAPD_HEARD_POLLS, 0), "another number of RR");
     wants(has_counted(LAPD_BEGUN_UI, 1) && has_counted(LAPD_HEARD_OCTETS, 3 + 8 + 4), "another number of octets");
     wants(has_counted(LAPD_TOLD_ESTABLISH_INDICATION, 1) && has_counted(LAPD_TOLD_DATA, 1), "other notes");

@@ -342,10 +342,25 @@ static void of_buffers(lapd_card *card) {
     }
 }
 
+/* What docs/EMBEDDING.md shows as a first try, to the letter. */
+static void first_try(void) {
+    lapd_card card = LAPD_CARD_NONE;
+    uint8_t frame[LAPD_MOST_FRAME + 1] = {0};
+    lay_paint();
+    wants(lapd_card_start_frames(&card, &config) == LAPD_OK, "no card for a first try");
+    static const uint8_t sabme[] = {0x00, 0x81, 0x7F};                     /* of TEI 64 */
+    lapd_assign(&card, 0, 64, &report);
+    lapd_frame(&card, 0, sabme, sizeof sabme, &report);                    /* tells that the link is up */
+    lapd_next_frame(&card, 0, frame, sizeof frame, &length, &report);      /* UA: 00 81 73 */
+    wants(length == 3 && memcmp(frame, ua, 3) == 0, "a first try is not answered");
+    wants(lapd_card_free(&card) == LAPD_OK, "the card of a first try stays");
+}
+
 int main(void) {
     lapd_card frames = LAPD_CARD_NONE, octets = LAPD_CARD_NONE;
     of_no_card();
     of_narrow();
+    first_try();
     wants(lapd_card_start_frames(&frames, &config) == LAPD_OK && lapd_card_start(&octets, &config) == LAPD_OK, "no cards");
     of_other_kind(&frames, &octets);
     of_wrong_arguments(&frames);

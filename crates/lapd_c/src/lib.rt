@@ -5,7 +5,7 @@
 //! card's machine (`model_card`) and of the clock's timers (`lapd_clock`).
 //!
 //! - `card`: a card in C, how it begins and ends; `kinds`, what a card for octets and one for frames do alike;
-//!   `card_slot`, where it lies. `events`, what happens at it; for octets besides `exchange`, octets taken and given in
+//!   `card_slot`, where it lies. `events`, what happens at it; for octets also `exchange`, octets taken and given in
 //!   turn, `begun`, which frame a pull began, and
 //!   `counters`, what was counted of a line; for frames `frames`, which come and go. `questions`, what it answers
 //!   about itself; `links`, which links it has, and `rooms`, how many contents more one takes.

@@ -32,7 +32,7 @@ impl<S: Shelf> FrameCard<S> {
     /// A list of happenings is the list of events that it means, `spelled`: the octets that would have brought the frames,
     /// and the pulls that would have begun those which go. Its clauses are those of [`crate::Card::drive`], of these
     /// events, but for counters, which a card for frames does not keep; `taken`, `stopped` and `taken_before` speak of
-    /// happenings, of which each has one reply. What is promised besides, in frames' own terms too, is in the record
+    /// happenings, of which each has one reply. What else is promised, in frames' own terms too, is in the record
     /// `FramePromises` of the crate `laws_promises`; its function `drive_frames` is this call, with these clauses and that
     /// record.
     ///

@@ -42,6 +42,7 @@ impl Counters {
     }
 
     /// So many more of one.
+    #[inline(always)]
     fn add(&mut self, counter: Counter, amount: u64)
         ensures { self.new ≡ with_more self.old (counter, amount) }
     {
@@ -50,6 +51,7 @@ impl Counters {
     }
 
     /// A frame, by the octets in which its C/R bit and its control field stand, and its length.
+    #[inline(always)]
     fn frame(&mut self, way: Way, first: u8, control: u8, second: u8, length: usize)
         ensures { self.new ≡ with_all self.old (frame_shown way first control second length) }
     {

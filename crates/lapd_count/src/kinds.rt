@@ -33,27 +33,50 @@ pub enum Kind {
     Undefined,
 }
 
+const I: Kind = Kind::Information;
+
+const RR: Kind = Kind::ReceiveReady;
+
+const RNR: Kind = Kind::ReceiveNotReady;
+
+const REJ: Kind = Kind::Reject;
+
+const SABME: Kind = Kind::Sabme;
+
+const DISC: Kind = Kind::Disc;
+
+const UI: Kind = Kind::Ui;
+
+const UA: Kind = Kind::Ua;
+
+const DM: Kind = Kind::Dm;
+
+const FRMR: Kind = Kind::Frmr;
+
+const XID: Kind = Kind::Xid;
+
+const NO: Kind = Kind::Undefined;
+
+/// The kind of each first octet of a control field. As a table it costs one load a frame, whatever the kind.
+static KINDS: [Kind; 256] = [
+    I, RR, I, UI, I, RNR, I, NO, I, REJ, I, NO, I, NO, I, DM, I, NO, I, UI, I, NO, I, NO, I, NO, I,
+    NO, I, NO, I, DM, I, NO, I, NO, I, NO, I, NO, I, NO, I, NO, I, NO, I, NO, I, NO, I, NO, I, NO,
+    I, NO, I, NO, I, NO, I, NO, I, NO, I, NO, I, DISC, I, NO, I, NO, I, NO, I, NO, I, NO, I, NO, I,
+    NO, I, DISC, I, NO, I, NO, I, NO, I, NO, I, NO, I, NO, I, NO, I, UA, I, NO, I, NO, I, NO, I,
+    NO, I, NO, I, SABME, I, NO, I, UA, I, NO, I, NO, I, NO, I, NO, I, NO, I, SABME, I, NO, I, NO,
+    I, NO, I, FRMR, I, NO, I, NO, I, NO, I, NO, I, NO, I, NO, I, NO, I, FRMR, I, NO, I, NO, I, NO,
+    I, NO, I, NO, I, NO, I, NO, I, NO, I, NO, I, NO, I, NO, I, XID, I, NO, I, NO, I, NO, I, NO, I,
+    NO, I, NO, I, NO, I, XID, I, NO, I, NO, I, NO, I, NO, I, NO, I, NO, I, NO, I, NO, I, NO, I, NO,
+    I, NO, I, NO, I, NO, I, NO, I, NO, I, NO, I, NO, I, NO, I, NO, I, NO, I, NO, I, NO, I, NO, I,
+    NO, I, NO, I, NO, I, NO, I, NO, I, NO, I, NO, I, NO, I, NO,
+];
+
 impl Kind {
     /// The kind of a frame by the first octet of its control field.
     pub(crate) fn of(control: u8) -> Kind
         ensures { result ≡ kind_of control }
     {
-        if control % 2 == 0 {
-            return Kind::Information;
-        }
-        match control {
-            0x01 => Kind::ReceiveReady,
-            0x05 => Kind::ReceiveNotReady,
-            0x09 => Kind::Reject,
-            0x6F | 0x7F => Kind::Sabme,
-            0x43 | 0x53 => Kind::Disc,
-            0x03 | 0x13 => Kind::Ui,
-            0x63 | 0x73 => Kind::Ua,
-            0x0F | 0x1F => Kind::Dm,
-            0x87 | 0x97 => Kind::Frmr,
-            0xAF | 0xBF => Kind::Xid,
-            _ => Kind::Undefined,
-        }
+        KINDS[control as usize]
     }
 
     /// Its place among the kinds.

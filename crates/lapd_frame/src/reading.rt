@@ -16,6 +16,7 @@ use crate::headers::{header, is_short};
 /// The information is lent from `octets`, of which it is the tail from [`Control::start`] on: so it can be lent again
 /// from there. The faults are tested in this
 /// order: `Short`, `BadExtension`, `Undefined`, `WrongSize`.
+#[inline(always)]
 pub fn read(side: Side, octets: &[u8]) -> Result<Frame<'_>, ReadFault>
     // A frame is answered exactly where the octets spell it,
     ensures spelled { IfOk result (λ frame. Spells side (parts_of frame) octets.now) }
@@ -34,6 +35,7 @@ pub fn read(side: Side, octets: &[u8]) -> Result<Frame<'_>, ReadFault>
 
 // What `read` answers.
 #[tactic(auto, unfolding(crate::specs::Reading::reading))]
+#[inline(always)]
 fn parse(side: Side, octets: &[u8]) -> Result<Frame<'_>, ReadFault>
     ensures tail { IfOk result (λ frame. frame.info.now ≡ drop (start_of frame.control) octets.now) }
     ensures whole { IfOk result (λ frame. start_of frame.control + length frame.info.now ≡ length octets.now) }

@@ -67,6 +67,8 @@ impl LinkLayer {
     }
 
     /// A frame.
+    // Both kinds of lines call it: compiled into each, it costs no copy of what it answers.
+    #[inline(always)]
     fn frame<S: Shelf>(&mut self, octets: &[u8], shelf: &mut S) -> BareReport
         requires { Standing self.old (S.store shelf.old) }
         ensures { Serves (λ m. aim_of_reading m (reading User octets.now)) octets.now self.old (S.store shelf.old) self.new (S.store shelf.new) result }
@@ -78,6 +80,7 @@ impl LinkLayer {
     }
 
     /// A frame of the grammar.
+    #[inline(always)]
     fn spelled<S: Shelf>(&mut self, frame: Frame<'_>, shelf: &mut S) -> BareReport
         requires { Standing self.old (S.store shelf.old) }
         ensures { (octets : List ℕ) → frame.entry.info.now ≡ drop (start_of frame.entry.control) octets

@@ -284,21 +284,6 @@ impl Line {
             → pulled_of result ≡ answer (config_of self.old) line_event.pull m }
         ensures after { Leads line_event.pull self.old (S.store shelf.old) self.new (S.store shelf.new) }
     {
-        let pulled = self.give(shelf);
-        if pulled.begun {
-            self.count_begun();
-        }
-        pulled
-    }
-
-    /// Gives the next octet, and counts nothing.
-    #[inline(always)]
-    fn give<S: Shelf>(&mut self, shelf: &mut S) -> Pulled
-        requires { (others : List Owned) × (m : machine.Line) × Stands self.old (S.store shelf.old) others m }
-        ensures told { (others : List Owned) (m : machine.Line) → Stands self.old (S.store shelf.old) others m
-            → pulled_of result ≡ answer (config_of self.old) line_event.pull m }
-        ensures after { Moves line_event.pull self.old (S.store shelf.old) self.new (S.store shelf.new) }
-    {
         if self.begins_nothing() {
             return Pulled::octet_alone(self.framer.octet());
         }
@@ -316,10 +301,26 @@ impl Line {
         self.nothing_waits
     }
 
-    /// Gives the next octet as [`Line::pull`] does, where fewer than eight bits are left to send. It stands apart, so that
-    /// a caller has little to do for the pulls that take no frame, which are most.
+    /// Gives the next octet as [`Line::pull`] does, where fewer than eight bits are left to send, and counts the frame that
+    /// it begins. It stands apart, so that a caller has little to do for the pulls that take no frame, which are most.
     #[inline(never)]
     fn pull_next<S: Shelf>(&mut self, shelf: &mut S) -> Pulled
+        requires stands { (others : List Owned) × (m : machine.Line) × Stands self.old (S.store shelf.old) others m }
+        requires few { length self.old.framer.left < 8 }
+        ensures told { (others : List Owned) (m : machine.Line) → Stands self.old (S.store shelf.old) others m
+            → pulled_of result ≡ answer (config_of self.old) line_event.pull m }
+        ensures after { Leads line_event.pull self.old (S.store shelf.old) self.new (S.store shelf.new) }
+    {
+        let pulled = self.give_next(shelf);
+        if pulled.begun {
+            self.count_begun();
+        }
+        pulled
+    }
+
+    /// Gives the next octet where fewer than eight bits are left to send, and counts nothing.
+    #[inline(always)]
+    fn give_next<S: Shelf>(&mut self, shelf: &mut S) -> Pulled
         requires stands { (others : List Owned) × (m : machine.Line) × Stands self.old (S.store shelf.old) others m }
         requires few { length self.old.framer.left < 8 }
         ensures told { (others : List Owned) (m : machine.Line) → Stands self.old (S.store shelf.old) others m

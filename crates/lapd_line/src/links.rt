@@ -93,6 +93,7 @@ impl Links {
     }
 
     /// Layer 3 asks a link for something.
+    #[inline(always)]
     pub(crate) fn request<S: Shelf>(
         &mut self,
         number: usize,

@@ -63,6 +63,8 @@ impl LinkLayer {
     ghost use Rattle.lapd_line.specs.LinkLayer.{Standing, Stands, Serves, always};
 
     /// Serves a request, or refuses it and changes nothing.
+    // Both kinds of lines call it: compiled into each, it costs no copy of what it answers.
+    #[inline(always)]
     pub(crate) fn request<S: Shelf>(
         &mut self,
         request: Request<'_>,
@@ -96,6 +98,7 @@ impl LinkLayer {
     }
 
     /// Asks the link of a service with a TEI.
+    #[inline(always)]
     fn ask<S: Shelf>(
         &mut self,
         service: Service,

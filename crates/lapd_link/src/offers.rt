@@ -35,6 +35,7 @@ impl Link {
     /// The next frame to be sent, if there is one: the control frame that has waited longest; else, in state 7, an I-frame
     /// with the first contents that are unsent, where the terminal is not busy and the window is open; else the
     /// acknowledgement that is owed.
+    #[inline(always)]
     pub fn offer(&mut self) -> Option<Offer>
         requires { (store : Store) × (others : List Owned) × (m : machine.Link) × Stands self.old store others m }
         ensures stands { (store : Store) (others : List Owned) (m : machine.Link) → Stands self.old store others m →

@@ -45,6 +45,7 @@ impl Link {
     /// The first of these that holds; then nothing changes, neither link nor shelf. `WrongState`: `Establish` not in
     /// state 4, `Release` not in 4, 7 or 8, the others not in 7 or 8. `TooLong`: contents over N201. `QueueFull`: the
     /// link keeps as many contents as it may. `PoolFull`: `slots` contents are held.
+    #[inline(always)]
     pub fn request<S: Shelf>(
         &mut self,
         request: LinkRequest<'_>,
@@ -108,6 +109,7 @@ impl Link {
     }
 
     // Does what is asked for, which is not refused.
+    #[inline(always)]
     fn grant<S: Shelf>(&mut self, request: LinkRequest<'_>, shelf: &mut S) -> Answer
         requires stands { (others : List Owned) × (m : machine.Link) × Stands self.old (S.store shelf.old) others m }
         requires place { HasPlace (request_of request) self.old (S.store shelf.old) }

@@ -29,6 +29,7 @@ impl Entity {
 
     /// The next frame, if there is one, while so many contents are queued: the control frame that has waited longest; else
     /// an I-frame; else the acknowledgement that is owed.
+    #[inline(always)]
     pub fn offer(&mut self, terms: Terms, told: &mut Told, queued: usize) -> Option<Given>
         requires { terms.k ≤ 127 }
         ensures { Gives terms (offers.offer_step terms) queued self.old told.old self.new told.new result }
@@ -40,6 +41,7 @@ impl Entity {
     }
 
     // The next frame while no control frame waits.
+    #[inline(always)]
     fn offer_numbered(&mut self, terms: Terms, told: &mut Told, queued: usize) -> Option<Given>
         requires { terms.k ≤ 127 }
         ensures { Gives terms (offers.offer_among terms []) queued self.old told.old self.new told.new result }
@@ -76,6 +78,7 @@ impl Entity {
     }
 
     // Sends the I-frame with the first contents that are unsent. It carries the acknowledgement.
+    #[inline(always)]
     fn send_information(&mut self, told: &mut Told) -> Given
         requires { outstanding_of self.old.window < 127 }
         ensures { (terms : Terms) (queued : ℕ) → Gives terms offers.send_information queued self.old told.old self.new told.new (Some result) }

@@ -55,12 +55,12 @@ pub record RefusedByTheTable : Type 0 where
 
 -- The frames sent, and those that may still be sent, rise by at most two for each frame that is heard, by one for
 -- each request that is accepted, by k + 1 for each expiry of a running timer, and by k for each REJ with a valid N(R).
--- Pulls and refusals let them rise by nothing, and so do drops by the deframer; a frame dropped later is one that was
+-- Pulls and refusals never raise them, nor do drops by the deframer; a frame dropped later is one that was
 -- heard here, though it costs nothing (`DropsCostNothing`).
 abbrev pub FramesAmortised : Type 0
 FramesAmortised = (card : Card) (events : List Event) → IsSound card → AreAtLines card events → IsAmortised card events
 
--- The same event by event: what each lets rise at most, and that a pull which begins a frame lets it fall.
+-- The same event by event: how much each raises them at most, and that a pull which begins a frame lowers them.
 pub record FramesByEvent : Type 0 where
   pub octets : (card : Card) (number value : ℕ) → IsSound card → number < card.config.lines → RisesByOctet number value card
   pub expiries : (card : Card) (number : ℕ) (timer : Timer) → IsSound card → number < card.config.lines → RisesByExpiry number timer card

@@ -101,6 +101,6 @@ limit_of_eight_lines = refl
 limit_of_one_line : limit usual ≡ 17470
 limit_of_one_line = refl
 
--- a window of 128, and a queue that is too small besides: the window is told
+-- a window of 128, and a queue that is also too small: the window is told
 window_out_of_range : first_fault (record usual { k = 128; queue = 127 }) ≡ Some field.K
 window_out_of_range = refl

@@ -1,24 +1,24 @@
 -- Hand-written answers for `Line::pull`.
-use Rattle.std.proofs.Common.{[], sym, ap, ◌∙◌}
-use Rattle.std.specs.Option.{option_map_or}
-use Rattle.lapd_count.specs.Shown.{head_shown}
-use Rattle.lapd_frame.specs.ShortLists.{listed}
-use Rattle.model_line.specs.Event.{pulled}
+use Rattle.std.proofs.Common.{[], None, refl, ◌∙◌}
+use Rattle.lapd_frame.specs.declared.short_lists.ShortList.TheVariants as short
 use Rattle.lapd_line.specs.Stands.{config_of}
-use Rattle.lapd_line.proofs.CountSteps.{counted_on, none_counted, begins_shown, begins_none}
+use Rattle.lapd_line.proofs.CountSteps.{none_counted, begins_none}
+use Rattle.lapd_line.proofs.PullSteps.{Gives, pulls, pull_told}
 use Rattle.lapd_line.proofs.line.Line.pull.Goals as goal
 
-pub returns-then-pulled-clause-after : goal.returns-then-pulled-clause-after
-returns-then-pulled-clause-after g c =
-    counted_on c.give-pulled.ensures.after c.count_begun.new.self (option_map_or head_shown c.give-pulled.new.self.framer.begun []) c.count_begun.ensures
-    (λ others m st.
-    begins_shown (config_of c.args.self.now) m c.give-pulled.result.octet (listed c.give-pulled.result.orders) c.give-pulled.new.self.framer.begun
-    (ap (λ b. pulled c.give-pulled.result.octet b (listed c.give-pulled.result.orders)) (sym c.if-pulled.true) ∙ c.give-pulled.ensures.told others m st)
-    (c.give-pulled.ensures.after.stands others m st).sent.begun)
+pub returns-then-begins_nothing-clause-told : goal.returns-then-begins_nothing-clause-told
+returns-then-begins_nothing-clause-told g c = λ others m st.
+    let gives : Gives c.args.self.now.framer c.octet.new.self c.octet.result =
+    record { value = c.octet.ensures.octet; bits = c.octet.ensures.bits; room = c.octet.ensures.room; stands = c.octet.ensures.stands } in
+    c.octet_alone.ensures
+    ∙ pull_told None (c.if-begins_nothing.ensures.nothing (g.S.Shelf.store c.args.shelf.now) refl) gives _ refl short.None short.None refl refl others m st
 
-pub returns-else-pulled-clause-after : goal.returns-else-pulled-clause-after
-returns-else-pulled-clause-after g c =
-    none_counted c.give-pulled.ensures.after
+pub returns-then-begins_nothing-clause-after : goal.returns-then-begins_nothing-clause-after
+returns-then-begins_nothing-clause-after g c =
+    let gives : Gives c.args.self.now.framer c.octet.new.self c.octet.result =
+    record { value = c.octet.ensures.octet; bits = c.octet.ensures.bits; room = c.octet.ensures.room; stands = c.octet.ensures.stands } in
+    let nothing = c.if-begins_nothing.ensures.nothing (g.S.Shelf.store c.args.shelf.now) refl in
+    none_counted (pulls None nothing gives)
     (λ others m st.
-    begins_none (config_of c.args.self.now) m c.give-pulled.result.octet (listed c.give-pulled.result.orders)
-    (ap (λ b. pulled c.give-pulled.result.octet b (listed c.give-pulled.result.orders)) (sym c.if-pulled.false) ∙ c.give-pulled.ensures.told others m st))
+    begins_none (config_of c.args.self.now) m c.octet.result []
+    (pull_told None nothing gives _ refl short.None short.None refl refl others m st))

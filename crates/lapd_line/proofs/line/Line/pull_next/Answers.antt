@@ -1,15 +1,24 @@
 -- Hand-written answers for `Line::pull_next`.
-use Rattle.lapd_line.proofs.PullSteps.{Gives, pulls, pull_told}
+use Rattle.std.proofs.Common.{[], sym, ap, ◌∙◌}
+use Rattle.std.specs.Option.{option_map_or}
+use Rattle.lapd_count.specs.Shown.{head_shown}
+use Rattle.lapd_frame.specs.ShortLists.{listed}
+use Rattle.model_line.specs.Event.{pulled}
+use Rattle.lapd_line.specs.Stands.{config_of}
+use Rattle.lapd_line.proofs.CountSteps.{counted_on, none_counted, begins_shown, begins_none}
 use Rattle.lapd_line.proofs.line.Line.pull_next.Goals as goal
 
-pub returns-clause-told : goal.returns-clause-told
-returns-clause-told g c =
-    let gives : Gives c.begin-taken.new.self.framer c.octet.new.self c.octet.result =
-    record { value = c.octet.ensures.octet; bits = c.octet.ensures.bits; room = c.octet.ensures.room; stands = c.octet.ensures.stands } in
-    pull_told c.begin-taken.result c.begin-taken.ensures gives c.is_some.result c.is_some.ensures c.none.result c.unwrap_or.result c.none.ensures c.unwrap_or.ensures
+pub returns-then-pulled-clause-after : goal.returns-then-pulled-clause-after
+returns-then-pulled-clause-after g c =
+    counted_on c.give_next-pulled.ensures.after c.count_begun.new.self (option_map_or head_shown c.give_next-pulled.new.self.framer.begun []) c.count_begun.ensures
+    (λ others m st.
+    begins_shown (config_of c.args.self.now) m c.give_next-pulled.result.octet (listed c.give_next-pulled.result.orders) c.give_next-pulled.new.self.framer.begun
+    (ap (λ b. pulled c.give_next-pulled.result.octet b (listed c.give_next-pulled.result.orders)) (sym c.if-pulled.true) ∙ c.give_next-pulled.ensures.told others m st)
+    (c.give_next-pulled.ensures.after.stands others m st).sent.begun)
 
-pub returns-clause-after : goal.returns-clause-after
-returns-clause-after g c =
-    let gives : Gives c.begin-taken.new.self.framer c.octet.new.self c.octet.result =
-    record { value = c.octet.ensures.octet; bits = c.octet.ensures.bits; room = c.octet.ensures.room; stands = c.octet.ensures.stands } in
-    pulls c.begin-taken.result c.begin-taken.ensures gives
+pub returns-else-pulled-clause-after : goal.returns-else-pulled-clause-after
+returns-else-pulled-clause-after g c =
+    none_counted c.give_next-pulled.ensures.after
+    (λ others m st.
+    begins_none (config_of c.args.self.now) m c.give_next-pulled.result.octet (listed c.give_next-pulled.result.orders)
+    (ap (λ b. pulled c.give_next-pulled.result.octet b (listed c.give_next-pulled.result.orders)) (sym c.if-pulled.false) ∙ c.give_next-pulled.ensures.told others m st))

@@ -1,0 +1,15 @@
+-- The table of kinds has the kind of each octet.
+use Rattle.std.proofs.Common.{◌≡◌, ℕ, ◌<◌, get_or, map, refl, ap, ◌∙◌, arith}
+use Rattle.std.specs.List.{range_with_len}
+use Rattle.std.proofs.lemmas.List.FromFn.{get_or-map-range_with_len}
+use Rattle.lapd_count.specs.Kinds.{kind_of}
+use Rattle.lapd_count.specs.declared.kinds.Kind.{Kind}
+use Rattle.lapd_count.specs.declared.kinds.TheConstants.{KINDS}
+
+table_is : KINDS ≡ map kind_of (range_with_len 0 256)
+table_is = refl
+
+pub kind_at : (octet : ℕ) (none : Kind) → octet < 256 → get_or KINDS octet none ≡ kind_of octet
+kind_at octet none small =
+    ap (λ t. get_or t octet none) table_is
+    ∙ get_or-map-range_with_len kind_of 0 256 octet octet none small (omega arith)

@@ -1,0 +1,8 @@
+-- Hand-written answers for `Kind::of`.
+use Rattle.std.proofs.Common.{arith}
+use Rattle.lapd_count.specs.declared.kinds.Kind.TheVariants.{Information}
+use Rattle.lapd_count.proofs.KindTable.{kind_at}
+use Rattle.lapd_count.proofs.kinds.Kind.of.Goals as goal
+
+pub returns : goal.returns
+returns c = kind_at c.args.control Information (omega arith)

@@ -71,6 +71,7 @@ enum {
     LAPD_REFUSED_TABLE_FULL = 8,    /* the line has as many TEIs as it may have */
     LAPD_REFUSED_CHECK_RUNNING = 9, /* an identity check is running on the line */
     LAPD_REFUSED_CONTROL_FULL = 10, /* no room for one more message of TEI management */
+    LAPD_REFUSED_WRONG_SIDE = 29,   /* only the network's side removes and checks TEIs */
 
     /* A wrong call. Nothing has changed. */
     LAPD_NO_CARD = 11,       /* no card is there: it was not started, or was freed */
@@ -107,7 +108,8 @@ enum {
     LAPD_BAD_CONTROL = 39,
     LAPD_BAD_SLOTS = 40,
     LAPD_BAD_N201 = 41,
-    LAPD_BAD_N200 = 42
+    LAPD_BAD_N200 = 42,
+    LAPD_BAD_SIDE = 43
 };
 
 /* ---- The configuration of a card -------------------------------------------------------------------------------- */
@@ -124,7 +126,13 @@ typedef struct lapd_config {
     uint16_t slots;      /* contents that wait on the whole card: 1 to 8192 */
     uint16_t n201;       /* octets of an information field at most: 8 to 260 (clause 5.9.3) */
     uint16_t n200;       /* how often a command is repeated: 0 to 10 (clause 5.9.2) */
+    uint16_t side;       /* which side of its lines the card is: LAPD_NETWORK or LAPD_USER */
 } lapd_config;
+
+enum {
+    LAPD_NETWORK = 0, /* the exchange */
+    LAPD_USER = 1     /* a terminal whose TEIs are not assigned by the network, or a private exchange */
+};
 
 /* ---- What is told ----------------------------------------------------------------------------------------------- */
 
@@ -231,7 +239,7 @@ typedef struct lapd_card {
 #define LAPD_CARD_NONE { false, 0 }
 
 /* Starts a card for octets, on which no TEI is on any line. Takes memory, as only the starts of a card do.
- * LAPD_SECOND_START, the first bad field (LAPD_BAD_LINES to LAPD_BAD_N200) or LAPD_NO_MEMORY: there is no other card than
+ * LAPD_SECOND_START, the first bad field (LAPD_BAD_LINES to LAPD_BAD_SIDE) or LAPD_NO_MEMORY: there is no other card than
  * before. */
 uint32_t lapd_card_start(lapd_card *card, const lapd_config *config);
 
@@ -311,8 +319,8 @@ enum {
     LAPD_READY = 9      /* take I-frames again */
 };
 
-/* Asks for something at a line; the contents are copied. LAPD_REFUSED_BAD_TEI to LAPD_REFUSED_CONTROL_FULL where it is
- * refused. The service is LAPD_CALL or LAPD_PACKET in each, though assign, remove and check are about both; the length
+/* Asks for something at a line; the contents are copied. LAPD_REFUSED_BAD_TEI to LAPD_REFUSED_CONTROL_FULL, or
+ * LAPD_REFUSED_WRONG_SIDE, where it is refused. The service is LAPD_CALL or LAPD_PACKET in each, though assign, remove and check are about both; the length
  * is 0 except for LAPD_DATA and LAPD_UNIT. The contents lie outside of *report; where they are those of the report itself,
  * ask by lapd_data or lapd_unit. */
 uint32_t lapd_request(lapd_card *card, uint32_t line, uint8_t request, uint8_t service, uint8_t tei,
@@ -590,6 +598,7 @@ static inline const char *lapd_status_text(uint32_t status) {
     case LAPD_REFUSED_TABLE_FULL: return "table-full";
     case LAPD_REFUSED_CHECK_RUNNING: return "check-running";
     case LAPD_REFUSED_CONTROL_FULL: return "control-full";
+    case LAPD_REFUSED_WRONG_SIDE: return "wrong-side";
     case LAPD_NO_CARD: return "no card";
     case LAPD_NO_CLOCK: return "no clock";
     case LAPD_SECOND_START: return "second start";
@@ -618,6 +627,7 @@ static inline const char *lapd_status_text(uint32_t status) {
     case LAPD_BAD_SLOTS: return "slots is out of range";
     case LAPD_BAD_N201: return "n201 is out of range";
     case LAPD_BAD_N200: return "n200 is out of range";
+    case LAPD_BAD_SIDE: return "side is out of range";
     default: return "unknown status";
     }
 }

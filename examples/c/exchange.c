@@ -60,7 +60,7 @@ static bool message_came(const lapd_note *note, const uint8_t *contents, size_t 
         put_octets(record, octets, length);
     }
     uint32_t status = lapd_data(&card, 0, note->service, note->tei, octets, length, &report);
-    if (LAPD_REFUSED_BAD_TEI <= status && status <= LAPD_REFUSED_CONTROL_FULL) {
+    if ((LAPD_REFUSED_BAD_TEI <= status && status <= LAPD_REFUSED_CONTROL_FULL) || status == LAPD_REFUSED_WRONG_SIDE) {
         fprintf(stderr, "0 refused %s\n", lapd_status_text(status));
         return true;
     }

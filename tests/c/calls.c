@@ -13,7 +13,7 @@
 
 enum { PLACES = 254, LINES = 2 };
 
-static const lapd_config config = {LINES, 8, 7, 7, 8, 4, 4, 8, 260, 3};
+static const lapd_config config = {LINES, 8, 7, 7, 8, 4, 4, 8, 260, 3, LAPD_NETWORK};
 static lapd_card card;
 static lapd_report report;
 static int failed;

@@ -264,7 +264,7 @@ static void want_state(uint8_t wanted) {
 }
 
 int main(void) {
-    static const lapd_config config = {1, 8, 7, 7, 8, 4, 4, 64, 260, 3};
+    static const lapd_config config = {1, 8, 7, 7, 8, 4, 4, 64, 260, 3, LAPD_NETWORK};
     static lapd_report report;
     setvbuf(stdout, NULL, _IOLBF, 0);
     if (lapd_card_start(&card, &config) != LAPD_OK || lapd_clock_start(&timers, &config) != LAPD_OK)

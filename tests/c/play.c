@@ -77,13 +77,14 @@ static void want_ok(uint32_t status, const char *call) {
     exit(3);
 }
 
-static fault start(station *b, const uint32_t *n, bool for_frames) {
+static fault start(station *b, const command *c) {
+    const uint32_t *n = c->numbers;
     lapd_config config = {.lines = (uint16_t)n[0], .terminals = (uint16_t)n[1], .k = (uint16_t)n[2],
                           .k16 = (uint16_t)n[9], .queue = (uint16_t)n[3], .unit_queue = (uint16_t)n[4],
                           .control = (uint16_t)n[5], .slots = (uint16_t)n[6], .n201 = (uint16_t)n[7],
-                          .n200 = (uint16_t)n[8]};
-    uint32_t status = for_frames ? lapd_card_start_frames(&b->card, &config) : lapd_card_start(&b->card, &config);
-    b->for_frames = for_frames;
+                          .n200 = (uint16_t)n[8], .side = c->user ? LAPD_USER : LAPD_NETWORK};
+    uint32_t status = c->for_frames ? lapd_card_start_frames(&b->card, &config) : lapd_card_start(&b->card, &config);
+    b->for_frames = c->for_frames;
     if (status == LAPD_OK)
         status = lapd_clock_start(&b->clock, &config);
     if (status >= LAPD_BAD_LINES)
@@ -250,7 +251,7 @@ static void ask(station *b, uint32_t line, const command *c) {
     static lapd_report report;
     uint32_t status = lapd_request(&b->card, line, c->request, c->service, (uint8_t)c->numbers[1], c->octets,
                                    c->length, &report);
-    if (LAPD_REFUSED_BAD_TEI <= status && status <= LAPD_REFUSED_CONTROL_FULL) {
+    if ((LAPD_REFUSED_BAD_TEI <= status && status <= LAPD_REFUSED_CONTROL_FULL) || status == LAPD_REFUSED_WRONG_SIDE) {
         printf("%u refused %s\n", line, lapd_status_text(status));
         return;
     }
@@ -294,7 +295,7 @@ static fault obey_at(station *b, uint32_t line, const command *c) {
 static fault obey(station *b, const command *c) {
     uint32_t lines;
     if (c->verb == CARD)
-        return b->card.started ? SECOND_CARD : start(b, c->numbers, c->for_frames);
+        return b->card.started ? SECOND_CARD : start(b, c);
     if (lapd_lines(&b->card, &lines) != LAPD_OK)
         return NO_CARD;
     if (c->verb == WAIT || c->verb == TIMERS || c->verb == STORED)

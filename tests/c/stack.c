@@ -21,7 +21,7 @@ static ucontext_t here, there;
 static lapd_card card;
 static lapd_clock timers;
 static lapd_report report;
-static const lapd_config config = {1, 8, 7, 7, 8, 4, 4, 8, 260, 3};
+static const lapd_config config = {1, 8, 7, 7, 8, 4, 4, 8, 260, 3, LAPD_NETWORK};
 
 /* What is called, and what it is called with. */
 static void (*called)(void);

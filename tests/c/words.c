@@ -102,10 +102,13 @@ static bool read_octets(word w, command *read) {
     return true;
 }
 
-/* Nine numbers, or ten; the tenth is the window of packet links, which else is that of call control. */
+/* Nine numbers, or ten; the tenth is the window of packet links, which else is that of call control. The word user may stand
+ * behind them. */
 static fault read_card(const word *words, size_t count, bool for_frames, command *read) {
     read->verb = CARD;
     read->for_frames = for_frames;
+    read->user = (count == 10 || count == 11) && is_word(words[count - 1], "user");
+    count -= read->user;
     if (count != 9 && count != 10)
         return BAD_NUMBER_OF_WORDS;
     for (size_t i = 0; i < count; i++)

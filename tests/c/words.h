@@ -37,6 +37,7 @@ typedef struct {
     uint8_t request, service; /* of a REQUEST */
     uint8_t cause;            /* of FAILED, as in a report */
     bool for_frames;          /* of a CARD */
+    bool user;                /* of a CARD: it is the user's side of its lines */
     uint32_t numbers[10];     /* of a card its ten; else the line, then what follows it */
     uint8_t octets[MOST_LINE / 2];
     size_t length;

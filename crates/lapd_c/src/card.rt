@@ -3,15 +3,14 @@
 ghost use Rattle.std.specs.Prelude.{◌≡◌, ◌⊎◌, Some, None, Ok, Err, IfOk, IfSome, IfNone, option_map};
 ghost use Rattle.model_card.specs.Card as machine;
 ghost use Rattle.model_line.specs.Config.{first_fault};
-ghost use Rattle.lapd_plain.specs.Config.{config_in};
+ghost use Rattle.lapd_plain.specs.Config.{config_in, config_fault};
 ghost use Rattle.lapd_plain.specs.Statuses as status;
-ghost use Rattle.lapd_plain.specs.Statuses.{field_status};
 ghost use Rattle.lapd_c.specs.Cards.{card_of, IsHandle, OctetsStand, FramesStand, OctetsStandIn, FramesStandIn};
 
 use crate::card_slot::CardSlot;
 use crate::kinds::AnyCard;
 use lapd_card::{Card, FrameCard};
-use lapd_plain::{NO_CARD, NO_MEMORY, OK, PlainConfig, SECOND_START, field_status};
+use lapd_plain::{NO_CARD, NO_MEMORY, OK, PlainConfig, SECOND_START};
 use lapd_store::RawShelf;
 use model_line::Config;
 use std::alloc::Global;
@@ -57,19 +56,17 @@ impl CardHandle {
 fn startable(handle: &CardHandle, config: &PlainConfig) -> Result<Config, u32>
     requires { IsHandle handle.now }
     ensures second { IfSome (card_of handle.now) (λ _. result ≡ Err status.second_start) }
-    ensures fault { card_of handle.now ≡ None → IfSome (first_fault (config_in config.now))
-        (λ field. result ≡ Err (field_status field)) }
-    ensures can { card_of handle.now ≡ None → first_fault (config_in config.now) ≡ None → result ≡ Ok (config_in config.now) }
+    ensures fault { card_of handle.now ≡ None → IfSome (config_fault config.now) (λ wrong. result ≡ Err wrong) }
+    ensures can { card_of handle.now ≡ None → config_fault config.now ≡ None → result ≡ Ok (config_in config.now) }
     ensures empty { IfOk result (λ c. card_of handle.now ≡ None) }
     ensures in_range { IfOk result (λ c. first_fault c ≡ None) }
 {
     if handle.started {
         return Err(SECOND_START);
     }
-    let config = config.config();
     match config.fault() {
-        Some(field) => Err(field_status(field)),
-        None => Ok(config),
+        Some(wrong) => Err(wrong),
+        None => Ok(config.config()),
     }
 }
 
@@ -83,9 +80,9 @@ pub extern "C" fn lapd_card_start(
     requires { IsHandle handle.old }
     ensures handle { IsHandle handle.new }
     ensures second { IfSome (card_of handle.old) (λ _. (result ≡ status.second_start) × (handle.new ≡ handle.old)) }
-    ensures fault { card_of handle.old ≡ None → IfSome (first_fault (config_in config.now))
-        (λ field. (result ≡ field_status field) × (handle.new ≡ handle.old)) }
-    ensures otherwise { card_of handle.old ≡ None → first_fault (config_in config.now) ≡ None
+    ensures fault { card_of handle.old ≡ None → IfSome (config_fault config.now)
+        (λ wrong. (result ≡ wrong) × (handle.new ≡ handle.old)) }
+    ensures otherwise { card_of handle.old ≡ None → config_fault config.now ≡ None
         → (result ≡ status.ok) ⊎ (result ≡ status.no_memory) }
     ensures fresh { result ≡ status.ok → OctetsStand handle.new (machine.fresh (config_in config.now)) }
     ensures no_memory { result ≡ status.no_memory → handle.new ≡ handle.old }
@@ -121,9 +118,9 @@ pub extern "C" fn lapd_card_start_frames(
     requires { IsHandle handle.old }
     ensures handle { IsHandle handle.new }
     ensures second { IfSome (card_of handle.old) (λ _. (result ≡ status.second_start) × (handle.new ≡ handle.old)) }
-    ensures fault { card_of handle.old ≡ None → IfSome (first_fault (config_in config.now))
-        (λ field. (result ≡ field_status field) × (handle.new ≡ handle.old)) }
-    ensures otherwise { card_of handle.old ≡ None → first_fault (config_in config.now) ≡ None
+    ensures fault { card_of handle.old ≡ None → IfSome (config_fault config.now)
+        (λ wrong. (result ≡ wrong) × (handle.new ≡ handle.old)) }
+    ensures otherwise { card_of handle.old ≡ None → config_fault config.now ≡ None
         → (result ≡ status.ok) ⊎ (result ≡ status.no_memory) }
     ensures fresh { result ≡ status.ok → FramesStand handle.new (machine.fresh (config_in config.now)) }
     ensures no_memory { result ≡ status.no_memory → handle.new ≡ handle.old }

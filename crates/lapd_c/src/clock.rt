@@ -4,7 +4,7 @@ ghost use Rattle.std.specs.Prelude.{◌≡◌, ◌≤◌, ◌⊎◌, Some, None,
 ghost use Rattle.lapd_clock.specs.Timers.{Timers, due_at, after_due, next_moment, idle, with_lengths};
 ghost use Rattle.lapd_clock.specs.Timer.{first_out_of_range};
 ghost use Rattle.model_line.specs.Config.{first_fault};
-ghost use Rattle.lapd_plain.specs.Config.{config_in};
+ghost use Rattle.lapd_plain.specs.Config.{config_in, config_fault};
 ghost use Rattle.lapd_plain.specs.Statuses as status;
 ghost use Rattle.lapd_plain.specs.Statuses.{field_status};
 ghost use Rattle.lapd_plain.specs.Timers.{order_in};
@@ -71,9 +71,9 @@ pub extern "C" fn lapd_clock_start(
     requires { IsHandle handle.old }
     ensures handle { IsHandle handle.new }
     ensures second { IfSome (clock_of handle.old) (λ _. (result ≡ status.second_start) × (handle.new ≡ handle.old)) }
-    ensures fault { clock_of handle.old ≡ None → IfSome (first_fault (config_in config.now))
-        (λ field. (result ≡ field_status field) × (handle.new ≡ handle.old)) }
-    ensures otherwise { clock_of handle.old ≡ None → first_fault (config_in config.now) ≡ None
+    ensures fault { clock_of handle.old ≡ None → IfSome (config_fault config.now)
+        (λ status. (result ≡ status) × (handle.new ≡ handle.old)) }
+    ensures otherwise { clock_of handle.old ≡ None → config_fault config.now ≡ None
         → (result ≡ status.ok) ⊎ (result ≡ status.no_memory) }
     ensures idle { result ≡ status.ok → clock_of handle.new ≡ Some (idle config.now.lines config.now.terminals) }
     ensures no_memory { result ≡ status.no_memory → handle.new ≡ handle.old }
@@ -81,10 +81,10 @@ pub extern "C" fn lapd_clock_start(
     if handle.started {
         return SECOND_START;
     }
-    let config = config.config();
-    if let Some(field) = config.fault() {
-        return field_status(field);
+    if let Some(status) = config.fault() {
+        return status;
     }
+    let config = config.config();
     let Ok(clock) = Clock::start(
         alloc,
         usize::from(config.lines),

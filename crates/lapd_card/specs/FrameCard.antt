@@ -1,6 +1,7 @@
 -- What a card for frames holds.
 use Rattle.std.specs.Prelude.{◌≡◌, ℕ, ◌+◌, ◌*◌, List, refl}
 use Rattle.std.specs.Coded.{Coded, code_by, coded×, coded_list}
+use Rattle.lapd_frame.specs.declared.addresses.Side.TheVariants.{Network}
 use Rattle.model_line.specs.declared.config.Config.{Config}
 use Rattle.model_line.specs.contracts.config.Config as config
 use Rattle.lapd_line.specs.declared.frame_line.FrameLine.{FrameLine}
@@ -37,5 +38,5 @@ abbrev pub frame_limit : Config → ℕ
 frame_limit c = c.lines * frame_limit_in c + c.slots * c.n201
 
 -- Eight terminals, four control frames, N201 of 260 and 64 slots.
-few_octets : frame_limit (record { lines = 1; terminals = 8; k = 7; k16 = 7; queue = 8; unit_queue = 4; control = 4; slots = 64; n201 = 260; n200 = 3 }) ≡ 16940
+few_octets : frame_limit (record { lines = 1; terminals = 8; k = 7; k16 = 7; queue = 8; unit_queue = 4; control = 4; slots = 64; n201 = 260; n200 = 3; side = Network }) ≡ 16940
 few_octets = refl

@@ -80,6 +80,7 @@ pub use happenings::Happening;
 pub use kept::{Kept, KeptReply};
 pub use lapd_bits::Head;
 pub use lapd_count::{Counter, Counters, Kind, Way};
+pub use lapd_frame::Side;
 pub use lapd_line::{BareReport, Config, Field, NextFrame, Pulled, Report, Request, Room};
 pub use model_card::Event;
 pub use model_line::Fault;

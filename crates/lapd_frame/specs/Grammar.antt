@@ -25,6 +25,11 @@ cr_bit Network false = 0
 cr_bit User true = 0
 cr_bit User false = 1
 
+-- The other side of a line: what one side sends, the other hears.
+abbrev pub other_side : Side → Side
+other_side Network = User
+other_side User = Network
+
 -- Clauses 2.3 and 3.2, figure 5: SAPI, C/R and EA 0; TEI and EA 1.
 abbrev pub address_field : Side → Address → List ℕ
 address_field side address = (4 * address.sapi + 2 * cr_bit side address.command) ∷ (2 * address.tei + 1) ∷ []

@@ -1,13 +1,13 @@
 //! Who sent a frame, and whom it is about.
 
 ghost use Rattle.std.specs.Prelude.{◌≡◌, ◌<◌, true};
-ghost use Rattle.lapd_frame.specs.Grammar.{cr_bit, address_field};
+ghost use Rattle.lapd_frame.specs.Grammar.{cr_bit, address_field, other_side};
 ghost use Rattle.lapd_frame.specs.Reading.{address_of};
 
-/// Who sent a frame.
+/// A side of a line, which is who sent a frame.
 #[derive(Clone, Copy, PartialEq, Eq, Debug)]
 pub enum Side {
-    /// The terminal.
+    /// The terminal, or a private exchange on a trunk.
     User,
     /// The exchange.
     Network,
@@ -27,6 +27,16 @@ pub struct Address {
 }
 
 impl Side {
+    /// The side that hears what this one sends, and whose frames this one hears.
+    pub fn other(self) -> Side
+        ensures { result ≡ other_side self }
+    {
+        match self {
+            Side::User => Side::Network,
+            Side::Network => Side::User,
+        }
+    }
+
     // The C/R bit of this side's commands; its responses have the other.
     fn command_bit(self) -> u8
         ensures value { result ≡ cr_bit self true }

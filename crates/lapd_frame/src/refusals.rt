@@ -4,7 +4,7 @@
 /// request changes nothing (profile).
 #[derive(Clone, Copy, PartialEq, Eq, Debug)]
 pub enum Refusal {
-    /// The TEI is over 126; for unit data over 127, since 127 is the group.
+    /// The TEI is over 126; on the network's side for unit data over 127, since 127 is the group.
     BadTei = 1,
     /// The TEI is not on the line. Not for `Assign`, nor for unit data to the group.
     NoLink,
@@ -24,4 +24,6 @@ pub enum Refusal {
     CheckRunning,
     /// No room for one more TEI management message.
     ControlFull,
+    /// Only the network's side takes a TEI off the line, or checks one (Q.921 clauses 5.3.3 and 5.3.4).
+    WrongSide,
 }

@@ -1,29 +1,36 @@
 -- What is heard, by whom it is for.
-use Rattle.std.proofs.Common.{◌≡◌, ℕ, Bool, true, false, ◌==◌, ◌≤◌, List, [], Option, Some, None, Err, length, drop, refl, sym, ap, ◌∙◌, cond, subst}
+use Rattle.std.proofs.Common.{◌≡◌, ℕ, Bool, true, false, not, ◌&&◌, nat_le, ◌==◌, ◌≤◌, List, [], Option, Some, None, Err, length, drop, refl, sym, ap, ◌∙◌, cond, subst, eqb-true}
 use Rattle.std.proofs.Math.ListN.{drop_of_length-le}
 use Rattle.lapd_frame.specs.declared.addresses.Address.{Address}
+use Rattle.lapd_frame.specs.declared.addresses.Side.{Side}
+use Rattle.lapd_frame.specs.declared.addresses.Side.TheVariants.{User, Network}
 use Rattle.lapd_frame.specs.declared.services.Service.{Service}
+use Rattle.lapd_frame.specs.Grammar.{Parts}
 use Rattle.lapd_frame.specs.Services.{service_of}
-use Rattle.lapd_bits.specs.declared.heard.Cause.TheVariants.{Tei}
+use Rattle.lapd_bits.specs.declared.heard.Cause.TheVariants.{Tei, Unserved}
 use Rattle.lapd_frame.specs.declared.controls.Control.{Control}
 use Rattle.lapd_frame.specs.declared.controls.Control.TheVariants as control
 use Rattle.lapd_frame.specs.declared.faults.ReadFault.{ReadFault}
 use Rattle.lapd_frame.specs.declared.faults.ReadFault.TheVariants.{BadExtension, Undefined, WrongSize, Short}
 use Rattle.model_link.specs.Events as link
 use Rattle.lapd_tei.specs.Events as teis
+use Rattle.lapd_tei.specs.Machine.{Management}
+use Rattle.lapd_tei.specs.Table.{place_of}
 use Rattle.std.proofs.lemmas.Bool.{false≢true}
 use Rattle.lapd_store.specs.Ownership.{Owned}
 use Rattle.lapd_store.specs.Store.{Store}
-use Rattle.model_line.specs.Event.{LineTold}
+use Rattle.model_line.specs.declared.config.Config.{Config}
+use Rattle.model_line.specs.Event.{LineTold, dropped}
 use Rattle.model_line.specs.Line.{Line, place_in}
 use Rattle.model_line.specs.Octet.{addressed, at_place, to_service, management_sapi, group_tei, drop_for, message_of, aim_of_long, aim_of_reading}
 use Rattle.model_line.specs.Effect.{Aim, at_none, at_management, of_aim}
+use Rattle.model_line.specs.Sides.{group_told, told_of_ui, told_of_group, told_at, managed_at, at_side, has_management}
 use Rattle.lapd_line.specs.declared.addressing.Addressee.{Addressee}
 use Rattle.lapd_line.specs.declared.addressing.Addressee.TheVariants as to
 use Rattle.lapd_line.specs.declared.link_layer.LinkLayer.{LinkLayer}
 use Rattle.lapd_line.specs.declared.reports.BareReport.{BareReport}
 use Rattle.lapd_line.specs.Addressing as aims
-use Rattle.lapd_line.specs.Addressing.{addressee, of_service, aim_at, is_ui}
+use Rattle.lapd_line.specs.Addressing.{addressee, of_service, aim_at, is_ui, message_at, group_service}
 use Rattle.lapd_line.specs.LinkLayer.{Stands, Serves, always}
 use Rattle.lapd_line.specs.Reports.{told_in}
 
@@ -75,22 +82,115 @@ pub nothing_after : (octets : List ℕ) (n : ℕ) → length octets ≤ n → []
 nothing_after octets n h = sym (drop_of_length-le octets h)
 
 -- a fault is the same of a frame that was too long
-pub long_fault : (m : Line) (fault : ReadFault) → aim_of_long m (Err fault) ≡ aim_of_reading m (Err fault)
-long_fault m BadExtension = refl
-long_fault m (Undefined address) = refl
-long_fault m (WrongSize address) = refl
-long_fault m Short = refl
+pub long_fault : (c : Config) (m : Line) (fault : ReadFault) → aim_of_long m (Err fault) ≡ aim_of_reading c m (Err fault)
+long_fault c m BadExtension = refl
+long_fault c m (Undefined address) = refl
+long_fault c m (WrongSize address) = refl
+long_fault c m Short = refl
 
 -- a frame of layer 2 management
-pub message_of_ui : (k : Control) (info : List ℕ) → is_ui k ≡ true → message_of k info ≡ at_management (teis.message info)
-message_of_ui (control.Ui p) info is = refl
-message_of_ui (control.Information ns nr p) info is = absurd (false≢true is)
-message_of_ui (control.ReceiveReady nr pf) info is = absurd (false≢true is)
-message_of_ui (control.ReceiveNotReady nr pf) info is = absurd (false≢true is)
-message_of_ui (control.Reject nr pf) info is = absurd (false≢true is)
-message_of_ui (control.Sabme p) info is = absurd (false≢true is)
-message_of_ui (control.Disc p) info is = absurd (false≢true is)
-message_of_ui (control.Ua f) info is = absurd (false≢true is)
-message_of_ui (control.Dm f) info is = absurd (false≢true is)
-message_of_ui (control.Frmr f) info is = absurd (false≢true is)
-message_of_ui (control.Xid pf) info is = absurd (false≢true is)
+pub message_of_ui : (side : Side) (k : Control) (info : List ℕ) → is_ui k ≡ true → has_management side ≡ true → message_at side k info ≡ at_management (teis.message info)
+message_of_ui Network k info is ours = ap (λ b. cond b (at_management (teis.message info)) (drop_for Unserved)) is
+message_of_ui User k info is ours = absurd (false≢true ours)
+
+-- and one that is not served
+pub no_ui : (side : Side) (k : Control) (info : List ℕ) → is_ui k ≡ false → message_at side k info ≡ drop_for Unserved
+no_ui side k info is = ap (λ b. cond b (managed_at side (teis.message info)) (drop_for Unserved)) is
+
+pub not_ours : (side : Side) (k : Control) (info : List ℕ) → has_management side ≡ false → message_at side k info ≡ drop_for Unserved
+not_ours Network k info other = absurd (false≢true (sym other))
+not_ours User k info other = either (is_ui k)
+  where
+    either : (b : Bool) → cond b (drop_for Unserved) (drop_for Unserved) ≡ drop_for Unserved
+    either true = refl
+    either false = refl
+
+-- its SAPI is that of no service
+pub managed_sapi : (m : Management) (address : Address) → to.Management ≡ addressee m address → service_of address.sapi ≡ None
+managed_sapi m address is = go (address.sapi == management_sapi) refl (address.tei == group_tei) (sym is)
+  where
+    placed : (service : Service) (o : Option ℕ) → aims.at_place service address.tei o ≡ to.Management → service_of address.sapi ≡ None
+    placed service None e = cc
+    placed service (Some place) e = cc
+
+    sent : (o : Option Service) → of_service m address.tei o ≡ to.Management → service_of address.sapi ≡ None
+    sent None e = cc
+    sent (Some service) e = placed service (place_of address.tei m.places) e
+
+    go : (known : Bool) → (address.sapi == management_sapi) ≡ known → (group : Bool)
+        → cond known (cond group to.Management (to.Nobody Tei)) (of_service m address.tei (service_of address.sapi)) ≡ to.Management → service_of address.sapi ≡ None
+    go true sapi group e = ap service_of (eqb-true address.sapi management_sapi sapi)
+    go false sapi group e = sent (service_of address.sapi) e
+
+-- so it is the same on each side, whatever is told
+module _ (c : Config) (parts : Parts) where
+  no_group : (side : Side) (told : LineTold) → service_of parts.address.sapi ≡ None → told_at c side parts told ≡ told
+  no_group Network told none = refl
+  no_group User told none = ap (λ o. told_of_group c parts o told) none
+
+  pub message_sided : service_of parts.address.sapi ≡ None → at_side c parts (message_of parts.control parts.info) ≡ message_at c.side parts.control parts.info
+  message_sided none = by_control parts.control
+    where
+      dropped_so : at_none (told_at c c.side parts (dropped Unserved)) ≡ drop_for Unserved
+      dropped_so = ap at_none (no_group c.side (dropped Unserved) none)
+
+      by_control : (k : Control) → at_side c parts (message_of k parts.info) ≡ message_at c.side k parts.info
+      by_control (control.Ui p) = refl
+      by_control (control.Information ns nr p) = dropped_so
+      by_control (control.ReceiveReady nr pf) = dropped_so
+      by_control (control.ReceiveNotReady nr pf) = dropped_so
+      by_control (control.Reject nr pf) = dropped_so
+      by_control (control.Sabme p) = dropped_so
+      by_control (control.Disc p) = dropped_so
+      by_control (control.Ua f) = dropped_so
+      by_control (control.Dm f) = dropped_so
+      by_control (control.Frmr f) = dropped_so
+      by_control (control.Xid pf) = dropped_so
+
+-- What is told of a frame for nobody, by the service whose unit data it brings.
+abbrev pub told_by_service : Option Service → List ℕ → LineTold → LineTold
+told_by_service None info told = told
+told_by_service (Some service) info told = group_told service info
+
+module _ (c : Config) (parts : Parts) (told : LineTold) where
+  by_size : (b : Bool) (service : Service) → cond b (group_told service parts.info) told ≡ told_by_service (cond b (Some service) None) parts.info told
+  by_size true service = refl
+  by_size false service = refl
+
+  by_control : (k : Control) (service : Service)
+      → told_of_ui c service k parts.info told ≡ told_by_service (cond (is_ui k && nat_le (length parts.info) c.n201) (Some service) None) parts.info told
+  by_control (control.Ui p) service = by_size (nat_le (length parts.info) c.n201) service
+  by_control (control.Information ns nr p) service = refl
+  by_control (control.ReceiveReady nr pf) service = refl
+  by_control (control.ReceiveNotReady nr pf) service = refl
+  by_control (control.Reject nr pf) service = refl
+  by_control (control.Sabme p) service = refl
+  by_control (control.Disc p) service = refl
+  by_control (control.Ua f) service = refl
+  by_control (control.Dm f) service = refl
+  by_control (control.Frmr f) service = refl
+  by_control (control.Xid pf) service = refl
+
+  abbrev is_served : Bool
+  is_served = is_ui parts.control && nat_le (length parts.info) c.n201
+
+  by_group : (b : Bool) (service : Service)
+      → cond b (told_of_ui c service parts.control parts.info told) told ≡ told_by_service (cond (b && is_served) (Some service) None) parts.info told
+  by_group true service = by_control parts.control service
+  by_group false service = refl
+
+  none_either : (b : Bool) → told ≡ told_by_service (cond b None None) parts.info told
+  none_either true = refl
+  none_either false = refl
+
+  by_service : (o : Option Service) → told_of_group c parts o told ≡ told_by_service (cond ((parts.address.tei == group_tei) && is_served) o None) parts.info told
+  by_service None = none_either ((parts.address.tei == group_tei) && is_served)
+  by_service (Some service) = by_group (parts.address.tei == group_tei) service
+
+  by_side : (side : Side) → told_at c side parts told
+      ≡ told_by_service (cond (not (has_management side) && ((parts.address.tei == group_tei) && is_served)) (service_of parts.address.sapi) None) parts.info told
+  by_side Network = refl
+  by_side User = by_service (service_of parts.address.sapi)
+
+  pub told_is : (o : Option Service) → o ≡ group_service c parts → told_at c c.side parts told ≡ told_by_service o parts.info told
+  told_is o is = by_side c.side ∙ ap (λ x. told_by_service x parts.info told) (sym is)

@@ -84,7 +84,7 @@ stands_receiving e s others r m st = record {
 abbrev with_layer : LinkLayer → FrameLine
 with_layer e = record { layer = e }
 
-module _ (old : FrameLine) (s : Store) (e : LinkLayer) (t : Store) (heard : stream.Event) (lent : List ℕ) (o : BareReport) (served : Serves (aim_of_event (Some heard)) lent old.layer s e t o) where
+module _ (old : FrameLine) (s : Store) (e : LinkLayer) (t : Store) (heard : stream.Event) (lent : List ℕ) (o : BareReport) (served : Serves (aim_of_event (config_of old) (Some heard)) lent old.layer s e t o) where
   -- octets that are heard as it, and leave the line idle
   one_leads : (octets : List ℕ) → ((m : machine.Line) → IsIdle m.received → AreOneEvent (config_of old) m octets heard)
       → ((m : machine.Line) → IsIdle m.received → IsIdle (m.received ++ octets)) → Leads (λ m. map line_event.octet octets) old s (with_layer e) t
@@ -102,7 +102,7 @@ module _ (old : FrameLine) (s : Store) (e : LinkLayer) (t : Store) (heard : stre
   heard_told r is others m st = is ∙ served.told others m st.layer
 
 pub frame_leads : (old : FrameLine) (s : Store) (e : LinkLayer) (t : Store) (octets lent : List ℕ) (o : BareReport) → AreOctets octets
-    → Serves (aim_of_event (Some (came (config_of old).n201 octets))) lent old.layer s e t o
+    → Serves (aim_of_event (config_of old) (Some (came (config_of old).n201 octets))) lent old.layer s e t o
     → Leads (λ m. map line_event.octet (line_octets octets)) old s (with_layer e) t
 frame_leads old s e t octets lent o are served =
     let c = config_of old in

@@ -5,7 +5,7 @@ use Rattle.std.proofs.lemmas.Bool.{ltb-false}
 use Rattle.std.proofs.lemmas.Option.{none-some}
 use Rattle.std.specs.List.{prefix_len, list_any}
 use Rattle.lapd_frame.specs.declared.refusals.Refusal.{Refusal}
-use Rattle.lapd_frame.specs.declared.refusals.Refusal.TheVariants.{BadTei, NoLink, WrongState, TooLong, QueueFull, PoolFull}
+use Rattle.lapd_frame.specs.declared.refusals.Refusal.TheVariants.{BadTei, NoLink, WrongState, TooLong, QueueFull, PoolFull, WrongSide}
 use Rattle.lapd_frame.specs.declared.services.Service.{Service}
 use Rattle.model_link.specs.Events as link
 use Rattle.model_link.specs.Link as machine
@@ -40,7 +40,9 @@ use Rattle.lapd_line.specs.Links as all
 use Rattle.lapd_line.specs.Links.{HasTerms, Refuses, machine_at}
 use Rattle.lapd_line.specs.Reports.{told_in}
 use Rattle.lapd_line.proofs.LayerSteps.{beside_links, links_part, named, numbered, at_link_serves}
-use Rattle.lapd_line.specs.Requests.{link_refusal, management_refusal}
+use Rattle.lapd_line.specs.declared.requests.TeiRequest.{TeiRequest}
+use Rattle.lapd_line.specs.declared.requests.TeiRequest.TheVariants as tei_request
+use Rattle.lapd_line.specs.Requests.{event_of, link_refusal, management_refusal, may_ask}
 
 -- a test that refuses, and its opposite
 turned : {X : Type 0} (b : Bool) (x y : X) → cond (not b) x y ≡ cond b y x
@@ -68,15 +70,15 @@ module _ (c : Config) (full : Bool) (service : Service) (tei : ℕ) (l : Line) w
   data_rows contents = with_rest _ _ (turned (serves (link_of service tei l).state (link.Data contents)) (Some WrongState) _)
 
 -- and those of a request of management
-pub assign_rows : (c : Config) (full : Bool) (tei : ℕ) (l : Line) → refusal c full (Assign tei) l ≡ management_refusal tei (teis.assign tei) l
+pub assign_rows : (c : Config) (full : Bool) (tei : ℕ) (l : Line) → refusal c full (Assign tei) l ≡ management_refusal c.side tei_request.Assign tei l
 unfolding teis.refusal
 assign_rows c full tei l = refl
 
-pub remove_rows : (c : Config) (full : Bool) (tei : ℕ) (l : Line) → refusal c full (Remove tei) l ≡ management_refusal tei (teis.remove tei) l
+pub remove_rows : (c : Config) (full : Bool) (tei : ℕ) (l : Line) → refusal c full (Remove tei) l ≡ management_refusal c.side tei_request.Remove tei l
 unfolding teis.refusal
 remove_rows c full tei l = refl
 
-pub check_rows : (c : Config) (full : Bool) (tei : ℕ) (l : Line) → refusal c full (Check tei) l ≡ management_refusal tei (teis.check tei) l
+pub check_rows : (c : Config) (full : Bool) (tei : ℕ) (l : Line) → refusal c full (Check tei) l ≡ management_refusal c.side tei_request.Check tei l
 unfolding teis.refusal
 check_rows c full tei l = refl
 
@@ -168,6 +170,8 @@ asked_serves e s t new awake service tei place number full request answer outcom
         ∙ ap (λ o. of_aim e.config (at_requested service tei request o) m) (sym (ap (λ x. place_of tei x.places) st.management ∙ here))
 
 -- management is asked of a TEI of a terminal
-pub managed : (e : LinkLayer) (s : Store) (others : List Owned) (m : Line) (tei : ℕ) (what : teis.Event) (why : Option Refusal) → Stands e s others m → nat_lt 126 tei ≡ false
-    → teis.refusal what e.teis ≡ why → management_refusal tei what m ≡ why
-managed e s others m tei what why st low is = ap (λ b. cond b (Some BadTei) (teis.refusal what m.management)) low ∙ ap (teis.refusal what) st.management ∙ is
+pub managed : (e : LinkLayer) (s : Store) (others : List Owned) (m : Line) (asked : TeiRequest) (tei : ℕ) (why : Option Refusal) → Stands e s others m → may_ask e.config.side asked ≡ true → nat_lt 126 tei ≡ false
+    → teis.refusal (event_of asked tei) e.teis ≡ why → management_refusal e.config.side asked tei m ≡ why
+managed e s others m asked tei why st ours low is =
+    ap (λ b. cond (not b) (Some WrongSide) (cond (nat_lt 126 tei) (Some BadTei) (teis.refusal (event_of asked tei) m.management))) ours
+    ∙ ap (λ b. cond b (Some BadTei) (teis.refusal (event_of asked tei) m.management)) low ∙ ap (teis.refusal (event_of asked tei)) st.management ∙ is

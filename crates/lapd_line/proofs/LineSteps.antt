@@ -102,7 +102,7 @@ pub stepped : (old new : Line) (s t : Store) (octet : ℕ) (o : BareReport)
     → ((n201 : ℕ) (past : List ℕ) → deframer.Stands n201 old.deframer past → deframer.Stands n201 new.deframer (past ++ octet ∷ []))
     → new.framer ≡ old.framer
     → (new.nothing_waits ≡ true → (old.nothing_waits ≡ true) × (deframer.latest_of new.deframer ≡ None))
-    → Serves (aim_of_event (deframer.latest_of new.deframer)) (latest_frame new) old.layer s new.layer t o
+    → Serves (aim_of_event (config_of old) (deframer.latest_of new.deframer)) (latest_frame new) old.layer s new.layer t o
     → new.counters ≡ old.counters
     → Moves (line_event.octet octet) old s new t
 unfolding after
@@ -113,21 +113,21 @@ stepped old new s t octet o heard goes_on framed still served uncounted = record
       let c = config_of old in
       let m' = with_received octet m in
       let e = served.stands others m' (with_octet old.layer s others m octet st.layer) in
-      let aim : aim_of_octet c octet m ≡ aim_of_event (deframer.latest_of new.deframer) m' = ap (λ h. aim_of_event h m') (gained_is c.n201 octet m.received _ (heard c.n201 m.received st.received)) in
-      let same = same_bits c (aim_of_event (deframer.latest_of new.deframer) m') m' in
+      let aim : aim_of_octet c octet m ≡ aim_of_event (config_of old) (deframer.latest_of new.deframer) m' = ap (λ h. aim_of_event (config_of old) h m') (gained_is c.n201 octet m.received _ (heard c.n201 m.received st.received)) in
+      let same = same_bits c (aim_of_event (config_of old) (deframer.latest_of new.deframer) m') m' in
       subst (λ a. Stands new t others (of_aim c a m').line) (sym aim)
       (record {
-        received = subst (λ k. deframer.Stands k.n201 new.deframer (of_aim c (aim_of_event (deframer.latest_of new.deframer) m') m').line.received) (sym served.config)
+        received = subst (λ k. deframer.Stands k.n201 new.deframer (of_aim c (aim_of_event (config_of old) (deframer.latest_of new.deframer) m') m').line.received) (sym served.config)
             (subst (deframer.Stands c.n201 new.deframer) (sym same.received) (goes_on c.n201 m.received st.received));
-        sent = subst (λ f. framer.Stands f (of_aim c (aim_of_event (deframer.latest_of new.deframer) m') m').line.items (of_aim c (aim_of_event (deframer.latest_of new.deframer) m') m').line.given) (sym framed)
-            (subst (λ i. framer.Stands old.framer i (of_aim c (aim_of_event (deframer.latest_of new.deframer) m') m').line.given) (sym same.items)
+        sent = subst (λ f. framer.Stands f (of_aim c (aim_of_event (config_of old) (deframer.latest_of new.deframer) m') m').line.items (of_aim c (aim_of_event (config_of old) (deframer.latest_of new.deframer) m') m').line.given) (sym framed)
+            (subst (λ i. framer.Stands old.framer i (of_aim c (aim_of_event (config_of old) (deframer.latest_of new.deframer) m') m').line.given) (sym same.items)
             (subst (framer.Stands old.framer m.items) (sym same.given) st.sent));
         room = ap (λ f. f.room) framed ∙ st.room ∙ ap (λ k. k.n201) (sym served.config);
         layer = e;
         nothing_waits = λ is.
             let (before, none) = still is in
-            ap (λ k. taken k (of_aim c (aim_of_event (deframer.latest_of new.deframer) m') m').line) served.config
-            ∙ ap (λ h. taken c (of_aim c (aim_of_event h m') m').line) none
+            ap (λ k. taken k (of_aim c (aim_of_event (config_of old) (deframer.latest_of new.deframer) m') m').line) served.config
+            ∙ ap (λ h. taken c (of_aim c (aim_of_event (config_of old) h m') m').line) none
             ∙ none_taken c m (m.received ++ octet ∷ []) m.items m.given (st.nothing_waits before);
       });
   uncounted = uncounted;
@@ -135,22 +135,22 @@ stepped old new s t octet o heard goes_on framed still served uncounted = record
 
 pub step_told : (old new : Line) (s t : Store) (octet : ℕ) (o : BareReport)
     → ((n201 : ℕ) (past : List ℕ) → deframer.Stands n201 old.deframer past → heard_in n201 (past ++ octet ∷ []) ≡ heard_in n201 past ++ option_to_list (deframer.latest_of new.deframer))
-    → Serves (aim_of_event (deframer.latest_of new.deframer)) (latest_frame new) old.layer s new.layer t o
+    → Serves (aim_of_event (config_of old) (deframer.latest_of new.deframer)) (latest_frame new) old.layer s new.layer t o
     → (others : List Owned) (m : machine.Line) → Stands old s others m → told (told_in (latest_frame new) o) ≡ answer (config_of old) (line_event.octet octet) m
 unfolding answer
 step_told old new s t octet o heard served others m st =
     let c = config_of old in
     let m' = with_received octet m in
-    let aim : aim_of_octet c octet m ≡ aim_of_event (deframer.latest_of new.deframer) m' = ap (λ h. aim_of_event h m') (gained_is c.n201 octet m.received _ (heard c.n201 m.received st.received)) in
+    let aim : aim_of_octet c octet m ≡ aim_of_event (config_of old) (deframer.latest_of new.deframer) m' = ap (λ h. aim_of_event (config_of old) h m') (gained_is c.n201 octet m.received _ (heard c.n201 m.received st.received)) in
     ap told (served.told others m' (with_octet old.layer s others m octet st.layer) ∙ ap (λ a. (of_aim c a m').told) (sym aim))
 
 -- an octet that ended nothing leaves the entities as they are, and a report of nothing tells what it brings
 abbrev nothing_told : BareReport
 nothing_told = record { notes = short.None; orders = short.None; contents = None; cause = None; lost = 0 }
 
-nothing_served : (e : LinkLayer) (s : Store) (octets : List ℕ) (h : Option stream.Event) → h ≡ None → Serves (aim_of_event h) octets e s e s nothing_told
-nothing_served e s octets h none =
-    subst (λ o. Serves (aim_of_event o) octets e s e s nothing_told) (sym none)
+nothing_served : (e : LinkLayer) (s : Store) (octets : List ℕ) (c : Config) (h : Option stream.Event) → h ≡ None → Serves (aim_of_event c h) octets e s e s nothing_told
+nothing_served e s octets c h none =
+    subst (λ o. Serves (aim_of_event c o) octets e s e s nothing_told) (sym none)
     (record { config = refl; limits = record { slots = refl; width = refl }; stands = λ others m st. st; told = λ others m st. refl })
 
 pub unheard : (old new : Line) (s : Store) (octet : ℕ)
@@ -161,9 +161,9 @@ pub unheard : (old new : Line) (s : Store) (octet : ℕ)
     → Moves (line_event.octet octet) old s new s
     × ((others : List Owned) (m : machine.Line) → Stands old s others m → told nothing ≡ answer (config_of old) (line_event.octet octet) m)
 unheard old new s octet heard goes_on framed same entities none uncounted =
-    let served : Serves (aim_of_event (deframer.latest_of new.deframer)) (latest_frame new) old.layer s new.layer s nothing_told =
-    subst (λ e. Serves (aim_of_event (deframer.latest_of new.deframer)) (latest_frame new) old.layer s e s nothing_told) (sym entities)
-    (nothing_served old.layer s (latest_frame new) (deframer.latest_of new.deframer) none) in (
+    let served : Serves (aim_of_event (config_of old) (deframer.latest_of new.deframer)) (latest_frame new) old.layer s new.layer s nothing_told =
+    subst (λ e. Serves (aim_of_event (config_of old) (deframer.latest_of new.deframer)) (latest_frame new) old.layer s e s nothing_told) (sym entities)
+    (nothing_served old.layer s (latest_frame new) (config_of old) (deframer.latest_of new.deframer) none) in (
       stepped old new s s octet nothing_told heard goes_on framed (λ on. (sym same ∙ on, none)) served uncounted,
       step_told old new s s octet nothing_told heard served,
     )

@@ -2,6 +2,7 @@
 use Rattle.std.proofs.Common.{◌≡◌, ℕ, List, [], ◌∷◌, ◌++◌, take, drop, slice_get, Option, Some, None, option_map, refl, ap, sym, ◌∙◌, subst}
 use Rattle.std.proofs.lemmas.Option.{same_Some}
 use Rattle.std.specs.Option.{option_or}
+use Rattle.lapd_frame.specs.declared.addresses.Side.{Side}
 use Rattle.lapd_frame.specs.declared.timers.Order.{Order}
 use Rattle.lapd_store.specs.Ownership.{Owned}
 use Rattle.lapd_store.specs.Store.{Store}
@@ -96,37 +97,37 @@ without_message e s others m st = record {
 }
 
 -- there was none
-none_waits : (m : Management) → offered m ≡ None → after_offer m ≡ m
-none_waits m none = go m.waiting refl none
+none_waits : (side : Side) (m : Management) → offered side m ≡ None → after_offer m ≡ m
+none_waits side m none = go m.waiting refl none
   where
-    go : (w : List Message) → m.waiting ≡ w → option_map frame_of (slice_get w 0) ≡ None → after_offer m ≡ m
+    go : (w : List Message) → m.waiting ≡ w → option_map (frame_of side) (slice_get w 0) ≡ None → after_offer m ≡ m
     go [] e h = ap (λ l. record m { waiting = drop 1 l }) e ∙ ap (λ l. record m { waiting = l }) (sym e)
     go (x ∷ xs) e h = absurd (cc)
 
 -- a message is its first four octets and four more
-whole_message : (x : Message) → take 4 (frame_of x) ++ take 4 (drop 4 (frame_of x)) ≡ frame_of x
-whole_message (IdentityAssigned ri tei) = refl
-whole_message (IdentityDenied ri) = refl
-whole_message (IdentityCheckRequest tei) = refl
-whole_message (IdentityRemove tei) = refl
+whole_message : (side : Side) (x : Message) → take 4 (frame_of side x) ++ take 4 (drop 4 (frame_of side x)) ≡ frame_of side x
+whole_message side (IdentityAssigned ri tei) = refl
+whole_message side (IdentityDenied ri) = refl
+whole_message side (IdentityCheckRequest tei) = refl
+whole_message side (IdentityRemove tei) = refl
 
-whole : (w : List Message) (octets : List ℕ) → Some octets ≡ option_map frame_of (slice_get w 0) → take 4 octets ++ take 4 (drop 4 octets) ≡ octets
-whole [] octets is = absurd (cc)
-whole (x ∷ w) octets is = subst (λ l. take 4 l ++ take 4 (drop 4 l) ≡ l) (same_Some (frame_of x) octets (sym is)) (whole_message x)
+whole : (side : Side) (w : List Message) (octets : List ℕ) → Some octets ≡ option_map (frame_of side) (slice_get w 0) → take 4 octets ++ take 4 (drop 4 octets) ≡ octets
+whole side [] octets is = absurd (cc)
+whole side (x ∷ w) octets is = subst (λ l. take 4 l ++ take 4 (drop 4 l) ≡ l) (same_Some (frame_of side x) octets (sym is)) (whole_message side x)
 
-pub message_loaded : (e : LinkLayer) (s : Store) (f g : Loading) (octets : List ℕ) → Some octets ≡ offered e.teis → room_in g ≡ room_in f
+pub message_loaded : (e : LinkLayer) (s : Store) (f g : Loading) (octets : List ℕ) → Some octets ≡ offered e.config.side e.teis → room_in g ≡ room_in f
     → Loads (take 4 octets ++ take 4 (drop 4 octets)) f g
-    → Takes (λ c m. message_taken m) e s f (record e { teis = after_offer e.teis }) s g (Some [])
+    → Takes (λ c m. message_taken c m) e s f (record e { teis = after_offer e.teis }) s g (Some [])
 message_loaded e s f g octets some room loaded = record {
   config = refl;
   limits = record { slots = refl; width = refl };
   room = room;
   took = λ others m st.
-      let same : message_taken m ≡ Some (with_message m octets) = ap (λ o. option_map (with_message m) o) (ap offered st.management ∙ sym some) in
+      let same : message_taken e.config m ≡ Some (with_message m octets) = ap (λ o. option_map (with_message m) o) (ap (offered e.config.side) st.management ∙ sym some) in
       let has : HasTaken (with_message m octets) [] (record e { teis = after_offer e.teis }) s others f g = record {
         orders = refl;
         stands = without_message e s others m st;
-        loaded = subst (λ l. Loads l f g) (whole e.teis.waiting octets some) loaded;
+        loaded = subst (λ l. Loads l f g) (whole e.config.side e.teis.waiting octets some) loaded;
       } in
       subst (λ o. Took o (Some []) m (record e { teis = after_offer e.teis }) s others f g) (sym same) has;
 }

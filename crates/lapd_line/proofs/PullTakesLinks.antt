@@ -5,7 +5,6 @@ use Rattle.std.proofs.lemmas.Option.{none-some, slice_get_cases, slice_get-map}
 use Rattle.std.specs.List.{range_with_len}
 use Rattle.std.specs.Option.{option_or, unwrap_or}
 use Rattle.lapd_frame.specs.declared.addresses.Address.{Address}
-use Rattle.lapd_frame.specs.declared.addresses.Side.TheVariants.{Network}
 use Rattle.lapd_frame.specs.declared.timers.Order.{Order}
 use Rattle.lapd_frame.specs.Grammar.{IsFrame, spelling}
 use Rattle.lapd_frame.specs.ShortLists.{listed}
@@ -117,7 +116,7 @@ no_link e s f number new awake few o falls = record {
       let k = known e s others m number few st in
       let part = links_part e s others m st in
       let none : given k.t (link_at number m) ≡ None = sym (o.given e.config k.t s (beside_links e m others) m.links k.has part).given in
-      let same : link_taken e.config m number ≡ None = ap (λ g. option_map (with_given_frame m number (terms_at e.config number m)) g) (k.none none) in
+      let same : link_taken e.config m number ≡ None = ap (λ g. option_map (with_given_frame e.config m number (terms_at e.config number m)) g) (k.none none) in
       let stay : set m.links number (after k.t offer (link_at number m)) ≡ m.links =
       ap (λ l. set m.links number l) (nothing_given k.t (link_at number m) none) ∙ set-get_or m.links number machine.fresh in
       let stand : LinksStand e.config new s (beside_links e m others) m.links =
@@ -199,7 +198,7 @@ pub link_loaded : (e : LinkLayer) (s : Store) (f g : Loading) (number : ℕ) (ne
     → IsAwake e.awake number → Offers number e.links new (Some o)
     → ((t : Terms) → HasTerms new number t → address ≡ address_at t o.frame.command)
     → info ≡ unwrap_or (contents_in s o.contents) [] → room_in g ≡ room_in f
-    → Loads (spelling Network (record { address = address; control = o.frame.control; info = info })) f g
+    → Loads (spelling e.config.side (record { address = address; control = o.frame.control; info = info })) f g
     → Takes (λ c m. link_taken c m number) e s f (record e { links = new; turn = number + 1 }) s g (Some (listed o.orders))
 link_loaded e s f g number new o address info few awake offers named is room loaded = record {
   config = refl;
@@ -209,16 +208,16 @@ link_loaded e s f g number new o address info few awake offers named is room loa
       let gave = gives e s others m number new o few st offers in
       let t = terms_at e.config number m in
       let what : Given = record { frame = o.frame; contents = contents_in s o.contents; orders = listed o.orders } in
-      let same : link_taken e.config m number ≡ Some (with_given_frame m number t what) = ap (λ x. option_map (with_given_frame m number t) x) (sym gave.is.given) in
-      let sound : TakesSoundly e.config m (with_given_frame m number t what) =
+      let same : link_taken e.config m number ≡ Some (with_given_frame e.config m number t what) = ap (λ x. option_map (with_given_frame e.config m number t) x) (sym gave.is.given) in
+      let sound : TakesSoundly e.config m (with_given_frame e.config m number t what) =
       subst (λ x. IfSome x (TakesSoundly e.config m)) same (link_sound e.config st.range m st.sound number few) in
       let stand = offers.goes_on s e.config t (beside_links e m others) m.links gave.has (links_part e s others m st) in
-      let has : HasTaken (with_given_frame m number t what) (listed o.orders) (record e { links = new; turn = number + 1 }) s others f g = record {
+      let has : HasTaken (with_given_frame e.config m number t what) (listed o.orders) (record e { links = new; turn = number + 1 }) s others f g = record {
         orders = refl;
         stands = turned e s others m number new _ st offers.terms sound.line stand (none_missed_at e.awake e.links new m.links number _ awake offers.terms st.asleep);
         loaded =
-            subst (λ a. Loads (spelling Network (record { address = a; control = o.frame.control; info = unwrap_or (contents_in s o.contents) [] })) f g) (named t (still e number new t offers.terms gave.has))
-            (subst (λ x. Loads (spelling Network (record { address = address; control = o.frame.control; info = x })) f g) is loaded);
+            subst (λ a. Loads (spelling e.config.side (record { address = a; control = o.frame.control; info = unwrap_or (contents_in s o.contents) [] })) f g) (named t (still e number new t offers.terms gave.has))
+            (subst (λ x. Loads (spelling e.config.side (record { address = address; control = o.frame.control; info = x })) f g) is loaded);
       } in
       subst (λ x. Took x (Some (listed o.orders)) m (record e { links = new; turn = number + 1 }) s others f g) (sym same) has;
 }
@@ -299,7 +298,7 @@ asleep_gives_nothing : (e : LinkLayer) (s : Store) (others : List Owned) (m : Li
 asleep_gives_nothing e s others m number few st asleep =
     let k = known e s others m number few st in
     let low = low_link e s number (others, m, st) few in
-    ap (λ g. option_map (with_given_frame m number (terms_at e.config number m)) g) (k.none (st.asleep number k.t low asleep k.has))
+    ap (λ g. option_map (with_given_frame e.config m number (terms_at e.config number m)) g) (k.none (st.asleep number k.t low asleep k.has))
 
 none_of : (c : Config) (m : Line) (from n : ℕ) → ((number : ℕ) → from ≤ number → number < from + n → link_taken c m number ≡ None) → among from n c m ≡ None
 none_of c m from zero none = refl

@@ -3,7 +3,6 @@ use Rattle.std.proofs.Common.{◌≡◌, ℕ, ◌≤◌, ◌<◌, List, [], ◌�
 use Rattle.std.specs.Prelude.{All}
 use Rattle.std.proofs.lemmas.List.Elements.{All-head, All-drop}
 use Rattle.std.proofs.lemmas.Option.{none-some, same_Some}
-use Rattle.lapd_frame.specs.declared.addresses.Side.TheVariants.{Network}
 use Rattle.lapd_frame.specs.declared.controls.Control.TheVariants.{Ui}
 use Rattle.lapd_frame.specs.declared.services.Service.{Service}
 use Rattle.lapd_frame.specs.declared.services.Service.TheVariants.{Call, Packet}
@@ -116,36 +115,36 @@ none_for [] [] none h = refl
 none_for [] (d ∷ ds) none h = absurd h
 none_for (u ∷ us) ds none h = absurd (none-some u none)
 
-pub no_unit : (e : LinkLayer) (s : Store) (f : Loading) → None ≡ slice_get e.units.waiting 0 → Takes (λ c m. unit_taken m) e s f e s f None
+pub no_unit : (e : LinkLayer) (s : Store) (f : Loading) → None ≡ slice_get e.units.waiting 0 → Takes (λ c m. unit_taken c m) e s f e s f None
 no_unit e s f none = record {
   config = refl;
   limits = record { slots = refl; width = refl };
   room = refl;
   took = λ others m st.
-      let same : unit_taken m ≡ None = ap (λ o. option_map (with_unit m) o) (none_for e.units.waiting m.units none st.addressed) in
+      let same : unit_taken e.config m ≡ None = ap (λ o. option_map (with_unit e.config m) o) (none_for e.units.waiting m.units none st.addressed) in
       subst (λ o. Took o None m e s others f f) (sym same) (st, refl);
 }
 
 pub unit_loaded : (e : LinkLayer) (s t : Store) (f g : Loading) (u : QueuedUnit) (sapi : ℕ) (octets : List ℕ) → slice_get e.units.waiting 0 ≡ Some u
     → sapi ≡ sapi_of u.service → contents_of s u.slot ≡ Some octets → t ≡ without s u.slot → SameLimits s t → room_in g ≡ room_in f
-    → Loads (spelling Network (record { address = record { sapi = sapi; command = true; tei = u.tei }; control = Ui false; info = octets })) f g
-    → Takes (λ c m. unit_taken m) e s f (record e { units = without_oldest e.units }) t g (Some [])
+    → Loads (spelling e.config.side (record { address = record { sapi = sapi; command = true; tei = u.tei }; control = Ui false; info = octets })) f g
+    → Takes (λ c m. unit_taken c m) e s f (record e { units = without_oldest e.units }) t g (Some [])
 unit_loaded e s t f g u sapi octets is sapi_is contents free limits room loaded = record {
   config = refl;
   limits = limits;
   room = room;
   took = λ others m st.
       let o = oldest e s others m u st is in
-      let same : unit_taken m ≡ Some (with_unit m o.unit) = ap (λ x. option_map (with_unit m) x) o.is in
+      let same : unit_taken e.config m ≡ Some (with_unit e.config m o.unit) = ap (λ x. option_map (with_unit e.config m) x) o.is in
       let info : octets ≡ o.unit.contents = same_Some octets o.unit.contents (sym contents ∙ o.contents) in
       let number : sapi ≡ sapi_of o.unit.service = sapi_is ∙ ap sapi_of o.service in
-      let has : HasTaken (with_unit m o.unit) [] (record e { units = without_oldest e.units }) t others f g = record {
+      let has : HasTaken (with_unit e.config m o.unit) [] (record e { units = without_oldest e.units }) t others f g = record {
         orders = refl;
         stands = without_unit e s t others m u st is free;
         loaded =
-            subst (λ x. Loads (spelling Network (record { address = record { sapi = x; command = true; tei = o.unit.tei }; control = Ui false; info = o.unit.contents })) f g) number
-            (subst (λ x. Loads (spelling Network (record { address = record { sapi = sapi; command = true; tei = x }; control = Ui false; info = o.unit.contents })) f g) o.tei
-            (subst (λ x. Loads (spelling Network (record { address = record { sapi = sapi; command = true; tei = u.tei }; control = Ui false; info = x })) f g) info loaded));
+            subst (λ x. Loads (spelling e.config.side (record { address = record { sapi = x; command = true; tei = o.unit.tei }; control = Ui false; info = o.unit.contents })) f g) number
+            (subst (λ x. Loads (spelling e.config.side (record { address = record { sapi = sapi; command = true; tei = x }; control = Ui false; info = o.unit.contents })) f g) o.tei
+            (subst (λ x. Loads (spelling e.config.side (record { address = record { sapi = sapi; command = true; tei = u.tei }; control = Ui false; info = x })) f g) info loaded));
       } in
       subst (λ x. Took x (Some []) m (record e { units = without_oldest e.units }) t others f g) (sym same) has;
 }

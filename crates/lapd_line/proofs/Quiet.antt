@@ -30,14 +30,14 @@ module _ (c : Config) (l : Line) (received : List ℕ) (items : List Item) (give
       let (one, others) = none_or (link_taken c l number) (first_taken c l numbers) e in
       let t = terms_at c number l in
       or_none (link_taken c other number) (first_taken c other numbers)
-      (none_map (with_given_frame l number t) (with_given_frame other number t) (links.given t (link_at number l)) one)
+      (none_map (with_given_frame c l number t) (with_given_frame c other number t) (links.given t (link_at number l)) one)
       (none_first numbers others)
 
   -- where there is nothing, there is nothing with other bits
   pub none_taken : taken c l ≡ None → taken c other ≡ None
   none_taken e =
-      let (message, others) = none_or (message_taken l) (option_or (unit_taken l) (first_taken c l (round c l))) e in
-      let (unit, first) = none_or (unit_taken l) (first_taken c l (round c l)) others in
-      or_none (message_taken other) (option_or (unit_taken other) (first_taken c other (round c l)))
-      (none_map (with_message l) (with_message other) (teis.offered l.management) message)
-      (or_none (unit_taken other) (first_taken c other (round c l)) (none_map (with_unit l) (with_unit other) (slice_get l.units 0) unit) (none_first (round c l) first))
+      let (message, others) = none_or (message_taken c l) (option_or (unit_taken c l) (first_taken c l (round c l))) e in
+      let (unit, first) = none_or (unit_taken c l) (first_taken c l (round c l)) others in
+      or_none (message_taken c other) (option_or (unit_taken c other) (first_taken c other (round c l)))
+      (none_map (with_message l) (with_message other) (teis.offered c.side l.management) message)
+      (or_none (unit_taken c other) (first_taken c other (round c l)) (none_map (with_unit c l) (with_unit c other) (slice_get l.units 0) unit) (none_first (round c l) first))

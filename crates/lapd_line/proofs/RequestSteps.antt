@@ -86,7 +86,7 @@ with_room c full (Establish service tei) l e = e
 with_room c full (Release service tei) l e = e
 with_room c full (Data service tei contents) l e =
     last_row (bad_tei tei ∷ no_link tei l ∷ wrong_state service tei (link.Data contents) l ∷ too_long c contents ∷ queue_full c service tei l ∷ []) full e
-with_room c full (Unit service tei contents) l e = last_row (bad_tei_or_group tei ∷ no_link_nor_group tei l ∷ too_long c contents ∷ unit_queue_full c l ∷ []) full e
+with_room c full (Unit service tei contents) l e = last_row (bad_tei_or_group c tei ∷ no_link_nor_group tei l ∷ too_long c contents ∷ unit_queue_full c l ∷ []) full e
 with_room c full (Assign tei) l e = e
 with_room c full (Remove tei) l e = e
 with_room c full (Check tei) l e = e

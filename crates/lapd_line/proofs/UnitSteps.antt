@@ -18,7 +18,9 @@ use Rattle.model_line.specs.Effect.{at_units, of_aim}
 use Rattle.model_line.specs.Refusal.{refusal}
 use Rattle.model_line.specs.Request as asked
 use Rattle.model_line.specs.Stored.{contents_of}
+use Rattle.model_line.specs.Sides.{last_unit_tei}
 use Rattle.model_line.proofs.AimsSound.{IsProper, aim_sound}
+use Rattle.model_line.proofs.Sides.{unit_tei}
 use Rattle.lapd_line.specs.declared.link_layer.LinkLayer.{LinkLayer}
 use Rattle.lapd_line.specs.declared.reports.BareReport.{BareReport}
 use Rattle.lapd_line.specs.declared.units.QueuedUnit.{QueuedUnit}
@@ -56,13 +58,13 @@ waiting e s others m st = sym (length-map e.units.waiting slot_of) ∙ as_many e
 
 -- No row before those for room holds: then these two are the answer.
 pub room_is_left : (e : LinkLayer) (s : Store) (others : List Owned) (m : Line) (service : Service) (tei octets : ℕ) (contents : List ℕ) (full : Bool) (answer : Option Refusal)
-    → Stands e s others m → length contents ≡ octets → nat_lt 127 tei ≡ false → ((tei == 127) || is_on tei e.teis.places) ≡ true → nat_lt e.config.n201 octets ≡ false
+    → Stands e s others m → length contents ≡ octets → nat_lt (last_unit_tei e.config.side) tei ≡ false → ((tei == 127) || is_on tei e.teis.places) ≡ true → nat_lt e.config.n201 octets ≡ false
     → answer ≡ cond (nat_le e.config.unit_queue (length e.units.waiting)) (Some QueueFull) (cond full (Some PoolFull) None)
     → answer ≡ refusal e.config full (asked.Unit service tei contents) m
 room_is_left e s others m service tei octets contents full answer st size low found short is =
     let nobody : (not (tei == 127) && not (is_on tei m.management.places)) ≡ false =
     neither (tei == 127) (is_on tei m.management.places) ∙ ap (λ t. not ((tei == 127) || is_on tei t.places)) st.management ∙ ap not found in
-    row_passes (nat_lt 127 tei) BadTei low
+    row_passes (nat_lt (last_unit_tei e.config.side) tei) BadTei low
     (row_passes (not (tei == 127) && not (is_on tei m.management.places)) NoLink nobody
     (row_passes (nat_lt e.config.n201 (length contents)) TooLong (ap (nat_lt e.config.n201) size ∙ short)
     (is ∙ ap (λ n. cond (nat_le e.config.unit_queue n) (Some QueueFull) (cond full (Some PoolFull) None)) (waiting e s others m st))))
@@ -82,7 +84,7 @@ granted c full service tei contents m e =
     let long = row_passed _ _ _ unknown.1 in
     let queue = row_passed _ _ _ long.1 in
     let pool = row_passed _ _ _ queue.1 in
-    ((record { tei = ltb-false 127 tei bad.0; size = ltb-false c.n201 (length contents) long.0 }, leb-false c.unit_queue (length m.units) queue.0), pool.0)
+    ((record { tei = unit_tei c.side tei bad.0; size = ltb-false c.n201 (length contents) long.0 }, leb-false c.unit_queue (length m.units) queue.0), pool.0)
 
 -- the answer of the code is that of the machine, whatever the contents of this length
 pub refused_so : (e : LinkLayer) (s : Store) (service : Service) (tei : ℕ) (contents : List ℕ) (slots used : ℕ) (answer : Option Refusal) → used ≡ used_slots s

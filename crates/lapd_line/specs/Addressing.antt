@@ -1,15 +1,20 @@
 -- For whom a frame is, by its address.
-use Rattle.std.specs.Prelude.{ℕ, ◌==◌, Bool, true, false, Option, Some, None, if◌then◌else◌}
-use Rattle.lapd_bits.specs.declared.heard.Cause.TheVariants.{Sapi, Tei}
+use Rattle.std.specs.Prelude.{ℕ, ◌==◌, Bool, true, false, not, ◌&&◌, nat_le, List, length, Option, Some, None, if◌then◌else◌}
+use Rattle.lapd_bits.specs.declared.heard.Cause.TheVariants.{Sapi, Tei, Unserved}
 use Rattle.lapd_frame.specs.declared.addresses.Address.{Address}
+use Rattle.lapd_frame.specs.declared.addresses.Side.{Side}
 use Rattle.lapd_frame.specs.declared.controls.Control.{Control}
 use Rattle.lapd_frame.specs.declared.controls.Control.TheVariants as control
 use Rattle.lapd_frame.specs.declared.services.Service.{Service}
+use Rattle.lapd_frame.specs.Grammar.{Parts}
 use Rattle.lapd_frame.specs.Services.{service_of}
 use Rattle.model_link.specs.Events as link
+use Rattle.lapd_tei.specs.Events as teis
 use Rattle.lapd_tei.specs.Machine.{Management, place}
 use Rattle.lapd_tei.specs.Sound.{IsAt}
+use Rattle.model_line.specs.declared.config.Config.{Config}
 use Rattle.model_line.specs.Octet.{management_sapi, group_tei, drop_for}
+use Rattle.model_line.specs.Sides.{managed_at, has_management}
 use Rattle.model_line.specs.Effect.{Aim, at_link}
 use Rattle.lapd_line.specs.declared.addressing.Addressee.{Addressee}
 use Rattle.lapd_line.specs.declared.addressing.Addressee.TheVariants as to
@@ -27,18 +32,6 @@ addressee m address =
     if address.sapi == management_sapi then (if address.tei == group_tei then to.Management else to.Nobody Tei)
     else of_service m address.tei (service_of address.sapi)
 
--- What a frame is to the line, by its addressee: something for a link, or for layer 2 management.
-abbrev pub aim_at : Addressee → link.Received → Aim → Aim
-aim_at to.Management what to_management = to_management
-aim_at (to.Link service tei place) what to_management = at_link service tei place (link.received what)
-aim_at (to.Nobody cause) what to_management = drop_for cause
-
--- A link's TEI is at its place.
-abbrev pub IsAtPlace : Management → Addressee → Type 0
-IsAtPlace m to.Management = Unit {0}
-IsAtPlace m (to.Link service tei place) = IsAt m.places place tei
-IsAtPlace m (to.Nobody cause) = Unit {0}
-
 -- Of the frames of layer 2 management, UI alone is served.
 abbrev pub is_ui : Control → Bool
 is_ui (control.Information ns nr p) = false
@@ -52,3 +45,28 @@ is_ui (control.Ua f) = false
 is_ui (control.Dm f) = false
 is_ui (control.Frmr f) = false
 is_ui (control.Xid pf) = false
+
+-- A frame of layer 2 management: UI alone is served, on the network's side.
+abbrev pub message_at : Side → Control → List ℕ → Aim
+message_at side k info = if is_ui k then managed_at side (teis.message info) else drop_for Unserved
+
+-- Of the frames for nobody a side may serve this one: on the user's, a UI to the group of at most N201 octets,
+abbrev pub serves_group : Config → Parts → Bool
+serves_group c parts =
+    not (has_management c.side) && ((parts.address.tei == group_tei) && (is_ui parts.control && nat_le (length parts.info) c.n201))
+
+-- with the SAPI of a service.
+abbrev pub group_service : Config → Parts → Option Service
+group_service c parts = if serves_group c parts then service_of parts.address.sapi else None
+
+-- What a frame is to the line, by its addressee: something for a link, or for layer 2 management.
+abbrev pub aim_at : Addressee → link.Received → Aim → Aim
+aim_at to.Management what to_management = to_management
+aim_at (to.Link service tei place) what to_management = at_link service tei place (link.received what)
+aim_at (to.Nobody cause) what to_management = drop_for cause
+
+-- A link's TEI is at its place.
+abbrev pub IsAtPlace : Management → Addressee → Type 0
+IsAtPlace m to.Management = Unit {0}
+IsAtPlace m (to.Link service tei place) = IsAt m.places place tei
+IsAtPlace m (to.Nobody cause) = Unit {0}

@@ -5,6 +5,7 @@ use Rattle.std.specs.Option.{option_map_or}
 use Rattle.lapd_bits.specs.Stream as stream
 use Rattle.lapd_store.specs.Ownership.{Owned, Holds}
 use Rattle.lapd_store.specs.Store.{Store, SameLimits}
+use Rattle.model_line.specs.declared.config.Config.{Config}
 use Rattle.model_line.specs.Event.{nothing}
 use Rattle.model_line.specs.Line.{Line, link_count, place_at, service_at, tei_at, terms}
 use Rattle.model_line.specs.Octet.{aim_of_heard}
@@ -52,5 +53,5 @@ abbrev pub always : Aim → Line → Aim
 always aim m = aim
 
 -- what is heard, or nothing
-abbrev pub aim_of_event : Option stream.Event → Line → Aim
-aim_of_event heard m = option_map_or (aim_of_heard m) heard (at_none nothing)
+abbrev pub aim_of_event : Config → Option stream.Event → Line → Aim
+aim_of_event c heard m = option_map_or (aim_of_heard c m) heard (at_none nothing)

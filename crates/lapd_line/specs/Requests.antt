@@ -1,12 +1,14 @@
 -- Why a request of a link is refused, and what one of management.
-use Rattle.std.specs.Prelude.{ℕ, Bool, not, nat_lt, Option, Some, if◌then◌else◌}
+use Rattle.std.specs.Prelude.{ℕ, Bool, true, not, nat_lt, Option, Some, if◌then◌else◌}
+use Rattle.lapd_frame.specs.declared.addresses.Side.{Side}
 use Rattle.lapd_frame.specs.declared.refusals.Refusal.{Refusal}
-use Rattle.lapd_frame.specs.declared.refusals.Refusal.TheVariants.{BadTei, NoLink}
+use Rattle.lapd_frame.specs.declared.refusals.Refusal.TheVariants.{BadTei, NoLink, WrongSide}
 use Rattle.lapd_frame.specs.declared.services.Service.{Service}
 use Rattle.model_link.specs.Events as link
 use Rattle.model_link.specs.Requests as links
 use Rattle.lapd_tei.specs.Events as teis
 use Rattle.model_line.specs.declared.config.Config.{Config}
+use Rattle.model_line.specs.Sides.{has_management}
 use Rattle.model_line.specs.Line.{Line, has_tei, link_of, terms}
 use Rattle.lapd_line.specs.declared.requests.TeiRequest.{TeiRequest}
 use Rattle.lapd_line.specs.declared.requests.TeiRequest.TheVariants as tei_request
@@ -18,12 +20,21 @@ link_refusal c full service tei request l =
     else if not (has_tei tei l) then Some NoLink
     else links.refusal (terms c service tei) (link_of service tei l) full request
 
--- The TEI has to be one of a terminal; then TEI management refuses, or not.
-abbrev pub management_refusal : ℕ → teis.Event → Line → Option Refusal
-management_refusal tei event l = if nat_lt 126 tei then Some BadTei else teis.refusal event l.management
-
 -- What is asked of TEI management, as its event.
 abbrev pub event_of : TeiRequest → ℕ → teis.Event
 event_of tei_request.Assign tei = teis.assign tei
 event_of tei_request.Remove tei = teis.remove tei
 event_of tei_request.Check tei = teis.check tei
+
+-- Each side puts a TEI on the line; the network's alone takes one off, or checks one.
+abbrev pub may_ask : Side → TeiRequest → Bool
+may_ask side tei_request.Assign = true
+may_ask side tei_request.Remove = has_management side
+may_ask side tei_request.Check = has_management side
+
+-- The side has to be the right one, and the TEI one of a terminal; then TEI management refuses, or not.
+abbrev pub management_refusal : Side → TeiRequest → ℕ → Line → Option Refusal
+management_refusal side asked tei l =
+    if not (may_ask side asked) then Some WrongSide
+    else if nat_lt 126 tei then Some BadTei
+    else teis.refusal (event_of asked tei) l.management

@@ -2,18 +2,21 @@
 
 ghost use Rattle.std.specs.Prelude.{◌≡◌, ℕ, ◌≤◌, List, [], drop, length, Ok, Err};
 ghost use Rattle.lapd_bits.specs.Heard.{heard_of};
-ghost use Rattle.lapd_frame.specs.declared.addresses.Side.TheVariants.{User};
 ghost use Rattle.lapd_frame.specs.Grammar.{parts_of};
 ghost use Rattle.lapd_frame.specs.Reading.{reading, long_reading, start_of};
 ghost use Rattle.lapd_bits.specs.declared.heard.Cause.TheVariants.{Unserved};
 ghost use Rattle.model_link.specs.Events as link;
-ghost use Rattle.model_line.specs.Octet.{addressed, aim_of_long, aim_of_reading, drop_for, message_of, unless_at_link};
+ghost use Rattle.model_line.specs.Event.{dropped};
+ghost use Rattle.model_line.specs.Octet.{addressed, aim_of_long, aim_of_reading, drop_for, heard_side, unless_at_link};
+ghost use Rattle.model_line.specs.Sides.{has_management, told_at};
 ghost use Rattle.lapd_line.specs.Addressing.{is_ui};
 
 use crate::link_layer::LinkLayer;
 use crate::reports::BareReport;
 use lapd_bits::{Cause, Heard};
-use lapd_frame::{Address, Control, Frame, Long, ReadFault, Service, Side, read, read_long};
+use lapd_frame::{
+    Address, Control, Frame, Long, Note, ReadFault, Service, ShortList, Side, read, read_long,
+};
 use lapd_link::Received;
 use lapd_store::Shelf;
 
@@ -45,18 +48,25 @@ fn is_ui(control: Control) -> bool
     matches!(control, Control::Ui { .. })
 }
 
+/// Whether a side has TEI management: the network's alone.
+pub(crate) fn has_management(side: Side) -> bool
+    ensures { result ≡ has_management side }
+{
+    matches!(side, Side::Network)
+}
+
 impl LinkLayer {
     ghost use Rattle.lapd_link.specs.Events.{received_of, info_of};
-    ghost use Rattle.lapd_line.specs.Addressing.{addressee, IsAtPlace};
+    ghost use Rattle.lapd_line.specs.Addressing.{addressee, group_service, message_at, serves_group, IsAtPlace};
     ghost use Rattle.lapd_line.specs.LinkLayer.{Standing, Serves, always, aim_of_event};
-    ghost use Rattle.lapd_line.specs.Reports.{octets_of};
+    ghost use Rattle.lapd_line.specs.Reports.{octets_of, told_in};
 
     /// Serves what the octets of the line have brought.
     // A program with both kinds of cards calls it from two places, and would keep it apart.
     #[inline(always)]
     pub(crate) fn serve<S: Shelf>(&mut self, heard: Heard<'_>, shelf: &mut S) -> BareReport
         requires { Standing self.old (S.store shelf.old) }
-        ensures { Serves (aim_of_event (heard_of heard.entry)) (octets_of (heard_of heard.entry)) self.old (S.store shelf.old) self.new (S.store shelf.new) result }
+        ensures { Serves (aim_of_event self.old.config (heard_of heard.entry)) (octets_of (heard_of heard.entry)) self.old (S.store shelf.old) self.new (S.store shelf.new) result }
     {
         match heard {
             Heard::Nothing => BareReport::nothing(),
@@ -71,9 +81,9 @@ impl LinkLayer {
     #[inline(always)]
     fn frame<S: Shelf>(&mut self, octets: &[u8], shelf: &mut S) -> BareReport
         requires { Standing self.old (S.store shelf.old) }
-        ensures { Serves (λ m. aim_of_reading m (reading User octets.now)) octets.now self.old (S.store shelf.old) self.new (S.store shelf.new) result }
+        ensures { Serves (λ m. aim_of_reading self.old.config m (reading (heard_side self.old.config) octets.now)) octets.now self.old (S.store shelf.old) self.new (S.store shelf.new) result }
     {
-        match read(Side::User, octets) {
+        match read(self.config.side.other(), octets) {
             Ok(frame) => self.spelled(frame, shelf),
             Err(fault) => self.faulty(fault, octets.len(), shelf),
         }
@@ -84,7 +94,7 @@ impl LinkLayer {
     fn spelled<S: Shelf>(&mut self, frame: Frame<'_>, shelf: &mut S) -> BareReport
         requires { Standing self.old (S.store shelf.old) }
         ensures { (octets : List ℕ) → frame.entry.info.now ≡ drop (start_of frame.entry.control) octets
-            → Serves (λ m. aim_of_reading m (Ok (parts_of frame.entry))) octets self.old (S.store shelf.old) self.new (S.store shelf.new) result }
+            → Serves (λ m. aim_of_reading self.old.config m (Ok (parts_of frame.entry))) octets self.old (S.store shelf.old) self.new (S.store shelf.new) result }
     {
         match self.addressee(frame.address) {
             Addressee::Management => self.message(frame.control, frame.info, shelf),
@@ -102,15 +112,50 @@ impl LinkLayer {
                     shelf,
                 )
             }
-            Addressee::Nobody(cause) => BareReport::dropped(cause),
+            Addressee::Nobody(cause) => self.for_nobody(frame, cause),
         }
+    }
+
+    /// A frame of the grammar that is for no link, nor for layer 2 management. On the user's side it may bring unit data
+    /// that the network sends to the group.
+    fn for_nobody(&self, frame: Frame<'_>, cause: Cause) -> BareReport
+        ensures { (octets : List ℕ) → frame.entry.info.now ≡ drop (start_of frame.entry.control) octets
+            → told_in octets result ≡ told_at self.now.config self.now.config.side (parts_of frame.entry) (dropped cause) }
+    {
+        match self.group_service(frame) {
+            None => BareReport::dropped(cause),
+            Some(service) => BareReport {
+                notes: ShortList::one(Note::Unit(service, GROUP)),
+                contents: Some(frame.control.start()),
+                ..BareReport::nothing()
+            },
+        }
+    }
+
+    /// The service whose unit data a frame brings that the network sends to the group.
+    fn group_service(&self, frame: Frame<'_>) -> Option<Service>
+        ensures { result ≡ group_service self.now.config (parts_of frame.entry) }
+    {
+        if !self.serves_group(frame) {
+            return None;
+        }
+        Service::with_sapi(frame.address.sapi)
+    }
+
+    fn serves_group(&self, frame: Frame<'_>) -> bool
+        ensures { result ≡ serves_group self.now.config (parts_of frame.entry) }
+    {
+        if has_management(self.config.side) || frame.address.tei != GROUP {
+            return false;
+        }
+        is_ui(frame.control) && frame.info.len() <= usize::from(self.config.n201)
     }
 
     /// Octets that spell no frame: `len` of them.
     fn faulty<S: Shelf>(&mut self, fault: ReadFault, len: usize, shelf: &mut S) -> BareReport
         requires { Standing self.old (S.store shelf.old) }
         ensures { (octets : List ℕ) → length octets ≤ len
-            → Serves (λ m. aim_of_reading m (Err fault)) octets self.old (S.store shelf.old) self.new (S.store shelf.new) result }
+            → Serves (λ m. aim_of_reading self.old.config m (Err fault)) octets self.old (S.store shelf.old) self.new (S.store shelf.new) result }
     {
         match fault {
             ReadFault::BadExtension => BareReport::dropped(Cause::Extension),
@@ -133,9 +178,9 @@ impl LinkLayer {
     /// A frame that is longer than the line has room for, by its first four octets.
     fn overlong<S: Shelf>(&mut self, head: &[u8; 4], shelf: &mut S) -> BareReport
         requires { Standing self.old (S.store shelf.old) }
-        ensures { Serves (λ m. aim_of_long m (long_reading User head.now)) [] self.old (S.store shelf.old) self.new (S.store shelf.new) result }
+        ensures { Serves (λ m. aim_of_long m (long_reading (heard_side self.old.config) head.now)) [] self.old (S.store shelf.old) self.new (S.store shelf.new) result }
     {
-        match read_long(Side::User, head) {
+        match read_long(self.config.side.other(), head) {
             Ok(Long::Information(address)) => self.malformed(address, Received::Overlong, 0, shelf),
             Ok(Long::Unnumbered(address)) => self.unserved(address, shelf),
             Err(fault) => self.faulty(fault, 0, shelf),
@@ -178,11 +223,12 @@ impl LinkLayer {
     }
 
     /// A frame of layer 2 management.
+    /// UI alone is served, on the network's side.
     fn message<S: Shelf>(&mut self, control: Control, info: &[u8], shelf: &mut S) -> BareReport
         requires { Standing self.old (S.store shelf.old) }
-        ensures { (octets : List ℕ) → Serves (always (message_of control info.now)) octets self.old (S.store shelf.old) self.new (S.store shelf.new) result }
+        ensures { (octets : List ℕ) → Serves (always (message_at self.old.config.side control info.now)) octets self.old (S.store shelf.old) self.new (S.store shelf.new) result }
     {
-        if !is_ui(control) {
+        if !is_ui(control) || !has_management(self.config.side) {
             return BareReport::dropped(Cause::Unserved);
         }
         let told = self.teis.message(info);

@@ -3,7 +3,6 @@
 ghost use Rattle.std.specs.Prelude.{◌≡◌, ℕ, ◌-◌, ◌<◌, ◌≤◌, List, [], ◌∷◌, ◌++◌, length, IfSome};
 ghost use Rattle.std.specs.List.{range_with_len};
 ghost use Rattle.std.specs.Option.{unwrap_or};
-ghost use Rattle.lapd_frame.specs.declared.addresses.Side.TheVariants.{Network};
 ghost use Rattle.lapd_frame.specs.Grammar.{IsFrame, spelling};
 ghost use Rattle.lapd_store.specs.Store.{Store, IsUsed};
 ghost use Rattle.lapd_link.specs.Outcome.{contents_in};
@@ -18,13 +17,13 @@ use crate::outlet::Outlet;
 use lapd_frame::{Address, Control, Frame, Order, ShortList, Side, write};
 use lapd_store::{Shelf, Slot};
 
-/// Loads a frame of the network, whose information is apart from it.
-fn load<O: Outlet>(out: &mut O, address: Address, control: Control, info: &[u8])
+/// Loads a frame of a side, whose information is apart from it.
+fn load<O: Outlet>(out: &mut O, side: Side, address: Address, control: Control, info: &[u8])
     requires free { IsFree (O.loading out.old) }
     requires frame { IsFrame (record { address = address; control = control; info = [] }) }
     requires info { length info.now ≤ room_in (O.loading out.old) }
     ensures room { room_in (O.loading out.new) ≡ room_in (O.loading out.old) }
-    ensures loaded { Loads (spelling Network (record { address = address; control = control; info = info.now })) (O.loading out.old) (O.loading out.new) }
+    ensures loaded { Loads (spelling side (record { address = address; control = control; info = info.now })) (O.loading out.old) (O.loading out.new) }
 {
     let mut head = [0; 4];
     let frame = Frame {
@@ -32,7 +31,7 @@ fn load<O: Outlet>(out: &mut O, address: Address, control: Control, info: &[u8])
         control,
         info: &[],
     };
-    let len = write(Side::Network, &frame, &mut head);
+    let len = write(side, &frame, &mut head);
     out.load(&head[..len], info);
 }
 
@@ -124,6 +123,7 @@ impl LinkLayer {
         let address = self.links.address(number, offer.frame.command);
         load(
             out,
+            self.config.side,
             address,
             offer.frame.control,
             contents(shelf, offer.contents),
@@ -136,9 +136,9 @@ impl LinkLayer {
     fn take_message<O: Outlet>(&mut self, out: &mut O) -> Option<ShortList<Order>>
         requires free { IsFree (O.loading out.old) }
         requires room { 4 ≤ room_in (O.loading out.old) }
-        ensures { (store : Store) → Takes (λ c m. message_taken m) self.old store (O.loading out.old) self.new store (O.loading out.new) (orders_taken result) }
+        ensures { (store : Store) → Takes (λ c m. message_taken c m) self.old store (O.loading out.old) self.new store (O.loading out.new) (orders_taken result) }
     {
-        let octets = self.teis.offer()?;
+        let octets = self.teis.offer(self.config.side)?;
         out.load(&octets[..4], &octets[4..]);
         Some(ShortList::none())
     }
@@ -152,7 +152,7 @@ impl LinkLayer {
         requires stands { Standing self.old (S.store shelf.old) }
         requires free { IsFree (O.loading out.old) }
         requires room { self.old.config.n201 ≤ room_in (O.loading out.old) }
-        ensures { Takes (λ c m. unit_taken m) self.old (S.store shelf.old) (O.loading out.old) self.new (S.store shelf.new) (O.loading out.new) (orders_taken result) }
+        ensures { Takes (λ c m. unit_taken c m) self.old (S.store shelf.old) (O.loading out.old) self.new (S.store shelf.new) (O.loading out.new) (orders_taken result) }
     {
         let unit = self.units.oldest()?;
         let address = Address {
@@ -162,6 +162,7 @@ impl LinkLayer {
         };
         load(
             out,
+            self.config.side,
             address,
             Control::Ui { pf: false },
             shelf.get(&unit.slot),

@@ -15,13 +15,14 @@ ghost use Rattle.model_line.specs.Refusal.{refusal};
 ghost use Rattle.model_line.specs.Request as asked;
 ghost use Rattle.model_line.specs.Request.{request_of};
 ghost use Rattle.model_line.specs.Requested.{aim_of_request, at_requested};
-ghost use Rattle.lapd_line.specs.Requests.{event_of, link_refusal, management_refusal};
+ghost use Rattle.model_line.specs.Sides.{last_unit_tei};
+ghost use Rattle.lapd_line.specs.Requests.{event_of, link_refusal, management_refusal, may_ask};
 
-use crate::addressing::GROUP;
+use crate::addressing::{GROUP, has_management};
 use crate::link_layer::{LinkLayer, link_number};
 use crate::reports::BareReport;
 use crate::units::QueuedUnit;
-use lapd_frame::{Refusal, Service};
+use lapd_frame::{Refusal, Service, Side};
 use lapd_link::LinkRequest;
 use lapd_store::Shelf;
 use lapd_tei::{TeiOutcome, Teis};
@@ -38,7 +39,27 @@ enum TeiRequest {
     Check,
 }
 
+/// The greatest TEI to which a side sends unit data: the network's to the group, the user's to no more than a terminal's.
+fn last_unit_tei(side: Side) -> u8
+    ensures { result ≡ last_unit_tei side }
+{
+    match side {
+        Side::Network => GROUP,
+        Side::User => LAST_TEI,
+    }
+}
+
 impl TeiRequest {
+    /// Whether a side may be asked for it: TEI management is the network's.
+    fn is_for(self, side: Side) -> bool
+        ensures { result ≡ may_ask side self }
+    {
+        match self {
+            TeiRequest::Assign => true,
+            TeiRequest::Remove | TeiRequest::Check => has_management(side),
+        }
+    }
+
     /// Asks it of TEI management.
     fn put(self, tei: u8, table: &mut Teis) -> Result<TeiOutcome, Refusal>
         requires { tei ≤ 126 }
@@ -142,13 +163,16 @@ impl LinkLayer {
     ) -> Result<BareReport, Refusal>
         requires { Standing self.old (S.store shelf.old) }
         ensures refused { IfErr result (λ why. (others : List Owned) (m : Line) → Stands self.old (S.store shelf.old) others m
-            → management_refusal tei (event_of asked tei) m ≡ Some why) }
+            → management_refusal self.old.config.side asked tei m ≡ Some why) }
         ensures unchanged { OnErr result (self.new ≡ self.old) }
         ensures kept { OnErr result (shelf.new ≡ shelf.old) }
         ensures granted { OnOk result ((others : List Owned) (m : Line) → Stands self.old (S.store shelf.old) others m
-            → management_refusal tei (event_of asked tei) m ≡ None) }
+            → management_refusal self.old.config.side asked tei m ≡ None) }
         ensures served { IfOk result (Serves (always (at_management (event_of asked tei))) [] self.old (S.store shelf.old) self.new (S.store shelf.new)) }
     {
+        if !asked.is_for(self.config.side) {
+            return Err(Refusal::WrongSide);
+        }
         if tei > LAST_TEI {
             return Err(Refusal::BadTei);
         }
@@ -193,7 +217,7 @@ impl LinkLayer {
         ensures { (store : Store) (others : List Owned) (m : Line) (service : Service) (contents : List ℕ) → Stands self.now store others m → length contents ≡ octets
             → result ≡ refusal self.now.config pool_is_full (asked.Unit service tei contents) m }
     {
-        if tei > GROUP {
+        if tei > last_unit_tei(self.config.side) {
             return Some(Refusal::BadTei);
         }
         if !self.has_receiver(tei) {

@@ -1,7 +1,7 @@
 -- What a call answers, as a number.
 use Rattle.std.specs.Prelude.{ℕ}
 use Rattle.lapd_frame.specs.declared.refusals.Refusal.{Refusal}
-use Rattle.lapd_frame.specs.declared.refusals.Refusal.TheVariants.{BadTei, NoLink, WrongState, TooLong, QueueFull, PoolFull, TeiTaken, TableFull, CheckRunning, ControlFull}
+use Rattle.lapd_frame.specs.declared.refusals.Refusal.TheVariants.{BadTei, NoLink, WrongState, TooLong, QueueFull, PoolFull, TeiTaken, TableFull, CheckRunning, ControlFull, WrongSide}
 use Rattle.model_line.specs.declared.config.Field.{Field}
 use Rattle.model_line.specs.declared.config.Field.TheVariants.{Lines, Terminals, K, K16, Queue, UnitQueue, Control, Slots, N201, N200}
 
@@ -74,6 +74,7 @@ refusal_status TeiTaken = 7
 refusal_status TableFull = 8
 refusal_status CheckRunning = 9
 refusal_status ControlFull = 10
+refusal_status WrongSide = 29
 
 -- Which field of a configuration is the first that is out of range.
 abbrev pub field_status : Field → ℕ

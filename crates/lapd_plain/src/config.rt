@@ -1,8 +1,10 @@
 //! The configuration of a card.
 
 ghost use Rattle.std.specs.Prelude.{◌≡◌};
-ghost use Rattle.lapd_plain.specs.Config.{config_in};
+ghost use Rattle.lapd_plain.specs.Config.{config_in, side_in, config_fault};
 
+use crate::statuses::field_status;
+use lapd_frame::Side;
 use model_line::Config;
 
 /// How large a card is, and the limits of its lines and links: [`Config`] in C.
@@ -29,6 +31,18 @@ pub struct PlainConfig {
     pub n201: u16,
     /// How often a command is repeated: 0 to 10.
     pub n200: u16,
+    /// Which side of its lines the card is: 0 the network's, 1 the user's.
+    pub side: u16,
+}
+
+/// The status of a start whose configuration names no side, and has all else in range.
+const BAD_SIDE: u32 = 43;
+
+/// The side of a number: 0 the network's, else the user's.
+fn side_in(side: u16) -> Side
+    ensures { result ≡ side_in side }
+{
+    if side == 0 { Side::Network } else { Side::User }
 }
 
 impl PlainConfig {
@@ -47,6 +61,21 @@ impl PlainConfig {
             slots: self.slots,
             n201: self.n201,
             n200: self.n200,
+            side: side_in(self.side),
         }
+    }
+
+    /// The status of a start with this configuration where a field is out of range: that of the first. None where all are
+    /// in range.
+    pub fn fault(&self) -> Option<u32>
+        ensures { result ≡ config_fault self.now }
+    {
+        if let Some(field) = self.config().fault() {
+            return Some(field_status(field));
+        }
+        if self.side > 1 {
+            return Some(BAD_SIDE);
+        }
+        None
     }
 }

@@ -46,7 +46,7 @@ pub const WRONG_CAUSE: u32 = 27;
 /// No frame of the line waits to be sent.
 pub const NO_FRAME: u32 = 28;
 
-/// The status of a request that was refused: 1 to 10.
+/// The status of a request that was refused: 1 to 10, or 29.
 pub fn refusal_status(why: Refusal) -> u32
     ensures { result ≡ refusal_status why }
 {
@@ -61,6 +61,7 @@ pub fn refusal_status(why: Refusal) -> u32
         Refusal::TableFull => 8,
         Refusal::CheckRunning => 9,
         Refusal::ControlFull => 10,
+        Refusal::WrongSide => 29,
     }
 }
 

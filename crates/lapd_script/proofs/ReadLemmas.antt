@@ -2,6 +2,7 @@
 use Rattle.std.proofs.Common.{◌≡◌, ℕ, Bool, true, false, cond, List, [], ◌∷◌, length, take, drop, get_or, Some, None, Ok, Err, Result, Option, refl, sym, ap, ◌∙◌, Bor, arith}
 use Rattle.std.specs.Prelude.{IsErr, IsErrAnd}
 use Rattle.std.proofs.lemmas.Bool.{false≢true}
+use Rattle.lapd_frame.specs.declared.addresses.Side.TheVariants.{Network}
 use Rattle.lapd_script.specs.declared.kind.FaultKind.{FaultKind}
 use Rattle.lapd_script.specs.declared.kind.FaultKind.TheVariants.{BadNumberOfWords}
 use Rattle.model_line.specs.declared.config.Config.{Config}
@@ -10,7 +11,7 @@ use Rattle.lapd_script.specs.declared.word.Word.TheVariants.{Card, Rx, In, Faile
 use Rattle.lapd_script.specs.Words.{texts}
 use Rattle.lapd_script.specs.Word.{word_named, carries_octets}
 use Rattle.lapd_script.specs.Number.{number}
-use Rattle.lapd_script.specs.Read.{read_words, read_after, read_as, card_numbers, nine_numbers, three_numbers, with_k16, ◌>>=◌}
+use Rattle.lapd_script.specs.Read.{read_words, read_after, read_as, card_numbers, nine_numbers, three_numbers, ten_numbers, for_user, is_user, ◌>>=◌}
 
 abbrev pub nowhere : Bor (List ℕ)
 nowhere = record { ref_ptr = (0, 0); now = [] }
@@ -23,7 +24,7 @@ grouped ra rb rc = do
   a ← ra
   b ← rb
   c ← rc
-  Ok (record { lines = a.0; terminals = a.1; k = a.2; queue = b.0; unit_queue = b.1; control = b.2; slots = c.0; n201 = c.1; n200 = c.2; k16 = a.2 })
+  Ok (record { lines = a.0; terminals = a.1; k = a.2; queue = b.0; unit_queue = b.1; control = b.2; slots = c.0; n201 = c.1; n200 = c.2; k16 = a.2; side = Network })
 
 -- nine words,
 pub nine_given : (words : List (Bor (List ℕ))) → length words ≡ 9
@@ -48,64 +49,73 @@ nine_grouped words ra rb rc n ea eb ec =
     ∙ ap (λ r. grouped (three_numbers (at words 0) (at words 1) (at words 2)) (three_numbers (at words 3) (at words 4) (at words 5)) r) ec
     ∙ sym (nine_given words n)
 
--- and ten
-abbrev tenth : Result Config FaultKind → Result ℕ FaultKind → Result Config FaultKind
-tenth rn rk = do
-  numbers ← rn
-  k16 ← rk
-  Ok (with_k16 k16 numbers)
+-- ten words: the last is a tenth number, or says that the card is the user's side;
+pub with_tenth : (words : List (Bor (List ℕ))) → length words ≡ 10
+    → card_numbers (texts words) ≡ cond (is_user (at words 9)) (for_user (nine_numbers (texts (take 9 words)))) (ten_numbers (texts (take 9 words)) (at words 9))
+with_tenth (a ∷ b ∷ c ∷ d ∷ e ∷ f ∷ g ∷ h ∷ i ∷ j ∷ []) n = refl
+with_tenth [] n = absurd (omega (arith, n))
+with_tenth (a ∷ []) n = absurd (omega (arith, n))
+with_tenth (a ∷ b ∷ []) n = absurd (omega (arith, n))
+with_tenth (a ∷ b ∷ c ∷ []) n = absurd (omega (arith, n))
+with_tenth (a ∷ b ∷ c ∷ d ∷ []) n = absurd (omega (arith, n))
+with_tenth (a ∷ b ∷ c ∷ d ∷ e ∷ []) n = absurd (omega (arith, n))
+with_tenth (a ∷ b ∷ c ∷ d ∷ e ∷ f ∷ []) n = absurd (omega (arith, n))
+with_tenth (a ∷ b ∷ c ∷ d ∷ e ∷ f ∷ g ∷ []) n = absurd (omega (arith, n))
+with_tenth (a ∷ b ∷ c ∷ d ∷ e ∷ f ∷ g ∷ h ∷ []) n = absurd (omega (arith, n))
+with_tenth (a ∷ b ∷ c ∷ d ∷ e ∷ f ∷ g ∷ h ∷ i ∷ []) n = absurd (omega (arith, n))
+with_tenth (a ∷ b ∷ c ∷ d ∷ e ∷ f ∷ g ∷ h ∷ i ∷ j ∷ k ∷ more) n = absurd (omega (arith, n))
 
-pub ten_given : (words : List (Bor (List ℕ))) → length words ≡ 10 → tenth (nine_numbers (texts (take 9 words))) (number 0 65535 (at words 9)) ≡ card_numbers (texts words)
-ten_given (a ∷ b ∷ c ∷ d ∷ e ∷ f ∷ g ∷ h ∷ i ∷ j ∷ []) n = refl
-ten_given (a ∷ b ∷ c ∷ d ∷ e ∷ f ∷ g ∷ h ∷ i ∷ j ∷ k ∷ more) n = absurd (omega (arith, n))
-ten_given [] n = absurd (omega (arith, n))
-ten_given (a ∷ []) n = absurd (omega (arith, n))
-ten_given (a ∷ b ∷ []) n = absurd (omega (arith, n))
-ten_given (a ∷ b ∷ c ∷ []) n = absurd (omega (arith, n))
-ten_given (a ∷ b ∷ c ∷ d ∷ []) n = absurd (omega (arith, n))
-ten_given (a ∷ b ∷ c ∷ d ∷ e ∷ []) n = absurd (omega (arith, n))
-ten_given (a ∷ b ∷ c ∷ d ∷ e ∷ f ∷ []) n = absurd (omega (arith, n))
-ten_given (a ∷ b ∷ c ∷ d ∷ e ∷ f ∷ g ∷ []) n = absurd (omega (arith, n))
-ten_given (a ∷ b ∷ c ∷ d ∷ e ∷ f ∷ g ∷ h ∷ []) n = absurd (omega (arith, n))
-ten_given (a ∷ b ∷ c ∷ d ∷ e ∷ f ∷ g ∷ h ∷ i ∷ []) n = absurd (omega (arith, n))
+-- eleven words: the last says that;
+pub with_eleventh : (words : List (Bor (List ℕ))) → length words ≡ 11
+    → card_numbers (texts words) ≡ cond (is_user (at words 10)) (for_user (ten_numbers (texts (take 9 words)) (at words 9))) (Err BadNumberOfWords)
+with_eleventh (a ∷ b ∷ c ∷ d ∷ e ∷ f ∷ g ∷ h ∷ i ∷ j ∷ k ∷ []) n = refl
+with_eleventh [] n = absurd (omega (arith, n))
+with_eleventh (a ∷ []) n = absurd (omega (arith, n))
+with_eleventh (a ∷ b ∷ []) n = absurd (omega (arith, n))
+with_eleventh (a ∷ b ∷ c ∷ []) n = absurd (omega (arith, n))
+with_eleventh (a ∷ b ∷ c ∷ d ∷ []) n = absurd (omega (arith, n))
+with_eleventh (a ∷ b ∷ c ∷ d ∷ e ∷ []) n = absurd (omega (arith, n))
+with_eleventh (a ∷ b ∷ c ∷ d ∷ e ∷ f ∷ []) n = absurd (omega (arith, n))
+with_eleventh (a ∷ b ∷ c ∷ d ∷ e ∷ f ∷ g ∷ []) n = absurd (omega (arith, n))
+with_eleventh (a ∷ b ∷ c ∷ d ∷ e ∷ f ∷ g ∷ h ∷ []) n = absurd (omega (arith, n))
+with_eleventh (a ∷ b ∷ c ∷ d ∷ e ∷ f ∷ g ∷ h ∷ i ∷ []) n = absurd (omega (arith, n))
+with_eleventh (a ∷ b ∷ c ∷ d ∷ e ∷ f ∷ g ∷ h ∷ i ∷ j ∷ []) n = absurd (omega (arith, n))
+with_eleventh (a ∷ b ∷ c ∷ d ∷ e ∷ f ∷ g ∷ h ∷ i ∷ j ∷ k ∷ l ∷ more) n = absurd (omega (arith, n))
 
-pub ten_grouped : (words : List (Bor (List ℕ))) (rn : Result Config FaultKind) (rk : Result ℕ FaultKind) → length words ≡ 10
-    → rn ≡ nine_numbers (texts (take 9 words)) → rk ≡ number 0 65535 (at words 9) → tenth rn rk ≡ card_numbers (texts words)
-ten_grouped words rn rk n en ek =
-    ap (λ r. tenth r rk) en ∙ ap (λ r. tenth (nine_numbers (texts (take 9 words))) r) ek ∙ ten_given words n
-
-pub not_ten : (words : List (Bor (List ℕ))) → (length words ≡ 10 → ⊥) → nine_numbers (texts words) ≡ card_numbers (texts words)
-not_ten [] n = refl
-not_ten (a ∷ []) n = refl
-not_ten (a ∷ b ∷ []) n = refl
-not_ten (a ∷ b ∷ c ∷ []) n = refl
-not_ten (a ∷ b ∷ c ∷ d ∷ []) n = refl
-not_ten (a ∷ b ∷ c ∷ d ∷ e ∷ []) n = refl
-not_ten (a ∷ b ∷ c ∷ d ∷ e ∷ f ∷ []) n = refl
-not_ten (a ∷ b ∷ c ∷ d ∷ e ∷ f ∷ g ∷ []) n = refl
-not_ten (a ∷ b ∷ c ∷ d ∷ e ∷ f ∷ g ∷ h ∷ []) n = refl
-not_ten (a ∷ b ∷ c ∷ d ∷ e ∷ f ∷ g ∷ h ∷ i ∷ []) n = refl
-not_ten (a ∷ b ∷ c ∷ d ∷ e ∷ f ∷ g ∷ h ∷ i ∷ j ∷ []) n = absurd (n refl)
-not_ten (a ∷ b ∷ c ∷ d ∷ e ∷ f ∷ g ∷ h ∷ i ∷ j ∷ k ∷ more) n = refl
+-- and else they are nine numbers, or too few, or too many.
+pub without : (words : List (Bor (List ℕ))) → (length words ≡ 10 → ⊥) → (length words ≡ 11 → ⊥) → nine_numbers (texts words) ≡ card_numbers (texts words)
+without [] n m = refl
+without (a ∷ []) n m = refl
+without (a ∷ b ∷ []) n m = refl
+without (a ∷ b ∷ c ∷ []) n m = refl
+without (a ∷ b ∷ c ∷ d ∷ []) n m = refl
+without (a ∷ b ∷ c ∷ d ∷ e ∷ []) n m = refl
+without (a ∷ b ∷ c ∷ d ∷ e ∷ f ∷ []) n m = refl
+without (a ∷ b ∷ c ∷ d ∷ e ∷ f ∷ g ∷ []) n m = refl
+without (a ∷ b ∷ c ∷ d ∷ e ∷ f ∷ g ∷ h ∷ []) n m = refl
+without (a ∷ b ∷ c ∷ d ∷ e ∷ f ∷ g ∷ h ∷ i ∷ []) n m = refl
+without (a ∷ b ∷ c ∷ d ∷ e ∷ f ∷ g ∷ h ∷ i ∷ j ∷ []) n m = absurd (n refl)
+without (a ∷ b ∷ c ∷ d ∷ e ∷ f ∷ g ∷ h ∷ i ∷ j ∷ k ∷ []) n m = absurd (m refl)
+without (a ∷ b ∷ c ∷ d ∷ e ∷ f ∷ g ∷ h ∷ i ∷ j ∷ k ∷ l ∷ more) n m = refl
 
 either : {A : Type 0} (t : Bool) (x : A) → cond t x x ≡ x
 either true x = refl
 either false x = refl
 
--- eleven words are too many for each first word, and so are more
-too_many : (word : Word) (a b c d e f g h i j k : List ℕ) (more : List (List ℕ)) → read_as word (a ∷ b ∷ c ∷ d ∷ e ∷ f ∷ g ∷ h ∷ i ∷ j ∷ k ∷ more) ≡ Err BadNumberOfWords
-too_many (Card kind) a b c d e f g h i j k more = refl
-too_many Rx a b c d e f g h i j k more = refl
-too_many In a b c d e f g h i j k more = refl
-too_many Failed a b c d e f g h i j k more = refl
-too_many Next a b c d e f g h i j k more = refl
-too_many Pull a b c d e f g h i j k more = refl
-too_many Wait a b c d e f g h i j k more = refl
-too_many Timers a b c d e f g h i j k more = refl
-too_many Stored a b c d e f g h i j k more = refl
-too_many (Ask what) a b c d e f g h i j k more = either (carries_octets what) (Err BadNumberOfWords)
+-- twelve words are too many for each first word, and so are more
+too_many : (word : Word) (a b c d e f g h i j k l : List ℕ) (more : List (List ℕ)) → read_as word (a ∷ b ∷ c ∷ d ∷ e ∷ f ∷ g ∷ h ∷ i ∷ j ∷ k ∷ l ∷ more) ≡ Err BadNumberOfWords
+too_many (Card kind) a b c d e f g h i j k l more = refl
+too_many Rx a b c d e f g h i j k l more = refl
+too_many In a b c d e f g h i j k l more = refl
+too_many Failed a b c d e f g h i j k l more = refl
+too_many Next a b c d e f g h i j k l more = refl
+too_many Pull a b c d e f g h i j k l more = refl
+too_many Wait a b c d e f g h i j k l more = refl
+too_many Timers a b c d e f g h i j k l more = refl
+too_many Stored a b c d e f g h i j k l more = refl
+too_many (Ask what) a b c d e f g h i j k l more = either (carries_octets what) (Err BadNumberOfWords)
 
-pub taken_words : (word : Word) (words : List (List ℕ)) → read_as word (take 11 words) ≡ read_as word words
+pub taken_words : (word : Word) (words : List (List ℕ)) → read_as word (take 12 words) ≡ read_as word words
 taken_words word [] = refl
 taken_words word (a ∷ []) = refl
 taken_words word (a ∷ b ∷ []) = refl
@@ -117,23 +127,24 @@ taken_words word (a ∷ b ∷ c ∷ d ∷ e ∷ f ∷ g ∷ []) = refl
 taken_words word (a ∷ b ∷ c ∷ d ∷ e ∷ f ∷ g ∷ h ∷ []) = refl
 taken_words word (a ∷ b ∷ c ∷ d ∷ e ∷ f ∷ g ∷ h ∷ i ∷ []) = refl
 taken_words word (a ∷ b ∷ c ∷ d ∷ e ∷ f ∷ g ∷ h ∷ i ∷ j ∷ []) = refl
-taken_words word (a ∷ b ∷ c ∷ d ∷ e ∷ f ∷ g ∷ h ∷ i ∷ j ∷ k ∷ more) = too_many word a b c d e f g h i j k [] ∙ sym (too_many word a b c d e f g h i j k more)
+taken_words word (a ∷ b ∷ c ∷ d ∷ e ∷ f ∷ g ∷ h ∷ i ∷ j ∷ k ∷ []) = refl
+taken_words word (a ∷ b ∷ c ∷ d ∷ e ∷ f ∷ g ∷ h ∷ i ∷ j ∷ k ∷ l ∷ more) = too_many word a b c d e f g h i j k l [] ∙ sym (too_many word a b c d e f g h i j k l more)
 
 abbrev first_word : List (List ℕ) → List ℕ
 first_word [] = []
 first_word (name ∷ more) = name
 
--- where the first twelve words are these, they say what all the words say
-pub read_taken : (all : List (List ℕ)) (name : List ℕ) (words : List (List ℕ)) (word : Option Word) → name ∷ words ≡ take 12 all → word ≡ word_named name → read_after word words ≡ read_words all
+-- where the first thirteen words are these, they say what all the words say
+pub read_taken : (all : List (List ℕ)) (name : List ℕ) (words : List (List ℕ)) (word : Option Word) → name ∷ words ≡ take 13 all → word ≡ word_named name → read_after word words ≡ read_words all
 read_taken [] name words word e w = cc
 read_taken (first ∷ more) name words word e w =
     let same : name ≡ first = ap first_word e in
-    let rest : words ≡ take 11 more = ap (λ list. drop 1 list) e in
+    let rest : words ≡ take 12 more = ap (λ list. drop 1 list) e in
     ap (λ list. read_after word list) rest
-    ∙ ap (λ one. read_after one (take 11 more)) (w ∙ ap word_named same)
+    ∙ ap (λ one. read_after one (take 12 more)) (w ∙ ap word_named same)
     ∙ by_word (word_named first) more
   where
-    by_word : (one : Option Word) (list : List (List ℕ)) → read_after one (take 11 list) ≡ read_after one list
+    by_word : (one : Option Word) (list : List (List ℕ)) → read_after one (take 12 list) ≡ read_after one list
     by_word None list = refl
     by_word (Some it) list = taken_words it list
 

@@ -1,5 +1,6 @@
 -- How a line of a script is read: what each first word takes, and what can be wrong with the words by themselves.
-use Rattle.std.specs.Prelude.{ℕ, ◌==◌, if◌then◌else◌, List, [], ◌∷◌, take, drop, Option, Some, None, Result, Ok, Err}
+use Rattle.std.specs.Prelude.{ℕ, ◌==◌, Bool, if◌then◌else◌, List, [], ◌∷◌, take, drop, codes, bytes_eq, Option, Some, None, Result, Ok, Err}
+use Rattle.lapd_frame.specs.declared.addresses.Side.TheVariants.{User, Network}
 use Rattle.lapd_script.specs.declared.kind.FaultKind.{FaultKind}
 use Rattle.lapd_script.specs.declared.kind.FaultKind.TheVariants.{UnknownWord, BadNumberOfWords}
 use Rattle.model_line.specs.declared.config.Config.{Config}
@@ -38,23 +39,39 @@ nine_numbers (lines ∷ terminals ∷ k ∷ queue ∷ unit_queue ∷ control ∷
   a ← three_numbers lines terminals k
   b ← three_numbers queue unit_queue control
   c ← three_numbers slots n201 n200
-  Ok (record { lines = a.0; terminals = a.1; k = a.2; queue = b.0; unit_queue = b.1; control = b.2; slots = c.0; n201 = c.1; n200 = c.2; k16 = a.2 })
+  Ok (record { lines = a.0; terminals = a.1; k = a.2; queue = b.0; unit_queue = b.1; control = b.2; slots = c.0; n201 = c.1; n200 = c.2; k16 = a.2; side = Network })
 nine_numbers _ = Err BadNumberOfWords
 
--- nine numbers, or ten: the tenth is the window of packet links
+-- nine numbers, or ten: the tenth is the window of packet links; and the word `user` behind them, if the card is the user's
+-- side of its lines
 abbrev pub with_k16 : ℕ → Config → Config
 with_k16 k16 numbers = record numbers { k16 = k16 }
 
-abbrev pub ten_numbers : List (List ℕ) → List (List ℕ) → Result Config FaultKind
-ten_numbers nine [] = nine_numbers nine
-ten_numbers nine (k16 ∷ []) = do
+abbrev pub of_user : Config → Config
+of_user numbers = record numbers { side = User }
+
+abbrev pub ten_numbers : List (List ℕ) → List ℕ → Result Config FaultKind
+ten_numbers nine k16 = do
   numbers ← nine_numbers nine
   k16 ← number 0 65535 k16
   Ok (with_k16 k16 numbers)
-ten_numbers nine (k16 ∷ more ∷ words) = Err BadNumberOfWords
+
+abbrev pub for_user : Result Config FaultKind → Result Config FaultKind
+for_user read = do
+  numbers ← read
+  Ok (of_user numbers)
+
+abbrev pub is_user : List ℕ → Bool
+is_user word = bytes_eq word (codes "user")
+
+abbrev pub more_numbers : List (List ℕ) → List (List ℕ) → Result Config FaultKind
+more_numbers nine [] = nine_numbers nine
+more_numbers nine (last ∷ []) = if is_user last then for_user (nine_numbers nine) else ten_numbers nine last
+more_numbers nine (k16 ∷ last ∷ []) = if is_user last then for_user (ten_numbers nine k16) else Err BadNumberOfWords
+more_numbers nine (k16 ∷ last ∷ third ∷ words) = Err BadNumberOfWords
 
 abbrev pub card_numbers : List (List ℕ) → Result Config FaultKind
-card_numbers words = ten_numbers (take 9 words) (drop 9 words)
+card_numbers words = more_numbers (take 9 words) (drop 9 words)
 
 -- T200, T203 and T201 in milliseconds: each a millisecond to an hour
 abbrev pub lengths : List (List ℕ) → Result (ℕ × ℕ × ℕ) FaultKind

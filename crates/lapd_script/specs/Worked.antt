@@ -1,6 +1,7 @@
 -- The definitions on worked lines: each fact holds by computing.
 use Rattle.std.specs.Prelude.{◌≡◌, true, false, [], ◌∷◌, codes, Some, None, Ok, Err, refl}
 use Rattle.hex.specs.Hex.{decode_pairs}
+use Rattle.lapd_frame.specs.declared.addresses.Side.TheVariants.{User, Network}
 use Rattle.lapd_frame.specs.declared.services.Service.TheVariants.{Call, Packet}
 use Rattle.lapd_script.specs.declared.kind.FaultKind.TheVariants.{UnknownWord, BadNumberOfWords, BadNumber, BadOctets, BadCause}
 use Rattle.lapd_script.specs.declared.command.Asked as asked
@@ -17,11 +18,23 @@ empty = refl
 comment : read (codes "# anything") ≡ Ok skip
 comment = refl
 
-nine : read (codes "card 1 8 7 8 4 4 64 260 3") ≡ Ok (card Octets (record { lines = 1; terminals = 8; k = 7; queue = 8; unit_queue = 4; control = 4; slots = 64; n201 = 260; n200 = 3; k16 = 7 }))
+nine : read (codes "card 1 8 7 8 4 4 64 260 3") ≡ Ok (card Octets (record { lines = 1; terminals = 8; k = 7; queue = 8; unit_queue = 4; control = 4; slots = 64; n201 = 260; n200 = 3; k16 = 7; side = Network }))
 nine = refl
 
-ten : read (codes "card 1 8 7 8 4 4 64 260 3 015") ≡ Ok (card Octets (record { lines = 1; terminals = 8; k = 7; queue = 8; unit_queue = 4; control = 4; slots = 64; n201 = 260; n200 = 3; k16 = 15 }))
+ten : read (codes "card 1 8 7 8 4 4 64 260 3 015") ≡ Ok (card Octets (record { lines = 1; terminals = 8; k = 7; queue = 8; unit_queue = 4; control = 4; slots = 64; n201 = 260; n200 = 3; k16 = 15; side = Network }))
 ten = refl
+
+of_user : read (codes "card 1 8 7 8 4 4 64 260 3 user") ≡ Ok (card Octets (record { lines = 1; terminals = 8; k = 7; queue = 8; unit_queue = 4; control = 4; slots = 64; n201 = 260; n200 = 3; k16 = 7; side = User }))
+of_user = refl
+
+ten_of_user : read (codes "card 1 8 7 8 4 4 64 260 3 15 user") ≡ Ok (card Octets (record { lines = 1; terminals = 8; k = 7; queue = 8; unit_queue = 4; control = 4; slots = 64; n201 = 260; n200 = 3; k16 = 15; side = User }))
+ten_of_user = refl
+
+user_too_soon : read (codes "card 1 8 7 8 4 4 64 260 user") ≡ Err BadNumber
+user_too_soon = refl
+
+no_side : read (codes "card 1 8 7 8 4 4 64 260 3 15 network") ≡ Err BadNumberOfWords
+no_side = refl
 
 octets_from_line : read (codes "rx 0 7e0081EF") ≡ Ok (rx 0 (126 ∷ 0 ∷ 129 ∷ 239 ∷ []))
 unfolding decode_pairs
@@ -39,7 +52,7 @@ a_frame : read (codes "in 63 00817F") ≡ Ok (into 63 (0 ∷ 129 ∷ 127 ∷ [])
 unfolding decode_pairs
 a_frame = refl
 
-for_frames : read (codes "frames 1 8 7 8 4 4 64 260 3") ≡ Ok (card Frames (record { lines = 1; terminals = 8; k = 7; queue = 8; unit_queue = 4; control = 4; slots = 64; n201 = 260; n200 = 3; k16 = 7 }))
+for_frames : read (codes "frames 1 8 7 8 4 4 64 260 3") ≡ Ok (card Frames (record { lines = 1; terminals = 8; k = 7; queue = 8; unit_queue = 4; control = 4; slots = 64; n201 = 260; n200 = 3; k16 = 7; side = Network }))
 for_frames = refl
 
 no_frame : read (codes "failed 0 ragged") ≡ Ok (failed 0 Ragged)

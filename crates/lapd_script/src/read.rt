@@ -3,7 +3,7 @@
 ghost use Rattle.std.specs.Prelude.{◌≡◌, ◌*◌, ◌/◌, ◌≤◌, ℕ, List, take, drop, length, All, IfOk};
 ghost use Rattle.lapd_script.specs.Words.{texts};
 ghost use Rattle.lapd_script.specs.Meaning.{meant_by, IsCounted};
-ghost use Rattle.lapd_script.specs.Read.{read, read_words, read_as, lengths, card_numbers, nine_numbers, three_numbers};
+ghost use Rattle.lapd_script.specs.Read.{read, read_words, read_as, lengths, card_numbers, for_user, is_user, nine_numbers, ten_numbers, three_numbers};
 ghost use Rattle.lapd_script.specs.declared.word.Word.TheVariants.{Ask};
 
 use crate::cause_word::cause;
@@ -13,6 +13,7 @@ use crate::kind::FaultKind;
 use crate::number::{number, octet, short};
 use crate::word::Word;
 use crate::words::{none, one, three, two, words_of};
+use lapd_frame::Side;
 use model_line::Config;
 
 /// What a line of a script says, without its line feed.
@@ -38,10 +39,10 @@ pub fn read_line(line: &[u8], room: &mut [u8]) -> Result<Command, FaultKind>
     read_words(words.as_slice(), room)
 }
 
-/// What the words of a line say, of which those past the twelfth may be left out.
+/// What the words of a line say, of which those past the thirteenth may be left out.
 fn read_words(words: &[&[u8]], room: &mut [u8]) -> Result<Command, FaultKind>
     requires room { All (λ word. length word.now ≤ 2 * length room.old) words.now }
-    ensures read { (all : List (List ℕ)) → texts words.now ≡ take 12 all → meant_by room.new result ≡ read_words all }
+    ensures read { (all : List (List ℕ)) → texts words.now ≡ take 13 all → meant_by room.new result ≡ read_words all }
     ensures counted { IfOk result (IsCounted (length room.new)) }
     ensures rest { (n : ℕ) → All (λ word. length word.now ≤ n) words.now → drop (n / 2) room.new ≡ drop (n / 2) room.old }
 {
@@ -148,15 +149,44 @@ fn lengths(words: &[&[u8]]) -> Result<(u32, u32, u32), FaultKind>
     Ok((t200, t203, t201))
 }
 
-/// The nine or ten numbers of a card line.
+/// The nine or ten numbers of a card line, and `user` behind them if the card is the user's side.
 fn card_numbers(words: &[&[u8]]) -> Result<Config, FaultKind>
     ensures read { result ≡ card_numbers (texts words.now) }
 {
-    if words.len() != 10 {
-        return nine_numbers(words);
+    match words.len() {
+        10 if is_user(words[9]) => for_user(nine_numbers(&words[..9])),
+        10 => ten_numbers(&words[..9], words[9]),
+        11 if is_user(words[10]) => for_user(ten_numbers(&words[..9], words[9])),
+        11 => Err(FaultKind::BadNumberOfWords),
+        _ => nine_numbers(words),
     }
-    let mut numbers = nine_numbers(&words[..9])?;
-    numbers.k16 = short(words[9])?;
+}
+
+fn is_user(word: &[u8]) -> bool
+    ensures { result ≡ is_user word.now }
+{
+    word == b"user".as_slice()
+}
+
+/// The same of a card that is the user's side.
+fn for_user(numbers: Result<Config, FaultKind>) -> Result<Config, FaultKind>
+    ensures { result ≡ for_user numbers }
+{
+    match numbers {
+        Ok(numbers) => Ok(Config {
+            side: Side::User,
+            ..numbers
+        }),
+        Err(kind) => Err(kind),
+    }
+}
+
+/// Nine numbers, and the window of packet links.
+fn ten_numbers(nine: &[&[u8]], k16: &[u8]) -> Result<Config, FaultKind>
+    ensures { result ≡ ten_numbers (texts nine.now) k16.now }
+{
+    let mut numbers = nine_numbers(nine)?;
+    numbers.k16 = short(k16)?;
     Ok(numbers)
 }
 
@@ -192,6 +222,7 @@ fn nine_numbers(words: &[&[u8]]) -> Result<Config, FaultKind>
         n201: third.1,
         n200: third.2,
         k16: first.2,
+        side: Side::Network,
     })
 }
 

@@ -1,5 +1,6 @@
 -- The events of TEI management, which requests are refused, and what each event leaves and tells.
 use Rattle.std.specs.Prelude.{ℕ, Bool, not, List, drop, slice_get, Option, Some, None, is_some, option_map, if◌then◌else◌}
+use Rattle.lapd_frame.specs.declared.addresses.Side.{Side}
 use Rattle.lapd_frame.specs.declared.refusals.Refusal.{Refusal}
 use Rattle.lapd_frame.specs.declared.refusals.Refusal.TheVariants.{NoLink, TeiTaken, TableFull, CheckRunning, ControlFull}
 use Rattle.lapd_tei.specs.Messages.{heard_in, frame_of}
@@ -52,8 +53,8 @@ abbrev pub told : Event → Management → TeiTold
 told e m = (course e m).told
 
 -- A pull takes the message that has waited longest.
-abbrev pub offered : Management → Option (List ℕ)
-offered m = option_map frame_of (slice_get m.waiting 0)
+abbrev pub offered : Side → Management → Option (List ℕ)
+offered side m = option_map (frame_of side) (slice_get m.waiting 0)
 
 abbrev pub after_offer : Management → Management
 after_offer m = record m { waiting = drop 1 m.waiting }

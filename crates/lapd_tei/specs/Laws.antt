@@ -1,5 +1,6 @@
 -- What holds of the table of TEI management, beside what its rows say.
 use Rattle.std.specs.Prelude.{◌≡◌, ℕ, ◌+◌, ◌≤◌, ◌<◌, Bool, true, false, is_some, List, [], ◌∷◌, ◌++◌, length, set, get_or, Option, Some, None, IsSome}
+use Rattle.lapd_frame.specs.declared.addresses.Side.{Side}
 use Rattle.lapd_frame.specs.declared.timers.Order.{Order}
 use Rattle.lapd_frame.specs.declared.timers.Order.TheVariants.{Start, Stop}
 use Rattle.lapd_frame.specs.declared.timers.Timer.TheVariants.{T201}
@@ -113,7 +114,7 @@ taken None = 0
 taken (Some octets) = 1
 
 abbrev pub OneFewerWaits : Type 0
-OneFewerWaits = (m : Management) → may_send (after_offer m) + taken (offered m) ≡ may_send m
+OneFewerWaits = (side : Side) (m : Management) → may_send (after_offer m) + taken (offered side m) ≡ may_send m
 
 -- A message that is not served changes nothing, and nothing else is told of it.
 abbrev pub UnservedChangesNothing : Type 0

@@ -2,7 +2,7 @@
 -- octets are.
 use Rattle.std.specs.Prelude.{ℕ, ◌+◌, ◌*◌, ◌/◌, ◌%◌, ◌==◌, ◌&&◌, true, false, List, [], ◌∷◌, Option, Some, None, if◌then◌else◌}
 use Rattle.lapd_frame.specs.Grammar.{spelling}
-use Rattle.lapd_frame.specs.declared.addresses.Side.TheVariants.{Network}
+use Rattle.lapd_frame.specs.declared.addresses.Side.{Side}
 use Rattle.lapd_frame.specs.declared.controls.Control.TheVariants.{Ui}
 pub use Rattle.lapd_tei.specs.declared.messages.Message.{Message}
 pub use Rattle.lapd_tei.specs.declared.messages.Message.TheVariants.{IdentityAssigned, IdentityDenied, IdentityCheckRequest, IdentityRemove}
@@ -29,10 +29,11 @@ action_of (IdentityDenied ri) = 127
 action_of (IdentityCheckRequest tei) = tei
 action_of (IdentityRemove tei) = tei
 
--- Each goes to the group in a UI command of SAPI 63 with P 0 (clause 5.3.1).
-abbrev pub frame_of : Message → List ℕ
-frame_of message =
-    spelling Network (record { address = record { sapi = 63; command = true; tei = 127 }; control = Ui false; info = information_of message })
+-- Each goes to the group in a UI command of SAPI 63 with P 0 (clause 5.3.1), spelled as that of the side which sends it
+-- (clause 3.3.2).
+abbrev pub frame_of : Side → Message → List ℕ
+frame_of side message =
+    spelling side (record { address = record { sapi = 63; command = true; tei = 127 }; control = Ui false; info = information_of message })
 
 -- The terminal's messages, by the types of table 8: type, Ri and Ai. A request asks for any TEI, Ai 127; others are not
 -- served (profile).

@@ -1,5 +1,6 @@
 -- Worked values: each holds by computing.
 use Rattle.std.specs.Prelude.{◌≡◌, ℕ, Bool, true, List, [], ◌∷◌, Option, Some, None, map, refl}
+use Rattle.lapd_frame.specs.declared.addresses.Side.TheVariants.{Network}
 use Rattle.lapd_frame.specs.declared.notes.Note.TheVariants.{Assigned, Removed, Doubled}
 use Rattle.lapd_frame.specs.declared.refusals.Refusal.TheVariants.{NoLink, TeiTaken, TableFull, CheckRunning, ControlFull}
 use Rattle.lapd_frame.specs.declared.timers.Order.TheVariants.{Start, Stop}
@@ -44,7 +45,7 @@ taken last = Some (0xFE ∷ 0xFF ∷ 0x03 ∷ 0x0F ∷ 0x00 ∷ 0x00 ∷ 0x06 �
 
 -- what an event brings to a line: what is told of it, and what the next pull gives
 abbrev brought : Event → Management → TeiTold × Option (List ℕ)
-brought e m = (told e m, offered (after e m))
+brought e m = (told e m, offered Network (after e m))
 
 -- A request for a TEI on a line without one: TEI 64 is assigned, at place 0.
 first-request : brought (asks 0x12 0x34) (line []) ≡ (record nothing { notes = Assigned 64 ∷ []; change = Some (Gained 64 0) }, assigned 0x12 0x34 0x81)

@@ -45,10 +45,10 @@ pub enum Message {
 }
 
 impl Message {
-    // The frame of the message, without its frame check.
-    pub(crate) fn frame(self) -> [u8; 8]
+    // The frame of the message, without its frame check, as a side sends it.
+    pub(crate) fn frame(self, side: Side) -> [u8; 8]
         requires { action_of self < 128 }
-        ensures { result ≡ frame_of self }
+        ensures { result ≡ frame_of side self }
     {
         let information = self.information();
         let frame = Frame {
@@ -61,7 +61,7 @@ impl Message {
             info: &information,
         };
         let mut octets = [0; 8];
-        let _ = write(Side::Network, &frame, &mut octets);
+        let _ = write(side, &frame, &mut octets);
         octets
     }
 

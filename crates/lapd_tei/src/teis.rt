@@ -16,7 +16,7 @@ use crate::outcome::{Change, TeiOutcome};
 use crate::queue::Queue;
 use crate::remembered::Memory;
 use crate::table::Table;
-use lapd_frame::{Note, Order, Refusal, ShortList, Timer};
+use lapd_frame::{Note, Order, Refusal, ShortList, Side, Timer};
 use std::alloc::Global;
 use std::marker::Model;
 
@@ -182,13 +182,13 @@ impl Teis {
         self.table.place_of(tei)
     }
 
-    /// Takes the message that has waited longest: the octets of its frame, without the frame check.
-    pub fn offer(&mut self) -> Option<[u8; 8]>
-        ensures offered { result ≡ offered self.old }
+    /// Takes the message that has waited longest: the octets of its frame, without the frame check, as `side` sends it.
+    pub fn offer(&mut self, side: Side) -> Option<[u8; 8]>
+        ensures offered { result ≡ offered side self.old }
         ensures after { self.new ≡ after_offer self.old }
     {
         let message = self.queue.take()?;
-        Some(message.frame())
+        Some(message.frame(side))
     }
 
     /// How many octets are held: eight for each message that waits, three for each assignment that

@@ -7,7 +7,7 @@ use Rattle.lapd_frame.specs.declared.notes.Note.{Note}
 use Rattle.lapd_frame.specs.declared.notes.Note.TheVariants.{EstablishIndication, EstablishConfirm, ReleaseIndication, ReleaseConfirm, Data, Unit, Error, Assigned, Removed, Doubled, Xid}
 use Rattle.lapd_frame.specs.Services.{letter_of}
 use Rattle.lapd_frame.specs.declared.refusals.Refusal.{Refusal}
-use Rattle.lapd_frame.specs.declared.refusals.Refusal.TheVariants.{BadTei, NoLink, WrongState, TooLong, QueueFull, PoolFull, TeiTaken, TableFull, CheckRunning, ControlFull}
+use Rattle.lapd_frame.specs.declared.refusals.Refusal.TheVariants.{BadTei, NoLink, WrongState, TooLong, QueueFull, PoolFull, TeiTaken, TableFull, CheckRunning, ControlFull, WrongSide}
 use Rattle.lapd_frame.specs.declared.services.Service.{Service}
 use Rattle.lapd_frame.specs.declared.services.Service.TheVariants.{Call, Packet}
 
@@ -84,6 +84,7 @@ refusal_name TeiTaken = codes "tei-taken"
 refusal_name TableFull = codes "table-full"
 refusal_name CheckRunning = codes "check-running"
 refusal_name ControlFull = codes "control-full"
+refusal_name WrongSide = codes "wrong-side"
 
 abbrev pub refused_text : ℕ → Refusal → List ℕ
 refused_text line refusal = line_text line (codes "refused " ++ refusal_name refusal)

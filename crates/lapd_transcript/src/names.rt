@@ -35,6 +35,7 @@ pub(crate) fn refusal_name(refusal: Refusal) -> &'static [u8]
         Refusal::TableFull => b"table-full",
         Refusal::CheckRunning => b"check-running",
         Refusal::ControlFull => b"control-full",
+        Refusal::WrongSide => b"wrong-side",
     }
 }
 

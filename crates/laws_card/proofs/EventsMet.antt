@@ -50,7 +50,7 @@ sabme-heard = record {
   heard = record {
     octets = 0x00 ∷ 0x81 ∷ 0x7F ∷ [];
     ends = sabme-there (λ c l. Ends c l sabme.last_octet (0x00 ∷ 0x81 ∷ 0x7F ∷ [])) sabme.sabme_ends;
-    is_for = sabme-there (λ c l. IsFor l Call 64 0 sabme.sabme (0x00 ∷ 0x81 ∷ 0x7F ∷ [])) sabme-is-for;
+    is_for = sabme-there (λ c l. IsFor c l Call 64 0 sabme.sabme (0x00 ∷ 0x81 ∷ 0x7F ∷ [])) sabme-is-for;
     room = sabme-there (λ c l. length (link_in l Call 0).waiting + 1 ≤ c.control) sabme-room;
   };
   only = only-pulls 19;

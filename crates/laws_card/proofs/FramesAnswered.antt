@@ -72,7 +72,7 @@ module _ (m : Card) (s : card.IsSound m) (idle : AreIdle m) (number : ℕ) (octe
       ∙ ap (λ e. receiving (l.received ++ line_octets octets) (of_heard c e l).line) h.whole
 
   by-aim : line_at number then ≡ receiving (l.received ++ line_octets octets) (of_aim c (at_link service tei place (link.received (link.frame parts))) l).line
-  by-aim = line-then ∙ ap (λ a. receiving (l.received ++ line_octets octets) (of_aim c a l).line) (aim-of-frame l service tei place parts octets h.is_for)
+  by-aim = line-then ∙ ap (λ a. receiving (l.received ++ line_octets octets) (of_aim c a l).line) (aim-of-frame c l service tei place parts octets h.is_for)
 
   link-is : link_at number' (line_at number then) ≡ next
   link-is = ap (link_at number') by-aim ∙ get_or-set_same l.links number' next fresh (let n = few in let count = l-sound.count in omega (arith, n, count))

@@ -89,7 +89,7 @@ module _ (c : Config) (l : Line) where
   link-none number few e =
       let numbers = range_with_len 0 (link_count c) in
       let round_none : first_taken c l (round c l) ≡ None =
-      or-right (unit_taken l) (first_taken c l (round c l)) (or-right (message_taken l) (option_or (unit_taken l) (first_taken c l (round c l))) e) in
+      or-right (unit_taken c l) (first_taken c l (round c l)) (or-right (message_taken c l) (option_or (unit_taken c l) (first_taken c l (round c l))) e) in
       let parts = first-parts (drop l.turn numbers) (take l.turn numbers) round_none in
       let all : first_taken c l numbers ≡ None =
       subst (λ ns. first_taken c l ns ≡ None) (take-append-drop l.turn numbers) (first-both (take l.turn numbers) (drop l.turn numbers) parts.1 parts.0) in
@@ -97,7 +97,7 @@ module _ (c : Config) (l : Line) where
       let there : number < length numbers = (let long = length-range_with_len 0 (link_count c) in omega (arith, few, long)) in
       subst (λ n. link_taken c l n ≡ None) is (first-one numbers number 0 there all)
 
-  none-given : (number : ℕ) (o : Option Given) → option_map (with_given_frame l number (terms_at c number l)) o ≡ None → o ≡ None
+  none-given : (number : ℕ) (o : Option Given) → option_map (with_given_frame c l number (terms_at c number l)) o ≡ None → o ≡ None
   none-given number None e = refl
   none-given number (Some g) e = absurd (cc)
 

@@ -4,18 +4,22 @@ use Rattle.std.proofs.lemmas.Bool.{and_parts}
 use Rattle.std.proofs.lemmas.List.{get_or-set_same, get_or-set_other}
 use Rattle.std.proofs.lemmas.Option.{none-some}
 use Rattle.lapd_bits.specs.declared.heard.Cause.{Cause}
+use Rattle.lapd_bits.specs.declared.heard.Cause.TheVariants.{Unserved}
 use Rattle.lapd_frame.specs.declared.addresses.Address.{Address}
 use Rattle.lapd_frame.specs.declared.services.Service.{Service}
-use Rattle.lapd_frame.specs.Grammar.{Parts}
+use Rattle.lapd_frame.specs.Grammar.{Parts, Spells}
 use Rattle.model_link.specs.Events as link
 use Rattle.model_line.specs.declared.config.Config.{Config}
+use Rattle.model_line.specs.Octet.{heard_side}
+use Rattle.model_line.specs.Sides.{IsToGroup}
 use Rattle.model_line.specs.Event as line_event
 use Rattle.model_line.specs.Event.{Answer, refused, octet}
 use Rattle.model_line.specs.Line.{Line, fresh_line, link_in, terms}
 use Rattle.model_line.specs.Machine as lines
 use Rattle.model_line.specs.Sound as sound_line
-use Rattle.laws_line.specs.Heard.{Ends, EndsOverlong, EndsDropped, EndsNothing, IsFor, IsTo, IsMalformed, IsTooLong, IsOneEvent, IsNoEvent, IsDroppedFor, contents_in, due, IsNotedOnce, IsHeard}
+use Rattle.laws_line.specs.Heard.{Ends, EndsOverlong, EndsDropped, EndsNothing, IsFor, IsTo, IsMalformed, IsTooLong, IsOneEvent, IsNoEvent, IsDroppedFor, IsUnitOfGroup, IsToManagement, contents_in, due, IsNotedOnce, IsHeard}
 use Rattle.laws_line.proofs.Hearing.{one-event, malformed-event, overlong-event, no-event, dropped-stretch}
+use Rattle.laws_line.proofs.Grouping.{group-unit, managed-dropped}
 use Rattle.laws_line.proofs.HandedOn.{due-is, contents-heard}
 use Rattle.laws_line.proofs.ToldOnce.{told-once}
 use Rattle.model_card.specs.Event.{Event}
@@ -31,18 +35,22 @@ use Rattle.laws_card.specs.Promises.{IsDelivered}
 -- What an octet makes of its line, and answers.
 record OctetServed (c : Config) (before after : Line) (a : Answer) (value : ℕ) : Type 0 where
   event : (service : Service) (tei place : ℕ) (parts : Parts) (octets : List ℕ)
-      → Ends c before value octets → IsFor before service tei place parts octets
+      → Ends c before value octets → IsFor c before service tei place parts octets
       → IsOneEvent c before after a value service tei place (link.received (link.frame parts))
   malformed : (service : Service) (tei place : ℕ) (address : Address) (octets : List ℕ) (what : link.Received)
-      → Ends c before value octets → IsTo before service tei place address → IsMalformed address octets what
+      → Ends c before value octets → IsTo before service tei place address → IsMalformed c address octets what
       → IsOneEvent c before after a value service tei place (link.received what)
   overlong : (service : Service) (tei place : ℕ) (address : Address) (head : List ℕ) (what : link.Received)
-      → EndsOverlong c before value head → IsTo before service tei place address → IsTooLong address head what
+      → EndsOverlong c before value head → IsTo before service tei place address → IsTooLong c address head what
       → IsOneEvent c before after a value service tei place (link.received what)
   none : EndsNothing c before value → IsNoEvent before after a value
   dropped : (cause : Cause) → EndsDropped c before value cause → IsDroppedFor cause before after a value
+  group : (parts : Parts) (octets : List ℕ) (service : Service) → Ends c before value octets → Spells (heard_side c) parts octets → IsToGroup c parts service
+      → IsUnitOfGroup service parts.info before after a value
+  management : (parts : Parts) (octets : List ℕ) → Ends c before value octets → Spells (heard_side c) parts octets → IsToManagement c parts
+      → IsDroppedFor Unserved before after a value
   due_is : (service : Service) (tei place : ℕ) (parts : Parts) (octets : List ℕ)
-      → Ends c before value octets → IsFor before service tei place parts octets
+      → Ends c before value octets → IsFor c before service tei place parts octets
       → contents_in a ≡ due (terms c service tei) parts (link_in before service place)
 
 octet-served : (c : Config) (l : Line) (value : ℕ) → sound_line.IsInRange c → sound_line.IsSound c l
@@ -53,6 +61,8 @@ octet-served c l value ranged s = record {
   overlong = λ service tei place address head what ends f is. overlong-event c l value service tei place address head what ends f is;
   none = λ ends. no-event c l value ends;
   dropped = λ cause ends. dropped-stretch c l value cause ends;
+  group = λ parts octets service ends spelled to. group-unit c l value parts octets service s ends spelled to;
+  management = λ parts octets ends spelled to. managed-dropped c l value parts octets ends spelled to;
   due_is = λ service tei place parts octets ends f. due-is c l value service tei place parts octets ranged s ends f;
 }
 
@@ -107,6 +117,8 @@ module _ (card : Card) (e : Event) (s : IsSound card) (here : IsAtLine card e) w
     overlong = λ value service tei place address head what is ends f long. (served-in.by_octet value is).overlong service tei place address head what ends f long;
     none = λ value is ends. (served-in.by_octet value is).none ends;
     dropped = λ value cause is ends. (served-in.by_octet value is).dropped cause ends;
+    group = λ value parts octets service is ends spelled to. (served-in.by_octet value is).group parts octets service ends spelled to;
+    management = λ value parts octets is ends spelled to. (served-in.by_octet value is).management parts octets ends spelled to;
     due = λ value service tei place parts octets is ends f. (served-in.by_octet value is).due_is service tei place parts octets ends f;
     once = served-in.once;
     heard = served-in.heard;

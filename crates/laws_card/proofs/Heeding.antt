@@ -29,7 +29,7 @@ use Rattle.laws_card.proofs.Hearing.{no-octet}
 -- What a frame makes of its link, of an event that may be its octet.
 record Heeds (c : Config) (e : line_event.Event) (before after : Line) (a : Answer) : Type 0 where
   frames : (value : ℕ) (service : Service) (tei place : ℕ) (parts : Parts) (octets : List ℕ) → e ≡ octet value
-      → Ends c before value octets → IsFor before service tei place parts octets
+      → Ends c before value octets → IsFor c before service tei place parts octets
       → IsHeeded (terms c service tei) parts (link_in before service place) (link_in after service place) a
   malformed : (service : Service) (tei place : ℕ) (what : Received) → BringsMalformed c before e service tei what → place_in before tei ≡ Some place
       → IsFollowed (terms c service tei) what (link_in before service place) (link_in after service place) a

@@ -180,7 +180,7 @@ module _ (card : Card) (number : ℕ) (s : IsSound card) (few : number < card.co
       }
 
   pub card-polled : (service : Service) (tei place : ℕ) (parts : Parts) (octets : List ℕ) → Ends card.config (line_at number card) value octets
-      → IsFor (line_at number card) service tei place parts octets → IsPollWhileUp (terms card.config service tei) (link_in (line_at number card) service place) parts
+      → IsFor card.config (line_at number card) service tei place parts octets → IsPollWhileUp (terms card.config service tei) (link_in (line_at number card) service place) parts
       → length (link_in (line_at number card) service place).waiting + 1 ≤ card.config.control
       → IsEnough card.config (pulls_at number events) (lines.after card.config (octet value) (line_at number card)) (link_number place service)
       (length (link_in (line_at number card) service place).waiting)
@@ -190,7 +190,7 @@ module _ (card : Card) (number : ℕ) (s : IsSound card) (few : number < card.co
       record { answer = a.answer; is_response = a.is_response; says = a.says; begins = begun-among _ a.begins }
 
   pub card-unnumbered : (service : Service) (tei place : ℕ) (parts : Parts) (octets : List ℕ) (answer : Control) → Ends card.config (line_at number card) value octets
-      → IsFor (line_at number card) service tei place parts octets → asked_of (link_in (line_at number card) service place).state parts.control ≡ Some answer
+      → IsFor card.config (line_at number card) service tei place parts octets → asked_of (link_in (line_at number card) service place).state parts.control ≡ Some answer
       → length (link_in (line_at number card) service place).waiting + 1 ≤ card.config.control
       → IsEnough card.config (pulls_at number events) (lines.after card.config (octet value) (line_at number card)) (link_number place service)
       (length (link_in (line_at number card) service place).waiting)

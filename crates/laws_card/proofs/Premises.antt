@@ -62,7 +62,7 @@ pub heard-there : IsHeardThere card_before 0 last_octet Call 64 0 poll
 heard-there = record {
   octets = spelled;
   ends = there (λ c l. Ends c l last_octet spelled) poll_ends;
-  is_for = there (λ c l. IsFor l Call 64 0 poll spelled) poll-is-for;
+  is_for = there (λ c l. IsFor c l Call 64 0 poll spelled) poll-is-for;
   room = there (λ c l. length (link_in l Call 0).waiting + 1 ≤ c.control) room;
 }
 

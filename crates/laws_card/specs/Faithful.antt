@@ -52,7 +52,7 @@ IsPulledIn m =
 -- sent again; and of one that the grammar does not have, or that is too long, follows what the tables say.
 pub record IsHeededIn (m : Moment) : Type 0 where
   pub frames : (value : ℕ) (service : Service) (tei place : ℕ) (parts : Parts) (octets : List ℕ) → m.event.what ≡ octet value
-      → Ends m.card.config (line_before m) value octets → IsFor (line_before m) service tei place parts octets
+      → Ends m.card.config (line_before m) value octets → IsFor m.card.config (line_before m) service tei place parts octets
       → IsHeeded (terms m.card.config service tei) parts (link_in (line_before m) service place) (link_in (line_after m) service place) m.answer
   pub malformed : (service : Service) (tei place : ℕ) (what : Received)
       → BringsMalformed m.card.config (line_before m) m.event.what service tei what → place_in (line_before m) tei ≡ Some place

@@ -104,7 +104,7 @@ pub record WaitingIsGiven (m : Card) : Type 0 where
 pub record ComesFor (m : Card) (number : ℕ) (octets : List ℕ) (service : Service) (tei place : ℕ) (parts : Parts) : Type 0 where
   pub at_line : HappensAt m (comes number octets)
   pub whole : came m.config.n201 octets ≡ frame octets
-  pub is_for : IsFor (line_at number m) service tei place parts octets
+  pub is_for : IsFor m.config (line_at number m) service tei place parts octets
   pub room : length (link_in (line_at number m) service place).waiting + 1 ≤ m.config.control
 
 abbrev pub after_frame : Card → ℕ → List ℕ → Card

@@ -26,7 +26,7 @@ Wherever P m events = (front behind : List Event) → events ≡ front ++ behind
 pub record IsHeardThere (card : Card) (number value : ℕ) (service : Service) (tei place : ℕ) (parts : Parts) : Type 0 where
   pub octets : List ℕ
   pub ends : Ends card.config (line_at number card) value octets
-  pub is_for : IsFor (line_at number card) service tei place parts octets
+  pub is_for : IsFor card.config (line_at number card) service tei place parts octets
   pub room : length (link_in (line_at number card) service place).waiting + 1 ≤ card.config.control
 
 -- And then the line is only pulled, and often enough for a control frame that waits last of that link.

@@ -1,6 +1,7 @@
 -- Worked values: what was accepted over a run, and what waits to be sent.
 use Rattle.std.specs.Prelude.{◌≡◌, ℕ, List, [], ◌∷◌, ◌++◌, refl}
 use Rattle.lapd_bits.specs.Bits.{low_bits}
+use Rattle.lapd_frame.specs.declared.addresses.Side.TheVariants.{Network}
 use Rattle.lapd_frame.specs.declared.services.Service.TheVariants.{Call}
 use Rattle.lapd_frame.specs.Reading.{reading, header_of, control_of, unnumbered_of}
 use Rattle.laws_link.specs.History.{History}
@@ -15,7 +16,7 @@ use Rattle.model_card.specs.Run.{moments}
 use Rattle.laws_card.specs.Contents.{name_of, history, accepted_at}
 
 abbrev pub usual : Config
-usual = record { lines = 1; terminals = 8; k = 7; k16 = 7; queue = 8; unit_queue = 4; control = 4; slots = 64; n201 = 260; n200 = 3 }
+usual = record { lines = 1; terminals = 8; k = 7; k16 = 7; queue = 8; unit_queue = 4; control = 4; slots = 64; n201 = 260; n200 = 3; side = Network }
 
 abbrev pub on_0 : Request → Event
 on_0 r = at 0 (request r)

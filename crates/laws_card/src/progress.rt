@@ -34,7 +34,7 @@ pub fn pulls_serve_a_line()
         HasNothing card.config (line_at number (run card events).card) }
     ensures polled { (card : Card) (number : ℕ) (events : List Event) (value : ℕ) (service : Service) (tei place : ℕ) (parts : Parts) (octets : List ℕ) →
         IsSound card → number < card.config.lines → AreAtLines card events → ArePullsAt number events →
-        Ends card.config (line_at number card) value octets → IsFor (line_at number card) service tei place parts octets →
+        Ends card.config (line_at number card) value octets → IsFor card.config (line_at number card) service tei place parts octets →
         IsPollWhileUp (terms card.config service tei) (link_in (line_at number card) service place) parts →
         length (link_in (line_at number card) service place).waiting + 1 ≤ card.config.control →
         IsEnough card.config (pulls_at number events) (lines.after card.config (octet value) (line_at number card)) (link_number place service)
@@ -45,7 +45,7 @@ pub fn pulls_serve_a_line()
         ArePullsAt number events → HasNothing card.config (line_at number card) → IsIdleAmong card number events }
     ensures unnumbered { (card : Card) (number : ℕ) (events : List Event) (value : ℕ) (service : Service) (tei place : ℕ) (parts : Parts) (octets : List ℕ) (answer : Control) →
         IsSound card → number < card.config.lines → AreAtLines card events → ArePullsAt number events →
-        Ends card.config (line_at number card) value octets → IsFor (line_at number card) service tei place parts octets →
+        Ends card.config (line_at number card) value octets → IsFor card.config (line_at number card) service tei place parts octets →
         asked_of (link_in (line_at number card) service place).state parts.control ≡ Some answer →
         length (link_in (line_at number card) service place).waiting + 1 ≤ card.config.control →
         IsEnough card.config (pulls_at number events) (lines.after card.config (octet value) (line_at number card)) (link_number place service)

@@ -79,9 +79,9 @@ module _ (c : Config) (l : Line) (number : ℕ) where
   by-octet : (value : ℕ) → Accepts [] (aim_of_octet c value l)
   by-octet value = go (gained c.n201 l.received value)
     where
-      go : (o : Option stream.Event) → Accepts [] (option_map_or (aim_of_heard l) o (at_none nothing))
+      go : (o : Option stream.Event) → Accepts [] (option_map_or (aim_of_heard c l) o (at_none nothing))
       go None = refl
-      go (Some e) = heard_aims l (Accepts []) (λ cause. refl) (λ service tei place what at. at-link service tei place (link.received what) refl) (λ info. ends _) e
+      go (Some e) = heard_aims c l (Accepts []) (λ cause. refl) (λ service tei place what at. at-link service tei place (link.received what) refl) (λ info. ends _) (λ parts service to. refl) e
 
   by-timer : (service : Service) (tei : ℕ) (timer : LinkTimer) (o : Option ℕ) → Accepts [] (at_timer service tei timer o)
   by-timer service tei timer None = refl

@@ -26,7 +26,8 @@ use Rattle.model_line.specs.Line.{Line, place_in, has_tei}
 use Rattle.model_line.specs.Machine.{after, answer, unless_refused, unless_refused_told}
 use Rattle.model_line.specs.Octet.{management_sapi, group_tei, drop_for, to_service, addressed, message_of, aim_of_reading, aim_of_heard, aim_of_octet, with_received}
 use Rattle.model_line.specs.Pull.{Taken, taken, is_due, with_item, after_pull}
-use Rattle.model_line.specs.Refusal.{bad_tei, no_link, tei_taken, table_full, check_running, control_full, refusal}
+use Rattle.model_line.specs.Refusal.{wrong_side, bad_tei, no_link, tei_taken, table_full, check_running, control_full, refusal}
+use Rattle.model_line.specs.Sides.{at_side, managed_at}
 use Rattle.model_line.specs.Request.{Request, Establish, Release, Data, Unit, Assign, Remove, Check, SetBusy, ClearBusy}
 use Rattle.model_line.specs.Requested.{at_requested, aim_of_request}
 use Rattle.model_line.specs.Sound.{IsInRange, IsSound}
@@ -55,17 +56,18 @@ module _ (c : Config) (l : Line) (e : teis.Event) where
 
 -- A message of a terminal is an event of TEI management.
 module _ (c : Config) (l : Line) where
-  to-group : (address : Address) (what : link.Received) (m : Aim) → address.sapi ≡ 63 → address.tei ≡ 127 → addressed l address what m ≡ m
+  pub to-group : (address : Address) (what : link.Received) (m : Aim) → address.sapi ≡ 63 → address.tei ≡ 127 → addressed l address what m ≡ m
   to-group address what m sapi group =
       ap (λ n. cond (n == management_sapi) (cond (address.tei == group_tei) m (drop_for Tei)) (to_service l address.tei what (service_of n))) sapi
       ∙ ap (λ n. cond (n == group_tei) m (drop_for Tei)) group
 
   heard-aim : (e : Event) (said : Said) (h : Hears c l e said) → aim_of_octet c h.value l ≡ at_management (teis.message h.parts.info)
   heard-aim e said h =
-      ap (λ o. option_map_or (aim_of_heard l) o (at_none nothing)) (brings c l h.value h.octets h.ends)
-      ∙ ap (aim_of_reading l) h.read
-      ∙ to-group h.parts.address (link.frame h.parts) (message_of h.parts.control h.parts.info) h.sapi h.group
-      ∙ ap (λ k. message_of k h.parts.info) h.control
+      ap (λ o. option_map_or (aim_of_heard c l) o (at_none nothing)) (brings c l h.value h.octets h.ends)
+      ∙ ap (aim_of_reading c l) h.read
+      ∙ ap (at_side c h.parts) (to-group h.parts.address (link.frame h.parts) (message_of h.parts.control h.parts.info) h.sapi h.group)
+      ∙ ap (λ k. at_side c h.parts (message_of k h.parts.info)) h.control
+      ∙ ap (λ side. managed_at side (teis.message h.parts.info)) h.network
 
   served : (e : Event) (said : Said) → IsSound c l → length l.management.places < 63 → Hears c l e said
       → Serves said l.management (after c e l).management (lost_in (answer c e l))
@@ -108,12 +110,14 @@ module _ (c : Config) (l : Line) where
       let full = passed (table_full l) [] taken.1 in
       by-step (Assign tei) (teis.assign tei) none refl (by-two _ _ _ _ taken.0 full.0) (puts-on tei l.management taken.0 full.0)
   grants (Remove tei) none =
-      let bad = passed (bad_tei tei) (no_link tei l ∷ control_full l ∷ []) none in
+      let ours = passed (wrong_side c) (bad_tei tei ∷ no_link tei l ∷ control_full l ∷ []) none in
+      let bad = passed (bad_tei tei) (no_link tei l ∷ control_full l ∷ []) ours.1 in
       let unknown = passed (no_link tei l) (control_full l ∷ []) bad.1 in
       let full = passed (control_full l) [] unknown.1 in
       by-step (Remove tei) (teis.remove tei) none refl (by-two _ _ _ _ unknown.0 full.0) (takes-off tei l.management full.0 (not_not (has_tei tei l) unknown.0))
   grants (Check tei) none =
-      let bad = passed (bad_tei tei) (no_link tei l ∷ check_running l ∷ control_full l ∷ []) none in
+      let ours = passed (wrong_side c) (bad_tei tei ∷ no_link tei l ∷ check_running l ∷ control_full l ∷ []) none in
+      let bad = passed (bad_tei tei) (no_link tei l ∷ check_running l ∷ control_full l ∷ []) ours.1 in
       let unknown = passed (no_link tei l) (check_running l ∷ control_full l ∷ []) bad.1 in
       let running = passed (check_running l) (control_full l ∷ []) unknown.1 in
       let full = passed (control_full l) [] running.1 in
@@ -144,6 +148,7 @@ module _ (c : Config) (l : Line) (value : ℕ) where
 
   octet-caused : Caused (aim_of_octet c value l)
   octet-caused = octet-aims c l value Caused (inl refl) (λ cause. inl refl) (λ service tei place what. inl refl) (λ parts ui. by-message parts ui)
+      (λ parts octets ends read service to. inl refl)
 
 module _ (c : Config) (l : Line) where
   abbrev FromCause : Event → Line → Answer → Type 0

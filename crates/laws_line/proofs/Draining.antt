@@ -34,14 +34,14 @@ module _ (c : Config) (l : Line) (s : IsSound c l) (h : HasNothing c l) where
     where
       go : (o : Option ℕ) → tei_at (place_at number) l ≡ o → IsSoundAt c number (link_at number l) o → link_taken c l number ≡ None
       go None e begins =
-          ap (λ (x : Link). option_map (with_given_frame l number (terms_at c number l)) (links.given (terms_at c number l) x)) begins
-          ∙ ap (option_map (with_given_frame l number (terms_at c number l))) (fresh_gives_nothing (terms_at c number l))
+          ap (λ (x : Link). option_map (with_given_frame c l number (terms_at c number l)) (links.given (terms_at c number l) x)) begins
+          ∙ ap (option_map (with_given_frame c l number (terms_at c number l))) (fresh_gives_nothing (terms_at c number l))
       go (Some tei) e sound =
           let t : terms_at c number l ≡ terms c (service_at number) tei = ap (λ o. terms c (service_at number) (unwrap_or o 0)) e in
           let none : links.given (terms_at c number l) (link_at number l) ≡ None =
           ap (λ t. links.given t (link_at number l)) t ∙ nothing-to_send (terms c (service_at number) tei) (link_at number l)
           (sends-none (terms c (service_at number) tei) (link_at number l) sound (h.links number few tei e)) in
-          ap (option_map (with_given_frame l number (terms_at c number l))) none
+          ap (option_map (with_given_frame c l number (terms_at c number l))) none
 
   none-first : (ns : List ℕ) → All (λ n. n < link_count c) ns → first_taken c l ns ≡ None
   none-first [] few = refl
@@ -51,8 +51,8 @@ module _ (c : Config) (l : Line) (s : IsSound c l) (h : HasNothing c l) where
 
   pub nothing-taken : taken c l ≡ None
   nothing-taken =
-      ap (λ ms. option_or (option_map (with_message l) (option_map frame_of (slice_get ms 0))) (option_or (unit_taken l) (first_taken c l (round c l)))) h.messages
-      ∙ ap (λ us. option_or (option_map (with_unit l) (slice_get us 0)) (first_taken c l (round c l))) h.units
+      ap (λ ms. option_or (option_map (with_message l) (option_map (frame_of c.side) (slice_get ms 0))) (option_or (unit_taken c l) (first_taken c l (round c l)))) h.messages
+      ∙ ap (λ us. option_or (option_map (with_unit c l) (slice_get us 0)) (first_taken c l (round c l))) h.units
       ∙ none-first (round c l) (round_below c l)
 
 -- and so it stays

@@ -89,14 +89,14 @@ abbrev TakesOne : Config → Line → Taken → Type 0
 TakesOne c l t = 1 + frames_to_go c t.line ≤ frames_to_go c l
 
 module _ (c : Config) (l : Line) (s : IsSound c l) where
-  by-message : (ms : List Message) → l.management.waiting ≡ ms → IfSome (option_map (with_message l) (option_map frame_of (slice_get ms 0))) (TakesOne c l)
+  by-message : (ms : List Message) → l.management.waiting ≡ ms → IfSome (option_map (with_message l) (option_map (frame_of c.side) (slice_get ms 0))) (TakesOne c l)
   by-message [] e = tt
   by-message (m ∷ ms) e =
       let rest : length (drop 1 l.management.waiting) ≡ length ms = ap (λ (x : List Message). length (drop 1 x)) e in
       let all : length l.management.waiting ≡ suc (length ms) = ap (λ (x : List Message). length x) e in
       omega (arith, rest, all)
 
-  by-unit : (us : List UnitData) → l.units ≡ us → IfSome (option_map (with_unit l) (slice_get us 0)) (TakesOne c l)
+  by-unit : (us : List UnitData) → l.units ≡ us → IfSome (option_map (with_unit c l) (slice_get us 0)) (TakesOne c l)
   by-unit [] e = tt
   by-unit (u ∷ us) e =
       let rest : length (drop 1 l.units) ≡ length us = ap (λ (x : List UnitData). length (drop 1 x)) e in
@@ -107,7 +107,7 @@ module _ (c : Config) (l : Line) (s : IsSound c l) where
   ordered-at n None is_fresh = subst (λ (x : Link). x.a ≤ x.s) (sym is_fresh) (omega arith)
   ordered-at n (Some tei) sound = sound.ordered
 
-  by-link : (n : ℕ) → n < link_count c → (o : Option Given) → links.given (terms_at c n l) (link_at n l) ≡ o → IfSome (option_map (with_given_frame l n (terms_at c n l)) o) (TakesOne c l)
+  by-link : (n : ℕ) → n < link_count c → (o : Option Given) → links.given (terms_at c n l) (link_at n l) ≡ o → IfSome (option_map (with_given_frame c l n (terms_at c n l)) o) (TakesOne c l)
   by-link n few None e = tt
   by-link n few (Some g) e =
       let own = given-falls (terms_at c n l) (link_at n l) (ordered-at n (tei_at (place_at n) l) (s.links n few)) g e in
@@ -126,8 +126,8 @@ module _ (c : Config) (l : Line) (s : IsSound c l) where
 
   taken-falls : IfSome (taken c l) (TakesOne c l)
   taken-falls =
-      either (message_taken l) (option_or (unit_taken l) (first_taken c l (round c l))) (by-message l.management.waiting refl)
-      (either (unit_taken l) (first_taken c l (round c l)) (by-unit l.units refl) (by-round (round c l) (round_below c l)))
+      either (message_taken c l) (option_or (unit_taken c l) (first_taken c l (round c l))) (by-message l.management.waiting refl)
+      (either (unit_taken c l) (first_taken c l (round c l)) (by-unit l.units refl) (by-round (round c l) (round_below c l)))
 
   -- so it is with a pull that begins a frame, and any other leaves what is to go
   pub going-falls : one (is_some (begun c l)) + frames_to_go c (after_pull c l) ≤ frames_to_go c l

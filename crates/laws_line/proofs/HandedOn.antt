@@ -2,14 +2,13 @@
 use Rattle.std.proofs.Common.{◌≡◌, ℕ, Bool, true, false, cond, ◌==◌, List, [], ◌∷◌, ◌++◌, Option, Some, None, Result, Ok, Err, is_some, refl, sym, ap, ◌∙◌, ◌⊎◌, inl, inr}
 use Rattle.std.specs.Prelude.{All, IfSome}
 use Rattle.std.specs.List.{list_any}
-use Rattle.std.specs.Option.{option_or, option_map_or}
+use Rattle.std.specs.Option.{option_or, option_map_or, unwrap_or}
 use Rattle.std.proofs.lemmas.List.Elements.{All-head, All-tail}
 use Rattle.std.proofs.lemmas.Option.{none-some}
 use Rattle.lapd_bits.specs.Stream as stream
 use Rattle.lapd_bits.specs.declared.heard.Cause.{Cause}
 use Rattle.lapd_bits.specs.declared.heard.Cause.TheVariants.{Extension, Sapi, Tei, Unserved}
 use Rattle.lapd_frame.specs.declared.addresses.Address.{Address}
-use Rattle.lapd_frame.specs.declared.addresses.Side.TheVariants.{User}
 use Rattle.lapd_frame.specs.declared.controls.Control.{Control}
 use Rattle.lapd_frame.specs.declared.controls.Control.TheVariants as control
 use Rattle.lapd_frame.specs.declared.faults.ReadFault.{ReadFault}
@@ -20,9 +19,10 @@ use Rattle.lapd_frame.specs.declared.notes.Note.{Note}
 use Rattle.lapd_frame.specs.declared.notes.Note.TheVariants as notes
 use Rattle.lapd_frame.specs.declared.refusals.Refusal.{Refusal}
 use Rattle.lapd_frame.specs.declared.services.Service.{Service}
+use Rattle.lapd_frame.specs.declared.services.Service.TheVariants.{Call, Packet}
 use Rattle.lapd_frame.specs.declared.timers.Timer.{Timer}
 use Rattle.lapd_frame.specs.declared.timers.Timer.TheVariants.{T200, T203, T201}
-use Rattle.lapd_frame.specs.Grammar.{Parts, AreOctets}
+use Rattle.lapd_frame.specs.Grammar.{Parts, Spells, AreOctets}
 use Rattle.lapd_frame.specs.Reading.{reading, long_reading}
 use Rattle.lapd_frame.specs.Services.{service_of}
 use Rattle.lapd_frame.proofs.Spelling.{reading-found}
@@ -51,7 +51,9 @@ use Rattle.model_line.specs.Effect.{Aim, at_none, at_link, at_management, at_uni
 use Rattle.model_line.specs.Expiry.{at_timer, aim_of_expiry}
 use Rattle.model_line.specs.Line.{Line, place_in, link_in, terms}
 use Rattle.model_line.specs.Machine.{answer, unless_refused, unless_refused_told}
-use Rattle.model_line.specs.Octet.{gained, drop_for, management_sapi, group_tei, at_place, to_service, addressed, message_of, aim_of_reading, unless_at_link, aim_of_long, aim_of_heard}
+use Rattle.model_line.specs.Octet.{gained, drop_for, management_sapi, group_tei, at_place, to_service, addressed, message_of, aim_of_reading, unless_at_link, aim_of_long, heard_side, aim_of_heard}
+use Rattle.model_line.specs.Sides.{group_told, IsToGroup}
+use Rattle.model_line.proofs.Sides.{side_aims}
 use Rattle.model_line.specs.Refusal.{refusal}
 use Rattle.model_line.specs.Request.{Request, Establish, Release, Data, Unit, Assign, Remove, Check, SetBusy, ClearBusy}
 use Rattle.model_line.specs.Requested.{at_requested, aim_of_request}
@@ -64,7 +66,7 @@ use Rattle.laws_line.proofs.Hearing.{sapi-is, one-event}
 
 -- What a frame brings to layer 3 is handed on.
 pub due-is : (c : Config) (l : Line) (value : ℕ) (service : Service) (tei place : ℕ) (parts : Parts) (octets : List ℕ) → IsInRange c → IsSound c l
-    → Ends c l value octets → IsFor l service tei place parts octets
+    → Ends c l value octets → IsFor c l service tei place parts octets
     → contents_in (answer c (octet value) l) ≡ due (terms c service tei) parts (link_in l service place)
 due-is c l value service tei place parts octets ranged s ends f =
     let t = terms c service tei in
@@ -119,6 +121,10 @@ handed-on t l s e contents h = go (links.told t e l).delivered refl h
     go None is e' =
         let due : unit_due t e ≡ Some contents = sym (event-unit t l s e) ∙ e' in
         record { is = inr (within-is t.n201 (unit_heard e) contents due, own.1 ∙ (event-tells t e l).3 ∙ ap (λ o. is_some o) e') }
+
+unit-noted : (service : Service) → list_any (is_unit_of service group_tei) (notes.Unit service group_tei ∷ []) ≡ true
+unit-noted Call = refl
+unit-noted Packet = refl
 
 -- Contents that are handed on.
 module _ (c : Config) (ranged : IsInRange c) (l : Line) (s : IsSound c l) (received : List ℕ) where
@@ -238,29 +244,54 @@ module _ (c : Config) (ranged : IsInRange c) (l : Line) (s : IsSound c l) (recei
     pub service : Service
     pub tei : ℕ
     pub place : ℕ
-    pub whose : IsFor l service tei place parts octets
+    pub whose : IsFor c l service tei place parts octets
     pub is : FromFrame (terms c service tei) (link.received (link.frame parts)) ns contents
 
+  -- or by one to the group
+  pub record FromGroup (octets contents : List ℕ) (ns : List Note) : Type 0 where
+    pub parts : Parts
+    pub spelled : Spells (heard_side c) parts octets
+    pub service : Service
+    pub whose : IsToGroup c parts service
+    pub contents_are : parts.info ≡ contents
+    pub told : list_any (is_unit_of service group_tei) ns ≡ true
+
   abbrev Hears : List ℕ → Aim → Type 0
-  Hears octets aim = (contents : List ℕ) → HandsOn contents aim → Heard octets contents (of_aim c aim (record l { received = received })).told.notes
+  Hears octets aim =
+      (contents : List ℕ) → HandsOn contents aim
+      → Heard octets contents (of_aim c aim (record l { received = received })).told.notes
+      ⊎ FromGroup octets contents (of_aim c aim (record l { received = received })).told.notes
 
   silently : (octets : List ℕ) (aim : Aim) → Silent aim → Hears octets aim
   silently octets aim x contents h = absurd (x contents h)
 
-  by-reading : (octets : List ℕ) → AreOctets octets → (r : Result Parts ReadFault) → reading User octets ≡ r → Hears octets (aim_of_reading l r)
-  by-reading octets are (Ok parts) read = go (parts.address.sapi == management_sapi) (parts.address.tei == group_tei)
+  by-reading : (octets : List ℕ) → AreOctets octets → (r : Result Parts ReadFault) → reading (heard_side c) octets ≡ r → Hears octets (aim_of_reading c l r)
+  by-reading octets are (Ok parts) read =
+      side_aims c parts (Hears octets) (silently octets (drop_for Unserved) (drops Unserved)) to-group
+      (addressed l parts.address (link.frame parts) (message_of parts.control parts.info))
+      (go (parts.address.sapi == management_sapi) (parts.address.tei == group_tei))
     where
+      to-group : (service : Service) → IsToGroup c parts service → Hears octets (at_none (group_told service parts.info))
+      to-group service to contents h = inr (record {
+        parts = parts;
+        spelled = reading-found (heard_side c) octets parts are read;
+        service = service;
+        whose = to;
+        contents_are = ap (λ o. unwrap_or o parts.info) h;
+        told = unit-noted service;
+      })
+
       at-its-place : (service : Service) → service_of parts.address.sapi ≡ Some service → (o : Option ℕ) → place_in l parts.address.tei ≡ o
           → Hears octets (at_place service parts.address.tei (link.frame parts) o)
       at-its-place service sapi None e = silently octets (drop_for Tei) (drops Tei)
-      at-its-place service sapi (Some place) e = λ contents h. record {
+      at-its-place service sapi (Some place) e = λ contents h. inl (record {
         parts = parts;
         service = service;
         tei = parts.address.tei;
         place = place;
-        whose = record { spelled = reading-found User octets parts are read; sapi = sapi-is parts.address.sapi service sapi; tei_is = refl; on_line = e };
+        whose = record { spelled = reading-found (heard_side c) octets parts are read; sapi = sapi-is parts.address.sapi service sapi; tei_is = refl; on_line = e };
         is = from-link service parts.address.tei place (link.received (link.frame parts)) e contents h;
-      }
+      })
 
       of-service : (o : Option Service) → service_of parts.address.sapi ≡ o → Hears octets (to_service l parts.address.tei (link.frame parts) o)
       of-service None e = silently octets (drop_for Sapi) (drops Sapi)
@@ -275,30 +306,50 @@ module _ (c : Config) (ranged : IsInRange c) (l : Line) (s : IsSound c l) (recei
   by-reading octets are (Err (WrongSize address)) read = silently octets (addressed l address link.wrong_size (drop_for Unserved)) (not-read address link.wrong_size (drop_for Unserved) (drops Unserved) refl refl)
   by-reading octets are (Err Short) read = silently octets (drop_for Unserved) (drops Unserved)
 
-  pub heard-by : (o : Option stream.Event) → IfSome o HasOctets → (contents : List ℕ) → HandsOn contents (option_map_or (aim_of_heard l) o (at_none nothing))
-      → (octets : List ℕ) × (o ≡ Some (stream.frame octets)) × Heard octets contents (of_aim c (option_map_or (aim_of_heard l) o (at_none nothing)) (record l { received = received })).told.notes
+  pub heard-by : (o : Option stream.Event) → IfSome o HasOctets → (contents : List ℕ) → HandsOn contents (option_map_or (aim_of_heard c l) o (at_none nothing))
+      → let ns = (of_aim c (option_map_or (aim_of_heard c l) o (at_none nothing)) (record l { received = received })).told.notes in
+      (octets : List ℕ) × (o ≡ Some (stream.frame octets)) × (Heard octets contents ns ⊎ FromGroup octets contents ns)
   heard-by None are contents h = absurd (dropped (at_none nothing) refl contents h)
-  heard-by (Some (stream.frame octets)) are contents h = (octets, refl, by-reading octets are (reading User octets) refl contents h)
-  heard-by (Some (stream.overlong head)) are contents h = absurd (too-long (long_reading User head) contents h)
+  heard-by (Some (stream.frame octets)) are contents h = (octets, refl, by-reading octets are (reading (heard_side c) octets) refl contents h)
+  heard-by (Some (stream.overlong head)) are contents h = absurd (too-long (long_reading (heard_side c) head) contents h)
   heard-by (Some (stream.dropped cause)) are contents h = absurd (dropped (drop_for cause) refl contents h)
+
+heard-as : (c : Config) (l : Line) (value : ℕ) (contents : List ℕ) (ranged : IsInRange c) (s : IsSound c l) (octets : List ℕ) → Ends c l value octets
+    → let noted = (of_aim c (option_map_or (aim_of_heard c l) (gained c.n201 l.received value) (at_none nothing)) (record l { received = l.received ++ value ∷ [] })).told.notes in
+    Heard c ranged l s (l.received ++ value ∷ []) octets contents noted ⊎ FromGroup c ranged l s (l.received ++ value ∷ []) octets contents noted
+    → IsHeard c l (octet value) (answer c (octet value) l) contents
+unfolding answer
+heard-as c l value contents ranged s octets ends (inl x) = inl (record {
+  value = value;
+  by = refl;
+  octets = octets;
+  ends = ends;
+  parts = x.parts;
+  service = x.service;
+  tei = x.tei;
+  place = x.place;
+  whose = x.whose;
+  told = x.is.is;
+})
+heard-as c l value contents ranged s octets ends (inr x) = inr (record {
+  value = value;
+  by = refl;
+  octets = octets;
+  ends = ends;
+  parts = x.parts;
+  spelled = x.spelled;
+  service = x.service;
+  whose = x.whose;
+  contents_are = x.contents_are;
+  told = x.told;
+})
 
 pub contents-heard : (c : Config) (e : Event) (l : Line) (contents : List ℕ) → IsInRange c → IsSound c l
     → contents_in (answer c e l) ≡ Some contents → IsHeard c l e (answer c e l) contents
 unfolding answer
 contents-heard c (octet value) l contents ranged s h =
     let x = heard-by c ranged l s (l.received ++ value ∷ []) (gained c.n201 l.received value) (gained-octets c l value) contents h in
-    record {
-      value = value;
-      by = refl;
-      octets = x.0;
-      ends = gained-adds c l value (Some (stream.frame x.0)) x.1;
-      parts = x.2.parts;
-      service = x.2.service;
-      tei = x.2.tei;
-      place = x.2.place;
-      whose = x.2.whose;
-      told = x.2.is.is;
-    }
+    heard-as c l value contents ranged s x.0 (gained-adds c l value (Some (stream.frame x.0)) x.1) x.2
 contents-heard c (expiry timer) l contents ranged s h = absurd (expiry-silent c ranged l s l.received timer contents h)
 contents-heard c (request r) l contents ranged s h = go (refusal c false r l) h
   where

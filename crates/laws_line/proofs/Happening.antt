@@ -202,12 +202,12 @@ module _ (c : Config) (l : Line) (s : IsSound c l) (number : ℕ) where
     where
       go : (o : Option ℕ) → tei_at (place_at n) l ≡ o → IsSoundAt c n (link_at n l) o → IfSome (link_taken c l n) Fate
       go None at begins =
-          let none : link_taken c l n ≡ None = ap (λ x. option_map (with_given_frame l n (terms_at c n l)) (links.given (terms_at c n l) x)) begins in
+          let none : link_taken c l n ≡ None = ap (λ x. option_map (with_given_frame c l n (terms_at c n l)) (links.given (terms_at c n l) x)) begins in
           subst (λ o. IfSome o Fate) (sym none) tt
       go (Some tei) at sound =
           let t : terms_at c n l ≡ terms c (service_at n) tei = ap (λ o. terms c (service_at n) (unwrap_or o 0)) at in
-          subst (λ (t : Terms). IfSome (option_map (with_given_frame l n t) (links.given t (link_at n l))) Fate) (sym t)
-          (mapped (with_given_frame l n (terms c (service_at n) tei)) Fate (links.given (terms c (service_at n) tei) (link_at n l)) (λ g. given-at n tei few at))
+          subst (λ (t : Terms). IfSome (option_map (with_given_frame c l n t) (links.given t (link_at n l))) Fate) (sym t)
+          (mapped (with_given_frame c l n (terms c (service_at n) tei)) Fate (links.given (terms c (service_at n) tei) (link_at n l)) (λ g. given-at n tei few at))
 
   links-fate : (ns : List ℕ) → All (λ n. n < link_count c) ns → IfSome (first_taken c l ns) Fate
   links-fate [] few = tt
@@ -216,9 +216,9 @@ module _ (c : Config) (l : Line) (s : IsSound c l) (number : ℕ) where
 
   taken-fate : IfSome (taken c l) Fate
   taken-fate =
-      first_of Fate (message_taken l) (option_or (unit_taken l) (first_taken c l (round c l)))
+      first_of Fate (message_taken c l) (option_or (unit_taken c l) (first_taken c l (round c l)))
       (mapped (with_message l) Fate _ (λ octets. inl refl))
-      (first_of Fate (unit_taken l) (first_taken c l (round c l)) (mapped (with_unit l) Fate _ (λ u. inl refl)) (links-fate (round c l) (round_below c l)))
+      (first_of Fate (unit_taken c l) (first_taken c l (round c l)) (mapped (with_unit c l) Fate _ (λ u. inl refl)) (links-fate (round c l) (round_below c l)))
 
   pull-fate : Offered (link_at number (after_pull c l))
   pull-fate = go (is_due l) (taken c l) taken-fate

@@ -6,13 +6,12 @@ use Rattle.lapd_bits.specs.Stream as stream
 use Rattle.lapd_bits.specs.declared.heard.Cause.{Cause}
 use Rattle.lapd_bits.specs.declared.heard.Cause.TheVariants.{Tei, Unserved}
 use Rattle.lapd_frame.specs.declared.addresses.Address.{Address}
-use Rattle.lapd_frame.specs.declared.addresses.Side.TheVariants.{User}
 use Rattle.lapd_frame.specs.declared.faults.ReadFault.TheVariants.{Undefined, WrongSize}
 use Rattle.lapd_frame.specs.declared.services.Service.{Service}
 use Rattle.lapd_frame.specs.declared.services.Service.TheVariants.{Call, Packet}
 use Rattle.lapd_frame.specs.Grammar.{Parts}
 use Rattle.lapd_frame.specs.Reading.{reading, long_reading}
-use Rattle.lapd_frame.specs.Services.{service_of, sapi_of}
+use Rattle.lapd_frame.specs.Services.{service_of, sapi_of, same_service}
 use Rattle.lapd_frame.proofs.Spelling.{reading-again, fault-again}
 use Rattle.model_link.specs.Events as link
 use Rattle.model_link.specs.Machine as links
@@ -21,11 +20,18 @@ use Rattle.model_line.specs.Event.{octet, told, nothing, dropped}
 use Rattle.model_line.specs.Effect.{Aim, at_none, at_link, told_of_link, of_aim}
 use Rattle.model_line.specs.Line.{Line, place_in, link_in, terms}
 use Rattle.model_line.specs.Machine.{after, answer}
-use Rattle.model_line.specs.Octet.{gained, drop_for, management_sapi, group_tei, at_place, to_service, addressed, message_of, aim_of_reading, aim_of_long, aim_of_heard, aim_of_octet, with_received}
+use Rattle.model_line.specs.Octet.{gained, drop_for, management_sapi, group_tei, at_place, to_service, addressed, message_of, aim_of_reading, aim_of_long, heard_side, aim_of_heard, aim_of_octet, with_received}
+use Rattle.model_line.specs.Sides.{at_side}
 use Rattle.laws_line.specs.Heard.{Ends, EndsOverlong, EndsDropped, EndsNothing, IsFor, IsTo, IsMalformed, IsTooLong, IsOneEvent, IsNoEvent, IsDroppedFor}
 use Rattle.laws_line.proofs.Ending.{ended-octets, gained-is}
 
 -- The SAPI of a service.
+pub same-sapi : (a b : Service) → (sapi_of a == sapi_of b) ≡ same_service a b
+same-sapi Call Call = refl
+same-sapi Call Packet = refl
+same-sapi Packet Call = refl
+same-sapi Packet Packet = refl
+
 pub sapi-is : (sapi : ℕ) (service : Service) → service_of sapi ≡ Some service → sapi ≡ sapi_of service
 sapi-is sapi service e = go (sapi == 0) (sapi == 16) refl refl e
   where
@@ -66,53 +72,53 @@ by-aim c l value service tei place what aim = record {
 }
 
 heard-aim : (c : Config) (l : Line) (value : ℕ) (o : Option stream.Event) → gained c.n201 l.received value ≡ o
-    → aim_of_octet c value l ≡ option_map_or (aim_of_heard l) o (at_none nothing)
-heard-aim c l value o gains = ap (λ o. option_map_or (aim_of_heard l) o (at_none nothing)) gains
+    → aim_of_octet c value l ≡ option_map_or (aim_of_heard c l) o (at_none nothing)
+heard-aim c l value o gains = ap (λ o. option_map_or (aim_of_heard c l) o (at_none nothing)) gains
 
 -- as a frame is that is spelled for this link
-pub aim-of-frame : (l : Line) (service : Service) (tei place : ℕ) (parts : Parts) (octets : List ℕ) → IsFor l service tei place parts octets
-    → aim_of_heard l (stream.frame octets) ≡ at_link service tei place (link.received (link.frame parts))
-aim-of-frame l service tei place parts octets f =
-    ap (aim_of_reading l) (reading-again User parts octets f.spelled)
-    ∙ addressed-is l parts.address service tei place (link.frame parts) (message_of parts.control parts.info) f.sapi f.tei_is f.on_line
+pub aim-of-frame : (c : Config) (l : Line) (service : Service) (tei place : ℕ) (parts : Parts) (octets : List ℕ) → IsFor c l service tei place parts octets
+    → aim_of_heard c l (stream.frame octets) ≡ at_link service tei place (link.received (link.frame parts))
+aim-of-frame c l service tei place parts octets f =
+    ap (aim_of_reading c l) (reading-again (heard_side c) parts octets f.spelled)
+    ∙ ap (at_side c parts) (addressed-is l parts.address service tei place (link.frame parts) (message_of parts.control parts.info) f.sapi f.tei_is f.on_line)
 
 pub frame-aim : (c : Config) (l : Line) (value : ℕ) (service : Service) (tei place : ℕ) (parts : Parts) (octets : List ℕ)
-    → Ends c l value octets → IsFor l service tei place parts octets → aim_of_octet c value l ≡ at_link service tei place (link.received (link.frame parts))
+    → Ends c l value octets → IsFor c l service tei place parts octets → aim_of_octet c value l ≡ at_link service tei place (link.received (link.frame parts))
 frame-aim c l value service tei place parts octets ends f =
     heard-aim c l value (Some (stream.frame octets)) (gained-is c l value (Some (stream.frame octets)) ends)
-    ∙ aim-of-frame l service tei place parts octets f
+    ∙ aim-of-frame c l service tei place parts octets f
 
 pub one-event : (c : Config) (l : Line) (value : ℕ) (service : Service) (tei place : ℕ) (parts : Parts) (octets : List ℕ)
-    → Ends c l value octets → IsFor l service tei place parts octets
+    → Ends c l value octets → IsFor c l service tei place parts octets
     → IsOneEvent c l (after c (octet value) l) (answer c (octet value) l) value service tei place (link.received (link.frame parts))
 one-event c l value service tei place parts octets ends f =
     by-aim c l value service tei place (link.frame parts) (frame-aim c l value service tei place parts octets ends f)
 
 -- A frame that the grammar does not have.
 pub malformed-event : (c : Config) (l : Line) (value : ℕ) (service : Service) (tei place : ℕ) (address : Address) (octets : List ℕ) (what : link.Received)
-    → Ends c l value octets → IsTo l service tei place address → IsMalformed address octets what
+    → Ends c l value octets → IsTo l service tei place address → IsMalformed c address octets what
     → IsOneEvent c l (after c (octet value) l) (answer c (octet value) l) value service tei place (link.received what)
 malformed-event c l value service tei place address octets what ends f is =
     by-aim c l value service tei place what
     (heard-aim c l value (Some (stream.frame octets)) (gained-is c l value (Some (stream.frame octets)) ends)
     ∙ by-fault what is ∙ addressed-is l address service tei place what (drop_for Unserved) f.sapi f.tei_is f.on_line)
   where
-    by-fault : (what : link.Received) → IsMalformed address octets what → aim_of_reading l (reading User octets) ≡ addressed l address what (drop_for Unserved)
-    by-fault link.undefined is = ap (aim_of_reading l) (fault-again User octets (Undefined address) (ended-octets c l value (stream.frame octets) ends) is)
-    by-fault link.wrong_size is = ap (aim_of_reading l) (fault-again User octets (WrongSize address) (ended-octets c l value (stream.frame octets) ends) is)
+    by-fault : (what : link.Received) → IsMalformed c address octets what → aim_of_reading c l (reading (heard_side c) octets) ≡ addressed l address what (drop_for Unserved)
+    by-fault link.undefined is = ap (aim_of_reading c l) (fault-again (heard_side c) octets (Undefined address) (ended-octets c l value (stream.frame octets) ends) is)
+    by-fault link.wrong_size is = ap (aim_of_reading c l) (fault-again (heard_side c) octets (WrongSize address) (ended-octets c l value (stream.frame octets) ends) is)
     by-fault link.overlong is = absurd is
     by-fault (link.frame parts) is = absurd is
 
 -- A frame that was too long to keep.
 pub overlong-event : (c : Config) (l : Line) (value : ℕ) (service : Service) (tei place : ℕ) (address : Address) (head : List ℕ) (what : link.Received)
-    → EndsOverlong c l value head → IsTo l service tei place address → IsTooLong address head what
+    → EndsOverlong c l value head → IsTo l service tei place address → IsTooLong c address head what
     → IsOneEvent c l (after c (octet value) l) (answer c (octet value) l) value service tei place (link.received what)
 overlong-event c l value service tei place address head what ends f is =
     by-aim c l value service tei place what
     (heard-aim c l value (Some (stream.overlong head)) (gained-is c l value (Some (stream.overlong head)) ends)
     ∙ by-head what is ∙ addressed-is l address service tei place what (drop_for Unserved) f.sapi f.tei_is f.on_line)
   where
-    by-head : (what : link.Received) → IsTooLong address head what → aim_of_long l (long_reading User head) ≡ addressed l address what (drop_for Unserved)
+    by-head : (what : link.Received) → IsTooLong c address head what → aim_of_long l (long_reading (heard_side c) head) ≡ addressed l address what (drop_for Unserved)
     by-head link.undefined is = ap (aim_of_long l) is
     by-head link.wrong_size is = ap (aim_of_long l) is
     by-head link.overlong is = ap (aim_of_long l) is

@@ -93,7 +93,7 @@ its-link c l s value service tei place event on one =
     ap (λ (x : Line). link_in x service place) one.line ∙ get_or-set_same l.links (link_number place service) next fresh (omega (arith, few, s.count))
 
 pub frame-heeded : (c : Config) (l : Line) → IsSound c l → (value : ℕ) (service : Service) (tei place : ℕ) (parts : Parts) (octets : List ℕ)
-    → Ends c l value octets → IsFor l service tei place parts octets
+    → Ends c l value octets → IsFor c l service tei place parts octets
     → IsHeeded (terms c service tei) parts (link_in l service place) (link_in (after c (octet value) l) service place) (answer c (octet value) l)
 frame-heeded c l s value service tei place parts octets ends f =
     let one = one-event c l value service tei place parts octets ends f in

@@ -157,7 +157,7 @@ offer-same t l = let x = offer-leaves t l in record { contents = x.contents; ack
 link_keeps : (c : Config) (l : Line) (number n : ℕ) → IfSome (link_taken c l n) (Keeps l number)
 link_keeps c l number n =
     let t = terms_at c n l in
-    mapped (with_given_frame l n t) (Keeps l number) (links.given t (link_at n l))
+    mapped (with_given_frame c l n t) (Keeps l number) (links.given t (link_at n l))
     (λ g. set_keeps l.links n number (links.after t link.offer (link_at n l)) (offer-same t (link_at n l)))
 
 links_keep : (c : Config) (l : Line) (number : ℕ) (ns : List ℕ) → IfSome (first_taken c l ns) (Keeps l number)
@@ -167,9 +167,9 @@ links_keep c l number (n ∷ ns) =
 
 taken_keeps : (c : Config) (l : Line) (number : ℕ) → IfSome (taken c l) (Keeps l number)
 taken_keeps c l number =
-    first_of (Keeps l number) (message_taken l) (option_or (unit_taken l) (first_taken c l (round c l)))
+    first_of (Keeps l number) (message_taken c l) (option_or (unit_taken c l) (first_taken c l (round c l)))
     (mapped (with_message l) (Keeps l number) _ (λ octets. same (link_at number l)))
-    (first_of (Keeps l number) (unit_taken l) (first_taken c l (round c l)) (mapped (with_unit l) (Keeps l number) _ (λ u. same (link_at number l)))
+    (first_of (Keeps l number) (unit_taken c l) (first_taken c l (round c l)) (mapped (with_unit c l) (Keeps l number) _ (λ u. same (link_at number l)))
     (links_keep c l number (round c l)))
 
 pull_keeps : (c : Config) (l : Line) (number : ℕ) → Same (link_at number l) (link_at number (after_pull c l))

@@ -211,11 +211,11 @@ module _ (c : Config) (l : Line) (s : IsSound c l) where
       → Up l (of_aim c (at_link service tei place e) l).told.notes (of_aim c (at_link service tei place e) l).line
   aimed service tei place e at = link-up c l s service tei place e (place_of-is l.management.places tei place at).1
 
-  heard-up : (o : Option stream.Event) → let aim = option_map_or (aim_of_heard l) o (at_none nothing) in Up l (of_aim c aim l).told.notes (of_aim c aim l).line
+  heard-up : (o : Option stream.Event) → let aim = option_map_or (aim_of_heard c l) o (at_none nothing) in Up l (of_aim c aim l).told.notes (of_aim c aim l).line
   heard-up None = λ service tei. refl
   heard-up (Some e) =
-      heard_aims l (λ aim. Up l (of_aim c aim l).told.notes (of_aim c aim l).line) (λ cause. λ service tei. refl)
-      (λ service tei place what at. aimed service tei place (link.received what) at) (λ info. management-up c l s (teis.message info) tt) e
+      heard_aims c l (λ aim. Up l (of_aim c aim l).told.notes (of_aim c aim l).line) (λ cause. λ service tei. refl)
+      (λ service tei place what at. aimed service tei place (link.received what) at) (λ info. management-up c l s (teis.message info) tt) (λ parts its to service tei. refl) e
 
   timer-up : (service : Service) (tei : ℕ) (k : LinkTimer) (o : Option ℕ) → place_in l tei ≡ o → Up l (of_aim c (at_timer service tei k o) l).told.notes (of_aim c (at_timer service tei k o) l).line
   timer-up service tei k None e = λ s' n'. refl
@@ -246,14 +246,14 @@ module _ (c : Config) (l : Line) (s : IsSound c l) where
 
   took : (t : Taken) → IsOne c l t → Up l [] t.line
   took t (inl x) = subst (λ (u : Taken). Up l [] u.line) (sym x.1) (λ s' n'. sym (read.same-read false is_up s' n' l (with_message l x.0).line refl refl))
-  took t (inr (inl x)) = subst (λ (u : Taken). Up l [] u.line) (sym x.1) (λ s' n'. sym (read.same-read false is_up s' n' l (with_unit l x.0).line refl refl))
+  took t (inr (inl x)) = subst (λ (u : Taken). Up l [] u.line) (sym x.1) (λ s' n'. sym (read.same-read false is_up s' n' l (with_unit c l x.0).line refl refl))
   took t (inr (inr x)) =
       subst (λ (u : Taken). Up l [] u.line) (sym x.is)
       (λ s' n'.
       subst (λ n. is_up_of s' n' l ≡ is_up_of s' n' (with_link n (links.after (terms c (service_at x.number) x.tei) link.offer (link_at n l)) l)) (number-is x.number)
       (offered-up (service_at x.number) x.tei (place_at x.number) x.on_line s' n')
       ∙ sym (read.same-read false is_up s' n' (with_link x.number (links.after (terms c (service_at x.number) x.tei) link.offer (link_at x.number l)) l)
-      (with_given_frame l x.number (terms c (service_at x.number) x.tei) x.what).line refl refl))
+      (with_given_frame c l x.number (terms c (service_at x.number) x.tei) x.what).line refl refl))
 
   pull-up : Up l [] (after_pull c l)
   pull-up = go (is_due l) (taken c l) (taken-one c l s)
@@ -268,7 +268,7 @@ pub known-up : (c : Config) (e : Event) (l : Line) (service : Service) (tei : �
 unfolding after answer
 known-up c (octet value) l service tei s =
     let now = with_received value l in
-    let aim = option_map_or (aim_of_heard l) (gained c.n201 l.received value) (at_none nothing) in
+    let aim = option_map_or (aim_of_heard c l) (gained c.n201 l.received value) (at_none nothing) in
     ap (λ b. fold (up_by_note service tei) b (of_aim c aim now).told.notes) (sym (read.same-read false is_up service tei l now refl refl))
     ∙ heard-up c now (received_sound c value l s) (gained c.n201 l.received value) service tei
 known-up c (expiry (T200 by n)) l service tei s = timer-up c l s by n kind.T200 (place_in l n) refl service tei

@@ -43,6 +43,7 @@ use Rattle.model_line.specs.Machine.{after, answer, unless_refused, unless_refus
 use Rattle.model_line.specs.Octet.{gained, aim_of_heard, with_received}
 use Rattle.model_line.specs.Pull.{Taken, taken, is_due, with_item, after_pull}
 use Rattle.model_line.specs.Refusal.{refusal}
+use Rattle.model_line.specs.Sides.{has_management}
 use Rattle.model_line.specs.Request.{Request, Establish, Release, Data, Unit, Assign, Remove, Check, SetBusy, ClearBusy}
 use Rattle.model_line.specs.Requested.{at_requested, aim_of_request}
 use Rattle.model_line.specs.Sound.{IsSound}
@@ -124,7 +125,8 @@ module _ (c : Config) (l : Line) where
   removed : (tei : ℕ) → refusal c false (Remove tei) l ≡ None → (teis.told (teis.remove tei) l.management).change ≡ None → ⊥
   unfolding teis.course teis.refusal
   removed tei granted e =
-      let bad = not-refused (nat_lt 126 tei) _ _ granted in
+      let ours = not-refused (not (has_management c.side)) _ _ granted in
+      let bad = not-refused (nat_lt 126 tei) _ _ ours.1 in
       let unknown = not-refused (not (has_tei tei l)) _ _ bad.1 in
       let full = not-refused (no_room l.management.waiting) _ _ unknown.1 in
       left-some tei (place_of tei l.management.places) (sym (on-placed tei l.management.places) ∙ not-not (has_tei tei l) unknown.0)
@@ -193,11 +195,11 @@ module _ (c : Config) (l : Line) (s : IsSound c l) (tei : ℕ) where
   link-knows service by place e =
       link-notes (terms c service by) tei (has_tei tei l) (links.told (terms c service by) e (link_in l service place)).notes (notes-own (terms c service by) e (link_in l service place))
 
-  heard-knows : (o : Option stream.Event) → let aim = option_map_or (aim_of_heard l) o (at_none nothing) in Knows l (λ on. on) tei (of_aim c aim l).told.notes (of_aim c aim l).line
+  heard-knows : (o : Option stream.Event) → let aim = option_map_or (aim_of_heard c l) o (at_none nothing) in Knows l (λ on. on) tei (of_aim c aim l).told.notes (of_aim c aim l).line
   heard-knows None = refl
   heard-knows (Some e) =
-      heard_aims l (λ aim. Knows l (λ on. on) tei (of_aim c aim l).told.notes (of_aim c aim l).line) (λ cause. refl)
-      (λ service by place what at. link-knows service by place (link.received what)) (λ info. management-knows c l s (teis.message info) tt tei (λ none. refl)) e
+      heard_aims c l (λ aim. Knows l (λ on. on) tei (of_aim c aim l).told.notes (of_aim c aim l).line) (λ cause. refl)
+      (λ service by place what at. link-knows service by place (link.received what)) (λ info. management-knows c l s (teis.message info) tt tei (λ none. refl)) (λ parts service to. refl) e
 
   timer-knows : (service : Service) (by : ℕ) (k : LinkTimer) (o : Option ℕ) → Knows l (λ on. on) tei (of_aim c (at_timer service by k o) l).told.notes (of_aim c (at_timer service by k o) l).line
   timer-knows service by k None = refl

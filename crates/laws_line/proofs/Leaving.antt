@@ -4,7 +4,6 @@ use Rattle.std.specs.Prelude.{IfSome}
 use Rattle.std.specs.Option.{option_or, unwrap_or}
 use Rattle.std.proofs.lemmas.Bool.{cases_eq}
 use Rattle.std.proofs.lemmas.List.{get_or-set_same, get_or-set_other}
-use Rattle.lapd_frame.specs.declared.addresses.Side.TheVariants.{Network}
 use Rattle.lapd_frame.specs.Grammar.{spelling}
 use Rattle.model_link.specs.declared.frames.ControlFrame.{ControlFrame}
 use Rattle.model_link.specs.declared.terms.Terms.{Terms}
@@ -37,16 +36,16 @@ first-goes t l f fs e = in-turn t [] f fs l e
 pub others-wait : (t : Terms) (l : Link) (f : ControlFrame) (fs : List ControlFrame) → l.waiting ≡ f ∷ fs → (links.after t link.offer l).waiting ≡ fs
 others-wait t l f fs e = ap (λ ws. (Offers.offer_among t ws (course_begun l)).link.waiting) e
 
-whole-text : (t : Terms) (f : ControlFrame) (g : Given) → Goes f g → pulls.frame_of t g ≡ spelling Network (frame_of t f)
-whole-text t f g h =
-    ap (λ (x : ControlFrame). spelling Network (record (frame_of t x) { info = unwrap_or g.contents [] })) h.frame
-    ∙ ap (λ o. spelling Network (record (frame_of t f) { info = unwrap_or o [] })) h.alone
+whole-text : (c : Config) (t : Terms) (f : ControlFrame) (g : Given) → Goes f g → pulls.frame_of c t g ≡ spelling c.side (frame_of t f)
+whole-text c t f g h =
+    ap (λ (x : ControlFrame). spelling c.side (record (frame_of t x) { info = unwrap_or g.contents [] })) h.frame
+    ∙ ap (λ o. spelling c.side (record (frame_of t f) { info = unwrap_or o [] })) h.alone
 
 -- What becomes of a link where something is taken: it stays, or it gave what is taken.
 pub record Gave (c : Config) (number : ℕ) (l : Line) (t : Taken) : Type 0 where
   pub given : Given
   pub is : links.given (terms_at c number l) (link_at number l) ≡ Some given
-  pub frame : t.frame ≡ pulls.frame_of (terms_at c number l) given
+  pub frame : t.frame ≡ pulls.frame_of c (terms_at c number l) given
   pub link : link_at number t.line ≡ links.after (terms_at c number l) link.offer (link_at number l)
 
 pub record Moved (c : Config) (number : ℕ) (l : Line) (t : Taken) : Type 0 where
@@ -58,16 +57,16 @@ module _ (c : Config) (number : ℕ) (l : Line) (s : IsSound c l) (few : number 
   by-message None = tt
   by-message (Some m) = record { places = refl; fate = inl refl }
 
-  by-unit : (o : Option UnitData) → IfSome (option_map (with_unit l) o) (Moved c number l)
+  by-unit : (o : Option UnitData) → IfSome (option_map (with_unit c l) o) (Moved c number l)
   by-unit None = tt
   by-unit (Some u) = record { places = refl; fate = inl refl }
 
-  gave : (n : ℕ) (g : Given) → links.given (terms_at c n l) (link_at n l) ≡ Some g → Moved c number l (with_given_frame l n (terms_at c n l) g)
+  gave : (n : ℕ) (g : Given) → links.given (terms_at c n l) (link_at n l) ≡ Some g → Moved c number l (with_given_frame c l n (terms_at c n l) g)
   gave n g e =
       ⊎_elim
       (λ same.
       let e' : links.given (terms_at c number l) (link_at number l) ≡ Some g = subst (λ n. links.given (terms_at c n l) (link_at n l) ≡ Some g) (sym same) e in
-      subst (λ n. Moved c number l (with_given_frame l n (terms_at c n l) g)) same
+      subst (λ n. Moved c number l (with_given_frame c l n (terms_at c n l) g)) same
       (record {
         places = refl;
         fate = inr (record {
@@ -80,7 +79,7 @@ module _ (c : Config) (number : ℕ) (l : Line) (s : IsSound c l) (few : number 
       (λ apart. record { places = refl; fate = inl (get_or-set_other l.links n number (links.after (terms_at c n l) link.offer (link_at n l)) fresh apart) })
       (cases_eq number n)
 
-  by-link : (n : ℕ) (o : Option Given) → links.given (terms_at c n l) (link_at n l) ≡ o → IfSome (option_map (with_given_frame l n (terms_at c n l)) o) (Moved c number l)
+  by-link : (n : ℕ) (o : Option Given) → links.given (terms_at c n l) (link_at n l) ≡ o → IfSome (option_map (with_given_frame c l n (terms_at c n l)) o) (Moved c number l)
   by-link n None e = tt
   by-link n (Some g) e = gave n g e
 
@@ -94,15 +93,15 @@ module _ (c : Config) (number : ℕ) (l : Line) (s : IsSound c l) (few : number 
 
   pub taken-moved : IfSome (taken c l) (Moved c number l)
   taken-moved =
-      either (message_taken l) (option_or (unit_taken l) (first_taken c l (round c l))) (by-message (option_map messages.frame_of (slice_get l.management.waiting 0)))
-      (either (unit_taken l) (first_taken c l (round c l)) (by-unit (slice_get l.units 0)) (by-round (round c l)))
+      either (message_taken c l) (option_or (unit_taken c l) (first_taken c l (round c l))) (by-message (option_map (messages.frame_of c.side) (slice_get l.management.waiting 0)))
+      (either (unit_taken c l) (first_taken c l (round c l)) (by-unit (slice_get l.units 0)) (by-round (round c l)))
 
 -- A pull leaves a link as it is, or begins what it gave.
 pub record Pulled (c : Config) (number : ℕ) (l : Line) (l' : Line) : Type 0 where
   pub places : l'.management.places ≡ l.management.places
   pub fate : (link_at number l' ≡ link_at number l)
       ⊎ ((t : Taken) × (g : Given) × (begun c l ≡ Some t) × (links.given (terms_at c number l) (link_at number l) ≡ Some g)
-      × (t.frame ≡ pulls.frame_of (terms_at c number l) g) × (link_at number l' ≡ links.after (terms_at c number l) link.offer (link_at number l)))
+      × (t.frame ≡ pulls.frame_of c (terms_at c number l) g) × (link_at number l' ≡ links.after (terms_at c number l) link.offer (link_at number l)))
 
 pulled-by : (c : Config) (number : ℕ) (l : Line) (due : Bool) (o : Option Taken) → IfSome o (Moved c number l) → begun c l ≡ cond due o None
     → Pulled c number l (with_octet (cond due (with_item o l) l))
@@ -113,7 +112,7 @@ pulled-by c number l true (Some t) x e = record { places = x.places; fate = go x
     go : (link_at number t.line ≡ link_at number l) ⊎ Gave c number l t
         → (link_at number t.line ≡ link_at number l)
         ⊎ ((t' : Taken) × (g : Given) × (begun c l ≡ Some t') × (links.given (terms_at c number l) (link_at number l) ≡ Some g)
-        × (t'.frame ≡ pulls.frame_of (terms_at c number l) g) × (link_at number t.line ≡ links.after (terms_at c number l) link.offer (link_at number l)))
+        × (t'.frame ≡ pulls.frame_of c (terms_at c number l) g) × (link_at number t.line ≡ links.after (terms_at c number l) link.offer (link_at number l)))
     go (inl same) = inl same
     go (inr y) = inr (t, y.given, e, y.is, y.frame, y.link)
 
@@ -144,8 +143,8 @@ module _ (c : Config) (ranged : IsInRange c) (number tei : ℕ) (few : number < 
   pub given-whole : (t : Terms) (l : Link) (f : ControlFrame) (fs : List ControlFrame) (g : Given) → l.waiting ≡ f ∷ fs → links.given t l ≡ Some g → Goes f g
   given-whole t l f fs g e e' = subst (GoesWhole f) e' (first-goes t l f fs e)
 
-  pub text-is : (l : Line) (f : ControlFrame) (g : Given) → tei_at (place_at number) l ≡ Some tei → Goes f g → pulls.frame_of (terms_at c number l) g ≡ control_text c number tei f
-  text-is l f g at h = whole-text (terms_at c number l) f g h ∙ ap (λ t. spelling Network (frame_of t f)) (terms-are l at)
+  pub text-is : (l : Line) (f : ControlFrame) (g : Given) → tei_at (place_at number) l ≡ Some tei → Goes f g → pulls.frame_of c (terms_at c number l) g ≡ control_text c number tei f
+  text-is l f g at h = whole-text c (terms_at c number l) f g h ∙ ap (λ t. spelling c.side (frame_of t f)) (terms-are l at)
 
   pub goes-out : (n : ℕ) (l : Line) → IsSound c l → tei_at (place_at number) l ≡ Some tei → (before : List ControlFrame) (f : ControlFrame) (behind : List ControlFrame)
       → (link_at number l).waiting ≡ before ++ f ∷ behind → HasNothing c (after_pulls c n l) → IsBegunWithin c n l (control_text c number tei f)
@@ -162,7 +161,7 @@ module _ (c : Config) (ranged : IsInRange c) (number tei : ℕ) (few : number < 
           → (link_at number l).waiting ≡ before ++ f ∷ behind
           → (link_at number (after c pull l) ≡ link_at number l)
           ⊎ ((t : Taken) × (g : Given) × (begun c l ≡ Some t) × (links.given (terms_at c number l) (link_at number l) ≡ Some g)
-          × (t.frame ≡ pulls.frame_of (terms_at c number l) g) × (link_at number (after c pull l) ≡ links.after (terms_at c number l) link.offer (link_at number l)))
+          × (t.frame ≡ pulls.frame_of c (terms_at c number l) g) × (link_at number (after c pull l) ≡ links.after (terms_at c number l) link.offer (link_at number l)))
           → ((before' : List ControlFrame) → (link_at number (after c pull l)).waiting ≡ before' ++ f ∷ behind → IsBegunWithin c n (after c pull l) (control_text c number tei f))
           → IsBegunWithin c (suc n) l (control_text c number tei f)
       step n l at before f behind e (inl same) more = later c n l _ (more before (ap (λ (x : Link). x.waiting) same ∙ e))

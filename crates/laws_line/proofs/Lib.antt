@@ -29,6 +29,8 @@ pub mod Expiring
 pub mod Messaging
 pub mod GroupAims
 pub mod Causing
+pub mod Grouping
+pub mod Unmanaged
 pub mod Telling
 pub mod Reasoning
 pub mod Noted

@@ -39,10 +39,10 @@ pub record OfLink (c : Config) (l : Line) (t : Taken) : Type 0 where
   pub on_line : tei_at (place_at number) l ≡ Some tei
   pub what : Given
   pub given : links.given (terms c (service_at number) tei) (link_at number l) ≡ Some what
-  pub is : t ≡ with_given_frame l number (terms c (service_at number) tei) what
+  pub is : t ≡ with_given_frame c l number (terms c (service_at number) tei) what
 
 abbrev pub IsOne : Config → Line → Taken → Type 0
-IsOne c l t = ((octets : List ℕ) × (t ≡ with_message l octets)) ⊎ ((unit : UnitData) × (t ≡ with_unit l unit)) ⊎ OfLink c l t
+IsOne c l t = ((octets : List ℕ) × (t ≡ with_message l octets)) ⊎ ((unit : UnitData) × (t ≡ with_unit c l unit)) ⊎ OfLink c l t
 
 mapped : {X Y : Type 0} (f : X → Y) (P : Y → Type 0) (o : Option X) → ((x : X) → P (f x)) → IfSome (option_map f o) P
 mapped f P None h = tt
@@ -57,16 +57,16 @@ module _ (c : Config) (l : Line) (s : IsSound c l) where
   of-link n few = known (tei_at (place_at n) l) refl (s.links n few)
     where
       gave : (tei : ℕ) → tei_at (place_at n) l ≡ Some tei → (o : Option Given) → links.given (terms c (service_at n) tei) (link_at n l) ≡ o
-          → IfSome (option_map (with_given_frame l n (terms c (service_at n) tei)) o) (OfLink c l)
+          → IfSome (option_map (with_given_frame c l n (terms c (service_at n) tei)) o) (OfLink c l)
       gave tei e None given = tt
       gave tei e (Some g) given = record { number = n; few = few; tei = tei; on_line = e; what = g; given = given; is = refl }
 
       known : (o : Option ℕ) → tei_at (place_at n) l ≡ o → IsSoundAt c n (link_at n l) o
-          → let t = terms c (service_at n) (unwrap_or o 0) in IfSome (option_map (with_given_frame l n t) (links.given t (link_at n l))) (OfLink c l)
+          → let t = terms c (service_at n) (unwrap_or o 0) in IfSome (option_map (with_given_frame c l n t) (links.given t (link_at n l))) (OfLink c l)
       known None e is_fresh =
           let t = terms c (service_at n) 0 in
           let nothing : links.given t (link_at n l) ≡ None = ap (links.given t) is_fresh ∙ fresh_gives_nothing t in
-          subst (λ o. IfSome (option_map (with_given_frame l n t) o) (OfLink c l)) (sym nothing) tt
+          subst (λ o. IfSome (option_map (with_given_frame c l n t) o) (OfLink c l)) (sym nothing) tt
       known (Some tei) e sound = gave tei e (links.given (terms c (service_at n) tei) (link_at n l)) refl
 
   pub of-links : (ns : List ℕ) → All (λ n. n < link_count c) ns → IfSome (first_taken c l ns) (OfLink c l)
@@ -81,9 +81,9 @@ module _ (c : Config) (l : Line) (s : IsSound c l) where
 
   pub taken-one : IfSome (taken c l) (IsOne c l)
   taken-one =
-      first_of (IsOne c l) (message_taken l) (option_or (unit_taken l) (first_taken c l (round c l)))
+      first_of (IsOne c l) (message_taken c l) (option_or (unit_taken c l) (first_taken c l (round c l)))
       (mapped (with_message l) (IsOne c l) _ (λ octets. inl (octets, refl)))
-      (first_of (IsOne c l) (unit_taken l) (first_taken c l (round c l)) (mapped (with_unit l) (IsOne c l) _ (λ u. inr (inl (u, refl))))
+      (first_of (IsOne c l) (unit_taken c l) (first_taken c l (round c l)) (mapped (with_unit c l) (IsOne c l) _ (λ u. inr (inl (u, refl))))
       (one-of (first_taken c l (round c l)) (of-links (round c l) (round_below c l))))
 
 module _ (P : Link → Type 0) (begins : P fresh) (keeps : (t : Terms) (e : link.Event) (x : Link) → link_sound.IsInRange t → link_sound.IsSound t x → P x → P (links.after t e x)) where

@@ -16,7 +16,7 @@ use Rattle.model_line.specs.Event.{Event, request}
 use Rattle.model_line.specs.Effect.{at_management, told_of_management, of_change, of_aim}
 use Rattle.model_line.specs.Line.{Line, has_tei}
 use Rattle.model_line.specs.Machine.{after, answer, unless_refused}
-use Rattle.model_line.specs.Refusal.{Row, bad_tei, no_link, tei_taken, table_full, check_running, control_full, refusal}
+use Rattle.model_line.specs.Refusal.{Row, wrong_side, bad_tei, no_link, tei_taken, table_full, check_running, control_full, refusal}
 use Rattle.model_line.specs.Request.{Request, Establish, Release, Data, Unit, Assign, Remove, Check, SetBusy, ClearBusy}
 use Rattle.model_line.specs.Requested.{aim_of_request}
 use Rattle.laws_line.specs.Requests.{IsManaged, ManagementTakesEffect}
@@ -76,7 +76,8 @@ module _ (c : Config) (l : Line) where
   removed : (tei : ℕ) → refusal c false (Remove tei) l ≡ None → (after c (request (Remove tei)) l).management.waiting ≡ l.management.waiting ++ IdentityRemove tei ∷ []
   unfolding teis.refusal
   removed tei none =
-      let bad = passed (bad_tei tei) (no_link tei l ∷ control_full l ∷ []) none in
+      let ours = passed (wrong_side c) (bad_tei tei ∷ no_link tei l ∷ control_full l ∷ []) none in
+      let bad = passed (bad_tei tei) (no_link tei l ∷ control_full l ∷ []) ours.1 in
       let unknown = passed (no_link tei l) (control_full l ∷ []) bad.1 in
       let full = passed (control_full l) [] unknown.1 in
       let now = after-is (Remove tei) (teis.remove tei) none refl (by-two _ _ _ _ unknown.0 full.0) in
@@ -94,7 +95,8 @@ module _ (c : Config) (l : Line) where
       × (is_some (after c (request (Check tei)) l).management.check ≡ true)
   unfolding teis.refusal
   checked tei none =
-      let bad = passed (bad_tei tei) (no_link tei l ∷ check_running l ∷ control_full l ∷ []) none in
+      let ours = passed (wrong_side c) (bad_tei tei ∷ no_link tei l ∷ check_running l ∷ control_full l ∷ []) none in
+      let bad = passed (bad_tei tei) (no_link tei l ∷ check_running l ∷ control_full l ∷ []) ours.1 in
       let unknown = passed (no_link tei l) (check_running l ∷ control_full l ∷ []) bad.1 in
       let running = passed (check_running l) (control_full l ∷ []) unknown.1 in
       let full = passed (control_full l) [] running.1 in

@@ -86,7 +86,7 @@ module _ (c : Config) (l : Line) (s : IsSound c l) (received : List ℕ) (e : Ev
         NotesItsOwn c e l f.line (told f.told)
 
     by-change : (o : Option Change) → ByChange me o ns → tei_laws.Moves l.management.places o (teis.after me l.management).places → Goes o
-    by-change None by m = inr (inr (inr (record { stays = m; notes = by })))
+    by-change None by m = inr (inr (inr (inr (record { stays = m; notes = by }))))
     by-change (Some (Gained tei place)) by m =
         inr (inl (record {
           tei = tei;
@@ -117,7 +117,7 @@ module _ (c : Config) (l : Line) (s : IsSound c l) (received : List ℕ) (e : Ev
     managed = by-change (teis.told me l.management).change (noted me l.management s.management) (tei_lemmas.changes_are_told me l.management fits s.management)
 
   nothing-noted : (a : Answer) (next : Line) → next.management.places ≡ l.management.places → notes_of a ≡ [] → NotesItsOwn c e l next a
-  nothing-noted a next stays none = inr (inr (inr (record { stays = stays; notes = none })))
+  nothing-noted a next stays none = inr (inr (inr (inr (record { stays = stays; notes = none }))))
 
 -- An octet.
 module _ (c : Config) (l : Line) (s : IsSound c l) (value : ℕ) where
@@ -134,6 +134,19 @@ module _ (c : Config) (l : Line) (s : IsSound c l) (value : ℕ) where
       octet-aims c l value HeardOwn (λ proper by. nothing-noted c l s heard (octet value) _ _ refl refl) (λ cause proper by. nothing-noted c l s heard (octet value) _ _ refl refl)
       (λ service tei place what proper by. of-link c l s heard (octet value) service tei place (link.received what) proper by)
       (λ parts ui proper by. managed c l s heard (octet value) (teis.message parts.info) proper (λ tei ns is. is) (λ tei ns is. is))
+      (λ parts octets ends read service to proper by.
+      inr (inr (inr (inl (record {
+        value = value;
+        by = refl;
+        octets = octets;
+        ends = ends;
+        parts = parts;
+        read = read;
+        service = service;
+        whose = to;
+        stays = refl;
+        notes = refl;
+      })))))
 
 -- An expiry, and a request.
 module _ (c : Config) (l : Line) (s : IsSound c l) where

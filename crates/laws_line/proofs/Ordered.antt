@@ -44,26 +44,26 @@ module _ (c : Config) (ranged : IsInRange c) (number tei : ℕ) (few : number < 
   one-less xs ys x e = ap (λ zs. length (drop 1 zs) + 1) e ∙ (let n : length ys + 1 ≡ length (x ∷ ys) = omega arith in n) ∙ sym (ap length e)
 
   by-message : (before : List ControlFrame) → (link_at number l).waiting ≡ before ++ f ∷ behind → (m : Message) (ms : List Message) → l.management.waiting ≡ m ∷ ms
-      → Step before (with_message l (messages.frame_of m))
+      → Step before (with_message l (messages.frame_of c.side m))
   by-message before e m ms e' = let n = one-less l.management.waiting ms m e' in inr (before, e, omega (arith, n))
 
-  by-unit : (before : List ControlFrame) → (link_at number l).waiting ≡ before ++ f ∷ behind → (u : UnitData) (us : List UnitData) → l.units ≡ u ∷ us → Step before (with_unit l u)
+  by-unit : (before : List ControlFrame) → (link_at number l).waiting ≡ before ++ f ∷ behind → (u : UnitData) (us : List UnitData) → l.units ≡ u ∷ us → Step before (with_unit c l u)
   by-unit before e u us e' = let n = one-less l.units us u e' in inr (before, e, omega (arith, n))
 
   -- its own link gives
   own-gives : (before : List ControlFrame) → (link_at number l).waiting ≡ before ++ f ∷ behind → (g : Given) → links.given (terms_at c number l) (link_at number l) ≡ Some g
-      → Step before (with_given_frame l number (terms_at c number l) g)
+      → Step before (with_given_frame c l number (terms_at c number l) g)
   own-gives [] e g given = inl (text-is c ranged number tei few l f g at (given-whole c ranged number tei few (terms_at c number l) (link_at number l) f behind g e given))
   own-gives (b ∷ bs) e g given =
       let next = links.after (terms_at c number l) link.offer (link_at number l) in
-      let here : link_at number (with_given_frame l number (terms_at c number l) g).line ≡ next = get_or-set_same l.links number next fresh (omega (arith, few, s.count)) in
+      let here : link_at number (with_given_frame c l number (terms_at c number l) g).line ≡ next = get_or-set_same l.links number next fresh (omega (arith, few, s.count)) in
       let last : way_round (link_count c) (number + 1) number + 1 ≡ link_count c = served-last (link_count c) l.turn s.turn number few in
       let sum : (1 + length bs) * link_count c ≡ link_count c + length bs * link_count c = omega arith in
       inr (bs, ap (λ (x : Link). x.waiting) here ∙ others-wait (terms_at c number l) (link_at number l) b (bs ++ f ∷ behind) e, omega (arith, last, sum))
 
   -- another link gives
   other-gives : (before : List ControlFrame) → (link_at number l).waiting ≡ before ++ f ∷ behind → (other : ℕ) (g : Given) → number ≢ other
-      → way_round (link_count c) (other + 1) number + 1 ≤ way_round (link_count c) l.turn number → Step before (with_given_frame l other (terms_at c other l) g)
+      → way_round (link_count c) (other + 1) number + 1 ≤ way_round (link_count c) l.turn number → Step before (with_given_frame c l other (terms_at c other l) g)
   other-gives before e other g apart nearer =
       let same = get_or-set_other l.links other number (links.after (terms_at c other l) link.offer (link_at other l)) fresh apart in
       inr (before, ap (λ (x : Link). x.waiting) same ∙ e, omega (arith, nearer))
@@ -72,20 +72,20 @@ module _ (c : Config) (ranged : IsInRange c) (number tei : ℕ) (few : number < 
   gives-some [] e none = subst (GoesWhole f) none (first-goes (terms_at c number l) (link_at number l) f behind e)
   gives-some (b ∷ bs) e none = subst (GoesWhole b) none (first-goes (terms_at c number l) (link_at number l) b (bs ++ f ∷ behind) e)
 
-  none-taken : (o : Option Given) → option_map (with_given_frame l number (terms_at c number l)) o ≡ None → o ≡ None
+  none-taken : (o : Option Given) → option_map (with_given_frame c l number (terms_at c number l)) o ≡ None → o ≡ None
   none-taken None e = refl
   none-taken (Some g) e = absurd (cc)
 
   by-given : (before : List ControlFrame) → (link_at number l).waiting ≡ before ++ f ∷ behind → (other : ℕ) (t : Taken)
       → (other ≡ number) ⊎ ((number ≢ other) × (way_round (link_count c) (other + 1) number + 1 ≤ way_round (link_count c) l.turn number))
-      → (o : Option Given) → links.given (terms_at c other l) (link_at other l) ≡ o → option_map (with_given_frame l other (terms_at c other l)) o ≡ Some t → Step before t
+      → (o : Option Given) → links.given (terms_at c other l) (link_at other l) ≡ o → option_map (with_given_frame c l other (terms_at c other l)) o ≡ Some t → Step before t
   by-given before e other t which None given is = absurd (cc)
   by-given before e other t (inl same) (Some g) given is =
-      let made : with_given_frame l other (terms_at c other l) g ≡ t = cc in
-      subst (Step before) (ap (λ n. with_given_frame l n (terms_at c n l) g) (sym same) ∙ made)
+      let made : with_given_frame c l other (terms_at c other l) g ≡ t = cc in
+      subst (Step before) (ap (λ n. with_given_frame c l n (terms_at c n l) g) (sym same) ∙ made)
       (own-gives before e g (subst (λ n. links.given (terms_at c n l) (link_at n l) ≡ Some g) same given))
   by-given before e other t (inr x) (Some g) given is =
-      let made : with_given_frame l other (terms_at c other l) g ≡ t = cc in
+      let made : with_given_frame c l other (terms_at c other l) g ≡ t = cc in
       subst (Step before) made (other-gives before e other g x.0 x.1)
 
   by-turn : (before : List ControlFrame) → (link_at number l).waiting ≡ before ++ f ∷ behind → (t : Taken) (other : ℕ) → IsInTurn c l other t → Step before t
@@ -100,13 +100,13 @@ module _ (c : Config) (ranged : IsInRange c) (number tei : ℕ) (few : number < 
 
   by-all : (before : List ControlFrame) → (link_at number l).waiting ≡ before ++ f ∷ behind → (t : Taken) → taken c l ≡ Some t
       → (ms : List Message) → l.management.waiting ≡ ms → (us : List UnitData) → l.units ≡ us
-      → option_or (option_map (with_message l) (option_map messages.frame_of (slice_get ms 0))) (option_or (option_map (with_unit l) (slice_get us 0)) (first_taken c l (round c l))) ≡ Some t
+      → option_or (option_map (with_message l) (option_map (messages.frame_of c.side) (slice_get ms 0))) (option_or (option_map (with_unit c l) (slice_get us 0)) (first_taken c l (round c l))) ≡ Some t
       → Step before t
-  by-all before e t some (m ∷ ms) em us eu is = let made : with_message l (messages.frame_of m) ≡ t = cc in subst (Step before) made (by-message before e m ms em)
-  by-all before e t some [] em (u ∷ us) eu is = let made : with_unit l u ≡ t = cc in subst (Step before) made (by-unit before e u us eu)
+  by-all before e t some (m ∷ ms) em us eu is = let made : with_message l (messages.frame_of c.side m) ≡ t = cc in subst (Step before) made (by-message before e m ms em)
+  by-all before e t some [] em (u ∷ us) eu is = let made : with_unit c l u ≡ t = cc in subst (Step before) made (by-unit before e u us eu)
   by-all before e t some [] em [] eu is =
       let turn =
-      links_take_turns c l t (ap (λ ms. option_map (with_message l) (option_map messages.frame_of (slice_get ms 0))) em) (ap (λ us. option_map (with_unit l) (slice_get us 0)) eu) some in
+      links_take_turns c l t (ap (λ ms. option_map (with_message l) (option_map (messages.frame_of c.side) (slice_get ms 0))) em) (ap (λ us. option_map (with_unit c l) (slice_get us 0)) eu) some in
       by-turn before e t turn.0 turn.1
 
   pub taken-step : (before : List ControlFrame) → (link_at number l).waiting ≡ before ++ f ∷ behind → (t : Taken) → taken c l ≡ Some t → Step before t

@@ -24,7 +24,7 @@ use Rattle.laws_line.specs.Drains.{IsEnough, control_text, IsBegunWithin, IsAnsw
 use Rattle.laws_line.proofs.Ordered.{enough-goes}
 
 module _ (c : Config) (ranged : IsInRange c) (l : Line) (s : IsSound c l) (value : ℕ) (service : Service) (tei place : ℕ) (parts : Parts) (octets : List ℕ)
-    (ends : Ends c l value octets) (h : IsFor l service tei place parts octets) where
+    (ends : Ends c l value octets) (h : IsFor c l service tei place parts octets) where
   abbrev number : ℕ
   number = link_number place service
 

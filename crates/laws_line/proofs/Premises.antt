@@ -1,7 +1,6 @@
 -- Lines that meet what the laws of a line's pulls ask, and what those give.
 use Rattle.std.proofs.Common.{ℕ, true, ◌+◌, ◌≤◌, List, [], ◌∷◌, length, refl, inl, arith}
 use Rattle.std.specs.Prelude.{fold}
-use Rattle.lapd_frame.specs.declared.addresses.Side.TheVariants.{User}
 use Rattle.lapd_frame.specs.declared.controls.Control.TheVariants.{ReceiveReady, Ua}
 use Rattle.lapd_frame.specs.declared.services.Service.TheVariants.{Call}
 use Rattle.lapd_frame.specs.Grammar.{Spells}
@@ -11,6 +10,7 @@ use Rattle.laws_two_links.specs.Polls.{IsPollWhileUp}
 use Rattle.model_line.specs.Event.{octet, request}
 use Rattle.model_line.specs.Line.{Line, fresh_line, terms}
 use Rattle.model_line.specs.Machine.{after}
+use Rattle.model_line.specs.Octet.{heard_side}
 use Rattle.model_line.specs.Request.{Assign}
 use Rattle.model_line.specs.Sound.{IsSound}
 use Rattle.model_line.proofs.LineSound.{after_sound, fresh_sound}
@@ -32,11 +32,11 @@ pub before-sound : IsSound small before_poll
 before-sound =
     sound-after octets_before (after small (request (Assign 64)) (fresh_line small)) (after_sound small refl (request (Assign 64)) (fresh_line small) (fresh_sound small refl))
 
-pub poll-spelled : Spells User poll (0x00 ∷ 0x81 ∷ 0x01 ∷ 0x01 ∷ [])
+pub poll-spelled : Spells (heard_side small) poll (0x00 ∷ 0x81 ∷ 0x01 ∷ 0x01 ∷ [])
 unfolding seq
 poll-spelled = record { is_frame = record { sapi = omega arith; tei = omega arith; kind = refl; size = refl }; octets_are = refl }
 
-pub poll-is-for : IsFor before_poll Call 64 0 poll (0x00 ∷ 0x81 ∷ 0x01 ∷ 0x01 ∷ [])
+pub poll-is-for : IsFor small before_poll Call 64 0 poll (0x00 ∷ 0x81 ∷ 0x01 ∷ 0x01 ∷ [])
 poll-is-for = record { spelled = poll-spelled; sapi = refl; tei_is = refl; on_line = on_line }
 
 pub poll-is-one : IsPollWhileUp (terms small Call 64) (call_link before_poll) poll
@@ -56,10 +56,10 @@ pub sabme-sound : IsSound small before_sabme
 sabme-sound =
     sound-after worked.octets_before (after small (request (Assign 64)) (fresh_line small)) (after_sound small refl (request (Assign 64)) (fresh_line small) (fresh_sound small refl))
 
-pub sabme-spelled : Spells User sabme (0x00 ∷ 0x81 ∷ 0x7F ∷ [])
+pub sabme-spelled : Spells (heard_side small) sabme (0x00 ∷ 0x81 ∷ 0x7F ∷ [])
 sabme-spelled = record { is_frame = record { sapi = omega arith; tei = omega arith; kind = refl; size = refl }; octets_are = refl }
 
-pub sabme-is-for : IsFor before_sabme Call 64 0 sabme (0x00 ∷ 0x81 ∷ 0x7F ∷ [])
+pub sabme-is-for : IsFor small before_sabme Call 64 0 sabme (0x00 ∷ 0x81 ∷ 0x7F ∷ [])
 sabme-is-for = record { spelled = sabme-spelled; sapi = refl; tei_is = refl; on_line = worked.on_line }
 
 pub sabme-room : length (call_link before_sabme).waiting + 1 ≤ 2

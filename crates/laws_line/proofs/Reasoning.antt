@@ -36,7 +36,7 @@ use Rattle.model_line.specs.Effect.{at_management, told_of_management, of_link, 
 use Rattle.model_line.specs.Expiry.{at_timer}
 use Rattle.model_line.specs.Line.{Line, place_in, link_in, terms}
 use Rattle.model_line.specs.Machine.{answer, unless_refused, unless_refused_told}
-use Rattle.model_line.specs.Octet.{with_received}
+use Rattle.model_line.specs.Octet.{group_tei, with_received}
 use Rattle.model_line.specs.Refusal.{refusal}
 use Rattle.model_line.specs.Request.{Request, Establish, Release, Data, Unit, Assign, Remove, Check as Checking, SetBusy, ClearBusy}
 use Rattle.model_line.specs.Requested.{at_requested, aim_of_request}
@@ -221,6 +221,8 @@ have-reasons c (octet value) l =
     management-noted c l (octet value) (teis.message parts.info) (with_received value l)
     (message-noted (HasReason c l (octet value)) l.management parts.info (λ ri tei says. (ri, hears c l value parts (asks ri) ui says))
     (λ tei says. hears c l value parts (responds tei) ui says) parts.info refl))
+    (λ parts octets ends read service to.
+    All-cons (HasReason c l (octet value)) (notes.Unit service group_tei) [] tt (All-nil (HasReason c l (octet value))))
 have-reasons c (expiry (T200 service tei)) l = timer-noted c l (expiry (T200 service tei)) service tei link_timer.T200 (place_in l tei)
 have-reasons c (expiry (T203 service tei)) l = timer-noted c l (expiry (T203 service tei)) service tei link_timer.T203 (place_in l tei)
 have-reasons c (expiry T201) l =

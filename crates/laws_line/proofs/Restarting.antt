@@ -52,7 +52,7 @@ module _ (c : Config) (l : Line) (s : IsSound c l) where
       next : Link
       next = links.after its link.offer (link_at x.number l)
 
-      go : starting.LeavesTimers its (link_at x.number l) next x.what.orders → Leaves x.what.orders (with_given_frame l x.number its x.what).line
+      go : starting.LeavesTimers its (link_at x.number l) next x.what.orders → Leaves x.what.orders (with_given_frame c l x.number its x.what).line
       go (inl none) = inl none
       go (inr starts) =
           inr (record {

@@ -11,7 +11,6 @@ use Rattle.std.proofs.lemmas.Option.{none-some}
 use Rattle.lapd_bits.specs.Bits.{bits}
 use Rattle.lapd_bits.specs.Sent.{line_text}
 use Rattle.lapd_bits.specs.Stream as stream
-use Rattle.lapd_frame.specs.declared.addresses.Side.TheVariants.{Network}
 use Rattle.lapd_frame.specs.declared.refusals.Refusal.{Refusal}
 use Rattle.lapd_frame.specs.declared.services.Service.{Service}
 use Rattle.lapd_frame.specs.declared.timers.Timer.{Timer}
@@ -78,7 +77,7 @@ module _ (c : Config) (l : Line) (s : IsSound c l) where
     where
       at-tei : (tei : ℕ) → tei_at (place_at number) l ≡ Some tei → link_sound.IsSound (terms c (service_at number) tei) (link_at number l)
           → (o : Option Given) → links.given (terms c (service_at number) tei) (link_at number l) ≡ o
-          → LinkFate number (option_map (with_given_frame l number (terms c (service_at number) tei)) o)
+          → LinkFate number (option_map (with_given_frame c l number (terms c (service_at number) tei)) o)
       at-tei tei at sound None e =
           let t = terms c (service_at number) tei in (
           λ other at'. subst (λ n. IsSilent (terms c (service_at number) n) (link_at number l)) (same-tei at at')
@@ -119,11 +118,11 @@ module _ (c : Config) (l : Line) (s : IsSound c l) where
 
       go : (o : Option ℕ) → tei_at (place_at number) l ≡ o → IsSoundAt c number (link_at number l) o → LinkFate number (link_taken c l number)
       go None e begins =
-          let none : link_taken c l number ≡ None = ap (option_map (with_given_frame l number (terms_at c number l))) (fresh-gives number begins) in
+          let none : link_taken c l number ≡ None = ap (option_map (with_given_frame c l number (terms_at c number l))) (fresh-gives number begins) in
           subst (LinkFate number) (sym none) (λ tei at. absurd (none-some tei (sym e ∙ at)))
       go (Some tei) e sound =
           let t : terms_at c number l ≡ terms c (service_at number) tei = ap (λ o. terms c (service_at number) (unwrap_or o 0)) e in
-          subst (λ (t : Terms). LinkFate number (option_map (with_given_frame l number t) (links.given t (link_at number l)))) (sym t)
+          subst (λ (t : Terms). LinkFate number (option_map (with_given_frame c l number t) (links.given t (link_at number l)))) (sym t)
           (at-tei tei e sound (links.given (terms c (service_at number) tei) (link_at number l)) refl)
 
   -- all links of a round
@@ -175,7 +174,7 @@ module _ (c : Config) (l : Line) (s : IsSound c l) where
       (All-get_or Idle numbers number 0 (omega (arith, length-range_with_len 0 (link_count c), few)) all)
 
   by-all : (m : Option Message) → slice_get l.management.waiting 0 ≡ m → (u : Option UnitData) → slice_get l.units 0 ≡ u
-      → Fate (option_or (option_map (with_message l) (option_map frame_of m)) (option_or (option_map (with_unit l) u) (first_taken c l (round c l))))
+      → Fate (option_or (option_map (with_message l) (option_map (frame_of c.side) m)) (option_or (option_map (with_unit c l) u) (first_taken c l (round c l))))
   by-all (Some message) e u e' = inl (record { message = message; oldest = e; spelled = refl; rest = refl; units = refl; links = refl; turn = refl })
   by-all None e (Some unit) e' =
       inr (inl (record { no_message = no-first l.management.waiting e; unit = unit; oldest = e'; spelled = refl; messages = refl; rest = refl; links = refl; turn = refl }))
@@ -269,9 +268,9 @@ module _ (c : Config) where
       by-change (Some (Left tei place)) = refl
   aim-units l m (at_units unit) e = ap (λ us. us ++ unit ∷ []) e
 
-  none-heard : (l : Line) (o : Option stream.Event) → unit_of (option_map_or (aim_of_heard l) o (at_none nothing)) ≡ []
+  none-heard : (l : Line) (o : Option stream.Event) → unit_of (option_map_or (aim_of_heard c l) o (at_none nothing)) ≡ []
   none-heard l None = refl
-  none-heard l (Some e) = heard_aims l (λ aim. unit_of aim ≡ []) (λ cause. refl) (λ service tei place what at. refl) (λ info. refl) e
+  none-heard l (Some e) = heard_aims c l (λ aim. unit_of aim ≡ []) (λ cause. refl) (λ service tei place what at. refl) (λ info. refl) (λ parts service to. refl) e
 
   by-timer : (service : Service) (tei : ℕ) (timer : LinkTimer) (o : Option ℕ) → unit_of (at_timer service tei timer o) ≡ []
   by-timer service tei timer None = refl

@@ -3,7 +3,6 @@ use Rattle.std.proofs.Common.{◌≡◌, ℕ, Bool, true, false, ◌==◌, cond,
 use Rattle.std.specs.Option.{option_map_or}
 use Rattle.lapd_bits.specs.Stream as stream
 use Rattle.lapd_frame.specs.declared.addresses.Address.{Address}
-use Rattle.lapd_frame.specs.declared.addresses.Side.TheVariants.{User}
 use Rattle.lapd_frame.specs.declared.controls.Control.{Control}
 use Rattle.lapd_frame.specs.declared.controls.Control.TheVariants as control
 use Rattle.lapd_frame.specs.declared.faults.ReadFault.{ReadFault}
@@ -26,7 +25,8 @@ use Rattle.model_line.specs.Event.{Event, octet, expiry, request, Answer, nothin
 use Rattle.model_line.specs.Effect.{Aim, at_none, at_link, at_management, at_units}
 use Rattle.model_line.specs.Expiry.{at_timer, aim_of_expiry}
 use Rattle.model_line.specs.Line.{Line, place_in}
-use Rattle.model_line.specs.Octet.{gained, drop_for, management_sapi, group_tei, at_place, to_service, addressed, message_of, aim_of_reading, unless_at_link, aim_of_long, aim_of_heard, aim_of_octet}
+use Rattle.model_line.specs.Octet.{gained, drop_for, management_sapi, group_tei, at_place, to_service, addressed, message_of, aim_of_reading, unless_at_link, aim_of_long, heard_side, aim_of_heard, aim_of_octet}
+use Rattle.model_line.proofs.Sides.{side_aims}
 use Rattle.model_line.specs.Request.{Request, Establish, Release, Data, Assign, Remove, Check, SetBusy, ClearBusy}
 use Rattle.model_line.specs.Requested.{at_requested, aim_of_request}
 use Rattle.laws_line.specs.Share.{is_granted}
@@ -79,11 +79,12 @@ module _ (c : Config) (l : Line) (e : Event) (answer : Answer) where
 
 -- An octet.
 module _ (c : Config) (l : Line) (value : ℕ) (answer : Answer) where
-  read-ties : (octets : List ℕ) → gained c.n201 l.received value ≡ Some (stream.frame octets) → (r : Result Parts ReadFault) → reading User octets ≡ r
-      → Ties c l (octet value) answer (aim_of_reading l r)
+  read-ties : (octets : List ℕ) → gained c.n201 l.received value ≡ Some (stream.frame octets) → (r : Result Parts ReadFault) → reading (heard_side c) octets ≡ r
+      → Ties c l (octet value) answer (aim_of_reading c l r)
   read-ties octets ends (Ok parts) read =
-      by-address c l (octet value) answer parts.address (link.frame parts) (message_of parts.control parts.info) (message-ties c l (octet value) answer parts.control parts.info)
-      (λ service sapi. record { value = value; by = refl; octets = octets; ends = gained-adds c l value (Some (stream.frame octets)) ends; read = read; sapi = sapi; tei_is = refl })
+      side_aims c parts (Ties c l (octet value) answer) tt (λ service to. tt) (addressed l parts.address (link.frame parts) (message_of parts.control parts.info))
+      (by-address c l (octet value) answer parts.address (link.frame parts) (message_of parts.control parts.info) (message-ties c l (octet value) answer parts.control parts.info)
+      (λ service sapi. record { value = value; by = refl; octets = octets; ends = gained-adds c l value (Some (stream.frame octets)) ends; read = read; sapi = sapi; tei_is = refl }))
   read-ties octets ends (Err BadExtension) read = tt
   read-ties octets ends (Err (Undefined address)) read =
       let adds = gained-adds c l value (Some (stream.frame octets)) ends in
@@ -94,7 +95,7 @@ module _ (c : Config) (l : Line) (value : ℕ) (answer : Answer) where
         by = refl;
         octets = octets;
         address = address;
-        ends = inl (adds, fault-found User octets (Undefined address) (ended-octets c l value (stream.frame octets) adds) read);
+        ends = inl (adds, fault-found (heard_side c) octets (Undefined address) (ended-octets c l value (stream.frame octets) adds) read);
         sapi = sapi;
         tei_is = refl;
       })
@@ -107,14 +108,14 @@ module _ (c : Config) (l : Line) (value : ℕ) (answer : Answer) where
         by = refl;
         octets = octets;
         address = address;
-        ends = inl (adds, fault-found User octets (WrongSize address) (ended-octets c l value (stream.frame octets) adds) read);
+        ends = inl (adds, fault-found (heard_side c) octets (WrongSize address) (ended-octets c l value (stream.frame octets) adds) read);
         sapi = sapi;
         tei_is = refl;
       })
   read-ties octets ends (Err Short) read = tt
 
   -- one that was too long to keep
-  too-long : (head : List ℕ) → gained c.n201 l.received value ≡ Some (stream.overlong head) → (address : Address) (what : link.Received) → IsTooLong address head what
+  too-long : (head : List ℕ) → gained c.n201 l.received value ≡ Some (stream.overlong head) → (address : Address) (what : link.Received) → IsTooLong c address head what
       → (service : Service) → service_of address.sapi ≡ Some service → BringsMalformed c l (octet value) service address.tei what
   too-long head ends address what is service sapi = record {
     value = value;
@@ -126,7 +127,7 @@ module _ (c : Config) (l : Line) (value : ℕ) (answer : Answer) where
     tei_is = refl;
   }
 
-  long-ties : (head : List ℕ) → gained c.n201 l.received value ≡ Some (stream.overlong head) → (r : Result Long ReadFault) → long_reading User head ≡ r
+  long-ties : (head : List ℕ) → gained c.n201 l.received value ≡ Some (stream.overlong head) → (r : Result Long ReadFault) → long_reading (heard_side c) head ≡ r
       → Ties c l (octet value) answer (aim_of_long l r)
   long-ties head ends (Ok (long.Information address)) read = by-address c l (octet value) answer address link.overlong (drop_for Unserved) tt (too-long head ends address link.overlong read)
   long-ties head ends (Ok (long.Unnumbered address)) read = unless-ties c l (octet value) answer (addressed l address link.overlong (drop_for Unserved))
@@ -138,10 +139,10 @@ module _ (c : Config) (l : Line) (value : ℕ) (answer : Answer) where
   pub octet-ties : Ties c l (octet value) answer (aim_of_octet c value l)
   octet-ties = go (gained c.n201 l.received value) refl
     where
-      go : (o : Option stream.Event) → gained c.n201 l.received value ≡ o → Ties c l (octet value) answer (option_map_or (aim_of_heard l) o (at_none nothing))
+      go : (o : Option stream.Event) → gained c.n201 l.received value ≡ o → Ties c l (octet value) answer (option_map_or (aim_of_heard c l) o (at_none nothing))
       go None e = tt
-      go (Some (stream.frame octets)) e = read-ties octets e (reading User octets) refl
-      go (Some (stream.overlong head)) e = long-ties head e (long_reading User head) refl
+      go (Some (stream.frame octets)) e = read-ties octets e (reading (heard_side c) octets) refl
+      go (Some (stream.overlong head)) e = long-ties head e (long_reading (heard_side c) head) refl
       go (Some (stream.dropped cause)) e = tt
 
 -- An expiry.

@@ -124,11 +124,11 @@ module _ (c : Config) (l : Line) (s : IsSound c l) where
   managed e fits = management-followed c l s as_it_was (λ k service tei b. refl) e fits (t201_follows e l.management)
 
   -- what is heard
-  pub heard-followed : (o : Option stream.Event) → let aim = option_map_or (aim_of_heard l) o (at_none nothing) in Follow as_it_was l (of_aim c aim l).told.orders (of_aim c aim l).line
+  pub heard-followed : (o : Option stream.Event) → let aim = option_map_or (aim_of_heard c l) o (at_none nothing) in Follow as_it_was l (of_aim c aim l).told.orders (of_aim c aim l).line
   heard-followed None = λ timer. refl
   heard-followed (Some e) =
-      heard_aims l (λ aim. Follow as_it_was l (of_aim c aim l).told.orders (of_aim c aim l).line) (λ cause. λ timer. refl)
-      (λ service tei place what at. aimed service tei place (link.received what) at) (λ info. managed (teis.message info) tt) e
+      heard_aims c l (λ aim. Follow as_it_was l (of_aim c aim l).told.orders (of_aim c aim l).line) (λ cause. λ timer. refl)
+      (λ service tei place what at. aimed service tei place (link.received what) at) (λ info. managed (teis.message info) tt) (λ parts service to timer. refl) e
 
   -- what is asked for
   asked : (service : Service) (tei : ℕ) (what : link.Request) (o : Option ℕ) → place_in l tei ≡ o
@@ -199,11 +199,11 @@ module _ (c : Config) (l : Line) (s : IsSound c l) where
 
   took : (t : Taken) → IsOne c l t → Follow as_it_was l t.orders t.line
   took t (inl x) = subst (λ (u : Taken). Follow as_it_was l u.orders u.line) (sym x.1) (λ timer. sym (same-running l (with_message l x.0).line refl refl refl timer))
-  took t (inr (inl x)) = subst (λ (u : Taken). Follow as_it_was l u.orders u.line) (sym x.1) (λ timer. sym (same-running l (with_unit l x.0).line refl refl refl timer))
+  took t (inr (inl x)) = subst (λ (u : Taken). Follow as_it_was l u.orders u.line) (sym x.1) (λ timer. sym (same-running l (with_unit c l x.0).line refl refl refl timer))
   took t (inr (inr x)) =
       subst (λ (u : Taken). Follow as_it_was l u.orders u.line) (sym x.is)
       (λ timer. steered timer ∙ sym (same-running (with_link x.number (links.after (terms c (service_at x.number) x.tei) link.offer (link_at x.number l)) l)
-      (with_given_frame l x.number (terms c (service_at x.number) x.tei) x.what).line refl refl refl timer))
+      (with_given_frame c l x.number (terms c (service_at x.number) x.tei) x.what).line refl refl refl timer))
     where
       steers : Steers (terms c (service_at x.number) x.tei) as_it_was x.what.orders (link_at x.number l) (links.after (terms c (service_at x.number) x.tei) link.offer (link_at x.number l))
       steers = subst (λ os. Steers (terms c (service_at x.number) x.tei) as_it_was os (link_at x.number l) (links.after (terms c (service_at x.number) x.tei) link.offer (link_at x.number l)))
@@ -240,8 +240,8 @@ unfolding after answer
 runs-follow c (octet value) l timer s timed =
     let now = with_received value l in
     let h = heard-followed c now (received_sound c value l s) (gained c.n201 l.received value) timer in
-    subst (λ b. obeyed timer b (of_aim c (option_map_or (aim_of_heard l) (gained c.n201 l.received value) (at_none nothing)) now).told.orders
-    ≡ is_running timer (of_aim c (option_map_or (aim_of_heard l) (gained c.n201 l.received value) (at_none nothing)) now).line)
+    subst (λ b. obeyed timer b (of_aim c (option_map_or (aim_of_heard c l) (gained c.n201 l.received value) (at_none nothing)) now).told.orders
+    ≡ is_running timer (of_aim c (option_map_or (aim_of_heard c l) (gained c.n201 l.received value) (at_none nothing)) now).line)
     (received-same l (l.received ++ value ∷ []) timer) h
 runs-follow c (expiry (T200 service tei)) l timer s timed = expired c l s kind.T200 service tei timed (place_in l tei) refl timer
 runs-follow c (expiry (T203 service tei)) l timer s timed = expired c l s kind.T203 service tei timed (place_in l tei) refl timer

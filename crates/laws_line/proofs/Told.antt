@@ -154,12 +154,12 @@ module _ (c : Config) (l : Line) (s : IsSound c l) (number : ℕ) (received : Li
   no-loss event aim none some = absurd (true≢false (sym some ∙ none))
 
   -- what is heard
-  pub octet-tells : (event : Event) (o : Option stream.Event) → Tells event (option_map_or (aim_of_heard l) o (at_none nothing))
+  pub octet-tells : (event : Event) (o : Option stream.Event) → Tells event (option_map_or (aim_of_heard c l) o (at_none nothing))
   octet-tells event None = no-loss event (at_none nothing) refl
   octet-tells event (Some e) =
-      heard_aims l (Tells event) (λ cause. no-loss event (at_none _) refl)
+      heard_aims c l (Tells event) (λ cause. no-loss event (at_none _) refl)
       (λ service tei place what at. at-link event service tei place (link.received what) (place_of-is l.management.places tei place at).1 (λ y is. absurd (true≢false (sym y))))
-      (λ info. management event (teis.message info) tt) e
+      (λ info. management event (teis.message info) tt) (λ parts service to. no-loss event (at_none _) refl) e
 
   timer-tells : (event : Event) (service : Service) (tei : ℕ) (timer : LinkTimer) (o : Option ℕ) → place_in l tei ≡ o → Tells event (at_timer service tei timer o)
   timer-tells event service tei timer None e = no-loss event (at_none nothing) refl

@@ -145,11 +145,11 @@ module _ (c : Config) (ranged : IsInRange c) (l : Line) (s : IsSound c l) (recei
   managed : (e : teis.Event) → Once (at_management e)
   managed e = changed-once e (teis.told e l.management).change (noted e l.management s.management)
 
-  heard-once : (o : Option stream.Event) → Once (option_map_or (aim_of_heard l) o (at_none nothing))
+  heard-once : (o : Option stream.Event) → Once (option_map_or (aim_of_heard c l) o (at_none nothing))
   heard-once None = refl
   heard-once (Some e) =
-      heard_aims l Once (λ cause. refl) (λ service tei place what on. at-its-link service tei place (link.received what) on)
-      (λ info. managed (teis.message info)) e
+      heard_aims c l Once (λ cause. refl) (λ service tei place what on. at-its-link service tei place (link.received what) on)
+      (λ info. managed (teis.message info)) (λ parts service to. refl) e
 
   timer-once : (service : Service) (tei : ℕ) (timer : LinkTimer) (o : Option ℕ) → place_in l tei ≡ o → Once (at_timer service tei timer o)
   timer-once service tei timer None on = refl

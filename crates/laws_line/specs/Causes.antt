@@ -1,6 +1,6 @@
 -- Why a message of TEI management comes to wait on a line.
 use Rattle.std.specs.Prelude.{◌≡◌, ◌⊎◌, ℕ, Bool, true, List, [], ◌∷◌, ◌++◌, drop, Ok}
-use Rattle.lapd_frame.specs.declared.addresses.Side.TheVariants.{User}
+use Rattle.lapd_frame.specs.declared.addresses.Side.TheVariants.{Network}
 use Rattle.lapd_frame.specs.declared.controls.Control.TheVariants.{Ui}
 use Rattle.lapd_frame.specs.declared.timers.Timer.TheVariants.{T201}
 use Rattle.lapd_frame.specs.Grammar.{Parts}
@@ -10,21 +10,23 @@ use Rattle.lapd_tei.specs.declared.messages.Message.TheVariants.{IdentityAssigne
 use Rattle.model_line.specs.declared.config.Config.{Config}
 use Rattle.model_line.specs.Event.{Event, octet, expiry, request, pull, Answer}
 use Rattle.model_line.specs.Line.{Line, has_tei}
+use Rattle.model_line.specs.Octet.{heard_side}
 use Rattle.model_line.specs.Request.{Request}
 use Rattle.laws_line.specs.Frames.{lost_in}
 use Rattle.laws_line.specs.Heard.{Ends}
 use Rattle.laws_line.specs.Messages.{Said, Says, Serves, Expires, Grants, is_of_management}
 use Rattle.laws_line.specs.Share.{is_granted}
 
--- An octet ends a frame that the grammar has: a UI to the group with SAPI 63, whose information is this message of a
--- terminal (Q.921 clauses 3.3.3, 3.3.4 and 5.3.1).
+-- On the network's side an octet ends a frame that the grammar has: a UI to the group with SAPI 63, whose information is
+-- this message of a terminal (Q.921 clauses 3.3.3, 3.3.4 and 5.3.1).
 pub record Hears (c : Config) (l : Line) (e : Event) (said : Said) : Type 0 where
+  pub network : c.side ≡ Network
   pub value : ℕ
   pub by : e ≡ octet value
   pub octets : List ℕ
   pub ends : Ends c l value octets
   pub parts : Parts
-  pub read : reading User octets ≡ Ok parts
+  pub read : reading (heard_side c) octets ≡ Ok parts
   pub sapi : parts.address.sapi ≡ 63
   pub group : parts.address.tei ≡ 127
   pub poll : Bool

@@ -1,7 +1,6 @@
 -- What pulls alone come to.
 use Rattle.std.specs.Prelude.{◌≡◌, ◌⊎◌, ℕ, zero, suc, ◌+◌, ◌-◌, ◌*◌, ◌/◌, ◌<◌, ◌≤◌, ◌&&◌, not, max, min, false, List, ◌++◌, length, replicate, Some, None, nat_le, if◌then◌else◌}
 use Rattle.lapd_bits.specs.Sent.{idle}
-use Rattle.lapd_frame.specs.declared.addresses.Side.TheVariants.{Network}
 use Rattle.lapd_frame.specs.declared.services.Service.{Service}
 use Rattle.lapd_frame.specs.Grammar.{spelling}
 use Rattle.model_link.specs.declared.frames.ControlFrame.{ControlFrame}
@@ -69,7 +68,7 @@ IsEnough c n l number others = (bits_to_go c l < 8 * n) ⊎ (bits_before c l num
 
 -- The text of a control frame of a link, with the SAPI of its service and its TEI.
 abbrev pub control_text : Config → ℕ → ℕ → ControlFrame → List ℕ
-control_text c number tei f = spelling Network (frame_of (terms c (service_at number) tei) f)
+control_text c number tei f = spelling c.side (frame_of (terms c (service_at number) tei) f)
 
 -- One of the first n pulls begins this frame.
 pub record IsBegunWithin (c : Config) (n : ℕ) (l : Line) (frame : List ℕ) : Type 0 where

@@ -25,7 +25,8 @@ use Rattle.laws_link.specs.Heard.{in_i_frame, in_ui_frame, data_due, unit_due}
 use Rattle.model_line.specs.declared.config.Config.{Config}
 use Rattle.model_line.specs.Event.{Event, octet, LineTold, Answer, told, refused, pulled, nothing, dropped}
 use Rattle.model_line.specs.Line.{Line, link_number, place_in, link_in, with_link, terms}
-use Rattle.model_line.specs.Octet.{with_received}
+use Rattle.model_line.specs.Octet.{heard_side, with_received}
+use Rattle.model_line.specs.Sides.{group_tei, group_told, IsToGroup}
 
 -- What an octet adds to what is heard: in the bits of all octets received, with this one, is heard what was heard before
 -- it, and then this. Heard are the stretches between two flags: the octets of one from which the stuffed 0s are taken, and
@@ -48,9 +49,9 @@ EndsDropped c l value cause = Adds c l value (stream.dropped cause ∷ [])
 abbrev pub EndsNothing : Config → Line → ℕ → Type 0
 EndsNothing c l value = Adds c l value []
 
--- The frame is spelled by the grammar with the SAPI of a service, and with a TEI on the line.
-pub record IsFor (l : Line) (service : Service) (tei place : ℕ) (parts : Parts) (octets : List ℕ) : Type 0 where
-  pub spelled : Spells User parts octets
+-- The frame is spelled by the grammar, as the other side's, with the SAPI of a service, and with a TEI on the line.
+pub record IsFor (c : Config) (l : Line) (service : Service) (tei place : ℕ) (parts : Parts) (octets : List ℕ) : Type 0 where
+  pub spelled : Spells (heard_side c) parts octets
   pub sapi : parts.address.sapi ≡ sapi_of service
   pub tei_is : parts.address.tei ≡ tei
   pub on_line : place_in l tei ≡ Some place
@@ -63,18 +64,18 @@ pub record IsTo (l : Line) (service : Service) (tei place : ℕ) (address : Addr
 
 -- What a frame with an address is to a link where the grammar has no such frame: its control field is undefined, or it is
 -- of wrong size (clauses 3.6.1, 3.6.11 and 5.8.5).
-abbrev pub IsMalformed : Address → List ℕ → link.Received → Type 0
-IsMalformed address octets link.undefined = IsFault User octets (Undefined address)
-IsMalformed address octets link.wrong_size = IsFault User octets (WrongSize address)
-IsMalformed address octets link.overlong = ⊥
-IsMalformed address octets (link.frame parts) = ⊥
+abbrev pub IsMalformed : Config → Address → List ℕ → link.Received → Type 0
+IsMalformed c address octets link.undefined = IsFault (heard_side c) octets (Undefined address)
+IsMalformed c address octets link.wrong_size = IsFault (heard_side c) octets (WrongSize address)
+IsMalformed c address octets link.overlong = ⊥
+IsMalformed c address octets (link.frame parts) = ⊥
 
 -- The same of one that was too long to keep, by its first four octets: then it may be an I-frame that is too long.
-abbrev pub IsTooLong : Address → List ℕ → link.Received → Type 0
-IsTooLong address head link.undefined = long_reading User head ≡ Err (Undefined address)
-IsTooLong address head link.wrong_size = long_reading User head ≡ Err (WrongSize address)
-IsTooLong address head link.overlong = long_reading User head ≡ Ok (long.Information address)
-IsTooLong address head (link.frame parts) = ⊥
+abbrev pub IsTooLong : Config → Address → List ℕ → link.Received → Type 0
+IsTooLong c address head link.undefined = long_reading (heard_side c) head ≡ Err (Undefined address)
+IsTooLong c address head link.wrong_size = long_reading (heard_side c) head ≡ Err (WrongSize address)
+IsTooLong c address head link.overlong = long_reading (heard_side c) head ≡ Ok (long.Information address)
+IsTooLong c address head (link.frame parts) = ⊥
 
 -- An answer says what a link tells: its notes, the contents of an I-frame or of a UI, its orders, and what it loses.
 pub record Says (t : link_told.LinkTold) (answer : Answer) : Type 0 where
@@ -144,7 +145,7 @@ IsNotedOnce answer = count_by tells_contents (notes_of answer) ≡ length (optio
 
 -- Contents are handed on only by an octet that ends a frame: an I-frame or a UI of a service and a TEI on the line, whose
 -- information they are; and the answer notes data, or unit data, of that service and TEI.
-pub record IsHeard (c : Config) (l : Line) (event : Event) (answer : Answer) (contents : List ℕ) : Type 0 where
+pub record IsHeardAtLink (c : Config) (l : Line) (event : Event) (answer : Answer) (contents : List ℕ) : Type 0 where
   pub value : ℕ
   pub by : event ≡ octet value
   pub octets : List ℕ
@@ -153,5 +154,34 @@ pub record IsHeard (c : Config) (l : Line) (event : Event) (answer : Answer) (co
   pub service : Service
   pub tei : ℕ
   pub place : ℕ
-  pub whose : IsFor l service tei place parts octets
+  pub whose : IsFor c l service tei place parts octets
   pub told : IsData service tei parts contents answer ⊎ IsUnit service tei parts contents answer
+
+-- Or, on the user's side, a UI of a service to the group (clauses 3.3.4 and 5.2.2), of at most N201 octets; and the answer
+-- notes unit data of that service and the group's TEI.
+pub record IsHeardByGroup (c : Config) (l : Line) (event : Event) (answer : Answer) (contents : List ℕ) : Type 0 where
+  pub value : ℕ
+  pub by : event ≡ octet value
+  pub octets : List ℕ
+  pub ends : Ends c l value octets
+  pub parts : Parts
+  pub spelled : Spells (heard_side c) parts octets
+  pub service : Service
+  pub whose : IsToGroup c parts service
+  pub contents_are : parts.info ≡ contents
+  pub told : list_any (is_unit_of service group_tei) (notes_of answer) ≡ true
+
+abbrev pub IsHeard : Config → Line → Event → Answer → List ℕ → Type 0
+IsHeard c l event answer contents = IsHeardAtLink c l event answer contents ⊎ IsHeardByGroup c l event answer contents
+
+-- The other way round, each such UI that ends on the user's side is told as unit data, and no more is told, and nothing
+-- changes but the octets received.
+pub record IsUnitOfGroup (service : Service) (contents : List ℕ) (before after : Line) (answer : Answer) (value : ℕ) : Type 0 where
+  pub line : after ≡ with_received value before
+  pub answer_is : answer ≡ told (group_told service contents)
+
+-- A frame of layer 2 management is for the user's side. TEI management is the network's (clause 5.3), so it is not served.
+pub record IsToManagement (c : Config) (parts : Parts) : Type 0 where
+  pub side : c.side ≡ User
+  pub sapi : parts.address.sapi ≡ 63
+  pub group : parts.address.tei ≡ group_tei

@@ -1,15 +1,18 @@
 -- Laws of a line: what it does with what it is given, and with what it hears.
 use Rattle.std.specs.Prelude.{◌≡◌, ℕ, ◌<◌, true, false, List, Some}
 use Rattle.lapd_bits.specs.declared.heard.Cause.{Cause}
+use Rattle.lapd_bits.specs.declared.heard.Cause.TheVariants.{Unserved}
 use Rattle.lapd_frame.specs.declared.addresses.Address.{Address}
 use Rattle.lapd_frame.specs.declared.services.Service.{Service}
 use Rattle.lapd_frame.specs.declared.timers.Timer.{Timer}
-use Rattle.lapd_frame.specs.Grammar.{Parts}
+use Rattle.lapd_frame.specs.Grammar.{Parts, Spells}
 use Rattle.model_link.specs.Events as link
 use Rattle.model_line.specs.declared.config.Config.{Config}
 use Rattle.model_line.specs.Event.{Event, octet}
 use Rattle.model_line.specs.Line.{Line, fresh_line, link_count, place_in, link_in, terms, has_tei}
 use Rattle.model_line.specs.Machine.{after, answer}
+use Rattle.model_line.specs.Octet.{heard_side}
+use Rattle.model_line.specs.Sides.{IsToGroup}
 use Rattle.model_line.specs.Sound.{IsInRange, IsSound}
 use Rattle.laws_line.specs.Share.{share_of, IsKept, asked_by}
 use Rattle.laws_line.specs.Loss.{IsTold}
@@ -18,7 +21,7 @@ use Rattle.laws_line.specs.Frames.{IsFollowed, IsHeeded}
 use Rattle.laws_line.specs.Requests.{LinkTakesEffect, ManagementTakesEffect}
 use Rattle.laws_line.specs.Steady.{BringsMalformed, Happens}
 use Rattle.laws_line.specs.Expiries.{ExpiryTakesEffect}
-use Rattle.laws_line.specs.Heard.{Ends, EndsOverlong, EndsDropped, EndsNothing, IsFor, IsTo, IsMalformed, IsTooLong, IsOneEvent, IsNoEvent, IsDroppedFor, contents_in, due, IsNotedOnce, IsHeard}
+use Rattle.laws_line.specs.Heard.{Ends, EndsOverlong, EndsDropped, EndsNothing, IsFor, IsTo, IsMalformed, IsTooLong, IsOneEvent, IsNoEvent, IsDroppedFor, IsUnitOfGroup, IsToManagement, contents_in, due, IsNotedOnce, IsHeard}
 use Rattle.laws_line.specs.Begun.{says_begun, BeginsAs}
 use Rattle.laws_line.specs.Causes.{HaveCauses, AreThere}
 use Rattle.laws_line.specs.Reasons.{HaveReasons}
@@ -42,24 +45,32 @@ pub record PullsServe : Type 0 where
   pub turns : (c : Config) (e : Event) (l : Line) → TurnStays e l (after c e l)
 
 -- A frame for a link is an event of this link alone, also one that the grammar does not have, or that is too long; an octet
--- that ends nothing, or a stretch that is no frame, is no event of any. What is due to layer 3 is handed on, once, and
+-- that ends nothing, or a stretch that is no frame, is no event of any. On the user's side a UI to the group is unit data, and a
+-- frame of layer 2 management is not served. What is due to layer 3 is handed on, once, and
 -- nothing that was not heard.
 pub record HeardIsDelivered : Type 0 where
   pub event : (c : Config) (l : Line) (value : ℕ) (service : Service) (tei place : ℕ) (parts : Parts) (octets : List ℕ)
-      → Ends c l value octets → IsFor l service tei place parts octets
+      → Ends c l value octets → IsFor c l service tei place parts octets
       → IsOneEvent c l (after c (octet value) l) (answer c (octet value) l) value service tei place (link.received (link.frame parts))
   pub malformed : (c : Config) (l : Line) (value : ℕ) (service : Service) (tei place : ℕ) (address : Address) (octets : List ℕ)
-      (what : link.Received) → Ends c l value octets → IsTo l service tei place address → IsMalformed address octets what
+      (what : link.Received) → Ends c l value octets → IsTo l service tei place address → IsMalformed c address octets what
       → IsOneEvent c l (after c (octet value) l) (answer c (octet value) l) value service tei place (link.received what)
   pub overlong : (c : Config) (l : Line) (value : ℕ) (service : Service) (tei place : ℕ) (address : Address) (head : List ℕ)
-      (what : link.Received) → EndsOverlong c l value head → IsTo l service tei place address → IsTooLong address head what
+      (what : link.Received) → EndsOverlong c l value head → IsTo l service tei place address → IsTooLong c address head what
       → IsOneEvent c l (after c (octet value) l) (answer c (octet value) l) value service tei place (link.received what)
   pub none : (c : Config) (l : Line) (value : ℕ) → EndsNothing c l value
       → IsNoEvent l (after c (octet value) l) (answer c (octet value) l) value
   pub dropped : (c : Config) (l : Line) (value : ℕ) (cause : Cause) → EndsDropped c l value cause
       → IsDroppedFor cause l (after c (octet value) l) (answer c (octet value) l) value
+  -- on the user's side, what is for the group
+  pub group : (c : Config) (l : Line) (value : ℕ) (parts : Parts) (octets : List ℕ) (service : Service) → IsSound c l → Ends c l value octets
+      → Spells (heard_side c) parts octets → IsToGroup c parts service
+      → IsUnitOfGroup service parts.info l (after c (octet value) l) (answer c (octet value) l) value
+  pub management : (c : Config) (l : Line) (value : ℕ) (parts : Parts) (octets : List ℕ) → Ends c l value octets
+      → Spells (heard_side c) parts octets → IsToManagement c parts
+      → IsDroppedFor Unserved l (after c (octet value) l) (answer c (octet value) l) value
   pub due : (c : Config) (l : Line) (value : ℕ) (service : Service) (tei place : ℕ) (parts : Parts) (octets : List ℕ)
-      → IsInRange c → IsSound c l → Ends c l value octets → IsFor l service tei place parts octets
+      → IsInRange c → IsSound c l → Ends c l value octets → IsFor c l service tei place parts octets
       → contents_in (answer c (octet value) l) ≡ due (terms c service tei) parts (link_in l service place)
   pub once : (c : Config) (e : Event) (l : Line) → IsInRange c → IsSound c l → IsNotedOnce (answer c e l)
   pub heard : (c : Config) (e : Event) (l : Line) (contents : List ℕ) → IsInRange c → IsSound c l
@@ -69,7 +80,7 @@ pub record HeardIsDelivered : Type 0 where
 -- that the grammar does not have, or that is too long, follows what the tables say.
 pub record FramesAreHeeded : Type 0 where
   pub frames : (c : Config) (l : Line) (value : ℕ) (service : Service) (tei place : ℕ) (parts : Parts) (octets : List ℕ) → IsSound c l
-      → Ends c l value octets → IsFor l service tei place parts octets
+      → Ends c l value octets → IsFor c l service tei place parts octets
       → IsHeeded (terms c service tei) parts (link_in l service place) (link_in (after c (octet value) l) service place) (answer c (octet value) l)
   pub malformed : (c : Config) (e : Event) (l : Line) (service : Service) (tei place : ℕ) (what : link.Received) → IsSound c l
       → BringsMalformed c l e service tei what → place_in l tei ≡ Some place

@@ -12,6 +12,7 @@ pub mod Begun
 pub mod Expiries
 pub mod Messages
 pub mod Causes
+pub mod Unmanaged
 pub mod Reasons
 pub mod Noted
 pub mod Laws

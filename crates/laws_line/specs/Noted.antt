@@ -1,16 +1,22 @@
--- All that an answer notes, and why: of one event of a link, of a TEI that comes or leaves, or nothing.
-use Rattle.std.specs.Prelude.{◌≡◌, ◌⊎◌, ℕ, List, [], ◌∷◌, ◌++◌, Some, None}
+-- All that an answer notes, and why: of one event of a link, of a TEI that comes or leaves, of unit data to the group on the
+-- user's side, or nothing.
+use Rattle.std.specs.Prelude.{◌≡◌, ◌⊎◌, ℕ, List, [], ◌∷◌, ◌++◌, Ok, Some, None}
 use Rattle.lapd_frame.specs.declared.notes.Note.{Note}
 use Rattle.lapd_frame.specs.declared.notes.Note.TheVariants.{Assigned, Removed, Doubled}
+use Rattle.lapd_frame.specs.declared.notes.Note.TheVariants as notes
 use Rattle.lapd_frame.specs.declared.services.Service.{Service}
 use Rattle.lapd_frame.specs.declared.services.Service.TheVariants.{Call, Packet}
+use Rattle.lapd_frame.specs.Grammar.{Parts}
+use Rattle.lapd_frame.specs.Reading.{reading}
 use Rattle.model_link.specs.Events as link
 use Rattle.laws_link.specs.States.{as_heard}
 use Rattle.laws_link.specs.Telling.{told_by, told_cleared}
 use Rattle.model_line.specs.declared.config.Config.{Config}
 use Rattle.model_line.specs.Event.{Event, octet, expiry, request, pull, Answer}
 use Rattle.model_line.specs.Line.{Line, tei_at, link_in, terms}
-use Rattle.laws_line.specs.Heard.{notes_of}
+use Rattle.model_line.specs.Octet.{heard_side}
+use Rattle.model_line.specs.Sides.{group_tei, IsToGroup}
+use Rattle.laws_line.specs.Heard.{Ends, notes_of}
 use Rattle.laws_line.specs.Steady.{IsBy}
 
 -- The event is one of a link of a TEI on the line, and the notes are those of the table.
@@ -61,6 +67,20 @@ pub record NotesNothing (before after : Line) (answer : Answer) : Type 0 where
   pub stays : after.management.places ≡ before.management.places
   pub notes : notes_of answer ≡ []
 
+-- Or, on the user's side, an octet ends a UI of the network to the group: its unit data is noted with the group's TEI, and no
+-- TEI comes or leaves (clauses 3.3.4 and 5.2.2).
+pub record NotesGroup (c : Config) (e : Event) (before after : Line) (answer : Answer) : Type 0 where
+  pub value : ℕ
+  pub by : e ≡ octet value
+  pub octets : List ℕ
+  pub ends : Ends c before value octets
+  pub parts : Parts
+  pub read : reading (heard_side c) octets ≡ Ok parts
+  pub service : Service
+  pub whose : IsToGroup c parts service
+  pub stays : after.management.places ≡ before.management.places
+  pub notes : notes_of answer ≡ notes.Unit service group_tei ∷ []
+
 abbrev pub NotesItsOwn : Config → Event → Line → Line → Answer → Type 0
 NotesItsOwn c e before after answer =
-    NotesOneEvent c e before after answer ⊎ NotesComing e before after answer ⊎ NotesLeaving c e before after answer ⊎ NotesNothing before after answer
+    NotesOneEvent c e before after answer ⊎ NotesComing e before after answer ⊎ NotesLeaving c e before after answer ⊎ NotesGroup c e before after answer ⊎ NotesNothing before after answer

@@ -4,7 +4,6 @@ use Rattle.std.specs.List.{range_with_len}
 use Rattle.std.specs.Option.{unwrap_or}
 use Rattle.lapd_bits.specs.Bits.{bits}
 use Rattle.lapd_bits.specs.Sent.{line_text}
-use Rattle.lapd_frame.specs.declared.addresses.Side.TheVariants.{Network}
 use Rattle.lapd_frame.specs.declared.controls.Control.{Control}
 use Rattle.lapd_frame.specs.declared.controls.Control.TheVariants.{Ui}
 use Rattle.lapd_frame.specs.Grammar.{spelling}
@@ -26,10 +25,10 @@ use Rattle.laws_line.specs.Share.{is_granted}
 use Rattle.model_line.specs.Pull.{Taken, begun}
 
 -- The message of TEI management that has waited longest, which waits no more;
-pub record IsMessage (before after : Line) (frame : List ℕ) : Type 0 where
+pub record IsMessage (c : Config) (before after : Line) (frame : List ℕ) : Type 0 where
   pub message : Message
   pub oldest : slice_get before.management.waiting 0 ≡ Some message
-  pub spelled : frame ≡ frame_of message
+  pub spelled : frame ≡ frame_of c.side message
   pub rest : after.management.waiting ≡ drop 1 before.management.waiting
   pub units : after.units ≡ before.units
   pub links : after.links ≡ before.links
@@ -37,11 +36,11 @@ pub record IsMessage (before after : Line) (frame : List ℕ) : Type 0 where
 
 -- or, where no message waits, the unit data that has waited longest, whole, with its service and its TEI, in a UI command
 -- with P=0, which waits no more (Q.921 clauses 3.6.5 and 5.2.2);
-pub record IsUnit (before after : Line) (frame : List ℕ) : Type 0 where
+pub record IsUnit (c : Config) (before after : Line) (frame : List ℕ) : Type 0 where
   pub no_message : before.management.waiting ≡ []
   pub unit : UnitData
   pub oldest : slice_get before.units 0 ≡ Some unit
-  pub spelled : frame ≡ spelling Network (record {
+  pub spelled : frame ≡ spelling c.side (record {
     address = record { sapi = sapi_of unit.service; command = true; tei = unit.tei };
     control = Ui false;
     info = unit.contents;
@@ -88,7 +87,7 @@ pub record IsOfLink (c : Config) (contents : ℕ → List (List ℕ)) (before af
   pub command : Bool
   pub control : Control
   pub information : Option (List ℕ)
-  pub spelled : frame ≡ spelling Network (record {
+  pub spelled : frame ≡ spelling c.side (record {
     address = record { sapi = sapi_of (service_at number); command = command; tei = tei };
     control = control;
     info = unwrap_or information [];
@@ -101,7 +100,7 @@ pub record IsOfLink (c : Config) (contents : ℕ → List (List ℕ)) (before af
   pub others : (other : ℕ) → other ≢ number → link_at other after ≡ link_at other before
 
 abbrev pub IsOwed : Config → (ℕ → List (List ℕ)) → Line → Line → List ℕ → Type 0
-IsOwed c contents before after frame = IsMessage before after frame ⊎ IsUnit before after frame ⊎ IsOfLink c contents before after frame
+IsOwed c contents before after frame = IsMessage c before after frame ⊎ IsUnit c before after frame ⊎ IsOfLink c contents before after frame
 
 -- No message waits, no unit data, and no link has anything to send.
 pub record HasNothing (c : Config) (l : Line) : Type 0 where

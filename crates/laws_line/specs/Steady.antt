@@ -1,7 +1,6 @@
 -- What an event of a line is to one of its links, and what it may change of it.
 use Rattle.std.specs.Prelude.{◌≡◌, ◌⊎◌, ℕ, ◌+◌, ◌≤◌, true, false, List, Ok, Some}
 use Rattle.lapd_frame.specs.declared.addresses.Address.{Address}
-use Rattle.lapd_frame.specs.declared.addresses.Side.TheVariants.{User}
 use Rattle.lapd_frame.specs.declared.notes.Note.{Note}
 use Rattle.lapd_frame.specs.declared.services.Service.{Service}
 use Rattle.lapd_frame.specs.declared.timers.Timer.{Timer}
@@ -22,6 +21,7 @@ use Rattle.laws_link.specs.Steady.{MovesSent, MovesBusy, MayLose}
 use Rattle.laws_two_links.specs.Polls.{polls, finals}
 use Rattle.model_line.specs.declared.config.Config.{Config}
 use Rattle.model_line.specs.Event.{Event, octet, expiry, request, pull, Answer}
+use Rattle.model_line.specs.Octet.{heard_side}
 use Rattle.model_line.specs.Deliveries as lines
 use Rattle.model_line.specs.Line.{Line, service_at, place_at, tei_at, terms, link_at}
 use Rattle.laws_line.specs.Frames.{lost_in}
@@ -36,7 +36,7 @@ pub record Brings (c : Config) (l : Line) (e : Event) (service : Service) (tei :
   pub by : e ≡ octet value
   pub octets : List ℕ
   pub ends : Ends c l value octets
-  pub read : reading User octets ≡ Ok parts
+  pub read : reading (heard_side c) octets ≡ Ok parts
   pub sapi : service_of parts.address.sapi ≡ Some service
   pub tei_is : parts.address.tei ≡ tei
 
@@ -46,7 +46,7 @@ pub record BringsMalformed (c : Config) (l : Line) (e : Event) (service : Servic
   pub by : e ≡ octet value
   pub octets : List ℕ
   pub address : Address
-  pub ends : (Ends c l value octets × IsMalformed address octets what) ⊎ (EndsOverlong c l value octets × IsTooLong address octets what)
+  pub ends : (Ends c l value octets × IsMalformed c address octets what) ⊎ (EndsOverlong c l value octets × IsTooLong c address octets what)
   pub sapi : service_of address.sapi ≡ Some service
   pub tei_is : address.tei ≡ tei
 

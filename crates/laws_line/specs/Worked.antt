@@ -1,5 +1,6 @@
 -- Worked values: what requests and their ends are to the links of a line.
 use Rattle.std.specs.Prelude.{◌≡◌, ℕ, true, false, List, [], ◌∷◌, refl}
+use Rattle.lapd_frame.specs.declared.addresses.Side.TheVariants.{Network}
 use Rattle.lapd_frame.specs.declared.services.Service.TheVariants.{Call, Packet}
 use Rattle.lapd_frame.specs.Reading.{reading, header_of, control_of, unnumbered_of}
 use Rattle.lapd_tei.specs.Events as teis
@@ -16,11 +17,11 @@ use Rattle.laws_line.specs.Share.{no_share, ending, share_of, asked_by}
 use Rattle.laws_line.specs.Pulls.{units_asked}
 
 abbrev pub usual : Config
-usual = record { lines = 1; terminals = 8; k = 7; k16 = 7; queue = 8; unit_queue = 4; control = 4; slots = 64; n201 = 260; n200 = 3 }
+usual = record { lines = 1; terminals = 8; k = 7; k16 = 7; queue = 8; unit_queue = 4; control = 4; slots = 64; n201 = 260; n200 = 3; side = Network }
 
 -- TEI 64 on the line, and its SABME of both services
 abbrev pub hears : List ℕ → Line → Line
-hears octets l = (of_aim usual (aim_of_heard l (stream.frame octets)) l).line
+hears octets l = (of_aim usual (aim_of_heard usual l (stream.frame octets)) l).line
 
 abbrev pub both_up : Line
 both_up = hears (0x40 ∷ 0x81 ∷ 0x7F ∷ []) (hears (0x00 ∷ 0x81 ∷ 0x7F ∷ []) (of_request usual (Assign 64) (fresh_line usual)).line)

@@ -1,6 +1,7 @@
 -- Worked values: what pulls alone come to.
 use Rattle.std.specs.Prelude.{◌≡◌, ℕ, List, [], ◌∷◌, length, refl}
 use Rattle.lapd_bits.specs.Stream as stream
+use Rattle.lapd_frame.specs.declared.addresses.Side.TheVariants.{Network}
 use Rattle.lapd_frame.specs.Reading.{reading, header_of, control_of, unnumbered_of, supervisory_of}
 use Rattle.lapd_seq.specs.Numbers.{seq}
 use Rattle.lapd_seq.specs.Circle.{distance_of, named}
@@ -14,7 +15,7 @@ use Rattle.model_line.specs.Request.{Assign}
 use Rattle.laws_line.specs.Drains.{longest_text, bits_to_go, way_round, frames_before, most_frames, most_bits, most_pulls, most_frames_before, most_bits_before, most_pulls_before}
 
 abbrev usual : Config
-usual = record { lines = 1; terminals = 8; k = 7; k16 = 7; queue = 8; unit_queue = 4; control = 4; slots = 64; n201 = 260; n200 = 3 }
+usual = record { lines = 1; terminals = 8; k = 7; k16 = 7; queue = 8; unit_queue = 4; control = 4; slots = 64; n201 = 260; n200 = 3; side = Network }
 
 -- A frame of 260 octets of information is 2,561 bits at worst.
 longest : longest_text usual ≡ 2561
@@ -47,7 +48,7 @@ at_turn = refl
 
 -- The UA of the call link of TEI 64 waits, and then the answer to an RR with P=1.
 abbrev hears : List ℕ → Line → Line
-hears octets l = (of_aim usual (aim_of_heard l (stream.frame octets)) l).line
+hears octets l = (of_aim usual (aim_of_heard usual l (stream.frame octets)) l).line
 
 abbrev polled : Line
 polled = hears (0x00 ∷ 0x81 ∷ 0x01 ∷ 0x01 ∷ []) (hears (0x00 ∷ 0x81 ∷ 0x7F ∷ []) (of_request usual (Assign 64) (fresh_line usual)).line)

@@ -28,6 +28,7 @@ asking = record (fresh_line usual) {
 it_asks : Hears usual asking (octet 0x07) (asks 0x1234)
 unfolding reading header_of control_of unnumbered_of low_bits
 it_asks = record {
+  network = refl;
   value = 0x07;
   by = refl;
   octets = 0xFC ∷ 0xFF ∷ 0x03 ∷ 0x0F ∷ 0x12 ∷ 0x34 ∷ 0x01 ∷ 0xFF ∷ [];

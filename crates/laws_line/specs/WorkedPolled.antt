@@ -2,6 +2,7 @@
 -- what those ask of a line.
 use Rattle.std.specs.Prelude.{◌≡◌, ℕ, true, List, [], ◌∷◌, length, fold, Some, None, refl}
 use Rattle.lapd_bits.specs.Bits.{low_bits}
+use Rattle.lapd_frame.specs.declared.addresses.Side.TheVariants.{Network}
 use Rattle.lapd_frame.specs.declared.controls.Control.TheVariants.{ReceiveReady, Ua}
 use Rattle.lapd_frame.specs.declared.services.Service.TheVariants.{Call}
 use Rattle.lapd_frame.specs.Grammar.{Parts}
@@ -23,7 +24,7 @@ use Rattle.laws_line.specs.Drains.{longest_text, frames_to_go, bits_to_go, most_
 
 -- One terminal, and frames of at most eight octets of information, so of at most 142 bits.
 abbrev pub small : Config
-small = record { lines = 2; terminals = 1; k = 1; k16 = 1; queue = 1; unit_queue = 1; control = 2; slots = 2; n201 = 8; n200 = 1 }
+small = record { lines = 2; terminals = 1; k = 1; k16 = 1; queue = 1; unit_queue = 1; control = 2; slots = 2; n201 = 8; n200 = 1; side = Network }
 
 in_range : first_fault small ≡ None
 in_range = refl

@@ -32,7 +32,7 @@ pub use laws::{
     expiries_take_effect, frames_are_heeded, heard_is_delivered, links_are_steady, nothing_is_lost,
     pulls_serve, requests_take_effect,
 };
-pub use management::messages_have_causes;
+pub use management::{messages_have_causes, users_manage_nothing};
 pub use notes::{begun_is_true, notes_tell, nothing_else_is_noted};
 pub use progress::{pulls_come_to_an_end, what_waits_is_begun, what_waits_is_begun_meanwhile};
 pub use timers::{pulls_leave_timers, timers_follow};

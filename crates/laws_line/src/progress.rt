@@ -52,12 +52,12 @@ pub fn what_waits_is_begun()
         IsInRange c → IsSound c l → number < link_count c → tei_at (place_at number) l ≡ Some tei →
         (link_at number l).waiting ≡ before ++ f ∷ behind → IsEnough c n l number (length before) → IsBegunWithin c n l (control_text c number tei f) }
     ensures polled { (c : Config) (n : ℕ) (l : Line) (value : ℕ) (service : Service) (tei place : ℕ) (parts : Parts) (octets : List ℕ) →
-        IsInRange c → IsSound c l → Ends c l value octets → IsFor l service tei place parts octets →
+        IsInRange c → IsSound c l → Ends c l value octets → IsFor c l service tei place parts octets →
         IsPollWhileUp (terms c service tei) (link_in l service place) parts → length (link_in l service place).waiting + 1 ≤ c.control →
         IsEnough c n (after c (octet value) l) (link_number place service) (length (link_in l service place).waiting) →
         IsAnsweredWithin c n service tei place (after c (octet value) l) }
     ensures unnumbered { (c : Config) (n : ℕ) (l : Line) (value : ℕ) (service : Service) (tei place : ℕ) (parts : Parts) (octets : List ℕ) (answer : Control) →
-        IsInRange c → IsSound c l → Ends c l value octets → IsFor l service tei place parts octets →
+        IsInRange c → IsSound c l → Ends c l value octets → IsFor c l service tei place parts octets →
         asked_of (link_in l service place).state parts.control ≡ Some answer → length (link_in l service place).waiting + 1 ≤ c.control →
         IsEnough c n (after c (octet value) l) (link_number place service) (length (link_in l service place).waiting) →
         IsBegunWithin c n (after c (octet value) l) (control_text c (link_number place service) tei (record { command = false; control = answer })) }

@@ -72,7 +72,8 @@ pub record Promises (m : Card) (events : List Event) : Type 0 where
   -- and then a request assigns nothing. Beside these the first answer of a period is noted with its check; T201 at the
   -- end of the second period ends the check, and takes the TEI off the line where no terminal answered; a granted
   -- assignment puts its TEI on the line; and a pull takes the message that has waited longest. Nothing else changes
-  -- anything of TEI management (clauses 4.1.1.5 and 5.3.2 to 5.3.5).
+  -- anything of TEI management (clauses 4.1.1.5 and 5.3.2 to 5.3.5). What is heard of it is heard on the network's
+  -- side, which alone grants checks and removals.
   pub messages_have_causes : MessagesHaveCauses m events
   -- A TEI that comes to wait to be told to a terminal is on the line (clause 5.3.2).
   pub told_teis_are_there : ToldTeisAreThere m events
@@ -87,7 +88,8 @@ pub record Promises (m : Card) (events : List Event) : Type 0 where
   -- All that is noted is of one event of a link, or of one TEI that comes or leaves. Of a link of a TEI on the line it
   -- is what the table of notes has for the event. Of a TEI that comes, that it was assigned, if a terminal asked for
   -- it; of one that leaves, that two terminals have it, or that none answered, unless management took it off, and after
-  -- that what its two links tell as they end. Else there are none (clauses 5.2.3, 5.3.2 to 5.3.4 and 5.5 to 5.8).
+  -- that what its two links tell as they end. Of a UI of the network to the group, on the user's side, that it is unit
+  -- data. Else there are none (clauses 5.2.2, 5.2.3, 5.3.2 to 5.3.4 and 5.5 to 5.8).
   pub nothing_else_is_noted : NothingElseIsNoted m events
   -- An octet that ends a frame for a link is an event of that link alone, and contents of at most N201 octets are
   -- handed on, once, exactly of an I-frame in sequence that the link may take, and of a UI. The link is that of the
@@ -96,7 +98,9 @@ pub record Promises (m : Card) (events : List Event) : Type 0 where
   -- before; one that ends nothing, or a stretch that is no frame, changes nothing but what was received, and then why
   -- it is no frame is all that is answered. A link may take an I-frame in state 7 or 8 with own busy off. What is
   -- handed on is the frame's information, with one note of data, or of unit data, of the service and the TEI that it
-  -- spells; and there is no such note else (clauses 2.2 to 2.7, 2.9, 2.10, 3.6.1, 5.2.3, 5.6.2, 5.6.6 and 5.8.5).
+  -- spells; and there is no such note else. On the user's side a UI of the network to the group is handed on so, too,
+  -- and a frame of layer 2 management changes nothing (clauses 2.2 to 2.7, 2.9, 2.10, 3.3.2, 3.3.4, 3.6.1, 5.2.2,
+  -- 5.2.3, 5.6.2, 5.6.6 and 5.8.5).
   pub heard_is_delivered : IsDelivered m events
   -- The octets that each line has received are those that it had received before, and after them its octets of the
   -- list, in order, and no others (clause 2).

@@ -4,7 +4,7 @@ ghost use Rattle.std.specs.Prelude.{◌≡◌, IfOk};
 ghost use Rattle.lapd_card.specs.Card.{line_count};
 
 use crate::call::drive;
-use lapd_card::{Card, Config, Event, Kept, Reply, Request};
+use lapd_card::{Card, Config, Event, Kept, Reply, Request, Side};
 use lapd_store::SlabShelf;
 use std::alloc::Global;
 use std::test::Fail;
@@ -20,6 +20,7 @@ const USUAL: Config = Config {
     slots: 64,
     n201: 260,
     n200: 3,
+    side: Side::Network,
 };
 
 fn usual_card(alloc: Global) -> Result<Card<SlabShelf>, Fail>

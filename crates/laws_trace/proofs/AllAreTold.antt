@@ -25,7 +25,7 @@ use Rattle.model_line.specs.declared.config.Config.{Config}
 use Rattle.model_line.specs.Event.{Event, octet, expiry, request, pull, Answer, told, refused, pulled}
 use Rattle.model_line.specs.Line.{Line, link_in, link_of, place_in, terms}
 use Rattle.model_line.specs.Machine as lines
-use Rattle.model_line.specs.Octet.{gained}
+use Rattle.model_line.specs.Octet.{gained, heard_side}
 use Rattle.model_line.specs.Pull.{Taken, begun}
 use Rattle.model_line.specs.Request.{Request}
 use Rattle.model_line.specs.Sound.{IsInRange, IsSound}
@@ -111,9 +111,9 @@ is-brought c e l a x among =
     one-alone x (brought c e l) (events_heard among.front) (events_heard among.back)
     (sym (all-heard c e l a) ∙ ap events_heard among.split ∙ flat_map-append event_heard among.front (heard x ∷ among.back))
 
-brings-it : (c : Config) (e : Event) (l : Line) (octets : List ℕ) (f : Parts) → brought c e l ≡ Some (stream.frame octets) → reading User octets ≡ Ok f
+brings-it : (c : Config) (e : Event) (l : Line) (octets : List ℕ) (f : Parts) → brought c e l ≡ Some (stream.frame octets) → reading (heard_side c) octets ≡ Ok f
     → frame_by c e l ≡ Some f
-brings-it c (octet value) l octets f is read = ap (λ o. option_map_or frame_of o None) is ∙ ap parts_of read
+brings-it c (octet value) l octets f is read = ap (λ o. option_map_or (frame_of c) o None) is ∙ ap parts_of read
 brings-it c (expiry timer) l octets f is read = absurd (none-some (stream.frame octets) is)
 brings-it c (request r) l octets f is read = absurd (none-some (stream.frame octets) is)
 brings-it c pull l octets f is read = absurd (none-some (stream.frame octets) is)
@@ -197,7 +197,7 @@ module _ (c : Config) (ranged : IsInRange c) (l : Line) (s : IsSound c l) (e : E
   on-line up (Some place) on = (place, on)
   on-line up None off = absurd (true≢false (sym up ∙ ap (λ o. is_multiple_frame (option_map_or (link_in l service) o fresh).state) off))
 
-  pub told-here : (octets : List ℕ) (f : Parts) → brought c e l ≡ Some (stream.frame octets) → reading User octets ≡ Ok f → is_for service tei f.address ≡ true
+  pub told-here : (octets : List ℕ) (f : Parts) → brought c e l ≡ Some (stream.frame octets) → reading (heard_side c) octets ≡ Ok f → is_for service tei f.address ≡ true
       → MayBeTold c k n f → IsTold service tei f.info (seen c e l a)
   told-here octets f is read for may = go (event-goes c e l service tei s)
     where
@@ -219,7 +219,7 @@ none-among x [] back e = cc e
 none-among x (y ∷ front) back e = cc e
 
 module _ (m : Card) (e : card.Event) (s : card_sound.IsSound m) (service : Service) (tei n : ℕ) (octets : List ℕ) (f : Parts)
-    (read : reading User octets ≡ Ok f) (for : is_for service tei f.address ≡ true) where
+    (read : reading (heard_side m.config) octets ≡ Ok f) (for : is_for service tei f.address ≡ true) where
   abbrev Tells : ℕ → List Seen → Type 0
   Tells number t =
       IsCount (link_of service tei (line_at number m)) n → MayBeTold m.config (link_of service tei (line_at number m)) n f
@@ -255,11 +255,11 @@ all-are-told c events number ranged all within service tei before e behind split
     let first = all-left (IsAtLine (cards.fresh c)) before (e ∷ behind) these in
     let here = All-head (IsAtLine (cards.fresh c)) e behind (all-right (IsAtLine (cards.fresh c)) before (e ∷ behind) these) in
     let kept : m.config ≡ c = config-stays (cards.fresh c) before in
-    let w = fold (watch service tei) nothing_yet (trace_of c before number) in
+    let w = fold (watch c service tei) nothing_yet (trace_of c before number) in
     let count = (run-passes c before number ranged first within service tei).2 in
     let t = cond (e.line == number) (seen m.config e.what (line_at number m) (answer e m)) [] in
     subst (IsTold service tei f.info) (sym (append-nil t))
-    (at-card m e (always_sound (cards.fresh c) before (fresh_is_sound c ranged) first) service tei w.count octets f read for number
+    (at-card m e (always_sound (cards.fresh c) before (fresh_is_sound c ranged) first) service tei w.count octets f (subst (λ c. reading (heard_side c) octets ≡ Ok f) (sym kept) read) for number
     (subst (λ (c : Config). e.line < c.lines) (sym kept) here) (e.line == number) refl count
     (subst (λ c. MayBeTold c (link_of service tei (line_at number m)) w.count f) (sym kept) may)
     (subst (IsAmong (heard (stream.frame octets))) (append-nil t) among))

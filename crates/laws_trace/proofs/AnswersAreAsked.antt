@@ -6,10 +6,8 @@ use Rattle.std.proofs.lemmas.Grind.{flat_map-append}
 use Rattle.std.proofs.lemmas.List.{get_or-replicate}
 use Rattle.std.proofs.lemmas.List.Elements.{All-head, All-tail}
 use Rattle.lapd_bits.specs.Stream as stream
-use Rattle.lapd_frame.specs.declared.addresses.Side.TheVariants.{Network}
 use Rattle.lapd_frame.specs.declared.controls.Control.TheVariants.{Ui}
 use Rattle.lapd_frame.specs.declared.services.Service.{Service}
-use Rattle.lapd_frame.specs.declared.services.Service.TheVariants.{Call, Packet}
 use Rattle.lapd_frame.specs.Grammar.{Parts}
 use Rattle.lapd_frame.specs.Reading.{reading}
 use Rattle.lapd_frame.specs.Services.{sapi_of, same_service}
@@ -35,7 +33,7 @@ use Rattle.model_line.specs.Sound.{IsInRange, IsSound}
 use Rattle.model_line.proofs.LinksSound.{sound_in}
 use Rattle.laws_line.specs.Steady.{IsBy, Brings}
 use Rattle.laws_line.proofs.Ending.{gained-is}
-use Rattle.laws_line.proofs.Hearing.{sapi-is}
+use Rattle.laws_line.proofs.Hearing.{sapi-is, same-sapi}
 use Rattle.model_card.specs.Card as cards
 use Rattle.model_card.specs.Pulled.{frame_taken, frame_in, octet_in}
 use Rattle.model_card.specs.Run.{after_all}
@@ -66,72 +64,72 @@ either-part true xs = of-itself xs
 either-part false xs = of-nothing xs
 
 module _ (service : Service) (tei : ℕ) where
-  abbrev answered_in : List ℕ → List Exchange
-  answered_in octets = exchanges.of_link service tei answered_by (reading Network octets)
+  abbrev answered_in : Config → List ℕ → List Exchange
+  answered_in c octets = exchanges.of_link service tei answered_by (reading c.side octets)
 
-  abbrev asked : List Seen → List Exchange
-  asked t = flat_map (asked_at service tei) t
+  abbrev asked : Config → List Seen → List Exchange
+  asked c t = flat_map (asked_at c service tei) t
 
-  abbrev answered : List Seen → List Exchange
-  answered t = flat_map (answered_at service tei) t
+  abbrev answered : Config → List Seen → List Exchange
+  answered c t = flat_map (answered_at c service tei) t
 
   -- What is seen to be answered are the frames that begin.
-  none-told : (o : Option stream.Event) (a : Answer) → answered (map heard (option_to_list o) ++ seen_told a) ≡ []
-  none-told None (told t) = refl
-  none-told None (refused why) = refl
-  none-told None (pulled value is_begun orders) = refl
-  none-told (Some e) (told t) = refl
-  none-told (Some e) (refused why) = refl
-  none-told (Some e) (pulled value is_begun orders) = refl
+  none-told : (c : Config) (o : Option stream.Event) (a : Answer) → answered c (map heard (option_to_list o) ++ seen_told a) ≡ []
+  none-told c None (told t) = refl
+  none-told c None (refused why) = refl
+  none-told c None (pulled value is_begun orders) = refl
+  none-told c (Some e) (told t) = refl
+  none-told c (Some e) (refused why) = refl
+  none-told c (Some e) (pulled value is_begun orders) = refl
 
-  none-granted : (r : Request) (a : Answer) → answered (seen_granted r a ++ seen_told a) ≡ []
-  none-granted r (told t) = refl
-  none-granted r (refused why) = refl
-  none-granted r (pulled value is_begun orders) = refl
+  none-granted : (c : Config) (r : Request) (a : Answer) → answered c (seen_granted r a ++ seen_told a) ≡ []
+  none-granted c r (told t) = refl
+  none-granted c r (refused why) = refl
+  none-granted c r (pulled value is_begun orders) = refl
 
-  by-begun : (o : Option Taken) (a : Answer)
-      → answered (map traces.begun (option_to_list (option_map frame_taken o)) ++ map put (octet_in a)) ≡ flat_map answered_in (option_to_list (option_map frame_taken o))
-  by-begun None (told t) = refl
-  by-begun None (refused why) = refl
-  by-begun None (pulled value is_begun orders) = refl
-  by-begun (Some t) (told u) = refl
-  by-begun (Some t) (refused why) = refl
-  by-begun (Some t) (pulled value is_begun orders) = refl
+  by-begun : (c : Config) (o : Option Taken) (a : Answer)
+      → answered c (map traces.begun (option_to_list (option_map frame_taken o)) ++ map put (octet_in a)) ≡ flat_map (answered_in c) (option_to_list (option_map frame_taken o))
+  by-begun c None (told t) = refl
+  by-begun c None (refused why) = refl
+  by-begun c None (pulled value is_begun orders) = refl
+  by-begun c (Some t) (told u) = refl
+  by-begun c (Some t) (refused why) = refl
+  by-begun c (Some t) (pulled value is_begun orders) = refl
 
-  pub answered-is : (c : Config) (e : Event) (l : Line) (a : Answer) → answered (seen c e l a) ≡ flat_map answered_in (frame_in c e l)
-  answered-is c (octet value) l a = none-told (gained c.n201 l.received value) a
-  answered-is c (expiry timer) l a = none-told None a
-  answered-is c (request r) l a = none-granted r a
-  answered-is c pull l a = by-begun (begun c l) a
+  pub answered-is : (c : Config) (e : Event) (l : Line) (a : Answer) → answered c (seen c e l a) ≡ flat_map (answered_in c) (frame_in c e l)
+  answered-is c (octet value) l a = none-told c (gained c.n201 l.received value) a
+  answered-is c (expiry timer) l a = none-told c None a
+  answered-is c (request r) l a = none-granted c r a
+  answered-is c pull l a = by-begun c (begun c l) a
 
   -- Frames of others answer nothing for this link.
-  foreign : (frame : List ℕ) → IsForeign service tei frame → answered_in frame ≡ []
-  foreign frame (inl x) =
-      ap answered_in x.1
-      ∙ read-again (λ r. exchanges.of_link service tei answered_by r ≡ []) (record { sapi = 63; command = true; tei = 127 }) (Ui false)
+  foreign : (c : Config) (frame : List ℕ) → IsForeign c service tei frame → answered_in c frame ≡ []
+  foreign c frame (inl x) =
+      ap (answered_in c) x.1
+      ∙ read-again c.side (λ r. exchanges.of_link service tei answered_by r ≡ []) (record { sapi = 63; command = true; tei = 127 }) (Ui false)
       (λ info. either-none (63 == sapi_of service && 127 == tei)) (λ fault. refl) (information_of x.0)
-  foreign frame (inr (inl x)) =
-      ap answered_in x.1
-      ∙ read-again (λ r. exchanges.of_link service tei answered_by r ≡ []) (record { sapi = sapi_of x.0.service; command = true; tei = x.0.tei }) (Ui false)
+  foreign c frame (inr (inl x)) =
+      ap (answered_in c) x.1
+      ∙ read-again c.side (λ r. exchanges.of_link service tei answered_by r ≡ []) (record { sapi = sapi_of x.0.service; command = true; tei = x.0.tei }) (Ui false)
       (λ info. either-none (sapi_of x.0.service == sapi_of service && x.0.tei == tei)) (λ fault. refl) x.0.contents
-  foreign frame (inr (inr x)) =
+  foreign c frame (inr (inr x)) =
       let t = x.0 in
       let g = x.1 in
       let away : (sapi_of t.service == sapi_of service && t.tei == tei) ≡ false = ap (λ b. b && t.tei == tei) (same-sapi t.service service) ∙ x.3 in
-      ap answered_in x.2
-      ∙ read-again (λ r. exchanges.of_link service tei answered_by r ≡ []) (address_at t g.frame.command) g.frame.control
+      ap (answered_in c) x.2
+      ∙ read-again c.side (λ r. exchanges.of_link service tei answered_by r ≡ []) (address_at t g.frame.command) g.frame.control
       (λ info. ap (λ b. cond b (answered_by g.frame.command g.frame.control) []) away) (λ fault. refl) (unwrap_or g.contents [])
 
-  pub all-foreign : (frames : List (List ℕ)) → All (IsForeign service tei) frames → flat_map answered_in frames ≡ []
-  all-foreign [] h = refl
-  all-foreign (f ∷ frames) h =
-      ap (λ xs. xs ++ flat_map answered_in frames) (foreign f (All-head (IsForeign service tei) f frames h))
-      ∙ all-foreign frames (All-tail (IsForeign service tei) f frames h)
+  pub all-foreign : (c : Config) (frames : List (List ℕ)) → All (IsForeign c service tei) frames → flat_map (answered_in c) frames ≡ []
+  all-foreign c [] h = refl
+  all-foreign c (f ∷ frames) h =
+      ap (λ xs. xs ++ flat_map (answered_in c) frames) (foreign c f (All-head (IsForeign c service tei) f frames h))
+      ∙ all-foreign c frames (All-tail (IsForeign c service tei) f frames h)
 
   -- What a link gives answers what the control frame does.
-  given-answers : (t : Terms) (g : Given) → IsPart (answered_in (frame_of t g)) (answer_in g.frame)
-  given-answers t g =
-      read-again (λ r. IsPart (exchanges.of_link service tei answered_by r) (answer_in g.frame)) (address_at t g.frame.command) g.frame.control
+  given-answers : (c : Config) (t : Terms) (g : Given) → IsPart (answered_in c (frame_of c t g)) (answer_in g.frame)
+  given-answers c t g =
+      read-again c.side (λ r. IsPart (exchanges.of_link service tei answered_by r) (answer_in g.frame)) (address_at t g.frame.command) g.frame.control
       (λ info. either-part (sapi_of t.service == sapi_of service && t.tei == tei) (answer_in g.frame)) (λ fault. of-nothing (answer_in g.frame)) (unwrap_or g.contents [])
 
   nothing-answered : (after : Link) (f other : ControlFrame) (xs : List Exchange) → after.waiting ≡ [] → f ≡ other → answer_in other ≡ [] → IsPart (answer_in f ++ answers_in after.waiting) xs
@@ -145,72 +143,72 @@ module _ (service : Service) (tei : ℕ) where
   in-order t before after f (inr (inl information)) = nothing-answered after f _ (answers_in before.waiting) information.rest information.is refl
   in-order t before after f (inr (inr acknowledgement)) = nothing-answered after f _ (answers_in before.waiting) acknowledgement.rest acknowledgement.is refl
 
-  offered : (t : Terms) (l : Link) (o : Option Given) → IfSome o (λ g. IsInOrder t l (links.after t link.offer l) g.frame)
-      → IsPart (flat_map answered_in (map (frame_of t) (option_to_list o)) ++ answers_in (links.after t link.offer l).waiting) (answers_in l.waiting)
-  offered t l None h = subst (IsPart (answers_in (links.after t link.offer l).waiting)) (append-nil (answers_in l.waiting)) (link-asked t link.offer l)
-  offered t l (Some g) h =
+  offered : (c : Config) (t : Terms) (l : Link) (o : Option Given) → IfSome o (λ g. IsInOrder t l (links.after t link.offer l) g.frame)
+      → IsPart (flat_map (answered_in c) (map (frame_of c t) (option_to_list o)) ++ answers_in (links.after t link.offer l).waiting) (answers_in l.waiting)
+  offered c t l None h = subst (IsPart (answers_in (links.after t link.offer l).waiting)) (append-nil (answers_in l.waiting)) (link-asked t link.offer l)
+  offered c t l (Some g) h =
       let rest = answers_in (links.after t link.offer l).waiting in
-      subst (λ xs. IsPart (xs ++ rest) (answers_in l.waiting)) (sym (append-nil (answered_in (frame_of t g))))
-      (through (answered_in (frame_of t g) ++ rest) (answer_in g.frame ++ rest) (answers_in l.waiting)
-      (both (answered_in (frame_of t g)) (answer_in g.frame) rest rest (given-answers t g) (of-itself rest))
+      subst (λ xs. IsPart (xs ++ rest) (answers_in l.waiting)) (sym (append-nil (answered_in c (frame_of c t g))))
+      (through (answered_in c (frame_of c t g) ++ rest) (answer_in g.frame ++ rest) (answers_in l.waiting)
+      (both (answered_in c (frame_of c t g)) (answer_in g.frame) rest rest (given-answers c t g) (of-itself rest))
       (in-order t l (links.after t link.offer l) g.frame h))
 
   -- One event of the link.
-  of-event : (t : Terms) (e : link.Event) (l : Link) → link_sound.IsSound t l
-      → IsPart (flat_map answered_in (frames_given t e l) ++ answers_in (links.after t e l).waiting) (answers_in l.waiting ++ asked_of e)
-  of-event t (link.received what) l s = link-asked t (link.received what) l
-  of-event t (link.expired timer) l s = link-asked t (link.expired timer) l
-  of-event t (link.requested what full) l s = link-asked t (link.requested what full) l
-  of-event t link.offer l s =
-      subst (IsPart (flat_map answered_in (frames_given t link.offer l) ++ answers_in (links.after t link.offer l).waiting)) (sym (append-nil (answers_in l.waiting)))
-      (offered t l (links.given t l) (given-in-order t l s))
-  of-event t link.cleared l s = link-asked t link.cleared l
+  of-event : (c : Config) (t : Terms) (e : link.Event) (l : Link) → link_sound.IsSound t l
+      → IsPart (flat_map (answered_in c) (frames_given c t e l) ++ answers_in (links.after t e l).waiting) (answers_in l.waiting ++ asked_of e)
+  of-event c t (link.received what) l s = link-asked t (link.received what) l
+  of-event c t (link.expired timer) l s = link-asked t (link.expired timer) l
+  of-event c t (link.requested what full) l s = link-asked t (link.requested what full) l
+  of-event c t link.offer l s =
+      subst (IsPart (flat_map (answered_in c) (frames_given c t link.offer l) ++ answers_in (links.after t link.offer l).waiting)) (sym (append-nil (answers_in l.waiting)))
+      (offered c t l (links.given t l) (given-in-order t l s))
+  of-event c t link.cleared l s = link-asked t link.cleared l
 
   -- What it asks for is heard.
   frame-asks : (c : Config) (l : Line) (e : Event) (a : Answer) (parts : Parts) → Brings c l e service tei parts
-      → IsPart (asked_by parts.address.command parts.control) (asked (seen c e l a))
+      → IsPart (asked_by parts.address.command parts.control) (asked c (seen c e l a))
   frame-asks c l e a parts x =
       let asks = asked_by parts.address.command parts.control in
-      subst (λ e. IsPart asks (asked (seen c e l a))) (sym x.by)
-      (subst (λ o. IsPart asks (asked (map heard (option_to_list o) ++ seen_told a))) (sym (gained-is c l x.value (Some (stream.frame x.octets)) x.ends))
-      (subst (λ r. IsPart asks (exchanges.of_link service tei asked_by r ++ asked (seen_told a))) (sym x.read)
-      (subst (λ b. IsPart asks (cond b asks [] ++ asked (seen_told a))) (sym here) (more asks (asked (seen_told a))))))
+      subst (λ e. IsPart asks (asked c (seen c e l a))) (sym x.by)
+      (subst (λ o. IsPart asks (asked c (map heard (option_to_list o) ++ seen_told a))) (sym (gained-is c l x.value (Some (stream.frame x.octets)) x.ends))
+      (subst (λ r. IsPart asks (exchanges.of_link service tei asked_by r ++ asked c (seen_told a))) (sym x.read)
+      (subst (λ b. IsPart asks (cond b asks [] ++ asked c (seen_told a))) (sym here) (more asks (asked c (seen_told a))))))
     where
       here : (parts.address.sapi == sapi_of service && parts.address.tei == tei) ≡ true
       here =
           ap (λ b. b && parts.address.tei == tei) (eq-eqb parts.address.sapi (sapi_of service) (sapi-is parts.address.sapi service x.sapi))
           ∙ eq-eqb parts.address.tei tei x.tei_is
 
-  event-asks : (c : Config) (l : Line) (e : Event) (a : Answer) (event : link.Event) → IsBy c l e a service tei event → IsPart (asked_of event) (asked (seen c e l a))
+  event-asks : (c : Config) (l : Line) (e : Event) (a : Answer) (event : link.Event) → IsBy c l e a service tei event → IsPart (asked_of event) (asked c (seen c e l a))
   event-asks c l e a (link.received (link.frame parts)) x = frame-asks c l e a parts x
-  event-asks c l e a (link.received link.undefined) x = of-nothing (asked (seen c e l a))
-  event-asks c l e a (link.received link.wrong_size) x = of-nothing (asked (seen c e l a))
-  event-asks c l e a (link.received link.overlong) x = of-nothing (asked (seen c e l a))
-  event-asks c l e a (link.expired timer) x = of-nothing (asked (seen c e l a))
-  event-asks c l e a (link.requested what full) x = of-nothing (asked (seen c e l a))
-  event-asks c l e a link.offer x = of-nothing (asked (seen c e l a))
-  event-asks c l e a link.cleared x = of-nothing (asked (seen c e l a))
+  event-asks c l e a (link.received link.undefined) x = of-nothing (asked c (seen c e l a))
+  event-asks c l e a (link.received link.wrong_size) x = of-nothing (asked c (seen c e l a))
+  event-asks c l e a (link.received link.overlong) x = of-nothing (asked c (seen c e l a))
+  event-asks c l e a (link.expired timer) x = of-nothing (asked c (seen c e l a))
+  event-asks c l e a (link.requested what full) x = of-nothing (asked c (seen c e l a))
+  event-asks c l e a link.offer x = of-nothing (asked c (seen c e l a))
+  event-asks c l e a link.cleared x = of-nothing (asked c (seen c e l a))
 
   -- What a trace is to the answers that wait before it and after it.
   abbrev waits : Line → List Exchange
   waits l = answers_in (link_of service tei l).waiting
 
   abbrev Answers : Config → Line → List Seen → Line → Type 0
-  Answers c before t after = IsPart (answered t ++ waits after) (waits before ++ asked t)
+  Answers c before t after = IsPart (answered c t ++ waits after) (waits before ++ asked c t)
 
   rests : (c : Config) (l : Line) → Answers c l [] l
   rests c l = more (waits l) []
 
   joins : (c : Config) (k l m : Line) (t u : List Seen) → Answers c k t l → Answers c l u m → Answers c k (t ++ u) m
   joins c k l m t u h i =
-      subst (λ xs. IsPart (xs ++ waits m) (waits k ++ asked (t ++ u))) (sym (flat_map-append (answered_at service tei) t u))
-      (subst (λ xs. IsPart xs (waits k ++ asked (t ++ u))) (sym (append_assoc (answered t) (answered u) (waits m)))
-      (subst (λ ys. IsPart (answered t ++ (answered u ++ waits m)) ys)
-      (append_assoc (waits k) (asked t) (asked u) ∙ ap (λ x. waits k ++ x) (sym (flat_map-append (asked_at service tei) t u)))
-      (through (answered t ++ (answered u ++ waits m)) ((answered t ++ waits l) ++ asked u) ((waits k ++ asked t) ++ asked u)
-      (subst (IsPart (answered t ++ (answered u ++ waits m))) (sym (append_assoc (answered t) (waits l) (asked u)))
-      (both (answered t) (answered t) (answered u ++ waits m) (waits l ++ asked u) (of-itself (answered t)) i))
-      (both (answered t ++ waits l) (waits k ++ asked t) (asked u) (asked u) h (of-itself (asked u))))))
+      subst (λ xs. IsPart (xs ++ waits m) (waits k ++ asked c (t ++ u))) (sym (flat_map-append (answered_at c service tei) t u))
+      (subst (λ xs. IsPart xs (waits k ++ asked c (t ++ u))) (sym (append_assoc (answered c t) (answered c u) (waits m)))
+      (subst (λ ys. IsPart (answered c t ++ (answered c u ++ waits m)) ys)
+      (append_assoc (waits k) (asked c t) (asked c u) ∙ ap (λ x. waits k ++ x) (sym (flat_map-append (asked_at c service tei) t u)))
+      (through (answered c t ++ (answered c u ++ waits m)) ((answered c t ++ waits l) ++ asked c u) ((waits k ++ asked c t) ++ asked c u)
+      (subst (IsPart (answered c t ++ (answered c u ++ waits m))) (sym (append_assoc (answered c t) (waits l) (asked c u)))
+      (both (answered c t) (answered c t) (answered c u ++ waits m) (waits l ++ asked c u) (of-itself (answered c t)) i))
+      (both (answered c t ++ waits l) (waits k ++ asked c t) (asked c u) (asked c u) h (of-itself (asked c u))))))
 
   -- One event of a line.
   module _ (c : Config) (ranged : IsInRange c) (e : Event) (l : Line) (s : IsSound c l) where
@@ -220,13 +218,13 @@ module _ (service : Service) (tei : ℕ) where
     abbrev shown : List Seen
     shown = seen c e l (answer c e l)
 
-    stays : (link_of service tei next ≡ link_of service tei l) ⊎ (link_of service tei next ≡ fresh) → IsPart (waits next) (waits l ++ asked shown)
-    stays (inl same) = subst (λ (x : Link). IsPart (answers_in x.waiting) (waits l ++ asked shown)) (sym same) (more (waits l) (asked shown))
-    stays (inr gone) = subst (λ (x : Link). IsPart (answers_in x.waiting) (waits l ++ asked shown)) (sym gone) (of-nothing (waits l ++ asked shown))
+    stays : (link_of service tei next ≡ link_of service tei l) ⊎ (link_of service tei next ≡ fresh) → IsPart (waits next) (waits l ++ asked c shown)
+    stays (inl same) = subst (λ (x : Link). IsPart (answers_in x.waiting) (waits l ++ asked c shown)) (sym same) (more (waits l) (asked c shown))
+    stays (inr gone) = subst (λ (x : Link). IsPart (answers_in x.waiting) (waits l ++ asked c shown)) (sym gone) (of-nothing (waits l ++ asked c shown))
 
     none-of-it : HasNone c service tei e l next (answer c e l) → Answers c l shown next
     none-of-it x =
-        subst (λ xs. IsPart (xs ++ waits next) (waits l ++ asked shown)) (sym (answered-is c e l (answer c e l) ∙ all-foreign (frame_in c e l) x.begins)) (stays x.is)
+        subst (λ xs. IsPart (xs ++ waits next) (waits l ++ asked c shown)) (sym (answered-is c e l (answer c e l) ∙ all-foreign c (frame_in c e l) x.begins)) (stays x.is)
 
     abbrev own : Link
     own = link_of service tei l
@@ -239,11 +237,11 @@ module _ (service : Service) (tei : ℕ) where
     one-of-it : HasOne c service tei e l next (answer c e l) → Answers c l shown next
     one-of-it x =
         let t = terms c service tei in
-        subst (λ xs. IsPart (xs ++ waits next) (waits l ++ asked shown)) (sym (answered-is c e l (answer c e l) ∙ ap (flat_map answered_in) x.begins))
-        (subst (λ (y : Link). IsPart (flat_map answered_in (frames_given t x.event own) ++ answers_in y.waiting) (waits l ++ asked shown)) (sym x.is)
-        (through (flat_map answered_in (frames_given t x.event own) ++ answers_in (links.after t x.event own).waiting) (waits l ++ asked_of x.event) (waits l ++ asked shown)
-        (of-event t x.event own (sound x.place x.placed))
-        (both (waits l) (waits l) (asked_of x.event) (asked shown) (of-itself (waits l)) (event-asks c l e (answer c e l) x.event x.by))))
+        subst (λ xs. IsPart (xs ++ waits next) (waits l ++ asked c shown)) (sym (answered-is c e l (answer c e l) ∙ ap (flat_map (answered_in c)) x.begins))
+        (subst (λ (y : Link). IsPart (flat_map (answered_in c) (frames_given c t x.event own) ++ answers_in y.waiting) (waits l ++ asked c shown)) (sym x.is)
+        (through (flat_map (answered_in c) (frames_given c t x.event own) ++ answers_in (links.after t x.event own).waiting) (waits l ++ asked_of x.event) (waits l ++ asked c shown)
+        (of-event c t x.event own (sound x.place x.placed))
+        (both (waits l) (waits l) (asked_of x.event) (asked c shown) (of-itself (waits l)) (event-asks c l e (answer c e l) x.event x.by))))
 
     event-answers : Answers c l shown next
     event-answers = go (event-goes c e l service tei s)
@@ -273,5 +271,5 @@ answers-are-asked c events number ranged all within service tei =
     let last = cards.line_at number (after_all (cards.fresh c) events) in
     let begins : waits service tei (cards.line_at number (cards.fresh c)) ≡ [] =
     ap (waits service tei) (get_or-replicate c.lines number (fresh_line c) (fresh_line c) within) ∙ fresh-waits service tei c (place_in (fresh_line c) tei) refl in
-    through (answered service tei t) (answered service tei t ++ waits service tei last) (asked service tei t) (more (answered service tei t) (waits service tei last))
-    (subst (λ xs. IsPart (answered service tei t ++ waits service tei last) (xs ++ asked service tei t)) begins ran.0)
+    through (answered service tei c t) (answered service tei c t ++ waits service tei last) (asked service tei c t) (more (answered service tei c t) (waits service tei last))
+    (subst (λ xs. IsPart (answered service tei c t ++ waits service tei last) (xs ++ asked service tei c t)) begins ran.0)

@@ -3,13 +3,11 @@ use Rattle.std.proofs.Common.{◌≡◌, ℕ, ◌+◌, ◌≤◌, ◌==◌, ◌&
 use Rattle.std.specs.Prelude.{IfSome, option_to_list, unwrap_or}
 use Rattle.std.specs.Option.{option_map_or}
 use Rattle.lapd_bits.specs.Stream as stream
-use Rattle.lapd_frame.specs.declared.addresses.Side.TheVariants.{Network}
 use Rattle.lapd_frame.specs.declared.controls.Control.TheVariants.{Ui}
 use Rattle.lapd_frame.specs.declared.services.Service.{Service}
-use Rattle.lapd_frame.specs.declared.services.Service.TheVariants.{Call, Packet}
 use Rattle.lapd_frame.specs.Grammar.{Parts}
 use Rattle.lapd_frame.specs.Reading.{reading}
-use Rattle.lapd_frame.specs.Services.{sapi_of, same_service}
+use Rattle.lapd_frame.specs.Services.{sapi_of}
 use Rattle.lapd_frame.proofs.Spelling.{reading-again}
 use Rattle.lapd_tei.specs.Messages.{information_of}
 use Rattle.model_link.specs.Events as link
@@ -26,6 +24,7 @@ use Rattle.model_line.specs.Request.{Request}
 use Rattle.model_line.specs.Sound.{IsInRange, IsSound}
 use Rattle.laws_line.specs.Heard.{notes_of}
 use Rattle.laws_line.specs.Share.{is_granted}
+use Rattle.laws_line.proofs.Hearing.{same-sapi}
 use Rattle.model_card.specs.Pulled.{frame_taken, octet_in}
 use Rattle.laws_trace.specs.Trace as traces
 use Rattle.laws_trace.specs.Trace.{seen, seen_told, seen_granted}
@@ -48,58 +47,52 @@ fresh-known k all gone is =
     }
 
 -- Frames of others, and what a link gives.
-module _ (service : Service) (tei : ℕ) where
+module _ (c : Config) (service : Service) (tei : ℕ) where
   abbrev pub sent_of : List ℕ → Option Sent
-  sent_of octets = sent_in service tei (reading Network octets)
-
-  same-sapi : (a b : Service) → (sapi_of a == sapi_of b) ≡ same_service a b
-  same-sapi Call Call = refl
-  same-sapi Call Packet = refl
-  same-sapi Packet Call = refl
-  same-sapi Packet Packet = refl
+  sent_of octets = sent_in service tei (reading c.side octets)
 
   either-none : (b : Bool) → cond {A = Option Sent} b None None ≡ None
   either-none true = refl
   either-none false = refl
 
-  pub foreign : (frame : List ℕ) → IsForeign service tei frame → sent_of frame ≡ None
+  pub foreign : (frame : List ℕ) → IsForeign c service tei frame → sent_of frame ≡ None
   foreign frame (inl x) =
       ap sent_of x.1
-      ∙ read-again (λ r. sent_in service tei r ≡ None) (record { sapi = 63; command = true; tei = 127 }) (Ui false)
+      ∙ read-again c.side (λ r. sent_in service tei r ≡ None) (record { sapi = 63; command = true; tei = 127 }) (Ui false)
       (λ info. either-none (63 == sapi_of service && 127 == tei)) (λ fault. refl) (information_of x.0)
   foreign frame (inr (inl x)) =
       ap sent_of x.1
-      ∙ read-again (λ r. sent_in service tei r ≡ None) (record { sapi = sapi_of x.0.service; command = true; tei = x.0.tei }) (Ui false)
+      ∙ read-again c.side (λ r. sent_in service tei r ≡ None) (record { sapi = sapi_of x.0.service; command = true; tei = x.0.tei }) (Ui false)
       (λ info. either-none (sapi_of x.0.service == sapi_of service && x.0.tei == tei)) (λ fault. refl) x.0.contents
   foreign frame (inr (inr x)) =
       let t = x.0 in
       let g = x.1 in
       let away : (sapi_of t.service == sapi_of service && t.tei == tei) ≡ false = ap (λ b. b && t.tei == tei) (same-sapi t.service service) ∙ x.3 in
       ap sent_of x.2
-      ∙ read-again (λ r. sent_in service tei r ≡ None) (address_at t g.frame.command) g.frame.control
+      ∙ read-again c.side (λ r. sent_in service tei r ≡ None) (address_at t g.frame.command) g.frame.control
       (λ info. ap (λ b. cond b (sent_by g.frame.control info) None) away) (λ fault. refl) (unwrap_or g.contents [])
 
-  pub own-sent : (c : Config) (k : Link) → link_sound.IsInRange (terms c service tei) → link_sound.IsSound (terms c service tei) k → (g : Given) → links.given (terms c service tei) k ≡ Some g
-      → sent_of (frame_of (terms c service tei) g) ≡ sent_by g.frame.control (unwrap_or g.contents [])
-  own-sent c k ranged s g is =
+  pub own-sent : (k : Link) → link_sound.IsInRange (terms c service tei) → link_sound.IsSound (terms c service tei) k → (g : Given) → links.given (terms c service tei) k ≡ Some g
+      → sent_of (frame_of c (terms c service tei) g) ≡ sent_by g.frame.control (unwrap_or g.contents [])
+  own-sent k ranged s g is =
       let t = terms c service tei in
       let info = unwrap_or g.contents [] in
       let f : Parts = record { address = address_at t g.frame.command; control = g.frame.control; info = info } in
       let whole = subst (λ o. IfSome o (λ g. link_sound.IsGiven t g.frame g.contents)) is (given_is_frame t ranged k s) in
-      ap (sent_in service tei) (reading-again Network f (frame_of t g) (record { is_frame = whole.whole; octets_are = refl }))
+      ap (sent_in service tei) (reading-again c.side f (frame_of c t g) (record { is_frame = whole.whole; octets_are = refl }))
       ∙ ap (λ b. cond b (sent_by g.frame.control info) None) (ap (λ b. b && tei == tei) (eq-eqb (sapi_of service) (sapi_of service) refl) ∙ eq-eqb tei tei refl)
 
   -- What is seen of an event.
   pub reach-told : (o : Option stream.Event) (t : LineTold) (m : ℕ) (all : List (List ℕ)) (gone n : ℕ) → (n ≤ gone) ⊎ (length all ≤ n) →
-      let w : Watched = record { frame = option_map_or heard_frame o None; count = m } in
+      let w : Watched = record { frame = option_map_or (heard_frame c) o None; count = m } in
       let b = begins service tei w.frame t.notes in
-      Reaches service tei (quiet m all gone) (map traces.heard (option_to_list o) ++ traces.noted t.notes t.contents ∷ traces.lost t.lost ∷ [])
+      Reaches c service tei (quiet m all gone) (map traces.heard (option_to_list o) ++ traces.noted t.notes t.contents ∷ traces.lost t.lost ∷ [])
       (quiet (counted service tei w t.notes) (cond b (drop n all) all) (cond {A = ℕ} b 0 gone))
   reach-told None t m all gone n may = (tt, (n, may, (tt, (0, inl (omega arith), refl))))
   reach-told (Some e) t m all gone n may = (tt, (0, inl (omega arith), (tt, (n, may, (tt, (0, inl (omega arith), refl))))))
 
   pub reach-asked : (r : Request) (a : Answer) (m : ℕ) (all : List (List ℕ)) (gone : ℕ) → let w : Watched = record { frame = None; count = m } in
-      Reaches service tei (quiet m all gone) (seen_granted r a ++ seen_told a) (quiet (counted service tei w (notes_of a)) (cond (is_granted a) (all ++ data_asked service tei r) all) gone)
+      Reaches c service tei (quiet m all gone) (seen_granted r a ++ seen_told a) (quiet (counted service tei w (notes_of a)) (cond (is_granted a) (all ++ data_asked service tei r) all) gone)
   reach-asked r (told t) m all gone = (tt, (0, inl (omega arith), (tt, (0, inl (omega arith), (tt, (0, inl (omega arith), refl))))))
   reach-asked r (refused why) m all gone = refl
   reach-asked r (pulled value is_begun orders) m all gone = refl
@@ -108,7 +101,7 @@ module _ (service : Service) (tei : ℕ) where
   sent_with o = option_map_or (λ t. sent_of (frame_taken t)) o None
 
   pub reach-pulled : (o : Option Taken) (a : Answer) (m : ℕ) (all : List (List ℕ)) (gone : ℕ) → IfSome (sent_with o) (HasNumber (quiet m all gone))
-      → Reaches service tei (quiet m all gone) (map traces.begun (option_to_list (option_map frame_taken o)) ++ map traces.put (octet_in a))
+      → Reaches c service tei (quiet m all gone) (map traces.begun (option_to_list (option_map frame_taken o)) ++ map traces.put (octet_in a))
       (quiet m all (gone_with gone (sent_with o)))
   reach-pulled None (told t) m all gone h = refl
   reach-pulled None (refused why) m all gone h = refl

@@ -70,7 +70,7 @@ module _ (c : Config) (ranged : IsInRange c) (l : Line) (s : IsSound c l) (servi
     gone_now : ℕ
     counts : IsCount (link_of service tei (after c e l)) count_now
     knows : Knows (link_of service tei (after c e l)) all_now gone_now
-    reaches : Reaches service tei (quiet m all gone) (seen c e l (answer c e l)) (quiet count_now all_now gone_now)
+    reaches : Reaches c service tei (quiet m all gone) (seen c e l (answer c e l)) (quiet count_now all_now gone_now)
 
   own-sound : (place : ℕ) → place_in l tei ≡ Some place → link_sound.IsSound t k
   own-sound place is =
@@ -178,7 +178,7 @@ module _ (c : Config) (ranged : IsInRange c) (l : Line) (s : IsSound c l) (servi
         gone_now = cond {A = ℕ} (anew e) 0 gone;
         counts = counts-on e;
         knows = x.knows;
-        reaches = reach-told service tei (gained c.n201 l.received value) (of_octet c value l).told m all gone x.n x.may;
+        reaches = reach-told c service tei (gained c.n201 l.received value) (of_octet c value l).told m all gone x.n x.may;
       }
 
   -- A request.
@@ -192,7 +192,7 @@ module _ (c : Config) (ranged : IsInRange c) (l : Line) (s : IsSound c l) (servi
     gone_now = gone;
     counts = counts-on (request r);
     knows = x.knows;
-    reaches = reach-asked service tei r (answer c (request r) l) m all gone;
+    reaches = reach-asked c service tei r (answer c (request r) l) m all gone;
   }
 
   added-none : (r : Request) → HasNone c service tei (request r) l (after c (request r) l) (answer c (request r) l) → Added r
@@ -251,10 +251,10 @@ module _ (c : Config) (ranged : IsInRange c) (l : Line) (s : IsSound c l) (servi
 
   -- A pull.
   record Gave : Type 0 where
-    sent : IfSome (sent_with service tei (begun c l)) (HasNumber (quiet m all gone))
-    knows : Knows (link_of service tei (after c pull l)) all (gone_with gone (sent_with service tei (begun c l)))
+    sent : IfSome (sent_with c service tei (begun c l)) (HasNumber (quiet m all gone))
+    knows : Knows (link_of service tei (after c pull l)) all (gone_with gone (sent_with c service tei (begun c l)))
 
-  gave-with : (o : Option Sent) → sent_with service tei (begun c l) ≡ o → IfSome o (HasNumber (quiet m all gone))
+  gave-with : (o : Option Sent) → sent_with c service tei (begun c l) ≡ o → IfSome o (HasNumber (quiet m all gone))
       → Knows (link_of service tei (after c pull l)) all (gone_with gone o) → Gave
   gave-with o is h known' = record {
     sent = subst (λ o. IfSome o (HasNumber (quiet m all gone))) (sym is) h;
@@ -264,20 +264,20 @@ module _ (c : Config) (ranged : IsInRange c) (l : Line) (s : IsSound c l) (servi
   gave-none : HasNone c service tei pull l (after c pull l) (answer c pull l) → Gave
   gave-none x = gave-with None (go (begun c l) x.begins) tt (kept-same pull all gone known x)
     where
-      go : (o : Option Taken) → All (IsForeign service tei) (option_to_list (option_map frame_taken o)) → sent_with service tei o ≡ None
+      go : (o : Option Taken) → All (IsForeign c service tei) (option_to_list (option_map frame_taken o)) → sent_with c service tei o ≡ None
       go None h = refl
-      go (Some taken) h = foreign service tei (frame_taken taken) (All-head (IsForeign service tei) (frame_taken taken) [] h)
+      go (Some taken) h = foreign c service tei (frame_taken taken) (All-head (IsForeign c service tei) (frame_taken taken) [] h)
 
-  none-sent : (o : Option Taken) → option_to_list (option_map frame_taken o) ≡ [] → sent_with service tei o ≡ None
+  none-sent : (o : Option Taken) → option_to_list (option_map frame_taken o) ≡ [] → sent_with c service tei o ≡ None
   none-sent None e = refl
   none-sent (Some taken) e = cc e
 
-  its-sent : (o : Option Taken) (frame : List ℕ) → option_to_list (option_map frame_taken o) ≡ frame ∷ [] → sent_with service tei o ≡ sent_of service tei frame
+  its-sent : (o : Option Taken) (frame : List ℕ) → option_to_list (option_map frame_taken o) ≡ frame ∷ [] → sent_with c service tei o ≡ sent_of c service tei frame
   its-sent None frame e = cc e
-  its-sent (Some taken) frame e = let same : frame_taken taken ≡ frame = cc e in ap (sent_of service tei) same
+  its-sent (Some taken) frame e = let same : frame_taken taken ≡ frame = cc e in ap (sent_of c service tei) same
 
   gave-one : HasOne c service tei pull l (after c pull l) (answer c pull l) → Gave
-  gave-one x = go (links.given t k) refl (x.begins ∙ ap (λ e. frames_given t e k) offered)
+  gave-one x = go (links.given t k) refl (x.begins ∙ ap (λ e. frames_given c t e k) offered)
     where
       offered : x.event ≡ link.offer
       offered = only-offered c l (answer c pull l) service tei x.event x.by
@@ -297,14 +297,14 @@ module _ (c : Config) (ranged : IsInRange c) (l : Line) (s : IsSound c l) (servi
       w : Watched
       w = record { frame = None; count = m }
 
-      go : (g : Option Given) → links.given t k ≡ g → option_to_list (option_map frame_taken (begun c l)) ≡ map (frame_of t) (option_to_list (links.given t k)) → Gave
+      go : (g : Option Given) → links.given t k ≡ g → option_to_list (option_map frame_taken (begun c l)) ≡ map (frame_of c t) (option_to_list (links.given t k)) → Gave
       go None is same =
-          gave-with None (none-sent (begun c l) (same ∙ ap (λ o. map (frame_of t) (option_to_list o)) is)) tt
+          gave-with None (none-sent (begun c l) (same ∙ ap (λ o. map (frame_of c t) (option_to_list o)) is)) tt
           (known-next gone (none-given-known t k sound range.k_high w all gone known count is))
       go (Some g) is same =
           let y = given-known t k sound range.k_high w all gone known count g is in
           let sent = sent_by g.frame.control (unwrap_or g.contents []) in
-          gave-with sent (its-sent (begun c l) (frame_of t g) (same ∙ ap (λ o. map (frame_of t) (option_to_list o)) is) ∙ own-sent service tei c k range sound g is)
+          gave-with sent (its-sent (begun c l) (frame_of c t g) (same ∙ ap (λ o. map (frame_of c t) (option_to_list o)) is) ∙ own-sent c service tei k range sound g is)
           y.0 (known-next (gone_with gone sent) y.1)
 
   gave : Gave
@@ -314,7 +314,7 @@ module _ (c : Config) (ranged : IsInRange c) (l : Line) (s : IsSound c l) (servi
       go (inl x) = gave-none x
       go (inr x) = gave-one x
 
-  expiry-shown : (e : Event) → frame_by c e l ≡ None → Chosen e → Reaches service tei (quiet m all gone) (seen c e l (answer c e l))
+  expiry-shown : (e : Event) → frame_by c e l ≡ None → Chosen e → Reaches c service tei (quiet m all gone) (seen c e l (answer c e l))
       (quiet (counted service tei (record { frame = None; count = m }) (notes_of (answer c e l))) all gone) → Shown e
   expiry-shown e none x reaches = record {
     count_now = counted service tei (record { frame = None; count = m }) (notes_of (answer c e l));
@@ -337,10 +337,10 @@ module _ (c : Config) (ranged : IsInRange c) (l : Line) (s : IsSound c l) (servi
   event-shown pull = record {
     count_now = m;
     all_now = all;
-    gone_now = gone_with gone (sent_with service tei (begun c l));
+    gone_now = gone_with gone (sent_with c service tei (begun c l));
     counts = counts-on pull;
     knows = gave.knows;
-    reaches = reach-pulled service tei (begun c l) (answer c pull l) m all gone gave.sent;
+    reaches = reach-pulled c service tei (begun c l) (answer c pull l) m all gone gave.sent;
   }
 
 -- Over runs.
@@ -351,20 +351,20 @@ abbrev Shows : Config → Line → List Seen → Line → Type 0
 Shows c k t l =
     (service : Service) (tei m : ℕ) (all : List (List ℕ)) (gone : ℕ) → IsCount (link_of service tei k) m → Knows (link_of service tei k) all gone
     → (m' : ℕ) × (all' : List (List ℕ)) × (gone' : ℕ) × IsCount (link_of service tei l) m' × Knows (link_of service tei l) all' gone'
-    × Reaches service tei (quiet m all gone) t (quiet m' all' gone')
+    × Reaches c service tei (quiet m all gone) t (quiet m' all' gone')
 
 rests : (c : Config) (l : Line) → Shows c l [] l
 rests c l service tei m all gone count known = (m, all, gone, count, known, refl)
 
-reaches-both : (service : Service) (tei : ℕ) (g h i : Going) (t u : List Seen) → Reaches service tei g t h → Reaches service tei h u i → Reaches service tei g (t ++ u) i
-reaches-both service tei g h i [] u r q = subst (λ g. Reaches service tei g u i) (sym r) q
-reaches-both service tei g h i (x ∷ t) u r q = (r.0, (r.1.0, r.1.1, reaches-both service tei (goes_on service tei r.1.0 g x) h i t u r.1.2 q))
+reaches-both : (c : Config) (service : Service) (tei : ℕ) (g h i : Going) (t u : List Seen) → Reaches c service tei g t h → Reaches c service tei h u i → Reaches c service tei g (t ++ u) i
+reaches-both c service tei g h i [] u r q = subst (λ g. Reaches c service tei g u i) (sym r) q
+reaches-both c service tei g h i (x ∷ t) u r q = (r.0, (r.1.0, r.1.1, reaches-both c service tei (goes_on c service tei r.1.0 g x) h i t u r.1.2 q))
 
 joins : (c : Config) (k l m : Line) (t u : List Seen) → Shows c k t l → Shows c l u m → Shows c k (t ++ u) m
 joins c k l m t u h i service tei n all gone count known =
     let x = h service tei n all gone count known in
     let y = i service tei x.0 x.1 x.2 x.3 x.4 in
-    (y.0, y.1, y.2, y.3, y.4, reaches-both service tei (quiet n all gone) (quiet x.0 x.1 x.2) (quiet y.0 y.1 y.2) t u x.5 y.5)
+    (y.0, y.1, y.2, y.3, y.4, reaches-both c service tei (quiet n all gone) (quiet x.0 x.1 x.2) (quiet y.0 y.1 y.2) t u x.5 y.5)
 
 steps : (c : Config) → IsInRange c → (e : Event) (l : Line) → IsSound c l → Stands c l → Shows c l (seen c e l (answer c e l)) (after c e l) × Stands c (after c e l)
 steps c ranged e l s stands = (
@@ -380,7 +380,7 @@ pub record AtEnd (c : Config) (events : List card.Event) (number : ℕ) (service
   pub contents : List (List ℕ)
   pub gone : ℕ
   pub knows : Knows (link_of service tei (line_at number (after_all (cards.fresh c) events))) contents gone
-  pub reaches : Reaches service tei none_yet (trace_of c events number) (quiet told_count contents gone)
+  pub reaches : Reaches c service tei none_yet (trace_of c events number) (quiet told_count contents gone)
 
 pub at-end : (c : Config) (events : List card.Event) (number : ℕ) → IsInRange c → AreAtLines (cards.fresh c) events → number < c.lines → (service : Service) (tei : ℕ)
     → AtEnd c events number service tei

@@ -34,7 +34,7 @@ use Rattle.model_line.specs.declared.config.Config.{Config}
 use Rattle.model_line.specs.Event.{Event, octet, expiry, request, pull, Answer}
 use Rattle.model_line.specs.Line.{Line, link_in, terms}
 use Rattle.model_line.specs.Machine.{aim_of, answer}
-use Rattle.model_line.specs.Octet.{gained}
+use Rattle.model_line.specs.Octet.{gained, heard_side, group_tei}
 use Rattle.model_line.specs.Sound.{IsInRange, IsSound}
 use Rattle.laws_line.specs.Heard.{Ends, EndsOverlong, IsMalformed, IsTooLong, notes_of, contents_in, is_data_of, is_unit_of, tells_contents}
 use Rattle.laws_line.specs.Heard as line_heard
@@ -44,6 +44,7 @@ use Rattle.laws_line.proofs.HandedOn.{contents-heard}
 use Rattle.laws_line.proofs.Hearing.{sapi-is, frame-aim, one-event}
 use Rattle.laws_line.proofs.Obeyed.{services-equal, service-same, both-true}
 use Rattle.laws_line.proofs.ToldOnce.{told-once}
+use Rattle.laws_line.proofs.Grouping.{group-unit}
 use Rattle.laws_trace.specs.Deliveries.{parts_of, frame_of, is_for, begins_by, begins, number_in, IsOfFrame}
 use Rattle.laws_trace.specs.Units.{is_ui}
 use Rattle.laws_trace.proofs.Begins.{unless, begins-is}
@@ -51,7 +52,7 @@ use Rattle.laws_trace.proofs.OneLink.{is_at_link}
 
 -- The frame that an event brings, as the grammar reads it.
 abbrev pub frame_by : Config → Event → Line → Option Parts
-frame_by c (octet value) l = option_map_or frame_of (gained c.n201 l.received value) None
+frame_by c (octet value) l = option_map_or (frame_of c) (gained c.n201 l.received value) None
 frame_by c (expiry timer) l = None
 frame_by c (request r) l = None
 frame_by c pull l = None
@@ -150,7 +151,7 @@ module _ (c : Config) (ranged : IsInRange c) (l : Line) (s : IsSound c l) (e : E
       absurd (omega (arith, many, none))
 
   noted-aim : (q : Note → Bool) → ((t : Terms) (n : Note) → IsOwn t n → q n ≡ true → (same_service t.service service && t.tei == tei) ≡ true)
-      → list_any q (notes_of a) ≡ true → (contents : List ℕ) → line_heard.IsHeard c l e a contents → is_at_link service tei (aim_of c e l) ≡ true
+      → list_any q (notes_of a) ≡ true → (contents : List ℕ) → line_heard.IsHeardAtLink c l e a contents → is_at_link service tei (aim_of c e l) ≡ true
   noted-aim q own some contents x =
       let t = terms c x.service x.tei in
       let aims = frame-aim c l x.value x.service x.tei x.place x.parts x.octets x.ends x.whose in
@@ -164,10 +165,21 @@ module _ (c : Config) (ranged : IsInRange c) (l : Line) (s : IsSound c l) (e : E
 
   pub none-noted : (q : Note → Bool) → ((n : Note) → q n ≡ true → tells_contents n ≡ true)
       → ((t : Terms) (n : Note) → IsOwn t n → q n ≡ true → (same_service t.service service && t.tei == tei) ≡ true)
-      → is_at_link service tei (aim_of c e l) ≡ false → list_any q (notes_of a) ≡ true → ⊥
+      → is_at_link service tei (aim_of c e l) ≡ false → list_any q (notes_of a) ≡ true
+      → (contents : List ℕ) × (contents_in a ≡ Some contents) × line_heard.IsHeardByGroup c l e a contents
   none-noted q tells own none some =
       let x = has-contents q tells some (contents_in a) refl in
-      true≢false (sym (noted-aim q own some x.0 (contents-heard c e l x.0 ranged s x.1)) ∙ none)
+      (x.0, x.1, go x.0 (contents-heard c e l x.0 ranged s x.1))
+    where
+      go : (contents : List ℕ) → line_heard.IsHeard c l e a contents → line_heard.IsHeardByGroup c l e a contents
+      go contents (inl at) = absurd (true≢false (sym (noted-aim q own some contents at) ∙ none))
+      go contents (inr group) = group
+
+  -- the notes of the group's unit data
+  pub group-notes : (contents : List ℕ) (x : line_heard.IsHeardByGroup c l e a contents) → notes_of a ≡ notes.Unit x.service group_tei ∷ []
+  group-notes contents x =
+      ap (λ e. notes_of (answer c e l)) x.by
+      ∙ ap notes_of (group-unit c l x.value x.parts x.octets x.service s x.ends x.spelled x.whose).answer_is
 
 -- The frame that an event of the link brings.
 module _ (c : Config) (l : Line) (e : Event) (a : Answer) (service : Service) (tei : ℕ) where
@@ -177,25 +189,25 @@ module _ (c : Config) (l : Line) (e : Event) (a : Answer) (service : Service) (t
 
   pub brings-frame : (f : Parts) → Brings c l e service tei f → (frame_by c e l ≡ Some f) × (is_for service tei f.address ≡ true)
   brings-frame f x = (
-    ap (λ e. frame_by c e l) x.by ∙ ap (λ o. option_map_or frame_of o None) (gained-is c l x.value (Some (stream.frame x.octets)) x.ends) ∙ ap parts_of x.read,
+    ap (λ e. frame_by c e l) x.by ∙ ap (λ o. option_map_or (frame_of c) o None) (gained-is c l x.value (Some (stream.frame x.octets)) x.ends) ∙ ap parts_of x.read,
     its-address f x.sapi x.tei_is,
   )
 
-  is-fault : (address : Address) (octets : List ℕ) (what : link.Received) → AreOctets octets → IsMalformed address octets what → parts_of (reading User octets) ≡ None
-  is-fault address octets link.undefined small is = ap parts_of (fault-again User octets (Undefined address) small is)
-  is-fault address octets link.wrong_size small is = ap parts_of (fault-again User octets (WrongSize address) small is)
+  is-fault : (address : Address) (octets : List ℕ) (what : link.Received) → AreOctets octets → IsMalformed c address octets what → parts_of (reading (heard_side c) octets) ≡ None
+  is-fault address octets link.undefined small is = ap parts_of (fault-again (heard_side c) octets (Undefined address) small is)
+  is-fault address octets link.wrong_size small is = ap parts_of (fault-again (heard_side c) octets (WrongSize address) small is)
   is-fault address octets link.overlong small is = absurd is
   is-fault address octets (link.frame parts) small is = absurd is
 
   pub brings-none : (what : link.Received) → BringsMalformed c l e service tei what → frame_by c e l ≡ None
   brings-none what x = ap (λ e. frame_by c e l) x.by ∙ go x.ends
     where
-      go : (Ends c l x.value x.octets × IsMalformed x.address x.octets what) ⊎ (EndsOverlong c l x.value x.octets × IsTooLong x.address x.octets what)
-          → option_map_or frame_of (gained c.n201 l.received x.value) None ≡ None
+      go : (Ends c l x.value x.octets × IsMalformed c x.address x.octets what) ⊎ (EndsOverlong c l x.value x.octets × IsTooLong c x.address x.octets what)
+          → option_map_or (frame_of c) (gained c.n201 l.received x.value) None ≡ None
       go (inl y) =
-          ap (λ o. option_map_or frame_of o None) (gained-is c l x.value (Some (stream.frame x.octets)) y.0)
+          ap (λ o. option_map_or (frame_of c) o None) (gained-is c l x.value (Some (stream.frame x.octets)) y.0)
           ∙ is-fault x.address x.octets what (ended-octets c l x.value (stream.frame x.octets) y.0) y.1
-      go (inr y) = ap (λ o. option_map_or frame_of o None) (gained-is c l x.value (Some (stream.overlong x.octets)) y.0)
+      go (inr y) = ap (λ o. option_map_or (frame_of c) o None) (gained-is c l x.value (Some (stream.overlong x.octets)) y.0)
 
   none-begins : (le : link.Event) (k : Link) → ((restarts (terms c service tei) le k ≡ true) → ⊥) → (ns : List Note) → frame_by c e l ≡ None
       → begins service tei (frame_by c e l) ns ≡ restarts (terms c service tei) le k

@@ -14,6 +14,7 @@ use Rattle.lapd_frame.specs.Reading.{reading}
 use Rattle.lapd_frame.specs.Services.{sapi_of}
 use Rattle.lapd_frame.specs.declared.services.Service.{Service}
 use Rattle.lapd_frame.specs.Grammar.{Parts}
+use Rattle.lapd_frame.proofs.Spelling.{reading-again}
 use Rattle.model_link.specs.declared.terms.Terms.{Terms}
 use Rattle.model_link.specs.Deliveries.{Arrived, restarts, eligible}
 use Rattle.model_link.specs.Events as link
@@ -34,18 +35,20 @@ use Rattle.model_line.specs.Effect.{at_none, at_link}
 use Rattle.model_line.specs.Event.{Event, octet, expiry, request, pull, Answer, LineTold, told, refused, pulled, nothing}
 use Rattle.model_line.specs.Line.{Line, place_in, link_in, link_of, terms, fresh_line}
 use Rattle.model_line.specs.Machine.{aim_of, of_octet, after, answer}
-use Rattle.model_line.specs.Octet.{gained, aim_of_heard, aim_of_reading, message_of}
+use Rattle.model_line.specs.Octet.{gained, aim_of_heard, aim_of_reading, message_of, heard_side, group_tei}
 use Rattle.model_line.specs.Pull.{Taken, begun}
 use Rattle.model_line.specs.Request.{Request}
 use Rattle.model_line.specs.Sound.{IsInRange, IsSound}
 use Rattle.model_line.specs.Sound as line
 use Rattle.model_line.proofs.LinksSound.{sound_in}
+use Rattle.model_line.specs.Sides.{at_side}
 use Rattle.laws_line.specs.Heard.{notes_of, contents_in, is_data_of, is_unit_of}
 use Rattle.laws_line.proofs.HandedOn.{own-all}
-use Rattle.laws_line.proofs.Hearing.{addressed-is}
+use Rattle.laws_line.proofs.Hearing.{addressed-is, sapi-is, same-sapi}
 use Rattle.laws_line.proofs.Obeyed.{service-same, both-true}
 use Rattle.laws_line.proofs.ToldOnce.{told-once}
 use Rattle.laws_line.proofs.TimersFollow.{nowhere}
+use Rattle.laws_line.proofs.Ending.{gained-is}
 use Rattle.model_card.specs.Card.{line_at}
 use Rattle.model_card.specs.Card as cards
 use Rattle.model_card.specs.Event as card
@@ -57,7 +60,7 @@ use Rattle.laws_trace.specs.Trace.{Seen, seen_told, seen, Always}
 use Rattle.laws_trace.specs.Deliveries.{Watched, nothing_yet, parts_of, frame_of, is_for, begins, counted, watch, number_in, IsOfFrame, IsHeard, AreHeard, Deliveries}
 use Rattle.laws_trace.specs.Units.{is_ui}
 use Rattle.laws_trace.proofs.Begins.{unless, up-before}
-use Rattle.laws_trace.proofs.Deliveries.{frame_by, data-tells, unit-tells, data-own, unit-own, none-noted, one-begins, data-of, unit-of}
+use Rattle.laws_trace.proofs.Deliveries.{frame_by, data-tells, unit-tells, data-own, unit-own, none-noted, one-begins, data-of, unit-of, group-notes}
 use Rattle.laws_trace.proofs.OneLink.{HasOne, HasNone, Goes, is_at_link, event-goes}
 use Rattle.laws_trace.proofs.Runs.{run-shows}
 
@@ -66,27 +69,28 @@ abbrev pub IsCount : Link → ℕ → Type 0
 IsCount k n = is_multiple_frame k.state ≡ true → k.r ≡ n
 
 -- A frame for a link of a TEI on the line is an event of this link.
-its-aim : (l : Line) (service : Service) (tei place : ℕ) → place_in l tei ≡ Some place → (r : Result Parts ReadFault) (f : Parts) → parts_of r ≡ Some f
-    → is_for service tei f.address ≡ true → is_at_link service tei (aim_of_reading l r) ≡ true
-its-aim l service tei place on (Err fault) f is for = absurd (none-some f is)
-its-aim l service tei place on (Ok g) f is for =
+its-aim : (c : Config) (l : Line) (service : Service) (tei place : ℕ) → place_in l tei ≡ Some place → (r : Result Parts ReadFault) (f : Parts) → parts_of r ≡ Some f
+    → is_for service tei f.address ≡ true → is_at_link service tei (aim_of_reading c l r) ≡ true
+its-aim c l service tei place on (Err fault) f is for = absurd (none-some f is)
+its-aim c l service tei place on (Ok g) f is for =
     let same : g ≡ f = cc is in
     let parts = both-true (g.address.sapi == sapi_of service) (g.address.tei == tei) (ap (λ (x : Parts). is_for service tei x.address) same ∙ for) in
     ap (is_at_link service tei)
-    (addressed-is l g.address service tei place (link.frame g) (message_of g.control g.info) (eqb-true g.address.sapi (sapi_of service) parts.0) (eqb-true g.address.tei tei parts.1) on)
+    (ap (at_side c g)
+    (addressed-is l g.address service tei place (link.frame g) (message_of g.control g.info) (eqb-true g.address.sapi (sapi_of service) parts.0) (eqb-true g.address.tei tei parts.1) on))
     ∙ ap (λ b. b && tei == tei) (service-same service) ∙ eq-eqb tei tei refl
 
-heard-aims-at : (l : Line) (service : Service) (tei place : ℕ) → place_in l tei ≡ Some place → (o : Option stream.Event) (f : Parts)
-    → option_map_or frame_of o None ≡ Some f → is_for service tei f.address ≡ true
-    → is_at_link service tei (option_map_or (aim_of_heard l) o (at_none nothing)) ≡ true
-heard-aims-at l service tei place on None f is for = absurd (none-some f is)
-heard-aims-at l service tei place on (Some (stream.frame octets)) f is for = its-aim l service tei place on (reading User octets) f is for
-heard-aims-at l service tei place on (Some (stream.overlong head)) f is for = absurd (none-some f is)
-heard-aims-at l service tei place on (Some (stream.dropped cause)) f is for = absurd (none-some f is)
+heard-aims-at : (c : Config) (l : Line) (service : Service) (tei place : ℕ) → place_in l tei ≡ Some place → (o : Option stream.Event) (f : Parts)
+    → option_map_or (frame_of c) o None ≡ Some f → is_for service tei f.address ≡ true
+    → is_at_link service tei (option_map_or (aim_of_heard c l) o (at_none nothing)) ≡ true
+heard-aims-at c l service tei place on None f is for = absurd (none-some f is)
+heard-aims-at c l service tei place on (Some (stream.frame octets)) f is for = its-aim c l service tei place on (reading (heard_side c) octets) f is for
+heard-aims-at c l service tei place on (Some (stream.overlong head)) f is for = absurd (none-some f is)
+heard-aims-at c l service tei place on (Some (stream.dropped cause)) f is for = absurd (none-some f is)
 
 pub event-aims : (c : Config) (l : Line) (service : Service) (tei place : ℕ) → place_in l tei ≡ Some place → (e : Event) (f : Parts) → frame_by c e l ≡ Some f
     → is_for service tei f.address ≡ true → is_at_link service tei (aim_of c e l) ≡ true
-event-aims c l service tei place on (octet value) f is for = heard-aims-at l service tei place on (gained c.n201 l.received value) f is for
+event-aims c l service tei place on (octet value) f is for = heard-aims-at c l service tei place on (gained c.n201 l.received value) f is for
 event-aims c l service tei place on (expiry timer) f is for = absurd (none-some f is)
 event-aims c l service tei place on (request r) f is for = absurd (none-some f is)
 event-aims c l service tei place on pull f is for = absurd (none-some f is)
@@ -187,10 +191,35 @@ module _ (c : Config) (ranged : IsInRange c) (l : Line) (s : IsSound c l) (e : E
   -- None of it.
   module _ (x : HasNone c service tei e l (after c e l) a) where
     no-data : list_any (is_data_of service tei) (notes_of a) ≡ true → ⊥
-    no-data = none-noted c ranged l s e service tei (is_data_of service tei) (data-tells service tei) (data-own service tei) x.aims
+    no-data some =
+        let y = none-noted c ranged l s e service tei (is_data_of service tei) (data-tells service tei) (data-own service tei) x.aims some in
+        true≢false (sym some ∙ ap (list_any (is_data_of service tei)) (group-notes c ranged l s e service tei y.0 y.2))
 
-    no-unit : list_any (is_unit_of service tei) (notes_of a) ≡ true → ⊥
-    no-unit = none-noted c ranged l s e service tei (is_unit_of service tei) (unit-tells service tei) (unit-own service tei) x.aims
+    -- of unit data, that of the group on the user's side
+    group-told : list_any (is_unit_of service tei) (notes_of a) ≡ true → UnitData (contents_in a)
+    group-told some =
+        let y = none-noted c ranged l s e service tei (is_unit_of service tei) (unit-tells service tei) (unit-own service tei) x.aims some in
+        let h = y.2 in
+        let f = h.parts in
+        let its : (same_service h.service service && group_tei == tei) ≡ true =
+        only (same_service h.service service && group_tei == tei) (sym (ap (list_any (is_unit_of service tei)) (group-notes c ranged l s e service tei y.0 h)) ∙ some) in
+        record {
+          frame = f;
+          heard =
+              ap (λ e. frame_by c e l) h.by
+              ∙ ap (λ o. option_map_or (frame_of c) o None) (gained-is c l h.value (Some (stream.frame h.octets)) h.ends)
+              ∙ ap parts_of (reading-again (heard_side c) f h.octets h.spelled);
+          whose =
+              ap (λ n. n == sapi_of service && f.address.tei == tei) (sapi-is f.address.sapi h.service h.whose.sapi)
+              ∙ ap (λ n. sapi_of h.service == sapi_of service && n == tei) h.whose.group
+              ∙ ap (λ b. b && group_tei == tei) (same-sapi h.service service) ∙ its;
+          control = ap is_ui h.whose.control;
+          told = y.1 ∙ ap (λ octets. Some octets) (sym h.contents_are);
+        }
+      where
+        only : (b : Bool) → (b || false) ≡ true → b ≡ true
+        only true is = refl
+        only false is = is
 
     none-counts : IsCount (link_of service tei (after c e l)) (counted service tei w (notes_of a))
     none-counts up = go x.is
@@ -219,7 +248,7 @@ module _ (c : Config) (ranged : IsInRange c) (l : Line) (s : IsSound c l) (e : E
     where
       go : Goes c service tei e l (after c e l) a → IsHeard service tei w (notes_of a) (contents_in a) × IsCount (link_of service tei (after c e l)) (counted service tei w (notes_of a))
       go (inl x) = (
-        record { data_is = λ some. absurd (no-data x some); unit_is = λ some. absurd (no-unit x some); once = told-once c e l ranged s },
+        record { data_is = λ some. absurd (no-data x some); unit_is = λ some. group-told x some; once = told-once c e l ranged s },
         none-counts x,
       )
       go (inr x) = (
@@ -228,11 +257,11 @@ module _ (c : Config) (ranged : IsInRange c) (l : Line) (s : IsSound c l) (e : E
       )
 
 -- What is seen of an event, to whoever watches the link.
-module _ (service : Service) (tei : ℕ) where
+module _ (c : Config) (service : Service) (tei : ℕ) where
   abbrev pub Passes : Watched → List Seen → Link → Type 0
-  Passes w t k = AreHeard service tei w t × ((fold (watch service tei) w t).frame ≡ None) × IsCount k (fold (watch service tei) w t).count
+  Passes w t k = AreHeard c service tei w t × ((fold (watch c service tei) w t).frame ≡ None) × IsCount k (fold (watch c service tei) w t).count
 
-  after-heard : (g : Option stream.Event) (n : ℕ) (k : Link) (t : LineTold) → let w : Watched = record { frame = option_map_or frame_of g None; count = n } in
+  after-heard : (g : Option stream.Event) (n : ℕ) (k : Link) (t : LineTold) → let w : Watched = record { frame = option_map_or (frame_of c) g None; count = n } in
       IsHeard service tei w t.notes t.contents → IsCount k (counted service tei w t.notes)
       → Passes (record { frame = None; count = n }) (map traces.heard (option_to_list g) ++ traces.noted t.notes t.contents ∷ traces.lost t.lost ∷ []) k
   after-heard None n k t h count = ((h, (tt, tt)), refl, count)
@@ -259,26 +288,26 @@ module _ (service : Service) (tei : ℕ) where
   after-pull (Some t) n k (refused why) count = ((tt, tt), refl, count)
   after-pull (Some t) n k (pulled value is_begun orders) count = ((tt, (tt, tt)), refl, count)
 
-  event-passes : (c : Config) → IsInRange c → (e : Event) (l : Line) → IsSound c l → (n : ℕ) → IsCount (link_of service tei l) n
+  event-passes : IsInRange c → (e : Event) (l : Line) → IsSound c l → (n : ℕ) → IsCount (link_of service tei l) n
       → Passes (record { frame = None; count = n }) (seen c e l (answer c e l)) (link_of service tei (after c e l))
   unfolding answer
-  event-passes c ranged (octet value) l s n before =
+  event-passes ranged (octet value) l s n before =
       let h = event-told c ranged l s (octet value) service tei n before in
       after-heard (gained c.n201 l.received value) n (link_of service tei (after c (octet value) l)) (of_octet c value l).told h.0 h.1
-  event-passes c ranged (expiry timer) l s n before =
+  event-passes ranged (expiry timer) l s n before =
       let h = event-told c ranged l s (expiry timer) service tei n before in
       after-told n (link_of service tei (after c (expiry timer) l)) (answer c (expiry timer) l) h.0 h.1
-  event-passes c ranged (request r) l s n before =
+  event-passes ranged (request r) l s n before =
       let h = event-told c ranged l s (request r) service tei n before in
       after-asked r n (link_of service tei (after c (request r) l)) (answer c (request r) l) h.0 h.1
-  event-passes c ranged pull l s n before =
+  event-passes ranged pull l s n before =
       let h = event-told c ranged l s pull service tei n before in
       after-pull (begun c l) n (link_of service tei (after c pull l)) (answer c pull l) h.1
 
   -- one trace behind another
-  pub heard-append : (w : Watched) (t u : List Seen) → AreHeard service tei w t → AreHeard service tei (fold (watch service tei) w t) u → AreHeard service tei w (t ++ u)
+  pub heard-append : (w : Watched) (t u : List Seen) → AreHeard c service tei w t → AreHeard c service tei (fold (watch c service tei) w t) u → AreHeard c service tei w (t ++ u)
   heard-append w [] u h i = i
-  heard-append w (x ∷ t) u h i = (h.0, heard-append (watch service tei w x) t u h.1 i)
+  heard-append w (x ∷ t) u h i = (h.0, heard-append (watch c service tei w x) t u h.1 i)
 
 -- Over runs.
 abbrev Stands : Config → Line → Type 0
@@ -286,7 +315,7 @@ Stands c l = Unit {0}
 
 abbrev Shows : Config → Line → List Seen → Line → Type 0
 Shows c k t l =
-    (service : Service) (tei n : ℕ) → IsCount (link_of service tei k) n → Passes service tei (record { frame = None; count = n }) t (link_of service tei l)
+    (service : Service) (tei n : ℕ) → IsCount (link_of service tei k) n → Passes c service tei (record { frame = None; count = n }) t (link_of service tei l)
 
 rests : (c : Config) (l : Line) → Shows c l [] l
 rests c l service tei n count = (tt, refl, count)
@@ -294,19 +323,19 @@ rests c l service tei n count = (tt, refl, count)
 joins : (c : Config) (k l m : Line) (t u : List Seen) → Shows c k t l → Shows c l u m → Shows c k (t ++ u) m
 joins c k l m t u h i service tei n count =
     let first = h service tei n count in
-    let w = fold (watch service tei) (record { frame = None; count = n }) t in
-    let second = subst (λ o. Passes service tei (record { frame = o; count = w.count }) u (link_of service tei m)) (sym first.1) (i service tei w.count first.2) in (
-      heard-append service tei (record { frame = None; count = n }) t u first.0 second.0,
-      ap (λ (w : Watched). w.frame) (fold-append (watch service tei) (record { frame = None; count = n }) t u) ∙ second.1,
-      λ up. second.2 up ∙ sym (ap (λ (w : Watched). w.count) (fold-append (watch service tei) (record { frame = None; count = n }) t u)),
+    let w = fold (watch c service tei) (record { frame = None; count = n }) t in
+    let second = subst (λ o. Passes c service tei (record { frame = o; count = w.count }) u (link_of service tei m)) (sym first.1) (i service tei w.count first.2) in (
+      heard-append c service tei (record { frame = None; count = n }) t u first.0 second.0,
+      ap (λ (w : Watched). w.frame) (fold-append (watch c service tei) (record { frame = None; count = n }) t u) ∙ second.1,
+      λ up. second.2 up ∙ sym (ap (λ (w : Watched). w.count) (fold-append (watch c service tei) (record { frame = None; count = n }) t u)),
     )
 
 steps : (c : Config) → IsInRange c → (e : Event) (l : Line) → IsSound c l → Stands c l → Shows c l (seen c e l (answer c e l)) (after c e l) × Stands c (after c e l)
-steps c ranged e l s stands = ((λ service tei n count. event-passes service tei c ranged e l s n count), tt)
+steps c ranged e l s stands = ((λ service tei n count. event-passes c service tei ranged e l s n count), tt)
 
 -- What is told in a run is heard, and V(R) is what was counted.
 pub run-passes : (c : Config) (events : List card.Event) (number : ℕ) → IsInRange c → AreAtLines (cards.fresh c) events → number < c.lines → (service : Service) (tei : ℕ)
-    → Passes service tei nothing_yet (traces.trace_of c events number) (link_of service tei (line_at number (after_all (cards.fresh c) events)))
+    → Passes c service tei nothing_yet (traces.trace_of c events number) (link_of service tei (line_at number (after_all (cards.fresh c) events)))
 run-passes c events number ranged all within service tei =
     let start : line_at number (cards.fresh c) ≡ fresh_line c = get_or-replicate c.lines number (fresh_line c) (fresh_line c) within in
     let off : link_of service tei (line_at number (cards.fresh c)) ≡ fresh =

@@ -5,7 +5,7 @@ use Rattle.std.proofs.lemmas.Grind.{flat_map-append}
 use Rattle.std.proofs.lemmas.List.Elements.{All-nil, All-cons, All-head, All-tail, All-append}
 use Rattle.lapd_bits.specs.RoundTrip.{IsHeardWhole}
 use Rattle.lapd_frame.specs.declared.addresses.Address.{Address}
-use Rattle.lapd_frame.specs.declared.addresses.Side.TheVariants.{Network}
+use Rattle.lapd_frame.specs.declared.addresses.Side.{Side}
 use Rattle.lapd_frame.specs.declared.controls.Control.{Control}
 use Rattle.lapd_frame.specs.declared.controls.Control.TheVariants.{Information, ReceiveReady, ReceiveNotReady, Reject, Sabme, Disc, Ui, Ua, Dm, Frmr, Xid}
 use Rattle.lapd_frame.specs.Grammar.{cr_bit, second_octet, one_of, row, spelling}
@@ -48,11 +48,11 @@ one-octet : (a b without with_pf : ℕ) (pf : Bool) (info : List ℕ) → withou
 one-octet a b without with_pf pf [] h k = inr (refl, by-pf without with_pf pf h k)
 one-octet a b without with_pf pf (x ∷ info) h k = inl (behind-four a b (cond pf with_pf without) x info)
 
-not-short : (a : Address) (c : Control) (info : List ℕ) → IsNotShort (spelling Network (record { address = a; control = c; info = info }))
-not-short a c info = go c
+not-short : (side : Side) (a : Address) (c : Control) (info : List ℕ) → IsNotShort (spelling side (record { address = a; control = c; info = info }))
+not-short side a c info = go c
   where
     first : ℕ
-    first = 4 * a.sapi + 2 * cr_bit Network a.command
+    first = 4 * a.sapi + 2 * cr_bit side a.command
 
     second : ℕ
     second = 2 * a.tei + 1
@@ -72,11 +72,11 @@ not-short a c info = go c
 
 owed-not-short : (c : Config) (l next : Line) (frame : List ℕ) → IsOwed c (contents_of l) l next frame → IsNotShort frame
 owed-not-short c l next frame (inl x) =
-    subst IsNotShort (sym x.spelled) (not-short (record { sapi = 63; command = true; tei = 127 }) (Ui false) (information_of x.message))
+    subst IsNotShort (sym x.spelled) (not-short c.side (record { sapi = 63; command = true; tei = 127 }) (Ui false) (information_of x.message))
 owed-not-short c l next frame (inr (inl x)) =
-    subst IsNotShort (sym x.spelled) (not-short (record { sapi = sapi_of x.unit.service; command = true; tei = x.unit.tei }) (Ui false) x.unit.contents)
+    subst IsNotShort (sym x.spelled) (not-short c.side (record { sapi = sapi_of x.unit.service; command = true; tei = x.unit.tei }) (Ui false) x.unit.contents)
 owed-not-short c l next frame (inr (inr x)) =
-    subst IsNotShort (sym x.spelled) (not-short (record { sapi = sapi_of (service_at x.number); command = x.command; tei = x.tei }) x.control _)
+    subst IsNotShort (sym x.spelled) (not-short c.side (record { sapi = sapi_of (service_at x.number); command = x.command; tei = x.tei }) x.control _)
 
 -- What begins in a trace fits.
 abbrev pub Fits : Config → Line → List Seen → Line → Type 0

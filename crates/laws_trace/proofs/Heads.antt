@@ -7,7 +7,8 @@ use Rattle.std.proofs.lemmas.List.{map-append, take-append-drop}
 use Rattle.std.proofs.lemmas.List.Elements.{All-nil, All-cons, All-head, All-tail, All-append}
 use Rattle.lapd_bits.specs.StuffingLaws.{AreOctets}
 use Rattle.lapd_frame.specs.declared.addresses.Address.{Address}
-use Rattle.lapd_frame.specs.declared.addresses.Side.TheVariants.{Network}
+use Rattle.lapd_frame.specs.declared.addresses.Side.{Side}
+use Rattle.lapd_frame.specs.declared.addresses.Side.TheVariants.{User, Network}
 use Rattle.lapd_frame.specs.declared.controls.Control.{Control}
 use Rattle.lapd_frame.specs.declared.controls.Control.TheVariants.{Information, ReceiveReady, ReceiveNotReady, Reject, Sabme, Disc, Ui, Ua, Dm, Frmr, Xid}
 use Rattle.lapd_frame.specs.declared.services.Service.{Service}
@@ -76,32 +77,34 @@ field (Dm pf) = by-pf 0x0F 0x1F pf (omega arith) (omega arith)
 field (Frmr pf) = by-pf 0x87 0x97 pf (omega arith) (omega arith)
 field (Xid pf) = by-pf 0xAF 0xBF pf (omega arith) (omega arith)
 
-few-cr : (command : Bool) → cr_bit Network command ≤ 1
-few-cr true = omega arith
-few-cr false = omega arith
+few-cr : (side : Side) (command : Bool) → cr_bit side command ≤ 1
+few-cr User true = omega arith
+few-cr User false = omega arith
+few-cr Network true = omega arith
+few-cr Network false = omega arith
 
-pub head : (a : Address) (c : Control) → a.sapi < 64 → a.tei < 128 → AreOctets (head_of Network a c)
-head a c sapi tei =
-    All-append (λ octet. octet < 256) ((4 * a.sapi + 2 * cr_bit Network a.command) ∷ (2 * a.tei + 1) ∷ []) (row c).field
-    (both (4 * a.sapi + 2 * cr_bit Network a.command) (2 * a.tei + 1) (omega (arith, sapi, few-cr a.command)) (omega (arith, tei))) (field c)
+pub head : (side : Side) (a : Address) (c : Control) → a.sapi < 64 → a.tei < 128 → AreOctets (head_of side a c)
+head side a c sapi tei =
+    All-append (λ octet. octet < 256) ((4 * a.sapi + 2 * cr_bit side a.command) ∷ (2 * a.tei + 1) ∷ []) (row c).field
+    (both (4 * a.sapi + 2 * cr_bit side a.command) (2 * a.tei + 1) (omega (arith, sapi, few-cr side a.command)) (omega (arith, tei))) (field c)
 
 -- a frame as it goes out
-sent : (a : Address) (c : Control) (info : List ℕ) → a.sapi < 64 → a.tei < 128
-    → as_octets (spelling Network (record { address = a; control = c; info = info })) ≡ spelling Network (record { address = a; control = c; info = as_octets info })
-sent a c info sapi tei =
-    map-append (λ n. n % 256) (head_of Network a c) info ∙ ap (λ ns. ns ++ as_octets info) (exact (head_of Network a c) (head a c sapi tei))
+sent : (side : Side) (a : Address) (c : Control) (info : List ℕ) → a.sapi < 64 → a.tei < 128
+    → as_octets (spelling side (record { address = a; control = c; info = info })) ≡ spelling side (record { address = a; control = c; info = as_octets info })
+sent side a c info sapi tei =
+    map-append (λ n. n % 256) (head_of side a c) info ∙ ap (λ ns. ns ++ as_octets info) (exact (head_of side a c) (head side a c sapi tei))
 
 -- What a frame is as octets: unit data where it was, and then with the same head.
-pub record IsHeaded (frame : List ℕ) : Type 0 where
-  pub same : is_unit (as_octets frame) ≡ is_unit frame
-  pub head : is_unit frame ≡ true → AreOctets (take 3 frame)
+pub record IsHeaded (side : Side) (frame : List ℕ) : Type 0 where
+  pub same : is_unit side (as_octets frame) ≡ is_unit side frame
+  pub head : is_unit side frame ≡ true → AreOctets (take 3 frame)
 
-no-unit : (a : Address) (c : Control) (info frame : List ℕ) → a.sapi < 64 → a.tei < 128 → (is_ui c && not (a.sapi == management_sapi)) ≡ false
-    → frame ≡ spelling Network (record { address = a; control = c; info = info }) → IsHeaded frame
-no-unit a c info frame sapi tei other spelled =
-    let none : is_unit frame ≡ false = ap is_unit spelled ∙ other-frame a c other info in
+no-unit : (side : Side) (a : Address) (c : Control) (info frame : List ℕ) → a.sapi < 64 → a.tei < 128 → (is_ui c && not (a.sapi == management_sapi)) ≡ false
+    → frame ≡ spelling side (record { address = a; control = c; info = info }) → IsHeaded side frame
+no-unit side a c info frame sapi tei other spelled =
+    let none : is_unit side frame ≡ false = ap (is_unit side) spelled ∙ other-frame side a c other info in
     record {
-      same = ap (λ f. is_unit (as_octets f)) spelled ∙ ap is_unit (sent a c info sapi tei) ∙ other-frame a c other (as_octets info) ∙ sym none;
+      same = ap (λ f. is_unit side (as_octets f)) spelled ∙ ap (is_unit side) (sent side a c info sapi tei) ∙ other-frame side a c other (as_octets info) ∙ sym none;
       head = λ is. absurd (true≢false (sym is ∙ none));
     }
 
@@ -109,49 +112,49 @@ pub few-sapi : (service : Service) → sapi_of service < 64
 few-sapi Call = omega arith
 few-sapi Packet = omega arith
 
-of-unit : (u : UnitData) (frame : List ℕ) → u.tei ≤ 127 → frame ≡ unit_frame u → IsHeaded frame
-of-unit u frame small spelled =
+of-unit : (c : Config) (u : UnitData) (frame : List ℕ) → u.tei ≤ 127 → frame ≡ unit_frame c u → IsHeaded c.side frame
+of-unit c u frame small spelled =
     let a : Address = record { sapi = sapi_of u.service; command = true; tei = u.tei } in
     let tei : u.tei < 128 = omega (arith, small) in
     record {
       same =
-          ap (λ f. is_unit (as_octets f)) spelled ∙ ap is_unit (sent a (Ui false) u.contents (few-sapi u.service) tei)
-          ∙ unit-is (record u { contents = as_octets u.contents }) small ∙ sym (unit-is u small) ∙ ap is_unit (sym spelled);
-      head = λ is. subst (λ f. AreOctets (take 3 f)) (sym spelled) (head a (Ui false) (few-sapi u.service) tei);
+          ap (λ f. is_unit c.side (as_octets f)) spelled ∙ ap (is_unit c.side) (sent c.side a (Ui false) u.contents (few-sapi u.service) tei)
+          ∙ unit-is c (record u { contents = as_octets u.contents }) small ∙ sym (unit-is c u small) ∙ ap (is_unit c.side) (sym spelled);
+      head = λ is. subst (λ f. AreOctets (take 3 f)) (sym spelled) (head c.side a (Ui false) (few-sapi u.service) tei);
     }
 
-owed : (c : Config) (l next : Line) (frame : List ℕ) → IsSound c l → NoneWaits c l → IsOwed c (contents_of l) l next frame → IsHeaded frame
+owed : (c : Config) (l next : Line) (frame : List ℕ) → IsSound c l → NoneWaits c l → IsOwed c (contents_of l) l next frame → IsHeaded c.side frame
 owed c l next frame s h (inl x) =
-    no-unit (record { sapi = 63; command = true; tei = 127 }) (Ui false) (information_of x.message) frame (omega arith) (omega arith) refl x.spelled
-owed c l next frame s h (inr (inl x)) = of-unit x.unit frame (first-of c l.units x.unit x.oldest s.units) x.spelled
+    no-unit c.side (record { sapi = 63; command = true; tei = 127 }) (Ui false) (information_of x.message) frame (omega arith) (omega arith) refl x.spelled
+owed c l next frame s h (inr (inl x)) = of-unit c x.unit frame (first-of c l.units x.unit x.oldest s.units) x.spelled
 owed c l next frame s h (inr (inr x)) =
     let range = s.management.table.range (place_at x.number) x.tei x.on_line in
-    no-unit (record { sapi = sapi_of (service_at x.number); command = x.command; tei = x.tei }) x.control (unwrap_or x.information []) frame
+    no-unit c.side (record { sapi = sapi_of (service_at x.number); command = x.command; tei = x.tei }) x.control (unwrap_or x.information []) frame
     (few-sapi (service_at x.number)) (omega (arith, range))
     (ap (λ b. b && not (sapi_of (service_at x.number) == management_sapi)) (plain-order c l next frame h x)) x.spelled
 
 -- So it is of all that begins in a trace.
 abbrev pub AreHeaded : Config → Line → List Seen → Line → Type 0
-AreHeaded c before t after = All IsHeaded (frames_begun t)
+AreHeaded c before t after = All (IsHeaded c.side) (frames_begun t)
 
 pub rests : (c : Config) (l : Line) → AreHeaded c l [] l
-rests c l = All-nil IsHeaded
+rests c l = All-nil (IsHeaded c.side)
 
 pub joins : (c : Config) (k l m : Line) (t u : List Seen) → AreHeaded c k t l → AreHeaded c l u m → AreHeaded c k (t ++ u) m
-joins c k l m t u h i = subst (All IsHeaded) (sym (flat_map-append traces.frame_begun t u)) (All-append IsHeaded (frames_begun t) (frames_begun u) h i)
+joins c k l m t u h i = subst (All (IsHeaded c.side)) (sym (flat_map-append traces.frame_begun t u)) (All-append (IsHeaded c.side) (frames_begun t) (frames_begun u) h i)
 
 by-pull : (c : Config) (l next : Line) → IsSound c l → NoneWaits c l → (o : Option Taken)
     → elim o as (λ o. Type 0) [ None ↦ IsIdle c l next | Some t ↦ IsOwed c (contents_of l) l next t.frame ]
-    → All IsHeaded (option_to_list (option_map frame_taken o))
-by-pull c l next s h None x = All-nil IsHeaded
-by-pull c l next s h (Some t) x = All-cons IsHeaded t.frame [] (owed c l next t.frame s h x) (All-nil IsHeaded)
+    → All (IsHeaded c.side) (option_to_list (option_map frame_taken o))
+by-pull c l next s h None x = All-nil (IsHeaded c.side)
+by-pull c l next s h (Some t) x = All-cons (IsHeaded c.side) t.frame [] (owed c l next t.frame s h x) (All-nil (IsHeaded c.side))
 
 event-headed : (c : Config) (e : Event) (l : Line) → IsSound c l → NoneWaits c l → AreHeaded c l (seen c e l (answer c e l)) (after c e l)
-event-headed c (octet value) l s h = subst (All IsHeaded) (sym (no-frame (gained c.n201 l.received value) (answer c (octet value) l))) (All-nil IsHeaded)
-event-headed c (expiry timer) l s h = subst (All IsHeaded) (sym (no-frame None (answer c (expiry timer) l))) (All-nil IsHeaded)
-event-headed c (request r) l s h = subst (All IsHeaded) (sym (no-frame-asked r (answer c (request r) l))) (All-nil IsHeaded)
+event-headed c (octet value) l s h = subst (All (IsHeaded c.side)) (sym (no-frame (gained c.n201 l.received value) (answer c (octet value) l))) (All-nil (IsHeaded c.side))
+event-headed c (expiry timer) l s h = subst (All (IsHeaded c.side)) (sym (no-frame None (answer c (expiry timer) l))) (All-nil (IsHeaded c.side))
+event-headed c (request r) l s h = subst (All (IsHeaded c.side)) (sym (no-frame-asked r (answer c (request r) l))) (All-nil (IsHeaded c.side))
 event-headed c pull l s h =
-    subst (All IsHeaded) (sym (pulled-frames (pulls.begun c l) (answer c pull l))) (by-pull c l (after c pull l) s h (pulls.begun c l) (served c l s))
+    subst (All (IsHeaded c.side)) (sym (pulled-frames (pulls.begun c l) (answer c pull l))) (by-pull c l (after c pull l) s h (pulls.begun c l) (served c l s))
 
 pub steps : (c : Config) → IsInRange c → (e : Event) (l : Line) → IsSound c l → NoneWaits c l
     → AreHeaded c l (seen c e l (answer c e l)) (after c e l) × NoneWaits c (after c e l)
@@ -161,52 +164,52 @@ steps c ranged e l s h = (event-headed c e l s h, (kept.steps c ranged e l s h).
 abbrev pub IsExact : List ℕ → Type 0
 IsExact frame = AreOctets (drop 3 frame)
 
-asked-octets : (r : Request) → HasOctets (granted r) → All IsExact (units.unit_asked r)
-asked-octets (asked.Unit service tei contents) h =
-    All-cons IsExact (unit_frame (record { service = service; tei = tei; contents = contents })) [] h (All-nil IsExact)
-asked-octets (asked.Establish service tei) h = All-nil IsExact
-asked-octets (asked.Release service tei) h = All-nil IsExact
-asked-octets (asked.Data service tei contents) h = All-nil IsExact
-asked-octets (asked.Assign tei) h = All-nil IsExact
-asked-octets (asked.Remove tei) h = All-nil IsExact
-asked-octets (asked.Check tei) h = All-nil IsExact
-asked-octets (asked.SetBusy service tei) h = All-nil IsExact
-asked-octets (asked.ClearBusy service tei) h = All-nil IsExact
+asked-octets : (c : Config) (r : Request) → HasOctets (granted r) → All IsExact (units.unit_asked c r)
+asked-octets c (asked.Unit service tei contents) h =
+    All-cons IsExact (unit_frame c (record { service = service; tei = tei; contents = contents })) [] h (All-nil IsExact)
+asked-octets c (asked.Establish service tei) h = All-nil IsExact
+asked-octets c (asked.Release service tei) h = All-nil IsExact
+asked-octets c (asked.Data service tei contents) h = All-nil IsExact
+asked-octets c (asked.Assign tei) h = All-nil IsExact
+asked-octets c (asked.Remove tei) h = All-nil IsExact
+asked-octets c (asked.Check tei) h = All-nil IsExact
+asked-octets c (asked.SetBusy service tei) h = All-nil IsExact
+asked-octets c (asked.ClearBusy service tei) h = All-nil IsExact
 
-one-granted : (x : Seen) → HasOctets x → All IsExact (units.unit_granted x)
-one-granted (heard e) h = All-nil IsExact
-one-granted (traces.begun octets) h = All-nil IsExact
-one-granted (put value) h = All-nil IsExact
-one-granted (noted notes contents) h = All-nil IsExact
-one-granted (granted r) h = asked-octets r h
-one-granted (lost n) h = All-nil IsExact
+one-granted : (c : Config) (x : Seen) → HasOctets x → All IsExact (units.unit_granted c x)
+one-granted c (heard e) h = All-nil IsExact
+one-granted c (traces.begun octets) h = All-nil IsExact
+one-granted c (put value) h = All-nil IsExact
+one-granted c (noted notes contents) h = All-nil IsExact
+one-granted c (granted r) h = asked-octets c r h
+one-granted c (lost n) h = All-nil IsExact
 
-pub granted-octets : (t : List Seen) → All HasOctets t → All IsExact (units_granted t)
-granted-octets [] h = All-nil IsExact
-granted-octets (x ∷ t) h =
-    All-append IsExact (units.unit_granted x) (units_granted t) (one-granted x (All-head HasOctets x t h)) (granted-octets t (All-tail HasOctets x t h))
+pub granted-octets : (c : Config) (t : List Seen) → All HasOctets t → All IsExact (units_granted c t)
+granted-octets c [] h = All-nil IsExact
+granted-octets c (x ∷ t) h =
+    All-append IsExact (units.unit_granted c x) (units_granted c t) (one-granted c x (All-head HasOctets x t h)) (granted-octets c t (All-tail HasOctets x t h))
 
 -- So unit data goes out as it is.
 whole-frame : (frame : List ℕ) → AreOctets (take 3 frame) → IsExact frame → as_octets frame ≡ frame
 whole-frame frame front back =
     exact frame (subst AreOctets (take-append-drop 3 frame) (All-append (λ octet. octet < 256) (take 3 frame) (drop 3 frame) front back))
 
-first-same : (frame : List ℕ) → IsHeaded frame → (more kept rest : List (List ℕ)) → more ≡ kept → (b : Bool) → is_unit frame ≡ b
+first-same : (side : Side) (frame : List ℕ) → IsHeaded side frame → (more kept rest : List (List ℕ)) → more ≡ kept → (b : Bool) → is_unit side frame ≡ b
     → All IsExact (cond b (frame ∷ kept) kept ++ rest)
-    → cond (is_unit (as_octets frame)) (as_octets frame ∷ more) more ≡ cond b (frame ∷ kept) kept
-first-same frame h more kept rest same true is octets =
+    → cond (is_unit side (as_octets frame)) (as_octets frame ∷ more) more ≡ cond b (frame ∷ kept) kept
+first-same side frame h more kept rest same true is octets =
     ap (λ b. cond b (as_octets frame ∷ more) more) (h.same ∙ is)
     ∙ ap (λ f. f ∷ more) (whole-frame frame (h.head is) (All-head IsExact frame (kept ++ rest) octets)) ∙ ap (λ fs. frame ∷ fs) same
-first-same frame h more kept rest same false is octets = ap (λ b. cond b (as_octets frame ∷ more) more) (h.same ∙ is) ∙ same
+first-same side frame h more kept rest same false is octets = ap (λ b. cond b (as_octets frame ∷ more) more) (h.same ∙ is) ∙ same
 
 behind : (frame : List ℕ) (kept rest : List (List ℕ)) (b : Bool) → All IsExact (cond b (frame ∷ kept) kept ++ rest) → All IsExact (kept ++ rest)
 behind frame kept rest true octets = All-tail IsExact frame (kept ++ rest) octets
 behind frame kept rest false octets = octets
 
-pub same-units : (frames : List (List ℕ)) → All IsHeaded frames → (rest : List (List ℕ)) → All IsExact (filter is_unit frames ++ rest)
-    → filter is_unit (map as_octets frames) ≡ filter is_unit frames
-same-units [] headed rest octets = refl
-same-units (frame ∷ frames) headed rest octets =
-    let more = behind frame (filter is_unit frames) rest (is_unit frame) octets in
-    first-same frame (All-head IsHeaded frame frames headed) (filter is_unit (map as_octets frames)) (filter is_unit frames) rest
-    (same-units frames (All-tail IsHeaded frame frames headed) rest more) (is_unit frame) refl octets
+pub same-units : (side : Side) (frames : List (List ℕ)) → All (IsHeaded side) frames → (rest : List (List ℕ)) → All IsExact (filter (is_unit side) frames ++ rest)
+    → filter (is_unit side) (map as_octets frames) ≡ filter (is_unit side) frames
+same-units side [] headed rest octets = refl
+same-units side (frame ∷ frames) headed rest octets =
+    let more = behind frame (filter (is_unit side) frames) rest (is_unit side frame) octets in
+    first-same side frame (All-head (IsHeaded side) frame frames headed) (filter (is_unit side) (map as_octets frames)) (filter (is_unit side) frames) rest
+    (same-units side frames (All-tail (IsHeaded side) frame frames headed) rest more) (is_unit side frame) refl octets

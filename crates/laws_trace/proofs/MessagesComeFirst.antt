@@ -3,6 +3,7 @@ use Rattle.std.proofs.Common.{◌≡◌, ℕ, ◌≤◌, ◌<◌, Bool, true, fa
 use Rattle.std.specs.Prelude.{All, option_to_list}
 use Rattle.std.specs.Option.{unwrap_or}
 use Rattle.std.proofs.lemmas.List.Elements.{All-nil, All-cons, All-head, All-tail}
+use Rattle.lapd_frame.specs.declared.addresses.Side.{Side}
 use Rattle.lapd_frame.specs.declared.addresses.Address.{Address}
 use Rattle.lapd_frame.specs.declared.controls.Control.TheVariants.{Ui}
 use Rattle.lapd_frame.specs.declared.services.Service.{Service}
@@ -16,47 +17,49 @@ use Rattle.model_line.specs.Machine.{after, answer}
 use Rattle.model_line.specs.Pull.{Taken, begun}
 use Rattle.model_line.specs.Sound.{IsInRange, IsSound}
 use Rattle.model_card.specs.Pulled.{frame_taken}
-use Rattle.laws_card.proofs.Wherever.{all-right}
+use Rattle.model_card.specs.Card.{fresh}
+use Rattle.model_card.specs.Run.{moments, after_all}
+use Rattle.laws_card.proofs.Wherever.{all-right, config-stays}
 use Rattle.laws_line.specs.Pulls.{IsMessage, IsUnit, IsOfLink, IsOwed, IsIdle, contents_of}
 use Rattle.laws_line.proofs.Serving.{served}
 use Rattle.laws_trace.specs.LinksTakeTurns.{is_of_link}
 use Rattle.laws_trace.specs.MessagesComeFirst.{rank, AreByRank, MessagesComeFirst}
-use Rattle.laws_trace.specs.Trace.{Always, seen, frames_begun}
+use Rattle.laws_trace.specs.Trace.{Always, seen, frames_begun, trace}
 use Rattle.laws_trace.specs.Units.{is_unit}
 use Rattle.laws_trace.proofs.PullRuns.{pulled-behind}
 use Rattle.laws_trace.proofs.Reading.{other-frame, unit-is}
 use Rattle.laws_trace.proofs.Turns.{link-frame, ui-frame}
 use Rattle.laws_trace.proofs.Units.{NoneWaits, pulled-frames, plain-order, first-of}
 
-abbrev AtLeast : ℕ → List ℕ → Type 0
-AtLeast n frame = n ≤ rank frame
+abbrev AtLeast : Side → ℕ → List ℕ → Type 0
+AtLeast side n frame = n ≤ rank side frame
 
 -- What pulls of a line begin: where no message waits, none; where no unit data waits either, frames of links alone.
 pub record ByRank (c : Config) (l : Line) (frames : List (List ℕ)) : Type 0 where
-  pub ranked : AreByRank frames
-  pub units : l.management.waiting ≡ [] → All (AtLeast 1) frames
-  pub links : l.management.waiting ≡ [] → l.units ≡ [] → All (AtLeast 2) frames
+  pub ranked : AreByRank c.side frames
+  pub units : l.management.waiting ≡ [] → All (AtLeast c.side 1) frames
+  pub links : l.management.waiting ≡ [] → l.units ≡ [] → All (AtLeast c.side 2) frames
 
-none-ranked : AreByRank []
-none-ranked one other [] between behind e = absurd (cc e)
-none-ranked one other (x ∷ before) between behind e = absurd (cc e)
+none-ranked : (side : Side) → AreByRank side []
+none-ranked side one other [] between behind e = absurd (cc e)
+none-ranked side one other (x ∷ before) between behind e = absurd (cc e)
 
-one-ranked : (frame : List ℕ) (frames : List (List ℕ)) → All (AtLeast (rank frame)) frames → AreByRank frames → AreByRank (frame ∷ frames)
-one-ranked frame frames least h one other [] between behind e =
+one-ranked : (side : Side) (frame : List ℕ) (frames : List (List ℕ)) → All (AtLeast side (rank side frame)) frames → AreByRank side frames → AreByRank side (frame ∷ frames)
+one-ranked side frame frames least h one other [] between behind e =
     let head : frame ≡ one = cc e in
     let tail : frames ≡ between ++ other ∷ behind = cc e in
-    let there = All-head (AtLeast (rank frame)) other behind (all-right (AtLeast (rank frame)) between (other ∷ behind) (subst (All (AtLeast (rank frame))) tail least)) in
-    subst (λ x. rank x ≤ rank other) head there
-one-ranked frame frames least h one other (x ∷ before) between behind e =
+    let there = All-head (AtLeast side (rank side frame)) other behind (all-right (AtLeast side (rank side frame)) between (other ∷ behind) (subst (All (AtLeast side (rank side frame))) tail least)) in
+    subst (λ x. rank side x ≤ rank side other) head there
+one-ranked side frame frames least h one other (x ∷ before) between behind e =
     let tail : frames ≡ before ++ one ∷ (between ++ other ∷ behind) = cc e in
     h one other before between behind tail
 
 pub nothing-begun : (c : Config) (l : Line) → ByRank c l []
-nothing-begun c l = record { ranked = none-ranked; units = λ m. All-nil (AtLeast 1); links = λ m u. All-nil (AtLeast 2) }
+nothing-begun c l = record { ranked = none-ranked c.side; units = λ m. All-nil (AtLeast c.side 1); links = λ m u. All-nil (AtLeast c.side 2) }
 
-from-zero : (frames : List (List ℕ)) → All (AtLeast 0) frames
-from-zero [] = All-nil (AtLeast 0)
-from-zero (x ∷ frames) = All-cons (AtLeast 0) x frames (omega arith) (from-zero frames)
+from-zero : (side : Side) (frames : List (List ℕ)) → All (AtLeast side 0) frames
+from-zero side [] = All-nil (AtLeast side 0)
+from-zero side (x ∷ frames) = All-cons (AtLeast side 0) x frames (omega arith) (from-zero side frames)
 
 small-sapi : (service : Service) → sapi_of service < 64
 small-sapi Call = omega arith
@@ -77,42 +80,42 @@ module _ (c : Config) (l : Line) (s : IsSound c l) (plain : NoneWaits c l) (fram
     links = λ m u. h.links (x.messages ∙ m) (x.units ∙ u);
   }
 
-  message-pull : (frame : List ℕ) → IsMessage l next frame → ByRank c next frames → ByRank c l (frame ∷ frames)
+  message-pull : (frame : List ℕ) → IsMessage c l next frame → ByRank c next frames → ByRank c l (frame ∷ frames)
   message-pull frame x h =
       let a : Address = record { sapi = 63; command = true; tei = 127 } in
-      let of_link : is_of_link frame ≡ false = ap is_of_link x.spelled ∙ ui-frame a (information_of x.message) (omega arith) (omega arith) refl in
-      let unit : is_unit frame ≡ false = ap is_unit x.spelled ∙ other-frame a (Ui false) refl (information_of x.message) in
-      let zero : rank frame ≡ 0 = ap (λ b. cond b 2 (cond (is_unit frame) 1 0)) of_link ∙ ap (λ b. cond {A = ℕ} b 1 0) unit in
+      let of_link : is_of_link c.side frame ≡ false = ap (is_of_link c.side) x.spelled ∙ ui-frame c.side a (information_of x.message) (omega arith) (omega arith) refl in
+      let unit : is_unit c.side frame ≡ false = ap (is_unit c.side) x.spelled ∙ other-frame c.side a (Ui false) refl (information_of x.message) in
+      let zero : rank c.side frame ≡ 0 = ap (λ b. cond b 2 (cond (is_unit c.side frame) 1 0)) of_link ∙ ap (λ b. cond {A = ℕ} b 1 0) unit in
       record {
-        ranked = one-ranked frame frames (subst (λ n. All (AtLeast n) frames) (sym zero) (from-zero frames)) h.ranked;
+        ranked = one-ranked c.side frame frames (subst (λ n. All (AtLeast c.side n) frames) (sym zero) (from-zero c.side frames)) h.ranked;
         units = λ m. absurd (none-first l.management.waiting x.message x.oldest m);
         links = λ m u. absurd (none-first l.management.waiting x.message x.oldest m);
       }
 
-  unit-pull : (frame : List ℕ) → IsUnit l next frame → ByRank c next frames → ByRank c l (frame ∷ frames)
+  unit-pull : (frame : List ℕ) → IsUnit c l next frame → ByRank c next frames → ByRank c l (frame ∷ frames)
   unit-pull frame x h =
       let small = first-of c l.units x.unit x.oldest s.units in
       let a : Address = record { sapi = sapi_of x.unit.service; command = true; tei = x.unit.tei } in
-      let of_link : is_of_link frame ≡ false = ap is_of_link x.spelled ∙ ui-frame a x.unit.contents (small-sapi x.unit.service) (omega (arith, small)) refl in
-      let unit : is_unit frame ≡ true = ap is_unit x.spelled ∙ unit-is x.unit small in
-      let one : rank frame ≡ 1 = ap (λ b. cond b 2 (cond (is_unit frame) 1 0)) of_link ∙ ap (λ b. cond {A = ℕ} b 1 0) unit in
-      let behind : All (AtLeast 1) frames = h.units (x.messages ∙ x.no_message) in
+      let of_link : is_of_link c.side frame ≡ false = ap (is_of_link c.side) x.spelled ∙ ui-frame c.side a x.unit.contents (small-sapi x.unit.service) (omega (arith, small)) refl in
+      let unit : is_unit c.side frame ≡ true = ap (is_unit c.side) x.spelled ∙ unit-is c x.unit small in
+      let one : rank c.side frame ≡ 1 = ap (λ b. cond b 2 (cond (is_unit c.side frame) 1 0)) of_link ∙ ap (λ b. cond {A = ℕ} b 1 0) unit in
+      let behind : All (AtLeast c.side 1) frames = h.units (x.messages ∙ x.no_message) in
       record {
-        ranked = one-ranked frame frames (subst (λ n. All (AtLeast n) frames) (sym one) behind) h.ranked;
-        units = λ m. All-cons (AtLeast 1) frame frames (omega (arith, one)) behind;
+        ranked = one-ranked c.side frame frames (subst (λ n. All (AtLeast c.side n) frames) (sym one) behind) h.ranked;
+        units = λ m. All-cons (AtLeast c.side 1) frame frames (omega (arith, one)) behind;
         links = λ m u. absurd (none-first l.units x.unit x.oldest u);
       }
 
   link-pull : (frame : List ℕ) → IsOfLink c (contents_of l) l next frame → ByRank c next frames → ByRank c l (frame ∷ frames)
   link-pull frame x h =
       let a : Address = record { sapi = sapi_of (service_at x.number); command = x.command; tei = x.tei } in
-      let of_link : is_of_link frame ≡ true = ap is_of_link x.spelled ∙ link-frame a x.control (plain-order c l next frame plain x) (unwrap_or x.information []) in
-      let two : rank frame ≡ 2 = ap (λ b. cond b 2 (cond (is_unit frame) 1 0)) of_link in
-      let behind : All (AtLeast 2) frames = h.links (x.messages ∙ x.its_turn.no_message) (x.units ∙ x.its_turn.no_unit) in
+      let of_link : is_of_link c.side frame ≡ true = ap (is_of_link c.side) x.spelled ∙ link-frame c.side a x.control (plain-order c l next frame plain x) (unwrap_or x.information []) in
+      let two : rank c.side frame ≡ 2 = ap (λ b. cond b 2 (cond (is_unit c.side frame) 1 0)) of_link in
+      let behind : All (AtLeast c.side 2) frames = h.links (x.messages ∙ x.its_turn.no_message) (x.units ∙ x.its_turn.no_unit) in
       record {
-        ranked = one-ranked frame frames (subst (λ n. All (AtLeast n) frames) (sym two) behind) h.ranked;
-        units = λ m. All-cons (AtLeast 1) frame frames (omega (arith, two)) (h.units (x.messages ∙ m));
-        links = λ m u. All-cons (AtLeast 2) frame frames (omega (arith, two)) behind;
+        ranked = one-ranked c.side frame frames (subst (λ n. All (AtLeast c.side n) frames) (sym two) behind) h.ranked;
+        units = λ m. All-cons (AtLeast c.side 1) frame frames (omega (arith, two)) (h.units (x.messages ∙ m));
+        links = λ m u. All-cons (AtLeast c.side 2) frame frames (omega (arith, two)) behind;
       }
 
   by-pull : (o : Option Taken) → elim o as (λ o. Type 0) [ None ↦ IsIdle c l next | Some t ↦ IsOwed c (contents_of l) l next t.frame ]
@@ -127,4 +130,6 @@ module _ (c : Config) (l : Line) (s : IsSound c l) (plain : NoneWaits c l) (fram
 
 pub messages-come-first : Always MessagesComeFirst
 messages-come-first c events number ranged all within before pulls split only =
+    let card = after_all (fresh c) before in
+    subst (λ (c : Config). AreByRank c.side (frames_begun (trace number (moments card pulls)))) (config-stays (fresh c) before)
     (pulled-behind ByRank nothing-begun (λ c ranged l s plain frames h. pull-ranks c l s plain frames h) c events number ranged all within before pulls split only).ranked

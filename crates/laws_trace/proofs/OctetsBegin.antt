@@ -51,7 +51,7 @@ use Rattle.model_line.specs.Event.{Event, LineTold, octet, expiry, request, pull
 use Rattle.model_line.specs.Expiry.{aim_of_expiry, at_timer}
 use Rattle.model_line.specs.Line.{Line, UnitData, link_count, link_number, service_at, place_at, place_in, tei_at, link_at, link_in, link_of, terms, fresh_line}
 use Rattle.model_line.specs.Machine.{after, answer, unless_refused}
-use Rattle.model_line.specs.Octet.{gained, management_sapi, group_tei, drop_for, at_place, to_service, addressed, message_of, aim_of_reading, unless_at_link, aim_of_long, aim_of_heard, aim_of_octet, with_received}
+use Rattle.model_line.specs.Octet.{gained, management_sapi, group_tei, drop_for, at_place, to_service, addressed, message_of, aim_of_reading, unless_at_link, aim_of_long, aim_of_heard, aim_of_octet, with_received, heard_side}
 use Rattle.model_line.specs.Pull as pulls
 use Rattle.model_line.specs.Pull.{Taken, with_message, with_unit, with_given_frame, unit_frame, frame_of, first_taken, round, taken, is_due, with_item, after_pull}
 use Rattle.model_line.specs.Refusal.{refusal}
@@ -61,6 +61,7 @@ use Rattle.model_line.specs.Requested.{aim_of_request, at_requested}
 use Rattle.model_line.specs.Sound.{IsInRange, IsSoundAt, IsSound, IsUnitData}
 use Rattle.model_line.proofs.LinksSound.{sound_in}
 use Rattle.model_line.proofs.PullSound.{round_below}
+use Rattle.model_line.proofs.Sides.{side_aims}
 use Rattle.lapd_tei.proofs.Tables.{place_of-is}
 use Rattle.laws_line.specs.Pulls.{unit_asked, units_asked}
 use Rattle.laws_line.specs.Share.{is_granted}
@@ -98,8 +99,8 @@ record AreKept (l : Line) : Type 0 where
   links : (service : Service) (tei : ℕ) → All AreOctets (queue_of (link_of service tei l))
 
 -- What begins: a head, and information of octets.
-whole-octets : (a : Address) (c : Control) (info : List ℕ) → a.sapi < 64 → a.tei < 128 → AreOctets info → AreOctets (head_of Network a c ++ info)
-whole-octets a c info sapi tei h = All-append (λ octet. octet < 256) (head_of Network a c) info (head a c sapi tei) h
+whole-octets : (side : Side) (a : Address) (c : Control) (info : List ℕ) → a.sapi < 64 → a.tei < 128 → AreOctets info → AreOctets (head_of side a c ++ info)
+whole-octets side a c info sapi tei h = All-append (λ octet. octet < 256) (head_of side a c) info (head side a c sapi tei) h
 
 -- the contents at V(S) are among those that are kept
 at-any : (xs : List (List ℕ)) (i : ℕ) (x : List ℕ) → All AreOctets xs → slice_get xs i ≡ Some x → AreOctets x
@@ -123,13 +124,13 @@ module _ (c : Config) (ranged : IsInRange c) (l : Line) (s : IsSound c l) (k : A
   abbrev IsExact : Taken → Type 0
   IsExact t = AreOctets t.frame
 
-  message-exact : (m : Message) → IsSmall m → action_of m ≤ 127 → AreOctets (message_frame m)
+  message-exact : (m : Message) → IsSmall m → action_of m ≤ 127 → AreOctets (message_frame c.side m)
   message-exact m small low =
-      whole-octets (record { sapi = 63; command = true; tei = 127 }) (Ui false) (information_of m) (omega arith) (omega arith) (message-octets m small low)
+      whole-octets c.side (record { sapi = 63; command = true; tei = 127 }) (Ui false) (information_of m) (omega arith) (omega arith) (message-octets m small low)
 
-  unit-exact : (u : UnitData) → u.tei ≤ 127 → IsUnit u → AreOctets (unit_frame u)
+  unit-exact : (u : UnitData) → u.tei ≤ 127 → IsUnit u → AreOctets (unit_frame c u)
   unit-exact u low h =
-      whole-octets (record { sapi = sapi_of u.service; command = true; tei = u.tei }) (Ui false) u.contents (few-sapi u.service) (omega (arith, low)) h
+      whole-octets c.side (record { sapi = sapi_of u.service; command = true; tei = u.tei }) (Ui false) u.contents (few-sapi u.service) (omega (arith, low)) h
 
   -- the link at its number is that of its service with its TEI
   kept-at : (number tei : ℕ) → tei_at (place_at number) l ≡ Some tei → All AreOctets (queue_of (link_at number l))
@@ -149,7 +150,7 @@ module _ (c : Config) (ranged : IsInRange c) (l : Line) (s : IsSound c l) (k : A
       let range = s.management.table.range (place_at x.number) x.tei x.on_line in
       let offered = from-offered own own-link (links.given own own-link) x.what x.given (given-is-offered own own-link sound) in
       subst IsExact (sym x.is)
-      (whole-octets (address_at own x.what.frame.command) x.what.frame.control (unwrap_or x.what.contents []) (few-sapi (service_at x.number)) (omega (arith, range))
+      (whole-octets c.side (address_at own x.what.frame.command) x.what.frame.control (unwrap_or x.what.contents []) (few-sapi (service_at x.number)) (omega (arith, range))
       (offered-octets own-link.contents own-link.a own-link.s (number_sent x.what.frame.control) x.what.contents (kept-at x.number x.tei x.on_line) sound.ordered offered))
 
   first-exact : (o : Option Taken) → IfSome o (OfLink c l) → IfSome o IsExact
@@ -157,7 +158,7 @@ module _ (c : Config) (ranged : IsInRange c) (l : Line) (s : IsSound c l) (k : A
   first-exact (Some t) x = link-exact t x
 
   any-exact : (ms : List Message) (us : List UnitData) → All IsSmall ms → All (λ m. action_of m ≤ 127) ms → All (IsUnitData c) us → All IsUnit us
-      → IfSome (option_or (option_map (with_message l) (option_map message_frame (slice_get ms 0))) (option_or (option_map (with_unit l) (slice_get us 0)) (first_taken c l (round c l)))) IsExact
+      → IfSome (option_or (option_map (with_message l) (option_map (message_frame c.side) (slice_get ms 0))) (option_or (option_map (with_unit c l) (slice_get us 0)) (first_taken c l (round c l)))) IsExact
   any-exact (m ∷ ms) us small low units octets = message-exact m (All-head IsSmall m ms small) (All-head (λ m. action_of m ≤ 127) m ms low)
   any-exact [] (u ∷ us) small low units octets = unit-exact u (All-head (IsUnitData c) u us units).tei (All-head IsUnit u us octets)
   any-exact [] [] small low units octets = first-exact (first_taken c l (round c l)) (of-links c l s (round c l) (round_below c l))
@@ -236,7 +237,7 @@ IsOfOctetsAt (at_none what) = Unit {0}
 IsOfOctetsAt (at_link service tei place e) = Unit {0}
 IsOfOctetsAt (at_units unit) = Unit {0}
 
-module _ (l : Line) where
+module _ (c : Config) (l : Line) where
   place-aims : (service : Service) (tei : ℕ) (what : link.Received) (o : Option ℕ) → IsOfOctetsAt (at_place service tei what o)
   place-aims service tei what None = tt
   place-aims service tei what (Some place) = tt
@@ -266,19 +267,20 @@ module _ (l : Line) where
   message-aims (control.Frmr f) info h = tt
   message-aims (control.Xid pf) info h = tt
 
-  info-octets : (octets : List ℕ) (parts : Parts) → AreOctets octets → reading User octets ≡ Ok parts → AreOctets parts.info
+  info-octets : (octets : List ℕ) (parts : Parts) → AreOctets octets → reading (heard_side c) octets ≡ Ok parts → AreOctets parts.info
   info-octets octets parts h is =
-      let spelled = (reading-found User octets parts h is).octets_are in
+      let spelled = (reading-found (heard_side c) octets parts h is).octets_are in
       let all = subst AreOctets spelled h in
-      subst AreOctets (drop-head (head_of User parts.address parts.control) parts.info) (All-drop (λ octet. octet < 256) (length (head_of User parts.address parts.control)) (head_of User parts.address parts.control ++ parts.info) all)
+      subst AreOctets (drop-head (head_of (heard_side c) parts.address parts.control) parts.info) (All-drop (λ octet. octet < 256) (length (head_of (heard_side c) parts.address parts.control)) (head_of (heard_side c) parts.address parts.control ++ parts.info) all)
     where
       drop-head : (front back : List ℕ) → drop (length front) (front ++ back) ≡ back
       drop-head [] back = refl
       drop-head (x ∷ front) back = drop-head front back
 
-  reading-aims : (octets : List ℕ) → AreOctets octets → (r : Result Parts ReadFault) → reading User octets ≡ r → IsOfOctetsAt (aim_of_reading l r)
+  reading-aims : (octets : List ℕ) → AreOctets octets → (r : Result Parts ReadFault) → reading (heard_side c) octets ≡ r → IsOfOctetsAt (aim_of_reading c l r)
   reading-aims octets h (Ok parts) is =
-      addressed-aims parts.address (link.frame parts) (message_of parts.control parts.info) (message-aims parts.control parts.info (info-octets octets parts h is))
+      side_aims c parts IsOfOctetsAt tt (λ service to. tt) (addressed l parts.address (link.frame parts) (message_of parts.control parts.info))
+      (addressed-aims parts.address (link.frame parts) (message_of parts.control parts.info) (message-aims parts.control parts.info (info-octets octets parts h is)))
   reading-aims octets h (Err BadExtension) is = tt
   reading-aims octets h (Err (Undefined address)) is = addressed-aims address link.undefined (drop_for Unserved) tt
   reading-aims octets h (Err (WrongSize address)) is = addressed-aims address link.wrong_size (drop_for Unserved) tt
@@ -298,17 +300,17 @@ module _ (l : Line) where
   long-aims (Err (WrongSize address)) = addressed-aims address link.wrong_size (drop_for Unserved) tt
   long-aims (Err Short) = tt
 
-  heard-aims : (e : stream.Event) → ending.HasOctets e → IsOfOctetsAt (aim_of_heard l e)
-  heard-aims (stream.frame octets) h = reading-aims octets h (reading User octets) refl
-  heard-aims (stream.overlong head) h = long-aims (long_reading User head)
+  heard-aims : (e : stream.Event) → ending.HasOctets e → IsOfOctetsAt (aim_of_heard c l e)
+  heard-aims (stream.frame octets) h = reading-aims octets h (reading (heard_side c) octets) refl
+  heard-aims (stream.overlong head) h = long-aims (long_reading (heard_side c) head)
   heard-aims (stream.dropped cause) h = tt
 
 octet-aims : (c : Config) (l : Line) (value : ℕ) → IsOfOctetsAt (aim_of_octet c value l)
 octet-aims c l value = go (gained c.n201 l.received value) refl
   where
-    go : (o : Option stream.Event) → gained c.n201 l.received value ≡ o → IsOfOctetsAt (option_map_or (aim_of_heard l) o (at_none nothing))
+    go : (o : Option stream.Event) → gained c.n201 l.received value ≡ o → IsOfOctetsAt (option_map_or (aim_of_heard c l) o (at_none nothing))
     go None is = tt
-    go (Some e) is = heard-aims l e (ended-octets c l value e (gained-adds c l value (Some e) is))
+    go (Some e) is = heard-aims c l e (ended-octets c l value e (gained-adds c l value (Some e) is))
 
 timer-aims : (l : Line) (timer : Timer) → IsOfOctetsAt (aim_of_expiry timer l)
 timer-aims l (timers.T200 service tei) = by-place (place_in l tei)

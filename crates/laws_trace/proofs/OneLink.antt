@@ -62,12 +62,12 @@ use Rattle.laws_line.proofs.Tied.{Ties, octet-ties, expiry-ties, request-ties}
 use Rattle.laws_line.proofs.TimersFollow.{number-is}
 
 -- The frame that an offer of a link gives; no other event gives one.
-abbrev pub frames_given : Terms → link.Event → Link → List (List ℕ)
-frames_given t link.offer x = map (frame_of t) (option_to_list (links.given t x))
-frames_given t (link.received what) x = []
-frames_given t (link.expired timer) x = []
-frames_given t (link.requested asked full) x = []
-frames_given t link.cleared x = []
+abbrev pub frames_given : Config → Terms → link.Event → Link → List (List ℕ)
+frames_given c t link.offer x = map (frame_of c t) (option_to_list (links.given t x))
+frames_given c t (link.received what) x = []
+frames_given c t (link.expired timer) x = []
+frames_given c t (link.requested asked full) x = []
+frames_given c t link.cleared x = []
 
 -- Whether an event of the line is one at this link.
 abbrev pub is_at_link : Service → ℕ → Aim → Bool
@@ -86,20 +86,20 @@ pub record HasOne (c : Config) (service : Service) (tei : ℕ) (e : Event) (befo
   pub contents : contents_in a ≡ option_or (links.told (terms c service tei) event (link_of service tei before)).delivered
       (links.told (terms c service tei) event (link_of service tei before)).unit
   pub lost : lost_in a ≡ (links.told (terms c service tei) event (link_of service tei before)).lost
-  pub begins : frame_in c e before ≡ frames_given (terms c service tei) event (link_of service tei before)
+  pub begins : frame_in c e before ≡ frames_given c (terms c service tei) event (link_of service tei before)
 
 -- A frame of TEI management, unit data, or a frame of another link.
-abbrev pub IsForeign : Service → ℕ → List ℕ → Type 0
-IsForeign service tei frame =
-    ((message : Message) × (frame ≡ message_frame message)) ⊎ ((unit : UnitData) × (frame ≡ unit_frame unit))
-    ⊎ ((t : Terms) × (g : Given) × (frame ≡ frame_of t g) × ((same_service t.service service && t.tei == tei) ≡ false))
+abbrev pub IsForeign : Config → Service → ℕ → List ℕ → Type 0
+IsForeign c service tei frame =
+    ((message : Message) × (frame ≡ message_frame c.side message)) ⊎ ((unit : UnitData) × (frame ≡ unit_frame c unit))
+    ⊎ ((t : Terms) × (g : Given) × (frame ≡ frame_of c t g) × ((same_service t.service service && t.tei == tei) ≡ false))
 
 -- No event of the link: it stays as it is, or its TEI comes or leaves, and it is as one that begins.
 pub record HasNone (c : Config) (service : Service) (tei : ℕ) (e : Event) (before after : Line) (a : Answer) : Type 0 where
   pub is : (link_of service tei after ≡ link_of service tei before) ⊎ (link_of service tei after ≡ fresh)
   pub stays : has_tei tei before ≡ true → has_tei tei after ≡ true → link_of service tei after ≡ link_of service tei before
   pub aims : is_at_link service tei (aim_of c e before) ≡ false
-  pub begins : All (IsForeign service tei) (frame_in c e before)
+  pub begins : All (IsForeign c service tei) (frame_in c e before)
 
 abbrev pub Goes : Config → Service → ℕ → Event → Line → Line → Answer → Type 0
 Goes c service tei e before after a = HasNone c service tei e before after a ⊎ HasOne c service tei e before after a
@@ -110,7 +110,7 @@ itself x = x
 -- No other event gives a frame.
 module _ (c : Config) (l : Line) where
   abbrev Silent : Aim → Type 0
-  Silent (at_link its by place event) = frames_given (terms c its by) event (link_of its by l) ≡ []
+  Silent (at_link its by place event) = frames_given c (terms c its by) event (link_of its by l) ≡ []
   Silent (at_none what) = Unit {0}
   Silent (at_management me) = Unit {0}
   Silent (at_units unit) = Unit {0}
@@ -118,9 +118,9 @@ module _ (c : Config) (l : Line) where
   octet-silent : (value : ℕ) → Silent (aim_of_octet c value l)
   octet-silent value = go (gained c.n201 l.received value)
     where
-      go : (o : Option stream.Event) → Silent (option_map_or (aim_of_heard l) o (at_none nothing))
+      go : (o : Option stream.Event) → Silent (option_map_or (aim_of_heard c l) o (at_none nothing))
       go None = tt
-      go (Some e) = heard_aims l Silent (λ cause. tt) (λ its by place what at. refl) (λ info. tt) e
+      go (Some e) = heard_aims c l Silent (λ cause. tt) (λ its by place what at. refl) (λ info. tt) (λ parts service to. tt) e
 
   timer-silent : (its : Service) (by : ℕ) (k : LinkTimer) (o : Option ℕ) → Silent (at_timer its by k o)
   timer-silent its by k None = tt
@@ -179,8 +179,8 @@ module _ (c : Config) (l : Line) (s : IsSound c l) (service : Service) (tei : �
     abbrev now : Line
     now = record l { received = received }
 
-    no-frame : All (IsForeign service tei) (frame_in c e l)
-    no-frame = subst (All (IsForeign service tei)) (sym none_begins) (All-nil (IsForeign service tei))
+    no-frame : All (IsForeign c service tei) (frame_in c e l)
+    no-frame = subst (All (IsForeign c service tei)) (sym none_begins) (All-nil (IsForeign c service tei))
 
     stays : (aim : Aim) → aim_of c e l ≡ aim → is_at_link service tei aim ≡ false → (next : Line) → Remains next → Goes c service tei e l next a
     stays aim is none next (inl same) = inl (record { is = inl same; stays = λ was there. same; aims = ap (is_at_link service tei) is ∙ none; begins = no-frame })
@@ -192,7 +192,7 @@ module _ (c : Config) (l : Line) (s : IsSound c l) (service : Service) (tei : �
         (notes_of a ≡ (of_aim c aim now).told.notes) × (contents_in a ≡ (of_aim c aim now).told.contents) × (lost_in a ≡ (of_aim c aim now).told.lost)
 
     at-one : (its : Service) (by place : ℕ) (event : link.Event) → aim_of c e l ≡ at_link its by place event → IsAt l.management.places place by
-        → IsBy c l e a its by event → Tells (at_link its by place event) → frames_given (terms c its by) event (link_of its by l) ≡ []
+        → IsBy c l e a its by event → Tells (at_link its by place event) → frames_given c (terms c its by) event (link_of its by l) ≡ []
         → (b : Bool) → (same_service its service && by == tei) ≡ b → Goes c service tei e l (of_aim c (at_link its by place event) now).line a
     at-one its by place event is at ties tells silent false other =
         stays (at_link its by place event) is other (of_aim c (at_link its by place event) now).line
@@ -288,15 +288,15 @@ module _ (c : Config) (l : Line) (s : IsSound c l) (service : Service) (tei : �
     place : ℕ
     placed : place_in l tei ≡ Some place
     is : link_of service tei t.line ≡ links.after Own link.offer (link_of service tei l)
-    begins : t.frame ∷ [] ≡ frames_given Own link.offer (link_of service tei l)
+    begins : t.frame ∷ [] ≡ frames_given c Own link.offer (link_of service tei l)
 
   abbrev Took : Taken → Type 0
-  Took t = ((link_of service tei t.line ≡ link_of service tei l) × IsForeign service tei t.frame) ⊎ Takes t
+  Took t = ((link_of service tei t.line ≡ link_of service tei l) × IsForeign c service tei t.frame) ⊎ Takes t
 
   took-link : (its : Service) (by place : ℕ) (g : Given) → (at : IsAt l.management.places place by) → links.given (terms c its by) (link_in l its place) ≡ Some g
-      → (b : Bool) → (same_service its service && by == tei) ≡ b → Took (with_given_frame l (link_number place its) (terms c its by) g)
+      → (b : Bool) → (same_service its service && by == tei) ≡ b → Took (with_given_frame c l (link_number place its) (terms c its by) g)
   took-link its by place g at given false other =
-      let t = with_given_frame l (link_number place its) (terms c its by) g in
+      let t = with_given_frame c l (link_number place its) (terms c its by) g in
       inl (
         alike (with_link (link_number place its) (y its by place link.offer at) l) t.line refl refl ∙ other-stays its by place link.offer at other,
         inr (inr (terms c its by, g, refl, other)),
@@ -305,7 +305,7 @@ module _ (c : Config) (l : Line) (s : IsSound c l) (service : Service) (tei : �
       let parts = both-true (same_service its service) (by == tei) same in
       let its-is = services-equal its service parts.0 in
       let by-is = eqb-true by tei parts.1 in
-      let t = with_given_frame l (link_number place its) (terms c its by) g in
+      let t = with_given_frame c l (link_number place its) (terms c its by) g in
       let own = ap (λ z. link_of z tei t.line) (sym its-is) ∙ ap (λ n. link_of its n t.line) (sym by-is) in
       let own-l = ap (λ z. link_of z tei l) (sym its-is) ∙ ap (λ n. link_of its n l) (sym by-is) in
       let own-terms = ap (λ z. terms c z tei) (sym its-is) ∙ ap (λ n. terms c its n) (sym by-is) in
@@ -314,14 +314,14 @@ module _ (c : Config) (l : Line) (s : IsSound c l) (service : Service) (tei : �
         placed = subst (λ n. place_in l n ≡ Some place) by-is (has-place l.management.places by place s.management.table at);
         is = own ∙ read.same-read fresh itself its by (with_link (link_number place its) (y its by place link.offer at) l) t.line refl refl
             ∙ own-after its by place link.offer at ∙ ap (λ x. links.after (terms c its by) link.offer x) (sym own-l) ∙ ap (λ u. links.after u link.offer (link_of service tei l)) (sym own-terms);
-        begins = ap (λ o. map (frame_of (terms c its by)) (option_to_list o)) (sym (ap (links.given (terms c its by)) (own-before its by place link.offer at) ∙ given))
-            ∙ ap (λ x. frames_given (terms c its by) link.offer x) (sym own-l) ∙ ap (λ u. frames_given u link.offer (link_of service tei l)) (sym own-terms);
+        begins = ap (λ o. map (frame_of c (terms c its by)) (option_to_list o)) (sym (ap (links.given (terms c its by)) (own-before its by place link.offer at) ∙ given))
+            ∙ ap (λ x. frames_given c (terms c its by) link.offer x) (sym own-l) ∙ ap (λ u. frames_given c u link.offer (link_of service tei l)) (sym own-terms);
       })
 
   took-one : (t : Taken) → OfLink c l t → Took t
   took-one t x =
       subst Took (sym x.is)
-      (subst (λ n. Took (with_given_frame l n (terms c (service_at x.number) x.tei) x.what)) (number-is x.number)
+      (subst (λ n. Took (with_given_frame c l n (terms c (service_at x.number) x.tei) x.what)) (number-is x.number)
       (took-link (service_at x.number) x.tei (place_at x.number) x.what x.on_line
       (subst (λ n. links.given (terms c (service_at x.number) x.tei) (link_at n l) ≡ Some x.what) (sym (number-is x.number)) x.given)
       (same_service (service_at x.number) service && x.tei == tei) refl))
@@ -331,9 +331,9 @@ module _ (c : Config) (l : Line) (s : IsSound c l) (service : Service) (tei : �
   took-first (Some t) x = took-one t x
 
   took-any : (m : Option Message) (u : Option UnitData)
-      → IfSome (option_or (option_map (with_message l) (option_map message_frame m)) (option_or (option_map (with_unit l) u) (first_taken c l (round c l)))) Took
-  took-any (Some message) u = inl (alike l (with_message l (message_frame message)).line refl refl, inl (message, refl))
-  took-any None (Some unit) = inl (alike l (with_unit l unit).line refl refl, inr (inl (unit, refl)))
+      → IfSome (option_or (option_map (with_message l) (option_map (message_frame c.side) m)) (option_or (option_map (with_unit c l) u) (first_taken c l (round c l)))) Took
+  took-any (Some message) u = inl (alike l (with_message l (message_frame c.side message)).line refl refl, inl (message, refl))
+  took-any None (Some unit) = inl (alike l (with_unit c l unit).line refl refl, inr (inl (unit, refl)))
   took-any None None = took-first (first_taken c l (round c l)) (of-links c l s (round c l) (round_below c l))
 
   -- An offer tells nothing.
@@ -359,18 +359,18 @@ module _ (c : Config) (l : Line) (s : IsSound c l) (service : Service) (tei : �
   -- A pull.
   abbrev Pulled : Line → List (List ℕ) → Type 0
   Pulled next frames =
-      ((link_of service tei next ≡ link_of service tei l) × All (IsForeign service tei) frames)
+      ((link_of service tei next ≡ link_of service tei l) × All (IsForeign c service tei) frames)
       ⊎ ((place : ℕ) × (place_in l tei ≡ Some place) × (link_of service tei next ≡ links.after Own link.offer (link_of service tei l))
-      × (frames ≡ frames_given Own link.offer (link_of service tei l)))
+      × (frames ≡ frames_given c Own link.offer (link_of service tei l)))
 
   pulled : (due : Bool) (o : Option Taken) → IfSome o Took
       → Pulled (record (cond due (with_item o l) l) { given = (after_pull c l).given }) (option_to_list (option_map frame_taken (cond due o None)))
-  pulled false o h = inl (alike l (record l { given = (after_pull c l).given }) refl refl, All-nil (IsForeign service tei))
-  pulled true None h = inl (alike l (record (with_item None l) { given = (after_pull c l).given }) refl refl, All-nil (IsForeign service tei))
+  pulled false o h = inl (alike l (record l { given = (after_pull c l).given }) refl refl, All-nil (IsForeign c service tei))
+  pulled true None h = inl (alike l (record (with_item None l) { given = (after_pull c l).given }) refl refl, All-nil (IsForeign c service tei))
   pulled true (Some t) (inl x) =
       inl (
         alike t.line (record (with_item (Some t) l) { given = (after_pull c l).given }) refl refl ∙ x.0,
-        All-cons (IsForeign service tei) t.frame [] x.1 (All-nil (IsForeign service tei)),
+        All-cons (IsForeign c service tei) t.frame [] x.1 (All-nil (IsForeign c service tei)),
       )
   pulled true (Some t) (inr x) =
       inr (x.place, x.placed, alike t.line (record (with_item (Some t) l) { given = (after_pull c l).given }) refl refl ∙ x.is, x.begins)
@@ -422,6 +422,6 @@ event-goes c (request r) l service tei s = go (refusal c false r l) refl
           is = inl refl;
           stays = λ was there. refl;
           aims = ap (λ o. is_at_link service tei (unless_refused o (aim_of_request r l))) some;
-          begins = All-nil (IsForeign service tei);
+          begins = All-nil (IsForeign c service tei);
         })
 event-goes c pull l service tei s = pull-goes c l s service tei

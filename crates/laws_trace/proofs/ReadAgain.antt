@@ -2,7 +2,7 @@
 -- the grammar has it or not.
 use Rattle.std.proofs.Common.{◌≡◌, ℕ, ◌+◌, ◌*◌, ◌++◌, Bool, true, false, cond, List, length, drop, slice_index, sym, subst, Result, Ok, Err, Some}
 use Rattle.lapd_frame.specs.declared.addresses.Address.{Address}
-use Rattle.lapd_frame.specs.declared.addresses.Side.TheVariants.{Network}
+use Rattle.lapd_frame.specs.declared.addresses.Side.{Side}
 use Rattle.lapd_frame.specs.declared.controls.Control.{Control}
 use Rattle.lapd_frame.specs.declared.faults.ReadFault.{ReadFault}
 use Rattle.lapd_frame.specs.declared.faults.ReadFault.TheVariants.{BadExtension, Undefined, WrongSize, Short}
@@ -12,7 +12,7 @@ use Rattle.lapd_frame.specs.Reading.{address_of, checked, header_of, start_of, c
 use Rattle.lapd_frame.proofs.AddressField.{address-again}
 use Rattle.lapd_frame.proofs.ControlField.{control-again}
 
-module _ (P : Result Parts ReadFault → Type 0) (a : Address) (c : Control) (ok : (info : List ℕ) → P (Ok (record { address = a; control = c; info = info })))
+module _ (side : Side) (P : Result Parts ReadFault → Type 0) (a : Address) (c : Control) (ok : (info : List ℕ) → P (Ok (record { address = a; control = c; info = info })))
     (err : (fault : ReadFault) → P (Err fault)) where
   by-size : (info : List ℕ) (fits : Bool) → P (cond fits (Ok (record { address = a; control = c; info = info })) (Err (WrongSize a)))
   by-size info true = ok info
@@ -30,13 +30,13 @@ module _ (P : Result Parts ReadFault → Type 0) (a : Address) (c : Control) (ok
   by-length r true h = err Short
   by-length r false h = h
 
-  pub read-again : (info : List ℕ) → P (reading Network (spelling Network (record { address = a; control = c; info = info })))
+  pub read-again : (info : List ℕ) → P (reading side (spelling side (record { address = a; control = c; info = info })))
   unfolding reading header_of
   read-again info =
-      let octets = spelling Network (record { address = a; control = c; info = info }) in
-      let first = 4 * a.sapi + 2 * cr_bit Network a.command in
+      let octets = spelling side (record { address = a; control = c; info = info }) in
+      let first = 4 * a.sapi + 2 * cr_bit side a.command in
       let second = 2 * a.tei + 1 in
       let bad = has_bad_extension first second in
-      by-length (completed octets (header_of Network first second (slice_index ((row c).field ++ info) 0) (slice_index ((row c).field ++ info) 1))) (is_short octets)
-      (subst (λ o. P (completed octets (cond bad (Err BadExtension) (checked (address_of Network first second) o)))) (sym (control-again c info))
-      (subst (λ x. P (completed octets (cond bad (Err BadExtension) (checked x (Some c))))) (sym (address-again Network a)) (by-extension octets bad)))
+      by-length (completed octets (header_of side first second (slice_index ((row c).field ++ info) 0) (slice_index ((row c).field ++ info) 1))) (is_short octets)
+      (subst (λ o. P (completed octets (cond bad (Err BadExtension) (checked (address_of side first second) o)))) (sym (control-again c info))
+      (subst (λ x. P (completed octets (cond bad (Err BadExtension) (checked x (Some c))))) (sym (address-again side a)) (by-extension octets bad)))

@@ -2,7 +2,7 @@
 use Rattle.std.proofs.Common.{◌≡◌, ℕ, ◌+◌, ◌*◌, ◌++◌, ◌<◌, ◌≤◌, ◌==◌, ◌&&◌, Bool, true, false, cond, List, length, drop, slice_index, refl, sym, ap, ◌∙◌, subst, Result, Ok, Err, Some, arith}
 use Rattle.std.specs.Prelude.{not}
 use Rattle.lapd_frame.specs.declared.addresses.Address.{Address}
-use Rattle.lapd_frame.specs.declared.addresses.Side.TheVariants.{Network}
+use Rattle.lapd_frame.specs.declared.addresses.Side.{Side}
 use Rattle.lapd_frame.specs.declared.controls.Control.{Control}
 use Rattle.lapd_frame.specs.declared.controls.Control.TheVariants.{Ui}
 use Rattle.lapd_frame.specs.declared.faults.ReadFault.{ReadFault}
@@ -16,13 +16,14 @@ use Rattle.lapd_frame.specs.Services.{sapi_of}
 use Rattle.lapd_frame.proofs.AddressField.{address-again}
 use Rattle.lapd_frame.proofs.ControlField.{control-again}
 use Rattle.lapd_frame.proofs.Spelling.{reading-again}
+use Rattle.model_line.specs.declared.config.Config.{Config}
 use Rattle.model_line.specs.Line.{UnitData}
 use Rattle.model_line.specs.Octet.{management_sapi}
 use Rattle.model_line.specs.Pull.{unit_frame}
 use Rattle.laws_trace.specs.Units.{is_ui, carries_unit, is_unit}
 
 -- What is no UI, or has SAPI 63, is none, whether the grammar has it or not.
-module _ (a : Address) (c : Control) (other : (is_ui c && not (a.sapi == management_sapi)) ≡ false) where
+module _ (side : Side) (a : Address) (c : Control) (other : (is_ui c && not (a.sapi == management_sapi)) ≡ false) where
   by-size : (info : List ℕ) (fits : Bool) → carries_unit (cond fits (Ok (record { address = a; control = c; info = info })) (Err (WrongSize a))) ≡ false
   by-size info true = other
   by-size info false = refl
@@ -39,16 +40,16 @@ module _ (a : Address) (c : Control) (other : (is_ui c && not (a.sapi == managem
   by-length r true h = refl
   by-length r false h = h
 
-  pub other-frame : (info : List ℕ) → is_unit (spelling Network (record { address = a; control = c; info = info })) ≡ false
+  pub other-frame : (info : List ℕ) → is_unit side (spelling side (record { address = a; control = c; info = info })) ≡ false
   unfolding reading header_of
   other-frame info =
-      let octets = spelling Network (record { address = a; control = c; info = info }) in
-      let first = 4 * a.sapi + 2 * cr_bit Network a.command in
+      let octets = spelling side (record { address = a; control = c; info = info }) in
+      let first = 4 * a.sapi + 2 * cr_bit side a.command in
       let second = 2 * a.tei + 1 in
       let bad = has_bad_extension first second in
-      by-length (completed octets (header_of Network first second (slice_index ((row c).field ++ info) 0) (slice_index ((row c).field ++ info) 1))) (is_short octets)
-      (subst (λ o. carries_unit (completed octets (cond bad (Err BadExtension) (checked (address_of Network first second) o))) ≡ false) (sym (control-again c info))
-      (subst (λ x. carries_unit (completed octets (cond bad (Err BadExtension) (checked x (Some c)))) ≡ false) (sym (address-again Network a)) (by-extension octets bad)))
+      by-length (completed octets (header_of side first second (slice_index ((row c).field ++ info) 0) (slice_index ((row c).field ++ info) 1))) (is_short octets)
+      (subst (λ o. carries_unit (completed octets (cond bad (Err BadExtension) (checked (address_of side first second) o))) ≡ false) (sym (control-again c info))
+      (subst (λ x. carries_unit (completed octets (cond bad (Err BadExtension) (checked x (Some c)))) ≡ false) (sym (address-again side a)) (by-extension octets bad)))
 
 -- Unit data is, with the SAPI of its service.
 by-service : (service : Service) → not (sapi_of service == management_sapi) ≡ true
@@ -59,10 +60,10 @@ small-sapi : (service : Service) → sapi_of service < 64
 small-sapi Call = omega arith
 small-sapi Packet = omega arith
 
-pub unit-is : (u : UnitData) → u.tei ≤ 127 → is_unit (unit_frame u) ≡ true
-unit-is u small =
+pub unit-is : (c : Config) (u : UnitData) → u.tei ≤ 127 → is_unit c.side (unit_frame c u) ≡ true
+unit-is c u small =
     let parts : Parts = record { address = record { sapi = sapi_of u.service; command = true; tei = u.tei }; control = Ui false; info = u.contents } in
-    ap carries_unit (reading-again Network parts (unit_frame u) (record {
+    ap carries_unit (reading-again c.side parts (unit_frame c u) (record {
       is_frame = record { sapi = small-sapi u.service; tei = omega (arith, small); kind = refl; size = refl };
       octets_are = refl;
     }))

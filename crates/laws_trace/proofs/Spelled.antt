@@ -33,7 +33,7 @@ use Rattle.laws_line.proofs.LinkMoves.{OfLink, of-links}
 use Rattle.model_card.specs.Card.{fresh}
 use Rattle.model_card.specs.Pulled.{frame_taken}
 use Rattle.model_card.proofs.CardSound.{fresh_is_sound}
-use Rattle.laws_trace.specs.FramesAreRead.{IsNetworks, FramesAreRead}
+use Rattle.laws_trace.specs.FramesAreRead.{IsSpelled, FramesAreRead}
 use Rattle.laws_trace.specs.Trace as traces
 use Rattle.laws_trace.specs.Trace.{Seen, seen, frames_begun, Always}
 use Rattle.laws_trace.proofs.Fitting.{Anything}
@@ -46,13 +46,13 @@ small-sapi Call = omega arith
 small-sapi Packet = omega arith
 
 -- messages of TEI management, and unit data
-message-spelled : (m : Message) → IsNetworks (message_frame m)
-message-spelled m =
+message-spelled : (c : Config) (m : Message) → IsSpelled c (message_frame c.side m)
+message-spelled c m =
     let parts : Parts = record { address = record { sapi = 63; command = true; tei = 127 }; control = Ui false; info = information_of m } in
     (parts, record { is_frame = record { sapi = omega arith; tei = omega arith; kind = refl; size = refl }; octets_are = refl })
 
-unit-spelled : (u : UnitData) → u.tei ≤ 127 → IsNetworks (unit_frame u)
-unit-spelled u small =
+unit-spelled : (c : Config) (u : UnitData) → u.tei ≤ 127 → IsSpelled c (unit_frame c u)
+unit-spelled c u small =
     let parts : Parts = record { address = record { sapi = sapi_of u.service; command = true; tei = u.tei }; control = Ui false; info = u.contents } in
     (parts, record { is_frame = record { sapi = small-sapi u.service; tei = omega (arith, small); kind = refl; size = refl }; octets_are = refl })
 
@@ -60,15 +60,15 @@ unit-spelled u small =
 abbrev pub whole-parts : Terms → Given → Parts
 whole-parts t g = record { address = address_at t g.frame.command; control = g.frame.control; info = unwrap_or g.contents [] }
 
-pub given-spells : (t : Terms) (g : Given) → IsGiven t g.frame g.contents → Spells Network (whole-parts t g) (frame_of t g)
-given-spells t g h = record { is_frame = h.whole; octets_are = refl }
+pub given-spells : (c : Config) (t : Terms) (g : Given) → IsGiven t g.frame g.contents → Spells c.side (whole-parts t g) (frame_of c t g)
+given-spells c t g h = record { is_frame = h.whole; octets_are = refl }
 
-given-spelled : (t : Terms) (g : Given) → IsGiven t g.frame g.contents → IsNetworks (frame_of t g)
-given-spelled t g h = (whole-parts t g, given-spells t g h)
+given-spelled : (c : Config) (t : Terms) (g : Given) → IsGiven t g.frame g.contents → IsSpelled c (frame_of c t g)
+given-spelled c t g h = (whole-parts t g, given-spells c t g h)
 
 module _ (c : Config) (ranged : IsInRange c) (l : Line) (s : IsSound c l) where
   abbrev Spelled : Taken → Type 0
-  Spelled t = IsNetworks t.frame
+  Spelled t = IsSpelled c t.frame
 
   known : (o : Option Given) (g : Given) (t : Terms) → o ≡ Some g → IfSome o (λ g. IsGiven t g.frame g.contents) → IsGiven t g.frame g.contents
   known o g t is h = subst (λ o. IfSome o (λ g. IsGiven t g.frame g.contents)) is h
@@ -83,16 +83,16 @@ module _ (c : Config) (ranged : IsInRange c) (l : Line) (s : IsSound c l) where
   link-spelled : (t : Taken) → OfLink c l t → Spelled t
   link-spelled t x =
       let own = terms c (service_at x.number) x.tei in
-      subst Spelled (sym x.is) (given-spelled own x.what (link-given t x))
+      subst Spelled (sym x.is) (given-spelled c own x.what (link-given t x))
 
   first-spelled : (o : Option Taken) → IfSome o (OfLink c l) → IfSome o Spelled
   first-spelled None x = tt
   first-spelled (Some t) x = link-spelled t x
 
   any-spelled : (m : Option Message) (us : List UnitData) → All (IsUnitData c) us
-      → IfSome (option_or (option_map (with_message l) (option_map message_frame m)) (option_or (option_map (with_unit l) (slice_get us 0)) (first_taken c l (round c l)))) Spelled
-  any-spelled (Some m) us h = message-spelled m
-  any-spelled None (u ∷ us) h = unit-spelled u (All-head (IsUnitData c) u us h).tei
+      → IfSome (option_or (option_map (with_message l) (option_map (message_frame c.side) m)) (option_or (option_map (with_unit c l) (slice_get us 0)) (first_taken c l (round c l)))) Spelled
+  any-spelled (Some m) us h = message-spelled c m
+  any-spelled None (u ∷ us) h = unit-spelled c u (All-head (IsUnitData c) u us h).tei
   any-spelled None [] h = first-spelled (first_taken c l (round c l)) (of-links c l s (round c l) (round_below c l))
 
   taken-spelled : IfSome (taken c l) Spelled
@@ -100,25 +100,25 @@ module _ (c : Config) (ranged : IsInRange c) (l : Line) (s : IsSound c l) where
 
 -- Of what begins in a trace.
 abbrev AreSpelled : Config → Line → List Seen → Line → Type 0
-AreSpelled c before t after = All IsNetworks (frames_begun t)
+AreSpelled c before t after = All (IsSpelled c) (frames_begun t)
 
 rests : (c : Config) (l : Line) → AreSpelled c l [] l
-rests c l = All-nil IsNetworks
+rests c l = All-nil (IsSpelled c)
 
 joins : (c : Config) (k l m : Line) (t u : List Seen) → AreSpelled c k t l → AreSpelled c l u m → AreSpelled c k (t ++ u) m
-joins c k l m t u h i = subst (All IsNetworks) (sym (flat_map-append traces.frame_begun t u)) (All-append IsNetworks (frames_begun t) (frames_begun u) h i)
+joins c k l m t u h i = subst (All (IsSpelled c)) (sym (flat_map-append traces.frame_begun t u)) (All-append (IsSpelled c) (frames_begun t) (frames_begun u) h i)
 
-by-pull : (due : Bool) (o : Option Taken) → IfSome o (λ t. IsNetworks t.frame) → All IsNetworks (option_to_list (option_map frame_taken (cond due o None)))
-by-pull true None h = All-nil IsNetworks
-by-pull true (Some t) h = All-cons IsNetworks t.frame [] h (All-nil IsNetworks)
-by-pull false o h = All-nil IsNetworks
+by-pull : (c : Config) (due : Bool) (o : Option Taken) → IfSome o (λ t. IsSpelled c t.frame) → All (IsSpelled c) (option_to_list (option_map frame_taken (cond due o None)))
+by-pull c true None h = All-nil (IsSpelled c)
+by-pull c true (Some t) h = All-cons (IsSpelled c) t.frame [] h (All-nil (IsSpelled c))
+by-pull c false o h = All-nil (IsSpelled c)
 
 event-spelled : (c : Config) → IsInRange c → (e : Event) (l : Line) → IsSound c l → AreSpelled c l (seen c e l (answer c e l)) (after c e l)
-event-spelled c ranged (octet value) l s = subst (All IsNetworks) (sym (no-frame (gained c.n201 l.received value) (answer c (octet value) l))) (All-nil IsNetworks)
-event-spelled c ranged (expiry timer) l s = subst (All IsNetworks) (sym (no-frame None (answer c (expiry timer) l))) (All-nil IsNetworks)
-event-spelled c ranged (request r) l s = subst (All IsNetworks) (sym (no-frame-asked r (answer c (request r) l))) (All-nil IsNetworks)
+event-spelled c ranged (octet value) l s = subst (All (IsSpelled c)) (sym (no-frame (gained c.n201 l.received value) (answer c (octet value) l))) (All-nil (IsSpelled c))
+event-spelled c ranged (expiry timer) l s = subst (All (IsSpelled c)) (sym (no-frame None (answer c (expiry timer) l))) (All-nil (IsSpelled c))
+event-spelled c ranged (request r) l s = subst (All (IsSpelled c)) (sym (no-frame-asked r (answer c (request r) l))) (All-nil (IsSpelled c))
 event-spelled c ranged pull l s =
-    subst (All IsNetworks) (sym (pulled-frames (pulls.begun c l) (answer c pull l))) (by-pull (is_due l) (taken c l) (taken-spelled c ranged l s))
+    subst (All (IsSpelled c)) (sym (pulled-frames (pulls.begun c l) (answer c pull l))) (by-pull c (is_due l) (taken c l) (taken-spelled c ranged l s))
 
 steps : (c : Config) → IsInRange c → (e : Event) (l : Line) → IsSound c l → Anything c l
     → AreSpelled c l (seen c e l (answer c e l)) (after c e l) × Anything c (after c e l)

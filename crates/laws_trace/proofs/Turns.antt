@@ -1,8 +1,9 @@
 -- Links take turns: over runs of a card of which a line is only pulled.
-use Rattle.std.proofs.Common.{◌≡◌, ℕ, ◌+◌, ◌*◌, ◌/◌, ◌<◌, Bool, true, false, cond, List, ◌++◌, length, drop, slice_index, Some, Result, Ok, Err, refl, sym, ap, ◌∙◌, subst, arith}
+use Rattle.std.proofs.Common.{◌≡◌, ℕ, ◌+◌, ◌*◌, ◌/◌, ◌<◌, ◌≤◌, Bool, true, false, cond, List, ◌++◌, length, drop, slice_index, Some, Result, Ok, Err, refl, sym, ap, ◌∙◌, subst, arith}
 use Rattle.std.specs.Prelude.{not}
 use Rattle.lapd_frame.specs.declared.addresses.Address.{Address}
-use Rattle.lapd_frame.specs.declared.addresses.Side.TheVariants.{Network}
+use Rattle.lapd_frame.specs.declared.addresses.Side.{Side}
+use Rattle.lapd_frame.specs.declared.addresses.Side.TheVariants.{User, Network}
 use Rattle.lapd_frame.specs.declared.controls.Control.{Control}
 use Rattle.lapd_frame.specs.declared.controls.Control.TheVariants.{Ui}
 use Rattle.lapd_frame.specs.declared.faults.ReadFault.{ReadFault}
@@ -17,7 +18,7 @@ use Rattle.laws_trace.specs.Units.{is_ui}
 use Rattle.laws_trace.specs.LinksTakeTurns.{named_in, is_no_ui, is_of_link}
 
 -- What is no UI is of a link, whether the grammar has it or not.
-module _ (a : Address) (c : Control) (other : is_ui c ≡ false) where
+module _ (side : Side) (a : Address) (c : Control) (other : is_ui c ≡ false) where
   by-size : (info : List ℕ) (fits : Bool) → is_no_ui (cond fits (Ok (record { address = a; control = c; info = info })) (Err (WrongSize a))) ≡ true
   by-size info true = ap not other
   by-size info false = refl
@@ -34,31 +35,39 @@ module _ (a : Address) (c : Control) (other : is_ui c ≡ false) where
   by-length r true h = refl
   by-length r false h = h
 
-  pub link-frame : (info : List ℕ) → is_of_link (spelling Network (record { address = a; control = c; info = info })) ≡ true
+  pub link-frame : (info : List ℕ) → is_of_link side (spelling side (record { address = a; control = c; info = info })) ≡ true
   unfolding reading header_of
   link-frame info =
-      let octets = spelling Network (record { address = a; control = c; info = info }) in
-      let first = 4 * a.sapi + 2 * cr_bit Network a.command in
+      let octets = spelling side (record { address = a; control = c; info = info }) in
+      let first = 4 * a.sapi + 2 * cr_bit side a.command in
       let second = 2 * a.tei + 1 in
       let bad = has_bad_extension first second in
-      by-length (completed octets (header_of Network first second (slice_index ((row c).field ++ info) 0) (slice_index ((row c).field ++ info) 1))) (is_short octets)
-      (subst (λ o. is_no_ui (completed octets (cond bad (Err BadExtension) (checked (address_of Network first second) o))) ≡ true) (sym (control-again c info))
-      (subst (λ x. is_no_ui (completed octets (cond bad (Err BadExtension) (checked x (Some c)))) ≡ true) (sym (address-again Network a)) (by-extension octets bad)))
+      by-length (completed octets (header_of side first second (slice_index ((row c).field ++ info) 0) (slice_index ((row c).field ++ info) 1))) (is_short octets)
+      (subst (λ o. is_no_ui (completed octets (cond bad (Err BadExtension) (checked (address_of side first second) o))) ≡ true) (sym (control-again c info))
+      (subst (λ x. is_no_ui (completed octets (cond bad (Err BadExtension) (checked x (Some c)))) ≡ true) (sym (address-again side a)) (by-extension octets bad)))
 
 -- A UI of the grammar is not.
-pub ui-frame : (a : Address) (info : List ℕ) → a.sapi < 64 → a.tei < 128 → a.command ≡ true → is_of_link (spelling Network (record { address = a; control = Ui false; info = info })) ≡ false
-ui-frame a info sapi tei command =
+pub ui-frame : (side : Side) (a : Address) (info : List ℕ) → a.sapi < 64 → a.tei < 128 → a.command ≡ true → is_of_link side (spelling side (record { address = a; control = Ui false; info = info })) ≡ false
+ui-frame side a info sapi tei command =
     let parts : Parts = record { address = a; control = Ui false; info = info } in
-    ap is_no_ui (reading-again Network parts (spelling Network parts) (record { is_frame = record { sapi = sapi; tei = tei; kind = command; size = refl }; octets_are = refl }))
+    ap is_no_ui (reading-again side parts (spelling side parts) (record { is_frame = record { sapi = sapi; tei = tei; kind = command; size = refl }; octets_are = refl }))
 
 -- Its name is its address.
-by-first : (sapi : ℕ) (command : Bool) → (4 * sapi + 2 * cr_bit Network command) / 4 ≡ sapi
-by-first sapi true = omega arith
-by-first sapi false = omega arith
+bit-few : (side : Side) (command : Bool) → cr_bit side command ≤ 1
+bit-few User true = omega arith
+bit-few User false = omega arith
+bit-few Network true = omega arith
+bit-few Network false = omega arith
+
+by-bit : (bit : ℕ) → bit ≤ 1 → (sapi : ℕ) → (4 * sapi + 2 * bit) / 4 ≡ sapi
+by-bit bit few sapi = omega (arith, few)
+
+by-first : (side : Side) (sapi : ℕ) (command : Bool) → (4 * sapi + 2 * cr_bit side command) / 4 ≡ sapi
+by-first side sapi command = by-bit (cr_bit side command) (bit-few side command) sapi
 
 by-second : (tei : ℕ) → (2 * tei + 1) / 2 ≡ tei
 by-second tei = omega arith
 
-pub name-is : (a : Address) (c : Control) (info : List ℕ) → named_in (spelling Network (record { address = a; control = c; info = info })) ≡ record { sapi = a.sapi; tei = a.tei }
-name-is a c info =
-    ap (λ s. record { sapi = s; tei = (2 * a.tei + 1) / 2 }) (by-first a.sapi a.command) ∙ ap (λ t. record { sapi = a.sapi; tei = t }) (by-second a.tei)
+pub name-is : (side : Side) (a : Address) (c : Control) (info : List ℕ) → named_in (spelling side (record { address = a; control = c; info = info })) ≡ record { sapi = a.sapi; tei = a.tei }
+name-is side a c info =
+    ap (λ s. record { sapi = s; tei = (2 * a.tei + 1) / 2 }) (by-first side a.sapi a.command) ∙ ap (λ t. record { sapi = a.sapi; tei = t }) (by-second a.tei)

@@ -128,16 +128,16 @@ module _ (c : Config) (one tei other its : ℕ) where
   -- One event.
   module _ (ranged : line.IsInRange c) (l : Line) (h : Meets l) (plain : NoneWaits c l) where
     abbrev names-in : List (List ℕ) → List LinkName
-    names-in frames = map named_in (filter is_of_link frames)
+    names-in frames = map named_in (filter (is_of_link c.side) frames)
 
     small-sapi : (service : Service) → sapi_of service < 64
     small-sapi Call = omega arith
     small-sapi Packet = omega arith
 
-    no-name : (frame : List ℕ) (names : List LinkName) → is_of_link frame ≡ false → Walk l names → Walk l (names-in (frame ∷ []) ++ names)
+    no-name : (frame : List ℕ) (names : List LinkName) → is_of_link c.side frame ≡ false → Walk l names → Walk l (names-in (frame ∷ []) ++ names)
     no-name frame names none walk = subst (λ b. Walk l (map named_in (cond b (frame ∷ []) []) ++ names)) (sym none) walk
 
-    a-name : (frame : List ℕ) (name : LinkName) (names : List LinkName) → is_of_link frame ≡ true → named_in frame ≡ name → Walk l (name ∷ names) → Walk l (names-in (frame ∷ []) ++ names)
+    a-name : (frame : List ℕ) (name : LinkName) (names : List LinkName) → is_of_link c.side frame ≡ true → named_in frame ≡ name → Walk l (name ∷ names) → Walk l (names-in (frame ∷ []) ++ names)
     a-name frame name names is named walk =
         subst (λ b. Walk l (map named_in (cond b (frame ∷ []) []) ++ names)) (sym is) (subst (λ n. Walk l (n ∷ names)) (sym named) walk)
 
@@ -147,8 +147,8 @@ module _ (c : Config) (one tei other its : ℕ) where
     of-link : (frame : List ℕ) (x : IsOfLink c (contents_of l) l next frame) (names : List LinkName) → Walk next names → Walk l (names-in (frame ∷ []) ++ names)
     of-link frame x names walk =
         let a : Address = record { sapi = sapi_of (service_at x.number); command = x.command; tei = x.tei } in
-        a-name frame (name_of x.number x.tei) names (ap is_of_link x.spelled ∙ link-frame a x.control (plain-order c l next frame plain x) (unwrap_or x.information []))
-        (ap named_in x.spelled ∙ name-is a x.control (unwrap_or x.information []))
+        a-name frame (name_of x.number x.tei) names (ap (is_of_link c.side) x.spelled ∙ link-frame c.side a x.control (plain-order c l next frame plain x) (unwrap_or x.information []))
+        (ap named_in x.spelled ∙ name-is c.side a x.control (unwrap_or x.information []))
         (goes l next x.number x.tei names h (record {
           on_line = x.on_line;
           passed = x.its_turn.passed;
@@ -163,18 +163,18 @@ module _ (c : Config) (one tei other its : ℕ) where
     by-pull None x names walk = still l next names x.turn walk
     by-pull (Some t) (inl x) names walk =
         let a : Address = record { sapi = 63; command = true; tei = 127 } in
-        no-name t.frame names (ap is_of_link x.spelled ∙ ui-frame a (information_of x.message) (omega arith) (omega arith) refl) (still l next names x.turn walk)
+        no-name t.frame names (ap (is_of_link c.side) x.spelled ∙ ui-frame c.side a (information_of x.message) (omega arith) (omega arith) refl) (still l next names x.turn walk)
     by-pull (Some t) (inr (inl x)) names walk =
         let a : Address = record { sapi = sapi_of x.unit.service; command = true; tei = x.unit.tei } in
         let small = first-of c l.units x.unit x.oldest h.sound.units in
-        no-name t.frame names (ap is_of_link x.spelled ∙ ui-frame a x.unit.contents (small-sapi x.unit.service) (omega (arith, small)) refl) (still l next names x.turn walk)
+        no-name t.frame names (ap (is_of_link c.side) x.spelled ∙ ui-frame c.side a x.unit.contents (small-sapi x.unit.service) (omega (arith, small)) refl) (still l next names x.turn walk)
     by-pull (Some t) (inr (inr x)) names walk = of-link t.frame x names walk
 
     none-begins : (e : line_event.Event) (a : Answer) (names : List LinkName) → frames_begun (seen c e l a) ≡ [] → (lines.after c e l).turn ≡ l.turn
-        → Walk (lines.after c e l) names → Walk l (links_begun (seen c e l a) ++ names)
+        → Walk (lines.after c e l) names → Walk l (links_begun c (seen c e l a) ++ names)
     none-begins e a names none turn walk = subst (λ fs. Walk l (names-in fs ++ names)) (sym none) (still l (lines.after c e l) names turn walk)
 
-    event-walks : (e : line_event.Event) (names : List LinkName) → Walk (lines.after c e l) names → Walk l (links_begun (seen c e l (lines.answer c e l)) ++ names)
+    event-walks : (e : line_event.Event) (names : List LinkName) → Walk (lines.after c e l) names → Walk l (links_begun c (seen c e l (lines.answer c e l)) ++ names)
     event-walks (octet value) names walk =
         none-begins (octet value) (lines.answer c (octet value) l) names (no-frame (gained c.n201 l.received value) (lines.answer c (octet value) l)) (turn-stays c (octet value) l) walk
     event-walks (expiry timer) names walk =
@@ -184,10 +184,10 @@ module _ (c : Config) (one tei other its : ℕ) where
     event-walks pull names walk =
         subst (λ fs. Walk l (names-in fs ++ names)) (sym (pulled-frames (begun c l) (lines.answer c pull l))) (by-pull (begun c l) (served c l h.sound) names walk)
 
-names-both : (t u : List Seen) → links_begun (t ++ u) ≡ links_begun t ++ links_begun u
-names-both t u =
-    ap (map named_in) (ap (filter is_of_link) (flat_map-append traces.frame_begun t u) ∙ filter-append is_of_link (frames_begun t) (frames_begun u))
-    ∙ map-append named_in (filter is_of_link (frames_begun t)) (filter is_of_link (frames_begun u))
+names-both : (c : Config) (t u : List Seen) → links_begun c (t ++ u) ≡ links_begun c t ++ links_begun c u
+names-both c t u =
+    ap (map named_in) (ap (filter (is_of_link c.side)) (flat_map-append traces.frame_begun t u) ∙ filter-append (is_of_link c.side) (frames_begun t) (frames_begun u))
+    ∙ map-append named_in (filter (is_of_link c.side) (frames_begun t)) (filter (is_of_link c.side) (frames_begun u))
 
 -- A run.
 module _ (number one tei other its : ℕ) where
@@ -196,30 +196,30 @@ module _ (number one tei other its : ℕ) where
 
   own-walk : (card : Card) (e : Event) → IsSound card → IsAtLine card e → Meets card.config one tei other its (line_at e.line card) → NoneWaits card.config (line_at e.line card)
       → (names : List LinkName) → WalkOf card (line_at e.line (after e card)) names
-      → WalkOf card (line_at e.line card) (links_begun (seen card.config e.what (line_at e.line card) (answer e card)) ++ names)
+      → WalkOf card (line_at e.line card) (links_begun card.config (seen card.config e.what (line_at e.line card) (answer e card)) ++ names)
   own-walk card e s here h plain =
       let c = card.config in
       let l = line_at e.line card in
-      by_room (λ ls a. (names : List LinkName) → WalkOf card (get_or ls e.line (fresh_line c)) names → WalkOf card l (links_begun (seen c e.what l a) ++ names)) e card
+      by_room (λ ls a. (names : List LinkName) → WalkOf card (get_or ls e.line (fresh_line c)) names → WalkOf card l (links_begun c (seen c e.what l a) ++ names)) e card
       (λ full names walk.
-      subst (λ t. WalkOf card l (links_begun t ++ names)) (sym (nothing-seen c e.what l (and_parts (lines.takes_slot c e.what l) (is_full card) full).0)) walk)
+      subst (λ t. WalkOf card l (links_begun c t ++ names)) (sym (nothing-seen c e.what l (and_parts (lines.takes_slot c e.what l) (is_full card) full).0)) walk)
       (λ room names walk.
       event-walks c one tei other its s.config l h plain e.what names
       (subst (λ (x : Line). WalkOf card x names) (get_or-set_same card.lines e.line (lines.after c e.what l) (fresh_line c) (omega (arith, s.count, here))) walk))
 
   moment-walk : (card : Card) (e : Event) → IsSound card → IsAtLine card e → Meets card.config one tei other its (line_at number card) → NoneWaits card.config (line_at number card)
       → (b : Bool) → (e.line == number) ≡ b → (names : List LinkName) → WalkOf card (line_at number (after e card)) names
-      → WalkOf card (line_at number card) (links_begun (cond b (seen card.config e.what (line_at number card) (answer e card)) []) ++ names)
+      → WalkOf card (line_at number card) (links_begun card.config (cond b (seen card.config e.what (line_at number card) (answer e card)) []) ++ names)
   moment-walk card e s here h plain true same names walk =
       let is = eqb-true e.line number same in
-      subst (λ n. WalkOf card (line_at n (after e card)) names → WalkOf card (line_at n card) (links_begun (seen card.config e.what (line_at n card) (answer e card)) ++ names)) is
+      subst (λ n. WalkOf card (line_at n (after e card)) names → WalkOf card (line_at n card) (links_begun card.config (seen card.config e.what (line_at n card) (answer e card)) ++ names)) is
       (own-walk card e s here (subst (λ n. Meets card.config one tei other its (line_at n card)) (sym is) h) (subst (λ n. NoneWaits card.config (line_at n card)) (sym is) plain) names) walk
   moment-walk card e s here h plain false away names walk =
       subst (λ (x : Line). WalkOf card x names) (apart card e number (λ same. true≢false (sym (eq-eqb e.line number (sym same)) ∙ away))) walk
 
   walks : (card : Card) (events : List Event) → IsSound card → number < card.config.lines → AreAtLines card events → StaysAt number one tei card events
       → HasToSendAllTheWhile number other its card events → NoneWaits card.config (line_at number card)
-      → WalkOf card (line_at number card) (links_begun (trace number (moments card events)))
+      → WalkOf card (line_at number card) (links_begun card.config (trace number (moments card events)))
   unfolding moments StaysAt HasToSendAllTheWhile
   walks card [] s few all stays speaks plain = ends (line_at number card)
   walks card (e ∷ events) s few all stays speaks plain =
@@ -227,8 +227,8 @@ module _ (number one tei other its : ℕ) where
       let first = cond (e.line == number) (seen card.config e.what (line_at number card) (answer e card)) [] in
       let rest = trace number (moments (after e card) events) in
       let meets : Meets card.config one tei other its (line_at number card) = record { sound = line_sound card number (has_lines card s) few; here = stays.0; there = speaks.0 } in
-      subst (WalkOf card (line_at number card)) (sym (names-both first rest))
-      (moment-walk card e s here meets plain (e.line == number) refl (links_begun rest)
+      subst (WalkOf card (line_at number card)) (sym (names-both card.config first rest))
+      (moment-walk card e s here meets plain (e.line == number) refl (links_begun card.config rest)
       (walks (after e card) events (after_is_sound card e s here) few (All-tail (IsAtLine card) e events all) stays.1 speaks.1 (none-after card e number s here plain)))
 
 pub links-take-turns-meanwhile : Always LinksTakeTurnsMeanwhile
@@ -240,8 +240,8 @@ links-take-turns-meanwhile c events number ranged all within before meanwhile sp
     let kept = config-stays (fresh c) before in
     let start = subst (λ (l : Line). NoneWaits c l) (sym (get_or-replicate c.lines number (fresh_line c) (fresh_line c) within)) (fresh-none c) in
     let plain = (run-shows NoneWaits Passes rests joins steps (fresh c) before number begins first start).1 in
-    take-turns card.config one tei other its away (line_at number card) (links_begun (trace number (moments card meanwhile)))
+    take-turns card.config one tei other its away (line_at number card) (links_begun card.config (trace number (moments card meanwhile)))
     (walks number one tei other its card meanwhile (always_sound (fresh c) before begins first) (subst (λ (c : Config). number < c.lines) (sym kept) within)
     (subst (λ (c : Config). All (λ (e : Event). e.line < c.lines) meanwhile) (sym kept) (all-right (IsAtLine (fresh c)) before meanwhile these))
     stays speaks (subst (λ c. NoneWaits c (line_at number card)) (sym kept) plain))
-    front between behind e
+    front between behind (subst (λ (c : Config). links_begun c (trace number (moments card meanwhile)) ≡ front ++ name_of one tei ∷ (between ++ name_of one tei ∷ behind)) (sym kept) e)

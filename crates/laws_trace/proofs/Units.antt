@@ -49,24 +49,24 @@ event-none c e l s h number few =
     ]
 
 -- What a trace is to the unit data that waits before it and after it.
-abbrev frames : Line → List (List ℕ)
-frames l = map unit_frame l.units
+abbrev frames : Config → Line → List (List ℕ)
+frames c l = map (unit_frame c) l.units
 
 abbrev pub Passes : Config → Line → List Seen → Line → Type 0
-Passes c before t after = units_begun t ++ frames after ≡ frames before ++ units_granted t
+Passes c before t after = units_begun c t ++ frames c after ≡ frames c before ++ units_granted c t
 
 pub rests : (c : Config) (l : Line) → Passes c l [] l
-rests c l = sym (append-nil (frames l))
+rests c l = sym (append-nil (frames c l))
 
 pub joins : (c : Config) (k l m : Line) (t u : List Seen) → Passes c k t l → Passes c l u m → Passes c k (t ++ u) m
 joins c k l m t u h i =
-    ap (λ x. x ++ frames m) (ap (filter is_unit) (flat_map-append traces.frame_begun t u) ∙ filter-append is_unit (frames_begun t) (frames_begun u))
-    ∙ append_assoc (units_begun t) (units_begun u) (frames m)
-    ∙ ap (λ x. units_begun t ++ x) i
-    ∙ sym (append_assoc (units_begun t) (frames l) (units_granted u))
-    ∙ ap (λ x. x ++ units_granted u) h
-    ∙ append_assoc (frames k) (units_granted t) (units_granted u)
-    ∙ ap (λ x. frames k ++ x) (sym (flat_map-append units.unit_granted t u))
+    ap (λ x. x ++ frames c m) (ap (filter (is_unit c.side)) (flat_map-append traces.frame_begun t u) ∙ filter-append (is_unit c.side) (frames_begun t) (frames_begun u))
+    ∙ append_assoc (units_begun c t) (units_begun c u) (frames c m)
+    ∙ ap (λ x. units_begun c t ++ x) i
+    ∙ sym (append_assoc (units_begun c t) (frames c l) (units_granted c u))
+    ∙ ap (λ x. x ++ units_granted c u) h
+    ∙ append_assoc (frames c k) (units_granted c t) (units_granted c u)
+    ∙ ap (λ x. frames c k ++ x) (sym (flat_map-append (units.unit_granted c) t u))
 
 -- Events but pulls begin nothing, and what is granted waits.
 none-heard : (o : Option stream.Event) (a : Answer) → frames_begun (map heard (option_to_list o) ++ seen_told a) ≡ []
@@ -77,38 +77,38 @@ none-heard (Some e) (told t) = refl
 none-heard (Some e) (refused why) = refl
 none-heard (Some e) (pulled value is_begun orders) = refl
 
-none-asked : (o : Option stream.Event) (a : Answer) → units_granted (map heard (option_to_list o) ++ seen_told a) ≡ []
-none-asked None (told t) = refl
-none-asked None (refused why) = refl
-none-asked None (pulled value is_begun orders) = refl
-none-asked (Some e) (told t) = refl
-none-asked (Some e) (refused why) = refl
-none-asked (Some e) (pulled value is_begun orders) = refl
+none-asked : (c : Config) (o : Option stream.Event) (a : Answer) → units_granted c (map heard (option_to_list o) ++ seen_told a) ≡ []
+none-asked c None (told t) = refl
+none-asked c None (refused why) = refl
+none-asked c None (pulled value is_begun orders) = refl
+none-asked c (Some e) (told t) = refl
+none-asked c (Some e) (refused why) = refl
+none-asked c (Some e) (pulled value is_begun orders) = refl
 
 none-requested : (r : Request) (a : Answer) → frames_begun (seen_granted r a ++ seen_told a) ≡ []
 none-requested r (told t) = refl
 none-requested r (refused why) = refl
 none-requested r (pulled value is_begun orders) = refl
 
-of-request : (r : Request) → map unit_frame (unit_asked r) ≡ units.unit_asked r
-of-request (asked.Establish service tei) = refl
-of-request (asked.Release service tei) = refl
-of-request (asked.Data service tei contents) = refl
-of-request (asked.Unit service tei contents) = refl
-of-request (asked.Assign tei) = refl
-of-request (asked.Remove tei) = refl
-of-request (asked.Check tei) = refl
-of-request (asked.SetBusy service tei) = refl
-of-request (asked.ClearBusy service tei) = refl
+of-request : (c : Config) (r : Request) → map (unit_frame c) (unit_asked r) ≡ units.unit_asked c r
+of-request c (asked.Establish service tei) = refl
+of-request c (asked.Release service tei) = refl
+of-request c (asked.Data service tei contents) = refl
+of-request c (asked.Unit service tei contents) = refl
+of-request c (asked.Assign tei) = refl
+of-request c (asked.Remove tei) = refl
+of-request c (asked.Check tei) = refl
+of-request c (asked.SetBusy service tei) = refl
+of-request c (asked.ClearBusy service tei) = refl
 
-asked-is : (r : Request) (a : Answer) → map unit_frame (units_asked (request r) a) ≡ units_granted (seen_granted r a ++ seen_told a)
-asked-is r (told t) = of-request r ∙ sym (append-nil (units.unit_asked r))
-asked-is r (refused why) = refl
-asked-is r (pulled value is_begun orders) = refl
+asked-is : (c : Config) (r : Request) (a : Answer) → map (unit_frame c) (units_asked (request r) a) ≡ units_granted c (seen_granted r a ++ seen_told a)
+asked-is c r (told t) = of-request c r ∙ sym (append-nil (units.unit_asked c r))
+asked-is c r (refused why) = refl
+asked-is c r (pulled value is_begun orders) = refl
 
 -- the units after, where nothing begins
-waits : (c : Config) (before after : Line) (t : List Seen) → frames_begun t ≡ [] → frames after ≡ frames before ++ units_granted t → Passes c before t after
-waits c before after t none h = ap (λ fs. filter is_unit fs ++ frames after) none ∙ h
+waits : (c : Config) (before after : Line) (t : List Seen) → frames_begun t ≡ [] → frames c after ≡ frames c before ++ units_granted c t → Passes c before t after
+waits c before after t none h = ap (λ fs. filter (is_unit c.side) fs ++ frames c after) none ∙ h
 
 -- A pull begins the oldest unit data, or a frame that is none.
 pub pulled-frames : (o : Option Taken) (a : Answer) → frames_begun (map traces.begun (option_to_list (option_map frame_taken o)) ++ map put (octet_in a)) ≡ option_to_list (option_map frame_taken o)
@@ -119,21 +119,21 @@ pulled-frames (Some t) (told u) = refl
 pulled-frames (Some t) (refused why) = refl
 pulled-frames (Some t) (pulled value is_begun orders) = refl
 
-pulled-none : (o : Option Taken) (a : Answer) → units_granted (map traces.begun (option_to_list (option_map frame_taken o)) ++ map put (octet_in a)) ≡ []
-pulled-none None (told t) = refl
-pulled-none None (refused why) = refl
-pulled-none None (pulled value is_begun orders) = refl
-pulled-none (Some t) (told u) = refl
-pulled-none (Some t) (refused why) = refl
-pulled-none (Some t) (pulled value is_begun orders) = refl
+pulled-none : (c : Config) (o : Option Taken) (a : Answer) → units_granted c (map traces.begun (option_to_list (option_map frame_taken o)) ++ map put (octet_in a)) ≡ []
+pulled-none c None (told t) = refl
+pulled-none c None (refused why) = refl
+pulled-none c None (pulled value is_begun orders) = refl
+pulled-none c (Some t) (told u) = refl
+pulled-none c (Some t) (refused why) = refl
+pulled-none c (Some t) (pulled value is_begun orders) = refl
 
-kept-of : (frame : List ℕ) (b : Bool) → is_unit frame ≡ b → filter is_unit (frame ∷ []) ≡ cond b (frame ∷ []) []
-kept-of frame b is = ap (λ b. cond b (frame ∷ []) []) is
+kept-of : (c : Config) (frame : List ℕ) (b : Bool) → is_unit c.side frame ≡ b → filter (is_unit c.side) (frame ∷ []) ≡ cond b (frame ∷ []) []
+kept-of c frame b is = ap (λ b. cond b (frame ∷ []) []) is
 
 -- the oldest goes
-first-goes : (us : List UnitData) (u : UnitData) → slice_get us 0 ≡ Some u → unit_frame u ∷ map unit_frame (drop 1 us) ≡ map unit_frame us
-first-goes [] u is = absurd (cc)
-first-goes (v ∷ us) u is = let same : v ≡ u = cc in ap (λ x. unit_frame x ∷ map unit_frame us) (sym same)
+first-goes : (c : Config) (us : List UnitData) (u : UnitData) → slice_get us 0 ≡ Some u → unit_frame c u ∷ map (unit_frame c) (drop 1 us) ≡ map (unit_frame c) us
+first-goes c [] u is = absurd (cc)
+first-goes c (v ∷ us) u is = let same : v ≡ u = cc in ap (λ x. unit_frame c x ∷ map (unit_frame c) us) (sym same)
 
 pub first-of : (c : Config) (us : List UnitData) (u : UnitData) → slice_get us 0 ≡ Some u → All (IsUnitData c) us → u.tei ≤ 127
 first-of c [] u is h = absurd (cc)
@@ -148,46 +148,46 @@ plain-order c l next frame h x = by-order x.in_order
     by-order (inr (inl information)) = ap (λ (f : ControlFrame). is_ui f.control) information.is
     by-order (inr (inr acknowledgement)) = ap (λ (f : ControlFrame). is_ui f.control) acknowledgement.is
 
-of-link : (c : Config) (l next : Line) (frame : List ℕ) → NoneWaits c l → IsOfLink c (contents_of l) l next frame → is_unit frame ≡ false
+of-link : (c : Config) (l next : Line) (frame : List ℕ) → NoneWaits c l → IsOfLink c (contents_of l) l next frame → is_unit c.side frame ≡ false
 of-link c l next frame h x =
-    ap is_unit x.spelled
-    ∙ other-frame (record { sapi = sapi_of (service_at x.number); command = x.command; tei = x.tei }) x.control (ap (λ b. b && not (sapi_of (service_at x.number) == management_sapi)) (plain-order c l next frame h x)) _
+    ap (is_unit c.side) x.spelled
+    ∙ other-frame c.side (record { sapi = sapi_of (service_at x.number); command = x.command; tei = x.tei }) x.control (ap (λ b. b && not (sapi_of (service_at x.number) == management_sapi)) (plain-order c l next frame h x)) _
 
 pull-passes : (c : Config) (l next : Line) → IsSound c l → NoneWaits c l → (o : Option Taken)
     → elim o as (λ o. Type 0) [ None ↦ IsIdle c l next | Some t ↦ IsOwed c (contents_of l) l next t.frame ]
-    → filter is_unit (option_to_list (option_map frame_taken o)) ++ frames next ≡ frames l
-pull-passes c l next s h None x = ap (map unit_frame) x.units
+    → filter (is_unit c.side) (option_to_list (option_map frame_taken o)) ++ frames c next ≡ frames c l
+pull-passes c l next s h None x = ap (map (unit_frame c)) x.units
 pull-passes c l next s h (Some t) (inl x) =
-    ap (λ fs. fs ++ frames next) (kept-of t.frame false (ap is_unit x.spelled ∙ other-frame (record { sapi = 63; command = true; tei = 127 }) (Ui false) refl (information_of x.message)))
-    ∙ ap (map unit_frame) x.units
+    ap (λ fs. fs ++ frames c next) (kept-of c t.frame false (ap (is_unit c.side) x.spelled ∙ other-frame c.side (record { sapi = 63; command = true; tei = 127 }) (Ui false) refl (information_of x.message)))
+    ∙ ap (map (unit_frame c)) x.units
 pull-passes c l next s h (Some t) (inr (inl x)) =
-    ap (λ fs. fs ++ frames next) (kept-of t.frame true (ap is_unit x.spelled ∙ unit-is x.unit (first-of c l.units x.unit x.oldest s.units)))
-    ∙ ap (λ us. t.frame ∷ map unit_frame us) x.rest
-    ∙ ap (λ f. f ∷ map unit_frame (drop 1 l.units)) x.spelled
-    ∙ first-goes l.units x.unit x.oldest
+    ap (λ fs. fs ++ frames c next) (kept-of c t.frame true (ap (is_unit c.side) x.spelled ∙ unit-is c x.unit (first-of c l.units x.unit x.oldest s.units)))
+    ∙ ap (λ us. t.frame ∷ map (unit_frame c) us) x.rest
+    ∙ ap (λ f. f ∷ map (unit_frame c) (drop 1 l.units)) x.spelled
+    ∙ first-goes c l.units x.unit x.oldest
 pull-passes c l next s h (Some t) (inr (inr x)) =
-    ap (λ fs. fs ++ frames next) (kept-of t.frame false (of-link c l next t.frame h x)) ∙ ap (map unit_frame) x.units
+    ap (λ fs. fs ++ frames c next) (kept-of c t.frame false (of-link c l next t.frame h x)) ∙ ap (map (unit_frame c)) x.units
 
 event-passes : (c : Config) (e : Event) (l : Line) → IsSound c l → NoneWaits c l → Passes c l (seen c e l (answer c e l)) (after c e l)
 event-passes c (octet value) l s h =
     let o = gained c.n201 l.received value in
     let a = answer c (octet value) l in
     waits c l (after c (octet value) l) (seen c (octet value) l a) (none-heard o a)
-    (ap (map unit_frame) (units-wait c (octet value) l) ∙ sym (append-nil (frames l)) ∙ ap (λ x. frames l ++ x) (sym (none-asked o a)))
+    (ap (map (unit_frame c)) (units-wait c (octet value) l) ∙ sym (append-nil (frames c l)) ∙ ap (λ x. frames c l ++ x) (sym (none-asked c o a)))
 event-passes c (expiry timer) l s h =
     let a = answer c (expiry timer) l in
     waits c l (after c (expiry timer) l) (seen c (expiry timer) l a) (none-heard None a)
-    (ap (map unit_frame) (units-wait c (expiry timer) l) ∙ sym (append-nil (frames l)) ∙ ap (λ x. frames l ++ x) (sym (none-asked None a)))
+    (ap (map (unit_frame c)) (units-wait c (expiry timer) l) ∙ sym (append-nil (frames c l)) ∙ ap (λ x. frames c l ++ x) (sym (none-asked c None a)))
 event-passes c (request r) l s h =
     let a = answer c (request r) l in
     waits c l (after c (request r) l) (seen c (request r) l a) (none-requested r a)
-    (ap (map unit_frame) (units-wait c (request r) l) ∙ map-append unit_frame l.units (units_asked (request r) a) ∙ ap (λ x. frames l ++ x) (asked-is r a))
+    (ap (map (unit_frame c)) (units-wait c (request r) l) ∙ map-append (unit_frame c) l.units (units_asked (request r) a) ∙ ap (λ x. frames c l ++ x) (asked-is c r a))
 event-passes c pull l s h =
     let a = answer c pull l in
     let next = after c pull l in
-    ap (λ fs. filter is_unit fs ++ frames next) (pulled-frames (begun c l) a)
+    ap (λ fs. filter (is_unit c.side) fs ++ frames c next) (pulled-frames (begun c l) a)
     ∙ pull-passes c l next s h (begun c l) (served c l s)
-    ∙ sym (append-nil (frames l)) ∙ ap (λ x. frames l ++ x) (sym (pulled-none (begun c l) a))
+    ∙ sym (append-nil (frames c l)) ∙ ap (λ x. frames c l ++ x) (sym (pulled-none c (begun c l) a))
 
 pub steps : (c : Config) → IsInRange c → (e : Event) (l : Line) → IsSound c l → NoneWaits c l
     → Passes c l (seen c e l (answer c e l)) (after c e l) × NoneWaits c (after c e l)

@@ -36,18 +36,18 @@ module _ (c : Config) (events : List Event) (number : ℕ) (ranged : line.IsInRa
   abbrev heard : List (List ℕ)
   heard = frames_heard c.n201 (octets_put t)
 
-  headed : All IsHeaded (frames_begun t)
+  headed : All (IsHeaded c.side) (frames_begun t)
   headed =
       let start : line_at number (fresh c) ≡ fresh_line c = get_or-replicate c.lines number (fresh_line c) (fresh_line c) within in
       (run-shows NoneWaits AreHeaded rests joins steps (fresh c) events number (fresh_is_sound c ranged) all (subst (λ (l : Line). NoneWaits c l) (sym start) (fresh-none c))).0
 
   -- as octets the unit data that begins is what it was
-  begun-heard : All HasOctets t → filter is_unit (map as_octets (frames_begun t)) ≡ units_begun t
+  begun-heard : All HasOctets t → filter (is_unit c.side) (map as_octets (frames_begun t)) ≡ units_begun c t
   begun-heard octets =
       let asked = units-go-out c events number ranged all within in
-      same-units (frames_begun t) headed asked.rest (subst (All IsExact) asked.whole_is (granted-octets t octets))
+      same-units c.side (frames_begun t) headed asked.rest (subst (All IsExact) asked.whole_is (granted-octets c t octets))
 
-  pub front : All HasOctets t → IsFront (filter is_unit heard) (units_granted t)
+  pub front : All HasOctets t → IsFront (filter (is_unit c.side) heard) (units_granted c t)
   front octets =
       let out = frames-go-out c events number ranged all within in
       let asked = units-go-out c events number ranged all within in
@@ -56,11 +56,11 @@ module _ (c : Config) (events : List Event) (number : ℕ) (ranged : line.IsInRa
       ∙ flat_map-append frame_heard (heard_in c.n201 (octets_put t)) (map (λ octets. stream.frame octets) out.on_its_way)
       ∙ ap (λ x. heard ++ x) (heard-again out.on_its_way) in
       record {
-        rest = filter is_unit out.on_its_way ++ asked.rest;
+        rest = filter (is_unit c.side) out.on_its_way ++ asked.rest;
         whole_is =
             asked.whole_is
-            ∙ ap (λ us. us ++ asked.rest) (sym (begun-heard octets) ∙ ap (filter is_unit) frames ∙ filter-append is_unit heard out.on_its_way)
-            ∙ append_assoc (filter is_unit heard) (filter is_unit out.on_its_way) asked.rest;
+            ∙ ap (λ us. us ++ asked.rest) (sym (begun-heard octets) ∙ ap (filter (is_unit c.side)) frames ∙ filter-append (is_unit c.side) heard out.on_its_way)
+            ∙ append_assoc (filter (is_unit c.side) heard) (filter (is_unit c.side) out.on_its_way) asked.rest;
       }
 
 pub units-are-heard : Always UnitsAreHeard
@@ -69,7 +69,7 @@ units-are-heard c events number ranged all within octets = front c events number
 pub all-units-are-heard : Always AllUnitsAreHeard
 all-units-are-heard c events number ranged all within before pulls split only enough octets =
     let t = trace_of c events number in
-    ap (λ es. filter is_unit (flat_map frame_heard es)) (sym (all-frames-go-out c events number ranged all within before pulls split only enough))
-    ∙ ap (filter is_unit) (heard-again (map as_octets (frames_begun t)))
+    ap (λ es. filter (is_unit c.side) (flat_map frame_heard es)) (sym (all-frames-go-out c events number ranged all within before pulls split only enough))
+    ∙ ap (filter (is_unit c.side)) (heard-again (map as_octets (frames_begun t)))
     ∙ begun-heard c events number ranged all within octets
     ∙ all-units-go-out c events number ranged all within before pulls split only enough

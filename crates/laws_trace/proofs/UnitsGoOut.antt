@@ -37,14 +37,14 @@ module _ (c : Config) (events : List Event) (number : ℕ) (ranged : line.IsInRa
   abbrev end : Line
   end = line_at number (after_all (fresh c) events)
 
-  passes : units_begun (trace_of c events number) ++ map unit_frame end.units ≡ units_granted (trace_of c events number)
+  passes : units_begun c (trace_of c events number) ++ map (unit_frame c) end.units ≡ units_granted c (trace_of c events number)
   passes =
       (run-shows NoneWaits Passes rests joins steps (fresh c) events number (fresh_is_sound c ranged) all
       (subst (λ (l : Line). NoneWaits c l) (sym start) (fresh-none c))).0
-      ∙ ap (λ (l : Line). map unit_frame l.units ++ units_granted (trace_of c events number)) start
+      ∙ ap (λ (l : Line). map (unit_frame c) l.units ++ units_granted c (trace_of c events number)) start
 
   pub front : UnitsGoOut c events number
-  front = record { rest = map unit_frame end.units; whole_is = sym passes }
+  front = record { rest = map (unit_frame c) end.units; whole_is = sym passes }
 
   nothing-left : (before pulls : List Event) → events ≡ before ++ pulls → ArePullsAt number pulls → most_pulls c ≤ pulls_at number pulls → end.units ≡ []
   nothing-left before pulls split only enough =
@@ -57,8 +57,8 @@ module _ (c : Config) (events : List Event) (number : ℕ) (ranged : line.IsInRa
 
   pub whole : AllUnitsGoOut c events number
   whole before pulls split only enough =
-      sym (append-nil (units_begun (trace_of c events number)))
-      ∙ ap (λ us. units_begun (trace_of c events number) ++ map unit_frame us) (sym (nothing-left before pulls split only enough))
+      sym (append-nil (units_begun c (trace_of c events number)))
+      ∙ ap (λ us. units_begun c (trace_of c events number) ++ map (unit_frame c) us) (sym (nothing-left before pulls split only enough))
       ∙ passes
 
 pub units-go-out : Always UnitsGoOut

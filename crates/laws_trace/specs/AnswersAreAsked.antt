@@ -1,7 +1,6 @@
 -- Answers are asked for.
 use Rattle.std.specs.Prelude.{ℕ, ◌==◌, ◌&&◌, not, Bool, List, [], ◌∷◌, flat_map, Result, Ok, Err, if◌then◌else◌}
 use Rattle.lapd_bits.specs.Stream as stream
-use Rattle.lapd_frame.specs.declared.addresses.Side.TheVariants.{Network, User}
 use Rattle.lapd_frame.specs.declared.controls.Control.{Control}
 use Rattle.lapd_frame.specs.declared.controls.Control.TheVariants.{Information, ReceiveReady, ReceiveNotReady, Reject, Sabme, Disc, Ua, Dm}
 use Rattle.lapd_frame.specs.declared.faults.ReadFault.{ReadFault}
@@ -10,6 +9,7 @@ use Rattle.lapd_frame.specs.Grammar.{Parts}
 use Rattle.lapd_frame.specs.Reading.{reading}
 use Rattle.lapd_frame.specs.Services.{sapi_of}
 use Rattle.model_line.specs.declared.config.Config.{Config}
+use Rattle.model_line.specs.Octet.{heard_side}
 use Rattle.model_card.specs.Event.{Event}
 use Rattle.laws_trace.specs.Trace.{Seen, heard, begun, trace_of}
 
@@ -42,17 +42,17 @@ of_link service tei by (Ok frame) =
     if frame.address.sapi == sapi_of service && frame.address.tei == tei then by frame.address.command frame.control else []
 of_link service tei by (Err fault) = []
 
-abbrev pub asked_in : Service → ℕ → stream.Event → List Exchange
-asked_in service tei (stream.frame octets) = of_link service tei asked_by (reading User octets)
-asked_in service tei other = []
+abbrev pub asked_in : Config → Service → ℕ → stream.Event → List Exchange
+asked_in c service tei (stream.frame octets) = of_link service tei asked_by (reading (heard_side c) octets)
+asked_in c service tei other = []
 
-abbrev pub asked_at : Service → ℕ → Seen → List Exchange
-asked_at service tei (heard event) = asked_in service tei event
-asked_at service tei other = []
+abbrev pub asked_at : Config → Service → ℕ → Seen → List Exchange
+asked_at c service tei (heard event) = asked_in c service tei event
+asked_at c service tei other = []
 
-abbrev pub answered_at : Service → ℕ → Seen → List Exchange
-answered_at service tei (begun octets) = of_link service tei answered_by (reading Network octets)
-answered_at service tei other = []
+abbrev pub answered_at : Config → Service → ℕ → Seen → List Exchange
+answered_at c service tei (begun octets) = of_link service tei answered_by (reading c.side octets)
+answered_at c service tei other = []
 
 -- One list is another from which some things may be left out.
 pub data IsPart : List Exchange → List Exchange → Type 0 where
@@ -67,4 +67,4 @@ pub data IsPart : List Exchange → List Exchange → Type 0 where
 abbrev pub AnswersAreAsked : Config → List Event → ℕ → Type 0
 AnswersAreAsked c events number =
     (service : Service) (tei : ℕ) →
-    let t = trace_of c events number in IsPart (flat_map (answered_at service tei) t) (flat_map (asked_at service tei) t)
+    let t = trace_of c events number in IsPart (flat_map (answered_at c service tei) t) (flat_map (asked_at c service tei) t)

@@ -1,6 +1,5 @@
 -- Data goes out.
 use Rattle.std.specs.Prelude.{◌≡◌, ◌⊎◌, ◌≤◌, ◌<◌, ◌==◌, ◌&&◌, ℕ, ◌+◌, ◌%◌, false, List, [], ◌∷◌, ◌++◌, length, drop, slice_get, Option, Some, None, IfSome, Result, Ok, Err, if◌then◌else◌}
-use Rattle.lapd_frame.specs.declared.addresses.Side.TheVariants.{Network}
 use Rattle.lapd_frame.specs.declared.controls.Control.{Control}
 use Rattle.lapd_frame.specs.declared.controls.Control.TheVariants.{Information}
 use Rattle.lapd_frame.specs.declared.faults.ReadFault.{ReadFault}
@@ -57,9 +56,9 @@ pub record HasNumber (g : Going) (sent : Sent) : Type 0 where
   pub next_or_again : number ≤ g.gone
   pub lately : g.gone ≤ number + 127
 
-abbrev pub IsSent : Service → ℕ → Going → Seen → Type 0
-IsSent service tei g (begun octets) = IfSome (sent_in service tei (reading Network octets)) (HasNumber g)
-IsSent service tei g other = Unit {0}
+abbrev pub IsSent : Config → Service → ℕ → Going → Seen → Type 0
+IsSent c service tei g (begun octets) = IfSome (sent_in service tei (reading c.side octets)) (HasNumber g)
+IsSent c service tei g other = Unit {0}
 
 -- Data that is granted takes the next number; and the next has gone once an I-frame has it.
 abbrev pub data_asked : Service → ℕ → Request → List (List ℕ)
@@ -71,27 +70,27 @@ gone_with gone None = gone
 gone_with gone (Some sent) = if sent.ns == gone % 128 then gone + 1 else gone
 
 -- Where the numbers begin, none has gone, and the contents that stay take the first numbers: all but the oldest n.
-abbrev pub goes_on : Service → ℕ → ℕ → Going → Seen → Going
-goes_on service tei n g (begun octets) =
-    record { told = watch service tei g.told (begun octets); contents = g.contents; gone = gone_with g.gone (sent_in service tei (reading Network octets)) }
-goes_on service tei n g (granted r) =
-    record { told = watch service tei g.told (granted r); contents = g.contents ++ data_asked service tei r; gone = g.gone }
-goes_on service tei n g (noted ns contents) =
+abbrev pub goes_on : Config → Service → ℕ → ℕ → Going → Seen → Going
+goes_on c service tei n g (begun octets) =
+    record { told = watch c service tei g.told (begun octets); contents = g.contents; gone = gone_with g.gone (sent_in service tei (reading c.side octets)) }
+goes_on c service tei n g (granted r) =
+    record { told = watch c service tei g.told (granted r); contents = g.contents ++ data_asked service tei r; gone = g.gone }
+goes_on c service tei n g (noted ns contents) =
     let anew = begins service tei g.told.frame ns in
-    record { told = watch service tei g.told (noted ns contents); contents = if anew then drop n g.contents else g.contents; gone = if anew then 0 else g.gone }
-goes_on service tei n g other = record g { told = watch service tei g.told other }
+    record { told = watch c service tei g.told (noted ns contents); contents = if anew then drop n g.contents else g.contents; gone = if anew then 0 else g.gone }
+goes_on c service tei n g other = record g { told = watch c service tei g.told other }
 
 -- From one thing seen to the next, up to what is kept in mind at the end. Contents that leave where the numbers begin had gone,
 -- or none stays (clauses 5.5.1.2 and 5.7).
-abbrev pub Reaches : Service → ℕ → Going → List Seen → Going → Type 0
-Reaches service tei g [] end = g ≡ end
-Reaches service tei g (x ∷ t) end =
-    IsSent service tei g x × ((n : ℕ) × ((n ≤ g.gone) ⊎ (length g.contents ≤ n)) × Reaches service tei (goes_on service tei n g x) t end)
+abbrev pub Reaches : Config → Service → ℕ → Going → List Seen → Going → Type 0
+Reaches c service tei g [] end = g ≡ end
+Reaches c service tei g (x ∷ t) end =
+    IsSent c service tei g x × ((n : ℕ) × ((n ≤ g.gone) ⊎ (length g.contents ≤ n)) × Reaches c service tei (goes_on c service tei n g x) t end)
 
 -- So it is of every link, from the start of the card on: the contents of new I-frames are the first of the data granted, in
 -- order, each once, and those of I-frames that go again are what their number had.
 abbrev pub DataGoesOut : Config → List Event → ℕ → Type 0
-DataGoesOut c events number = (service : Service) (tei : ℕ) → (end : Going) × Reaches service tei none_yet (trace_of c events number) end
+DataGoesOut c events number = (service : Service) (tei : ℕ) → (end : Going) × Reaches c service tei none_yet (trace_of c events number) end
 
 -- And they are all of it, once the line was only pulled, as often as the configuration says: on a link in state 7 whose terminal
 -- is not busy, with fewer than k I-frames outstanding (clauses 5.6.1 and 5.6.5).
@@ -104,4 +103,4 @@ abbrev pub AllDataGoesOut : Config → List Event → ℕ → Type 0
 AllDataGoesOut c events number =
     (service : Service) (tei : ℕ) (before pulls : List Event) → events ≡ before ++ pulls → ArePullsAt number pulls → most_pulls c ≤ pulls_at number pulls →
     IsOpen (terms c service tei) (link_of service tei (line_at number (after_all (fresh c) events))) →
-    (end : Going) × Reaches service tei none_yet (trace_of c events number) end × (end.gone ≡ length end.contents)
+    (end : Going) × Reaches c service tei none_yet (trace_of c events number) end × (end.gone ≡ length end.contents)

@@ -3,7 +3,6 @@ use Rattle.std.specs.Prelude.{◌≡◌, ◌≤◌, ℕ, ◌+◌, ◌%◌, ◌==
 use Rattle.std.specs.List.{list_any}
 use Rattle.lapd_bits.specs.Stream as stream
 use Rattle.lapd_frame.specs.declared.addresses.Address.{Address}
-use Rattle.lapd_frame.specs.declared.addresses.Side.TheVariants.{User}
 use Rattle.lapd_frame.specs.declared.controls.Control.{Control}
 use Rattle.lapd_frame.specs.declared.controls.Control.TheVariants.{Information, Sabme, Ua}
 use Rattle.lapd_frame.specs.declared.faults.ReadFault.{ReadFault}
@@ -17,6 +16,7 @@ use Rattle.lapd_frame.specs.Services.{sapi_of}
 use Rattle.model_link.specs.Link.{Link, is_multiple_frame}
 use Rattle.model_line.specs.declared.config.Config.{Config}
 use Rattle.model_line.specs.Line.{link_of}
+use Rattle.model_line.specs.Octet.{heard_side}
 use Rattle.model_card.specs.Card.{fresh, line_at}
 use Rattle.model_card.specs.Event.{Event}
 use Rattle.model_card.specs.Run.{moments, after_all}
@@ -37,10 +37,10 @@ abbrev pub parts_of : Result Parts ReadFault → Option Parts
 parts_of (Ok parts) = Some parts
 parts_of (Err fault) = None
 
-abbrev pub frame_of : stream.Event → Option Parts
-frame_of (stream.frame octets) = parts_of (reading User octets)
-frame_of (stream.overlong head) = None
-frame_of (stream.dropped cause) = None
+abbrev pub frame_of : Config → stream.Event → Option Parts
+frame_of c (stream.frame octets) = parts_of (reading (heard_side c) octets)
+frame_of c (stream.overlong head) = None
+frame_of c (stream.dropped cause) = None
 
 abbrev pub is_for : Service → ℕ → Address → Bool
 is_for service tei address = address.sapi == sapi_of service && address.tei == tei
@@ -69,10 +69,10 @@ abbrev pub counted : Service → ℕ → Watched → List Note → ℕ
 counted service tei w ns =
     if begins service tei w.frame ns then 0 else if list_any (is_data_of service tei) ns then w.count + 1 else w.count
 
-abbrev pub watch : Service → ℕ → Watched → Seen → Watched
-watch service tei w (heard e) = record w { frame = frame_of e }
-watch service tei w (noted ns contents) = record { frame = None; count = counted service tei w ns }
-watch service tei w other = record w { frame = None }
+abbrev pub watch : Config → Service → ℕ → Watched → Seen → Watched
+watch c service tei w (heard e) = record w { frame = frame_of c e }
+watch c service tei w (noted ns contents) = record { frame = None; count = counted service tei w ns }
+watch c service tei w other = record w { frame = None }
 
 -- N(S) of an I-frame, the one field that none but it has.
 abbrev pub number_in : Control → Option ℕ
@@ -99,13 +99,13 @@ abbrev pub IsHeardIn : Service → ℕ → Watched → Seen → Type 0
 IsHeardIn service tei w (noted ns contents) = IsHeard service tei w ns contents
 IsHeardIn service tei w other = Unit {0}
 
-abbrev pub AreHeard : Service → ℕ → Watched → List Seen → Type 0
-AreHeard service tei w [] = Unit {0}
-AreHeard service tei w (x ∷ t) = IsHeardIn service tei w x × AreHeard service tei (watch service tei w x) t
+abbrev pub AreHeard : Config → Service → ℕ → Watched → List Seen → Type 0
+AreHeard c service tei w [] = Unit {0}
+AreHeard c service tei w (x ∷ t) = IsHeardIn service tei w x × AreHeard c service tei (watch c service tei w x) t
 
 -- So it is of every link, from the start of the card on.
 abbrev pub Deliveries : Config → List Event → ℕ → Type 0
-Deliveries c events number = (service : Service) (tei : ℕ) → AreHeard service tei nothing_yet (trace_of c events number)
+Deliveries c events number = (service : Service) (tei : ℕ) → AreHeard c service tei nothing_yet (trace_of c events number)
 
 -- And contents that may be told are told, in the moment of their frame: an I-frame for a link in state 7 or 8, own busy off, of
 -- at most N201 octets, whose N(S) is the number of contents told, modulo 128 (clauses 5.6.2 and 5.6.6).
@@ -125,6 +125,6 @@ AllAreTold c events number =
     (service : Service) (tei : ℕ) (before : List Event) (e : Event) (behind : List Event) → events ≡ before ++ e ∷ behind →
     let card = after_all (fresh c) before in
     let now = trace number (moments card (e ∷ [])) in
-    let w = fold (watch service tei) nothing_yet (trace_of c before number) in
-    (octets : List ℕ) (frame : Parts) → IsAmong (heard (stream.frame octets)) now → reading User octets ≡ Ok frame →
+    let w = fold (watch c service tei) nothing_yet (trace_of c before number) in
+    (octets : List ℕ) (frame : Parts) → IsAmong (heard (stream.frame octets)) now → reading (heard_side c) octets ≡ Ok frame →
     is_for service tei frame.address ≡ true → MayBeTold c (link_of service tei (line_at number card)) w.count frame → IsTold service tei frame.info now

@@ -1,7 +1,6 @@
 -- What begins on a line are frames.
 use Rattle.std.specs.Prelude.{ℕ, List, [], All}
 use Rattle.lapd_bits.specs.StuffingLaws.{AreOctets}
-use Rattle.lapd_frame.specs.declared.addresses.Side.TheVariants.{Network}
 use Rattle.lapd_frame.specs.Grammar.{Parts, Spells}
 use Rattle.model_line.specs.declared.config.Config.{Config}
 use Rattle.model_line.specs.Request as asked
@@ -10,12 +9,12 @@ use Rattle.model_card.specs.Event.{Event}
 use Rattle.laws_trace.specs.Trace.{Seen, granted, trace_of, frames_begun, octets_put}
 use Rattle.laws_trace.specs.FramesGoOut.{GoOut}
 
--- Each is one that the grammar has, as the network's (Q.921 clauses 2 and 3).
-abbrev pub IsNetworks : List ℕ → Type 0
-IsNetworks octets = (parts : Parts) × Spells Network parts octets
+-- Each is one that the grammar has, as that of the card's side (Q.921 clauses 2 and 3).
+abbrev pub IsSpelled : Config → List ℕ → Type 0
+IsSpelled c octets = (parts : Parts) × Spells c.side parts octets
 
 abbrev pub FramesAreRead : Config → List Event → ℕ → Type 0
-FramesAreRead c events number = All IsNetworks (frames_begun (trace_of c events number))
+FramesAreRead c events number = All (IsSpelled c) (frames_begun (trace_of c events number))
 
 -- The contents that are granted are octets, each 0 to 255.
 abbrev pub contents_given : Request → List ℕ

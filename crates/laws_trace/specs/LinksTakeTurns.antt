@@ -1,6 +1,6 @@
 -- Links take turns.
 use Rattle.std.specs.Prelude.{◌≡◌, ◌≢◌, ℕ, ◌/◌, Bool, true, not, List, ◌∷◌, ◌++◌, map, filter, slice_index, Result, Ok, Err}
-use Rattle.lapd_frame.specs.declared.addresses.Side.TheVariants.{Network}
+use Rattle.lapd_frame.specs.declared.addresses.Side.{Side}
 use Rattle.lapd_frame.specs.declared.faults.ReadFault.{ReadFault}
 use Rattle.lapd_frame.specs.Grammar.{Parts}
 use Rattle.lapd_frame.specs.Reading.{reading}
@@ -25,11 +25,11 @@ abbrev pub is_no_ui : Result Parts ReadFault → Bool
 is_no_ui (Ok frame) = not (is_ui frame.control)
 is_no_ui (Err fault) = true
 
-abbrev pub is_of_link : List ℕ → Bool
-is_of_link octets = is_no_ui (reading Network octets)
+abbrev pub is_of_link : Side → List ℕ → Bool
+is_of_link side octets = is_no_ui (reading side octets)
 
-abbrev pub links_begun : List Seen → List LinkName
-links_begun t = map named_in (filter is_of_link (frames_begun t))
+abbrev pub links_begun : Config → List Seen → List LinkName
+links_begun c t = map named_in (filter (is_of_link c.side) (frames_begun t))
 
 -- Between two frames of one link begins one of every other link that begins one behind these.
 abbrev pub TakeTurns : List LinkName → Type 0
@@ -41,4 +41,4 @@ TakeTurns links =
 abbrev pub LinksTakeTurns : Config → List Event → ℕ → Type 0
 LinksTakeTurns c events number =
     (before pulls : List Event) → events ≡ before ++ pulls → ArePullsAt number pulls →
-    TakeTurns (links_begun (trace number (moments (after_all (fresh c) before) pulls)))
+    TakeTurns (links_begun c (trace number (moments (after_all (fresh c) before) pulls)))

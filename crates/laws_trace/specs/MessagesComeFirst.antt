@@ -1,5 +1,6 @@
 -- Messages of TEI management come first, then unit data, then frames of links.
 use Rattle.std.specs.Prelude.{◌≡◌, ◌≤◌, ℕ, List, ◌∷◌, ◌++◌, if◌then◌else◌}
+use Rattle.lapd_frame.specs.declared.addresses.Side.{Side}
 use Rattle.model_line.specs.declared.config.Config.{Config}
 use Rattle.model_card.specs.Card.{fresh}
 use Rattle.model_card.specs.Event.{Event}
@@ -10,16 +11,16 @@ use Rattle.laws_trace.specs.LinksTakeTurns.{is_of_link}
 use Rattle.laws_trace.specs.Units.{is_unit}
 
 -- The rank of a frame: 0 of a message of TEI management, 1 of unit data, and 2 of a link (profile).
-abbrev pub rank : List ℕ → ℕ
-rank octets = if is_of_link octets then 2 else if is_unit octets then 1 else 0
+abbrev pub rank : Side → List ℕ → ℕ
+rank side octets = if is_of_link side octets then 2 else if is_unit side octets then 1 else 0
 
 -- None begins before one of a lower rank.
-abbrev pub AreByRank : List (List ℕ) → Type 0
-AreByRank frames =
-    (one other : List ℕ) (before between behind : List (List ℕ)) → frames ≡ before ++ one ∷ (between ++ other ∷ behind) → rank one ≤ rank other
+abbrev pub AreByRank : Side → List (List ℕ) → Type 0
+AreByRank side frames =
+    (one other : List ℕ) (before between behind : List (List ℕ)) → frames ≡ before ++ one ∷ (between ++ other ∷ behind) → rank side one ≤ rank side other
 
 -- So it is while a line is only pulled, after whatever happened to it (profile).
 abbrev pub MessagesComeFirst : Config → List Event → ℕ → Type 0
 MessagesComeFirst c events number =
     (before pulls : List Event) → events ≡ before ++ pulls → ArePullsAt number pulls →
-    AreByRank (frames_begun (trace number (moments (after_all (fresh c) before) pulls)))
+    AreByRank c.side (frames_begun (trace number (moments (after_all (fresh c) before) pulls)))

@@ -35,5 +35,5 @@ LinksTakeTurnsMeanwhile c events number =
     (before meanwhile : List Event) → events ≡ before ++ meanwhile →
     (one tei other its : ℕ) → one ≢ other → StaysAt number one tei (after_all (fresh c) before) meanwhile →
     HasToSendAllTheWhile number other its (after_all (fresh c) before) meanwhile → (front between behind : List LinkName) →
-    links_begun (trace number (moments (after_all (fresh c) before) meanwhile)) ≡ front ++ name_of one tei ∷ (between ++ name_of one tei ∷ behind) →
+    links_begun c (trace number (moments (after_all (fresh c) before) meanwhile)) ≡ front ++ name_of one tei ∷ (between ++ name_of one tei ∷ behind) →
     IsAmong (name_of other its) between

@@ -1,11 +1,12 @@
 -- Unit data in a trace.
 use Rattle.std.specs.Prelude.{ℕ, ◌==◌, ◌&&◌, not, Bool, true, false, List, [], ◌∷◌, filter, flat_map, Result, Ok, Err}
-use Rattle.lapd_frame.specs.declared.addresses.Side.TheVariants.{Network}
+use Rattle.lapd_frame.specs.declared.addresses.Side.{Side}
 use Rattle.lapd_frame.specs.declared.controls.Control.{Control}
 use Rattle.lapd_frame.specs.declared.controls.Control.TheVariants.{Ui}
 use Rattle.lapd_frame.specs.declared.faults.ReadFault.{ReadFault}
 use Rattle.lapd_frame.specs.Grammar.{Parts}
 use Rattle.lapd_frame.specs.Reading.{reading}
+use Rattle.model_line.specs.declared.config.Config.{Config}
 use Rattle.model_line.specs.Octet.{management_sapi}
 use Rattle.model_line.specs.Pull.{unit_frame}
 use Rattle.model_line.specs.Request as asked
@@ -22,22 +23,22 @@ abbrev pub carries_unit : Result Parts ReadFault → Bool
 carries_unit (Ok frame) = is_ui frame.control && not (frame.address.sapi == management_sapi)
 carries_unit (Err fault) = false
 
-abbrev pub is_unit : List ℕ → Bool
-is_unit octets = carries_unit (reading Network octets)
+abbrev pub is_unit : Side → List ℕ → Bool
+is_unit side octets = carries_unit (reading side octets)
 
 -- Those that begin,
-abbrev pub units_begun : List Seen → List (List ℕ)
-units_begun t = filter is_unit (frames_begun t)
+abbrev pub units_begun : Config → List Seen → List (List ℕ)
+units_begun c t = filter (is_unit c.side) (frames_begun t)
 
 -- and those that are asked for by the unit data that is granted: whole, with its service and its TEI, in a UI command
 -- with P=0 (clauses 3.6.5 and 5.2.2).
-abbrev pub unit_asked : Request → List (List ℕ)
-unit_asked (asked.Unit service tei contents) = unit_frame (record { service = service; tei = tei; contents = contents }) ∷ []
-unit_asked other = []
+abbrev pub unit_asked : Config → Request → List (List ℕ)
+unit_asked c (asked.Unit service tei contents) = unit_frame c (record { service = service; tei = tei; contents = contents }) ∷ []
+unit_asked c other = []
 
-abbrev pub unit_granted : Seen → List (List ℕ)
-unit_granted (granted r) = unit_asked r
-unit_granted other = []
+abbrev pub unit_granted : Config → Seen → List (List ℕ)
+unit_granted c (granted r) = unit_asked c r
+unit_granted c other = []
 
-abbrev pub units_granted : List Seen → List (List ℕ)
-units_granted t = flat_map unit_granted t
+abbrev pub units_granted : Config → List Seen → List (List ℕ)
+units_granted c t = flat_map (unit_granted c) t

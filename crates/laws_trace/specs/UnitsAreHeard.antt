@@ -19,8 +19,8 @@ frame_heard other = []
 abbrev pub frames_heard : ℕ → List ℕ → List (List ℕ)
 frames_heard n201 octets = flat_map frame_heard (stream.heard_in n201 octets)
 
-abbrev pub units_heard : ℕ → List ℕ → List (List ℕ)
-units_heard n201 octets = filter is_unit (frames_heard n201 octets)
+abbrev pub units_heard : Config → List ℕ → List (List ℕ)
+units_heard c octets = filter (is_unit c.side) (frames_heard c.n201 octets)
 
 -- The contents of the unit data that is asked for, and granted, are octets, each 0 to 255.
 abbrev pub contents_asked : Request → List ℕ
@@ -36,11 +36,11 @@ HasOctets other = Unit {0}
 abbrev pub UnitsAreHeard : Config → List Event → ℕ → Type 0
 UnitsAreHeard c events number =
     let t = trace_of c events number in
-    All HasOctets t → IsFront (units_heard c.n201 (octets_put t)) (units_granted t)
+    All HasOctets t → IsFront (units_heard c (octets_put t)) (units_granted c t)
 
 -- And they are all of it, once the line was only pulled, as often as the configuration says.
 abbrev pub AllUnitsAreHeard : Config → List Event → ℕ → Type 0
 AllUnitsAreHeard c events number =
     let t = trace_of c events number in
     (before pulls : List Event) → events ≡ before ++ pulls → ArePullsAt number pulls → most_pulls c ≤ pulls_at number pulls →
-    All HasOctets t → units_heard c.n201 (octets_put t) ≡ units_granted t
+    All HasOctets t → units_heard c (octets_put t) ≡ units_granted c t

@@ -10,10 +10,10 @@ use Rattle.laws_trace.specs.Units.{units_begun, units_granted}
 -- The UI frames that begin on a line, except those of TEI management, are the first of the unit data that is granted: in
 -- order, whole, each once, with its service and its TEI (Q.921 clause 5.2.2).
 abbrev pub UnitsGoOut : Config → List Event → ℕ → Type 0
-UnitsGoOut c events number = IsFront (units_begun (trace_of c events number)) (units_granted (trace_of c events number))
+UnitsGoOut c events number = IsFront (units_begun c (trace_of c events number)) (units_granted c (trace_of c events number))
 
 -- And they are all of it, once the line was only pulled, as often as the configuration says.
 abbrev pub AllUnitsGoOut : Config → List Event → ℕ → Type 0
 AllUnitsGoOut c events number =
     (before pulls : List Event) → events ≡ before ++ pulls → ArePullsAt number pulls → most_pulls c ≤ pulls_at number pulls →
-    units_begun (trace_of c events number) ≡ units_granted (trace_of c events number)
+    units_begun c (trace_of c events number) ≡ units_granted c (trace_of c events number)

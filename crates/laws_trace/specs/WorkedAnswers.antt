@@ -14,16 +14,16 @@ use Rattle.laws_trace.specs.Trace.{Seen, begun, trace_of}
 use Rattle.laws_trace.specs.WorkedUnits.{pulls}
 
 -- SABME with P=1 is heard, and the UA with F=1 begins with the second pull.
-sabme_heard : flat_map (asked_at Call 64) (trace_of usual up 0) ≡ mode true ∷ []
+sabme_heard : flat_map (asked_at usual Call 64) (trace_of usual up 0) ≡ mode true ∷ []
 unfolding moments lines.after lines.answer lines.takes_slot teis.course teis.refusal low_bits reading header_of control_of unnumbered_of
 sabme_heard = refl
 
-ua_begins : flat_map (answered_at Call 64) (trace_of usual (up ++ pulls 2) 0) ≡ mode true ∷ []
+ua_begins : flat_map (answered_at usual Call 64) (trace_of usual (up ++ pulls 2) 0) ≡ mode true ∷ []
 unfolding moments lines.after lines.answer lines.takes_slot teis.course teis.refusal low_bits reading header_of control_of unnumbered_of
 ua_begins = refl
 
 -- The packet link of the same TEI answers nothing.
-none_of_another : flat_map (answered_at Packet 64) (trace_of usual (up ++ pulls 2) 0) ≡ []
+none_of_another : flat_map (answered_at usual Packet 64) (trace_of usual (up ++ pulls 2) 0) ≡ []
 unfolding moments lines.after lines.answer lines.takes_slot teis.course teis.refusal low_bits reading header_of control_of unnumbered_of
 none_of_another = refl
 
@@ -31,7 +31,7 @@ none_of_another = refl
 abbrev unasked : List Seen
 unasked = begun (0x00 ∷ 0x81 ∷ 0x73 ∷ []) ∷ []
 
-is_answered : flat_map (answered_at Call 64) unasked ≡ mode true ∷ []
+is_answered : flat_map (answered_at usual Call 64) unasked ≡ mode true ∷ []
 unfolding reading header_of control_of unnumbered_of
 is_answered = refl
 

@@ -33,11 +33,11 @@ two_go = refl
 not-one : (n : ℕ) → 1 ≡ n % 128 → n ≤ 0 → ⊥
 not-one n is few = omega (arith, is, few)
 
-no_first : (end : Going) → Reaches Call 64 none_yet (granted (Data Call 64 (7 ∷ [])) ∷ begun (0x02 ∷ 0x81 ∷ 0x02 ∷ 0x00 ∷ 7 ∷ []) ∷ []) end → ⊥
+no_first : (end : Going) → Reaches usual Call 64 none_yet (granted (Data Call 64 (7 ∷ [])) ∷ begun (0x02 ∷ 0x81 ∷ 0x02 ∷ 0x00 ∷ 7 ∷ []) ∷ []) end → ⊥
 unfolding seq reading header_of control_of unnumbered_of
 no_first end law = let x = law.1.2.0 in not-one x.number x.ns x.next_or_again
 
-others : (end : Going) → Reaches Call 64 none_yet (granted (Data Call 64 (7 ∷ [])) ∷ begun (0x02 ∷ 0x81 ∷ 0x00 ∷ 0x00 ∷ 8 ∷ []) ∷ []) end → ⊥
+others : (end : Going) → Reaches usual Call 64 none_yet (granted (Data Call 64 (7 ∷ [])) ∷ begun (0x02 ∷ 0x81 ∷ 0x00 ∷ 0x00 ∷ 8 ∷ []) ∷ []) end → ⊥
 unfolding seq reading header_of control_of unnumbered_of
 others end law = let x = law.1.2.0 in go x.number x.next_or_again x.is
   where

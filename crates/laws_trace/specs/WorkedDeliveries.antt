@@ -33,23 +33,23 @@ abbrev pub up : List Seen
 up = sabme (EstablishIndication Call 64 ∷ [])
 
 -- Two contents are counted; a SABME that is told ends the count, and one that is not told (in states 5 and 6) does not.
-two : (fold (watch Call 64) nothing_yet (up ++ information 0 0xAB ++ information 1 0xCD)).count ≡ 2
+two : (fold (watch usual Call 64) nothing_yet (up ++ information 0 0xAB ++ information 1 0xCD)).count ≡ 2
 unfolding reading header_of control_of unnumbered_of
 two = refl
 
-none_again : (fold (watch Call 64) nothing_yet (up ++ information 0 0xAB ++ sabme (Error Call 64 F ∷ []))).count ≡ 0
+none_again : (fold (watch usual Call 64) nothing_yet (up ++ information 0 0xAB ++ sabme (Error Call 64 F ∷ []))).count ≡ 0
 unfolding reading header_of control_of unnumbered_of
 none_again = refl
 
-still_one : (fold (watch Call 64) nothing_yet (up ++ information 0 0xAB ++ sabme [])).count ≡ 1
+still_one : (fold (watch usual Call 64) nothing_yet (up ++ information 0 0xAB ++ sabme [])).count ≡ 1
 unfolding reading header_of control_of unnumbered_of
 still_one = refl
 
 -- What is told with no frame breaks the law; so does an I-frame that leaves a gap.
-unheard : AreHeard Call 64 nothing_yet (noted (Data Call 64 ∷ []) (Some (0xAB ∷ [])) ∷ []) → ⊥
+unheard : AreHeard usual Call 64 nothing_yet (noted (Data Call 64 ∷ []) (Some (0xAB ∷ [])) ∷ []) → ⊥
 unheard h = cc ((h.0.data_is refl).heard)
 
-gap : AreHeard Call 64 nothing_yet (up ++ information 1 0xAB) → ⊥
+gap : AreHeard usual Call 64 nothing_yet (up ++ information 1 0xAB) → ⊥
 unfolding seq reading header_of control_of unnumbered_of
 gap h =
     let x = h.1.1.1.1.0.data_is refl in
@@ -64,7 +64,7 @@ i_frame = hears 0x00 ∷ hears 0x02 ∷ hears 0x01 ∷ hears 0x00 ∷ hears 0x82
 abbrev of_i_frame : Seen
 of_i_frame = heard (stream.frame (0x00 ∷ 0x81 ∷ 0x00 ∷ 0x00 ∷ 0x41 ∷ []))
 
-none_before : (fold (watch Call 64) nothing_yet (trace_of usual (worked.up ++ i_frame) 0)).count ≡ 0
+none_before : (fold (watch usual Call 64) nothing_yet (trace_of usual (worked.up ++ i_frame) 0)).count ≡ 0
 unfolding moments lines.after lines.answer lines.takes_slot teis.course teis.refusal low_bits seq reading header_of control_of unnumbered_of
 none_before = refl
 

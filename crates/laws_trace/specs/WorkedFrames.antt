@@ -13,7 +13,7 @@ use Rattle.lapd_frame.specs.Grammar.{Parts, spelling}
 use Rattle.model_line.specs.Machine as lines
 use Rattle.model_card.specs.Run.{moments}
 use Rattle.laws_card.specs.Worked.{usual, on_0}
-use Rattle.laws_trace.specs.FramesAreRead.{IsNetworks}
+use Rattle.laws_trace.specs.FramesAreRead.{IsSpelled}
 use Rattle.laws_trace.specs.FramesGoOut.{GoOut}
 use Rattle.laws_trace.specs.Trace.{trace_of, frames_begun, octets_put}
 use Rattle.laws_trace.specs.UnitsAreHeard.{frames_heard}
@@ -53,12 +53,12 @@ is_not_all all = cc all
 unit_parts : ℕ → Parts
 unit_parts n = record { address = record { sapi = 0; command = true; tei = 127 }; control = Ui false; info = n ∷ [] }
 
-is_networks : (n : ℕ) → IsNetworks (spelled n)
+is_spelled : (n : ℕ) → IsSpelled usual (spelled n)
 unfolding unit_parts
-is_networks n = (unit_parts n, record { is_frame = record { sapi = lit< tt; tei = lit< tt; kind = refl; size = refl }; octets_are = refl })
+is_spelled n = (unit_parts n, record { is_frame = record { sapi = lit< tt; tei = lit< tt; kind = refl; size = refl }; octets_are = refl })
 
 -- Where two octets begin as a frame, or a number that is no octet, the laws are broken.
-no_frame : IsNetworks (0x02 ∷ 0xFF ∷ []) → ⊥
+no_frame : IsSpelled usual (0x02 ∷ 0xFF ∷ []) → ⊥
 no_frame (f, h) = none f.control h.octets_are
   where
     none : (k : Control) → (0x02 ∷ 0xFF ∷ []) ≡ spelling Network (record { address = f.address; control = k; info = f.info }) → ⊥

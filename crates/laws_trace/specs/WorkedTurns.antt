@@ -5,6 +5,7 @@ use Rattle.lapd_bits.specs.Bits.{low_bits}
 use Rattle.lapd_frame.specs.declared.services.Service.TheVariants.{Call, Packet}
 use Rattle.lapd_frame.specs.declared.timers.Timer.TheVariants.{T200}
 use Rattle.lapd_frame.specs.Reading.{reading, header_of, control_of, unnumbered_of}
+use Rattle.lapd_frame.specs.declared.addresses.Side.TheVariants.{Network}
 use Rattle.lapd_tei.specs.Events as teis
 use Rattle.model_line.specs.Event.{expiry}
 use Rattle.model_line.specs.Machine as lines
@@ -28,12 +29,12 @@ call = record { sapi = 0; tei = 64 }
 abbrev packet : LinkName
 packet = record { sapi = 16; tei = 64 }
 
-turns_taken : links_begun (trace 0 (moments (after_all (fresh usual) both_up) (pulls 16))) ≡ call ∷ packet ∷ call ∷ []
+turns_taken : links_begun usual (trace 0 (moments (after_all (fresh usual) both_up) (pulls 16))) ≡ call ∷ packet ∷ call ∷ []
 unfolding moments after_all lines.after lines.answer lines.takes_slot teis.course teis.refusal low_bits reading header_of control_of unnumbered_of
 turns_taken = refl
 
 -- An octet that comes meanwhile changes none of it.
-turns_taken_meanwhile : links_begun (trace 0 (moments (after_all (fresh usual) both_up) (pulls 4 ++ (hears 0x7E ∷ pulls 12)))) ≡ call ∷ packet ∷ call ∷ []
+turns_taken_meanwhile : links_begun usual (trace 0 (moments (after_all (fresh usual) both_up) (pulls 4 ++ (hears 0x7E ∷ pulls 12)))) ≡ call ∷ packet ∷ call ∷ []
 unfolding moments after_all lines.after lines.answer lines.takes_slot teis.course teis.refusal low_bits reading header_of control_of unnumbered_of
 turns_taken_meanwhile = refl
 
@@ -49,7 +50,7 @@ no_turns : TakeTurns (call ∷ call ∷ packet ∷ []) → ⊥
 no_turns law = let x = law call packet [] [] [] [] apart refl in none_among x.front x.back x.split
 
 -- A check of TEI management, unit data, and SABME, in this order, whatever was asked for first.
-in_their_order : map rank (frames_begun (trace 0 (moments (after_all (fresh usual) (on_0 (Assign 64) ∷ on_0 (Establish Call 64) ∷ on_0 (unit 1) ∷ on_0 (Check 64) ∷ [])) (pulls 22))))
+in_their_order : map (rank Network) (frames_begun (trace 0 (moments (after_all (fresh usual) (on_0 (Assign 64) ∷ on_0 (Establish Call 64) ∷ on_0 (unit 1) ∷ on_0 (Check 64) ∷ [])) (pulls 22))))
     ≡ 0 ∷ 1 ∷ 2 ∷ []
 unfolding moments after_all lines.after lines.answer lines.takes_slot teis.course teis.refusal low_bits reading header_of control_of unnumbered_of
 in_their_order = refl
@@ -58,6 +59,6 @@ in_their_order = refl
 abbrev sabme : List ℕ
 sabme = 0x02 ∷ 0x81 ∷ 0x7F ∷ []
 
-out_of_order : AreByRank (sabme ∷ spelled 1 ∷ []) → ⊥
+out_of_order : AreByRank Network (sabme ∷ spelled 1 ∷ []) → ⊥
 unfolding reading header_of control_of unnumbered_of
 out_of_order law = let high : 2 ≤ 1 = law sabme (spelled 1) [] [] [] refl in omega (arith, high)

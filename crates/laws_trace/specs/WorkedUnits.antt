@@ -37,11 +37,11 @@ none_elsewhere = refl
 abbrev three_units : List Event
 three_units = on_0 (Assign 64) ∷ on_0 (Check 64) ∷ on_0 (unit 1) ∷ on_0 (unit 2) ∷ on_0 (unit 3) ∷ pulls 22
 
-two_begin : units_begun (trace_of usual three_units 0) ≡ spelled 1 ∷ spelled 2 ∷ []
+two_begin : units_begun usual (trace_of usual three_units 0) ≡ spelled 1 ∷ spelled 2 ∷ []
 unfolding moments lines.after lines.answer lines.takes_slot teis.course teis.refusal low_bits reading header_of control_of unnumbered_of
 two_begin = refl
 
-three_granted : units_granted (trace_of usual three_units 0) ≡ spelled 1 ∷ spelled 2 ∷ spelled 3 ∷ []
+three_granted : units_granted usual (trace_of usual three_units 0) ≡ spelled 1 ∷ spelled 2 ∷ spelled 3 ∷ []
 unfolding moments lines.after lines.answer lines.takes_slot teis.course teis.refusal low_bits
 three_granted = refl
 
@@ -49,6 +49,6 @@ three_granted = refl
 abbrev second_destroyed : List Seen
 second_destroyed = granted (unit 1) ∷ granted (unit 2) ∷ granted (unit 3) ∷ begun (spelled 1) ∷ begun (spelled 3) ∷ []
 
-is_no_front : IsFront (units_begun second_destroyed) (units_granted second_destroyed) → ⊥
+is_no_front : IsFront (units_begun usual second_destroyed) (units_granted usual second_destroyed) → ⊥
 unfolding reading header_of control_of unnumbered_of
 is_no_front front = cc front.whole_is

@@ -38,9 +38,9 @@ pub fn frames_go_out()
     ensures { Always FramesGoOut }
 {}
 
-/// What begins on a line are frames. Each is one that the grammar has, as the network's (`grammar`), and, where the contents
-/// that were granted are octets, each 0 to 255, it consists of octets (`octets`), and a receiver hears it as it is (`heard`;
-/// Q.921 clauses 2 and 3).
+/// What begins on a line are frames. Each is one that the grammar has, as that of the card's side (`grammar`), and, where the
+/// contents that were granted are octets, each 0 to 255, it consists of octets (`octets`), and a receiver hears it as it is
+/// (`heard`; Q.921 clauses 2 and 3).
 pub fn frames_are_read()
     ensures grammar { Always FramesAreRead }
     ensures octets { Always FramesAreOctets }

@@ -50,7 +50,7 @@ refusal_with_pool c full (Release service tei) l = no_pool full (refusal c false
 refusal_with_pool c full (Data service tei contents) l =
     last_row full (bad_tei tei ∷ no_link tei l ∷ wrong_state service tei (link.Data contents) l ∷ too_long c contents ∷ queue_full c service tei l ∷ [])
 refusal_with_pool c full (Unit service tei contents) l =
-    last_row full (bad_tei_or_group tei ∷ no_link_nor_group tei l ∷ too_long c contents ∷ unit_queue_full c l ∷ [])
+    last_row full (bad_tei_or_group c tei ∷ no_link_nor_group tei l ∷ too_long c contents ∷ unit_queue_full c l ∷ [])
 refusal_with_pool c full (Assign tei) l = no_pool full (refusal c false (Assign tei) l)
 refusal_with_pool c full (Remove tei) l = no_pool full (refusal c false (Remove tei) l)
 refusal_with_pool c full (Check tei) l = no_pool full (refusal c false (Check tei) l)

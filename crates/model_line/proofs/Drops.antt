@@ -82,13 +82,14 @@ octet_leaves c value l cause h =
     let left = go (gained c.n201 l.received value) cause h in
     (ap told left.0, left.1)
   where
-    go : (o : Option stream.Event) → Leaves (with_received value l) (of_aim c (option_map_or (aim_of_heard l) o (at_none nothing)) (with_received value l))
+    go : (o : Option stream.Event) → Leaves (with_received value l) (of_aim c (option_map_or (aim_of_heard c l) o (at_none nothing)) (with_received value l))
     go None = λ cause h. absurd (none-some cause h)
     go (Some e) =
-        heard_aims l (λ aim. Leaves (with_received value l) (of_aim c aim (with_received value l)))
+        heard_aims c l (λ aim. Leaves (with_received value l) (of_aim c aim (with_received value l)))
         (λ why cause h. (ap dropped (ap (λ o. unwrap_or o why) h), refl))
         (λ service tei place what at. link_leaves c service tei place what (with_received value l))
-        (λ info. management_leaves c (teis.message info) (with_received value l)) e
+        (λ info. management_leaves c (teis.message info) (with_received value l))
+        (λ parts service to cause h. absurd (none-some cause h)) e
 
 -- and what may be sent does not depend on what was received
 pub named_cause : (o : Option Cause) → IsSome o → (cause : Cause) × (o ≡ Some cause)

@@ -52,16 +52,16 @@ heard_with_all n201 received (o ∷ octets) =
 -- ---- one octet
 
 record IsTold (c : Config) (o : ℕ) (l : Line) (e : Option stream.Event) : Type 0 where
-  answer : lines.answer c (octet o) l ≡ told (of_aim c (option_map_or (aim_of_heard l) e (at_none nothing)) l).told
-  line : lines.after c (octet o) l ≡ receiving (l.received ++ o ∷ []) (of_aim c (option_map_or (aim_of_heard l) e (at_none nothing)) l).line
+  answer : lines.answer c (octet o) l ≡ told (of_aim c (option_map_or (aim_of_heard c l) e (at_none nothing)) l).told
+  line : lines.after c (octet o) l ≡ receiving (l.received ++ o ∷ []) (of_aim c (option_map_or (aim_of_heard c l) e (at_none nothing)) l).line
 
 is_told : (c : Config) (o : ℕ) (l : Line) (e : Option stream.Event) → gained c.n201 l.received o ≡ e → IsTold c o l e
 unfolding lines.answer lines.after
 is_told c o l e is =
     let received = l.received ++ o ∷ [] in
-    let aim = option_map_or (aim_of_heard l) e (at_none nothing) in
+    let aim = option_map_or (aim_of_heard c l) e (at_none nothing) in
     let same =
-    ap (λ g. of_aim c (option_map_or (aim_of_heard l) g (at_none nothing)) (receiving received l)) is
+    ap (λ g. of_aim c (option_map_or (aim_of_heard c l) g (at_none nothing)) (receiving received l)) is
     ∙ aim_same c aim received l in
     record { answer = ap (λ out. told out.told) same; line = ap (λ out. out.line) same }
 
@@ -99,7 +99,7 @@ no_frame c l (o ∷ octets) none = go (gained c.n201 l.received o) refl none (no
 
 of_heard_same : (c : Config) (e : stream.Event) (r : List ℕ) (l : Line) → of_heard c e (receiving r l) ≡ effect_receiving r (of_heard c e l)
 of_heard_same c e r l =
-    ap (λ aim. of_aim c aim (receiving r l)) (heard_same r l e) ∙ aim_same c (aim_of_heard l e) r l
+    ap (λ aim. of_aim c aim (receiving r l)) (heard_same c r l e) ∙ aim_same c (aim_of_heard c l e) r l
 
 head_is : (x e : stream.Event) (more : List stream.Event) → x ∷ more ≡ e ∷ [] → (x ≡ e) × (more ≡ [])
 head_is x e more is = (cc, cc)

@@ -4,7 +4,6 @@ use Rattle.std.specs.Prelude.{◌==◌, Bool, true, false}
 use Rattle.lapd_bits.specs.Stream as stream
 use Rattle.lapd_bits.specs.declared.heard.Cause.TheVariants.{Tei}
 use Rattle.lapd_frame.specs.declared.addresses.Address.{Address}
-use Rattle.lapd_frame.specs.declared.addresses.Side.TheVariants.{User}
 use Rattle.lapd_frame.specs.declared.faults.ReadFault.{ReadFault}
 use Rattle.lapd_frame.specs.declared.faults.ReadFault.TheVariants.{BadExtension, Undefined, WrongSize, Short}
 use Rattle.lapd_frame.specs.declared.overlong.Long.{Long}
@@ -24,7 +23,8 @@ use Rattle.model_line.specs.Line.{Line}
 use Rattle.model_line.specs.Effect.{Effect, Aim, at_none, at_link, at_management, at_units, told_of_management, of_change, of_management, of_aim}
 use Rattle.model_line.specs.Expiry.{aim_of_expiry}
 use Rattle.model_line.specs.Machine as lines
-use Rattle.model_line.specs.Octet.{drop_for, group_tei, management_sapi, at_place, to_service, addressed, message_of, aim_of_reading, unless_at_link, aim_of_long, aim_of_heard}
+use Rattle.model_line.specs.Octet.{drop_for, group_tei, management_sapi, at_place, to_service, addressed, message_of, aim_of_reading, unless_at_link, aim_of_long, heard_side, aim_of_heard}
+use Rattle.model_line.specs.Sides.{at_side}
 use Rattle.model_line.specs.Pull.{Taken, taken, is_due, with_item, with_due}
 use Rattle.model_line.specs.Refusal.{refusal}
 use Rattle.model_line.specs.Requested.{aim_of_request}
@@ -34,7 +34,7 @@ use Rattle.model_line.proofs.FramesTaken.{taken_keeps}
 
 -- ---- what is heard is the same event of a part
 
-module _ (r : List ℕ) (l : Line) where
+module _ (c : Config) (r : List ℕ) (l : Line) where
   service_same : (tei : ℕ) (what : link.Received) (o : Option Service) → to_service (receiving r l) tei what o ≡ to_service l tei what o
   service_same tei what None = refl
   service_same tei what (Some service) = refl
@@ -44,8 +44,8 @@ module _ (r : List ℕ) (l : Line) where
       ap (λ x. if a.sapi == management_sapi then (if a.tei == group_tei then managed else drop_for Tei) else x)
       (service_same a.tei what (service_of a.sapi))
 
-  reading_same : (o : Result Parts ReadFault) → aim_of_reading (receiving r l) o ≡ aim_of_reading l o
-  reading_same (Ok parts) = address_same parts.address (link.frame parts) (message_of parts.control parts.info)
+  reading_same : (o : Result Parts ReadFault) → aim_of_reading c (receiving r l) o ≡ aim_of_reading c l o
+  reading_same (Ok parts) = ap (at_side c parts) (address_same parts.address (link.frame parts) (message_of parts.control parts.info))
   reading_same (Err BadExtension) = refl
   reading_same (Err (Undefined a)) = address_same a link.undefined _
   reading_same (Err (WrongSize a)) = address_same a link.wrong_size _
@@ -59,9 +59,9 @@ module _ (r : List ℕ) (l : Line) where
   long_same (Err (WrongSize a)) = address_same a link.wrong_size _
   long_same (Err Short) = refl
 
-  pub heard_same : (e : stream.Event) → aim_of_heard (receiving r l) e ≡ aim_of_heard l e
-  heard_same (stream.frame octets) = reading_same (reading User octets)
-  heard_same (stream.overlong head) = long_same (long_reading User head)
+  pub heard_same : (e : stream.Event) → aim_of_heard c (receiving r l) e ≡ aim_of_heard c l e
+  heard_same (stream.frame octets) = reading_same (reading (heard_side c) octets)
+  heard_same (stream.overlong head) = long_same (long_reading (heard_side c) head)
   heard_same (stream.dropped cause) = refl
 
 -- ---- and no part knows what was received

@@ -17,25 +17,25 @@ abbrev pub taken_moved : List ℕ → List ℕ → Taken → Taken
 taken_moved r g t = record t { line = moved r g t.line }
 
 module _ (c : Config) (r g : List ℕ) (l : Line) where
-  message_same : message_taken (moved r g l) ≡ option_map (taken_moved r g) (message_taken l)
-  message_same = go (teis.offered l.management)
+  message_same : message_taken c (moved r g l) ≡ option_map (taken_moved r g) (message_taken c l)
+  message_same = go (teis.offered c.side l.management)
     where
       go : (o : Option (List ℕ)) → option_map (with_message (moved r g l)) o ≡ option_map (taken_moved r g) (option_map (with_message l) o)
       go None = refl
       go (Some x) = refl
 
-  unit_same : unit_taken (moved r g l) ≡ option_map (taken_moved r g) (unit_taken l)
+  unit_same : unit_taken c (moved r g l) ≡ option_map (taken_moved r g) (unit_taken c l)
   unit_same = go (slice_get l.units 0)
     where
-      go : (o : Option UnitData) → option_map (with_unit (moved r g l)) o ≡ option_map (taken_moved r g) (option_map (with_unit l) o)
+      go : (o : Option UnitData) → option_map (with_unit c (moved r g l)) o ≡ option_map (taken_moved r g) (option_map (with_unit c l) o)
       go None = refl
       go (Some x) = refl
 
   link_same : (number : ℕ) → link_taken c (moved r g l) number ≡ option_map (taken_moved r g) (link_taken c l number)
   link_same number = go (links.given (terms_at c number l) (link_at number l))
     where
-      go : (o : Option Given) → option_map (with_given_frame (moved r g l) number (terms_at c number l)) o
-          ≡ option_map (taken_moved r g) (option_map (with_given_frame l number (terms_at c number l)) o)
+      go : (o : Option Given) → option_map (with_given_frame c (moved r g l) number (terms_at c number l)) o
+          ≡ option_map (taken_moved r g) (option_map (with_given_frame c l number (terms_at c number l)) o)
       go None = refl
       go (Some x) = refl
 
@@ -57,9 +57,9 @@ module _ (c : Config) (r g : List ℕ) (l : Line) where
   taken_same =
       let first = first_taken c l (round c l) in
       let first' = first_taken c (moved r g l) (round c l) in
-      either_same (message_taken l) (option_or (unit_taken l) first) (message_taken (moved r g l)) (option_or (unit_taken (moved r g l)) first')
+      either_same (message_taken c l) (option_or (unit_taken c l) first) (message_taken c (moved r g l)) (option_or (unit_taken c (moved r g l)) first')
       message_same
-      (either_same (unit_taken l) first (unit_taken (moved r g l)) first' unit_same (first_same (round c l)))
+      (either_same (unit_taken c l) first (unit_taken c (moved r g l)) first' unit_same (first_same (round c l)))
 
 -- so what is taken leaves what was received and given as it was
 own : (c : Config) (l : Line) (t : Taken) → taken c l ≡ Some t → Some t ≡ Some (taken_moved l.received l.given t)

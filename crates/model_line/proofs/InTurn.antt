@@ -50,10 +50,10 @@ module _ (c : Config) (l : Line) where
   turned : (number : ℕ) (t : Taken) → link_taken c l number ≡ Some t → t.line.turn ≡ number + 1
   turned number t e = go (links.given (terms_at c number l) (link_at number l)) e
     where
-      go : (o : Option Given) → option_map (with_given_frame l number (terms_at c number l)) o ≡ Some t → t.line.turn ≡ number + 1
+      go : (o : Option Given) → option_map (with_given_frame c l number (terms_at c number l)) o ≡ Some t → t.line.turn ≡ number + 1
       go None e = cc
       go (Some g) e =
-          let same : with_given_frame l number (terms_at c number l) g ≡ t = cc in
+          let same : with_given_frame c l number (terms_at c number l) g ≡ t = cc in
           sym (ap (λ u. u.line.turn) same)
 
   takes : (message unit links : Option Taken) (t : Taken) → message ≡ None → unit ≡ None → option_or message (option_or unit links) ≡ Some t → links ≡ Some t
@@ -63,5 +63,5 @@ module _ (c : Config) (l : Line) where
 
 pub links_take_turns : LinksTakeTurns
 links_take_turns c l t message unit e =
-    let f = first c l (round c l) t (takes c l (message_taken l) (unit_taken l) (first_taken c l (round c l)) t message unit e) in
+    let f = first c l (round c l) t (takes c l (message_taken c l) (unit_taken c l) (first_taken c l (round c l)) t message unit e) in
     (f.number, record { before = f.before; behind = f.behind; place = f.place; passed = f.passed; given = f.given; turn = turned c l f.number t f.given })

@@ -2,6 +2,7 @@ pub mod Ranges
 pub mod Numbers
 pub mod LinksSound
 pub mod AimsSound
+pub mod Sides
 pub mod ProperAims
 pub mod Offered
 pub mod PullSound

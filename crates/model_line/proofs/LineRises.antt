@@ -68,13 +68,13 @@ received_costs c l service tei place what = go (rises.rejects (link.received wha
     go true = omega (arith, window_most c service)
     go false = omega arith
 
-heard_costs : (c : Config) (l : Line) (e : stream.Event) → CostsAsFrame c l (aim_of_heard l e)
+heard_costs : (c : Config) (l : Line) (e : stream.Event) → CostsAsFrame c l (aim_of_heard c l e)
 heard_costs c l e =
-    heard_aims l (CostsAsFrame c l) (λ what. omega arith) (λ service tei place what at. received_costs c l service tei place what)
-    (λ info. omega arith) e
+    heard_aims c l (CostsAsFrame c l) (λ what. omega arith) (λ service tei place what at. received_costs c l service tei place what)
+    (λ info. omega arith) (λ parts service to. omega arith) e
 
 event_costs : (c : Config) (l : Line) (o : Option stream.Event)
-    → let aim = option_map_or (aim_of_heard l) o (at_none nothing) in
+    → let aim = option_map_or (aim_of_heard c l) o (at_none nothing) in
     price_at c l aim ≤ 2 * count_by is_frame (option_to_list o) + max c.k c.k16 * one (rejects_aimed l aim)
 event_costs c l None = omega arith
 event_costs c l (Some (stream.frame octets)) = heard_costs c l (stream.frame octets)
@@ -88,7 +88,7 @@ octet_costs c l value =
     let b = brings c l value in
     let costs = event_costs c l b.event in
     let at : Option stream.Event → Type 0 = λ o.
-    let aim = option_map_or (aim_of_heard l) o (at_none nothing) in
+    let aim = option_map_or (aim_of_heard c l) o (at_none nothing) in
     price_at c l aim ≤ 2 * count_by is_frame (option_to_list b.event) + max c.k c.k16 * one (rejects_aimed l aim) in
     let here : price_at c l (aim_of_octet c value l) ≤ 2 * count_by is_frame (option_to_list b.event) + max c.k c.k16 * one (rejects_aimed l (aim_of_octet c value l)) =
     subst at (sym b.gains) costs in

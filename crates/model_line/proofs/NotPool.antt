@@ -8,7 +8,7 @@ use Rattle.model_line.specs.Counts.{is_pool, is_pool_full}
 use Rattle.model_line.specs.Line.{Line}
 use Rattle.model_line.specs.Machine.{answer, unless_refused_told, of_request}
 use Rattle.model_line.specs.Effect.{Effect}
-use Rattle.model_line.specs.Refusal.{Row, first_that_holds, bad_tei, no_link, bad_tei_or_group, no_link_nor_group, wrong_state, too_long, queue_full, unit_queue_full, pool_full, tei_taken, table_full, check_running, control_full, refusal}
+use Rattle.model_line.specs.Refusal.{Row, first_that_holds, bad_tei, no_link, bad_tei_or_group, wrong_side, no_link_nor_group, wrong_state, too_long, queue_full, unit_queue_full, pool_full, tei_taken, table_full, check_running, control_full, refusal}
 use Rattle.model_line.specs.Request.{Request, Establish, Release, Data, Unit, Assign, Remove, Check, SetBusy, ClearBusy}
 
 -- The refusal is for another reason.
@@ -40,19 +40,21 @@ refused_otherwise c (Data service tei contents) l =
     (other_row (too_long c contents) last refl (other_row (queue_full c service tei l) (pool_full false ∷ []) refl 0))))
 refused_otherwise c (Unit service tei contents) l =
     let last = unit_queue_full c l ∷ pool_full false ∷ [] in
-    other_row (bad_tei_or_group tei) (no_link_nor_group tei l ∷ too_long c contents ∷ last) refl
+    other_row (bad_tei_or_group c tei) (no_link_nor_group tei l ∷ too_long c contents ∷ last) refl
     (other_row (no_link_nor_group tei l) (too_long c contents ∷ last) refl
     (other_row (too_long c contents) last refl (other_row (unit_queue_full c l) (pool_full false ∷ []) refl 0)))
 refused_otherwise c (Assign tei) l =
     other_row (bad_tei tei) (tei_taken tei l ∷ table_full l ∷ []) refl
     (other_row (tei_taken tei l) (table_full l ∷ []) refl (other_row (table_full l) [] refl 0))
 refused_otherwise c (Remove tei) l =
-    other_row (bad_tei tei) (no_link tei l ∷ control_full l ∷ []) refl
-    (other_row (no_link tei l) (control_full l ∷ []) refl (other_row (control_full l) [] refl 0))
+    other_row (wrong_side c) (bad_tei tei ∷ no_link tei l ∷ control_full l ∷ []) refl
+    (other_row (bad_tei tei) (no_link tei l ∷ control_full l ∷ []) refl
+    (other_row (no_link tei l) (control_full l ∷ []) refl (other_row (control_full l) [] refl 0)))
 refused_otherwise c (Check tei) l =
-    other_row (bad_tei tei) (no_link tei l ∷ check_running l ∷ control_full l ∷ []) refl
+    other_row (wrong_side c) (bad_tei tei ∷ no_link tei l ∷ check_running l ∷ control_full l ∷ []) refl
+    (other_row (bad_tei tei) (no_link tei l ∷ check_running l ∷ control_full l ∷ []) refl
     (other_row (no_link tei l) (check_running l ∷ control_full l ∷ []) refl
-    (other_row (check_running l) (control_full l ∷ []) refl (other_row (control_full l) [] refl 0)))
+    (other_row (check_running l) (control_full l ∷ []) refl (other_row (control_full l) [] refl 0))))
 refused_otherwise c (SetBusy service tei) l =
     other_row (bad_tei tei) (no_link tei l ∷ wrong_state service tei link.SetBusy l ∷ []) refl
     (other_row (no_link tei l) (wrong_state service tei link.SetBusy l ∷ []) refl (other_row (wrong_state service tei link.SetBusy l) [] refl 0))

@@ -172,9 +172,9 @@ brings_none r r' a d z none same nothing_delivered goes_on =
 begins_anew : (r r' : ℕ) (a : Option arrivals.Arrived) (d : Option (List ℕ)) (z : Bool) → r' ≡ 0 → d ≡ None → z ≡ true → Part r a r' d z
 begins_anew r r' a d z number none begins = inr (record { number = number; delivered = none; begins = begins })
 
--- what is told where nothing is heard or what is heard is dropped
+-- No link delivers what is told where no part is concerned.
 abbrev pub HasNoContents : Aim → Type 0
-HasNoContents (at_none t) = t.contents ≡ None
+HasNoContents (at_none t) = (service : Service) (tei : ℕ) → delivered_in service tei (told t) ≡ None
 HasNoContents (at_link service tei place event) = Unit {0}
 HasNoContents (at_management event) = Unit {0}
 HasNoContents (at_units unit) = Unit {0}
@@ -258,7 +258,7 @@ module _ (c : Config) (l : Line) (s : IsSound c l) (received : List ℕ) (number
       place_parts place (of_change c (Some (Left tei place)) r (record now { management = m })).told moves.within none (place == place_at number) refl
 
   pub aim_parts : (aim : Aim) → IsProper c l aim → HasNoContents aim → Parts aim
-  aim_parts (at_none t) proper none = brings_none _ _ _ _ _ refl refl (none_at number l (told t) (λ service tei. none_in service tei t none)) refl
+  aim_parts (at_none t) proper none = brings_none _ _ _ _ _ refl refl (none_at number l (told t) none) refl
   aim_parts (at_link service tei place e) proper none = at_its_link service tei place e proper
   aim_parts (at_management e) proper none =
       change_parts (teis.told e l.management).change (told_of_management (teis.told e l.management)) (teis.after e l.management).places

@@ -33,12 +33,14 @@ use Rattle.model_line.proofs.ProperAims.{heard_aims, octet_proper, expiry_proper
 octet_none : (c : Config) (l : Line) (value : ℕ) → HasNoContents (aim_of_octet c value l)
 octet_none c l value = go (gained c.n201 l.received value)
   where
-    go : (o : Option stream.Event) → HasNoContents (option_map_or (aim_of_heard l) o (at_none nothing))
-    go None = refl
-    go (Some e) = heard_aims l HasNoContents (λ cause. refl) (λ service tei place what at. tt) (λ info. tt) e
+    go : (o : Option stream.Event) → HasNoContents (option_map_or (aim_of_heard c l) o (at_none nothing))
+    go None = λ service tei. refl
+    go (Some e) =
+        heard_aims c l HasNoContents (λ cause service tei. refl) (λ service tei place what at. tt) (λ info. tt)
+        (λ parts service to by tei. refl) e
 
 timer_none : (service : Service) (tei : ℕ) (timer : LinkTimer) (o : Option ℕ) → HasNoContents (at_timer service tei timer o)
-timer_none service tei timer None = refl
+timer_none service tei timer None = λ by n. refl
 timer_none service tei timer (Some place) = tt
 
 expiry_none : (l : Line) (timer : Timer) → HasNoContents (aim_of_expiry timer l)
@@ -47,7 +49,7 @@ expiry_none l (T203 service tei) = timer_none service tei link_timer.T203 (place
 expiry_none l T201 = tt
 
 requested_none : (service : Service) (tei : ℕ) (what : link.Request) (o : Option ℕ) → HasNoContents (at_requested service tei what o)
-requested_none service tei what None = refl
+requested_none service tei what None = λ by n. refl
 requested_none service tei what (Some place) = tt
 
 request_none : (l : Line) (r : Request) → HasNoContents (aim_of_request r l)
@@ -83,7 +85,7 @@ first_of P (Some t) rest h h' = h
 link_keeps : (c : Config) (l : Line) (number n : ℕ) → IfSome (link_taken c l n) (KeepsR l number)
 link_keeps c l number n =
     let t = terms_at c n l in
-    mapped (with_given_frame l n t) (KeepsR l number) (links.given t (link_at n l))
+    mapped (with_given_frame c l n t) (KeepsR l number) (links.given t (link_at n l))
     (λ g. set_keeps_r l.links n number (links.after t link.offer (link_at n l)) (offer-keeps-r t (link_at n l)))
 
 links_keep : (c : Config) (l : Line) (number : ℕ) (ns : List ℕ) → IfSome (first_taken c l ns) (KeepsR l number)
@@ -93,9 +95,9 @@ links_keep c l number (n ∷ ns) =
 
 taken_keeps : (c : Config) (l : Line) (number : ℕ) → IfSome (taken c l) (KeepsR l number)
 taken_keeps c l number =
-    first_of (KeepsR l number) (message_taken l) (option_or (unit_taken l) (first_taken c l (round c l)))
+    first_of (KeepsR l number) (message_taken c l) (option_or (unit_taken c l) (first_taken c l (round c l)))
     (mapped (with_message l) (KeepsR l number) _ (λ octets. refl))
-    (first_of (KeepsR l number) (unit_taken l) (first_taken c l (round c l)) (mapped (with_unit l) (KeepsR l number) _ (λ u. refl))
+    (first_of (KeepsR l number) (unit_taken c l) (first_taken c l (round c l)) (mapped (with_unit c l) (KeepsR l number) _ (λ u. refl))
     (links_keep c l number (round c l)))
 
 pull_keeps : (c : Config) (l : Line) (number : ℕ) → (link_at number (after_pull c l)).r ≡ (link_at number l).r

@@ -4,7 +4,6 @@ use Rattle.std.specs.Prelude.{All}
 use Rattle.std.specs.Option.{unwrap_or}
 use Rattle.std.proofs.lemmas.List.Elements.{All-head, All-get_or}
 use Rattle.std.proofs.lemmas.Option.{slice_get_cases}
-use Rattle.lapd_frame.specs.declared.addresses.Side.TheVariants.{Network}
 use Rattle.lapd_frame.specs.Grammar.{spelling}
 use Rattle.model_link.specs.declared.frames.ControlFrame.{ControlFrame}
 use Rattle.model_link.specs.declared.terms.Terms.{Terms}
@@ -16,14 +15,15 @@ use Rattle.model_link.specs.Sound.{IsSound, IsWaitingFrame}
 use Rattle.model_link.specs.Steps.{Course, Sent, begun, ◌then◌, changed}
 use Rattle.model_link.specs.Words.{pending_is, start}
 use Rattle.model_link.specs.declared.timers.LinkTimer.TheVariants.{T200}
+use Rattle.model_line.specs.declared.config.Config.{Config}
 use Rattle.model_line.specs.Pull.{frame_of}
 
-abbrev octets_sent : Terms → Sent → List ℕ
-octets_sent t s =
-    spelling Network (record { address = address_at t s.frame.command; control = s.frame.control; info = unwrap_or s.contents [] })
+abbrev octets_sent : Config → Terms → Sent → List ℕ
+octets_sent c t s =
+    spelling c.side (record { address = address_at t s.frame.command; control = s.frame.control; info = unwrap_or s.contents [] })
 
-abbrev IsShort : Terms → Sent → Type 0
-IsShort t s = length (octets_sent t s) ≤ t.n201 + 4
+abbrev IsShort : Config → Terms → Sent → Type 0
+IsShort c t s = length (octets_sent c t s) ≤ t.n201 + 4
 
 -- the contents of an I-frame
 contents_short : (t : Terms) (l : Link) → IsSound t l → length (unwrap_or (slice_get l.contents l.s) []) ≤ t.n201
@@ -36,31 +36,31 @@ contents_short t l s =
     (λ past. subst (λ o. length (unwrap_or o []) ≤ t.n201) (sym past.1) (omega arith))
     (slice_get_cases l.contents l.s).1
 
-information_short : (t : Terms) (l : Link) → IsSound t l
-    → length (spelling Network (record { address = address_at t true; control = (next_information l).control; info = unwrap_or (slice_get l.contents l.s) [] })) ≤ t.n201 + 4
-information_short t l s = omega (arith, contents_short t l s)
+information_short : (c : Config) (t : Terms) (l : Link) → IsSound t l
+    → length (spelling c.side (record { address = address_at t true; control = (next_information l).control; info = unwrap_or (slice_get l.contents l.s) [] })) ≤ t.n201 + 4
+information_short c t l s = omega (arith, contents_short t l s)
 
-sent_short : (t : Terms) (l : Link) → IsSound t l → (ws : List ControlFrame) → All (IsWaitingFrame t) ws
-    → IfSome (offer_among t ws (begun l)).sent (IsShort t)
-sent_short t l s (f ∷ fs) frames = omega (arith, (All-head (IsWaitingFrame t) f fs frames).octets)
-sent_short t l s [] frames = go (may_send_information t l) l.pending
+sent_short : (c : Config) (t : Terms) (l : Link) → IsSound t l → (ws : List ControlFrame) → All (IsWaitingFrame t) ws
+    → IfSome (offer_among t ws (begun l)).sent (IsShort c t)
+sent_short c t l s (f ∷ fs) frames = omega (arith, (All-head (IsWaitingFrame t) f fs frames).octets)
+sent_short c t l s [] frames = go (may_send_information t l) l.pending
   where
-    either : (b : Bool) (d : Course) → IfSome d.sent (IsShort t) → IfSome (cond b d (start T200 d)).sent (IsShort t)
+    either : (b : Bool) (d : Course) → IfSome d.sent (IsShort c t) → IfSome (cond b d (start T200 d)).sent (IsShort c t)
     either true d h = h
     either false d h = h
 
-    go : (may pending : Bool) → IfSome (cond may (send_information (begun l)) (cond pending (send_acknowledgement (begun l)) (begun l))).sent (IsShort t)
+    go : (may pending : Bool) → IfSome (cond may (send_information (begun l)) (cond pending (send_acknowledgement (begun l)) (begun l))).sent (IsShort c t)
     go true pending =
         let given = (give_information then changed with_one_sent then pending_is false) (begun l) in
-        either (is_awaiting_acknowledgement given.link) given (information_short t l s)
+        either (is_awaiting_acknowledgement given.link) given (information_short c t l s)
     go false true = omega arith
     go false false = tt
 
 -- what a link gives
-pub given_short : (t : Terms) (l : Link) → IsSound t l → IfSome (given t l) (λ g. length (frame_of t g) ≤ t.n201 + 4)
-given_short t l s = go (course t offer l).sent (sent_short t l s l.waiting s.frames)
+pub given_short : (c : Config) (t : Terms) (l : Link) → IsSound t l → IfSome (given t l) (λ g. length (frame_of c t g) ≤ t.n201 + 4)
+given_short c t l s = go (course t offer l).sent (sent_short c t l s l.waiting s.frames)
   where
-    go : (o : Option Sent) → IfSome o (IsShort t) → IfSome (given_of t l (course t offer l) o) (λ g. length (frame_of t g) ≤ t.n201 + 4)
+    go : (o : Option Sent) → IfSome o (IsShort c t) → IfSome (given_of t l (course t offer l) o) (λ g. length (frame_of c t g) ≤ t.n201 + 4)
     go None h = tt
     go (Some sent) h = h
 

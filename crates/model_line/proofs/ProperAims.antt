@@ -6,7 +6,6 @@ use Rattle.lapd_bits.specs.Stream as stream
 use Rattle.lapd_bits.specs.declared.heard.Cause.{Cause}
 use Rattle.lapd_bits.specs.declared.heard.Cause.TheVariants.{Tei, Unserved}
 use Rattle.lapd_frame.specs.declared.addresses.Address.{Address}
-use Rattle.lapd_frame.specs.declared.addresses.Side.TheVariants.{User}
 use Rattle.lapd_frame.specs.declared.controls.Control.{Control}
 use Rattle.lapd_frame.specs.declared.controls.Control.TheVariants as control
 use Rattle.lapd_frame.specs.declared.faults.ReadFault.{ReadFault}
@@ -30,17 +29,20 @@ use Rattle.model_line.specs.Event.{nothing}
 use Rattle.model_line.specs.Line.{Line, place_in}
 use Rattle.model_line.specs.Request.{Request, Establish, Release, Data, Unit, Assign, Remove, Check, SetBusy, ClearBusy}
 use Rattle.model_line.specs.Effect.{Aim, at_none, at_link, at_management, at_units}
-use Rattle.model_line.specs.Octet.{gained, management_sapi, group_tei, drop_for, at_place, to_service, addressed, message_of, aim_of_reading, unless_at_link, aim_of_long, aim_of_heard, aim_of_octet}
+use Rattle.model_line.specs.Octet.{gained, management_sapi, group_tei, drop_for, at_place, to_service, addressed, message_of, aim_of_reading, unless_at_link, aim_of_long, heard_side, aim_of_heard, aim_of_octet}
+use Rattle.model_line.specs.Sides.{group_told, IsToGroup}
 use Rattle.model_line.specs.Expiry.{at_timer, aim_of_expiry}
 use Rattle.model_line.specs.Requested.{at_requested, aim_of_request}
 use Rattle.model_line.specs.Refusal.{refusal}
 use Rattle.model_line.specs.Machine.{unless_refused}
 use Rattle.model_line.proofs.AimsSound.{IsProper}
+use Rattle.model_line.proofs.Sides.{side_aims, unit_tei}
 
 -- What holds of the aims that frames have: none, a link of a TEI on the line, or TEI management.
-module _ (l : Line) (P : Aim → Type 0) (none : (cause : Cause) → P (drop_for cause))
+module _ (c : Config) (l : Line) (P : Aim → Type 0) (none : (cause : Cause) → P (drop_for cause))
     (to_its_link : (service : Service) (tei place : ℕ) (what : link.Received) → place_in l tei ≡ Some place → P (at_link service tei place (link.received what)))
-    (to_management : (info : List ℕ) → P (at_management (teis.message info))) where
+    (to_management : (info : List ℕ) → P (at_management (teis.message info)))
+    (to_group : (parts : Parts) (service : Service) → IsToGroup c parts service → P (at_none (group_told service parts.info))) where
   at_place_aims : (service : Service) (tei : ℕ) (what : link.Received) (o : Option ℕ) → place_in l tei ≡ o → P (at_place service tei what o)
   at_place_aims service tei what None e = none _
   at_place_aims service tei what (Some place) e = to_its_link service tei place what e
@@ -70,8 +72,10 @@ module _ (l : Line) (P : Aim → Type 0) (none : (cause : Cause) → P (drop_for
   message_aims (control.Frmr f) info = none _
   message_aims (control.Xid pf) info = none _
 
-  reading_aims : (r : Result Parts ReadFault) → P (aim_of_reading l r)
-  reading_aims (Ok parts) = addressed_aims parts.address (link.frame parts) (message_of parts.control parts.info) (message_aims parts.control parts.info)
+  reading_aims : (r : Result Parts ReadFault) → P (aim_of_reading c l r)
+  reading_aims (Ok parts) =
+      side_aims c parts P (none _) (to_group parts) (addressed l parts.address (link.frame parts) (message_of parts.control parts.info))
+      (addressed_aims parts.address (link.frame parts) (message_of parts.control parts.info) (message_aims parts.control parts.info))
   reading_aims (Err BadExtension) = none _
   reading_aims (Err (Undefined address)) = addressed_aims address link.undefined (drop_for Unserved) (none _)
   reading_aims (Err (WrongSize address)) = addressed_aims address link.wrong_size (drop_for Unserved) (none _)
@@ -92,20 +96,20 @@ module _ (l : Line) (P : Aim → Type 0) (none : (cause : Cause) → P (drop_for
   long_aims (Err (WrongSize address)) = addressed_aims address link.wrong_size (drop_for Unserved) (none _)
   long_aims (Err Short) = none _
 
-  pub heard_aims : (e : stream.Event) → P (aim_of_heard l e)
-  heard_aims (stream.frame octets) = reading_aims (reading User octets)
-  heard_aims (stream.overlong head) = long_aims (long_reading User head)
+  pub heard_aims : (e : stream.Event) → P (aim_of_heard c l e)
+  heard_aims (stream.frame octets) = reading_aims (reading (heard_side c) octets)
+  heard_aims (stream.overlong head) = long_aims (long_reading (heard_side c) head)
   heard_aims (stream.dropped cause) = none _
 
 module _ (c : Config) (l : Line) where
   pub octet_proper : (value : ℕ) → IsProper c l (aim_of_octet c value l)
   octet_proper value = go (gained c.n201 l.received value)
     where
-      go : (o : Option stream.Event) → IsProper c l (option_map_or (aim_of_heard l) o (at_none nothing))
+      go : (o : Option stream.Event) → IsProper c l (option_map_or (aim_of_heard c l) o (at_none nothing))
       go None = tt
       go (Some e) =
-          heard_aims l (IsProper c l) (λ what. tt) (λ service tei place what at. (place_of-is l.management.places tei place at).1)
-          (λ info. tt) e
+          heard_aims c l (IsProper c l) (λ what. tt) (λ service tei place what at. (place_of-is l.management.places tei place at).1)
+          (λ info. tt) (λ parts service to. tt) e
 
   timer_proper : (service : Service) (tei : ℕ) (timer : LinkTimer) (o : Option ℕ) → place_in l tei ≡ o → IsProper c l (at_timer service tei timer o)
   timer_proper service tei timer None e = tt
@@ -137,10 +141,10 @@ module _ (c : Config) (l : Line) where
       let unknown = skipped _ _ _ bad.1 in
       let long = skipped _ _ _ unknown.1 in
       let full = skipped _ _ _ long.1 in
-      (record { tei = low 127 tei bad.0; size = low c.n201 (length contents) long.0 }, leb-false c.unit_queue (length l.units) full.0)
+      (record { tei = unit_tei c.side tei bad.0; size = low c.n201 (length contents) long.0 }, leb-false c.unit_queue (length l.units) full.0)
   granted_proper (Assign tei) e = low 126 tei (skipped _ _ _ e).0
-  granted_proper (Remove tei) e = low 126 tei (skipped _ _ _ e).0
-  granted_proper (Check tei) e = low 126 tei (skipped _ _ _ e).0
+  granted_proper (Remove tei) e = low 126 tei (skipped _ _ _ (skipped _ _ _ e).1).0
+  granted_proper (Check tei) e = low 126 tei (skipped _ _ _ (skipped _ _ _ e).1).0
   granted_proper (SetBusy service tei) e = requested_proper service tei link.SetBusy (place_in l tei) refl
   granted_proper (ClearBusy service tei) e = requested_proper service tei link.ClearBusy (place_in l tei) refl
 

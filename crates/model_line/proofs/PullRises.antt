@@ -27,22 +27,22 @@ use Rattle.model_line.proofs.Ranges.{terms_in_range}
 abbrev pub TakesOne : Config → Line → Taken → Type 0
 TakesOne c l t = (1 + may_send c t.line ≤ may_send c l) × (may_send c l ≤ may_send c t.line + 2)
 
-message_falls : (c : Config) (l : Line) → IfSome (message_taken l) (TakesOne c l)
+message_falls : (c : Config) (l : Line) → IfSome (message_taken c l) (TakesOne c l)
 message_falls c l = go l.management.waiting refl
   where
     go : (ms : List Message) → l.management.waiting ≡ ms
-        → IfSome (option_map (λ octets. record { frame = octets; orders = []; line = record l { management = record l.management { waiting = drop 1 l.management.waiting } } }) (option_map frame_of (slice_get ms 0))) (TakesOne c l)
+        → IfSome (option_map (λ octets. record { frame = octets; orders = []; line = record l { management = record l.management { waiting = drop 1 l.management.waiting } } }) (option_map (frame_of c.side) (slice_get ms 0))) (TakesOne c l)
     go [] e = tt
     go (m ∷ ms) e =
         let rest : length (drop 1 l.management.waiting) ≡ length ms = ap (λ (x : List Message). length (drop 1 x)) e in
         let all : length l.management.waiting ≡ length ms + 1 = ap (λ (x : List Message). length x) e ∙ omega arith in
         (omega (arith, rest, all), omega (arith, rest, all))
 
-unit_falls : (c : Config) (l : Line) → IfSome (unit_taken l) (TakesOne c l)
+unit_falls : (c : Config) (l : Line) → IfSome (unit_taken c l) (TakesOne c l)
 unit_falls c l = go l.units refl
   where
     go : (us : List UnitData) → l.units ≡ us
-        → IfSome (option_map (λ u. record { frame = unit_frame u; orders = []; line = record l { units = drop 1 l.units } }) (slice_get us 0)) (TakesOne c l)
+        → IfSome (option_map (λ u. record { frame = unit_frame c u; orders = []; line = record l { units = drop 1 l.units } }) (slice_get us 0)) (TakesOne c l)
     go [] e = tt
     go (u ∷ us) e =
         let rest : length (drop 1 l.units) ≡ length us = ap (λ (x : List UnitData). length (drop 1 x)) e in
@@ -65,19 +65,19 @@ link_falls : (c : Config) → IsInRange c → (l : Line) → IsSound c l → (n 
 link_falls c ranged l s n few = known (tei_at (place_at n) l) refl (s.links n few)
   where
     known : (o : Option ℕ) → tei_at (place_at n) l ≡ o → IsSoundAt c n (link_at n l) o
-        → let t = terms c (service_at n) (unwrap_or o 0) in IfSome (option_map (with_given_frame l n t) (links.given t (link_at n l))) (TakesOne c l)
+        → let t = terms c (service_at n) (unwrap_or o 0) in IfSome (option_map (with_given_frame c l n t) (links.given t (link_at n l))) (TakesOne c l)
     known None e is_fresh =
         let t = terms c (service_at n) 0 in
         let nothing : links.given t (link_at n l) ≡ None = ap (links.given t) is_fresh ∙ fresh_gives_nothing t in
-        subst (λ o. IfSome (option_map (with_given_frame l n t) o) (TakesOne c l)) (sym nothing) tt
+        subst (λ o. IfSome (option_map (with_given_frame c l n t) o) (TakesOne c l)) (sym nothing) tt
     known (Some tei) e sound =
         let t = terms c (service_at n) tei in
         let range = terms_in_range c ranged (service_at n) tei (s.management.table.range (place_at n) tei e) in
         let own = event-rises t range (link_at n l) sound link.offer in
         let least = offer-falls t range (link_at n l) sound in
         let sums = one_changed c l.links n (links.after t link.offer (link_at n l)) s.count few in
-        mapped (with_given_frame l n t) (TakesOne c l) (links.given t (link_at n l))
-        (gives t (link_at n l) (λ g. TakesOne c l (with_given_frame l n t g)) (λ sent g. (omega (arith, own, sums, sent), omega (arith, least, sums, sent))))
+        mapped (with_given_frame c l n t) (TakesOne c l) (links.given t (link_at n l))
+        (gives t (link_at n l) (λ g. TakesOne c l (with_given_frame c l n t g)) (λ sent g. (omega (arith, own, sums, sent), omega (arith, least, sums, sent))))
 
 first_falls : (c : Config) → IsInRange c → (l : Line) → IsSound c l → (ns : List ℕ) → All (λ n. n < link_count c) ns → IfSome (first_taken c l ns) (TakesOne c l)
 first_falls c ranged l s [] all = tt
@@ -92,7 +92,7 @@ first_falls c ranged l s (n ∷ ns) all =
 
 taken_falls : (c : Config) → IsInRange c → (l : Line) → IsSound c l → IfSome (taken c l) (TakesOne c l)
 taken_falls c ranged l s =
-    go (message_taken l) (unit_taken l) (first_taken c l (round c l)) (message_falls c l) (unit_falls c l)
+    go (message_taken c l) (unit_taken c l) (first_taken c l (round c l)) (message_falls c l) (unit_falls c l)
     (first_falls c ranged l s (round c l) (round_below c l))
   where
     go : (m u f : Option Taken) → IfSome m (TakesOne c l) → IfSome u (TakesOne c l) → IfSome f (TakesOne c l)

@@ -4,6 +4,7 @@ use Rattle.std.specs.Prelude.{All}
 use Rattle.std.specs.List.{range_with_len}
 use Rattle.std.specs.Option.{option_or, unwrap_or}
 use Rattle.std.proofs.lemmas.List.Elements.{All-nil, All-cons, All-head, All-tail, All-drop, All-take, All-append}
+use Rattle.lapd_frame.specs.declared.addresses.Side.{Side}
 use Rattle.model_link.specs.Events as link
 use Rattle.model_link.specs.Link.{Link}
 use Rattle.model_link.specs.Machine as links
@@ -31,17 +32,17 @@ pub record TakesSoundly (c : Config) (l : Line) (t : Taken) : Type 0 where
   pub given : t.line.given ≡ l.given
   pub received : t.line.received ≡ l.received
 
-message_length : (m : Message) → length (frame_of m) ≡ 8
-message_length (IdentityAssigned ri tei) = refl
-message_length (IdentityDenied ri) = refl
-message_length (IdentityCheckRequest tei) = refl
-message_length (IdentityRemove tei) = refl
+message_length : (side : Side) (m : Message) → length (frame_of side m) ≡ 8
+message_length side (IdentityAssigned ri tei) = refl
+message_length side (IdentityDenied ri) = refl
+message_length side (IdentityCheckRequest tei) = refl
+message_length side (IdentityRemove tei) = refl
 
 module _ (c : Config) (ranged : IsInRange c) where
-  message_sound : (l : Line) → IsSound c l → IfSome (message_taken l) (TakesSoundly c l)
+  message_sound : (l : Line) → IsSound c l → IfSome (message_taken c l) (TakesSoundly c l)
   message_sound l s = go (slice_get l.management.waiting 0)
     where
-      go : (o : Option Message) → IfSome (option_map (with_message l) (option_map frame_of o)) (TakesSoundly c l)
+      go : (o : Option Message) → IfSome (option_map (with_message l) (option_map (frame_of c.side) o)) (TakesSoundly c l)
       go None = tt
       go (Some m) = record {
         line = record {
@@ -55,17 +56,17 @@ module _ (c : Config) (ranged : IsInRange c) where
           sizes = s.sizes;
           text = s.text;
         };
-        size = omega (arith, message_length m, (ranges_of c ranged).n201.least);
+        size = omega (arith, message_length c.side m, (ranges_of c ranged).n201.least);
         items = refl;
         given = refl;
         received = refl;
       }
 
-  unit_sound : (l : Line) → IsSound c l → IfSome (unit_taken l) (TakesSoundly c l)
+  unit_sound : (l : Line) → IsSound c l → IfSome (unit_taken c l) (TakesSoundly c l)
   unit_sound l s = go l.units s.units s.few_units
     where
       go : (us : List UnitData) → All (IsUnitData c) us → length us ≤ c.unit_queue
-          → IfSome (option_map (λ u. record { frame = unit_frame u; orders = []; line = record l { units = drop 1 us } }) (slice_get us 0)) (TakesSoundly c l)
+          → IfSome (option_map (λ u. record { frame = unit_frame c u; orders = []; line = record l { units = drop 1 us } }) (slice_get us 0)) (TakesSoundly c l)
       go [] all few = tt
       go (u ∷ us) all few = record {
         line = record {
@@ -103,9 +104,9 @@ module _ (c : Config) (ranged : IsInRange c) where
             text = w.text;
           }
 
-      gave : (t : Terms) (o : Option Given) → t.n201 ≡ c.n201 → IfSome o (λ g. length (pull.frame_of t g) ≤ t.n201 + 4)
+      gave : (t : Terms) (o : Option Given) → t.n201 ≡ c.n201 → IfSome o (λ g. length (pull.frame_of c t g) ≤ t.n201 + 4)
           → IsSoundAt c n (links.after t link.offer (link_at n l)) (tei_at (place_at n) l)
-          → IfSome (option_map (with_given_frame l n t) o) (TakesSoundly c l)
+          → IfSome (option_map (with_given_frame c l n t) o) (TakesSoundly c l)
       gave t None same short here = tt
       gave t (Some g) same short here = record {
         line = turned (links.after t link.offer (link_at n l)) here;
@@ -116,15 +117,15 @@ module _ (c : Config) (ranged : IsInRange c) where
       }
 
       known : (o : Option ℕ) → tei_at (place_at n) l ≡ o → IsSoundAt c n (link_at n l) o
-          → let t = terms c (service_at n) (unwrap_or o 0) in IfSome (option_map (with_given_frame l n t) (links.given t (link_at n l))) (TakesSoundly c l)
+          → let t = terms c (service_at n) (unwrap_or o 0) in IfSome (option_map (with_given_frame c l n t) (links.given t (link_at n l))) (TakesSoundly c l)
       known None e is_fresh =
           let t = terms c (service_at n) 0 in
           let nothing : links.given t (link_at n l) ≡ None = ap (links.given t) is_fresh ∙ fresh_gives_nothing t in
-          subst (λ o. IfSome (option_map (with_given_frame l n t) o) (TakesSoundly c l)) (sym nothing) tt
+          subst (λ o. IfSome (option_map (with_given_frame c l n t) o) (TakesSoundly c l)) (sym nothing) tt
       known (Some tei) e sound =
           let t = terms c (service_at n) tei in
           let range = terms_in_range c ranged (service_at n) tei (s.management.table.range (place_at n) tei e) in
-          gave t (links.given t (link_at n l)) refl (given_short t (link_at n l) sound)
+          gave t (links.given t (link_at n l)) refl (given_short c t (link_at n l) sound)
           (subst (IsSoundAt c n (links.after t link.offer (link_at n l))) (sym e) (sound-after t range link.offer (link_at n l) sound))
 
   first_sound : (l : Line) → IsSound c l → (ns : List ℕ) → All (λ n. n < link_count c) ns → IfSome (first_taken c l ns) (TakesSoundly c l)
@@ -151,7 +152,7 @@ round_below c l =
 
 pub taken_sound : (c : Config) → IsInRange c → (l : Line) → IsSound c l → IfSome (taken c l) (TakesSoundly c l)
 taken_sound c ranged l s =
-    go (message_taken l) (unit_taken l) (first_taken c l (round c l)) (message_sound c ranged l s) (unit_sound c ranged l s)
+    go (message_taken c l) (unit_taken c l) (first_taken c l (round c l)) (message_sound c ranged l s) (unit_sound c ranged l s)
     (first_sound c ranged l s (round c l) (round_below c l))
   where
     go : (m u f : Option Taken) → IfSome m (TakesSoundly c l) → IfSome u (TakesSoundly c l) → IfSome f (TakesSoundly c l)

@@ -2,7 +2,7 @@
 use Rattle.std.proofs.Common.{◌≡◌, ℕ, ◌%◌, ◌/◌, ◌==◌, Bool, true, false, not, List, [], ◌∷◌, length, drop, slice_index, Option, Some, None, Result, Ok, Err, refl, ap, sym, ◌∙◌, subst, cond, arith}
 use Rattle.std.proofs.lemmas.Bool.{ne_eqb, eqb-true}
 use Rattle.lapd_frame.specs.declared.addresses.Address.{Address}
-use Rattle.lapd_frame.specs.declared.addresses.Side.TheVariants.{User}
+use Rattle.lapd_frame.specs.declared.addresses.Side.{Side}
 use Rattle.lapd_frame.specs.declared.controls.Control.{Control}
 use Rattle.lapd_frame.specs.declared.controls.Control.TheVariants as control
 use Rattle.lapd_frame.specs.declared.faults.ReadFault.{ReadFault}
@@ -62,21 +62,21 @@ checked_no_reject octets address (Some k) h = go (allows (row k).kind address.co
     go true = sized_no_reject address k (drop (start_of k) octets) h
     go false = 0
 
-header_no_reject : (octets : List ℕ) (first second third fourth : ℕ) → third % 4 ≡ 3 → NoReject (completed octets (header_of User first second third fourth))
+header_no_reject : (side : Side) (octets : List ℕ) (first second third fourth : ℕ) → third % 4 ≡ 3 → NoReject (completed octets (header_of side first second third fourth))
 unfolding header_of
-header_no_reject octets first second third fourth e = go (has_bad_extension first second)
+header_no_reject side octets first second third fourth e = go (has_bad_extension first second)
   where
-    go : (b : Bool) → NoReject (completed octets (cond b (Err BadExtension) (checked (address_of User first second) (control_of third fourth))))
+    go : (b : Bool) → NoReject (completed octets (cond b (Err BadExtension) (checked (address_of side first second) (control_of third fourth))))
     go true = 0
     go false =
-        checked_no_reject octets (address_of User first second) (control_of third fourth)
+        checked_no_reject octets (address_of side first second) (control_of third fourth)
         (subst NoRejectControl (sym (field_of_three third fourth e)) (unnumbered_no_reject third))
 
-pub three_no_reject : (first second third : ℕ) → NoReject (reading User (first ∷ second ∷ third ∷ []))
+pub three_no_reject : (side : Side) (first second third : ℕ) → NoReject (reading side (first ∷ second ∷ third ∷ []))
 unfolding reading
-three_no_reject first second third = go (third % 4 == 3) refl
+three_no_reject side first second third = go (third % 4 == 3) refl
   where
     go : (b : Bool) → (third % 4 == 3) ≡ b
-        → NoReject (cond (not b) (Err Short) (completed (first ∷ second ∷ third ∷ []) (header_of User first second third (slice_index (first ∷ second ∷ third ∷ []) 3))))
-    go true e = header_no_reject (first ∷ second ∷ third ∷ []) first second third _ (eqb-true (third % 4) 3 e)
+        → NoReject (cond (not b) (Err Short) (completed (first ∷ second ∷ third ∷ []) (header_of side first second third (slice_index (first ∷ second ∷ third ∷ []) 3))))
+    go true e = header_no_reject side (first ∷ second ∷ third ∷ []) first second third _ (eqb-true (third % 4) 3 e)
     go false e = 0

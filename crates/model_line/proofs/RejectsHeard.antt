@@ -11,7 +11,6 @@ use Rattle.lapd_bits.specs.Stream.{Event, frame, overlong, dropped, judged, room
 use Rattle.lapd_bits.specs.StreamLaws.{IsWhole}
 use Rattle.lapd_bits.proofs.StreamLengths.{heard_within_stream, IsWeight, weight_of_heard, judged_as}
 use Rattle.lapd_frame.specs.declared.addresses.Address.{Address}
-use Rattle.lapd_frame.specs.declared.addresses.Side.TheVariants.{User}
 use Rattle.lapd_bits.specs.declared.heard.Cause.TheVariants.{Tei, Unserved}
 use Rattle.lapd_frame.specs.declared.controls.Control.{Control}
 use Rattle.lapd_frame.specs.declared.controls.Control.TheVariants as control
@@ -28,12 +27,13 @@ use Rattle.model_line.specs.declared.config.Config.{Config}
 use Rattle.model_line.specs.Event.{nothing}
 use Rattle.model_line.specs.Counts.{one, is_frame, frames_heard, is_long_frame, long_frames_heard, rejects_aimed}
 use Rattle.model_line.specs.Line.{Line, place_in}
-use Rattle.model_line.specs.Octet.{management_sapi, group_tei, drop_for, at_place, to_service, addressed, message_of, aim_of_reading, aim_of_heard, aim_of_octet, with_received}
+use Rattle.model_line.specs.Octet.{management_sapi, group_tei, drop_for, at_place, to_service, addressed, message_of, aim_of_reading, heard_side, aim_of_heard, aim_of_octet, with_received}
 use Rattle.model_line.specs.Effect.{Aim, at_none}
 use Rattle.model_line.proofs.LineRises.{brings}
+use Rattle.model_line.proofs.Sides.{side_aims}
 use Rattle.model_line.proofs.Rejects.{NoReject, three_no_reject}
 
-module _ (l : Line) where
+module _ (c : Config) (l : Line) where
   place_no_reject : (service : Service) (tei : ℕ) (what : link.Received) (o : Option ℕ) → ((x : Link) → rises.rejects (link.received what) x ≡ false)
       → rejects_aimed l (at_place service tei what o) ≡ false
   place_no_reject service tei what None q = refl
@@ -66,10 +66,12 @@ module _ (l : Line) where
   message_no_reject (control.Frmr f) info = refl
   message_no_reject (control.Xid pf) info = refl
 
-  reading_no_reject : (r : Result Parts ReadFault) → NoReject r → rejects_aimed l (aim_of_reading l r) ≡ false
+  reading_no_reject : (r : Result Parts ReadFault) → NoReject r → rejects_aimed l (aim_of_reading c l r) ≡ false
   reading_no_reject (Ok parts) h =
-      addressed_no_reject parts.address (link.frame parts) (message_of parts.control parts.info)
-      (λ x. ap (λ o. rises.is_valid_reject o x) h) (message_no_reject parts.control parts.info)
+      side_aims c parts (λ aim. rejects_aimed l aim ≡ false) refl (λ service to. refl)
+      (addressed l parts.address (link.frame parts) (message_of parts.control parts.info))
+      (addressed_no_reject parts.address (link.frame parts) (message_of parts.control parts.info)
+      (λ x. ap (λ o. rises.is_valid_reject o x) h) (message_no_reject parts.control parts.info))
   reading_no_reject (Err BadExtension) h = refl
   reading_no_reject (Err (Undefined address)) h = addressed_no_reject address link.undefined (drop_for Unserved) (λ x. refl) refl
   reading_no_reject (Err (WrongSize address)) h = addressed_no_reject address link.wrong_size (drop_for Unserved) (λ x. refl) refl
@@ -80,21 +82,21 @@ module _ (l : Line) where
   at_most_one false = omega arith
 
   frame_counted : (octets : List ℕ) → 3 ≤ length octets
-      → one (rejects_aimed l (aim_of_reading l (reading User octets))) ≤ cond {A = ℕ} (nat_le 4 (length octets)) 1 0
+      → one (rejects_aimed l (aim_of_reading c l (reading (heard_side c) octets))) ≤ cond {A = ℕ} (nat_le 4 (length octets)) 1 0
   frame_counted [] h = absurd (omega (arith, h))
   frame_counted (a ∷ []) h = absurd (omega (arith, h))
   frame_counted (a ∷ b ∷ []) h = absurd (omega (arith, h))
-  frame_counted (a ∷ b ∷ c ∷ []) h = omega (arith, ap one (reading_no_reject (reading User (a ∷ b ∷ c ∷ [])) (three_no_reject a b c)))
-  frame_counted (a ∷ b ∷ c ∷ d ∷ rest) h =
-      let long : nat_le 4 (length (a ∷ b ∷ c ∷ d ∷ rest)) ≡ true = le-leb 4 (length (a ∷ b ∷ c ∷ d ∷ rest)) (omega arith) in
-      subst (λ x. one (rejects_aimed l (aim_of_reading l (reading User (a ∷ b ∷ c ∷ d ∷ rest)))) ≤ cond {A = ℕ} x 1 0) (sym long)
-      (at_most_one (rejects_aimed l (aim_of_reading l (reading User (a ∷ b ∷ c ∷ d ∷ rest)))))
+  frame_counted (a ∷ b ∷ third ∷ []) h = omega (arith, ap one (reading_no_reject (reading (heard_side c) (a ∷ b ∷ third ∷ [])) (three_no_reject (heard_side c) a b third)))
+  frame_counted (a ∷ b ∷ third ∷ d ∷ rest) h =
+      let long : nat_le 4 (length (a ∷ b ∷ third ∷ d ∷ rest)) ≡ true = le-leb 4 (length (a ∷ b ∷ third ∷ d ∷ rest)) (omega arith) in
+      subst (λ x. one (rejects_aimed l (aim_of_reading c l (reading (heard_side c) (a ∷ b ∷ third ∷ d ∷ rest)))) ≤ cond {A = ℕ} x 1 0) (sym long)
+      (at_most_one (rejects_aimed l (aim_of_reading c l (reading (heard_side c) (a ∷ b ∷ third ∷ d ∷ rest)))))
 
   event_counted : (o : Option Event) → IfSome o IsWhole
-      → one (rejects_aimed l (option_map_or (aim_of_heard l) o (at_none nothing))) ≤ count_by is_long_frame (option_to_list o)
+      → one (rejects_aimed l (option_map_or (aim_of_heard c l) o (at_none nothing))) ≤ count_by is_long_frame (option_to_list o)
   event_counted None h = omega arith
   event_counted (Some (frame octets)) h = omega (arith, frame_counted octets h)
-  event_counted (Some (overlong head)) h = at_most_one (rejects_aimed l (aim_of_heard l (overlong head)))
+  event_counted (Some (overlong head)) h = at_most_one (rejects_aimed l (aim_of_heard c l (overlong head)))
   event_counted (Some (dropped cause)) h = omega arith
 
 latest : {X : Type 0} (P : X → Type 0) (xs : List X) (o : Option X) → All P (xs ++ option_to_list o) → IfSome o P
@@ -109,9 +111,9 @@ octet_rejects c value l =
     let b = brings c l value in
     let all = heard_within_stream.whole c.n201 (l.received ++ value ∷ []) in
     let whole = latest IsWhole (stream.heard_in c.n201 l.received) b.event (subst (All IsWhole) b.heard all) in
-    let counted = event_counted l b.event whole in
+    let counted = event_counted c l b.event whole in
     let here : one (rejects_aimed l (aim_of_octet c value l)) ≤ count_by is_long_frame (option_to_list b.event) =
-    subst (λ o. one (rejects_aimed l (option_map_or (aim_of_heard l) o (at_none nothing))) ≤ count_by is_long_frame (option_to_list b.event)) (sym b.gains) counted in
+    subst (λ o. one (rejects_aimed l (option_map_or (aim_of_heard c l) o (at_none nothing))) ≤ count_by is_long_frame (option_to_list b.event)) (sym b.gains) counted in
     omega (arith, here, b.long_frames)
 
 -- ---- frames take their octets of the stream

@@ -83,11 +83,12 @@ module _ (c : Config) where
   none_short : IsShort nothing
   none_short = record { notes = omega arith; orders = omega arith }
 
-  octet_short : (l m : Line) (o : Option stream.Event) → IsShort (of_aim c (option_map_or (aim_of_heard l) o (at_none nothing)) m).told
+  octet_short : (l m : Line) (o : Option stream.Event) → IsShort (of_aim c (option_map_or (aim_of_heard c l) o (at_none nothing)) m).told
   octet_short l m None = none_short
   octet_short l m (Some e) =
-      heard_aims l (λ aim. IsShort (of_aim c aim m).told) (λ cause. record { notes = omega arith; orders = omega arith })
-      (λ service n place what at. link_short service n place (link.received what) m) (λ info. management_short (teis.message info) m) e
+      heard_aims c l (λ aim. IsShort (of_aim c aim m).told) (λ cause. record { notes = omega arith; orders = omega arith })
+      (λ service n place what at. link_short service n place (link.received what) m) (λ info. management_short (teis.message info) m)
+      (λ parts service to. record { notes = omega arith; orders = omega arith }) e
 
   timer_short : (l : Line) (service : Service) (n : ℕ) (timer : LinkTimer) (o : Option ℕ) → IsShort (of_aim c (at_timer service n timer o) l).told
   timer_short l service n timer None = none_short
@@ -142,15 +143,15 @@ module _ (c : Config) where
   links_few l (n ∷ ns) =
       let t = terms_at c n l in
       first_few HasFewOrders (link_taken c l n) (first_taken c l ns)
-      (mapped (with_given_frame l n t) HasFewOrders (links.given t (link_at n l)) (given_few t (link_at n l))) (links_few l ns)
+      (mapped (with_given_frame c l n t) HasFewOrders (links.given t (link_at n l)) (given_few t (link_at n l))) (links_few l ns)
 
   taken_few : (l : Line) → IfSome (taken c l) HasFewOrders
   unfolding HasFewOrders
   taken_few l =
-      first_few HasFewOrders (message_taken l) (option_or (unit_taken l) (first_taken c l (round c l)))
+      first_few HasFewOrders (message_taken c l) (option_or (unit_taken c l) (first_taken c l (round c l)))
       (mapped (with_message l) HasFewOrders _ (anything (λ octets. 0 ≤ 2) _ (λ octets. omega arith)))
-      (first_few HasFewOrders (unit_taken l) (first_taken c l (round c l))
-      (mapped (with_unit l) HasFewOrders _ (anything (λ u. 0 ≤ 2) _ (λ u. omega arith))) (links_few l (round c l)))
+      (first_few HasFewOrders (unit_taken c l) (first_taken c l (round c l))
+      (mapped (with_unit c l) HasFewOrders _ (anything (λ u. 0 ≤ 2) _ (λ u. omega arith))) (links_few l (round c l)))
 
   pull_few : (l : Line) → length (option_map_or orders_of (begun c l) []) ≤ 2
   unfolding HasFewOrders

@@ -107,9 +107,9 @@ module _ (c : Config) (ranged : IsInRange c) where
   aim_grows l (at_units unit) s proper = omega (arith, length-append l.units (unit ∷ []))
 
 -- frames take none
-octet_takes : (c : Config) (l m : Line) (o : Option stream.Event) → grows_at c m (option_map_or (aim_of_heard l) o (at_none nothing)) ≡ 0
+octet_takes : (c : Config) (l m : Line) (o : Option stream.Event) → grows_at c m (option_map_or (aim_of_heard c l) o (at_none nothing)) ≡ 0
 octet_takes c l m None = refl
-octet_takes c l m (Some e) = heard_aims l (λ aim. grows_at c m aim ≡ 0) (λ what. refl) (λ service tei place what at. refl) (λ info. refl) e
+octet_takes c l m (Some e) = heard_aims c l (λ aim. grows_at c m aim ≡ 0) (λ what. refl) (λ service tei place what at. refl) (λ info. refl) (λ parts service to. refl) e
 
 proper_later : (c : Config) (value : ℕ) (l : Line) (aim : Aim) → IsProper c l aim → IsProper c (with_received value l) aim
 proper_later c value l (at_none what) p = p
@@ -171,16 +171,16 @@ link_pull : (c : Config) → IsInRange c → (l : Line) → IsSound c l → (n :
 link_pull c ranged l s n few = known (tei_at (place_at n) l) refl (s.links n few)
   where
     known : (o : Option ℕ) → tei_at (place_at n) l ≡ o → IsSoundAt c n (link_at n l) o
-        → let t = terms c (service_at n) (unwrap_or o 0) in IfSome (option_map (with_given_frame l n t) (links.given t (link_at n l))) (GrowsNot c l)
+        → let t = terms c (service_at n) (unwrap_or o 0) in IfSome (option_map (with_given_frame c l n t) (links.given t (link_at n l))) (GrowsNot c l)
     known None e is_fresh =
         let t = terms c (service_at n) 0 in
         let nothing : links.given t (link_at n l) ≡ None = ap (links.given t) is_fresh ∙ fresh_gives_nothing t in
-        subst (λ o. IfSome (option_map (with_given_frame l n t) o) (GrowsNot c l)) (sym nothing) tt
+        subst (λ o. IfSome (option_map (with_given_frame c l n t) o) (GrowsNot c l)) (sym nothing) tt
     known (Some tei) e sound =
         let t = terms c (service_at n) tei in
         let own = queue-after t (s.management.table.range (place_at n) tei e) link.offer (link_at n l) sound in
         let sums = one_kept c l.links n (links.after t link.offer (link_at n l)) s.count few in
-        mapped (with_given_frame l n t) (GrowsNot c l) (links.given t (link_at n l)) (λ g. omega (arith, own, sums))
+        mapped (with_given_frame c l n t) (GrowsNot c l) (links.given t (link_at n l)) (λ g. omega (arith, own, sums))
 
 first_pull : (c : Config) → IsInRange c → (l : Line) → IsSound c l → (ns : List ℕ) → All (λ n. n < link_count c) ns → IfSome (first_taken c l ns) (GrowsNot c l)
 first_pull c ranged l s [] all = tt
@@ -193,14 +193,14 @@ first_pull c ranged l s (n ∷ ns) all =
     go None h rest = rest
     go (Some t) h rest = h
 
-unit_pull : (c : Config) (l : Line) → IfSome (unit_taken l) (GrowsNot c l)
-unit_pull c l = mapped (λ u. record { frame = unit_frame u; orders = []; line = record l { units = drop 1 l.units } }) (GrowsNot c l) (slice_get l.units 0)
+unit_pull : (c : Config) (l : Line) → IfSome (unit_taken c l) (GrowsNot c l)
+unit_pull c l = mapped (λ u. record { frame = unit_frame c u; orders = []; line = record l { units = drop 1 l.units } }) (GrowsNot c l) (slice_get l.units 0)
     (λ u. omega (arith, length-drop 1 l.units))
 
 taken_pull : (c : Config) → IsInRange c → (l : Line) → IsSound c l → IfSome (taken c l) (GrowsNot c l)
 taken_pull c ranged l s =
-    go (message_taken l) (unit_taken l) (first_taken c l (round c l))
-    (mapped (with_message l) (GrowsNot c l) (teis.offered l.management) (λ octets. omega arith)) (unit_pull c l)
+    go (message_taken c l) (unit_taken c l) (first_taken c l (round c l))
+    (mapped (with_message l) (GrowsNot c l) (teis.offered c.side l.management) (λ octets. omega arith)) (unit_pull c l)
     (first_pull c ranged l s (round c l) (round_below c l))
   where
     go : (m u f : Option Taken) → IfSome m (GrowsNot c l) → IfSome u (GrowsNot c l) → IfSome f (GrowsNot c l)

@@ -1,6 +1,6 @@
 -- The machine of a line, and worked values of it.
 --
--- Read in this order: Config, Event, Request; Line; Effect, whom an event concerns and what comes of it; Octet,
+-- Read in this order: Config, Event, Request; Line; Effect, whom an event concerns and what comes of it; Sides; Octet,
 -- Expiry, Refusal, Requested, Pull; Machine. Room and Begun are what a line answers about itself. Stored, Counts, Deliveries,
 -- Sound and Turns are the words of the laws, whose sentences stand in `src/laws.rt`. Whole is what a whole frame means in
 -- octets, and WholeAtLine what such octets and pulls are at a line.
@@ -9,6 +9,7 @@ pub mod Request
 pub mod Event
 pub mod Line
 pub mod Effect
+pub mod Sides
 pub mod Octet
 pub mod Expiry
 pub mod Refusal
@@ -21,6 +22,7 @@ pub mod Stored
 pub mod Counts
 pub mod Deliveries
 pub mod Worked
+pub mod WorkedSides
 pub mod Sound
 pub mod Laws
 pub mod Turns

@@ -5,7 +5,7 @@ use Rattle.lapd_bits.specs.Stream as stream
 use Rattle.lapd_bits.specs.declared.heard.Cause.{Cause}
 use Rattle.lapd_bits.specs.declared.heard.Cause.TheVariants.{Extension, Sapi, Tei, Unserved}
 use Rattle.lapd_frame.specs.declared.addresses.Address.{Address}
-use Rattle.lapd_frame.specs.declared.addresses.Side.TheVariants.{User}
+use Rattle.lapd_frame.specs.declared.addresses.Side.{Side}
 use Rattle.lapd_frame.specs.declared.controls.Control.{Control}
 use Rattle.lapd_frame.specs.declared.controls.Control.TheVariants.{Ui}
 use Rattle.lapd_frame.specs.declared.faults.ReadFault.{ReadFault}
@@ -13,7 +13,7 @@ use Rattle.lapd_frame.specs.declared.faults.ReadFault.TheVariants.{BadExtension,
 use Rattle.lapd_frame.specs.declared.overlong.Long.{Long}
 use Rattle.lapd_frame.specs.declared.overlong.Long.TheVariants as long
 use Rattle.lapd_frame.specs.declared.services.Service.{Service}
-use Rattle.lapd_frame.specs.Grammar.{Parts}
+use Rattle.lapd_frame.specs.Grammar.{Parts, other_side}
 use Rattle.lapd_frame.specs.Reading.{reading, long_reading}
 use Rattle.lapd_frame.specs.Services.{service_of}
 use Rattle.model_link.specs.Events as link
@@ -22,6 +22,8 @@ use Rattle.model_line.specs.declared.config.Config.{Config}
 use Rattle.model_line.specs.Event.{nothing, dropped}
 use Rattle.model_line.specs.Line.{Line, place_in}
 use Rattle.model_line.specs.Effect.{Aim, at_none, at_link, at_management}
+pub use Rattle.model_line.specs.Sides.{group_tei}
+use Rattle.model_line.specs.Sides.{at_side}
 
 -- What an octet brings: what is heard in all octets with it, and was not heard before.
 abbrev pub gained : ℕ → List ℕ → ℕ → Option stream.Event
@@ -36,9 +38,6 @@ drop_for cause = at_none (dropped cause)
 -- before an unknown TEI (profile).
 abbrev pub management_sapi : ℕ
 management_sapi = 63
-
-abbrev pub group_tei : ℕ
-group_tei = 127
 
 abbrev pub at_place : Service → ℕ → link.Received → Option ℕ → Aim
 at_place service tei what None = drop_for Tei
@@ -59,13 +58,13 @@ abbrev pub message_of : Control → List ℕ → Aim
 message_of (Ui p) info = at_management (teis.message info)
 message_of other info = drop_for Unserved
 
--- What a frame of a terminal is, as the grammar reads it. (One that is too short is dropped before it is read.)
-abbrev pub aim_of_reading : Line → Result Parts ReadFault → Aim
-aim_of_reading l (Ok parts) = addressed l parts.address (link.frame parts) (message_of parts.control parts.info)
-aim_of_reading l (Err BadExtension) = drop_for Extension
-aim_of_reading l (Err (Undefined address)) = addressed l address link.undefined (drop_for Unserved)
-aim_of_reading l (Err (WrongSize address)) = addressed l address link.wrong_size (drop_for Unserved)
-aim_of_reading l (Err Short) = drop_for Unserved
+-- What a frame of the other side is, as the grammar reads it. (One that is too short is dropped before it is read.)
+abbrev pub aim_of_reading : Config → Line → Result Parts ReadFault → Aim
+aim_of_reading c l (Ok parts) = at_side c parts (addressed l parts.address (link.frame parts) (message_of parts.control parts.info))
+aim_of_reading c l (Err BadExtension) = drop_for Extension
+aim_of_reading c l (Err (Undefined address)) = addressed l address link.undefined (drop_for Unserved)
+aim_of_reading c l (Err (WrongSize address)) = addressed l address link.wrong_size (drop_for Unserved)
+aim_of_reading c l (Err Short) = drop_for Unserved
 
 -- The same for a frame that is longer than the receiver has room for. No link serves such a UI or XID (profile).
 abbrev pub unless_at_link : Aim → Aim
@@ -80,15 +79,18 @@ aim_of_long l (Err (Undefined address)) = addressed l address link.undefined (dr
 aim_of_long l (Err (WrongSize address)) = addressed l address link.wrong_size (drop_for Unserved)
 aim_of_long l (Err Short) = drop_for Unserved
 
--- What is heard: the causes of the deframer come before those of an address.
-abbrev pub aim_of_heard : Line → stream.Event → Aim
-aim_of_heard l (stream.frame octets) = aim_of_reading l (reading User octets)
-aim_of_heard l (stream.overlong head) = aim_of_long l (long_reading User head)
-aim_of_heard l (stream.dropped cause) = drop_for cause
+-- What is heard is the other side's (clause 3.3.2). The causes of the deframer come before those of an address.
+abbrev pub heard_side : Config → Side
+heard_side c = other_side c.side
+
+abbrev pub aim_of_heard : Config → Line → stream.Event → Aim
+aim_of_heard c l (stream.frame octets) = aim_of_reading c l (reading (heard_side c) octets)
+aim_of_heard c l (stream.overlong head) = aim_of_long l (long_reading (heard_side c) head)
+aim_of_heard c l (stream.dropped cause) = drop_for cause
 
 -- What an octet is to the line.
 abbrev pub aim_of_octet : Config → ℕ → Line → Aim
-aim_of_octet c octet l = option_map_or (aim_of_heard l) (gained c.n201 l.received octet) (at_none nothing)
+aim_of_octet c octet l = option_map_or (aim_of_heard c l) (gained c.n201 l.received octet) (at_none nothing)
 
 abbrev pub with_received : ℕ → Line → Line
 with_received octet l = record l { received = l.received ++ octet ∷ [] }

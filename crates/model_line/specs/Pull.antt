@@ -5,7 +5,6 @@ use Rattle.std.specs.Option.{option_or, option_map_or, unwrap_or}
 use Rattle.lapd_bits.specs.Bits.{bits, number_of}
 use Rattle.lapd_bits.specs.Framer.{runs_low}
 use Rattle.lapd_bits.specs.Sent.{idle, frame, line_text}
-use Rattle.lapd_frame.specs.declared.addresses.Side.TheVariants.{Network}
 use Rattle.lapd_frame.specs.declared.controls.Control.TheVariants.{Ui}
 use Rattle.lapd_frame.specs.declared.timers.Order.{Order}
 use Rattle.lapd_frame.specs.Grammar.{spelling}
@@ -30,29 +29,30 @@ pub record Taken : Type 0 where
 abbrev pub with_message : Line → List ℕ → Taken
 with_message l octets = record { frame = octets; orders = []; line = record l { management = teis.after_offer l.management } }
 
-abbrev pub message_taken : Line → Option Taken
-message_taken l = option_map (with_message l) (teis.offered l.management)
+abbrev pub message_taken : Config → Line → Option Taken
+message_taken c l = option_map (with_message l) (teis.offered c.side l.management)
 
--- else the oldest unit data, in a UI command with P=0 (Q.921 clauses 3.6.5 and 5.2.2),
-abbrev pub unit_frame : UnitData → List ℕ
-unit_frame u =
-    spelling Network (record { address = record { sapi = sapi_of u.service; command = true; tei = u.tei }; control = Ui false; info = u.contents })
+-- else the oldest unit data, in a UI command with P=0 (Q.921 clauses 3.6.5 and 5.2.2), which is spelled as this side's
+-- (clause 3.3.2),
+abbrev pub unit_frame : Config → UnitData → List ℕ
+unit_frame c u =
+    spelling c.side (record { address = record { sapi = sapi_of u.service; command = true; tei = u.tei }; control = Ui false; info = u.contents })
 
-abbrev pub with_unit : Line → UnitData → Taken
-with_unit l u = record { frame = unit_frame u; orders = []; line = record l { units = drop 1 l.units } }
+abbrev pub with_unit : Config → Line → UnitData → Taken
+with_unit c l u = record { frame = unit_frame c u; orders = []; line = record l { units = drop 1 l.units } }
 
-abbrev pub unit_taken : Line → Option Taken
-unit_taken l = option_map (with_unit l) (slice_get l.units 0)
+abbrev pub unit_taken : Config → Line → Option Taken
+unit_taken c l = option_map (with_unit c l) (slice_get l.units 0)
 
 -- else what the first of the links has to give, going round from the one after that which was served last (profile). A
 -- link that has nothing to give is passed over.
-abbrev pub frame_of : Terms → Given → List ℕ
-frame_of t g =
-    spelling Network (record { address = address_at t g.frame.command; control = g.frame.control; info = unwrap_or g.contents [] })
+abbrev pub frame_of : Config → Terms → Given → List ℕ
+frame_of c t g =
+    spelling c.side (record { address = address_at t g.frame.command; control = g.frame.control; info = unwrap_or g.contents [] })
 
-abbrev pub with_given_frame : Line → ℕ → Terms → Given → Taken
-with_given_frame l number t g = record {
-  frame = frame_of t g;
+abbrev pub with_given_frame : Config → Line → ℕ → Terms → Given → Taken
+with_given_frame c l number t g = record {
+  frame = frame_of c t g;
   orders = g.orders;
   line = record (with_link number (links.after t link.offer (link_at number l)) l) { turn = number + 1 };
 }
@@ -60,7 +60,7 @@ with_given_frame l number t g = record {
 abbrev pub link_taken : Config → Line → ℕ → Option Taken
 link_taken c l number =
     let t = terms_at c number l in
-    option_map (with_given_frame l number t) (links.given t (link_at number l))
+    option_map (with_given_frame c l number t) (links.given t (link_at number l))
 
 abbrev pub first_taken : Config → Line → List ℕ → Option Taken
 first_taken c l [] = None
@@ -73,7 +73,7 @@ abbrev pub round : Config → Line → List ℕ
 round c l = round_from l.turn (range_with_len 0 (link_count c))
 
 abbrev pub taken : Config → Line → Option Taken
-taken c l = option_or (message_taken l) (option_or (unit_taken l) (first_taken c l (round c l)))
+taken c l = option_or (message_taken c l) (option_or (unit_taken c l) (first_taken c l (round c l)))
 
 -- The bits that are on their way, and not given yet.
 abbrev pub left_of : Line → List Bool

@@ -2,13 +2,14 @@
 use Rattle.std.specs.Prelude.{ℕ, ◌==◌, Bool, not, ◌&&◌, nat_lt, nat_le, length, List, [], ◌∷◌, Option, Some, None, is_some, if◌then◌else◌}
 use Rattle.lapd_frame.specs.declared.services.Service.{Service}
 use Rattle.lapd_frame.specs.declared.refusals.Refusal.{Refusal}
-use Rattle.lapd_frame.specs.declared.refusals.Refusal.TheVariants.{BadTei, NoLink, WrongState, TooLong, QueueFull, PoolFull, TeiTaken, TableFull, CheckRunning, ControlFull}
+use Rattle.lapd_frame.specs.declared.refusals.Refusal.TheVariants.{BadTei, NoLink, WrongState, TooLong, QueueFull, PoolFull, TeiTaken, TableFull, CheckRunning, ControlFull, WrongSide}
 use Rattle.model_link.specs.Events as link
 use Rattle.model_link.specs.Requests.{serves, is_queue_full}
 use Rattle.lapd_tei.specs.Machine.{messages_limit}
 use Rattle.lapd_tei.specs.Table.{free_place}
 use Rattle.model_line.specs.declared.config.Config.{Config}
 use Rattle.model_line.specs.Request.{Request, Establish, Release, Data, Unit, Assign, Remove, Check, SetBusy, ClearBusy}
+use Rattle.model_line.specs.Sides.{last_unit_tei, has_management}
 use Rattle.model_line.specs.Line.{Line, terms, has_tei, link_of}
 
 -- A row: why, and whether it holds.
@@ -27,9 +28,9 @@ bad_tei tei = record { why = BadTei; holds = nat_lt 126 tei }
 abbrev pub no_link : ℕ → Line → Row
 no_link tei l = record { why = NoLink; holds = not (has_tei tei l) }
 
--- Unit data may go to the group.
-abbrev pub bad_tei_or_group : ℕ → Row
-bad_tei_or_group tei = record { why = BadTei; holds = nat_lt 127 tei }
+-- Unit data may go to the group, from the network's side.
+abbrev pub bad_tei_or_group : Config → ℕ → Row
+bad_tei_or_group c tei = record { why = BadTei; holds = nat_lt (last_unit_tei c.side) tei }
 
 abbrev pub no_link_nor_group : ℕ → Line → Row
 no_link_nor_group tei l = record { why = NoLink; holds = not (tei == 127) && not (has_tei tei l) }
@@ -63,6 +64,10 @@ check_running l = record { why = CheckRunning; holds = is_some l.management.chec
 abbrev pub control_full : Line → Row
 control_full l = record { why = ControlFull; holds = nat_le messages_limit (length l.management.waiting) }
 
+-- TEI management is the network's: the user's side neither takes a TEI off the line nor checks one.
+abbrev pub wrong_side : Config → Row
+wrong_side c = record { why = WrongSide; holds = not (has_management c.side) }
+
 -- The rows that apply to a request, in order, while the card's pool is full or not.
 abbrev pub rows : Config → Bool → Request → Line → List Row
 rows c full (Establish service tei) l = bad_tei tei ∷ no_link tei l ∷ wrong_state service tei link.Establish l ∷ []
@@ -71,10 +76,10 @@ rows c full (Data service tei contents) l =
     bad_tei tei ∷ no_link tei l ∷ wrong_state service tei (link.Data contents) l
     ∷ too_long c contents ∷ queue_full c service tei l ∷ pool_full full ∷ []
 rows c full (Unit service tei contents) l =
-    bad_tei_or_group tei ∷ no_link_nor_group tei l ∷ too_long c contents ∷ unit_queue_full c l ∷ pool_full full ∷ []
+    bad_tei_or_group c tei ∷ no_link_nor_group tei l ∷ too_long c contents ∷ unit_queue_full c l ∷ pool_full full ∷ []
 rows c full (Assign tei) l = bad_tei tei ∷ tei_taken tei l ∷ table_full l ∷ []
-rows c full (Remove tei) l = bad_tei tei ∷ no_link tei l ∷ control_full l ∷ []
-rows c full (Check tei) l = bad_tei tei ∷ no_link tei l ∷ check_running l ∷ control_full l ∷ []
+rows c full (Remove tei) l = wrong_side c ∷ bad_tei tei ∷ no_link tei l ∷ control_full l ∷ []
+rows c full (Check tei) l = wrong_side c ∷ bad_tei tei ∷ no_link tei l ∷ check_running l ∷ control_full l ∷ []
 rows c full (SetBusy service tei) l = bad_tei tei ∷ no_link tei l ∷ wrong_state service tei link.SetBusy l ∷ []
 rows c full (ClearBusy service tei) l = bad_tei tei ∷ no_link tei l ∷ wrong_state service tei link.ClearBusy l ∷ []
 

@@ -17,5 +17,5 @@ pub record IsInTurn (c : Config) (l : Line) (number : ℕ) (t : Taken) : Type 0 
 -- So it is for every frame of a link, which goes where neither a message nor unit data waits.
 abbrev pub LinksTakeTurns : Type 0
 LinksTakeTurns =
-    (c : Config) (l : Line) (t : Taken) → message_taken l ≡ None → unit_taken l ≡ None → taken c l ≡ Some t →
+    (c : Config) (l : Line) (t : Taken) → message_taken c l ≡ None → unit_taken c l ≡ None → taken c l ≡ Some t →
     (number : ℕ) × IsInTurn c l number t

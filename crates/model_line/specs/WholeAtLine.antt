@@ -28,7 +28,7 @@ giving octets l = record l { given = octets }
 
 -- What the event is to the line.
 abbrev pub of_heard : Config → stream.Event → Line → Effect
-of_heard c e l = of_aim c (aim_of_heard l e) l
+of_heard c e l = of_aim c (aim_of_heard c l e) l
 
 -- Octets come, and are this event and no other: one of the answers says what it is to the line, and the others nothing; and
 -- the line is what it makes of it, with these octets received.

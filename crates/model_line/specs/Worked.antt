@@ -2,6 +2,7 @@
 use Rattle.std.specs.Prelude.{◌≡◌, ℕ, zero, suc, false, List, [], ◌∷◌, replicate, Some, None, refl}
 use Rattle.lapd_bits.specs.Stream as stream
 use Rattle.lapd_bits.specs.declared.heard.Cause.TheVariants.{Sapi, Tei}
+use Rattle.lapd_frame.specs.declared.addresses.Side.TheVariants.{Network}
 use Rattle.lapd_frame.specs.declared.notes.Note.TheVariants as notes
 use Rattle.lapd_frame.specs.declared.notes.ErrorCode.TheVariants as code
 use Rattle.lapd_frame.specs.declared.refusals.Refusal.TheVariants.{BadTei, NoLink, WrongState, TeiTaken, CheckRunning, ControlFull}
@@ -20,12 +21,12 @@ use Rattle.model_line.specs.Refusal.{refusal}
 use Rattle.model_line.specs.Machine.{of_request}
 use Rattle.model_line.specs.Pull.{Taken, taken}
 
-abbrev usual : Config
-usual = record { lines = 1; terminals = 8; k = 7; k16 = 7; queue = 8; unit_queue = 4; control = 4; slots = 64; n201 = 260; n200 = 3 }
+abbrev pub usual : Config
+usual = record { lines = 1; terminals = 8; k = 7; k16 = 7; queue = 8; unit_queue = 4; control = 4; slots = 64; n201 = 260; n200 = 3; side = Network }
 
 -- a frame of a terminal is heard
 abbrev hearing : List ℕ → Line → Effect
-hearing octets l = of_aim usual (aim_of_heard l (stream.frame octets)) l
+hearing octets l = of_aim usual (aim_of_heard usual l (stream.frame octets)) l
 
 abbrev heard : List ℕ → Line → Line
 heard octets l = (hearing octets l).line

@@ -3,6 +3,7 @@
 ghost use Rattle.std.specs.Prelude.{◌≡◌, Some};
 ghost use Rattle.model_line.specs.Config.{first_fault, field_name, is_within};
 
+use lapd_frame::Side;
 use std::fmt;
 
 /// How large a card is, and the limits of its lines and links. All memory is taken at the start by these
@@ -30,6 +31,8 @@ pub struct Config {
     pub n201: u16,
     /// How often a command is repeated: 0 to 10 (N200, clause 5.9.2).
     pub n200: u16,
+    /// Which side of its lines the card is: it hears the other one.
+    pub side: Side,
 }
 
 /// A field of [`Config`], in their order.

@@ -14,6 +14,7 @@ use Rattle.model_line.specs.declared.config.Field.TheVariants.{Lines, Terminals,
 use Rattle.model_line.specs.Config.{is_within}
 use Rattle.model_line.specs.Sound.{IsInRange}
 use Rattle.model_line.proofs.Ranges.{Within, ranges_of}
+use Rattle.lapd_frame.specs.declared.addresses.Side.TheVariants.{Network}
 use Rattle.lapd_script.specs.declared.kind.FaultKind.{FaultKind}
 use Rattle.lapd_script.specs.declared.kind.FaultKind.TheVariants.{BadNumber}
 use Rattle.lapd_script.specs.Job.{Job, job, job_or_none, limits, limits_of, run, frame}
@@ -85,7 +86,7 @@ passed_by : (a b c d e : Bool) → a ≡ true → b ≡ true → c ≡ true → 
 passed_by a b c d e ea eb ec ed ee = rw ea (rw eb (rw ec (rw ed (rw ee refl))))
 
 abbrev card_of : ℕ → ℕ → ℕ → ℕ → ℕ → Config
-card_of l t r s n = record { lines = l; terminals = t; k = 1; k16 = 1; queue = 1; unit_queue = 1; control = r; slots = s; n201 = n; n200 = 0 }
+card_of l t r s n = record { lines = l; terminals = t; k = 1; k16 = 1; queue = 1; unit_queue = 1; control = r; slots = s; n201 = n; n200 = 0; side = Network }
 
 starts : (l t r s n : ℕ) → Within 1 64 l → Within 1 8 t → Within 2 16 r → Within 1 8192 s → Within 8 260 n → IsInRange (card_of l t r s n)
 starts l t r s n wl wt wr ws wn =

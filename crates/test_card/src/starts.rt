@@ -3,7 +3,7 @@
 ghost use Rattle.std.specs.Prelude.{◌≡◌, ◌≤◌, IfOk};
 ghost use Rattle.lapd_card.specs.Card.{line_count};
 
-use lapd_card::{Card, CardFault, Config, Field};
+use lapd_card::{Card, CardFault, Config, Field, Side};
 use lapd_line::StartFault;
 use lapd_store::{Shelf, SlabShelf};
 use std::alloc::Global;
@@ -22,6 +22,7 @@ pub const USUAL: Config = Config {
     slots: 64,
     n201: 260,
     n200: 3,
+    side: Side::Network,
 };
 
 /// A card of the usual sizes.

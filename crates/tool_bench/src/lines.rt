@@ -8,7 +8,7 @@ use crate::fault::Fault;
 use crate::sender::N201;
 use crate::terminal::Terminal;
 use lapd_card::{Card, Config, Request};
-use lapd_frame::Service;
+use lapd_frame::{Service, Side};
 use lapd_store::SlabShelf;
 use std::alloc::{AllocError, Global};
 
@@ -59,6 +59,7 @@ pub fn config(lines: u16) -> Config {
         slots: lines.saturating_mul(SLOTS),
         n201: N201,
         n200: 3,
+        side: Side::Network,
     }
 }
 

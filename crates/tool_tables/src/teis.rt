@@ -4,7 +4,7 @@ ghost use Rattle.std.specs.Prelude.{◌≤◌};
 
 use crate::text::Text;
 use crate::words;
-use lapd_frame::Refusal;
+use lapd_frame::{Refusal, Side};
 use lapd_tei::{Change, TeiOutcome, Teis};
 use std::alloc::Global;
 
@@ -167,7 +167,7 @@ fn lead(cell: &mut Text, teis: &mut Teis, case: Case, event: Event) {
     let answer = play(teis, event);
     skip(teis, case.held.len());
     match answer {
-        Ok(outcome) => tell(cell, &outcome, teis.offer()),
+        Ok(outcome) => tell(cell, &outcome, teis.offer(Side::Network)),
         Err(refusal) => cell.item(words::refusal_name(refusal)),
     }
 }
@@ -176,7 +176,7 @@ fn lead(cell: &mut Text, teis: &mut Teis, case: Case, event: Event) {
 fn prepare(teis: &mut Teis, events: &[Event]) {
     for event in events {
         let _ = play(teis, *event);
-        let _ = teis.offer();
+        let _ = teis.offer(Side::Network);
     }
 }
 
@@ -188,7 +188,7 @@ fn hold(teis: &mut Teis, events: &[Event]) {
 
 fn skip(teis: &mut Teis, messages: usize) {
     for _ in 0..messages {
-        let _ = teis.offer();
+        let _ = teis.offer(Side::Network);
     }
 }
 

@@ -123,5 +123,6 @@ pub fn refusal_name(refusal: Refusal) -> &'static str {
         Refusal::TableFull => "table-full",
         Refusal::CheckRunning => "check-running",
         Refusal::ControlFull => "control-full",
+        Refusal::WrongSide => "wrong-side",
     }
 }

@@ -2,7 +2,7 @@
 
 use lapd_bits::{Cause, fcs};
 use lapd_card::{Config, Request};
-use lapd_frame::{Note, Order, Refusal, Service, Timer};
+use lapd_frame::{Note, Order, Refusal, Service, Side, Timer};
 
 pub const CALL: Service = Service::Call;
 
@@ -74,6 +74,7 @@ pub const USUAL: Config = Config {
     slots: 64,
     n201: 260,
     n200: 3,
+    side: Side::Network,
 };
 
 /// TEI 64 is on the line.

@@ -1,7 +1,7 @@
 //! A check of a TEI, and how it ends.
 
 use super::heard::response;
-use lapd_frame::{Note, Order, ShortList, Timer};
+use lapd_frame::{Note, Order, ShortList, Side, Timer};
 use lapd_tei::Teis;
 use std::test::Fail;
 
@@ -15,8 +15,8 @@ const STOPPED: ShortList<Order> = ShortList::One([Order::Stop(Timer::T201)]);
 
 // Whether a check of TEI 64 begins, and its second period as T201 expires. Each asks for it.
 fn begins(teis: &mut Teis) -> bool {
-    let is_asked = teis.check(64).is_ok() && teis.offer() == Some(ASKED);
-    is_asked && teis.expire_t201().orders == STARTED && teis.offer() == Some(ASKED)
+    let is_asked = teis.check(64).is_ok() && teis.offer(Side::Network) == Some(ASKED);
+    is_asked && teis.expire_t201().orders == STARTED && teis.offer(Side::Network) == Some(ASKED)
 }
 
 // Whether a response takes the TEI off the line, which is told and sent.
@@ -24,7 +24,7 @@ fn takes_off(teis: &mut Teis) -> bool {
     let outcome = teis.message(&response(0x81));
     outcome.notes == ShortList::One([Note::Doubled(64)])
         && outcome.orders == STOPPED
-        && teis.offer() == Some(REMOVED)
+        && teis.offer(Side::Network) == Some(REMOVED)
 }
 
 #[test]

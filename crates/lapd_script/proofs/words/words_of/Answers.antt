@@ -2,11 +2,11 @@
 use Rattle.std.proofs.Common.{ℕ, ◌≤◌, ◌++◌, List, [], ◌∷◌, length, Bor, arith, ap, sym, ◌∙◌}
 use Rattle.std.proofs.lemmas.List.Elements.{All-push}
 use Rattle.lapd_script.specs.Words.{words_of, texts}
-use Rattle.lapd_script.proofs.WordLemmas.{texts_push, texts_last, texts_full, texts_all, twelve, fewer}
+use Rattle.lapd_script.proofs.WordLemmas.{texts_push, texts_last, texts_full, texts_all, thirteen, fewer}
 use Rattle.lapd_script.proofs.words.words_of.Goals as goal
 
 pub returns-then-is_full-clause-words : goal.returns-then-is_full-clause-words
-returns-then-is_full-clause-words c = texts_full c.loop-word.words.items _ _ c.loop-word.invariant.words (twelve _ c.if-is_full.ensures.value)
+returns-then-is_full-clause-words c = texts_full c.loop-word.words.items _ _ c.loop-word.invariant.words (thirteen _ c.if-is_full.ensures.value)
 
 pub loop-word-preserved : goal.loop-word-preserved
 loop-word-preserved c = record {
@@ -21,7 +21,7 @@ loop-word-preserved c = record {
 }
 
 pub returns-then-is_full-2-clause-words : goal.returns-then-is_full-2-clause-words
-returns-then-is_full-2-clause-words c = texts_full c.loop-word.words.items _ _ c.loop-word.invariant.words (twelve _ c.if-is_full-2.ensures.value)
+returns-then-is_full-2-clause-words c = texts_full c.loop-word.words.items _ _ c.loop-word.invariant.words (thirteen _ c.if-is_full-2.ensures.value)
 
 pub returns-clause-words : goal.returns-clause-words
 returns-clause-words c = rw c.push-2.ensures.items

@@ -13,4 +13,4 @@ returns-clause-after g c =
     let old = c.args.self.now in
     frame_leads old s c.serve.new.self t c.args.octets.now _ c.serve.result
     (are-octets c.args.octets.now (λ i. omega (arith, c.type_inv.octets i)))
-    (subst (λ h. Serves (aim_of_event h) (octets_of h) old.layer s c.serve.new.self t c.serve.result) c.heard-heard.ensures c.serve.ensures)
+    (subst (λ h. Serves (aim_of_event old.layer.config h) (octets_of h) old.layer s c.serve.new.self t c.serve.result) c.heard-heard.ensures c.serve.ensures)

@@ -10,4 +10,4 @@ returns-in-Ok-Information g c =
 
 pub returns-in-Err : goal.returns-in-Err
 returns-in-Err g c =
-    serves_as (λ others m st. ap (aim_of_long m) (sym c.in-Err.ensures.kept) ∙ long_fault m c.in-Err.fault) (c.faulty.ensures [] (omega arith))
+    serves_as (λ others m st. ap (aim_of_long m) (sym c.in-Err.ensures.kept) ∙ long_fault c.args.self.now.config m c.in-Err.fault) (c.faulty.ensures [] (omega arith))

@@ -10,7 +10,7 @@ use Rattle.lapd_line.proofs.link_layer.LinkLayer.take.Goals as goal
 
 pub returns-in-Some : goal.returns-in-Some
 returns-in-Some g c =
-    takes_first (λ x m. option_or (unit_taken m) (first_taken x m (round x m))) {first = λ x m. message_taken m} (c.in-Some.ensures (g.S.Shelf.store c.args.shelf.now))
+    takes_first (λ x m. option_or (unit_taken x m) (first_taken x m (round x m))) {first = λ x m. message_taken x m} (c.in-Some.ensures (g.S.Shelf.store c.args.shelf.now))
 
 pub take_unit-requires-clause-stands : goal.take_unit-requires-clause-stands
 take_unit-requires-clause-stands g c = (none_stands (c.in_default.ensures (g.S.Shelf.store c.args.shelf.now)) c.requires.stands).0
@@ -26,8 +26,8 @@ take_unit-requires-clause-room g c =
 
 pub returns-in-Some-take_unit : goal.returns-in-Some-take_unit
 returns-in-Some-take_unit g c =
-    takes_or {first = λ x m. message_taken m} {second = λ x m. option_or (unit_taken m) (first_taken x m (round x m))} (c.in_default.ensures (g.S.Shelf.store c.args.shelf.now))
-    (takes_first (λ x m. first_taken x m (round x m)) {first = λ x m. unit_taken m} c.in-Some-take_unit.ensures)
+    takes_or {first = λ x m. message_taken x m} {second = λ x m. option_or (unit_taken x m) (first_taken x m (round x m))} (c.in_default.ensures (g.S.Shelf.store c.args.shelf.now))
+    (takes_first (λ x m. first_taken x m (round x m)) {first = λ x m. unit_taken x m} c.in-Some-take_unit.ensures)
 
 pub take_first-requires-clause-stands : goal.take_first-requires-clause-stands
 take_first-requires-clause-stands g c =
@@ -59,8 +59,8 @@ take_first-requires-clause-within g c =
 
 pub returns-in-Some-take_first : goal.returns-in-Some-take_first
 returns-in-Some-take_first g c =
-    takes_or {first = λ x m. message_taken m} {second = λ x m. option_or (unit_taken m) (first_taken x m (round x m))} (c.in_default.ensures (g.S.Shelf.store c.args.shelf.now))
-    (takes_or {first = λ x m. unit_taken m} {second = λ x m. first_taken x m (round x m)} c.in_default-take_unit.ensures
+    takes_or {first = λ x m. message_taken x m} {second = λ x m. option_or (unit_taken x m) (first_taken x m (round x m))} (c.in_default.ensures (g.S.Shelf.store c.args.shelf.now))
+    (takes_or {first = λ x m. unit_taken x m} {second = λ x m. first_taken x m (round x m)} c.in_default-take_unit.ensures
     (round_found c.take_unit.new.self c.len-count.result c.len-count.ensures c.in-Some-take_first.ensures))
 
 pub take_first-requires-2-clause-stands : goal.take_first-requires-2-clause-stands
@@ -89,6 +89,6 @@ take_first-requires-2-clause-within g c =
 
 pub returns : goal.returns
 returns g c =
-    takes_or {first = λ x m. message_taken m} {second = λ x m. option_or (unit_taken m) (first_taken x m (round x m))} (c.in_default.ensures (g.S.Shelf.store c.args.shelf.now))
-    (takes_or {first = λ x m. unit_taken m} {second = λ x m. first_taken x m (round x m)} c.in_default-take_unit.ensures
+    takes_or {first = λ x m. message_taken x m} {second = λ x m. option_or (unit_taken x m) (first_taken x m (round x m))} (c.in_default.ensures (g.S.Shelf.store c.args.shelf.now))
+    (takes_or {first = λ x m. unit_taken x m} {second = λ x m. first_taken x m (round x m)} c.in_default-take_unit.ensures
     (round_ends c.take_unit.new.self c.len-count.result c.len-count.ensures c.in_default-take_first.ensures c.take_first-2.ensures))

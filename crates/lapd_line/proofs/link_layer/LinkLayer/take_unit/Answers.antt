@@ -9,7 +9,7 @@ use Rattle.lapd_line.proofs.link_layer.LinkLayer.take_unit.Goals as goal
 pub returns-in_err-unit : goal.returns-in_err-unit
 returns-in_err-unit g c =
     let s = g.S.Shelf.store c.args.shelf.now in
-    subst (λ r. Takes (λ c' m. unit_taken m) c.args.self.now s (g.O.Outlet.loading c.args.out.now) c.args.self.now s (g.O.Outlet.loading c.args.out.now) (orders_taken r)) (sym c.from_residual.ensures)
+    subst (λ r. Takes (λ c' m. unit_taken c' m) c.args.self.now s (g.O.Outlet.loading c.args.out.now) c.args.self.now s (g.O.Outlet.loading c.args.out.now) (orders_taken r)) (sym c.from_residual.ensures)
     (no_unit c.args.self.now s (g.O.Outlet.loading c.args.out.now) c.in_err-unit.ensures)
 
 pub get-requires : goal.get-requires
@@ -34,7 +34,7 @@ pub returns : goal.returns
 returns g c =
     let s = g.S.Shelf.store c.args.shelf.now in
     let t = g.S.Shelf.store c.release.new.self in
-    subst (λ o. Takes (λ c' m. unit_taken m) c.args.self.now s (g.O.Outlet.loading c.args.out.now) (record c.args.self.now { units = c.pop.new.self }) t (g.O.Outlet.loading c.load.new.out) (Some o)) (sym c.none.ensures)
-    (subst (λ r. Takes (λ c' m. unit_taken m) c.args.self.now s (g.O.Outlet.loading c.args.out.now) (record c.args.self.now { units = r }) t (g.O.Outlet.loading c.load.new.out) (Some [])) (sym c.pop.ensures)
+    subst (λ o. Takes (λ c' m. unit_taken c' m) c.args.self.now s (g.O.Outlet.loading c.args.out.now) (record c.args.self.now { units = c.pop.new.self }) t (g.O.Outlet.loading c.load.new.out) (Some o)) (sym c.none.ensures)
+    (subst (λ r. Takes (λ c' m. unit_taken c' m) c.args.self.now s (g.O.Outlet.loading c.args.out.now) (record c.args.self.now { units = r }) t (g.O.Outlet.loading c.load.new.out) (Some [])) (sym c.pop.ensures)
     (unit_loaded c.args.self.now s t (g.O.Outlet.loading c.args.out.now) (g.O.Outlet.loading c.load.new.out) c.in_ok-unit.unit c.sapi.result c.get.result.now (sym c.in_ok-unit.ensures) c.sapi.ensures c.get.ensures.octets
     c.release.ensures.released c.release.ensures.limits c.load.ensures.room c.load.ensures.loaded))

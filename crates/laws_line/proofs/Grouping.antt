@@ -1,0 +1,113 @@
+-- What the user's side hears of the network for the group: unit data, and messages of TEI management.
+use Rattle.std.proofs.Common.{◌≡◌, ℕ, ◌==◌, ◌≤◌, cond, List, length, Option, Some, None, refl, ap, ◌∙◌, arith}
+use Rattle.std.specs.Prelude.{nat_le}
+use Rattle.std.specs.Option.{option_map_or}
+use Rattle.std.proofs.lemmas.Bool.{le-leb}
+use Rattle.lapd_bits.specs.Stream as stream
+use Rattle.lapd_bits.specs.declared.heard.Cause.TheVariants.{Tei, Unserved}
+use Rattle.lapd_frame.specs.declared.addresses.Address.{Address}
+use Rattle.lapd_frame.specs.declared.addresses.Side.TheVariants.{User}
+use Rattle.lapd_frame.specs.declared.controls.Control.{Control}
+use Rattle.lapd_frame.specs.declared.controls.Control.TheVariants as control
+use Rattle.lapd_frame.specs.declared.services.Service.{Service}
+use Rattle.lapd_frame.specs.declared.services.Service.TheVariants.{Call, Packet}
+use Rattle.lapd_frame.specs.Grammar.{Parts, Spells}
+use Rattle.lapd_frame.specs.Services.{service_of, sapi_of}
+use Rattle.lapd_frame.proofs.Spelling.{reading-again}
+use Rattle.lapd_tei.proofs.Tables.{place_of-is}
+use Rattle.lapd_tei.specs.Events as teis
+use Rattle.model_link.specs.Events as link
+use Rattle.model_line.specs.declared.config.Config.{Config}
+use Rattle.model_line.specs.Event.{LineTold, octet, told, nothing, dropped}
+use Rattle.model_line.specs.Effect.{Aim, at_none, of_aim}
+use Rattle.model_line.specs.Line.{Line, place_in}
+use Rattle.model_line.specs.Machine.{after, answer}
+use Rattle.model_line.specs.Octet.{drop_for, management_sapi, at_place, to_service, addressed, message_of, aim_of_reading, heard_side, aim_of_heard, aim_of_octet, with_received}
+use Rattle.model_line.specs.Sides.{group_tei, group_told, told_of_ui, told_of_group, told_at, at_side, IsToGroup}
+use Rattle.model_line.specs.Sound.{IsSound}
+use Rattle.laws_line.specs.Heard.{Ends, IsUnitOfGroup, IsToManagement, IsDroppedFor}
+use Rattle.laws_line.proofs.Causing.{to-group}
+use Rattle.laws_line.proofs.GroupAims.{brings}
+use Rattle.laws_line.proofs.Hearing.{sapi-is}
+
+-- a frame that is read is this to the line
+read-aim : (c : Config) (l : Line) (value : ℕ) (parts : Parts) (octets : List ℕ) → Ends c l value octets → Spells (heard_side c) parts octets
+    → aim_of_octet c value l ≡ at_side c parts (addressed l parts.address (link.frame parts) (message_of parts.control parts.info))
+read-aim c l value parts octets ends spelled =
+    ap (λ o. option_map_or (aim_of_heard c l) o (at_none nothing)) (brings c l value octets ends)
+    ∙ ap (aim_of_reading c l) (reading-again (heard_side c) parts octets spelled)
+
+-- no TEI of a line is the group's
+none-there : (c : Config) (l : Line) → IsSound c l → place_in l group_tei ≡ None
+none-there c l s = go (place_in l group_tei) refl
+  where
+    go : (o : Option ℕ) → place_in l group_tei ≡ o → o ≡ None
+    go None is = refl
+    go (Some place) is = absurd (omega (arith, s.management.table.range place group_tei (place_of-is l.management.places group_tei place is).1))
+
+-- so a frame to the group is for no link
+for-nobody : (c : Config) (l : Line) (a : Address) (service : Service) (what : link.Received) (m : Aim) → IsSound c l → service_of a.sapi ≡ Some service → a.tei ≡ group_tei
+    → addressed l a what m ≡ drop_for Tei
+for-nobody c l a service what m s sapi group =
+    ap (λ n. cond (n == management_sapi) (cond (a.tei == group_tei) m (drop_for Tei)) (to_service l a.tei what (service_of n))) (sapi-is a.sapi service sapi)
+    ∙ by-service service
+    ∙ ap (λ n. at_place service n what (place_in l n)) group ∙ ap (at_place service group_tei what) (none-there c l s)
+  where
+    by-service : (by : Service) → cond (sapi_of by == management_sapi) (cond (a.tei == group_tei) m (drop_for Tei)) (to_service l a.tei what (service_of (sapi_of by)))
+        ≡ at_place by a.tei what (place_in l a.tei)
+    by-service Call = refl
+    by-service Packet = refl
+
+-- and a UI of a service is unit data
+group-is : (c : Config) (parts : Parts) (service : Service) (t : LineTold) → IsToGroup c parts service → told_at c c.side parts t ≡ group_told service parts.info
+group-is c parts service t to =
+    ap (λ side. told_at c side parts t) to.side ∙ ap (λ o. told_of_group c parts o t) to.sapi
+    ∙ ap (λ n. cond (n == group_tei) (told_of_ui c service parts.control parts.info t) t) to.group ∙ ap (λ k. told_of_ui c service k parts.info t) to.control
+    ∙ ap (λ b. cond b (group_told service parts.info) t) (le-leb (length parts.info) c.n201 to.size)
+
+pub group-unit : (c : Config) (l : Line) (value : ℕ) (parts : Parts) (octets : List ℕ) (service : Service) → IsSound c l → Ends c l value octets
+    → Spells (heard_side c) parts octets → IsToGroup c parts service
+    → IsUnitOfGroup service parts.info l (after c (octet value) l) (answer c (octet value) l) value
+unfolding after answer
+group-unit c l value parts octets service s ends spelled to =
+    let aim : aim_of_octet c value l ≡ at_none (group_told service parts.info) =
+    read-aim c l value parts octets ends spelled
+    ∙ ap (at_side c parts) (for-nobody c l parts.address service (link.frame parts) (message_of parts.control parts.info) s to.sapi to.group)
+    ∙ ap at_none (group-is c parts service (dropped Tei) to) in
+    record {
+      line = ap (λ a. (of_aim c a (with_received value l)).line) aim;
+      answer_is = ap (λ a. told (of_aim c a (with_received value l)).told) aim;
+    }
+
+-- What is for TEI management is not served.
+module _ (c : Config) (parts : Parts) (to : IsToManagement c parts) where
+  no-unit : at_none (told_at c c.side parts (dropped Unserved)) ≡ drop_for Unserved
+  no-unit =
+      ap (λ side. at_none (told_at c side parts (dropped Unserved))) to.side
+      ∙ ap (λ n. at_none (told_of_group c parts (service_of n) (dropped Unserved))) to.sapi
+
+  by-control : (k : Control) → at_side c parts (message_of k parts.info) ≡ drop_for Unserved
+  by-control (control.Ui p) = ap (λ side. Rattle.model_line.specs.Sides.managed_at side (teis.message parts.info)) to.side
+  by-control (control.Information ns nr p) = no-unit
+  by-control (control.ReceiveReady nr pf) = no-unit
+  by-control (control.ReceiveNotReady nr pf) = no-unit
+  by-control (control.Reject nr pf) = no-unit
+  by-control (control.Sabme p) = no-unit
+  by-control (control.Disc p) = no-unit
+  by-control (control.Ua f) = no-unit
+  by-control (control.Dm f) = no-unit
+  by-control (control.Frmr f) = no-unit
+  by-control (control.Xid pf) = no-unit
+
+pub managed-dropped : (c : Config) (l : Line) (value : ℕ) (parts : Parts) (octets : List ℕ) → Ends c l value octets
+    → Spells (heard_side c) parts octets → IsToManagement c parts → IsDroppedFor Unserved l (after c (octet value) l) (answer c (octet value) l) value
+unfolding after answer
+managed-dropped c l value parts octets ends spelled to =
+    let aim : aim_of_octet c value l ≡ drop_for Unserved =
+    read-aim c l value parts octets ends spelled
+    ∙ ap (at_side c parts) (to-group c l parts.address (link.frame parts) (message_of parts.control parts.info) to.sapi to.group)
+    ∙ by-control c parts to parts.control in
+    record {
+      line = ap (λ a. (of_aim c a (with_received value l)).line) aim;
+      answer_is = ap (λ a. told (of_aim c a (with_received value l)).told) aim;
+    }

@@ -1,0 +1,154 @@
+-- The user's side has no TEI management.
+use Rattle.std.proofs.Common.{◌≡◌, ℕ, Bool, true, false, not, cond, List, [], ◌∷◌, drop, Option, Some, None, refl, sym, ap, ◌∙◌, subst, true≢false, inl, inr}
+use Rattle.std.specs.Prelude.{IfSome}
+use Rattle.lapd_frame.specs.declared.addresses.Side.{Side}
+use Rattle.lapd_frame.specs.declared.addresses.Side.TheVariants.{User, Network}
+use Rattle.lapd_frame.specs.declared.refusals.Refusal.{Refusal}
+use Rattle.lapd_frame.specs.declared.services.Service.{Service}
+use Rattle.lapd_frame.specs.declared.timers.Timer.TheVariants.{T200, T203, T201}
+use Rattle.lapd_tei.specs.Events as teis
+use Rattle.lapd_tei.specs.Machine.{Management}
+use Rattle.lapd_tei.specs.Rows.{expire_check, join_at}
+use Rattle.lapd_tei.specs.Table.{free_place}
+use Rattle.lapd_tei.specs.Words.{begun}
+use Rattle.model_link.specs.declared.timers.LinkTimer.{LinkTimer}
+use Rattle.model_link.specs.declared.timers.LinkTimer.TheVariants as link_timer
+use Rattle.model_link.specs.Events as link
+use Rattle.model_line.specs.declared.config.Config.{Config}
+use Rattle.model_line.specs.Effect.{Aim, at_management, of_aim}
+use Rattle.model_line.specs.Event.{Event, octet, expiry, request, pull}
+use Rattle.model_line.specs.Expiry.{at_timer}
+use Rattle.model_line.specs.Line.{Line, fresh_line, place_in}
+use Rattle.model_line.specs.Machine.{after, unless_refused}
+use Rattle.model_line.specs.Octet.{with_received}
+use Rattle.model_line.specs.Pull.{Taken, taken, is_due, with_item, after_pull}
+use Rattle.model_line.specs.Refusal.{wrong_side, bad_tei, no_link, check_running, control_full, refusal}
+use Rattle.model_line.specs.Request.{Request, Establish, Release, Data, Unit, Assign, Remove, Check, SetBusy, ClearBusy}
+use Rattle.model_line.specs.Requested.{at_requested, aim_of_request}
+use Rattle.model_line.specs.Sides.{has_management}
+use Rattle.model_line.specs.Sound.{IsSound}
+use Rattle.laws_line.specs.Unmanaged.{IsUnmanaged, UsersManageNothing}
+use Rattle.laws_line.proofs.Asked.{passed}
+use Rattle.laws_line.proofs.GroupAims.{octet-aims}
+use Rattle.laws_line.proofs.LinkMoves.{IsOne, taken-one}
+use Rattle.laws_line.proofs.Managing.{managed}
+
+sides : User ≡ Network → ⊥
+sides e = cc e
+
+-- what is held of TEI management
+record IsIdle (m : Management) : Type 0 where
+  messages : m.waiting ≡ []
+  remembered : m.remembered ≡ []
+  check : m.check ≡ None
+
+idle-t201 : (m : Management) → m.check ≡ None → teis.course teis.expiry m ≡ begun m
+unfolding teis.course teis.refusal
+idle-t201 m none = ap (λ o. expire_check o (begun m)) none
+
+put-on : (m : Management) (tei : ℕ) → IsIdle m → (o : Option Refusal) (p : Option ℕ) → IsIdle (teis.unless_refused o (join_at tei p) m).now
+put-on m tei h (Some why) p = h
+put-on m tei h None None = h
+put-on m tei h None (Some place) = record { messages = h.messages; remembered = h.remembered; check = h.check }
+
+assigned : (m : Management) (tei : ℕ) → IsIdle m → IsIdle (teis.after (teis.assign tei) m)
+unfolding teis.course
+assigned m tei h = put-on m tei h (teis.refusal (teis.assign tei) m) (free_place m.places)
+
+module _ (c : Config) (l : Line) (user : c.side ≡ User) (s : IsSound c l) (h : IsUnmanaged l) where
+  by-management : (e : teis.Event) → IsIdle (teis.after e l.management) → IsUnmanaged (of_aim c (at_management e) l).line
+  by-management e idle =
+      let is = managed c l e in
+      record {
+        messages = ap (λ (m : Management). m.waiting) is ∙ idle.messages;
+        remembered = ap (λ (m : Management). m.remembered) is ∙ idle.remembered;
+        check = ap (λ (m : Management). m.check) is ∙ idle.check;
+      }
+
+  idle : IsIdle l.management
+  idle = record { messages = h.messages; remembered = h.remembered; check = h.check }
+
+  same : (next : Line) → next.management ≡ l.management → IsUnmanaged next
+  same next is = record {
+    messages = ap (λ (m : Management). m.waiting) is ∙ h.messages;
+    remembered = ap (λ (m : Management). m.remembered) is ∙ h.remembered;
+    check = ap (λ (m : Management). m.check) is ∙ h.check;
+  }
+
+  by-octet : (value : ℕ) → IsUnmanaged (after c (octet value) l)
+  unfolding after
+  by-octet value =
+      octet-aims c l value (λ aim. IsUnmanaged (of_aim c aim (with_received value l)).line) (same _ refl) (λ cause. same _ refl)
+      (λ service tei place what. same _ refl) (λ parts ui. absurd (sides (sym user ∙ ui.network))) (λ parts octets ends read service to. same _ refl)
+
+  by-timer : (service : Service) (tei : ℕ) (timer : LinkTimer) (o : Option ℕ) → IsUnmanaged (of_aim c (at_timer service tei timer o) l).line
+  by-timer service tei timer None = h
+  by-timer service tei timer (Some place) = same _ refl
+
+  by-asked : (service : Service) (tei : ℕ) (what : link.Request) (o : Option ℕ) → IsUnmanaged (of_aim c (at_requested service tei what o) l).line
+  by-asked service tei what None = h
+  by-asked service tei what (Some place) = same _ refl
+
+  -- nothing of TEI management but an assignment is granted
+  not-ours : (b : Bool) → b ≡ has_management c.side → not b ≡ false → ⊥
+  not-ours true is e = true≢false (is ∙ ap has_management user)
+  not-ours false is e = true≢false e
+
+  by-request : (r : Request) → refusal c false r l ≡ None → IsUnmanaged (of_aim c (aim_of_request r l) l).line
+  by-request (Establish service tei) none = by-asked service tei link.Establish (place_in l tei)
+  by-request (Release service tei) none = by-asked service tei link.Release (place_in l tei)
+  by-request (Data service tei contents) none = by-asked service tei (link.Data contents) (place_in l tei)
+  by-request (Unit service tei contents) none = same _ refl
+  by-request (SetBusy service tei) none = by-asked service tei link.SetBusy (place_in l tei)
+  by-request (ClearBusy service tei) none = by-asked service tei link.ClearBusy (place_in l tei)
+  by-request (Assign tei) none = by-management (teis.assign tei) (assigned l.management tei idle)
+  by-request (Remove tei) none =
+      absurd (not-ours (has_management c.side) refl (passed (wrong_side c) (bad_tei tei ∷ no_link tei l ∷ control_full l ∷ []) none).0)
+  by-request (Check tei) none =
+      absurd (not-ours (has_management c.side) refl (passed (wrong_side c) (bad_tei tei ∷ no_link tei l ∷ check_running l ∷ control_full l ∷ []) none).0)
+
+  -- a pull takes none of nothing
+  took : (t : Taken) → IsOne c l t → IsUnmanaged t.line
+  took t (inl x) =
+      let is = ap (λ (u : Taken). u.line.management) x.1 in
+      record {
+        messages = ap (λ (m : Management). m.waiting) is ∙ ap (λ ms. drop 1 ms) h.messages;
+        remembered = ap (λ (m : Management). m.remembered) is ∙ h.remembered;
+        check = ap (λ (m : Management). m.check) is ∙ h.check;
+      }
+  took t (inr (inl x)) = same t.line (ap (λ (u : Taken). u.line.management) x.1)
+  took t (inr (inr x)) = same t.line (ap (λ (u : Taken). u.line.management) x.is)
+
+  by-pull : IsUnmanaged (after_pull c l)
+  by-pull = go (is_due l) (taken c l) (taken-one c l s)
+    where
+      kept : (next : Line) → IsUnmanaged next → (given : List ℕ) → IsUnmanaged (record next { given = given })
+      kept next k given = record { messages = k.messages; remembered = k.remembered; check = k.check }
+
+      go : (due : Bool) (o : Option Taken) → IfSome o (IsOne c l) → IsUnmanaged (Rattle.model_line.specs.Pull.with_octet (cond due (with_item o l) l))
+      go false o x = kept l h _
+      go true None x = same _ refl
+      go true (Some t) x = let k = took t x in record { messages = k.messages; remembered = k.remembered; check = k.check }
+
+pub unmanaged-stays : (c : Config) (e : Event) (l : Line) → c.side ≡ User → IsSound c l → IsUnmanaged l → IsUnmanaged (after c e l)
+unfolding after
+unmanaged-stays c (octet value) l user s h = by-octet c l user s h value
+unmanaged-stays c (expiry (T200 service tei)) l user s h = by-timer c l user s h service tei link_timer.T200 (place_in l tei)
+unmanaged-stays c (expiry (T203 service tei)) l user s h = by-timer c l user s h service tei link_timer.T203 (place_in l tei)
+unmanaged-stays c (expiry T201) l user s h =
+    let none = idle-t201 l.management h.check in
+    by-management c l user s h teis.expiry
+    (record {
+      messages = ap (λ x. x.now.waiting) none ∙ h.messages;
+      remembered = ap (λ x. x.now.remembered) none ∙ h.remembered;
+      check = ap (λ x. x.now.check) none ∙ h.check;
+    })
+unmanaged-stays c (request r) l user s h = go (refusal c false r l) refl
+  where
+    go : (o : Option Refusal) → refusal c false r l ≡ o → IsUnmanaged (of_aim c (unless_refused o (aim_of_request r l)) l).line
+    go None none = by-request c l user s h r none
+    go (Some why) is = h
+unmanaged-stays c pull l user s h = by-pull c l user s h
+
+pub users-manage-nothing : UsersManageNothing
+users-manage-nothing = record { begins = λ c. record { messages = refl; remembered = refl; check = refl }; stays = unmanaged-stays }

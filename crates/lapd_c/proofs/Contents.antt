@@ -137,12 +137,12 @@ module _ (c : Config) where
   management-small : (e : teis.Event) (l : Line) → IsSmall c.n201 (of_management c e l).told.contents
   management-small e l = change-small (teis.told e l.management).change (teis.told e l.management) (record l { management = teis.after e l.management })
 
-  octet-small : (l m : Line) (o : Option stream.Event) → IsSmall c.n201 (of_aim c (option_map_or (aim_of_heard l) o (at_none nothing)) m).told.contents
+  octet-small : (l m : Line) (o : Option stream.Event) → IsSmall c.n201 (of_aim c (option_map_or (aim_of_heard c l) o (at_none nothing)) m).told.contents
   octet-small l m None = omega arith
   octet-small l m (Some e) =
-      heard_aims l (λ aim. IsSmall c.n201 (of_aim c aim m).told.contents) (λ cause. omega arith)
+      heard_aims c l (λ aim. IsSmall c.n201 (of_aim c aim m).told.contents) (λ cause. omega arith)
       (λ service n place what at. link-small service n place (link.received what) m (received-small (terms c service n) what (link_in m service place)))
-      (λ info. management-small (teis.message info) m) e
+      (λ info. management-small (teis.message info) m) (λ parts service to. to.size) e
 
   timer-small : (l : Line) (service : Service) (n : ℕ) (timer : LinkTimer) (o : Option ℕ) → IsSmall c.n201 (of_aim c (at_timer service n timer o) l).told.contents
   timer-small l service n timer None = omega arith

@@ -106,45 +106,45 @@ no-why disc t ns = refl
 no-why enquiry t ns = refl
 
 module _ (service : Service) (tei : ℕ) (k : Kind) where
-  abbrev goes : List (List ℕ) → ℕ
-  goes frames = length (filter (begins service tei k) frames)
+  abbrev goes : Config → List (List ℕ) → ℕ
+  goes c frames = length (filter (begins c service tei k) frames)
 
   abbrev waits : Line → ℕ
   waits l = count k (link_of service tei l).waiting
 
-  goes-both : (xs ys : List (List ℕ)) → goes (xs ++ ys) ≡ goes xs + goes ys
-  goes-both xs ys = ap length (filter-append (begins service tei k) xs ys) ∙ length-append (filter (begins service tei k) xs) (filter (begins service tei k) ys)
+  goes-both : (c : Config) (xs ys : List (List ℕ)) → goes c (xs ++ ys) ≡ goes c xs + goes c ys
+  goes-both c xs ys = ap length (filter-append (begins c service tei k) xs ys) ∙ length-append (filter (begins c service tei k) xs) (filter (begins c service tei k) ys)
 
   -- Frames of others are none of its commands.
-  foreign : (frame : List ℕ) → IsForeign service tei frame → begins service tei k frame ≡ false
-  foreign frame (inl x) =
-      ap (begins service tei k) x.1
-      ∙ read-again (λ r. is_of_link service tei k r ≡ false) (record { sapi = 63; command = true; tei = 127 }) (Ui false)
+  foreign : (c : Config) (frame : List ℕ) → IsForeign c service tei frame → begins c service tei k frame ≡ false
+  foreign c frame (inl x) =
+      ap (begins c service tei k) x.1
+      ∙ read-again c.side (λ r. is_of_link service tei k r ≡ false) (record { sapi = 63; command = true; tei = 127 }) (Ui false)
       (λ info. and-none (63 == sapi_of service && 127 == tei) (is_command k true (Ui false)) (no-ui k)) (λ fault. refl) (information_of x.0)
-  foreign frame (inr (inl x)) =
-      ap (begins service tei k) x.1
-      ∙ read-again (λ r. is_of_link service tei k r ≡ false) (record { sapi = sapi_of x.0.service; command = true; tei = x.0.tei }) (Ui false)
+  foreign c frame (inr (inl x)) =
+      ap (begins c service tei k) x.1
+      ∙ read-again c.side (λ r. is_of_link service tei k r ≡ false) (record { sapi = sapi_of x.0.service; command = true; tei = x.0.tei }) (Ui false)
       (λ info. and-none (sapi_of x.0.service == sapi_of service && x.0.tei == tei) (is_command k true (Ui false)) (no-ui k)) (λ fault. refl) x.0.contents
-  foreign frame (inr (inr x)) =
+  foreign c frame (inr (inr x)) =
       let t = x.0 in
       let g = x.1 in
       let away : (sapi_of t.service == sapi_of service && t.tei == tei) ≡ false = ap (λ b. b && t.tei == tei) (same-sapi t.service service) ∙ x.3 in
-      ap (begins service tei k) x.2
-      ∙ read-again (λ r. is_of_link service tei k r ≡ false) (address_at t g.frame.command) g.frame.control
+      ap (begins c service tei k) x.2
+      ∙ read-again c.side (λ r. is_of_link service tei k r ≡ false) (address_at t g.frame.command) g.frame.control
       (λ info. ap (λ b. b && is_command k g.frame.command g.frame.control) away) (λ fault. refl) (unwrap_or g.contents [])
 
-  all-foreign : (frames : List (List ℕ)) → All (IsForeign service tei) frames → goes frames ≡ 0
-  all-foreign [] h = refl
-  all-foreign (f ∷ frames) h =
-      let whole = one-kept (begins service tei k) f frames in
-      let first : one (begins service tei k f) ≡ 0 = ap one (foreign f (All-head (IsForeign service tei) f frames h)) in
-      let rest = all-foreign frames (All-tail (IsForeign service tei) f frames h) in
+  all-foreign : (c : Config) (frames : List (List ℕ)) → All (IsForeign c service tei) frames → goes c frames ≡ 0
+  all-foreign c [] h = refl
+  all-foreign c (f ∷ frames) h =
+      let whole = one-kept (begins c service tei k) f frames in
+      let first : one (begins c service tei k f) ≡ 0 = ap one (foreign c f (All-head (IsForeign c service tei) f frames h)) in
+      let rest = all-foreign c frames (All-tail (IsForeign c service tei) f frames h) in
       omega (arith, whole, first, rest)
 
   -- What a link gives.
-  given-goes : (t : Terms) (g : Given) → one (begins service tei k (frame_of t g)) ≤ one (command_of k g.frame)
-  given-goes t g =
-      read-again (λ r. one (is_of_link service tei k r) ≤ one (command_of k g.frame)) (address_at t g.frame.command) g.frame.control
+  given-goes : (c : Config) (t : Terms) (g : Given) → one (begins c service tei k (frame_of c t g)) ≤ one (command_of k g.frame)
+  given-goes c t g =
+      read-again c.side (λ r. one (is_of_link service tei k r) ≤ one (command_of k g.frame)) (address_at t g.frame.command) g.frame.control
       (λ info. both-least (sapi_of t.service == sapi_of service && t.tei == tei) (command_of k g.frame)) (λ fault. none-least (one (command_of k g.frame))) (unwrap_or g.contents [])
 
   plain : (f other : ControlFrame) → f ≡ other → command_of k other ≡ false → command_of k f ≡ false
@@ -173,15 +173,15 @@ module _ (service : Service) (tei : ℕ) (k : Kind) where
       no-receipt disc = refl
       no-receipt enquiry = refl
 
-  offered : (t : Terms) (l : Link) (o : Option Given) → IfSome o (λ g. IsInOrder t l (links.after t link.offer l) g.frame)
-      → goes (map (frame_of t) (option_to_list o)) + count k (links.after t link.offer l).waiting ≤ count k l.waiting
-  offered t l None h =
+  offered : (c : Config) (t : Terms) (l : Link) (o : Option Given) → IfSome o (λ g. IsInOrder t l (links.after t link.offer l) g.frame)
+      → goes c (map (frame_of c t) (option_to_list o)) + count k (links.after t link.offer l).waiting ≤ count k l.waiting
+  offered c t l None h =
       let few = link-caused k t link.offer l in
       let none : one (is_why k t link.offer (links.told t link.offer l).notes) ≡ 0 = ap one (no-why k t (links.told t link.offer l).notes) in
       omega (arith, few, none)
-  offered t l (Some g) h =
-      let first = one-kept (begins service tei k) (frame_of t g) [] in
-      omega (arith, first, given-goes t g, in-order t l (links.after t link.offer l) g.frame h)
+  offered c t l (Some g) h =
+      let first = one-kept (begins c service tei k) (frame_of c t g) [] in
+      omega (arith, first, given-goes c t g, in-order t l (links.after t link.offer l) g.frame h)
 
   -- One event of a line.
   module _ (c : Config) (ranged : IsInRange c) (e : Event) (l : Line) (s : IsSound c l) where
@@ -201,14 +201,14 @@ module _ (service : Service) (tei : ℕ) (k : Kind) where
     why = is_cause service tei k e a
 
     abbrev Counts : Type 0
-    Counts = goes (frame_in c e l) + waits next ≤ waits l + one why
+    Counts = goes c (frame_in c e l) + waits next ≤ waits l + one why
 
     stays : (link_of service tei next ≡ own) ⊎ (link_of service tei next ≡ fresh_link) → waits next ≤ waits l
     stays (inl same) = subst (λ (x : Link). count k x.waiting ≤ waits l) (sym same) (omega arith)
     stays (inr gone) = subst (λ (x : Link). count k x.waiting ≤ waits l) (sym gone) (none-least (waits l))
 
     none-of-it : HasNone c service tei e l next a → Counts
-    none-of-it x = omega (arith, all-foreign (frame_in c e l) x.begins, stays x.is)
+    none-of-it x = omega (arith, all-foreign c (frame_in c e l) x.begins, stays x.is)
 
     own-true : is_own service tei service tei ≡ true
     own-true = ap (λ b. b && tei == tei) (same-itself service) ∙ eq-eqb tei tei refl
@@ -278,8 +278,8 @@ module _ (service : Service) (tei : ℕ) (k : Kind) where
         (sound_in c ranged l s service tei place (place_of-is l.management.places tei place is).1)
 
     one-goes : (event : link.Event) → link_sound.IsSound its own → one (is_why k its event (links.told its event own).notes) ≤ one why
-        → goes (frames_given its event own) + count k (links.after its event own).waiting ≤ waits l + one why
-    one-goes link.offer s h = omega (arith, offered its own (links.given its own) (given-in-order its own s))
+        → goes c (frames_given c its event own) + count k (links.after its event own).waiting ≤ waits l + one why
+    one-goes link.offer s h = omega (arith, offered c its own (links.given its own) (given-in-order its own s))
     one-goes (link.received what) s h = omega (arith, link-caused k its (link.received what) own, h)
     one-goes (link.expired timer) s h = omega (arith, link-caused k its (link.expired timer) own, h)
     one-goes (link.requested r full) s h = omega (arith, link-caused k its (link.requested r full) own, h)
@@ -287,12 +287,12 @@ module _ (service : Service) (tei : ℕ) (k : Kind) where
 
     one-of-it : HasOne c service tei e l next a → Counts
     one-of-it x =
-        subst (λ fs. goes fs + waits next ≤ waits l + one why) (sym x.begins)
-        (subst (λ (y : Link). goes (frames_given its x.event own) + count k y.waiting ≤ waits l + one why) (sym x.is)
+        subst (λ fs. goes c fs + waits next ≤ waits l + one why) (sym x.begins)
+        (subst (λ (y : Link). goes c (frames_given c its x.event own) + count k y.waiting ≤ waits l + one why) (sym x.is)
         (one-goes x.event (sound x.place x.placed) (why-is x.event x.by x.notes)))
 
-    pub event-counts : goes (frames_begun (seen c e l a)) + waits next ≤ waits l + one why
-    event-counts = subst (λ fs. goes fs + waits next ≤ waits l + one why) (sym (frames-are c e l a)) (go (event-goes c e l service tei s))
+    pub event-counts : goes c (frames_begun (seen c e l a)) + waits next ≤ waits l + one why
+    event-counts = subst (λ fs. goes c fs + waits next ≤ waits l + one why) (sym (frames-are c e l a)) (go (event-goes c e l service tei s))
       where
         go : Goes c service tei e l next a → Counts
         go (inl x) = none-of-it x
@@ -304,32 +304,32 @@ module _ (service : Service) (tei : ℕ) (k : Kind) where
 
   own-line : (m : Card) (e : card.Event) → card_sound.IsSound m → IsAtLine m e
       → let l = line_at e.line m in
-      goes (frames_begun (seen m.config e.what l (cards.answer e m))) + waits (line_at e.line (cards.after e m)) ≤ waits l + one (is_cause service tei k e.what (cards.answer e m))
+      goes m.config (frames_begun (seen m.config e.what l (cards.answer e m))) + waits (line_at e.line (cards.after e m)) ≤ waits l + one (is_cause service tei k e.what (cards.answer e m))
   own-line m e s at-line =
       let c = m.config in
       let l = line_at e.line m in
-      by_room (λ ls a. goes (frames_begun (seen c e.what l a)) + waits (get_or ls e.line (fresh_line c)) ≤ waits l + one (is_cause service tei k e.what a)) e m
+      by_room (λ ls a. goes c (frames_begun (seen c e.what l a)) + waits (get_or ls e.line (fresh_line c)) ≤ waits l + one (is_cause service tei k e.what a)) e m
       (λ full.
       let none = nothing-seen c e.what l (and_parts (lines.takes_slot c e.what l) (is_full m) full).0 in
-      subst (λ t. goes (frames_begun t) + waits l ≤ waits l + one (is_cause service tei k e.what (refused PoolFull))) (sym none) (omega arith))
+      subst (λ t. goes c (frames_begun t) + waits l ≤ waits l + one (is_cause service tei k e.what (refused PoolFull))) (sym none) (omega arith))
       (λ room.
-      subst (λ (x : Line). goes (frames_begun (seen c e.what l (lines.answer c e.what l))) + waits x ≤ waits l + one (is_cause service tei k e.what (lines.answer c e.what l)))
+      subst (λ (x : Line). goes c (frames_begun (seen c e.what l (lines.answer c e.what l))) + waits x ≤ waits l + one (is_cause service tei k e.what (lines.answer c e.what l)))
       (sym (get_or-set_same m.lines e.line (lines.after c e.what l) (fresh_line c) (omega (arith, s.count, at-line))))
       (event-counts c s.config e.what l (line_sound m e.line (has_lines m s) at-line)))
 
   moment : (m : Card) (e : card.Event) (number : ℕ) → card_sound.IsSound m → IsAtLine m e → (b : Bool) → (e.line == number) ≡ b
-      → goes (frames_begun (cond b (seen m.config e.what (line_at number m) (cards.answer e m)) [])) + waits (line_at number (cards.after e m))
+      → goes m.config (frames_begun (cond b (seen m.config e.what (line_at number m) (cards.answer e m)) [])) + waits (line_at number (cards.after e m))
       ≤ waits (line_at number m) + one (b && is_cause service tei k e.what (cards.answer e m))
   moment m e number s at-line false other =
       let same = apart m e number (λ same. true≢false (sym (eq-eqb e.line number (sym same)) ∙ other)) in
       let kept : waits (line_at number (cards.after e m)) ≡ waits (line_at number m) = ap waits same in
       omega (arith, kept)
   moment m e number s at-line true is =
-      subst (λ n. goes (frames_begun (seen m.config e.what (line_at n m) (cards.answer e m))) + waits (line_at n (cards.after e m))
+      subst (λ n. goes m.config (frames_begun (seen m.config e.what (line_at n m) (cards.answer e m))) + waits (line_at n (cards.after e m))
       ≤ waits (line_at n m) + one (is_cause service tei k e.what (cards.answer e m))) (eqb-true e.line number is) (own-line m e s at-line)
 
   run-counts : (m : Card) (events : List card.Event) (number : ℕ) → card_sound.IsSound m → AreAtLines m events
-      → goes (frames_begun (trace number (moments m events))) + waits (line_at number (after_all m events))
+      → goes m.config (frames_begun (trace number (moments m events))) + waits (line_at number (after_all m events))
       ≤ waits (line_at number m) + length (filter (is_cause_in service tei k number) (moments m events))
   unfolding moments after_all
   run-counts m [] number s all = omega arith
@@ -338,8 +338,8 @@ module _ (service : Service) (tei : ℕ) (k : Kind) where
       let later = cards.after e m in
       let first = traces.seen_in number (moment-of m e) in
       let rest = trace number (moments later events) in
-      let frames : goes (frames_begun (first ++ rest)) ≡ goes (frames_begun first) + goes (frames_begun rest) =
-      ap goes (flat_map-append traces.frame_begun first rest) ∙ goes-both (frames_begun first) (frames_begun rest) in
+      let frames : goes m.config (frames_begun (first ++ rest)) ≡ goes m.config (frames_begun first) + goes m.config (frames_begun rest) =
+      ap (goes m.config) (flat_map-append traces.frame_begun first rest) ∙ goes-both m.config (frames_begun first) (frames_begun rest) in
       let causes = one-kept (is_cause_in service tei k number) (moment-of m e) (moments later events) in
       let now = moment m e number s at-line (e.line == number) refl in
       let then = run-counts later events number (after_is_sound m e s at-line) (All-tail (IsAtLine m) e events all) in

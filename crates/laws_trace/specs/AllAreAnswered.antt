@@ -23,7 +23,7 @@ is_answered (Some state) poll = nat_le 7 state
 -- What is heard for it in a moment, and is to be answered; not where the answer to the octet counts a frame as lost.
 abbrev pub due_in : Service → ℕ → ℕ → Moment → List Exchange
 due_in service tei number m =
-    if lost_in m.answer == 0 then filter (is_answered (state_of service tei (line_at number m.card))) (flat_map (asked_at service tei) (seen_in number m)) else []
+    if lost_in m.answer == 0 then filter (is_answered (state_of service tei (line_at number m.card))) (flat_map (asked_at m.card.config service tei) (seen_in number m)) else []
 
 abbrev pub due : Service → ℕ → ℕ → List Moment → List Exchange
 due service tei number ms = flat_map (due_in service tei number) ms
@@ -42,4 +42,4 @@ AllAreAnswered c events number =
     ArePullsAt number pulls → most_pulls c ≤ pulls_at number pulls →
     let card = after_all (fresh c) before in
     StaysOn number tei card meanwhile →
-    IsPart (due service tei number (moments card meanwhile)) (flat_map (answered_at service tei) (trace number (moments card (meanwhile ++ pulls))))
+    IsPart (due service tei number (moments card meanwhile)) (flat_map (answered_at c service tei) (trace number (moments card (meanwhile ++ pulls))))

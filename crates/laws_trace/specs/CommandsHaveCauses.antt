@@ -1,7 +1,6 @@
 -- Why a command begins.
 use Rattle.std.specs.Prelude.{◌≤◌, ℕ, ◌==◌, ◌&&◌, Bool, true, false, List, length, filter, Result, Ok, Err}
 use Rattle.std.specs.List.{list_any}
-use Rattle.lapd_frame.specs.declared.addresses.Side.TheVariants.{Network}
 use Rattle.lapd_frame.specs.declared.controls.Control.{Control}
 use Rattle.lapd_frame.specs.declared.controls.Control.TheVariants.{ReceiveReady, ReceiveNotReady, Reject, Sabme, Disc}
 use Rattle.lapd_frame.specs.declared.faults.ReadFault.{ReadFault}
@@ -42,11 +41,11 @@ is_of_link service tei kind (Ok frame) =
     (frame.address.sapi == sapi_of service && frame.address.tei == tei) && is_command kind frame.address.command frame.control
 is_of_link service tei kind (Err fault) = false
 
-abbrev pub begins : Service → ℕ → Kind → List ℕ → Bool
-begins service tei kind octets = is_of_link service tei kind (reading Network octets)
+abbrev pub begins : Config → Service → ℕ → Kind → List ℕ → Bool
+begins c service tei kind octets = is_of_link service tei kind (reading c.side octets)
 
-abbrev pub commands_begun : Service → ℕ → Kind → List Seen → ℕ
-commands_begun service tei kind t = length (filter (begins service tei kind) (frames_begun t))
+abbrev pub commands_begun : Config → Service → ℕ → Kind → List Seen → ℕ
+commands_begun c service tei kind t = length (filter (begins c service tei kind) (frames_begun t))
 
 -- What leads to one: for SABME a granted request to establish the link, or an error of it that is noted of what was heard; for
 -- DISC a granted request to release it; for an enquiry the expiry of its T203; and for each the expiry of its T200 (clauses
@@ -73,4 +72,4 @@ is_cause_in service tei kind number m = m.event.line == number && is_cause servi
 abbrev pub CommandsHaveCauses : Config → List card.Event → ℕ → Type 0
 CommandsHaveCauses c events number =
     (service : Service) (tei : ℕ) (kind : Kind) →
-    commands_begun service tei kind (trace_of c events number) ≤ length (filter (is_cause_in service tei kind number) (moments (fresh c) events))
+    commands_begun c service tei kind (trace_of c events number) ≤ length (filter (is_cause_in service tei kind number) (moments (fresh c) events))

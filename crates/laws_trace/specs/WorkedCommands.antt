@@ -21,7 +21,7 @@ use Rattle.laws_trace.specs.WorkedUnits.{pulls}
 abbrev sent_again : List Event
 sent_again = on_0 (Assign 64) ∷ on_0 (Establish Call 64) ∷ (pulls 2 ++ (at 0 (expiry (T200 Call 64)) ∷ pulls 8))
 
-two_begin : commands_begun Call 64 sabme (trace_of usual sent_again 0) ≡ 2
+two_begin : commands_begun usual Call 64 sabme (trace_of usual sent_again 0) ≡ 2
 unfolding moments lines.after lines.answer lines.takes_slot teis.course teis.refusal low_bits reading header_of control_of unnumbered_of
 two_begin = refl
 
@@ -30,6 +30,6 @@ unfolding moments lines.after lines.answer lines.takes_slot teis.course teis.ref
 two_causes = refl
 
 -- Where SABME begins, and nothing led to it, the law is broken.
-without_cause : commands_begun Call 64 sabme (begun (0x02 ∷ 0x81 ∷ 0x7F ∷ []) ∷ []) ≤ 0 → ⊥
+without_cause : commands_begun usual Call 64 sabme (begun (0x02 ∷ 0x81 ∷ 0x7F ∷ []) ∷ []) ≤ 0 → ⊥
 unfolding reading header_of control_of unnumbered_of
 without_cause few = let one : 1 ≤ 0 = few in omega (arith, one)

@@ -131,7 +131,7 @@ impl Line {
     fn take_in<S: Shelf>(&mut self, shelf: &mut S) -> BareReport
         requires { Standing self.old.layer (S.store shelf.old) }
         ensures line { self.new ≡ with_counted (with_served self.new.layer self.old) (heard_shown (latest_of self.old.deframer) ++ bare_shown result) }
-        ensures served { Serves (aim_of_event (latest_of self.old.deframer)) (latest_frame self.old)
+        ensures served { Serves (aim_of_event self.old.layer.config (latest_of self.old.deframer)) (latest_frame self.old)
             self.old.layer (S.store shelf.old) self.new.layer (S.store shelf.new) result }
     {
         let bare = self.serve(shelf);

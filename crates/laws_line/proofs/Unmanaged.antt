@@ -8,7 +8,7 @@ use Rattle.lapd_frame.specs.declared.services.Service.{Service}
 use Rattle.lapd_frame.specs.declared.timers.Timer.TheVariants.{T200, T203, T201}
 use Rattle.lapd_tei.specs.Events as teis
 use Rattle.lapd_tei.specs.Machine.{Management}
-use Rattle.lapd_tei.specs.Rows.{expire_check, join_at}
+use Rattle.lapd_tei.specs.Rows.{expire_check, join_at, put_on}
 use Rattle.lapd_tei.specs.Table.{free_place}
 use Rattle.lapd_tei.specs.Words.{begun}
 use Rattle.model_link.specs.declared.timers.LinkTimer.{LinkTimer}
@@ -46,14 +46,17 @@ idle-t201 : (m : Management) → m.check ≡ None → teis.course teis.expiry m 
 unfolding teis.course teis.refusal
 idle-t201 m none = ap (λ o. expire_check o (begun m)) none
 
-put-on : (m : Management) (tei : ℕ) → IsIdle m → (o : Option Refusal) (p : Option ℕ) → IsIdle (teis.unless_refused o (join_at tei p) m).now
-put-on m tei h (Some why) p = h
-put-on m tei h None None = h
-put-on m tei h None (Some place) = record { messages = h.messages; remembered = h.remembered; check = h.check }
+joined : (m : Management) (tei : ℕ) → IsIdle m → (p : Option ℕ) → IsIdle (join_at tei p (begun m)).now
+joined m tei h None = h
+joined m tei h (Some place) = record { messages = h.messages; remembered = h.remembered; check = h.check }
+
+put-on : (m : Management) (tei : ℕ) → IsIdle m → (o : Option Refusal) → IsIdle (teis.unless_refused o (put_on tei) m).now
+put-on m tei h (Some why) = h
+put-on m tei h None = joined m tei h (free_place m.places)
 
 assigned : (m : Management) (tei : ℕ) → IsIdle m → IsIdle (teis.after (teis.assign tei) m)
 unfolding teis.course
-assigned m tei h = put-on m tei h (teis.refusal (teis.assign tei) m) (free_place m.places)
+assigned m tei h = put-on m tei h (teis.refusal (teis.assign tei) m)
 
 module _ (c : Config) (l : Line) (user : c.side ≡ User) (s : IsSound c l) (h : IsUnmanaged l) where
   by-management : (e : teis.Event) → IsIdle (teis.after e l.management) → IsUnmanaged (of_aim c (at_management e) l).line

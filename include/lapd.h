@@ -320,9 +320,9 @@ enum {
 };
 
 /* Asks for something at a line; the contents are copied. LAPD_REFUSED_BAD_TEI to LAPD_REFUSED_CONTROL_FULL, or
- * LAPD_REFUSED_WRONG_SIDE, where it is refused. The service is LAPD_CALL or LAPD_PACKET in each, though assign, remove and check are about both; the length
- * is 0 except for LAPD_DATA and LAPD_UNIT. The contents lie outside of *report; where they are those of the report itself,
- * ask by lapd_data or lapd_unit. */
+ * LAPD_REFUSED_WRONG_SIDE, where it is refused. The service is LAPD_CALL or LAPD_PACKET in each, though assign, remove
+ * and check are about both; the length is 0 except for LAPD_DATA and LAPD_UNIT. The contents lie outside of *report;
+ * where they are those of the report itself, ask by lapd_data or lapd_unit. */
 uint32_t lapd_request(lapd_card *card, uint32_t line, uint8_t request, uint8_t service, uint8_t tei,
                       const uint8_t *contents, size_t length, lapd_report *report);
 

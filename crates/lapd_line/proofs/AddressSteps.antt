@@ -1,12 +1,16 @@
 -- What is heard, by whom it is for.
-use Rattle.std.proofs.Common.{◌≡◌, ℕ, Bool, true, false, not, ◌&&◌, nat_le, ◌==◌, ◌≤◌, List, [], Option, Some, None, Err, length, drop, refl, sym, ap, ◌∙◌, cond, subst, eqb-true}
+use Rattle.std.proofs.Common.{◌≡◌, ℕ, Bool, true, false, not, ◌&&◌, nat_le, ◌==◌, ◌≤◌, List, [], ◌∷◌, Option, Some, None, Err, length, drop, refl, sym, ap, ◌∙◌, cond, subst, eqb-true}
 use Rattle.std.proofs.Math.ListN.{drop_of_length-le}
 use Rattle.lapd_frame.specs.declared.addresses.Address.{Address}
 use Rattle.lapd_frame.specs.declared.addresses.Side.{Side}
 use Rattle.lapd_frame.specs.declared.addresses.Side.TheVariants.{User, Network}
+use Rattle.lapd_frame.specs.declared.notes.Note.{Note}
+use Rattle.lapd_frame.specs.declared.notes.Note.TheVariants as notes
 use Rattle.lapd_frame.specs.declared.services.Service.{Service}
+use Rattle.lapd_frame.specs.declared.short_lists.ShortList.{ShortList}
 use Rattle.lapd_frame.specs.Grammar.{Parts}
 use Rattle.lapd_frame.specs.Services.{service_of}
+use Rattle.lapd_frame.specs.ShortLists.{listed}
 use Rattle.lapd_bits.specs.declared.heard.Cause.TheVariants.{Tei, Unserved}
 use Rattle.lapd_frame.specs.declared.controls.Control.{Control}
 use Rattle.lapd_frame.specs.declared.controls.Control.TheVariants as control
@@ -20,7 +24,7 @@ use Rattle.std.proofs.lemmas.Bool.{false≢true}
 use Rattle.lapd_store.specs.Ownership.{Owned}
 use Rattle.lapd_store.specs.Store.{Store}
 use Rattle.model_line.specs.declared.config.Config.{Config}
-use Rattle.model_line.specs.Event.{LineTold, dropped}
+use Rattle.model_line.specs.Event.{LineTold, nothing, dropped}
 use Rattle.model_line.specs.Line.{Line, place_in}
 use Rattle.model_line.specs.Octet.{addressed, at_place, to_service, management_sapi, group_tei, drop_for, message_of, aim_of_long, aim_of_reading}
 use Rattle.model_line.specs.Effect.{Aim, at_none, at_management, of_aim}
@@ -194,3 +198,10 @@ module _ (c : Config) (parts : Parts) (told : LineTold) where
 
   pub told_is : (o : Option Service) → o ≡ group_service c parts → told_at c c.side parts told ≡ told_by_service o parts.info told
   told_is o is = by_side c.side ∙ ap (λ x. told_by_service x parts.info told) (sym is)
+
+-- and so it is reported
+pub group_reported : (octets : List ℕ) (one : ShortList Note) (rest : BareReport) (start : ℕ) (service : Service) (info : List ℕ)
+    → listed one ≡ notes.Unit service group_tei ∷ [] → told_in octets rest ≡ nothing → drop start octets ≡ info
+    → told_in octets (record { notes = one; orders = rest.orders; contents = Some start; cause = rest.cause; lost = rest.lost }) ≡ group_told service info
+group_reported octets one rest start service info noted none contents =
+    λ i. record { notes = noted i; contents = Some (contents i); cause = (none i).cause; orders = (none i).orders; lost = (none i).lost }

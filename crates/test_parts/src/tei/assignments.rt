@@ -9,7 +9,9 @@ use std::test::Fail;
 fn is_answered_alone(teis: &mut Teis, low: u8, kind: u8, last: u8) -> bool {
     let outcome = teis.message(&request(low));
     let frame = [0xFE, 0xFF, 0x03, 0x0F, 0x12, low, kind, last];
-    outcome.change.is_none() && outcome.notes == ShortList::None && teis.offer(Side::Network) == Some(frame)
+    outcome.change.is_none()
+        && outcome.notes == ShortList::None
+        && teis.offer(Side::Network) == Some(frame)
 }
 
 // Whether the answer to a request is this frame, and this TEI has come to the line.
@@ -33,7 +35,9 @@ fn nine_terminals_ask_a_line_of_eight(rt: HostRuntime) -> Result<(), Fail> {
     assert!(rt; is_answered_alone(&mut teis, 0x34, 0x03, 0xFF));
     assert!(rt; teis.held() == 12);
     assert!(rt; teis.remove(71).is_ok());
-    assert!(rt; teis.offer(Side::Network) == Some([0xFE, 0xFF, 0x03, 0x0F, 0x00, 0x00, 0x06, 0x8F]));
+    assert!(rt;
+        teis.offer(Side::Network) == Some([0xFE, 0xFF, 0x03, 0x0F, 0x00, 0x00, 0x06, 0x8F])
+    );
     assert!(rt; is_assigned(&mut teis, 0x3B, 71, 7, 0x8F));
     Ok(())
 }

@@ -1,5 +1,5 @@
 -- Hand-written answers for `FrameLine::next_frame`.
-use Rattle.std.proofs.Common.{ap, subst, arith}
+use Rattle.std.proofs.Common.{subst, arith}
 use Rattle.model_line.specs.Pull.{taken}
 use Rattle.lapd_line.specs.Loading.{in_octets}
 use Rattle.lapd_line.specs.Pulls.{Takes, orders_taken}

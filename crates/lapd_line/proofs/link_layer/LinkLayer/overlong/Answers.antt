@@ -1,13 +1,14 @@
 -- Hand-written answers for `LinkLayer::overlong`.
 use Rattle.std.proofs.Common.{[], sym, ap, ◌∙◌, Ok, arith}
+use Rattle.lapd_frame.specs.Reading.{long_reading}
 use Rattle.model_line.specs.Octet.{aim_of_long}
 use Rattle.lapd_line.proofs.AddressSteps.{serves_as, long_fault}
 use Rattle.lapd_line.proofs.link_layer.LinkLayer.overlong.Goals as goal
 
 pub returns-in-Ok-Information : goal.returns-in-Ok-Information
 returns-in-Ok-Information g c =
-    serves_as (λ others m st. ap (aim_of_long m) (sym c.in-Ok-Information.ensures.kept ∙ ap Ok c.in-Ok-Information.field-0-is)) (c.malformed.ensures [] (omega arith))
+    serves_as (λ others m st. ap (λ side. aim_of_long m (long_reading side c.args.head.now)) (sym c.other.ensures) ∙ ap (aim_of_long m) (sym c.in-Ok-Information.ensures.kept ∙ ap Ok c.in-Ok-Information.field-0-is)) (c.malformed.ensures [] (omega arith))
 
 pub returns-in-Err : goal.returns-in-Err
 returns-in-Err g c =
-    serves_as (λ others m st. ap (aim_of_long m) (sym c.in-Err.ensures.kept) ∙ long_fault c.args.self.now.config m c.in-Err.fault) (c.faulty.ensures [] (omega arith))
+    serves_as (λ others m st. ap (λ side. aim_of_long m (long_reading side c.args.head.now)) (sym c.other.ensures) ∙ ap (aim_of_long m) (sym c.in-Err.ensures.kept) ∙ long_fault c.args.self.now.config m c.in-Err.fault) (c.faulty.ensures [] (omega arith))

@@ -1,0 +1,12 @@
+-- Hand-written answers for `LinkLayer::for_nobody`.
+use Rattle.std.proofs.Common.{Some, drop, sym, ap, ◌∙◌}
+use Rattle.lapd_frame.specs.Grammar.{parts_of}
+use Rattle.model_line.specs.Event.{dropped}
+use Rattle.lapd_line.proofs.AddressSteps.{group_reported, told_is}
+use Rattle.lapd_line.proofs.link_layer.LinkLayer.for_nobody.Goals as goal
+
+pub returns-in-Some : goal.returns-in-Some
+returns-in-Some c = λ octets is.
+    group_reported octets c.one.result c.nothing.result c.start.result c.in-Some.service c.args.frame.info.now c.one.ensures (c.nothing.ensures octets)
+    (ap (λ n. drop n octets) c.start.ensures.value ∙ sym is)
+    ∙ sym (told_is c.args.self.now.config (parts_of c.args.frame) (dropped c.args.cause) (Some c.in-Some.service) c.in-Some.ensures)

@@ -1,6 +1,7 @@
 //! The configuration of a card.
 
-ghost use Rattle.std.specs.Prelude.{◌≡◌};
+ghost use Rattle.std.specs.Prelude.{◌≡◌, None, IfNone};
+ghost use Rattle.model_line.specs.Config.{first_fault};
 ghost use Rattle.lapd_plain.specs.Config.{config_in, side_in, config_fault};
 
 use crate::statuses::field_status;
@@ -68,7 +69,8 @@ impl PlainConfig {
     /// The status of a start with this configuration where a field is out of range: that of the first. None where all are
     /// in range.
     pub fn fault(&self) -> Option<u32>
-        ensures { result ≡ config_fault self.now }
+        ensures status { result ≡ config_fault self.now }
+        ensures in_range { IfNone result (first_fault (config_in self.now) ≡ None) }
     {
         if let Some(field) = self.config().fault() {
             return Some(field_status(field));

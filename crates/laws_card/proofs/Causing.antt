@@ -70,7 +70,7 @@ reasons-all card events s all = each_moment HaveReasonsIn reasons-in card events
 noted-in : (card : Card) (e : Event) → IsSound card → IsAtLine card e → NotesItsOwnIn (moment_of card e)
 noted-in card e s here =
     by_room (λ ls a. NotesItsOwn card.config e.what (line_at e.line card) (get_or ls e.line (fresh_line card.config)) a) e card
-    (λ full. inr (inr (inr (record { stays = refl; notes = refl }))))
+    (λ full. inr (inr (inr (inr (record { stays = refl; notes = refl })))))
     (λ room.
     let own = lines.after card.config e.what (line_at e.line card) in
     subst (λ (x : Line). NotesItsOwn card.config e.what (line_at e.line card) x (lines.answer card.config e.what (line_at e.line card)))

@@ -41,6 +41,7 @@ unfolding after_all lines.after lines.answer lines.takes_slot reading header_of 
 reason_64 zero d few = (
   0x1234,
   record {
+    network = refl;
     value = 0x07;
     by = refl;
     octets = 0xFC ∷ 0xFF ∷ 0x03 ∷ 0x0F ∷ 0x12 ∷ 0x34 ∷ 0x01 ∷ 0xFF ∷ [];

@@ -10,7 +10,6 @@ use Rattle.lapd_script.specs.declared.word.Word.{Word}
 use Rattle.lapd_script.specs.declared.word.Word.TheVariants.{Card, Rx, In, Failed, Next, Pull, Wait, Timers, Stored, Ask}
 use Rattle.lapd_script.specs.Words.{texts}
 use Rattle.lapd_script.specs.Word.{word_named, carries_octets}
-use Rattle.lapd_script.specs.Number.{number}
 use Rattle.lapd_script.specs.Read.{read_words, read_after, read_as, card_numbers, nine_numbers, three_numbers, ten_numbers, for_user, is_user, ◌>>=◌}
 
 abbrev pub nowhere : Bor (List ℕ)

@@ -3,7 +3,7 @@ use Rattle.std.proofs.Common.{Err, cond, take, sym, ap, ◌∙◌}
 use Rattle.lapd_script.specs.declared.kind.FaultKind.TheVariants.{BadNumberOfWords}
 use Rattle.lapd_script.specs.Words.{texts}
 use Rattle.lapd_script.specs.Read.{for_user, nine_numbers, ten_numbers}
-use Rattle.lapd_script.proofs.ReadLemmas.{at, with_tenth, with_eleventh, without}
+use Rattle.lapd_script.proofs.ReadLemmas.{at, with_tenth, with_eleventh}
 use Rattle.lapd_script.proofs.read.card_numbers.Goals as goal
 
 pub returns-in-10 : goal.returns-in-10

@@ -49,12 +49,6 @@ use Rattle.laws_trace.proofs.Parts.{of-itself, of-nothing, both, more, through}
 use Rattle.laws_trace.proofs.ReadAgain.{read-again}
 use Rattle.laws_trace.proofs.Runs.{run-shows}
 
-same-sapi : (a b : Service) → (sapi_of a == sapi_of b) ≡ same_service a b
-same-sapi Call Call = refl
-same-sapi Call Packet = refl
-same-sapi Packet Call = refl
-same-sapi Packet Packet = refl
-
 pub either-none : (b : Bool) → cond {A = List Exchange} b [] [] ≡ []
 either-none true = refl
 either-none false = refl

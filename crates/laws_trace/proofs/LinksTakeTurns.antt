@@ -26,7 +26,7 @@ use Rattle.model_card.specs.Card.{fresh, line_at}
 use Rattle.model_card.specs.Pulled.{frame_taken}
 use Rattle.model_card.specs.Run.{moments, after_all}
 use Rattle.laws_trace.specs.Trace.{Always, seen, trace, frames_begun}
-use Rattle.laws_trace.specs.LinksTakeTurns.{LinkName, named_in, is_of_link, links_begun, LinksTakeTurns}
+use Rattle.laws_trace.specs.LinksTakeTurns.{TakeTurns, LinkName, named_in, is_of_link, links_begun, LinksTakeTurns}
 use Rattle.laws_trace.proofs.PullRuns.{pulled-behind}
 use Rattle.laws_trace.proofs.Turns.{link-frame, ui-frame, name-is}
 use Rattle.laws_trace.proofs.Units.{NoneWaits, pulled-frames, plain-order, first-of}

@@ -7,7 +7,7 @@ use Rattle.std.proofs.lemmas.List.{get_or-replicate}
 use Rattle.std.proofs.lemmas.List.Elements.{All-nil, All-cons, All-head, All-tail, All-append, All-drop}
 use Rattle.lapd_bits.specs.StuffingLaws.{AreOctets}
 use Rattle.lapd_frame.specs.declared.addresses.Address.{Address}
-use Rattle.lapd_frame.specs.declared.addresses.Side.TheVariants.{Network}
+use Rattle.lapd_frame.specs.declared.addresses.Side.{Side}
 use Rattle.lapd_frame.specs.declared.controls.Control.{Control}
 use Rattle.lapd_frame.specs.declared.controls.Control.TheVariants.{Ui}
 use Rattle.lapd_frame.specs.declared.refusals.Refusal.{Refusal}
@@ -41,7 +41,6 @@ use Rattle.model_line.specs.Request.{Request}
 use Rattle.model_line.specs.Sound.{IsInRange, IsSoundAt, IsSound, IsUnitData}
 use Rattle.model_line.proofs.LinksSound.{sound_in}
 use Rattle.model_line.proofs.PullSound.{round_below}
-use Rattle.model_line.proofs.Sides.{side_aims}
 use Rattle.lapd_tei.proofs.Tables.{place_of-is}
 use Rattle.laws_line.specs.Pulls.{unit_asked, units_asked}
 use Rattle.laws_line.specs.Share.{is_granted}

@@ -7,7 +7,6 @@ use Rattle.lapd_bits.specs.Stream as stream
 use Rattle.lapd_bits.specs.StuffingLaws.{AreOctets}
 use Rattle.lapd_bits.specs.declared.heard.Cause.TheVariants.{Tei, Unserved}
 use Rattle.lapd_frame.specs.declared.addresses.Address.{Address}
-use Rattle.lapd_frame.specs.declared.addresses.Side.TheVariants.{User}
 use Rattle.lapd_frame.specs.declared.controls.Control.{Control}
 use Rattle.lapd_frame.specs.declared.controls.Control.TheVariants as control
 use Rattle.lapd_frame.specs.declared.faults.ReadFault.{ReadFault}
@@ -40,6 +39,7 @@ use Rattle.model_line.specs.Request as asked
 use Rattle.model_line.specs.Request.{Request}
 use Rattle.model_line.specs.Requested.{aim_of_request, at_requested}
 use Rattle.model_line.specs.Sound.{IsSound}
+use Rattle.model_line.proofs.Sides.{side_aims}
 use Rattle.laws_line.proofs.Ending as ending
 use Rattle.laws_line.proofs.Ending.{ended-octets, gained-adds}
 use Rattle.laws_line.proofs.LinkMoves.{IsOne, taken-one}

@@ -10,7 +10,7 @@ use Rattle.lapd_bits.specs.Stream as stream
 use Rattle.lapd_frame.specs.declared.addresses.Address.{Address}
 use Rattle.lapd_frame.specs.declared.faults.ReadFault.{ReadFault}
 use Rattle.lapd_frame.specs.Reading.{reading}
-use Rattle.lapd_frame.specs.Services.{sapi_of}
+use Rattle.lapd_frame.specs.Services.{sapi_of, same_service}
 use Rattle.lapd_frame.specs.declared.services.Service.{Service}
 use Rattle.lapd_frame.specs.Grammar.{Parts}
 use Rattle.lapd_frame.proofs.Spelling.{reading-again}

@@ -1,6 +1,6 @@
 -- On a card for frames, what comes, fails or goes is carried out and told as one answer.
-use Rattle.std.proofs.Common.{◌≡◌, ℕ, zero, suc, ◌<◌, Bool, true, List, [], ◌∷◌, ◌++◌, map, replicate, is_some, if◌then◌else◌, Option, Some, None, refl, sym, ap, ◌∙◌, subst, append_assoc, append-nil}
-use Rattle.std.specs.Prelude.{fold, flat_map, option_map}
+use Rattle.std.proofs.Common.{◌≡◌, ℕ, zero, suc, ◌<◌, true, List, [], ◌∷◌, ◌++◌, map, replicate, is_some, if◌then◌else◌, Option, Some, None, refl, sym, ap, ◌∙◌, subst, append_assoc, append-nil}
+use Rattle.std.specs.Prelude.{fold, flat_map}
 use Rattle.std.proofs.lemmas.List.Elements.{All-nil, All-cons}
 use Rattle.lapd_bits.specs.StuffingLaws.{AreOctets}
 use Rattle.lapd_clock.specs.Timers as clocks
@@ -12,17 +12,17 @@ use Rattle.model_line.specs.Laws.{orders_in}
 use Rattle.model_line.specs.Line.{Line}
 use Rattle.model_line.specs.Pull.{Taken, taken}
 use Rattle.model_card.specs.Card.{Card, line_at}
-use Rattle.model_card.specs.Event.{Event, at}
+use Rattle.model_card.specs.Event.{at}
 use Rattle.model_card.specs.Machine.{answer}
 use Rattle.model_card.specs.Run.{moments, after_all}
 use Rattle.model_line.specs.declared.faults.Fault.{Fault}
-use Rattle.model_line.specs.WholeAtLine.{answers_to, octet_alone, pulls_for, pulls_to_begin}
-use Rattle.model_card.specs.Happening.{Happening, comes, failed, goes, line_of, events_at, events_of, spelled, HappensAt, AreIdle, answer_in}
-use Rattle.model_card.specs.Said.{Said, says, gives, next_of, said, Means}
+use Rattle.model_line.specs.WholeAtLine.{answers_to, octet_alone, pulls_to_begin}
+use Rattle.model_card.specs.Happening.{Happening, comes, failed, goes, line_of, events_at, events_of, HappensAt, AreIdle, answer_in}
+use Rattle.model_card.specs.Said.{Said, says, gives, said, Means}
 use Rattle.model_card.proofs.Happening.{frames_are_of_lines, lines_stay_idle}
 use Rattle.model_line.proofs.FramesCome.{frames_come_whole}
 use Rattle.model_line.proofs.FramesGo.{frames_go_whole}
-use Rattle.model_sim.specs.Setup.{Setup, ordered}
+use Rattle.model_sim.specs.Setup.{ordered}
 use Rattle.model_sim.specs.Steps.{Scene, answer_text, with_event, with_events, after_happening}
 
 -- ---- events of one line, by their answers

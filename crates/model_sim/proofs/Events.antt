@@ -1,6 +1,6 @@
 -- A script is a run of the card: each line's events lead the card as the line does.
 use Rattle.std.proofs.Common.{◌≡◌, ℕ, zero, suc, ◌+◌, ◌<◌, Bool, true, false, cond, List, [], ◌∷◌, ◌++◌, replicate, Option, Some, None, Result, Ok, Err, refl, sym, ap, ◌∙◌, subst, not, nat_lt, nat_le, arith, ◌≤◌}
-use Rattle.std.specs.Prelude.{fold, map, All}
+use Rattle.std.specs.Prelude.{fold, All}
 use Rattle.std.proofs.lemmas.Bool.{ltb-true}
 use Rattle.std.proofs.lemmas.Bool.Decides.{nat_tests}
 use Rattle.std.proofs.lemmas.List.Elements.{All-nil, All-cons, All-append, All-map, recursion_from_All}
@@ -13,7 +13,6 @@ use Rattle.lapd_clock.specs.Timers as clocks
 use Rattle.model_line.specs.declared.config.Config.{Config}
 use Rattle.model_line.specs.declared.config.Field.{Field}
 use Rattle.model_line.specs.Config as configs
-use Rattle.model_line.specs.Event as line_event
 use Rattle.model_line.specs.Event.{pull, expiry, request}
 use Rattle.model_line.specs.Sound.{IsInRange}
 use Rattle.model_card.specs.Event.{Event, at}

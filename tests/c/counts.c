@@ -15,7 +15,7 @@
 
 enum { LINES = 3, N201 = 16, TURNS = 4000 };
 
-static const lapd_config config = {LINES, 8, 7, 7, 8, 4, 2, 40, N201, 3};
+static const lapd_config config = {LINES, 8, 7, 7, 8, 4, 2, 40, N201, 3, LAPD_NETWORK};
 static lapd_card card;
 static lapd_report report;
 static hdlc_sender senders[LINES];

@@ -1,11 +1,10 @@
 -- What is counted over a run.
-use Rattle.std.proofs.Common.{◌≡◌, ℕ, ◌+◌, ◌<◌, ◌==◌, Bool, true, false, cond, List, [], ◌∷◌, ◌++◌, length, length-set, get_or, set, take, slice_get, Some, refl, sym, ap, subst, ◌∙◌, arith}
+use Rattle.std.proofs.Common.{◌≡◌, ℕ, ◌+◌, ◌<◌, ◌==◌, Bool, true, false, cond, List, [], ◌∷◌, ◌++◌, length, length-set, get_or, set, take, slice_get, Some, refl, sym, ap, subst, ◌∙◌}
 use Rattle.std.proofs.lemmas.Bool.{eqb-true, eqb-false}
 use Rattle.std.proofs.lemmas.List.{get_or-set_same, get_or-set_other}
 use Rattle.std.proofs.lemmas.List.Sums.{fold-append}
-use Rattle.std.specs.List.{flat_map}
 use Rattle.lapd_count.specs.declared.counters.Counters.{Counters}
-use Rattle.lapd_count.specs.Counters.{More, none_counted, value_in, with_more, with_all}
+use Rattle.lapd_count.specs.Counters.{none_counted, value_in, with_more, with_all}
 use Rattle.lapd_count.proofs.Numbers.{counters_are_numbers}
 use Rattle.lapd_line.specs.Counted.{shown}
 use Rattle.model_card.specs.declared.events.Event as rust

@@ -34,7 +34,7 @@ impl<S: Shelf> Card<S> {
     ///   taken the machine's reply to each, once and in order.
     /// - `at`, `stopped`, `taken_before`: after a fault, the events up to the one whose reply the sink did not take have
     ///   happened and no later one, and the sink has taken the replies before it.
-    /// - `counted`, `counted_before`, `numbers`: the counters of each line have counted what those events show at it that have
+    /// - `counters`, `counters_before`, `counters_add_up`: the counters of each line have counted what those events show at it that have
     ///   happened, and those of other lines nothing of it; so each counter is what it was before and so many more as the
     ///   moments at its line show under its name, or its greatest value where that is less.
     /// - `failed`, `not_failed`: after a fault the sink has counted one failure more (a count that stays at its greatest
@@ -92,7 +92,7 @@ impl<S: Shelf> Card<S> {
             → Stands S.store self.new (run m (events_of events.now)).card) }
         ensures taken { OnOk result ((m : machine.Card) → Stands S.store self.old m
             → Taken K.takes sink.old (run m (events_of events.now)).replies sink.new) }
-        ensures counted { OnOk result ((m : machine.Card) → Stands S.store self.old m
+        ensures counters { OnOk result ((m : machine.Card) → Stands S.store self.old m
             → counters_in self.new.lines ≡ all_counted (counters_in self.old.lines) (moments m (events_of events.now))) }
 
         // Those up to the one whose reply it did not take.
@@ -100,14 +100,14 @@ impl<S: Shelf> Card<S> {
             → Stands S.store self.new (run m (take (fault.at + 1) (events_of events.now))).card) }
         ensures taken_before { IfErr result (λ fault. (m : machine.Card) → Stands S.store self.old m
             → MissesAt K.takes K.misses m (events_of events.now) fault.at sink.old sink.new) }
-        ensures counted_before { IfErr result (λ fault. (m : machine.Card) → Stands S.store self.old m
+        ensures counters_before { IfErr result (λ fault. (m : machine.Card) → Stands S.store self.old m
             → counters_in self.new.lines ≡ all_counted (counters_in self.old.lines) (moments m (take (fault.at + 1) (events_of events.now)))) }
 
         // The replies of `run` are the answers of `moments`, and its card is that of `after_all`: all below speaks of
         // those.
         ensures moments { RunIsMoments }
         ensures refused { RefusedByTheTable }
-        ensures numbers { CountersAreNumbers }
+        ensures counters_add_up { CountersAreNumbers }
 
         // In every moment of the run of all events.
         ensures by_event { (m : machine.Card) → Stands S.store self.old m → ArePriced m (events_of events.now) }

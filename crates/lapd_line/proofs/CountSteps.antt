@@ -13,7 +13,7 @@ use Rattle.lapd_store.specs.Ownership.{Owned}
 use Rattle.lapd_store.specs.Store.{Store}
 use Rattle.model_line.specs.Begun.{frame_taken}
 use Rattle.model_line.specs.declared.config.Config.{Config}
-use Rattle.model_line.specs.Event.{Event, octet, expiry, request, pull, LineTold, Answer, told, pulled}
+use Rattle.model_line.specs.Event.{Event, octet, pull, LineTold, Answer, told, pulled}
 use Rattle.model_line.specs.Line as machine
 use Rattle.model_line.specs.Machine.{after, answer}
 use Rattle.model_line.specs.Octet.{gained}

@@ -1,7 +1,8 @@
 -- What is counted of a line: what its events and their answers show.
-use Rattle.std.specs.Prelude.{List, [], ◌++◌}
+use Rattle.std.specs.Prelude.{List, [], ◌++◌, Some}
 use Rattle.std.specs.Option.{option_map_or}
 use Rattle.lapd_bits.specs.Heads.{head_of}
+use Rattle.lapd_bits.specs.Stream as stream
 use Rattle.lapd_count.specs.declared.counters.Counters.{Counters}
 use Rattle.lapd_count.specs.Counters.{More, with_all}
 use Rattle.lapd_count.specs.Shown.{head_shown, heard_shown, told_shown}
@@ -12,6 +13,7 @@ use Rattle.model_line.specs.Line as machine
 use Rattle.model_line.specs.Machine.{answer}
 use Rattle.model_line.specs.Octet.{gained}
 use Rattle.model_line.specs.Pull.{Taken, begun}
+use Rattle.model_line.specs.WholeAtLine.{of_heard}
 use Rattle.lapd_line.specs.declared.line.Line.{Line}
 use Rattle.lapd_line.specs.declared.reports.BareReport.{BareReport}
 
@@ -36,6 +38,10 @@ shown c (octet value) l a = heard_shown (gained c.n201 l.received value) ++ told
 shown c (expiry timer) l a = told_in_answer a
 shown c (request r) l a = told_in_answer a
 shown c pull l a = option_map_or taken_shown (begun c l) []
+
+-- Where a line takes and gives whole frames: what is heard, and what is told of it.
+abbrev pub heard_counted : Config → stream.Event → machine.Line → List More
+heard_counted c heard l = heard_shown (Some heard) ++ told_in_report (of_heard c heard l).told
 
 -- The counters after an event at a line.
 abbrev pub counted : Config → Event → machine.Line → Counters → Counters

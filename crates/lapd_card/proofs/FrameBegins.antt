@@ -16,7 +16,7 @@ use Rattle.lapd_store.specs.Ownership.{Holds}
 use Rattle.lapd_store.specs.Store.{Store, used_slots}
 use Rattle.lapd_store.proofs.Ownership.{Holds-unused, used_slots-held}
 use Rattle.lapd_count.specs.Counters.{none_counted}
-use Rattle.lapd_card.specs.FrameCounted.{frame_counters_in}
+use Rattle.lapd_card.specs.Counted.{frame_counters_in}
 use Rattle.lapd_card.specs.FrameLines.{IsFit, owned, IsFresh, AreFresh}
 use Rattle.lapd_card.specs.FrameStands.{Stands}
 use Rattle.lapd_card.proofs.Begins.{empty_list}

@@ -9,7 +9,7 @@ use Rattle.lapd_count.proofs.Numbers.{counters_are_numbers}
 use Rattle.model_card.specs.Card.{Card}
 use Rattle.model_card.specs.Happening.{Happening, line_of, events_of}
 use Rattle.model_card.specs.Run.{after_all}
-use Rattle.lapd_card.specs.FrameCounted.{happening_shown, happening_counted, happenings_counted, shown_of, happenings_shown, FrameCountersAreNumbers}
+use Rattle.model_card.specs.HappeningsCounted.{happening_shown, happening_counted, happenings_counted, shown_of, happenings_shown, FrameCountersAreNumbers}
 
 -- a happening at a line is counted there, and no other is
 at_place : (all : List Counters) (m : Card) (h : Happening) (number : ℕ) → number < length all

@@ -14,7 +14,8 @@ use Rattle.model_card.proofs.Happening.{after_all-append}
 use Rattle.lapd_card.specs.declared.happenings.Happening as rust
 use Rattle.lapd_card.specs.FrameCard.{Held}
 use Rattle.lapd_count.specs.declared.counters.Counters.{Counters}
-use Rattle.lapd_card.specs.FrameCounted.{frame_counters_in, happening_counted, happenings_counted}
+use Rattle.lapd_card.specs.Counted.{frame_counters_in}
+use Rattle.model_card.specs.HappeningsCounted.{happening_counted, happenings_counted}
 use Rattle.lapd_card.specs.FrameDrive.{happening_of, all_of, after_happenings, Taken, MissesReply, MissesAt}
 use Rattle.lapd_card.specs.FrameReply.{next_in}
 use Rattle.lapd_card.specs.FrameStands.{Stands, Leads}

@@ -14,7 +14,7 @@ use Rattle.lapd_store.specs.Store.{Store, SameLimits}
 use Rattle.lapd_store.proofs.Focus.{FocusPair, focus_pair}
 use Rattle.lapd_card.specs.Lines.{line_in}
 use Rattle.lapd_count.specs.Counters.{More, none_counted, with_all}
-use Rattle.lapd_card.specs.FrameCounted.{frame_counters_of, frame_counters_in}
+use Rattle.lapd_card.specs.Counted.{frame_counters_of, frame_counters_in}
 use Rattle.lapd_card.specs.FrameLines.{IsFit, owned, Stand, Serve, Lead, CountsAt}
 
 -- A line stands for its part of the machine, beside what the other lines own; and whatever it and the shelf are

@@ -41,8 +41,9 @@ use Rattle.lapd_store.proofs.Ownership.{used_slots-held, stored_octets-held}
 use Rattle.lapd_store.proofs.Focus.{slots-machines, octets-machines}
 use Rattle.lapd_card.specs.FrameCard.{Held, line_count, room_for_frames}
 use Rattle.lapd_count.specs.Counters.{More, none_counted}
-use Rattle.lapd_line.specs.Counted.{told_in_answer}
-use Rattle.lapd_card.specs.FrameCounted.{frame_counters_in, counted_at, happening_shown}
+use Rattle.model_line.specs.Counted.{told_in_answer}
+use Rattle.lapd_card.specs.Counted.{frame_counters_in}
+use Rattle.model_card.specs.HappeningsCounted.{counted_at, happening_shown}
 use Rattle.lapd_card.specs.FrameLines.{IsFit, owned, Stand, Lead, CountsAt}
 use Rattle.lapd_card.specs.FrameStands.{Stands, Leads, HasPast}
 use Rattle.lapd_card.specs.Lines.{line_in}

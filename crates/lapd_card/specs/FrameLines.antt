@@ -11,7 +11,8 @@ use Rattle.model_line.specs.WholeAtLine.{after_events}
 use Rattle.lapd_store.specs.Ownership.{Owned, Holds}
 use Rattle.lapd_store.specs.Store.{Store, SameLimits}
 use Rattle.lapd_count.specs.Counters.{More, none_counted}
-use Rattle.lapd_card.specs.FrameCounted.{frame_counters_in, counted_at}
+use Rattle.lapd_card.specs.Counted.{frame_counters_in}
+use Rattle.model_card.specs.HappeningsCounted.{counted_at}
 use Rattle.lapd_card.specs.Lines.{line_in}
 
 -- A line that has the card's configuration, and stands for an idle line of the machine on some shelf, beside some others.

@@ -5,7 +5,8 @@ use Rattle.model_card.specs.Reached.{IsReached}
 use Rattle.model_card.specs.Run.{after_all}
 use Rattle.model_card.specs.Happening.{Happening, events_of}
 use Rattle.lapd_card.specs.FrameCard.{Held}
-use Rattle.lapd_card.specs.FrameCounted.{frame_counters_in, happening_counted}
+use Rattle.lapd_card.specs.Counted.{frame_counters_in}
+use Rattle.model_card.specs.HappeningsCounted.{happening_counted}
 use Rattle.lapd_card.specs.FrameLines as lines
 use Rattle.lapd_store.specs.Store.{Store}
 

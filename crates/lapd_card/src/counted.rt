@@ -2,8 +2,7 @@
 
 ghost use Rattle.std.specs.Prelude.{◌≡◌, ◌<◌, get_or};
 ghost use Rattle.lapd_count.specs.Counters.{none_counted};
-ghost use Rattle.lapd_card.specs.Counted.{counters_in};
-ghost use Rattle.lapd_card.specs.FrameCounted.{frame_counters_in};
+ghost use Rattle.lapd_card.specs.Counted.{counters_in, frame_counters_in};
 
 use crate::card::Card;
 use crate::frame_card::FrameCard;

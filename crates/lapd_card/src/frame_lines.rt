@@ -19,8 +19,8 @@ ghost use Rattle.lapd_store.specs.Store.{Store, used_slots};
 ghost use Rattle.lapd_card.specs.Lines.{line_in};
 ghost use Rattle.std.specs.Option.{option_map_or};
 ghost use Rattle.lapd_count.specs.Counters.{none_counted};
-ghost use Rattle.lapd_line.specs.Counted.{heard_counted, taken_shown, told_in_answer};
-ghost use Rattle.lapd_card.specs.FrameCounted.{frame_counters_in};
+ghost use Rattle.model_line.specs.Counted.{heard_counted, taken_shown, told_in_answer};
+ghost use Rattle.lapd_card.specs.Counted.{frame_counters_in};
 ghost use Rattle.lapd_card.specs.FrameLines.{Stand, Serve, Lead, CountsAt, AreFresh};
 
 use lapd_count::Counters;

@@ -4,7 +4,7 @@ ghost use Rattle.std.specs.Prelude.{◌≡◌, replicate, IfOk, IfSome, IfNone, 
 ghost use Rattle.model_card.specs.Card as machine;
 ghost use Rattle.lapd_card.specs.declared.fault.CardFault.TheVariants.{OutOfMemory};
 ghost use Rattle.lapd_count.specs.Counters.{none_counted};
-ghost use Rattle.lapd_card.specs.FrameCounted.{frame_counters_in};
+ghost use Rattle.lapd_card.specs.Counted.{frame_counters_in};
 ghost use Rattle.lapd_card.specs.Start.{start_fault};
 ghost use Rattle.lapd_card.specs.FrameStands.{Stands};
 

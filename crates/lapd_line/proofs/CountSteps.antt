@@ -20,7 +20,8 @@ use Rattle.model_line.specs.Octet.{gained}
 use Rattle.model_line.specs.Pull.{Taken, begun}
 use Rattle.model_line.proofs.Begun.{latest_is_begun}
 use Rattle.lapd_frame.specs.declared.timers.Order.{Order}
-use Rattle.lapd_line.specs.Counted.{told_in_report, told_in_answer, taken_shown, shown, with_counted}
+use Rattle.model_line.specs.Counted.{told_in_report, told_in_answer, taken_shown, shown}
+use Rattle.lapd_line.specs.Counted.{with_counted}
 use Rattle.lapd_line.specs.declared.line.Line.{Line}
 use Rattle.lapd_line.specs.Stands.{Stands, Moves, Leads, config_of}
 

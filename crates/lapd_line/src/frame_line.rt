@@ -115,7 +115,7 @@ fn heard(octets: &[u8], n201: u16) -> Heard<'_>
 
 impl FrameLine {
     ghost use Rattle.std.specs.Option.{option_map_or};
-    ghost use Rattle.lapd_line.specs.Counted.{heard_counted, taken_shown, told_in_answer, told_in_report};
+    ghost use Rattle.model_line.specs.Counted.{heard_counted, taken_shown, told_in_answer, told_in_report};
     ghost use Rattle.lapd_line.specs.FrameStands.{Stands, Leads, Counts, IsNext, written, config_of, with_frames_counted};
     ghost use Rattle.lapd_line.specs.Reports.{report_told};
 

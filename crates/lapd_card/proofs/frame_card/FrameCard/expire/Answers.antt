@@ -8,7 +8,7 @@ use Rattle.lapd_card.specs.FrameCard.{line_count}
 use Rattle.lapd_card.specs.FrameStands.{Stands, Leads}
 use Rattle.model_line.specs.Event as line_event
 use Rattle.model_line.specs.Machine.{answer}
-use Rattle.lapd_line.specs.Counted.{told_in_answer}
+use Rattle.model_line.specs.Counted.{told_in_answer}
 use Rattle.lapd_card.proofs.OneHappening.{line-there, lines-serve, happening_leads, past_after, expiry_alone, expiry_said, expiry_shown, starts_one}
 use Rattle.lapd_card.proofs.frame_card.FrameCard.expire.Goals as goal
 

@@ -8,7 +8,7 @@ use Rattle.model_card.specs.Said.{says}
 use Rattle.model_line.specs.Whole.{cause_of}
 use Rattle.lapd_card.specs.FrameCard.{line_count}
 use Rattle.lapd_card.specs.FrameStands.{Stands, Leads}
-use Rattle.lapd_line.specs.Counted.{heard_counted}
+use Rattle.model_line.specs.Counted.{heard_counted}
 use Rattle.lapd_card.proofs.OneHappening.{line-there, happening_leads, past_after, line_says, fault_alone}
 use Rattle.lapd_card.proofs.frame_card.FrameCard.failed.Goals as goal
 

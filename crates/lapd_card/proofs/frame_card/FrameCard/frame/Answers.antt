@@ -9,7 +9,7 @@ use Rattle.model_card.specs.Said.{says}
 use Rattle.model_line.specs.Whole.{came}
 use Rattle.lapd_card.specs.FrameCard.{line_count}
 use Rattle.lapd_card.specs.FrameStands.{Stands, Leads}
-use Rattle.lapd_line.specs.Counted.{heard_counted}
+use Rattle.model_line.specs.Counted.{heard_counted}
 use Rattle.lapd_card.proofs.OneHappening.{line-there, lines-serve, happening_leads, past_after, line_says, frame_alone, at_lines}
 use Rattle.lapd_card.proofs.frame_card.FrameCard.frame.Goals as goal
 

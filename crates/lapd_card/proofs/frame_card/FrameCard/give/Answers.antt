@@ -7,7 +7,7 @@ use Rattle.lapd_line.specs.FrameStands.{IsNext}
 use Rattle.lapd_card.specs.FrameCard.{line_count, room_for_frames}
 use Rattle.lapd_card.specs.FrameStands.{Stands, Leads}
 use Rattle.std.specs.Option.{option_map_or}
-use Rattle.lapd_line.specs.Counted.{taken_shown}
+use Rattle.model_line.specs.Counted.{taken_shown}
 use Rattle.lapd_card.proofs.OneHappening.{line-there, lines-serve, happening_leads, past_after, line_holds, call_alone, room_at}
 use Rattle.lapd_card.proofs.frame_card.FrameCard.give.Goals as goal
 

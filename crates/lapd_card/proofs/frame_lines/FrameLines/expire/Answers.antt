@@ -2,7 +2,7 @@
 use Rattle.std.proofs.Common.{[], ◌∷◌}
 use Rattle.model_line.specs.Event as line_event
 use Rattle.model_line.specs.Machine.{answer}
-use Rattle.lapd_line.specs.Counted.{told_in_answer}
+use Rattle.model_line.specs.Counted.{told_in_answer}
 use Rattle.lapd_card.proofs.OneFrameLine.{one_counts, one_serves, one_leads, one_says}
 use Rattle.lapd_card.proofs.frame_lines.FrameLines.expire.Goals as goal
 

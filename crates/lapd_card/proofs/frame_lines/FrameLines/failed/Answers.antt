@@ -4,7 +4,7 @@ use Rattle.lapd_bits.specs.Stream.{dropped}
 use Rattle.model_line.specs.Event as line_event
 use Rattle.model_line.specs.Whole.{fault_octets, cause_of}
 use Rattle.model_line.specs.WholeAtLine.{of_heard}
-use Rattle.lapd_line.specs.Counted.{heard_counted}
+use Rattle.model_line.specs.Counted.{heard_counted}
 use Rattle.lapd_card.proofs.OneFrameLine.{one_counts, one_leads, one_says}
 use Rattle.lapd_card.proofs.frame_lines.FrameLines.failed.Goals as goal
 

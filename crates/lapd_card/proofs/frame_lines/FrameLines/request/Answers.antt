@@ -6,7 +6,7 @@ use Rattle.model_line.specs.Machine.{answer}
 use Rattle.model_line.specs.Refusal.{refusal}
 use Rattle.model_line.specs.Request.{request_of}
 use Rattle.lapd_store.specs.Store.{used_slots}
-use Rattle.lapd_line.specs.Counted.{told_in_answer}
+use Rattle.model_line.specs.Counted.{told_in_answer}
 use Rattle.lapd_card.proofs.OneFrameLine.{one_counts, one_serves, one_leads, one_says}
 use Rattle.lapd_card.proofs.frame_lines.FrameLines.request.Goals as goal
 

@@ -1,28 +1,20 @@
 -- What is counted on a card for frames: of each line, what happens at it shows.
-use Rattle.std.specs.Prelude.{◌≡◌, ℕ, ◌+◌, ◌==◌, ◌<◌, List, [], ◌∷◌, ◌++◌, get_or, length, map, min, set, if◌then◌else◌}
+use Rattle.std.specs.Prelude.{◌≡◌, ℕ, ◌+◌, ◌==◌, ◌<◌, List, [], ◌∷◌, ◌++◌, get_or, length, min, set, if◌then◌else◌}
 use Rattle.std.specs.Option.{option_map_or}
 use Rattle.lapd_bits.specs.Stream.{dropped}
 use Rattle.lapd_count.specs.declared.counter.Counter.{Counter}
 use Rattle.lapd_count.specs.declared.counters.Counters.{Counters}
 use Rattle.lapd_count.specs.Counters.{More, most, none_counted, value_in, with_all, amount_in}
-use Rattle.lapd_line.specs.Counted.{heard_counted, taken_shown, told_in_answer}
-use Rattle.lapd_line.specs.declared.frame_line.FrameLine.{FrameLine}
+use Rattle.model_line.specs.Counted.{heard_counted, taken_shown, told_in_answer}
 use Rattle.model_line.specs.Event as line_event
 use Rattle.model_line.specs.Pull.{taken}
 use Rattle.model_line.specs.Whole.{came, cause_of}
 use Rattle.model_card.specs.Card.{Card, line_at}
+use Rattle.model_card.specs.Counted.{AreCounters}
 use Rattle.model_card.specs.Event.{at}
 use Rattle.model_card.specs.Happening.{Happening, comes, failed, goes, expires, asks, line_of, events_of}
 use Rattle.model_card.specs.Machine.{answer}
 use Rattle.model_card.specs.Run.{after_all}
-use Rattle.lapd_card.specs.Counted.{AreCounters}
-
--- The counters of lines.
-abbrev pub frame_counters_of : FrameLine → Counters
-frame_counters_of line = line.counters
-
-abbrev pub frame_counters_in : List FrameLine → List Counters
-frame_counters_in lines = map frame_counters_of lines
 
 -- At one line these are counted, and on no other anything.
 abbrev pub counted_at : ℕ → List More → List Counters → List Counters

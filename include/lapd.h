@@ -38,6 +38,10 @@
 #include <stdint.h>
 
 #ifdef __cplusplus
+#ifdef __GNUC__ /* a call that is called like its struct hides the struct's constructor, which -Wshadow would tell */
+#pragma GCC diagnostic push
+#pragma GCC diagnostic ignored "-Wshadow"
+#endif
 extern "C" {
 #endif
 
@@ -389,13 +393,13 @@ enum {
     LAPD_HEARD_I = 0, LAPD_HEARD_RR = 1, LAPD_HEARD_RNR = 2, LAPD_HEARD_REJ = 3, LAPD_HEARD_SABME = 4,
     LAPD_HEARD_DISC = 5, LAPD_HEARD_UI = 6, LAPD_HEARD_UA = 7, LAPD_HEARD_DM = 8, LAPD_HEARD_FRMR = 9,
     LAPD_HEARD_XID = 10, LAPD_HEARD_UNDEFINED = 11,
-    /* frames begun: a pull has begun to send them */
+    /* frames begun: a pull has begun to send them, or lapd_next_frame gave them */
     LAPD_BEGUN_I = 12, LAPD_BEGUN_RR = 13, LAPD_BEGUN_RNR = 14, LAPD_BEGUN_REJ = 15, LAPD_BEGUN_SABME = 16,
     LAPD_BEGUN_DISC = 17, LAPD_BEGUN_UI = 18, LAPD_BEGUN_UA = 19, LAPD_BEGUN_DM = 20, LAPD_BEGUN_FRMR = 21,
     LAPD_BEGUN_XID = 22, LAPD_BEGUN_UNDEFINED = 23,
     /* octets of these frames, from the address to the information */
     LAPD_HEARD_OCTETS = 24, LAPD_BEGUN_OCTETS = 25,
-    /* of these frames, I-frames and supervisory frames that are commands with P=1, also those that are undefined */
+    /* of these frames, the commands I, RR, RNR and REJ with P=1, which ask for an answer */
     LAPD_HEARD_POLLS = 26, LAPD_BEGUN_POLLS = 27,
     /* good frames that are too long to be kept */
     LAPD_HEARD_OVERLONG = 28,
@@ -415,13 +419,14 @@ enum {
     LAPD_COUNTERS = 62
 };
 
-/* As the call has the same name, it is `struct lapd_counters` also in C++. */
+/* As the call has the same name, it is `struct lapd_counters` also in C++. While the major version stays, it has these
+ * places and no others; a number that is counted later comes with a call of its own. */
 struct lapd_counters {
     uint64_t values[LAPD_COUNTERS]; /* each stays at its greatest value once it is there */
 };
 
-/* What was counted of a line since the card began. A request that is refused is not counted. It changes nothing.
- * LAPD_WRONG_CARD on a card for frames. */
+/* What was counted of a line since the card began, on a card of either kind. A request that is refused is not counted. It
+ * changes nothing. */
 uint32_t lapd_counters(lapd_card *card, uint32_t line, struct lapd_counters *counters);
 
 /* How many octets the card stores now, of frames, messages and contents; at most lapd_limit's. A card for frames stores
@@ -483,6 +488,9 @@ uint32_t lapd_clock_next(lapd_clock *clock, uint64_t *moment);
 
 #ifdef __cplusplus
 }
+#ifdef __GNUC__
+#pragma GCC diagnostic pop
+#endif
 #endif
 
 /* ---- In words and by name: defined here ------------------------------------------------------------------------- */
@@ -665,6 +673,22 @@ static inline const char *lapd_cause_text(uint8_t cause) {
     case LAPD_UNSERVED: return "unserved";
     default: return "unknown cause";
     }
+}
+
+/* A counter in words, by its place: its name in docs/FORMAT.md. */
+static inline const char *lapd_counter_text(unsigned place) {
+    static const char *const names[LAPD_COUNTERS] = {
+        "heard-i", "heard-rr", "heard-rnr", "heard-rej", "heard-sabme", "heard-disc", "heard-ui", "heard-ua",
+        "heard-dm", "heard-frmr", "heard-xid", "heard-undefined", "begun-i", "begun-rr", "begun-rnr", "begun-rej",
+        "begun-sabme", "begun-disc", "begun-ui", "begun-ua", "begun-dm", "begun-frmr", "begun-xid", "begun-undefined",
+        "heard-octets", "begun-octets", "heard-polls", "begun-polls", "heard-overlong", "dropped-abort",
+        "dropped-ragged", "dropped-short", "dropped-fcs", "dropped-extension", "dropped-sapi", "dropped-tei",
+        "dropped-unserved", "errors-a", "errors-b", "errors-c", "errors-d", "errors-e", "errors-f", "errors-g",
+        "errors-h", "errors-i", "errors-j", "errors-k", "errors-l", "errors-n", "errors-o",
+        "told-establish-indication", "told-establish-confirm", "told-release-indication", "told-release-confirm",
+        "told-data", "told-unit", "told-xid", "told-assigned", "told-removed", "told-doubled", "lost",
+    };
+    return place < LAPD_COUNTERS ? names[place] : "unknown counter";
 }
 
 #endif

@@ -1,10 +1,11 @@
 /*
  * counts.c: what is counted of lines to which things happen at random: frames of every kind, whole, too long, too short,
  * and with a wrong check; timers, requests and pulls. Each counter is counted here again, from what was sent to the card,
- * from what its reports tell, and from which frames began; by table 5 of the standard, and not by the library's code. For
- * tests alone.
+ * from what its reports tell, and from which frames began or were given; by table 5 of the standard, and not by the
+ * library's code. The card is one for octets, or for frames. For tests alone.
  *
- *     counts SEED          status 1 where a counter is another, or where hardly any name has something
+ *     counts SEED KIND     status 1 where a counter is another, or where hardly any name has something; KIND is octets or
+ *                          frames
  */
 #include <stdio.h>
 #include <stdlib.h>
@@ -17,6 +18,7 @@ enum { LINES = 3, N201 = 16, TURNS = 4000 };
 
 static const lapd_config config = {LINES, 8, 7, 7, 8, 4, 2, 40, N201, 3, LAPD_NETWORK};
 static lapd_card card;
+static bool for_frames;
 static lapd_report report;
 static hdlc_sender senders[LINES];
 static uint64_t counted[LINES][LAPD_COUNTERS];
@@ -42,10 +44,11 @@ static unsigned kind_of(unsigned control) {
 
 /* A frame that was heard (from a terminal, whose commands have C/R 0) or begun. Octets that it has not are 0. */
 static void count_frame(uint32_t line, bool is_begun, const uint8_t octets[4], size_t length) {
-    bool is_command = (octets[0] & 2) == (is_begun ? 2 : 0), is_unnumbered = octets[2] % 4 == 3;
-    counted[line][(is_begun ? LAPD_BEGUN_I : LAPD_HEARD_I) + kind_of(octets[2])]++;
+    unsigned kind = kind_of(octets[2]);
+    bool is_command = (octets[0] & 2) == (is_begun ? 2 : 0), asks = kind <= LAPD_HEARD_REJ;
+    counted[line][(is_begun ? LAPD_BEGUN_I : LAPD_HEARD_I) + kind]++;
     counted[line][is_begun ? LAPD_BEGUN_OCTETS : LAPD_HEARD_OCTETS] += length;
-    if (is_command && !is_unnumbered && octets[3] % 2 == 1)
+    if (is_command && asks && octets[3] % 2 == 1)
         counted[line][is_begun ? LAPD_BEGUN_POLLS : LAPD_HEARD_POLLS]++;
 }
 
@@ -86,6 +89,17 @@ static void pull(uint32_t line) {
     count_told(line);
     if (report.begun && lapd_begun(&card, line, &head) == LAPD_OK)
         count_frame(line, true, head.octets, head.length);
+}
+
+/* At a card for frames. */
+static void take_next(uint32_t line) {
+    uint8_t octets[LAPD_MOST_FRAME], first[4] = {0};
+    size_t length;
+    if (lapd_next_frame(&card, line, octets, sizeof octets, &length, &report) != LAPD_OK)
+        return;
+    count_told(line);
+    memcpy(first, octets, length < 4 ? length : 4);
+    count_frame(line, true, first, length);
 }
 
 static void octet_comes(uint32_t line, uint8_t octet) {
@@ -133,7 +147,13 @@ static size_t likely_frame(uint8_t *octets) {
 static void noise_comes(uint32_t line) {
     static const uint8_t noises[][8] = {{0x7E, 0x00, 0x81, 0x55, 0xFF, 0x7E, 0x7E, 0x7E},
         {0x7E, 0x00, 0x81, 0x55, 0x12, 0x34, 0x56, 0x7E}, {0x7E, 0x00, 0x81, 0x55, 0x12, 0x34, 0xF0, 0x03}};
+    static const uint8_t causes[] = {LAPD_ABORT, LAPD_RAGGED, LAPD_SHORT, LAPD_FCS};
     const uint8_t *noise = noises[below(3)];
+    if (for_frames) {
+        lapd_frame_failed(&card, line, causes[below(sizeof causes)], &report);
+        count_told(line);
+        return;
+    }
     for (unsigned i = 0; i < sizeof *noises; i++)
         octet_comes(line, noise[i]);
     hdlc_begin(&senders[line]);
@@ -144,8 +164,13 @@ static void frame_comes(uint32_t line) {
     size_t length = below(3) ? likely_frame(octets) : any_frame(octets);
     if (below(20) == 0)
         noise_comes(line);
-    hdlc_load(&senders[line], octets, length);
     count_heard(line, octets, length);
+    if (for_frames) {
+        lapd_frame(&card, line, octets, length, &report);
+        count_told(line);
+        return;
+    }
+    hdlc_load(&senders[line], octets, length);
     while (hdlc_busy(&senders[line]))
         octet_comes(line, hdlc_octet(&senders[line]));
     for (unsigned i = 0; i < 2; i++)
@@ -175,6 +200,9 @@ static void happens(uint32_t line) {
         asks(line);
     else if (what == 1)
         expires(line);
+    else if (what == 2 && for_frames)
+        for (unsigned i = 0; i < 8; i++)
+            take_next(line);
     else if (what == 2)
         for (unsigned i = 0; i < 200; i++)
             pull(line);
@@ -205,8 +233,11 @@ static unsigned names(void) {
 
 int main(int count, char **words) {
     int failed = 0;
-    seed = count == 2 ? (uint32_t)strtoul(words[1], NULL, 10) : 1;
-    if (lapd_card_start(&card, &config) != LAPD_OK)
+    if (count != 3)
+        return 2;
+    seed = (uint32_t)strtoul(words[1], NULL, 10);
+    for_frames = strcmp(words[2], "frames") == 0;
+    if ((for_frames ? lapd_card_start_frames(&card, &config) : lapd_card_start(&card, &config)) != LAPD_OK)
         return 1;
     for (uint32_t line = 0; line < LINES; line++) {
         hdlc_begin(&senders[line]);

@@ -266,6 +266,19 @@ static void show_stored(station *b) {
     printf("stored %u limit %u\n", stored, limit);
 }
 
+static void show_counters(station *b, uint32_t line) {
+    struct lapd_counters counters;
+    bool any = false;
+    want_ok(lapd_counters(&b->card, line, &counters), "counters");
+    for (unsigned place = 0; place < LAPD_COUNTERS; place++)
+        if (counters.values[place] > 0) {
+            printf("%u counter %s %llu\n", line, lapd_counter_text(place), (unsigned long long)counters.values[place]);
+            any = true;
+        }
+    if (!any)
+        printf("%u nothing\n", line);
+}
+
 /* A line that is about one line of the card, which has it. */
 static fault obey_at(station *b, uint32_t line, const command *c) {
     if (joins(b, c)) {
@@ -285,6 +298,8 @@ static fault obey_at(station *b, uint32_t line, const command *c) {
         pull(b, line, c->numbers[1]);
     else if (c->verb == REQUEST)
         ask(b, line, c);
+    else if (c->verb == COUNTERS)
+        show_counters(b, line);
     else
         for (size_t i = 0; i < c->length; i++)
             receive(b, line, c->octets[i]);

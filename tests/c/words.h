@@ -29,7 +29,7 @@ typedef enum {
 
 const char *fault_text(fault kind);
 
-typedef enum { CARD, RX, IN, PULL, FAILED, NEXT, WAIT, TIMERS, STORED, REQUEST } verb;
+typedef enum { CARD, RX, IN, PULL, FAILED, NEXT, WAIT, TIMERS, STORED, COUNTERS, REQUEST } verb;
 
 /* A line that was read: what it says, before a card is asked. */
 typedef struct {

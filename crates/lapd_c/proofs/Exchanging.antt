@@ -1,13 +1,18 @@
 -- One step more of an exchange.
-use Rattle.std.proofs.Common.{◌≡◌, ◌⊎◌, inl, inr, ℕ, suc, ◌+◌, ◌*◌, ◌%◌, ◌/◌, ◌==◌, Bool, true, false, not, cond, List, [], ◌∷◌, ◌++◌, length, get_or, refl, sym, ap, ◌∙◌, subst, arith}
+use Rattle.std.proofs.Common.{◌≡◌, ◌⊎◌, inl, inr, ℕ, suc, ◌+◌, ◌-◌, ◌*◌, ◌%◌, ◌/◌, ◌==◌, Bool, true, false, not, cond, List, [], ◌∷◌, ◌++◌, length, get_or, refl, sym, ap, ◌∙◌, subst, arith}
 use Rattle.std.proofs.lemmas.List.Sums.{fold-append}
 use Rattle.model_line.specs.Event.{Answer, octet, pull, told, nothing}
 use Rattle.model_card.specs.Card.{Card}
 use Rattle.model_card.specs.Event.{Event, at}
 use Rattle.model_card.specs.Machine.{after, answer}
-use Rattle.model_card.specs.Run.{Run, run, one_more}
+use Rattle.model_card.specs.Counted.{moment_counted, moment_of, all_counted}
+use Rattle.model_card.specs.Run.{Run, run, one_more, moments, after_all}
+use Rattle.model_card.proofs.Fold.{run_is_moments}
+use Rattle.lapd_count.specs.declared.counters.Counters.{Counters}
 use Rattle.lapd_store.specs.Store.{Store}
 use Rattle.lapd_card.specs.Card.{Held}
+use Rattle.lapd_card.specs.Counted.{counters_in}
+use Rattle.lapd_card.proofs.Counting.{moments-more}
 use Rattle.lapd_card.specs.Stands.{Leads}
 use Rattle.lapd_plain.specs.declared.reports.PlainReport.{PlainReport}
 use Rattle.lapd_c.specs.Cards.{ShowsAnswer}
@@ -18,9 +23,14 @@ run-more : (m : Card) (es : List Event) (e : Event) → run m (es ++ e ∷ []) �
 run-more m es e = fold-append one_more (record { card = m; replies = [] }) es (e ∷ [])
 
 module _ (line : ℕ) (taken : List ℕ) (from : ℕ) (m : Card) where
-  -- where it is after n steps, none of which had anything to tell
-  pub record Through (n : ℕ) (card : Held Store) (given given' : List ℕ) : Type 0 where
+  -- the counters after n steps
+  abbrev counted_after : List Counters → ℕ → List Counters
+  counted_after before n = all_counted before (moments m (steps_made line taken from n))
+
+  -- where it is after n steps, none of which had anything to tell, and what was counted of them
+  pub record Through (before : List Counters) (n : ℕ) (card : Held Store) (given given' : List ℕ) : Type 0 where
     pub stands : CardStands card (card_after line taken from n m)
+    pub counted : counters_in card.lines ≡ counted_after before n
     pub octets : given' ≡ given_after line taken from n m given
     pub quiet : AllQuiet line taken from n m
 
@@ -28,18 +38,47 @@ module _ (line : ℕ) (taken : List ℕ) (from : ℕ) (m : Card) where
   unfolding steps_made
   card-more n = sym (ap (λ (r : Run). r.card) (run-more m (steps_made line taken from n) (step_event line taken (from + n))))
 
+  -- what a step counts
+  counted-more : (before : List Counters) (n : ℕ) → moment_counted (counted_after before n) (moment_of (card_after line taken from n m) (step_event line taken (from + n))) ≡ counted_after before (suc n)
+  unfolding steps_made
+  counted-more before n =
+      let es = steps_made line taken from n in
+      let e = step_event line taken (from + n) in
+      ap (λ card. moment_counted (counted_after before n) (moment_of card e)) (run_is_moments.card m es)
+      ∙ sym (fold-append moment_counted before (moments m es) (moment_of (after_all m es) e ∷ []))
+      ∙ ap (all_counted before) (sym (moments-more m es e))
+
+  pub counted-made : (before : List Counters) (n step : ℕ) (card card' : Held Store) (given given' : List ℕ) → step ≡ from + n → Through before n card given given' → Leads shelf_of (step_event line taken step) card card'
+      → counters_in card'.lines ≡ counted_after before (suc n)
+  counted-made before n step card card' given given' e h leads =
+      let there = card_after line taken from n m in
+      (subst (λ (s : ℕ). Leads shelf_of (step_event line taken s) card card') e leads).counted there h.stands
+      ∙ ap (λ all. moment_counted all (moment_of there (step_event line taken (from + n)))) h.counted
+      ∙ counted-more before n
+
+  -- so many steps are those from the first to the last
+  pub counted-to : (before after : List Counters) (n to : ℕ) → to ≡ from + n → after ≡ counted_after before n → after ≡ counted_after before (to - from)
+  counted-to before after n to e counted = counted ∙ ap (counted_after before) (less n to e)
+    where
+      less : (n to : ℕ) → to ≡ from + n → n ≡ to - from
+      less n to e = omega (arith, e)
+
+  pub counted-none : (before : List Counters) → before ≡ counted_after before 0
+  unfolding steps_made moments
+  counted-none before = refl
+
   -- what a step makes of the card and of the octets given
-  pub card-made : (n step : ℕ) (card card' : Held Store) (given given' : List ℕ) → step ≡ from + n → Through n card given given' → Leads shelf_of (step_event line taken step) card card'
+  pub card-made : (before : List Counters) (n step : ℕ) (card card' : Held Store) (given given' : List ℕ) → step ≡ from + n → Through before n card given given' → Leads shelf_of (step_event line taken step) card card'
       → CardStands card' (card_after line taken from (suc n) m)
-  card-made n step card card' given given' e h leads =
+  card-made before n step card card' given given' e h leads =
       subst (CardStands card') (card-more n)
       ((subst (λ (s : ℕ). Leads shelf_of (step_event line taken s) card card') e leads).stands (card_after line taken from n m) h.stands)
 
-  pub octets-made : (n step : ℕ) (card : Held Store) (given given' given'' : List ℕ) → step ≡ from + n → Through n card given given'
+  pub octets-made : (before : List Counters) (n step : ℕ) (card : Held Store) (given given' given'' : List ℕ) → step ≡ from + n → Through before n card given given'
       → given'' ≡ with_step step (answer (step_event line taken step) (card_after line taken from n m)) given'
       → given'' ≡ given_after line taken from (suc n) m given
   unfolding given_after
-  octets-made n step card given given' given'' e h made =
+  octets-made before n step card given given' given'' e h made =
       subst (λ (s : ℕ). given'' ≡ with_step s (answer (step_event line taken s) (card_after line taken from n m)) given') e made
       ∙ ap (with_step (from + n) (answer_after line taken from n m)) h.octets
 

@@ -1,8 +1,10 @@
 -- A card of either kind.
-use Rattle.std.proofs.Common.{◌≡◌, ℕ, List, [], ◌∷◌, drop, map, replicate, Option, None, is_some, if◌then◌else◌, sym, ap, refl, subst}
+use Rattle.std.proofs.Common.{◌≡◌, ℕ, List, [], ◌∷◌, drop, get_or, map, replicate, set, Option, None, Some, is_some, if◌then◌else◌, sym, ap, refl, subst, ◌∙◌}
+use Rattle.std.specs.Option.{option_map_or}
+use Rattle.std.proofs.lemmas.List.{set-get_or}
 use Rattle.model_line.specs.declared.config.Config.{Config}
 use Rattle.lapd_line.specs.declared.frame_line.NextFrame.{NextFrame}
-use Rattle.lapd_line.specs.FrameStands.{written}
+use Rattle.lapd_line.specs.FrameStands.{IsNext, written}
 use Rattle.model_line.specs.Event.{pull}
 use Rattle.model_line.specs.Pull.{Taken}
 use Rattle.model_line.specs.WholeAtLine.{pulls_to_begin}
@@ -11,7 +13,13 @@ use Rattle.model_card.specs.Event.{Event, at}
 use Rattle.model_card.specs.Happening.{Happening, goes, events_of}
 use Rattle.model_card.specs.Reached.{IsReached}
 use Rattle.model_card.specs.Run.{after_all}
+use Rattle.model_card.specs.Counted.{moment_counted, moment_of}
+use Rattle.model_card.specs.HappeningsCounted.{happening_counted}
+use Rattle.lapd_count.specs.declared.counters.Counters.{Counters}
+use Rattle.lapd_count.specs.Counters.{none_counted, with_all}
+use Rattle.model_line.specs.Counted.{taken_shown}
 use Rattle.lapd_store.specs.Store.{Store}
+use Rattle.lapd_card.specs.Counted.{frame_counters_in}
 use Rattle.lapd_card.specs.FrameCard.{Held}
 use Rattle.lapd_card.specs.FrameStands.{Leads}
 use Rattle.lapd_c.specs.declared.kinds.AnyCard.{AnyCard}
@@ -30,12 +38,13 @@ lines_of (Octets c) m s = ap (λ (config : Config). config.lines) (sym s.config)
 lines_of (Frames c) m s = ap (λ (config : Config). config.lines) (sym s.config)
 
 -- what means one event leads where the event does
-pub leads_by_one : (h : Happening) (e : Event) (old new : Held Store) → ((m : machine.Card) → events_of m h ≡ e ∷ []) → Leads shelf_of h old new
-    → AnyLeads e (Frames old) (Frames new)
+pub leads_by_one : (h : Happening) (e : Event) (old new : Held Store) → ((m : machine.Card) → events_of m h ≡ e ∷ [])
+    → ((all : List Counters) (m : machine.Card) → happening_counted all m h ≡ moment_counted all (moment_of m e)) → Leads shelf_of h old new → AnyLeads e (Frames old) (Frames new)
 unfolding after_all
-leads_by_one h e old new one leads = record {
+leads_by_one h e old new one same leads = record {
   kind = refl;
   stands = λ m s. subst (λ events. FrameCardStands new (after_all m events)) (one m) (leads.stands m s);
+  counted = λ m s. leads.counted m s ∙ same (frame_counters_in old.lines) m;
 }
 
 -- where no frame waits, a call for one means nothing
@@ -47,3 +56,12 @@ none_goes line m c none s =
 -- and nothing is written
 pub unwritten : (next : Option NextFrame) (out out' : List ℕ) → next ≡ None → drop (written next) out' ≡ drop (written next) out → out' ≡ out
 unwritten next out out' none rest = subst (λ (n : Option NextFrame). drop (written n) out' ≡ drop (written n) out) none rest
+
+-- nor counted
+pub none_counts : (line : ℕ) (m : machine.Card) (all : List Counters) (next : Option NextFrame) (out : List ℕ) → next ≡ None → IsNext (next_at line m) next out
+    → happening_counted all m (goes line) ≡ all
+none_counts line m all next out none is = go (next_at line m) (subst (λ (n : Option NextFrame). IsNext (next_at line m) n out) none is)
+  where
+    go : (o : Option Taken) → IsNext o None out → set all line (with_all (get_or all line none_counted) (option_map_or taken_shown o [])) ≡ all
+    go None is = set-get_or all line none_counted
+    go (Some k) is = absurd is

@@ -1,10 +1,13 @@
 //! A card in C: where it lies, how one of either kind begins, and how it ends.
 
-ghost use Rattle.std.specs.Prelude.{◌≡◌, ◌⊎◌, Some, None, Ok, Err, IfOk, IfSome, IfNone, option_map};
+ghost use Rattle.std.specs.Prelude.{◌≡◌, ◌⊎◌, Some, None, Ok, Err, IfOk, IfSome, IfNone, option_map, replicate};
 ghost use Rattle.model_card.specs.Card as machine;
 ghost use Rattle.model_line.specs.Config.{first_fault};
 ghost use Rattle.lapd_plain.specs.Config.{config_in, config_fault};
 ghost use Rattle.lapd_plain.specs.Statuses as status;
+ghost use Rattle.lapd_count.specs.Counters.{none_counted};
+ghost use Rattle.lapd_c.specs.Counted.{counters_at};
+ghost use Rattle.lapd_c.specs.Kinds.{counters_of};
 ghost use Rattle.lapd_c.specs.Cards.{card_of, IsHandle, OctetsStand, FramesStand, OctetsStandIn, FramesStandIn};
 
 use crate::card_slot::CardSlot;
@@ -85,6 +88,7 @@ pub extern "C" fn lapd_card_start(
     ensures otherwise { card_of handle.old ≡ None → config_fault config.now ≡ None
         → (result ≡ status.ok) ⊎ (result ≡ status.no_memory) }
     ensures fresh { result ≡ status.ok → OctetsStand handle.new (machine.fresh (config_in config.now)) }
+    ensures counters { result ≡ status.ok → counters_at handle.new ≡ replicate (config_in config.now).lines none_counted }
     ensures no_memory { result ≡ status.no_memory → handle.new ≡ handle.old }
 {
     let config = match startable(handle, config) {
@@ -101,7 +105,8 @@ pub extern "C" fn lapd_card_start(
 // A card for octets of a configuration that is in range, if there is memory for it.
 fn octets_started(alloc: Global, config: Config) -> Option<Box<AnyCard>>
     requires { first_fault config ≡ None }
-    ensures { IfSome result (λ card. OctetsStandIn (Some card.value) (machine.fresh config)) }
+    ensures fresh { IfSome result (λ card. OctetsStandIn (Some card.value) (machine.fresh config)) }
+    ensures counters { IfSome result (λ card. counters_of card.value ≡ replicate config.lines none_counted) }
 {
     let shelf = RawShelf::start(alloc, u32::from(config.slots), config.n201).ok()?;
     let card = Card::start(alloc, config, shelf).ok()?;
@@ -123,6 +128,7 @@ pub extern "C" fn lapd_card_start_frames(
     ensures otherwise { card_of handle.old ≡ None → config_fault config.now ≡ None
         → (result ≡ status.ok) ⊎ (result ≡ status.no_memory) }
     ensures fresh { result ≡ status.ok → FramesStand handle.new (machine.fresh (config_in config.now)) }
+    ensures counters { result ≡ status.ok → counters_at handle.new ≡ replicate (config_in config.now).lines none_counted }
     ensures no_memory { result ≡ status.no_memory → handle.new ≡ handle.old }
 {
     let config = match startable(handle, config) {
@@ -139,7 +145,8 @@ pub extern "C" fn lapd_card_start_frames(
 // A card for frames of a configuration that is in range, if there is memory for it.
 fn frames_started(alloc: Global, config: Config) -> Option<Box<AnyCard>>
     requires { first_fault config ≡ None }
-    ensures { IfSome result (λ card. FramesStandIn (Some card.value) (machine.fresh config)) }
+    ensures fresh { IfSome result (λ card. FramesStandIn (Some card.value) (machine.fresh config)) }
+    ensures counters { IfSome result (λ card. counters_of card.value ≡ replicate config.lines none_counted) }
 {
     let shelf = RawShelf::start(alloc, u32::from(config.slots), config.n201).ok()?;
     let card = FrameCard::start(alloc, config, shelf).ok()?;

@@ -1,6 +1,6 @@
 //! What happens at a card: for octets, one that comes and one that goes; of either kind, a timer that expires, a request.
 
-ghost use Rattle.std.specs.Prelude.{◌≡◌, ◌≤◌, ◌<◌, Some, None, IfSome, IfOk, IfErr};
+ghost use Rattle.std.specs.Prelude.{◌≡◌, ◌≢◌, ◌≤◌, ◌<◌, Some, None, IfSome, IfOk, IfErr};
 ghost use Rattle.model_card.specs.Card as machine;
 ghost use Rattle.model_card.specs.Event.{at};
 ghost use Rattle.model_card.specs.Machine.{after, answer};
@@ -11,7 +11,9 @@ ghost use Rattle.lapd_plain.specs.Statuses.{refusal_status};
 ghost use Rattle.lapd_plain.specs.Requests.{request_in};
 ghost use Rattle.lapd_plain.specs.Timers.{timer_in};
 ghost use Rattle.lapd_c.specs.Cards.{card_of, kind_in, IsHandle, Stands, OctetsStand, ShowsAnswer, octet_of};
-ghost use Rattle.lapd_c.specs.Kinds.{CardStands, AnyStands, kind_of, for_frames};
+ghost use Rattle.lapd_c.specs.Counted.{Counts, counters_at};
+ghost use Rattle.lapd_c.specs.Kinds.{CardStands, AnyStands, counters_of, kind_of, for_frames};
+ghost use Rattle.lapd_card.specs.Counted.{counters_in};
 
 use crate::card::CardHandle;
 use crate::kinds::AnyCard;
@@ -42,6 +44,10 @@ pub extern "C" fn lapd_octet(
     ensures served { (m : machine.Card) → OctetsStand handle.old m → line < m.config.lines
         → (result ≡ status.ok) × OctetsStand handle.new (after (at line (line_event.octet octet)) m)
         × ShowsAnswer report.new (answer (at line (line_event.octet octet)) m) }
+    ensures counted { (m : machine.Card) → OctetsStand handle.old m → line < m.config.lines
+        → Counts (at line (line_event.octet octet)) m (counters_at handle.old) (counters_at handle.new) }
+    ensures uncounted { (m : machine.Card) → OctetsStand handle.old m → result ≢ status.ok
+        → counters_at handle.new ≡ counters_at handle.old }
 {
     let Some(mut card) = handle.take(alloc) else {
         return NO_CARD;
@@ -61,6 +67,10 @@ fn take_octet(card: &mut Card<RawShelf>, line: u32, octet: u8, report: &mut Plai
     ensures served { (m : machine.Card) → CardStands card.old m → line < m.config.lines
         → (result ≡ status.ok) × CardStands card.new (after (at line (line_event.octet octet)) m)
         × ShowsAnswer report.new (answer (at line (line_event.octet octet)) m) }
+    ensures counted { (m : machine.Card) → CardStands card.old m → line < m.config.lines
+        → Counts (at line (line_event.octet octet)) m (counters_in card.old.lines) (counters_in card.new.lines) }
+    ensures uncounted { (m : machine.Card) → CardStands card.old m → result ≢ status.ok
+        → counters_in card.new.lines ≡ counters_in card.old.lines }
 {
     let line = line as usize;
     if line >= card.lines() {
@@ -107,6 +117,10 @@ pub extern "C" fn lapd_pull(
         → (result ≡ status.ok) × OctetsStand handle.new (after (at line line_event.pull) m)
         × (octet.new ≡ octet_of (answer (at line line_event.pull) m))
         × ShowsAnswer report.new (answer (at line line_event.pull) m) }
+    ensures counted { (m : machine.Card) → OctetsStand handle.old m → line < m.config.lines
+        → Counts (at line line_event.pull) m (counters_at handle.old) (counters_at handle.new) }
+    ensures uncounted { (m : machine.Card) → OctetsStand handle.old m → result ≢ status.ok
+        → counters_at handle.new ≡ counters_at handle.old }
 {
     let Some(mut card) = handle.take(alloc) else {
         return NO_CARD;
@@ -127,6 +141,10 @@ fn give_octet(card: &mut Card<RawShelf>, line: u32, octet: &mut u8, report: &mut
         → (result ≡ status.ok) × CardStands card.new (after (at line line_event.pull) m)
         × (octet.new ≡ octet_of (answer (at line line_event.pull) m))
         × ShowsAnswer report.new (answer (at line line_event.pull) m) }
+    ensures counted { (m : machine.Card) → CardStands card.old m → line < m.config.lines
+        → Counts (at line line_event.pull) m (counters_in card.old.lines) (counters_in card.new.lines) }
+    ensures uncounted { (m : machine.Card) → CardStands card.old m → result ≢ status.ok
+        → counters_in card.new.lines ≡ counters_in card.old.lines }
 {
     let line = line as usize;
     if line >= card.lines() {
@@ -161,6 +179,9 @@ pub extern "C" fn lapd_expire(
         → IfOk (timer_in timer.now) (λ expired.
         (result ≡ status.ok) × Stands handle.new (after (at line (line_event.expiry expired)) m)
         × ShowsAnswer report.new (answer (at line (line_event.expiry expired)) m)) }
+    ensures counted { (m : machine.Card) → Stands handle.old m → line < m.config.lines
+        → IfOk (timer_in timer.now) (λ expired. Counts (at line (line_event.expiry expired)) m (counters_at handle.old) (counters_at handle.new)) }
+    ensures uncounted { (m : machine.Card) → Stands handle.old m → result ≢ status.ok → counters_at handle.new ≡ counters_at handle.old }
 {
     let Some(mut card) = handle.take(alloc) else {
         return NO_CARD;
@@ -181,6 +202,9 @@ fn expire_timer(card: &mut AnyCard, line: u32, timer: &PlainTimer, report: &mut 
         → IfOk (timer_in timer.now) (λ expired.
         (result ≡ status.ok) × AnyStands card.new (after (at line (line_event.expiry expired)) m)
         × ShowsAnswer report.new (answer (at line (line_event.expiry expired)) m)) }
+    ensures counted { (m : machine.Card) → AnyStands card.old m → line < m.config.lines
+        → IfOk (timer_in timer.now) (λ expired. Counts (at line (line_event.expiry expired)) m (counters_of card.old) (counters_of card.new)) }
+    ensures uncounted { (m : machine.Card) → AnyStands card.old m → result ≢ status.ok → counters_of card.new ≡ counters_of card.old }
 {
     let line = line as usize;
     if line >= card.lines() {
@@ -233,6 +257,11 @@ pub extern "C" fn lapd_request(
         refusal m.config (machine.is_full m) asked (machine.line_at line m) ≡ None
         → (result ≡ status.ok) × Stands handle.new (after (at line (line_event.request asked)) m)
         × ShowsAnswer report.new (answer (at line (line_event.request asked)) m)) }
+    ensures counted { (m : machine.Card) → Stands handle.old m → line < m.config.lines
+        → IfOk (request_in request service tei contents.now) (λ asked.
+        refusal m.config (machine.is_full m) asked (machine.line_at line m) ≡ None
+        → Counts (at line (line_event.request asked)) m (counters_at handle.old) (counters_at handle.new)) }
+    ensures uncounted { (m : machine.Card) → Stands handle.old m → result ≢ status.ok → counters_at handle.new ≡ counters_at handle.old }
 {
     let Some(mut card) = handle.take(alloc) else {
         return NO_CARD;
@@ -266,6 +295,11 @@ fn ask(
         refusal m.config (machine.is_full m) asked (machine.line_at line m) ≡ None
         → (result ≡ status.ok) × AnyStands card.new (after (at line (line_event.request asked)) m)
         × ShowsAnswer report.new (answer (at line (line_event.request asked)) m)) }
+    ensures counted { (m : machine.Card) → AnyStands card.old m → line < m.config.lines
+        → IfOk (request_in request service tei contents.now) (λ asked.
+        refusal m.config (machine.is_full m) asked (machine.line_at line m) ≡ None
+        → Counts (at line (line_event.request asked)) m (counters_of card.old) (counters_of card.new)) }
+    ensures uncounted { (m : machine.Card) → AnyStands card.old m → result ≢ status.ok → counters_of card.new ≡ counters_of card.old }
 {
     let line = line as usize;
     if line >= card.lines() {

@@ -1,6 +1,6 @@
 //! Octets taken and given in turn.
 
-ghost use Rattle.std.specs.Prelude.{◌≡◌, ◌≤◌, ◌<◌, ◌*◌, true, false, not, length, Some, None};
+ghost use Rattle.std.specs.Prelude.{◌≡◌, ◌≢◌, ◌≤◌, ◌<◌, ◌*◌, ◌-◌, true, false, not, length, Some, None};
 ghost use Rattle.model_card.specs.Card as machine;
 ghost use Rattle.model_card.specs.Event.{at};
 ghost use Rattle.model_card.specs.Machine.{answer};
@@ -13,7 +13,11 @@ ghost use Rattle.lapd_plain.specs.Reports.{Shows, contents_of};
 ghost use Rattle.lapd_plain.specs.Statuses as status;
 ghost use Rattle.lapd_c.specs.Cards.{card_of, kind_in, IsHandle, OctetsStand, ShowsAnswer, octet_of};
 ghost use Rattle.lapd_c.specs.Kinds.{CardStands, for_frames, shelf_of};
-ghost use Rattle.lapd_c.specs.Exchange.{is_quiet, is_exchange, step_event, with_step, Exchanged, ExchangedIn};
+ghost use Rattle.lapd_c.specs.Counted.{counters_at};
+ghost use Rattle.lapd_c.specs.Exchange.{is_quiet, is_exchange, step_event, steps_made, with_step, Exchanged, ExchangedIn};
+ghost use Rattle.lapd_card.specs.Counted.{counters_in};
+ghost use Rattle.model_card.specs.Counted.{all_counted};
+ghost use Rattle.model_card.specs.Run.{moments};
 
 use crate::card::CardHandle;
 use crate::kinds::AnyCard;
@@ -52,6 +56,10 @@ pub extern "C" fn lapd_exchange(
     ensures served { (m : machine.Card) → OctetsStand handle.old m → line < m.config.lines
         → is_exchange taken.now given.old steps.old ≡ true
         → (result ≡ status.ok) × ExchangedIn line taken.now steps.old m (card_of handle.new) given.old given.new steps.new report.new }
+    ensures counted { (m : machine.Card) → OctetsStand handle.old m → line < m.config.lines
+        → is_exchange taken.now given.old steps.old ≡ true
+        → counters_at handle.new ≡ all_counted (counters_at handle.old) (moments m (steps_made line taken.now steps.old (steps.new - steps.old))) }
+    ensures uncounted { (m : machine.Card) → OctetsStand handle.old m → result ≢ status.ok → counters_at handle.new ≡ counters_at handle.old }
 {
     let Some(mut card) = handle.take(alloc) else {
         return NO_CARD;
@@ -83,6 +91,10 @@ fn exchange_at(
     ensures served { (m : machine.Card) → CardStands card.old m → line < m.config.lines
         → is_exchange taken.now given.old steps.old ≡ true
         → (result ≡ status.ok) × Exchanged line taken.now steps.old m card.new given.old given.new steps.new report.new }
+    ensures counted { (m : machine.Card) → CardStands card.old m → line < m.config.lines
+        → is_exchange taken.now given.old steps.old ≡ true
+        → counters_in card.new.lines ≡ all_counted (counters_in card.old.lines) (moments m (steps_made line taken.now steps.old (steps.new - steps.old))) }
+    ensures uncounted { (m : machine.Card) → CardStands card.old m → result ≢ status.ok → counters_in card.new.lines ≡ counters_in card.old.lines }
 {
     let line = line as usize;
     if line >= card.lines() {
@@ -105,8 +117,10 @@ fn exchange(
 )
     requires line { line < line_count card.old }
     requires lengths { is_exchange taken.now given.old steps.old ≡ true }
-    ensures { (m : machine.Card) → CardStands card.old m
+    ensures made { (m : machine.Card) → CardStands card.old m
         → Exchanged line taken.now steps.old m card.new given.old given.new steps.new report.new }
+    ensures counted { (m : machine.Card) → CardStands card.old m
+        → counters_in card.new.lines ≡ all_counted (counters_in card.old.lines) (moments m (steps_made line taken.now steps.old (steps.new - steps.old))) }
 {
     let end = 2 * taken.len();
     for step in *steps..end {

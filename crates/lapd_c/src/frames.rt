@@ -1,6 +1,6 @@
 //! What happens at a card for frames: a frame that comes, a fault in place of one, and the frame that goes next.
 
-ghost use Rattle.std.specs.Prelude.{◌≡◌, ◌+◌, ◌≤◌, ◌<◌, true, length, Some, None, IfSome, IfOk, IfErr};
+ghost use Rattle.std.specs.Prelude.{◌≡◌, ◌≢◌, ◌+◌, ◌≤◌, ◌<◌, true, length, Some, None, IfSome, IfOk, IfErr};
 ghost use Rattle.model_card.specs.Card as machine;
 ghost use Rattle.model_card.specs.Happening.{comes, failed, goes};
 ghost use Rattle.model_card.specs.Said.{said};
@@ -8,7 +8,9 @@ ghost use Rattle.lapd_plain.specs.Faults.{fault_in};
 ghost use Rattle.lapd_plain.specs.Reports.{ShowsPull};
 ghost use Rattle.lapd_plain.specs.Statuses as status;
 ghost use Rattle.lapd_c.specs.Cards.{card_of, kind_in, IsHandle, FramesStand};
+ghost use Rattle.lapd_c.specs.Counted.{CountsHappening, counters_at};
 ghost use Rattle.lapd_c.specs.Kinds.{FrameCardStands, for_octets};
+ghost use Rattle.lapd_card.specs.Counted.{frame_counters_in};
 ghost use Rattle.lapd_c.specs.Frames.{after_happening, next_at, IsGiven, ShowsSaid};
 
 use crate::card::CardHandle;
@@ -40,6 +42,9 @@ pub extern "C" fn lapd_frame(
     ensures served { (m : machine.Card) → FramesStand handle.old m → line < m.config.lines
         → (result ≡ status.ok) × FramesStand handle.new (after_happening (comes line octets.now) m)
         × ShowsSaid report.new (said m (comes line octets.now)) }
+    ensures counted { (m : machine.Card) → FramesStand handle.old m → line < m.config.lines
+        → CountsHappening (comes line octets.now) m (counters_at handle.old) (counters_at handle.new) }
+    ensures uncounted { (m : machine.Card) → FramesStand handle.old m → result ≢ status.ok → counters_at handle.new ≡ counters_at handle.old }
 {
     let Some(mut card) = handle.take(alloc) else {
         return NO_CARD;
@@ -64,6 +69,9 @@ fn take_frame(
     ensures served { (m : machine.Card) → FrameCardStands card.old m → line < m.config.lines
         → (result ≡ status.ok) × FrameCardStands card.new (after_happening (comes line octets.now) m)
         × ShowsSaid report.new (said m (comes line octets.now)) }
+    ensures counted { (m : machine.Card) → FrameCardStands card.old m → line < m.config.lines
+        → CountsHappening (comes line octets.now) m (frame_counters_in card.old.lines) (frame_counters_in card.new.lines) }
+    ensures uncounted { (m : machine.Card) → FrameCardStands card.old m → result ≢ status.ok → frame_counters_in card.new.lines ≡ frame_counters_in card.old.lines }
 {
     let line = line as usize;
     if line >= card.lines() {
@@ -94,22 +102,25 @@ pub extern "C" fn lapd_frame_failed(
     ensures handle { IsHandle handle.new }
     ensures no_card { card_of handle.old ≡ None
         → (result ≡ status.no_card) × (handle.new ≡ handle.old) × (report.new ≡ report.old) }
-    ensures unchanged { card_of handle.new ≡ card_of handle.old }
     ensures wrong_card { kind_in handle.old ≡ Some for_octets
-        → (result ≡ status.wrong_card) × (report.new ≡ report.old) }
+        → (result ≡ status.wrong_card) × (card_of handle.new ≡ card_of handle.old) × (report.new ≡ report.old) }
     ensures wrong_line { (m : machine.Card) → FramesStand handle.old m → m.config.lines ≤ line
-        → (result ≡ status.wrong_line) × (report.new ≡ report.old) }
+        → (result ≡ status.wrong_line) × (card_of handle.new ≡ card_of handle.old) × (report.new ≡ report.old) }
     ensures wrong_cause { (m : machine.Card) → FramesStand handle.old m → line < m.config.lines
-        → IfErr (fault_in cause) (λ wrong. (result ≡ wrong) × (report.new ≡ report.old)) }
+        → IfErr (fault_in cause) (λ wrong. (result ≡ wrong) × (card_of handle.new ≡ card_of handle.old)
+        × (report.new ≡ report.old)) }
     ensures served { (m : machine.Card) → FramesStand handle.old m → line < m.config.lines
         → IfOk (fault_in cause) (λ fault. (result ≡ status.ok)
         × FramesStand handle.new (after_happening (failed line fault) m)
         × ShowsSaid report.new (said m (failed line fault))) }
+    ensures counted { (m : machine.Card) → FramesStand handle.old m → line < m.config.lines
+        → IfOk (fault_in cause) (λ fault. CountsHappening (failed line fault) m (counters_at handle.old) (counters_at handle.new)) }
+    ensures uncounted { (m : machine.Card) → FramesStand handle.old m → result ≢ status.ok → counters_at handle.new ≡ counters_at handle.old }
 {
-    let Some(card) = handle.take(alloc) else {
+    let Some(mut card) = handle.take(alloc) else {
         return NO_CARD;
     };
-    let AnyCard::Frames(frames) = &*card else {
+    let AnyCard::Frames(frames) = &mut *card else {
         handle.put(card);
         return WRONG_CARD;
     };
@@ -118,15 +129,18 @@ pub extern "C" fn lapd_frame_failed(
     status
 }
 
-fn tell_fault(card: &FrameCard<RawShelf>, line: u32, cause: u8, report: &mut PlainReport) -> u32
-    ensures wrong_line { (m : machine.Card) → FrameCardStands card.now m → m.config.lines ≤ line
-        → (result ≡ status.wrong_line) × (report.new ≡ report.old) }
-    ensures wrong_cause { (m : machine.Card) → FrameCardStands card.now m → line < m.config.lines
-        → IfErr (fault_in cause) (λ wrong. (result ≡ wrong) × (report.new ≡ report.old)) }
-    ensures served { (m : machine.Card) → FrameCardStands card.now m → line < m.config.lines
+fn tell_fault(card: &mut FrameCard<RawShelf>, line: u32, cause: u8, report: &mut PlainReport) -> u32
+    ensures wrong_line { (m : machine.Card) → FrameCardStands card.old m → m.config.lines ≤ line
+        → (result ≡ status.wrong_line) × (card.new ≡ card.old) × (report.new ≡ report.old) }
+    ensures wrong_cause { (m : machine.Card) → FrameCardStands card.old m → line < m.config.lines
+        → IfErr (fault_in cause) (λ wrong. (result ≡ wrong) × (card.new ≡ card.old) × (report.new ≡ report.old)) }
+    ensures served { (m : machine.Card) → FrameCardStands card.old m → line < m.config.lines
         → IfOk (fault_in cause) (λ fault. (result ≡ status.ok)
-        × FrameCardStands card.now (after_happening (failed line fault) m)
+        × FrameCardStands card.new (after_happening (failed line fault) m)
         × ShowsSaid report.new (said m (failed line fault))) }
+    ensures counted { (m : machine.Card) → FrameCardStands card.old m → line < m.config.lines
+        → IfOk (fault_in cause) (λ fault. CountsHappening (failed line fault) m (frame_counters_in card.old.lines) (frame_counters_in card.new.lines)) }
+    ensures uncounted { (m : machine.Card) → FrameCardStands card.old m → result ≢ status.ok → frame_counters_in card.new.lines ≡ frame_counters_in card.old.lines }
 {
     let line = line as usize;
     if line >= card.lines() {
@@ -182,6 +196,9 @@ pub extern "C" fn lapd_next_frame(
         → m.config.n201 + 4 ≤ length out.old → IfSome (next_at line m) (λ next.
         (result ≡ status.ok) × FramesStand handle.new (after_happening (goes line) m)
         × IsGiven next out.old out.new count.new × ShowsPull report.new true next.orders) }
+    ensures counted { (m : machine.Card) → FramesStand handle.old m → line < m.config.lines
+        → m.config.n201 + 4 ≤ length out.old → CountsHappening (goes line) m (counters_at handle.old) (counters_at handle.new) }
+    ensures uncounted { (m : machine.Card) → FramesStand handle.old m → result ≢ status.ok → counters_at handle.new ≡ counters_at handle.old }
 {
     let Some(mut card) = handle.take(alloc) else {
         return NO_CARD;
@@ -217,6 +234,9 @@ fn give_frame(
         → m.config.n201 + 4 ≤ length out.old → IfSome (next_at line m) (λ next.
         (result ≡ status.ok) × FrameCardStands card.new (after_happening (goes line) m)
         × IsGiven next out.old out.new count.new × ShowsPull report.new true next.orders) }
+    ensures counted { (m : machine.Card) → FrameCardStands card.old m → line < m.config.lines
+        → m.config.n201 + 4 ≤ length out.old → CountsHappening (goes line) m (frame_counters_in card.old.lines) (frame_counters_in card.new.lines) }
+    ensures uncounted { (m : machine.Card) → FrameCardStands card.old m → result ≢ status.ok → frame_counters_in card.new.lines ≡ frame_counters_in card.old.lines }
 {
     let line = line as usize;
     if line >= card.lines() {

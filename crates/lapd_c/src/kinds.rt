@@ -1,6 +1,6 @@
 //! A card of either kind, and what both do alike.
 
-ghost use Rattle.std.specs.Prelude.{◌≡◌, ◌+◌, ◌<◌, sum_by, Some, None, IfOk, IfErr, OnErr};
+ghost use Rattle.std.specs.Prelude.{◌≡◌, ◌+◌, ◌<◌, get_or, sum_by, Some, None, IfOk, IfErr, OnErr};
 ghost use Rattle.model_card.specs.Card as machine;
 ghost use Rattle.model_card.specs.Event.{at};
 ghost use Rattle.model_card.specs.Machine.{after, answer};
@@ -11,11 +11,12 @@ ghost use Rattle.model_line.specs.Event.{told};
 ghost use Rattle.model_line.specs.Refusal.{refusal};
 ghost use Rattle.model_line.specs.Request.{request_of};
 ghost use Rattle.model_line.specs.Stored.{held_sent};
+ghost use Rattle.lapd_count.specs.Counters.{none_counted};
 ghost use Rattle.lapd_card.specs.Reply.{answer_of_result};
 ghost use Rattle.lapd_line.specs.Reports.{report_told};
-ghost use Rattle.lapd_c.specs.Kinds.{AnyStands, AnyLeads, kind_of, line_count, for_octets, for_frames};
+ghost use Rattle.lapd_c.specs.Kinds.{AnyStands, AnyLeads, kind_of, line_count, counters_of, for_octets, for_frames};
 
-use lapd_card::{Card, FrameCard, Report, Request, Room};
+use lapd_card::{Card, Counters, FrameCard, Report, Request, Room};
 use lapd_frame::{Refusal, Service, Timer};
 use lapd_store::RawShelf;
 
@@ -91,6 +92,17 @@ impl AnyCard {
         match self {
             AnyCard::Octets(card) => card.room(line, service, tei),
             AnyCard::Frames(card) => card.room(line, service, tei),
+        }
+    }
+
+    /// What was counted of a line.
+    pub(crate) fn counters(&self, line: usize) -> &Counters
+        requires { line < line_count self.now }
+        ensures { result.now ≡ get_or (counters_of self.now) line none_counted }
+    {
+        match self {
+            AnyCard::Octets(card) => card.counters(line),
+            AnyCard::Frames(card) => card.counters(line),
         }
     }
 

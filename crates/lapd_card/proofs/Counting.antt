@@ -6,7 +6,7 @@ use Rattle.std.proofs.lemmas.List.Sums.{fold-append}
 use Rattle.lapd_count.specs.declared.counters.Counters.{Counters}
 use Rattle.lapd_count.specs.Counters.{none_counted, value_in, with_more, with_all}
 use Rattle.lapd_count.proofs.Numbers.{counters_are_numbers}
-use Rattle.lapd_line.specs.Counted.{shown}
+use Rattle.model_line.specs.Counted.{shown}
 use Rattle.model_card.specs.declared.events.Event as rust
 use Rattle.model_card.specs.Card.{Card, line_at}
 use Rattle.model_card.specs.Event.{Event, event_of}
@@ -15,7 +15,8 @@ use Rattle.model_card.specs.Run.{Moment, moments, after_all, run}
 use Rattle.model_card.proofs.Fold.{run_is_moments}
 use Rattle.lapd_store.specs.Store.{Store}
 use Rattle.lapd_card.specs.Card.{Held}
-use Rattle.lapd_card.specs.Counted.{counters_in, moment_counted, all_counted, moment_of, shown_at, all_shown, CountersAreNumbers}
+use Rattle.lapd_card.specs.Counted.{counters_in}
+use Rattle.model_card.specs.Counted.{moment_counted, all_counted, moment_of, shown_at, all_shown, CountersAreNumbers}
 use Rattle.lapd_card.specs.Drive.{events_of}
 use Rattle.lapd_card.specs.Stands.{Stands, Leads}
 use Rattle.lapd_card.proofs.Taken.{events-more}
@@ -56,7 +57,7 @@ unfolding moments
 none-counted all card = refl
 
 -- a list with one event more has one moment more
-moments-more : (card : Card) (es : List Event) (e : Event) → moments card (es ++ e ∷ []) ≡ moments card es ++ moment_of (after_all card es) e ∷ []
+pub moments-more : (card : Card) (es : List Event) (e : Event) → moments card (es ++ e ∷ []) ≡ moments card es ++ moment_of (after_all card es) e ∷ []
 unfolding moments after_all
 moments-more card [] e = refl
 moments-more card (x ∷ es) e = ap (λ ms. moment_of card x ∷ ms) (moments-more (after x card) es e)

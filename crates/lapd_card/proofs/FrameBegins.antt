@@ -15,6 +15,8 @@ use Rattle.model_card.proofs.Reaching.{reached-fresh}
 use Rattle.lapd_store.specs.Ownership.{Holds}
 use Rattle.lapd_store.specs.Store.{Store, used_slots}
 use Rattle.lapd_store.proofs.Ownership.{Holds-unused, used_slots-held}
+use Rattle.lapd_count.specs.Counters.{none_counted}
+use Rattle.lapd_card.specs.Counted.{frame_counters_in}
 use Rattle.lapd_card.specs.FrameLines.{IsFit, owned, IsFresh, AreFresh}
 use Rattle.lapd_card.specs.FrameStands.{Stands}
 use Rattle.lapd_card.proofs.Begins.{empty_list}
@@ -26,6 +28,14 @@ owns_nothing c l s wide none fresh =
     let pairs = pairs_of l (fresh_line c) in
     let held = held_of l s [] (fresh_line c) (fresh.stands s [] wide none) in
     empty_list pairs (ap length (sym (append-nil pairs)) ∙ sym (used_slots-held (pairs ++ []) held) ∙ used_slots-held [] none)
+
+-- and nothing is counted of it
+fresh_counters : (c : Config) (ls : List FrameLine) → AllByRecursion (IsFresh c) ls → frame_counters_in ls ≡ replicate (length ls) none_counted
+fresh_counters c [] all = refl
+fresh_counters c (l ∷ ls) (one, all) = ap (λ k. k ∷ frame_counters_in ls) one.counters ∙ ap (λ ks. none_counted ∷ ks) (fresh_counters c ls all)
+
+pub none_is_counted : (c : Config) (ls : List FrameLine) → AreFresh c ls → frame_counters_in ls ≡ replicate c.lines none_counted
+none_is_counted c ls all = fresh_counters c ls all.each ∙ ap (λ n. replicate n none_counted) all.count
 
 -- and stands for a line of the machine as it begins
 fresh_fit : (c : Config) (ls : List FrameLine) (s : Store) → c.n201 ≤ s.width → Holds s [] → AllByRecursion (IsFresh c) ls → All (IsFit c) (zip ls (replicate (length ls) (fresh_line c)))

@@ -13,6 +13,9 @@ use Rattle.model_card.specs.Said.{Said, gives, next_of, said, replies}
 use Rattle.model_card.proofs.Happening.{after_all-append}
 use Rattle.lapd_card.specs.declared.happenings.Happening as rust
 use Rattle.lapd_card.specs.FrameCard.{Held}
+use Rattle.lapd_count.specs.declared.counters.Counters.{Counters}
+use Rattle.lapd_card.specs.Counted.{frame_counters_in}
+use Rattle.model_card.specs.HappeningsCounted.{happening_counted, happenings_counted}
 use Rattle.lapd_card.specs.FrameDrive.{happening_of, all_of, after_happenings, Taken, MissesReply, MissesAt}
 use Rattle.lapd_card.specs.FrameReply.{next_in}
 use Rattle.lapd_card.specs.FrameStands.{Stands, Leads}
@@ -72,6 +75,26 @@ missed-at takes misses m hs at h old mid new is missed taken = record {
   taken = taken;
   missed = subst (λ o. MissesReply misses (after_happenings m (take at (all_of hs))) o mid new) (sym (one-at hs at h is)) missed;
 }
+
+-- and what it shows is counted
+counts-more : (all : List Counters) (m : Card) (hs : List Happening) (h : Happening) → happenings_counted all m (hs ++ h ∷ []) ≡ happening_counted (happenings_counted all m hs) (after_happenings m hs) h
+unfolding after_all
+counts-more all m [] h = refl
+counts-more all m (x ∷ hs) h =
+    let next = after_all m (events_of m x) in
+    let one = happening_counted all m x in
+    counts-more one next hs h
+    ∙ ap (λ c. happening_counted (happenings_counted one next hs) c h) (sym (after_all-append m (events_of m x) (spelled next hs)))
+
+pub counted-more : {S : Type 0} (store : S → Store) (m : Card) (hs : List rust.Happening) (at : ℕ) (h : rust.Happening) (old mid new : Held S) → slice_get hs at ≡ Some h
+    → Leads store (happening_of h) mid new → Stands store mid (after_happenings m (take at (all_of hs)))
+    → frame_counters_in mid.lines ≡ happenings_counted (frame_counters_in old.lines) m (take at (all_of hs))
+    → frame_counters_in new.lines ≡ happenings_counted (frame_counters_in old.lines) m (take (at + 1) (all_of hs))
+counted-more store m hs at h old mid new is leads ran so_far =
+    leads.counted (after_happenings m (take at (all_of hs))) ran
+    ∙ ap (λ k. happening_counted k (after_happenings m (take at (all_of hs))) (happening_of h)) so_far
+    ∙ sym (counts-more (frame_counters_in old.lines) m (take at (all_of hs)) (happening_of h))
+    ∙ ap (happenings_counted (frame_counters_in old.lines) m) (sym (one-more hs at h is))
 
 -- the next frame is what is said of it
 pub next_said : (o : Option Pull) (next : Option NextFrame) (out : List ℕ) → IsNext o next out → gives (option_map (next_in out) next) ≡ gives (option_map next_of o)

@@ -8,6 +8,7 @@ pub mod FrameTaken
 pub mod OneEvent
 pub mod Taken
 pub mod Counting
+pub mod FrameCounting
 pub mod Begins
 pub mod Amounts
 pub mod Headline

@@ -31,7 +31,8 @@ use Rattle.lapd_store.specs.Store.{Store, used_slots, stored_octets}
 use Rattle.lapd_store.proofs.Ownership.{used_slots-held, stored_octets-held}
 use Rattle.lapd_store.proofs.Focus.{slots-machines, octets-machines}
 use Rattle.lapd_card.specs.Card.{Held, line_count}
-use Rattle.lapd_card.specs.Counted.{counters_in, one_counted}
+use Rattle.lapd_card.specs.Counted.{counters_in}
+use Rattle.model_card.specs.Counted.{one_counted}
 use Rattle.lapd_card.specs.Lines.{IsFit, owned, Stand, Lead, line_in, after_event}
 use Rattle.lapd_card.specs.Reply.{answer_of_result}
 use Rattle.lapd_card.specs.Stands.{Stands, Leads, HasPast}

@@ -1,6 +1,6 @@
 -- One line of a card for frames, taken out of its lines and put back.
 use Rattle.std.proofs.Common.{◌≡◌, ℕ, ◌≤◌, ◌<◌, List, [], length, sym, ap, subst, ◌∙◌, arith, get_or, set, length-set}
-use Rattle.std.proofs.lemmas.List.{get_or_default, set-get_or}
+use Rattle.std.proofs.lemmas.List.{get_or_default, set-get_or, get_or-map, map-set}
 use Rattle.lapd_line.specs.declared.frame_line.FrameLine.{FrameLine}
 use Rattle.lapd_line.specs.FrameStands as line
 use Rattle.lapd_line.specs.FrameStands.{config_of}
@@ -13,7 +13,9 @@ use Rattle.lapd_store.specs.Ownership.{Owned}
 use Rattle.lapd_store.specs.Store.{Store, SameLimits}
 use Rattle.lapd_store.proofs.Focus.{FocusPair, focus_pair}
 use Rattle.lapd_card.specs.Lines.{line_in}
-use Rattle.lapd_card.specs.FrameLines.{IsFit, owned, Stand, Serve, Lead}
+use Rattle.lapd_count.specs.Counters.{More, none_counted, with_all}
+use Rattle.lapd_card.specs.Counted.{frame_counters_of, frame_counters_in}
+use Rattle.lapd_card.specs.FrameLines.{IsFit, owned, Stand, Serve, Lead, CountsAt}
 
 -- A line stands for its part of the machine, beside what the other lines own; and whatever it and the shelf are
 -- afterwards, if it stands for another line of the machine, the lines stand with that in its place.
@@ -72,6 +74,23 @@ one_leads events items lines i x at s y t leads = subst (λ ls. Lead i events li
       focus.back t y _ leads.limits leads.config
       (subst (λ d. line.Stands y t focus.rest (after_events d (events d (line_in c i ms)) (line_in c i ms))) focus.config (leads.stands focus.rest (line_in c i ms) focus.stands));
 })
+
+-- its counters are those at its place
+pub counters_at : (items lines : List FrameLine) (i : ℕ) (x : FrameLine) → IsAt items lines i x → x.counters ≡ get_or (frame_counters_in lines) i none_counted
+counters_at items lines i x at =
+    ap frame_counters_of (subst (λ ls. x ≡ get_or ls i x) at.same at.is) ∙ sym (get_or-map frame_counters_of lines i x none_counted at.within)
+
+-- what it counts is counted at its place
+pub one_counts : (shown : Config → machine.Line → List More) (items lines : List FrameLine) (i : ℕ) (x : FrameLine) → IsAt items lines i x → (s : Store) (y : FrameLine)
+    → line.Counts shown x s y → CountsAt i shown lines s (set items i y)
+one_counts shown items lines i x at s y counts = subst (λ ls. CountsAt i shown lines s (set ls i y)) (sym at.same) (λ c ms stand.
+    let focus = focused_at items lines i x at c s ms stand in
+    let l = line_in c i ms in
+    map-set frame_counters_of lines i y
+    ∙ ap (set (frame_counters_in lines) i)
+    (counts focus.rest l focus.stands
+    ∙ ap (λ d. with_all x.counters (shown d l)) focus.config
+    ∙ ap (λ k. with_all k (shown c l)) (counters_at items lines i x at)))
 
 -- what is said of every past of the line is said of the line of the machine
 pub one_says : {X : Type 0} (f : Config → machine.Line → X) (r : X) (items lines : List FrameLine) (i : ℕ) (x : FrameLine) → IsAt items lines i x → (s : Store) → ((others : List Owned) (l : machine.Line) → line.Stands x s others l → r ≡ f (config_of x) l) → (c : Config) (ms : List machine.Line) → Stand c lines s ms → r ≡ f c (line_in c i ms)

@@ -1,7 +1,7 @@
 -- A happening at a card for frames is one at one of its lines.
 use Rattle.std.proofs.Common.{if◌then◌else◌, false, ◌≡◌, ℕ, zero, suc, ◌+◌, get_or, ◌≤◌, ◌<◌, List, [], ◌∷◌, ◌++◌, length, map, nat_le, refl, sym, ap, subst, ◌∙◌, Some, None, IsSome, Option, arith, Ok, Err, Result, IfOk, IfErr, OnErr}
 use Rattle.std.proofs.lemmas.Bool.{lt-ltb}
-use Rattle.std.proofs.lemmas.List.{append-nil}
+use Rattle.std.proofs.lemmas.List.{append-nil, set-get_or}
 use Rattle.std.proofs.lemmas.List.Elements.{All-head, All-tail}
 use Rattle.std.specs.List.{flat_map, sum_by, zip}
 use Rattle.lapd_frame.specs.declared.refusals.Refusal.{Refusal}
@@ -40,7 +40,11 @@ use Rattle.lapd_store.specs.Store.{Store, used_slots, stored_octets}
 use Rattle.lapd_store.proofs.Ownership.{used_slots-held, stored_octets-held}
 use Rattle.lapd_store.proofs.Focus.{slots-machines, octets-machines}
 use Rattle.lapd_card.specs.FrameCard.{Held, line_count, room_for_frames}
-use Rattle.lapd_card.specs.FrameLines.{IsFit, owned, Stand, Lead}
+use Rattle.lapd_count.specs.Counters.{More, none_counted}
+use Rattle.model_line.specs.Counted.{told_in_answer}
+use Rattle.lapd_card.specs.Counted.{frame_counters_in}
+use Rattle.model_card.specs.HappeningsCounted.{counted_at, happening_shown}
+use Rattle.lapd_card.specs.FrameLines.{IsFit, owned, Stand, Lead, CountsAt}
 use Rattle.lapd_card.specs.FrameStands.{Stands, Leads, HasPast}
 use Rattle.lapd_card.specs.Lines.{line_in}
 use Rattle.lapd_card.specs.Reply.{answer_of_result}
@@ -83,8 +87,11 @@ IsOfLine store card h events =
 -- what the lines do, the card does
 pub happening_leads : {S : Type 0} (store : S → Store) (h : Happening) (old : Held S) (ls : List FrameLine) (shelf : S) → line_of h < line_count old
     → (events : Config → line.Line → List line_event.Event) → IsOfLine store old h events
-    → Lead (line_of h) events old.lines (store old.shelf) ls (store shelf) → Leads store h old (record { config = old.config; lines = ls; shelf = shelf })
-happening_leads store h old ls shelf within events alone lead = record {
+    → Lead (line_of h) events old.lines (store old.shelf) ls (store shelf)
+    → (shown : Config → line.Line → List More) → CountsAt (line_of h) shown old.lines (store old.shelf) ls
+    → ((m : Card) → Stands store old m → happening_shown m h ≡ shown m.config (line_at (line_of h) m))
+    → Leads store h old (record { config = old.config; lines = ls; shelf = shelf })
+happening_leads store h old ls shelf within events alone lead shown counts are = record {
   config = refl;
   stands = λ m s. record {
     config = config_stays m (events_of m h) ∙ s.config;
@@ -94,6 +101,10 @@ happening_leads store h old ls shelf within events alone lead = record {
     slots = subst (λ n. old.config.slots ≤ n) (sym lead.limits.slots) s.slots;
     reached = reached-all m (events_of m h) s.reached (at_lines store old h within m s);
   };
+  counted = λ m s.
+      counts old.config m.lines s.lines
+      ∙ ap (λ c. counted_at (line_of h) (shown c (line_in c (line_of h) m.lines)) (frame_counters_in old.lines)) (sym s.config)
+      ∙ ap (λ x. counted_at (line_of h) x (frame_counters_in old.lines)) (sym (are m s));
 }
 
 -- the line at a place
@@ -158,6 +169,12 @@ expiry_said store number timer card r told m s =
     ap says (line_says store (λ c l. lines.answer c (line_event.expiry timer) l) number card r told m s
     ∙ sym (answer_served (at number (line_event.expiry timer)) m (has_room (at number (line_event.expiry timer)) m (expiry_takes m.config timer (line_at number m)))))
 
+-- and shows what its line is answered
+pub expiry_shown : {S : Type 0} (store : S → Store) (card : Held S) (number : ℕ) (timer : Timer) (m : Card) → Stands store card m
+    → happening_shown m (expires number timer) ≡ told_in_answer (lines.answer m.config (line_event.expiry timer) (line_at number m))
+expiry_shown store card number timer m s =
+    ap told_in_answer (answer_served (at number (line_event.expiry timer)) m (has_room (at number (line_event.expiry timer)) m (expiry_takes m.config timer (line_at number m))))
+
 -- an expiry starts one timer at most
 pub starts_one : {S : Type 0} (store : S → Store) (card : Held S) (number : ℕ) (timer : Timer) (t : line_event.LineTold)
     → ((c : Config) (ms : List line.Line) → Stand c card.lines (store card.shelf) ms → line_event.told t ≡ lines.answer c (line_event.expiry timer) (line_in c number ms))
@@ -216,9 +233,10 @@ pub request_leads : {S : Type 0} (store : S → Store) (r : Request) (number : �
     → IfOk result (λ report. (m : Card) → Stands store old m → refusal m.config (is_full m) r (line_at number m) ≡ None)
     → OnErr result (ls ≡ old.lines) → OnErr result (shelf ≡ old.shelf)
     → IfOk result (λ report. Lead number (λ c l. line_event.request r ∷ []) old.lines (store old.shelf) ls (store shelf))
+    → IfOk result (λ report. CountsAt number (λ c l. told_in_answer (lines.answer c (line_event.request r) l)) old.lines (store old.shelf) ls)
     → Leads store (asks number r) old (record { config = old.config; lines = ls; shelf = shelf })
 unfolding after_all
-request_leads {S} store r number old ls shelf (Err why) within refused accepted same kept leads =
+request_leads {S} store r number old ls shelf (Err why) within refused accepted same kept leads counts =
     let new : Held S = record { config = old.config; lines = ls; shelf = shelf } in
     let new_is : new ≡ old = ap (λ l. record { config = old.config; lines = l; shelf = shelf }) same ∙ ap (λ h. record { config = old.config; lines = old.lines; shelf = h }) kept in
     record {
@@ -226,10 +244,17 @@ request_leads {S} store r number old ls shelf (Err why) within refused accepted 
       stands = λ m s.
           let some = subst (λ o. IsSome o) (sym (refused m s)) refl in
           subst (Stands store new) (sym (refused_by_the_table.unchanged m number r some)) (subst (λ card. Stands store card m) (sym new_is) s);
+      counted = λ m s.
+          let all = frame_counters_in old.lines in
+          ap frame_counters_in same
+          ∙ sym (set-get_or all number none_counted)
+          ∙ ap (λ a. counted_at number (told_in_answer a) all) (sym ((refused_by_the_table.refused_exactly m number r why).1 (refused m s)));
     }
-request_leads store r number old ls shelf (Ok report) within refused accepted same kept leads =
+request_leads store r number old ls shelf (Ok report) within refused accepted same kept leads counts =
     happening_leads store (asks number r) old ls shelf within (λ c l. line_event.request r ∷ [])
     (λ m s. event_alone number (line_event.request r) m (accepted_has_room r number m (accepted m s))) leads
+    (λ c l. told_in_answer (lines.answer c (line_event.request r) l)) counts
+    (λ m s. ap told_in_answer (answer_served (at number (line_event.request r)) m (accepted_has_room r number m (accepted m s))))
 
 -- The state of a link is that of its line's.
 pub state_is : {S : Type 0} (store : S → Store) (number : ℕ) (service : Service) (tei : ℕ) (card : Held S) (r : Option ℕ) → number < line_count card → ((c : Config) (s : Store) (ms : List line.Line) → Stand c card.lines s ms → r ≡ line.state_of service tei (line_in c number ms)) → (m : Card) → Stands store card m → r ≡ state number service tei m

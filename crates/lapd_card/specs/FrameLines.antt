@@ -10,6 +10,9 @@ use Rattle.model_line.specs.Line as machine
 use Rattle.model_line.specs.WholeAtLine.{after_events}
 use Rattle.lapd_store.specs.Ownership.{Owned, Holds}
 use Rattle.lapd_store.specs.Store.{Store, SameLimits}
+use Rattle.lapd_count.specs.Counters.{More, none_counted}
+use Rattle.lapd_card.specs.Counted.{frame_counters_in}
+use Rattle.model_card.specs.HappeningsCounted.{counted_at}
 use Rattle.lapd_card.specs.Lines.{line_in}
 
 -- A line that has the card's configuration, and stands for an idle line of the machine on some shelf, beside some others.
@@ -46,10 +49,16 @@ pub record Lead (number : ℕ) (events : Config → machine.Line → List Event)
   pub limits : SameLimits s t
   pub stand : (c : Config) (ms : List machine.Line) → Stand c old s ms → Stand c new t (after_at c number events ms)
 
+-- At its line this is counted, and on no other anything.
+abbrev pub CountsAt : ℕ → (Config → machine.Line → List More) → List FrameLine → Store → List FrameLine → Type 0
+CountsAt number shown old s new =
+    (c : Config) (ms : List machine.Line) → Stand c old s ms → frame_counters_in new ≡ counted_at number (shown c (line_in c number ms)) (frame_counters_in old)
+
 -- Lines as they begin.
 pub record IsFresh (c : Config) (l : FrameLine) : Type 0 where
   pub config : config_of l ≡ c
   pub stands : (store : Store) (others : List Owned) → c.n201 ≤ store.width → Holds store others → line.Stands l store others (machine.fresh_line c)
+  pub counters : l.counters ≡ none_counted
 
 pub record AreFresh (c : Config) (lines : List FrameLine) : Type 0 where
   pub count : length lines ≡ c.lines

@@ -5,6 +5,8 @@ use Rattle.model_card.specs.Reached.{IsReached}
 use Rattle.model_card.specs.Run.{after_all}
 use Rattle.model_card.specs.Happening.{Happening, events_of}
 use Rattle.lapd_card.specs.FrameCard.{Held}
+use Rattle.lapd_card.specs.Counted.{frame_counters_in}
+use Rattle.model_card.specs.HappeningsCounted.{happening_counted}
 use Rattle.lapd_card.specs.FrameLines as lines
 use Rattle.lapd_store.specs.Store.{Store}
 
@@ -20,7 +22,9 @@ abbrev pub HasPast : {S : Type 0} → (S → Store) → Held S → Type 0
 HasPast store card = (m : machine.Card) × Stands store card m
 
 -- What happens leads a card from one value to another: for every machine for which the card stood, it stands for that
--- machine after the events that this means.
+-- machine after the events that this means; and its counters count what happened.
 pub record Leads {S : Type 0} (store : S → Store) (h : Happening) (old new : Held S) : Type 0 where
   pub config : new.config ≡ old.config
   pub stands : (m : machine.Card) → Stands store old m → Stands store new (after_all m (events_of m h))
+  -- at its line what it shows is counted, and on no other line anything
+  pub counted : (m : machine.Card) → Stands store old m → frame_counters_in new.lines ≡ happening_counted (frame_counters_in old.lines) m h

@@ -12,7 +12,8 @@ use Rattle.model_line.specs.Event.{Event, LineTold, nothing}
 use Rattle.model_line.specs.Line as machine
 use Rattle.model_line.specs.Machine.{after, answer}
 use Rattle.lapd_count.specs.Counters.{none_counted}
-use Rattle.lapd_card.specs.Counted.{counters_in, one_counted}
+use Rattle.lapd_card.specs.Counted.{counters_in}
+use Rattle.model_card.specs.Counted.{one_counted}
 use Rattle.lapd_store.specs.Ownership.{Owned, Holds}
 use Rattle.lapd_store.specs.Store.{Store, SameLimits}
 

@@ -5,7 +5,8 @@ use Rattle.model_card.specs.Event.{Event}
 use Rattle.model_card.specs.Machine.{after}
 use Rattle.model_card.specs.Reached.{IsReached}
 use Rattle.lapd_card.specs.Card.{Held}
-use Rattle.lapd_card.specs.Counted.{counters_in, moment_counted, moment_of}
+use Rattle.lapd_card.specs.Counted.{counters_in}
+use Rattle.model_card.specs.Counted.{moment_counted, moment_of}
 use Rattle.lapd_card.specs.Lines as lines
 use Rattle.lapd_store.specs.Store.{Store}
 

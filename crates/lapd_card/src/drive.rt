@@ -8,7 +8,8 @@ ghost use Rattle.model_line.specs.Request.{request_of};
 ghost use Rattle.model_card.specs.Machine.{answer};
 ghost use Rattle.model_card.specs.Run.{run, moments};
 ghost use Rattle.lapd_card.specs.Card.{line_count};
-ghost use Rattle.lapd_card.specs.Counted.{counters_in, all_counted, CountersAreNumbers};
+ghost use Rattle.lapd_card.specs.Counted.{counters_in};
+ghost use Rattle.model_card.specs.Counted.{all_counted, CountersAreNumbers};
 ghost use Rattle.lapd_card.specs.Drive.{line_of, events_of, Taken, MissesAt};
 ghost use Rattle.model_card.specs.ByEvent.{ArePriced};
 ghost use Rattle.model_card.specs.Drops.{AreDropsWithoutCost, AreDropsWithoutEffect};
@@ -34,7 +35,7 @@ impl<S: Shelf> Card<S> {
     ///   taken the machine's reply to each, once and in order.
     /// - `at`, `stopped`, `taken_before`: after a fault, the events up to the one whose reply the sink did not take have
     ///   happened and no later one, and the sink has taken the replies before it.
-    /// - `counted`, `counted_before`, `numbers`: the counters of each line have counted what those events show at it that have
+    /// - `counters`, `counters_before`, `counters_add_up`: the counters of each line have counted what those events show at it that have
     ///   happened, and those of other lines nothing of it; so each counter is what it was before and so many more as the
     ///   moments at its line show under its name, or its greatest value where that is less.
     /// - `failed`, `not_failed`: after a fault the sink has counted one failure more (a count that stays at its greatest
@@ -92,7 +93,7 @@ impl<S: Shelf> Card<S> {
             → Stands S.store self.new (run m (events_of events.now)).card) }
         ensures taken { OnOk result ((m : machine.Card) → Stands S.store self.old m
             → Taken K.takes sink.old (run m (events_of events.now)).replies sink.new) }
-        ensures counted { OnOk result ((m : machine.Card) → Stands S.store self.old m
+        ensures counters { OnOk result ((m : machine.Card) → Stands S.store self.old m
             → counters_in self.new.lines ≡ all_counted (counters_in self.old.lines) (moments m (events_of events.now))) }
 
         // Those up to the one whose reply it did not take.
@@ -100,14 +101,14 @@ impl<S: Shelf> Card<S> {
             → Stands S.store self.new (run m (take (fault.at + 1) (events_of events.now))).card) }
         ensures taken_before { IfErr result (λ fault. (m : machine.Card) → Stands S.store self.old m
             → MissesAt K.takes K.misses m (events_of events.now) fault.at sink.old sink.new) }
-        ensures counted_before { IfErr result (λ fault. (m : machine.Card) → Stands S.store self.old m
+        ensures counters_before { IfErr result (λ fault. (m : machine.Card) → Stands S.store self.old m
             → counters_in self.new.lines ≡ all_counted (counters_in self.old.lines) (moments m (take (fault.at + 1) (events_of events.now)))) }
 
         // The replies of `run` are the answers of `moments`, and its card is that of `after_all`: all below speaks of
         // those.
         ensures moments { RunIsMoments }
         ensures refused { RefusedByTheTable }
-        ensures numbers { CountersAreNumbers }
+        ensures counters_add_up { CountersAreNumbers }
 
         // In every moment of the run of all events.
         ensures by_event { (m : machine.Card) → Stands S.store self.old m → ArePriced m (events_of events.now) }

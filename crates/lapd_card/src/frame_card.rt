@@ -93,13 +93,13 @@ impl<S: Shelf> FrameCard<S> {
         self.lines.frame(line, octets, &mut self.shelf)
     }
 
-    /// The controller of a line told a fault in place of a frame. It is reported with its cause, and has no other
-    /// effect (Q.921 clauses 2.7, 2.9 and 2.10).
-    pub fn failed(&self, line: usize, fault: Fault) -> Report<'static>
-        requires { line < line_count self.now }
-        ensures told { (m : machine.Card) → Stands S.store self.now m
+    /// The controller of a line told a fault in place of a frame. It is reported with its cause and counted, and has
+    /// no other effect (Q.921 clauses 2.7, 2.9 and 2.10).
+    pub fn failed(&mut self, line: usize, fault: Fault) -> Report<'static>
+        requires { line < line_count self.old }
+        ensures told { (m : machine.Card) → Stands S.store self.old m
             → says (told (report_told result)) ≡ said m (failed line fault) }
-        ensures after { Leads S.store (failed line fault) self.now self.now }
+        ensures after { Leads S.store (failed line fault) self.old self.new }
     {
         self.lines.failed(line, fault)
     }

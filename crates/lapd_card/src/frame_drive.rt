@@ -11,6 +11,8 @@ ghost use Rattle.model_card.specs.HappeningLaws.{AnswersSayIt};
 ghost use Rattle.model_card.specs.Happening.{spelled, goes, asks, AreIdle};
 ghost use Rattle.model_card.specs.Said.{said, replies};
 ghost use Rattle.lapd_card.specs.FrameCard.{line_count};
+ghost use Rattle.lapd_card.specs.Counted.{frame_counters_in};
+ghost use Rattle.model_card.specs.HappeningsCounted.{happenings_counted, FrameCountersAreNumbers};
 ghost use Rattle.lapd_card.specs.FrameDrive.{happening_of, line_of, all_of, after_happenings, Taken, MissesAt};
 ghost use Rattle.lapd_card.specs.FrameStands.{Stands, Leads};
 ghost use Rattle.lapd_card.specs.Sink.{one_failure_more};
@@ -31,10 +33,9 @@ impl<S: Shelf> FrameCard<S> {
     ///
     /// A list of happenings is the list of events that it means, `spelled`: the octets that would have brought the frames,
     /// and the pulls that would have begun those which go. Its clauses are those of [`crate::Card::drive`], of these
-    /// events, but for counters, which a card for frames does not keep; `taken`, `stopped` and `taken_before` speak of
-    /// happenings, of which each has one reply. What else is promised, in frames' own terms too, is in the record
-    /// `FramePromises` of the crate `laws_promises`; its function `drive_frames` is this call, with these clauses and that
-    /// record.
+    /// events; `taken`, `stopped`, `taken_before` and what is counted speak of happenings, of which each has one reply. What
+    /// else is promised, in frames' own terms too, is in the record `FramePromises` of the crate `laws_promises`; its function
+    /// `drive_frames` is this call, with these clauses and that record.
     ///
     /// # Errors
     ///
@@ -57,12 +58,16 @@ impl<S: Shelf> FrameCard<S> {
             → Stands S.store self.new (after_happenings m (all_of happenings.now))) }
         ensures taken { OnOk result ((m : machine.Card) → Stands S.store self.old m
             → Taken K.takes sink.old (replies m (all_of happenings.now)) sink.new) }
+        ensures counters { OnOk result ((m : machine.Card) → Stands S.store self.old m
+            → frame_counters_in self.new.lines ≡ happenings_counted (frame_counters_in self.old.lines) m (all_of happenings.now)) }
 
         // Those up to the one whose reply it did not take.
         ensures stopped { IfErr result (λ fault. (m : machine.Card) → Stands S.store self.old m
             → Stands S.store self.new (after_happenings m (take (fault.at + 1) (all_of happenings.now)))) }
         ensures taken_before { IfErr result (λ fault. (m : machine.Card) → Stands S.store self.old m
             → MissesAt K.takes K.misses m (all_of happenings.now) fault.at sink.old sink.new) }
+        ensures counters_before { IfErr result (λ fault. (m : machine.Card) → Stands S.store self.old m
+            → frame_counters_in self.new.lines ≡ happenings_counted (frame_counters_in self.old.lines) m (take (fault.at + 1) (all_of happenings.now))) }
 
         // The lines are idle between happenings, and at idle lines the answers to the events of a happening say what its
         // reply says, and nothing else.
@@ -70,6 +75,7 @@ impl<S: Shelf> FrameCard<S> {
         ensures answers { AnswersSayIt }
         ensures moments { RunIsMoments }
         ensures refused { RefusedByTheTable }
+        ensures counters_add_up { FrameCountersAreNumbers }
 
         // In every moment of the run of all events.
         ensures by_event { (m : machine.Card) → Stands S.store self.old m → ArePriced m (spelled m (all_of happenings.now)) }

@@ -1,6 +1,6 @@
 //! The lines of a card for frames, over its shelf.
 
-ghost use Rattle.std.specs.Prelude.{◌≡◌, ◌+◌, ◌-◌, ◌≤◌, ◌<◌, List, [], ◌∷◌, length, drop, map, nat_le, sum_by, Some, None, IfOk, IfErr, OnErr};
+ghost use Rattle.std.specs.Prelude.{◌≡◌, ◌+◌, ◌-◌, ◌≤◌, ◌<◌, List, [], ◌∷◌, get_or, length, drop, map, nat_le, sum_by, Some, None, IfOk, IfErr, OnErr};
 ghost use Rattle.lapd_bits.specs.Stream.{dropped};
 ghost use Rattle.lapd_line.specs.FrameStands.{IsNext, written};
 ghost use Rattle.lapd_line.specs.Reports.{report_told};
@@ -17,8 +17,13 @@ ghost use Rattle.model_line.specs.Whole.{line_octets, fault_octets, came, cause_
 ghost use Rattle.model_line.specs.WholeAtLine.{of_heard, pulls_for};
 ghost use Rattle.lapd_store.specs.Store.{Store, used_slots};
 ghost use Rattle.lapd_card.specs.Lines.{line_in};
-ghost use Rattle.lapd_card.specs.FrameLines.{Stand, Serve, Lead, AreFresh};
+ghost use Rattle.std.specs.Option.{option_map_or};
+ghost use Rattle.lapd_count.specs.Counters.{none_counted};
+ghost use Rattle.model_line.specs.Counted.{heard_counted, taken_shown, told_in_answer};
+ghost use Rattle.lapd_card.specs.Counted.{frame_counters_in};
+ghost use Rattle.lapd_card.specs.FrameLines.{Stand, Serve, Lead, CountsAt, AreFresh};
 
+use lapd_count::Counters;
 use lapd_frame::{Refusal, Service, Timer};
 use lapd_line::{Config, FrameLine, NextFrame, Report, Request, Room, StartFault};
 use lapd_store::Shelf;
@@ -70,16 +75,18 @@ impl FrameLines {
         ensures told { (c : Config) (ms : List machine.Line) → Stand c self.old (S.store shelf.old) ms
             → report_told result ≡ (of_heard c (came c.n201 octets.now) (line_in c line ms)).told }
         ensures after { Lead line (λ c l. map line_event.octet (line_octets octets.now)) self.old (S.store shelf.old) self.new (S.store shelf.new) }
+        ensures counted { CountsAt line (λ c l. heard_counted c (came c.n201 octets.now) l) self.old (S.store shelf.old) self.new }
     {
         self.lines[line].frame(octets, shelf)
     }
 
     /// The controller of a line told a fault.
-    pub(crate) fn failed(&self, line: usize, fault: Fault) -> Report<'static>
-        requires { line < length self.now }
-        ensures told { (c : Config) (store : Store) (ms : List machine.Line) → Stand c self.now store ms
+    pub(crate) fn failed(&mut self, line: usize, fault: Fault) -> Report<'static>
+        requires { line < length self.old }
+        ensures told { (c : Config) (store : Store) (ms : List machine.Line) → Stand c self.old store ms
             → report_told result ≡ (of_heard c (dropped (cause_of fault)) (line_in c line ms)).told }
-        ensures after { (store : Store) → Lead line (λ c l. map line_event.octet (fault_octets fault)) self.now store self.now store }
+        ensures after { (store : Store) → Lead line (λ c l. map line_event.octet (fault_octets fault)) self.old store self.new store }
+        ensures counted { (store : Store) → CountsAt line (λ c l. heard_counted c (dropped (cause_of fault)) l) self.old store self.new }
     {
         self.lines[line].failed(fault)
     }
@@ -99,6 +106,7 @@ impl FrameLines {
         ensures rest { drop (written result) out.new ≡ drop (written result) out.old }
         ensures room { length out.new ≡ length out.old }
         ensures after { Lead line pulls_for self.old (S.store shelf.old) self.new (S.store shelf.new) }
+        ensures counted { CountsAt line (λ c l. option_map_or taken_shown (taken c l) []) self.old (S.store shelf.old) self.new }
     {
         self.lines[line].next_frame(out, shelf)
     }
@@ -115,6 +123,7 @@ impl FrameLines {
         ensures told { (c : Config) (ms : List machine.Line) → Stand c self.old (S.store shelf.old) ms
             → line_event.told (report_told result) ≡ answer c (line_event.expiry timer) (line_in c line ms) }
         ensures after { Lead line (λ c l. line_event.expiry timer ∷ []) self.old (S.store shelf.old) self.new (S.store shelf.new) }
+        ensures counted { CountsAt line (λ c l. told_in_answer (answer c (line_event.expiry timer) l)) self.old (S.store shelf.old) self.new }
     {
         self.lines[line].expire(timer, shelf)
     }
@@ -140,6 +149,8 @@ impl FrameLines {
             → line_event.told (report_told report) ≡ answer c (line_event.request (request_of request.entry)) (line_in c line ms)) }
         ensures after { IfOk result (λ report.
             Lead line (λ c l. line_event.request (request_of request.entry) ∷ []) self.old (S.store shelf.old) self.new (S.store shelf.new)) }
+        ensures counted { IfOk result (λ report.
+            CountsAt line (λ c l. told_in_answer (answer c (line_event.request (request_of request.entry)) l)) self.old (S.store shelf.old) self.new) }
     {
         self.lines[line].request(request, shelf, slots)
     }
@@ -167,6 +178,14 @@ impl FrameLines {
             → result ≡ room_in c (slots - used_slots (S.store shelf.now)) service tei (line_in c line ms) }
     {
         self.lines[line].room(service, tei, shelf, slots)
+    }
+
+    /// What was counted of a line.
+    pub(crate) fn counters(&self, line: usize) -> &Counters
+        requires { line < length self.now }
+        ensures { result.now ≡ get_or (frame_counters_in self.now) line none_counted }
+    {
+        self.lines[line].counters()
     }
 
     /// How many octets the lines hold beside those in slots; what is on its way to a line is the controller's.

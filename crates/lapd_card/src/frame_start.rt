@@ -1,8 +1,10 @@
 //! How a card for frames begins.
 
-ghost use Rattle.std.specs.Prelude.{◌≡◌, IfOk, IfSome, IfNone, Err, IsOkUnless};
+ghost use Rattle.std.specs.Prelude.{◌≡◌, replicate, IfOk, IfSome, IfNone, Err, IsOkUnless};
 ghost use Rattle.model_card.specs.Card as machine;
 ghost use Rattle.lapd_card.specs.declared.fault.CardFault.TheVariants.{OutOfMemory};
+ghost use Rattle.lapd_count.specs.Counters.{none_counted};
+ghost use Rattle.lapd_card.specs.Counted.{frame_counters_in};
 ghost use Rattle.lapd_card.specs.Start.{start_fault};
 ghost use Rattle.lapd_card.specs.FrameStands.{Stands};
 
@@ -29,6 +31,7 @@ impl<S: Shelf> FrameCard<S> {
         ensures config { IfOk result (λ card. card.config ≡ config) }
         ensures shelf { IfOk result (λ card. card.shelf ≡ shelf) }
         ensures fresh { IfOk result (λ card. Stands S.store card (machine.fresh config)) }
+        ensures counters { IfOk result (λ card. frame_counters_in card.lines ≡ replicate config.lines none_counted) }
     {
         if let Some(field) = config.fault() {
             return Err(CardFault::BadConfig(field));

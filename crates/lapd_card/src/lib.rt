@@ -43,10 +43,6 @@
 //! Starts, with each fault; an answer that is kept has its contents; single events and long runs; of a card for frames, one
 //! list of happenings, frames of bad lengths, and a room that is too small (`test_card`); such a card through C, beside one
 //! for octets to which the same happens (`tests/c/run`).
-//!
-//! # Open
-//!
-//! Of a card for frames: its counters.
 #![tactic(auto)]
 
 mod begun;

@@ -1,5 +1,5 @@
 -- A counter is a number.
-use Rattle.std.proofs.Common.{◌≡◌, ℕ, ◌+◌, ◌≤◌, ◌<◌, ◌==◌, Bool, true, false, cond, List, [], ◌∷◌, length, length-set, get_or, set, min, refl, sym, ap, subst, ◌∙◌, arith}
+use Rattle.std.proofs.Common.{◌≡◌, ℕ, ◌+◌, ◌≤◌, ◌<◌, ◌==◌, Bool, true, false, cond, [], ◌∷◌, length, length-set, get_or, set, min, refl, sym, ap, subst, ◌∙◌, arith}
 use Rattle.std.proofs.lemmas.Bool.{eqb-true, eqb-false}
 use Rattle.std.proofs.lemmas.List.{get_or-set_same, get_or-set_other}
 use Rattle.std.proofs.lemmas.List.Sums.{sum_by-cons}
@@ -14,7 +14,7 @@ use Rattle.lapd_count.specs.declared.counters.Counters.{Counters}
 use Rattle.lapd_count.specs.declared.kinds.Kind.{Kind}
 use Rattle.lapd_count.specs.declared.kinds.Kind.TheVariants as kind
 use Rattle.lapd_count.specs.Kinds.{kind_place}
-use Rattle.lapd_count.specs.Counters.{More, count, most, place, cause_place, error_place, value_in, with_more, with_all, amount_of, amount_in}
+use Rattle.lapd_count.specs.Counters.{count, most, place, cause_place, error_place, value_in, with_more, amount_of, amount_in}
 use Rattle.lapd_count.specs.Laws.{CountersAreNumbers}
 
 kind_within : (k : Kind) → kind_place k < 12

@@ -1,5 +1,5 @@
 -- The kinds of frames, by the first octet of the control field (Q.921 clause 3.4, table 5).
-use Rattle.std.specs.Prelude.{ℕ, ◌%◌, ◌==◌, ◌||◌, if◌then◌else◌}
+use Rattle.std.specs.Prelude.{ℕ, ◌%◌, ◌==◌, ◌||◌, Bool, true, false, if◌then◌else◌}
 use Rattle.lapd_count.specs.declared.kinds.Kind.{Kind}
 use Rattle.lapd_count.specs.declared.kinds.Kind.TheVariants.{Information, ReceiveReady, ReceiveNotReady, Reject, Sabme, Disc, Ui, Ua, Dm, Frmr, Xid, Undefined}
 
@@ -32,3 +32,18 @@ kind_place Dm = 8
 kind_place Frmr = 9
 kind_place Xid = 10
 kind_place Undefined = 11
+
+-- Those whose commands with P=1 ask for an answer in states 7 and 8 (clauses 3.4.1, 3.4.2 and 3.5.1).
+abbrev pub asks : Kind → Bool
+asks Information = true
+asks ReceiveReady = true
+asks ReceiveNotReady = true
+asks Reject = true
+asks Sabme = false
+asks Disc = false
+asks Ui = false
+asks Ua = false
+asks Dm = false
+asks Frmr = false
+asks Xid = false
+asks Undefined = false

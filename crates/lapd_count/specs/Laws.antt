@@ -1,5 +1,5 @@
 -- What holds of counters. Their sentences stand in `src/laws.rt`.
-use Rattle.std.specs.Prelude.{◌≡◌, ℕ, ◌+◌, ◌≤◌, List, length, get_or, min}
+use Rattle.std.specs.Prelude.{◌≡◌, ◌+◌, ◌≤◌, List, length, get_or, min}
 use Rattle.lapd_frame.specs.declared.controls.Control.{Control}
 use Rattle.lapd_frame.specs.declared.controls.Control.TheVariants as control
 use Rattle.lapd_frame.specs.Grammar.{row}
@@ -7,13 +7,17 @@ use Rattle.lapd_count.specs.declared.counter.Counter.{Counter}
 use Rattle.lapd_count.specs.declared.counters.Counters.{Counters}
 use Rattle.lapd_count.specs.declared.kinds.Kind.{Kind}
 use Rattle.lapd_count.specs.declared.kinds.Kind.TheVariants as kind
-use Rattle.lapd_count.specs.Counters.{More, count, most, value_in, with_all, amount_in}
+use Rattle.lapd_count.specs.Counters.{More, count, most, place, value_in, with_all, amount_in}
 use Rattle.lapd_count.specs.Kinds.{kind_of}
 
 abbrev pub CountersAreNumbers : Type 0
 CountersAreNumbers =
     (counters : Counters) (all : List More) (counter : Counter) → length counters.values ≡ count → value_in counters counter ≤ most
     → value_in (with_all counters all) counter ≡ min (value_in counters counter + amount_in counter all) most
+
+-- No two counters stand at one place, so to compare places is to compare names.
+abbrev pub PlacesAreNames : Type 0
+PlacesAreNames = (one other : Counter) → place one ≡ place other → one ≡ other
 
 abbrev pub control_kind : Control → Kind
 control_kind (control.Information ns nr pf) = kind.Information

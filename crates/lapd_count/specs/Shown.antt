@@ -1,5 +1,5 @@
 -- What is counted of a frame, of what is heard, and of what is told.
-use Rattle.std.specs.Prelude.{ℕ, ◌%◌, ◌/◌, ◌==◌, ◌&&◌, ◌||◌, Bool, List, [], ◌∷◌, ◌++◌, length, get_or, map, Option, Some, None, if◌then◌else◌}
+use Rattle.std.specs.Prelude.{ℕ, ◌%◌, ◌/◌, ◌==◌, ◌&&◌, Bool, List, [], ◌∷◌, ◌++◌, length, get_or, map, Option, Some, None, if◌then◌else◌}
 use Rattle.lapd_bits.specs.declared.heard.Cause.{Cause}
 use Rattle.lapd_bits.specs.declared.heads.Head.{Head}
 use Rattle.lapd_bits.specs.Stream.{Event, frame, overlong, dropped}
@@ -10,24 +10,23 @@ use Rattle.lapd_count.specs.declared.counter.Counter.TheVariants.{Frames, Octets
 use Rattle.lapd_count.specs.declared.counter.Way.{Way}
 use Rattle.lapd_count.specs.declared.counter.Way.TheVariants.{Heard, Begun}
 use Rattle.lapd_count.specs.Counters.{More}
-use Rattle.lapd_count.specs.Kinds.{kind_of}
+use Rattle.lapd_count.specs.declared.kinds.Kind.{Kind}
+use Rattle.lapd_count.specs.Kinds.{kind_of, asks}
 
 -- The C/R bit of a command: 0 of a terminal's, 1 of the network's (Q.921 clause 3.3.2).
 abbrev pub command_bit : Way → ℕ
 command_bit Heard = 0
 command_bit Begun = 1
 
--- A poll: an I-frame or a supervisory command whose P bit, the lowest of the second control octet, is 1 (clauses 3.4.1,
--- 3.4.2 and 3.5.1).
-abbrev pub is_poll : Way → ℕ → ℕ → ℕ → Bool
-is_poll way first control second =
-    (first / 2 % 2 == command_bit way) && (second % 2 == 1) && ((control % 2 == 0) || (control % 4 == 1))
+-- A poll: a command of a kind that asks whose P bit, the lowest of the second control octet, is 1.
+abbrev pub is_poll : Way → ℕ → Kind → ℕ → Bool
+is_poll way first kind second = (first / 2 % 2 == command_bit way) && asks kind && (second % 2 == 1)
 
 -- A frame whose first octet is `first`, and whose control field is these two octets, or the first of them.
 abbrev pub frame_shown : Way → ℕ → ℕ → ℕ → ℕ → List More
 frame_shown way first control second octets =
     (Frames way (kind_of control), 1) ∷ (Octets way, octets)
-    ∷ (if is_poll way first control second then (Polls way, 1) ∷ [] else [])
+    ∷ (if is_poll way first (kind_of control) second then (Polls way, 1) ∷ [] else [])
 
 abbrev pub octets_shown : Way → List ℕ → List More
 octets_shown way octets = frame_shown way (get_or octets 0 0) (get_or octets 2 0) (get_or octets 3 0) (length octets)

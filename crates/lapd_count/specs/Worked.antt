@@ -8,7 +8,7 @@ use Rattle.lapd_frame.specs.declared.services.Service.TheVariants.{Call}
 use Rattle.lapd_count.specs.declared.counter.Counter.TheVariants.{Frames, Octets, Polls, Dropped, Errors, Lost}
 use Rattle.lapd_count.specs.declared.counter.Way.TheVariants.{Heard, Begun}
 use Rattle.lapd_count.specs.declared.kinds.Kind.TheVariants.{Information, ReceiveReady, Sabme, Ua}
-use Rattle.lapd_count.specs.Counters.{most, none_counted, value_in, with_all, with_more}
+use Rattle.lapd_count.specs.Counters.{most, none_counted, value_in, with_all}
 use Rattle.lapd_count.specs.Shown.{heard_shown, octets_shown, told_shown}
 
 -- An RR command with P=1 is a poll of a terminal; an RR response with F=1 is none.

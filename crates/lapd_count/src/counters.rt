@@ -1,6 +1,8 @@
 //! The counters of a line.
 
-ghost use Rattle.std.specs.Prelude.{◌≡◌, get_or, map};
+ghost use Rattle.std.specs.Option.{option_map_or};
+ghost use Rattle.std.specs.Prelude.{◌≡◌, [], get_or, map};
+ghost use Rattle.lapd_bits.specs.Heads.{head_of};
 ghost use Rattle.lapd_bits.specs.Heard.{heard_of};
 ghost use Rattle.lapd_count.specs.Counters.{value_in, with_more, with_all, none_counted};
 ghost use Rattle.lapd_count.specs.Shown.{frame_shown, is_poll, head_shown, heard_shown, counter_of, note_shown, told_shown, drop_shown, lost_shown};
@@ -55,9 +57,10 @@ impl Counters {
     fn frame(&mut self, way: Way, first: u8, control: u8, second: u8, length: usize)
         ensures { self.new ≡ with_all self.old (frame_shown way first control second length) }
     {
-        self.add(Counter::Frames(way, Kind::of(control)), 1);
+        let kind = Kind::of(control);
+        self.add(Counter::Frames(way, kind), 1);
         self.add(Counter::Octets(way), length as u64);
-        if is_poll(way, first, control, second) {
+        if is_poll(way, first, kind, second) {
             self.add(Counter::Polls(way), 1);
         }
     }
@@ -85,6 +88,22 @@ impl Counters {
     {
         let [first, _, control, second] = head.octets;
         self.frame(Way::Begun, first, control, second, usize::from(head.length));
+    }
+
+    /// A frame is given whole: from its address to its information.
+    pub fn given(&mut self, octets: &[u8])
+        ensures { self.new ≡ with_all self.old (option_map_or head_shown (head_of octets.now) []) }
+    {
+        if octets.is_empty() {
+            return;
+        }
+        self.frame(
+            Way::Begun,
+            octet_at(octets, 0),
+            octet_at(octets, 2),
+            octet_at(octets, 3),
+            octets.len(),
+        );
     }
 
     /// What is told of an event.
@@ -141,14 +160,14 @@ fn counter_of(note: &Note) -> Counter
 }
 
 /// Whether it is a poll.
-fn is_poll(way: Way, first: u8, control: u8, second: u8) -> bool
-    ensures { result ≡ is_poll way first control second }
+fn is_poll(way: Way, first: u8, kind: Kind, second: u8) -> bool
+    ensures { result ≡ is_poll way first kind second }
 {
     let bit = match way {
         Way::Heard => 0,
         Way::Begun => 1,
     };
-    first / 2 % 2 == bit && second % 2 == 1 && (control % 2 == 0 || control % 4 == 1)
+    first / 2 % 2 == bit && kind.asks() && second % 2 == 1
 }
 
 /// The octet at a place; 0 where there is none.

@@ -1,7 +1,7 @@
 //! The kinds of frames.
 
 ghost use Rattle.std.specs.Prelude.{◌≡◌, ◌<◌};
-ghost use Rattle.lapd_count.specs.Kinds.{kind_of, kind_place};
+ghost use Rattle.lapd_count.specs.Kinds.{kind_of, asks, kind_place};
 
 /// The kind of a frame, as the first octet of its control field says (Q.921 clause 3.4, table 5). It is counted whether or
 /// not the frame is otherwise well formed.
@@ -77,6 +77,23 @@ impl Kind {
         ensures { result ≡ kind_of control }
     {
         KINDS[control as usize]
+    }
+
+    /// Whether commands of this kind with P=1 ask for an answer in states 7 and 8.
+    pub(crate) fn asks(self) -> bool
+        ensures { result ≡ asks self }
+    {
+        match self {
+            Kind::Information | Kind::ReceiveReady | Kind::ReceiveNotReady | Kind::Reject => true,
+            Kind::Sabme
+            | Kind::Disc
+            | Kind::Ui
+            | Kind::Ua
+            | Kind::Dm
+            | Kind::Frmr
+            | Kind::Xid
+            | Kind::Undefined => false,
+        }
     }
 
     /// Its place among the kinds.

@@ -7,7 +7,7 @@
 //! (`counters_are_numbers`).
 //!
 //! - `kinds`: the kinds of frames, by their control fields; `counter`: the names of the counters; `counters`: their values.
-//! - `laws`: that a counter is a number.
+//! - `laws`: that a counter is a number, and that no two stand at one place.
 #![tactic(auto)]
 
 mod counter;
@@ -18,4 +18,4 @@ mod laws;
 pub use counter::{Counter, Way};
 pub use counters::Counters;
 pub use kinds::Kind;
-pub use laws::{controls_have_kinds, counters_are_numbers};
+pub use laws::{controls_have_kinds, counters_are_numbers, places_are_names};

@@ -13,14 +13,15 @@ use Rattle.lapd_store.specs.Ownership.{Owned}
 use Rattle.lapd_store.specs.Store.{Store}
 use Rattle.model_line.specs.Begun.{frame_taken}
 use Rattle.model_line.specs.declared.config.Config.{Config}
-use Rattle.model_line.specs.Event.{Event, octet, expiry, request, pull, LineTold, Answer, told, pulled}
+use Rattle.model_line.specs.Event.{Event, octet, pull, LineTold, Answer, told, pulled}
 use Rattle.model_line.specs.Line as machine
 use Rattle.model_line.specs.Machine.{after, answer}
 use Rattle.model_line.specs.Octet.{gained}
 use Rattle.model_line.specs.Pull.{Taken, begun}
 use Rattle.model_line.proofs.Begun.{latest_is_begun}
 use Rattle.lapd_frame.specs.declared.timers.Order.{Order}
-use Rattle.lapd_line.specs.Counted.{told_in_report, told_in_answer, taken_shown, shown, with_counted}
+use Rattle.model_line.specs.Counted.{told_in_report, told_in_answer, taken_shown, shown}
+use Rattle.lapd_line.specs.Counted.{with_counted}
 use Rattle.lapd_line.specs.declared.line.Line.{Line}
 use Rattle.lapd_line.specs.Stands.{Stands, Moves, Leads, config_of}
 

@@ -6,13 +6,13 @@ use Rattle.lapd_bits.specs.Stream as stream
 use Rattle.lapd_bits.specs.Stream.{room_for}
 use Rattle.lapd_bits.specs.Stuffing.{unstuffed}
 use Rattle.lapd_bits.specs.StuffingLaws.{AreOctets}
-use Rattle.lapd_bits.specs.Sent.{Item, frame}
+use Rattle.lapd_bits.specs.Sent.{frame}
 use Rattle.lapd_frame.specs.ShortLists.{listed}
 use Rattle.lapd_frame.specs.declared.short_lists.ShortList.{ShortList}
 use Rattle.lapd_frame.specs.declared.timers.Order.{Order}
 use Rattle.lapd_frame.specs.declared.timers.Timer.{Timer}
 use Rattle.lapd_store.specs.Ownership.{Owned}
-use Rattle.lapd_store.specs.Store.{Store, SameLimits}
+use Rattle.lapd_store.specs.Store.{Store}
 use Rattle.model_line.specs.declared.config.Config.{Config}
 use Rattle.model_line.specs.Event as line_event
 use Rattle.model_line.specs.Event.{Event, told}
@@ -29,14 +29,13 @@ use Rattle.model_line.proofs.LineSound.{after_sound}
 use Rattle.model_line.proofs.Ranges.{ranges_of}
 use Rattle.model_line.proofs.PullSound.{TakesSoundly, taken_sound}
 use Rattle.model_line.specs.declared.faults.Fault.{Fault}
-use Rattle.model_line.specs.Whole.{IsIdle, line_octets, came, fault_octets, cause_of}
-use Rattle.model_line.specs.WholeAtLine.{after_events, receiving, of_heard, AreOneEvent, pulls_to_begin, pulls_for, GoesWhole}
+use Rattle.model_line.specs.Whole.{IsIdle, line_octets, came, fault_octets}
+use Rattle.model_line.specs.WholeAtLine.{after_events, receiving, of_heard, AreOneEvent, pulls_to_begin, pulls_for}
 use Rattle.model_line.proofs.FramesHeard.{frames_are_heard}
 use Rattle.model_line.proofs.FramesCome.{frames_come_whole}
 use Rattle.model_line.proofs.FramesGo.{frames_go_whole}
 use Rattle.model_line.proofs.FramesReceived.{nothing_else_is_received}
 use Rattle.lapd_line.specs.declared.frame_line.FrameLine.{FrameLine}
-use Rattle.lapd_line.specs.declared.frame_line.NextFrame.{NextFrame}
 use Rattle.lapd_line.specs.declared.link_layer.LinkLayer.{LinkLayer}
 use Rattle.lapd_line.specs.declared.reports.BareReport.{BareReport}
 use Rattle.lapd_line.specs.declared.reports.Report.{Report}
@@ -44,7 +43,7 @@ use Rattle.lapd_line.specs.FrameStands.{Stands, Leads, IsNext, config_of}
 use Rattle.lapd_line.specs.LinkLayer as layer
 use Rattle.lapd_line.specs.LinkLayer.{Serves, aim_of_event}
 use Rattle.lapd_line.specs.Loading.{in_octets}
-use Rattle.lapd_line.specs.Pulls.{Took, Takes, orders_taken}
+use Rattle.lapd_line.specs.Pulls.{Took, Takes}
 use Rattle.lapd_line.specs.Reports.{report_told, told_in}
 use Rattle.lapd_line.proofs.PullSteps.{with_bits}
 use Rattle.lapd_line.proofs.RequestSteps.{with_room}
@@ -81,19 +80,19 @@ stands_receiving e s others r m st = record {
 
 -- ---- something is heard
 
-abbrev with_layer : LinkLayer → FrameLine
-with_layer e = record { layer = e }
+abbrev with_layer : FrameLine → LinkLayer → FrameLine
+with_layer old e = record old { layer = e }
 
 module _ (old : FrameLine) (s : Store) (e : LinkLayer) (t : Store) (heard : stream.Event) (lent : List ℕ) (o : BareReport) (served : Serves (aim_of_event (config_of old) (Some heard)) lent old.layer s e t o) where
   -- octets that are heard as it, and leave the line idle
   one_leads : (octets : List ℕ) → ((m : machine.Line) → IsIdle m.received → AreOneEvent (config_of old) m octets heard)
-      → ((m : machine.Line) → IsIdle m.received → IsIdle (m.received ++ octets)) → Leads (λ m. map line_event.octet octets) old s (with_layer e) t
+      → ((m : machine.Line) → IsIdle m.received → IsIdle (m.received ++ octets)) → Leads (λ m. map line_event.octet octets) old s (with_layer old e) t
   one_leads octets one idle = record {
     config = served.config;
     limits = served.limits;
     stands = λ others m st.
         let l = (of_heard (config_of old) heard m).line in
-        subst (Stands (with_layer e) t others) (sym (one m st.idle).line)
+        subst (Stands (with_layer old e) t others) (sym (one m st.idle).line)
         (record { idle = idle m st.idle; layer = stands_receiving e t others (m.received ++ octets) l (served.stands others m st.layer) });
   }
 
@@ -103,7 +102,7 @@ module _ (old : FrameLine) (s : Store) (e : LinkLayer) (t : Store) (heard : stre
 
 pub frame_leads : (old : FrameLine) (s : Store) (e : LinkLayer) (t : Store) (octets lent : List ℕ) (o : BareReport) → AreOctets octets
     → Serves (aim_of_event (config_of old) (Some (came (config_of old).n201 octets))) lent old.layer s e t o
-    → Leads (λ m. map line_event.octet (line_octets octets)) old s (with_layer e) t
+    → Leads (λ m. map line_event.octet (line_octets octets)) old s (with_layer old e) t
 frame_leads old s e t octets lent o are served =
     let c = config_of old in
     one_leads old s e t (came c.n201 octets) lent o served (line_octets octets)
@@ -128,7 +127,7 @@ fault_leads line s fault = record {
 -- ---- an expiry and a request
 
 module _ (old : FrameLine) (s : Store) (e : LinkLayer) (t : Store) (timer : Timer) (o : BareReport) (served : Serves (aim_of_expiry timer) [] old.layer s e t o) where
-  pub expired : Leads (λ m. line_event.expiry timer ∷ []) old s (with_layer e) t
+  pub expired : Leads (λ m. line_event.expiry timer ∷ []) old s (with_layer old e) t
   unfolding after
   expired = record {
     config = served.config;
@@ -148,7 +147,7 @@ module _ (old : FrameLine) (s : Store) (e : LinkLayer) (t : Store) (timer : Time
 module _ (old : FrameLine) (s : Store) (e : LinkLayer) (t : Store) (full : Bool) (r : Request) (o : BareReport)
     (granted : (others : List Owned) (m : machine.Line) → layer.Stands old.layer s others m → refusal (config_of old) full r m ≡ None)
     (served : Serves (aim_of_request r) [] old.layer s e t o) where
-  pub requested : Leads (λ m. line_event.request r ∷ []) old s (with_layer e) t
+  pub requested : Leads (λ m. line_event.request r ∷ []) old s (with_layer old e) t
   unfolding after
   requested = record {
     config = served.config;
@@ -192,7 +191,7 @@ module _ (old : FrameLine) (s : Store) (e : LinkLayer) (t : Store) (before after
     (h : Takes taken old.layer s (in_octets before n) e t (in_octets after_ k) orders) where
   stands_after : (others : List Owned) (m : machine.Line) → Stands old s others m → (o : Option Taken) → taken (config_of old) m ≡ o → (os : Option (List Order))
       → Took o os m e t others (in_octets before n) (in_octets after_ k)
-      → Stands (with_layer e) t others (after_events (config_of old) (if is_some o then replicate (pulls_to_begin m) line_event.pull else []) m)
+      → Stands (with_layer old e) t others (after_events (config_of old) (if is_some o then replicate (pulls_to_begin m) line_event.pull else []) m)
   stands_after others m st None is None (there, same) = record { idle = st.idle; layer = there }
   stands_after others m st (Some x) is (Some os) has =
       let c = config_of old in
@@ -202,7 +201,7 @@ module _ (old : FrameLine) (s : Store) (e : LinkLayer) (t : Store) (before after
       let given = m.given ++ (gone.front ++ gone.last ∷ []) in
       let sound : IsSound c (record x.line { items = items; given = given }) =
       subst (IsSound c) gone.line (events_sound c st.layer.range (replicate (pulls_to_begin m) line_event.pull) m st.layer.sound) in
-      subst (Stands (with_layer e) t others) (sym gone.line)
+      subst (Stands (with_layer old e) t others) (sym gone.line)
       (record {
         idle = subst IsIdle (sym whole.received) st.idle;
         layer = with_bits e t others x.line items given has.stands (subst (λ y. IsSound y (record x.line { items = items; given = given })) (sym h.config) sound);
@@ -210,12 +209,12 @@ module _ (old : FrameLine) (s : Store) (e : LinkLayer) (t : Store) (before after
   stands_after others m st None is (Some os) has = absurd has
   stands_after others m st (Some x) is None has = absurd has
 
-  pub next_leads : Leads (pulls_for (config_of old)) old s (with_layer e) t
+  pub next_leads : Leads (pulls_for (config_of old)) old s (with_layer old e) t
   next_leads = record {
     config = h.config;
     limits = h.limits;
     stands = λ others m st.
-        subst (λ events. Stands (with_layer e) t others (after_events (config_of old) events m)) (sym (goes_for (config_of old) m (taken (config_of old) m) refl))
+        subst (λ events. Stands (with_layer old e) t others (after_events (config_of old) events m)) (sym (goes_for (config_of old) m (taken (config_of old) m) refl))
         (stands_after others m st (taken (config_of old) m) refl orders (h.took others m st.layer));
   }
 

@@ -1,5 +1,5 @@
 -- What a line for whole frames owns on the shelf, as `Stood` has it of a line of octets.
-use Rattle.std.proofs.Common.{◌≡◌, ℕ, ◌≤◌, List, ◌++◌, length, arith, length-append}
+use Rattle.std.proofs.Common.{◌≡◌, ◌≤◌, List, ◌++◌, length, arith, length-append}
 use Rattle.lapd_store.specs.Ownership.{Owned, Holds, owned_octets}
 use Rattle.lapd_store.specs.Store.{Store}
 use Rattle.lapd_store.proofs.Ownership.{owned_octets-append}

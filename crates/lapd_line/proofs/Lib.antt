@@ -18,6 +18,7 @@ pub mod PullTakesLinks
 pub mod Stood
 pub mod PullSteps
 pub mod FrameSteps
+pub mod FrameCounting
 pub mod FrameStood
 pub mod AnswerLaws
 pub mod RoomSteps

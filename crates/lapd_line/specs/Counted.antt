@@ -1,45 +1,10 @@
--- What is counted of a line: what its events and their answers show.
-use Rattle.std.specs.Prelude.{List, [], ◌++◌}
-use Rattle.std.specs.Option.{option_map_or}
-use Rattle.lapd_bits.specs.Heads.{head_of}
-use Rattle.lapd_count.specs.declared.counters.Counters.{Counters}
+-- What a line counts of what it answers.
+use Rattle.std.specs.Prelude.{List}
 use Rattle.lapd_count.specs.Counters.{More, with_all}
-use Rattle.lapd_count.specs.Shown.{head_shown, heard_shown, told_shown}
+use Rattle.lapd_count.specs.Shown.{told_shown}
 use Rattle.lapd_frame.specs.ShortLists.{listed}
-use Rattle.model_line.specs.declared.config.Config.{Config}
-use Rattle.model_line.specs.Event.{Event, octet, expiry, request, pull, LineTold, Answer, told, refused, pulled}
-use Rattle.model_line.specs.Line as machine
-use Rattle.model_line.specs.Machine.{answer}
-use Rattle.model_line.specs.Octet.{gained}
-use Rattle.model_line.specs.Pull.{Taken, begun}
 use Rattle.lapd_line.specs.declared.line.Line.{Line}
 use Rattle.lapd_line.specs.declared.reports.BareReport.{BareReport}
-
--- What is told: notes, the cause of a drop, and how many frames were lost. A refusal tells nothing, and a pull notes
--- nothing.
-abbrev pub told_in_report : LineTold → List More
-told_in_report t = told_shown t.notes t.cause t.lost
-
-abbrev pub told_in_answer : Answer → List More
-told_in_answer (told t) = told_in_report t
-told_in_answer (refused why) = []
-told_in_answer (pulled value is_begun orders) = []
-
--- The frame that is taken.
-abbrev pub taken_shown : Taken → List More
-taken_shown t = option_map_or head_shown (head_of t.frame) []
-
--- What an event and its answer show: an octet, what is heard with it; a pull, the frame that begins with it; and each, what
--- it is answered with.
-abbrev pub shown : Config → Event → machine.Line → Answer → List More
-shown c (octet value) l a = heard_shown (gained c.n201 l.received value) ++ told_in_answer a
-shown c (expiry timer) l a = told_in_answer a
-shown c (request r) l a = told_in_answer a
-shown c pull l a = option_map_or taken_shown (begun c l) []
-
--- The counters after an event at a line.
-abbrev pub counted : Config → Event → machine.Line → Counters → Counters
-counted c e l k = with_all k (shown c e l (answer c e l))
 
 -- What a report without references tells.
 abbrev pub bare_shown : BareReport → List More

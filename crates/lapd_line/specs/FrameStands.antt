@@ -1,5 +1,6 @@
 -- What a line for whole frames holds of its past, which is that of a line of octets: those that its frames and faults mean.
 use Rattle.std.specs.Prelude.{◌≡◌, List, ℕ, ◌++◌, length, take, Option, Some, None}
+use Rattle.lapd_count.specs.Counters.{More, with_all}
 use Rattle.lapd_frame.specs.ShortLists.{listed}
 use Rattle.lapd_store.specs.Ownership.{Owned}
 use Rattle.lapd_store.specs.Store.{Store, SameLimits}
@@ -45,3 +46,11 @@ IsNext (Some k) None out = ⊥
 abbrev pub written : Option NextFrame → ℕ
 written None = 0
 written (Some next) = next.length
+
+-- What a happening shows is counted.
+abbrev pub Counts : (Config → machine.Line → List More) → FrameLine → Store → FrameLine → Type 0
+Counts shown old s new =
+    (others : List Owned) (m : machine.Line) → Stands old s others m → new.counters ≡ with_all old.counters (shown (config_of old) m)
+
+abbrev pub with_frames_counted : FrameLine → List More → FrameLine
+with_frames_counted line all = record line { counters = with_all line.counters all }

@@ -20,7 +20,7 @@ use Rattle.model_line.specs.Pull.{taken}
 use Rattle.lapd_line.specs.declared.line.Line.{Line}
 use Rattle.lapd_line.specs.declared.link_layer.LinkLayer.{LinkLayer}
 use Rattle.lapd_line.specs.LinkLayer as layer
-use Rattle.lapd_line.specs.Counted.{counted}
+use Rattle.model_line.specs.Counted.{counted}
 use Rattle.lapd_line.specs.Links.{links_pairs}
 use Rattle.lapd_line.specs.Reports.{octets_of}
 use Rattle.lapd_line.specs.Units.{unit_pairs}

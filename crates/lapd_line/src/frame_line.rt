@@ -3,6 +3,7 @@
 ghost use Rattle.std.specs.Prelude.{◌≡◌, ◌+◌, ◌-◌, ◌<◌, ◌≤◌, ℕ, List, [], ◌∷◌, ◌++◌, length, map, take, drop, All, Some, None, IfOk, IfErr, OnErr, nat_le};
 ghost use Rattle.lapd_bits.specs.Heard.{heard_of};
 ghost use Rattle.lapd_bits.specs.Stream.{dropped};
+ghost use Rattle.lapd_count.specs.Counters.{none_counted};
 ghost use Rattle.lapd_store.specs.Ownership.{Owned, Holds};
 ghost use Rattle.lapd_store.specs.Store.{Store, used_slots};
 ghost use Rattle.model_line.specs.Event as line_event;
@@ -24,6 +25,7 @@ use crate::link_layer::LinkLayer;
 use crate::outlet::Outlet;
 use crate::reports::{BareReport, Report};
 use lapd_bits::{Cause, Heard};
+use lapd_count::Counters;
 use lapd_frame::{Order, Refusal, Service, ShortList, Timer};
 use lapd_link::Room;
 use lapd_store::Shelf;
@@ -42,6 +44,8 @@ const LONGEST: usize = 264;
 #[derive(Debug, Drop)]
 pub struct FrameLine {
     layer: LinkLayer,
+    /// What was counted since the start.
+    counters: Counters,
 }
 
 /// The next frame to be sent, which lies in front of the octets that a call for it was given.
@@ -110,7 +114,9 @@ fn heard(octets: &[u8], n201: u16) -> Heard<'_>
 }
 
 impl FrameLine {
-    ghost use Rattle.lapd_line.specs.FrameStands.{Stands, Leads, IsNext, written, config_of};
+    ghost use Rattle.std.specs.Option.{option_map_or};
+    ghost use Rattle.model_line.specs.Counted.{heard_counted, taken_shown, told_in_answer, told_in_report};
+    ghost use Rattle.lapd_line.specs.FrameStands.{Stands, Leads, Counts, IsNext, written, config_of, with_frames_counted};
     ghost use Rattle.lapd_line.specs.Reports.{report_told};
 
     /// A line of a card with these sizes and limits, all in range. No TEI is on it.
@@ -123,9 +129,11 @@ impl FrameLine {
         ensures config { IfOk result (λ line. config_of line ≡ config.now) }
         ensures fresh { IfOk result (λ line. (store : Store) (others : List Owned) → config.now.n201 ≤ store.width
             → Holds store others → Stands line store others (machine.fresh_line config.now)) }
+        ensures counters { IfOk result (λ line. line.counters ≡ none_counted) }
     {
         let layer = LinkLayer::start(alloc, config)?;
-        Ok(FrameLine { layer })
+        let counters = Counters::new();
+        Ok(FrameLine { layer, counters })
     }
 
     /// Takes a frame that came, from its address to its information, without its check, and tells what it led to. Contents
@@ -135,8 +143,29 @@ impl FrameLine {
         ensures told { (others : List Owned) (m : machine.Line) → Stands self.old (S.store shelf.old) others m
             → report_told result ≡ (of_heard (config_of self.old) (came (config_of self.old).n201 octets.now) m).told }
         ensures after { Leads (λ m. map line_event.octet (line_octets octets.now)) self.old (S.store shelf.old) self.new (S.store shelf.new) }
+        ensures counted { Counts (λ c m. heard_counted c (came c.n201 octets.now) m) self.old (S.store shelf.old) self.new }
     {
         let heard = heard(octets, self.layer.config.n201);
+        let report = self.serve(octets, heard, shelf);
+        self.counters.heard(heard);
+        self.count_told(&report);
+        report
+    }
+
+    /// Serves a frame as which these octets are heard, and counts nothing.
+    fn serve<'a, S: Shelf>(
+        &mut self,
+        octets: &'a [u8],
+        heard: Heard<'a>,
+        shelf: &mut S,
+    ) -> Report<'a>
+        requires stands { (others : List Owned) × (m : machine.Line) × Stands self.old (S.store shelf.old) others m }
+        requires heard { heard_of heard ≡ Some (came (config_of self.old).n201 octets.now) }
+        ensures told { (others : List Owned) (m : machine.Line) → Stands self.old (S.store shelf.old) others m
+            → report_told result ≡ (of_heard (config_of self.old) (came (config_of self.old).n201 octets.now) m).told }
+        ensures after { Leads (λ m. map line_event.octet (line_octets octets.now)) self.old (S.store shelf.old) self.new (S.store shelf.new) }
+        ensures counters { self.new.counters ≡ self.old.counters }
+    {
         let lent: &[u8] = match heard {
             Heard::Frame(octets) => octets,
             Heard::Nothing | Heard::Dropped(_) | Heard::Overlong(_) => &[],
@@ -145,7 +174,19 @@ impl FrameLine {
     }
 
     /// The controller tells a fault in place of a frame. It is reported with its cause, and changes nothing.
-    pub fn failed(&self, fault: Fault) -> Report<'static>
+    pub fn failed(&mut self, fault: Fault) -> Report<'static>
+        ensures told { (m : machine.Line)
+            → report_told result ≡ (of_heard (config_of self.old) (dropped (cause_of fault)) m).told }
+        ensures after { (store : Store) → Leads (λ m. map line_event.octet (fault_octets fault)) self.old store self.new store }
+        ensures counted { (store : Store) → Counts (λ c m. heard_counted c (dropped (cause_of fault)) m) self.old store self.new }
+    {
+        let report = self.fault_told(fault);
+        self.count_told(&report);
+        report
+    }
+
+    /// What is told of a fault, and nothing is counted.
+    fn fault_told(&self, fault: Fault) -> Report<'static>
         ensures told { (m : machine.Line)
             → report_told result ≡ (of_heard (config_of self.now) (dropped (cause_of fault)) m).told }
         ensures after { (store : Store) → Leads (λ m. map line_event.octet (fault_octets fault)) self.now store self.now store }
@@ -169,6 +210,24 @@ impl FrameLine {
         ensures rest { drop (written result) out.new ≡ drop (written result) out.old }
         ensures room { length out.new ≡ length out.old }
         ensures after { Leads (pulls_for (config_of self.old)) self.old (S.store shelf.old) self.new (S.store shelf.new) }
+        ensures counted { Counts (λ c m. option_map_or taken_shown (taken c m) []) self.old (S.store shelf.old) self.new }
+    {
+        let next = self.take(out, shelf)?;
+        self.counters.given(&out[..next.length]);
+        Some(next)
+    }
+
+    /// Writes the next frame, and counts nothing.
+    fn take<S: Shelf>(&mut self, out: &mut [u8], shelf: &mut S) -> Option<NextFrame>
+        requires stands { (others : List Owned) × (m : machine.Line) × Stands self.old (S.store shelf.old) others m }
+        requires room { (config_of self.old).n201 + 4 ≤ length out.old }
+        ensures gives { (others : List Owned) (m : machine.Line) → Stands self.old (S.store shelf.old) others m
+            → IsNext (taken (config_of self.old) m) result out.new }
+        ensures rest { drop (written result) out.new ≡ drop (written result) out.old }
+        ensures room { length out.new ≡ length out.old }
+        ensures fits { written result ≤ length out.new }
+        ensures after { Leads (pulls_for (config_of self.old)) self.old (S.store shelf.old) self.new (S.store shelf.new) }
+        ensures counters { self.new.counters ≡ self.old.counters }
     {
         let mut frame = WholeFrame {
             octets: [0; LONGEST],
@@ -188,8 +247,30 @@ impl FrameLine {
         ensures told { (others : List Owned) (m : machine.Line) → Stands self.old (S.store shelf.old) others m
             → told (report_told result) ≡ answer (config_of self.old) (line_event.expiry timer) m }
         ensures after { Leads (λ m. line_event.expiry timer ∷ []) self.old (S.store shelf.old) self.new (S.store shelf.new) }
+        ensures counted { Counts (λ c m. told_in_answer (answer c (line_event.expiry timer) m)) self.old (S.store shelf.old) self.new }
+    {
+        let report = self.expire_timer(timer, shelf);
+        self.count_told(&report);
+        report
+    }
+
+    /// A timer expires, and nothing is counted.
+    fn expire_timer<S: Shelf>(&mut self, timer: Timer, shelf: &mut S) -> Report<'static>
+        requires { (others : List Owned) × (m : machine.Line) × Stands self.old (S.store shelf.old) others m }
+        ensures told { (others : List Owned) (m : machine.Line) → Stands self.old (S.store shelf.old) others m
+            → told (report_told result) ≡ answer (config_of self.old) (line_event.expiry timer) m }
+        ensures after { Leads (λ m. line_event.expiry timer ∷ []) self.old (S.store shelf.old) self.new (S.store shelf.new) }
+        ensures counters { self.new.counters ≡ self.old.counters }
     {
         self.layer.expire(timer, shelf).report(&[])
+    }
+
+    /// Counts what was told.
+    fn count_told(&mut self, report: &Report<'_>)
+        ensures { self.new ≡ with_frames_counted self.old (told_in_report (report_told report.now)) }
+    {
+        self.counters
+            .told(report.notes(), report.cause, report.lost);
     }
 
     /// Serves a request of layer 3 or management, as [`Line::request`](crate::Line::request) does.
@@ -216,11 +297,50 @@ impl FrameLine {
             → told (report_told report) ≡ answer (config_of self.old) (line_event.request (request_of request.entry)) m) }
         ensures after { IfOk result (λ report. Leads (λ m. line_event.request (request_of request.entry) ∷ [])
             self.old (S.store shelf.old) self.new (S.store shelf.new)) }
+        ensures counted { IfOk result (λ report.
+            Counts (λ c m. told_in_answer (answer c (line_event.request (request_of request.entry)) m)) self.old (S.store shelf.old) self.new) }
+    {
+        match self.serve_request(request, shelf, slots) {
+            Ok(report) => {
+                self.count_told(&report);
+                Ok(report)
+            }
+            Err(why) => Err(why),
+        }
+    }
+
+    /// Serves a request, and counts nothing.
+    fn serve_request<S: Shelf>(
+        &mut self,
+        request: Request<'_>,
+        shelf: &mut S,
+        slots: u32,
+    ) -> Result<Report<'static>, Refusal>
+        requires stands { (others : List Owned) × (m : machine.Line) × Stands self.old (S.store shelf.old) others m }
+        requires slots { slots ≤ (S.store shelf.old).slots }
+        ensures refused { IfErr result (λ why. (others : List Owned) (m : machine.Line) → Stands self.old (S.store shelf.old) others m
+            → refusal (config_of self.old) (nat_le slots (used_slots (S.store shelf.old))) (request_of request.entry) m ≡ Some why) }
+        ensures unchanged { OnErr result (self.new ≡ self.old) }
+        ensures kept { OnErr result (shelf.new ≡ shelf.old) }
+        ensures accepted { IfOk result (λ report. (others : List Owned) (m : machine.Line) → Stands self.old (S.store shelf.old) others m
+            → refusal (config_of self.old) (nat_le slots (used_slots (S.store shelf.old))) (request_of request.entry) m ≡ None) }
+        ensures told { IfOk result (λ report. (others : List Owned) (m : machine.Line) → Stands self.old (S.store shelf.old) others m
+            → told (report_told report) ≡ answer (config_of self.old) (line_event.request (request_of request.entry)) m) }
+        ensures after { IfOk result (λ report. Leads (λ m. line_event.request (request_of request.entry) ∷ [])
+            self.old (S.store shelf.old) self.new (S.store shelf.new)) }
+        ensures counters { self.new.counters ≡ self.old.counters }
     {
         match self.layer.request(request, shelf, slots) {
             Ok(bare) => Ok(bare.report(&[])),
             Err(why) => Err(why),
         }
+    }
+
+    /// What was counted of the line since its start.
+    pub fn counters(&self) -> &Counters
+        ensures { result.now ≡ self.now.counters }
+    {
+        &self.counters
     }
 
     /// The state of the link of a service with this TEI, by its number in Q.921 (annex B): 4 to 8. None where the TEI is

@@ -54,7 +54,8 @@ impl Line {
     ghost use Rattle.lapd_line.specs.contracts.line.Line.{the_row};
     ghost use Rattle.lapd_line.specs.LinkLayer.{Standing, Serves, aim_of_event};
     ghost use Rattle.lapd_line.specs.Reports.{report_told, told_in, told_if, pulled_of};
-    ghost use Rattle.lapd_line.specs.Counted.{with_counted, told_in_report, bare_shown};
+    ghost use Rattle.lapd_line.specs.Counted.{with_counted, bare_shown};
+    ghost use Rattle.model_line.specs.Counted.{told_in_report};
     ghost use Rattle.lapd_line.specs.Begins.{Begins};
     ghost use Rattle.lapd_line.specs.Stands.{Stands, Moves, Leads, config_of, latest_frame, with_served};
     ghost use Rattle.lapd_line.specs.Pulls.{orders_taken};

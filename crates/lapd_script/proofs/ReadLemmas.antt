@@ -7,7 +7,7 @@ use Rattle.lapd_script.specs.declared.kind.FaultKind.{FaultKind}
 use Rattle.lapd_script.specs.declared.kind.FaultKind.TheVariants.{BadNumberOfWords}
 use Rattle.model_line.specs.declared.config.Config.{Config}
 use Rattle.lapd_script.specs.declared.word.Word.{Word}
-use Rattle.lapd_script.specs.declared.word.Word.TheVariants.{Card, Rx, In, Failed, Next, Pull, Wait, Timers, Stored, Ask}
+use Rattle.lapd_script.specs.declared.word.Word.TheVariants.{Card, Rx, In, Failed, Next, Pull, Wait, Timers, Stored, Counters, Ask}
 use Rattle.lapd_script.specs.Words.{texts}
 use Rattle.lapd_script.specs.Word.{word_named, carries_octets}
 use Rattle.lapd_script.specs.Read.{read_words, read_after, read_as, card_numbers, nine_numbers, three_numbers, ten_numbers, for_user, is_user, ◌>>=◌}
@@ -112,6 +112,7 @@ too_many Pull a b c d e f g h i j k l more = refl
 too_many Wait a b c d e f g h i j k l more = refl
 too_many Timers a b c d e f g h i j k l more = refl
 too_many Stored a b c d e f g h i j k l more = refl
+too_many Counters a b c d e f g h i j k l more = refl
 too_many (Ask what) a b c d e f g h i j k l more = either (carries_octets what) (Err BadNumberOfWords)
 
 pub taken_words : (word : Word) (words : List (List ℕ)) → read_as word (take 12 words) ≡ read_as word words

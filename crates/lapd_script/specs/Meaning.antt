@@ -6,7 +6,7 @@ use Rattle.lapd_script.specs.declared.command.CardKind.{CardKind}
 use Rattle.model_line.specs.declared.faults.Fault.{Fault}
 use Rattle.model_line.specs.declared.config.Config.{Config}
 use Rattle.lapd_script.specs.declared.command.Command.{Command}
-use Rattle.lapd_script.specs.declared.command.Command.TheVariants.{Skip, Card, Rx, In, Failed, Next, Pull, Wait, Timers, Stored, Ask}
+use Rattle.lapd_script.specs.declared.command.Command.TheVariants.{Skip, Card, Rx, In, Failed, Next, Pull, Wait, Timers, Stored, Counters, Ask}
 
 pub data Meaning : Type 0 where
   -- nothing: the line is skipped
@@ -29,6 +29,8 @@ pub data Meaning : Type 0 where
   timers : ℕ → ℕ → ℕ → Meaning
   -- what the card holds is shown
   stored : Meaning
+  -- what was counted of the line is shown
+  counters : ℕ → Meaning
   -- for a line and a TEI this is asked, with the octets that it carries
   ask : ℕ → ℕ → Asked → List ℕ → Meaning
 
@@ -44,6 +46,7 @@ meant buffer (Pull line count) = pull line count
 meant buffer (Wait milliseconds) = wait milliseconds
 meant buffer (Timers t200 t203 t201) = timers t200 t203 t201
 meant buffer Stored = stored
+meant buffer (Counters line) = counters line
 meant buffer (Ask line tei what count) = ask line tei what (take count buffer)
 
 abbrev pub meant_by : List ℕ → Result Command FaultKind → Result Meaning FaultKind
@@ -63,4 +66,5 @@ IsCounted room (Pull line count) = count ≤ 4096
 IsCounted room (Wait milliseconds) = milliseconds ≤ 3600000
 IsCounted room (Timers t200 t203 t201) = Unit {0}
 IsCounted room Stored = Unit {0}
+IsCounted room (Counters line) = Unit {0}
 IsCounted room (Ask line tei what count) = count ≤ room

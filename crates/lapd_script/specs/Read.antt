@@ -5,13 +5,13 @@ use Rattle.lapd_script.specs.declared.kind.FaultKind.{FaultKind}
 use Rattle.lapd_script.specs.declared.kind.FaultKind.TheVariants.{UnknownWord, BadNumberOfWords}
 use Rattle.model_line.specs.declared.config.Config.{Config}
 use Rattle.lapd_script.specs.declared.word.Word.{Word}
-use Rattle.lapd_script.specs.declared.word.Word.TheVariants.{Card, Rx, In, Failed, Next, Pull, Wait, Timers, Stored, Ask}
+use Rattle.lapd_script.specs.declared.word.Word.TheVariants.{Card, Rx, In, Failed, Next, Pull, Wait, Timers, Stored, Counters, Ask}
 use Rattle.lapd_script.specs.Words.{words_of, no_words, one_word, two_words, three_words}
 use Rattle.lapd_script.specs.Number.{number}
 use Rattle.lapd_script.specs.Octets.{octets}
 use Rattle.lapd_script.specs.Cause.{cause}
 use Rattle.lapd_script.specs.Word.{word_named, carries_octets}
-use Rattle.lapd_script.specs.Meaning.{Meaning, skip, card, rx, into, failed, next, pull, wait, timers, stored, ask}
+use Rattle.lapd_script.specs.Meaning.{Meaning, skip, card, rx, into, failed, next, pull, wait, timers, stored, counters, ask}
 
 -- the second step, where the first one found no fault
 infixl 10 ◌>>=◌
@@ -121,6 +121,10 @@ read_as Timers words = do
 read_as Stored words = do
   none ← no_words words
   Ok stored
+read_as Counters words = do
+  word ← one_word words
+  line ← line_number word
+  Ok (counters line)
 read_as (Ask what) words = if carries_octets what
     then (do
       word ← three_words words

@@ -5,7 +5,7 @@ use Rattle.lapd_script.specs.declared.command.Asked.{Asked}
 use Rattle.lapd_script.specs.declared.command.Asked.TheVariants.{Assign, Remove, Check, Establish, Release, SetBusy, ClearBusy, Data, Unit}
 use Rattle.lapd_script.specs.declared.command.CardKind.TheVariants.{Octets, Frames}
 use Rattle.lapd_script.specs.declared.word.Word.{Word}
-use Rattle.lapd_script.specs.declared.word.Word.TheVariants.{Card, Rx, In, Failed, Next, Pull, Wait, Timers, Stored, Ask}
+use Rattle.lapd_script.specs.declared.word.Word.TheVariants.{Card, Rx, In, Failed, Next, Pull, Wait, Timers, Stored, Counters, Ask}
 
 -- what is asked for, of a line and a TEI; for packet links (SAPI 16) with 16 after the word
 abbrev pub asked_named : List ℕ → Option Asked
@@ -39,6 +39,7 @@ word_named name =
     else if bytes_eq name (codes "wait") then Some Wait
     else if bytes_eq name (codes "timers") then Some Timers
     else if bytes_eq name (codes "stored") then Some Stored
+    else if bytes_eq name (codes "counters") then Some Counters
     else option_map Ask (asked_named name)
 
 -- whether octets follow the TEI

@@ -7,7 +7,7 @@ use Rattle.lapd_script.specs.declared.kind.FaultKind.TheVariants.{UnknownWord, B
 use Rattle.lapd_script.specs.declared.command.Asked as asked
 use Rattle.lapd_script.specs.declared.command.CardKind.TheVariants.{Octets, Frames}
 use Rattle.model_line.specs.declared.faults.Fault.TheVariants.{Ragged}
-use Rattle.lapd_script.specs.Meaning.{skip, card, rx, into, failed, next, pull, wait, timers, stored, ask}
+use Rattle.lapd_script.specs.Meaning.{skip, card, rx, into, failed, next, pull, wait, timers, stored, counters, ask}
 use Rattle.lapd_script.specs.Read.{read}
 use Rattle.lapd_script.specs.Job.{job, run, frame, limits}
 use Rattle.lapd_script.specs.Bound.{bound}
@@ -75,6 +75,12 @@ no_timer = refl
 
 shown : read (codes "stored") ≡ Ok stored
 shown = refl
+
+counted : read (codes "counters 63") ≡ Ok (counters 63)
+counted = refl
+
+not_counted : read (codes "counters") ≡ Err BadNumberOfWords
+not_counted = refl
 
 assigned : read (codes "assign 0 64") ≡ Ok (ask 0 64 asked.TheVariants.Assign [])
 assigned = refl

@@ -92,6 +92,11 @@ pub enum Command {
     },
     /// `stored`: shows what the card holds.
     Stored,
+    /// `counters LINE`: shows what was counted of the line.
+    Counters {
+        /// The card's line.
+        line: u16,
+    },
     /// A request of layer 3, and the octets that it carries: those of `data` and `unit`, else none.
     Ask {
         /// The card's line.

@@ -104,6 +104,10 @@ fn read_as(word: Word, words: &[&[u8]], room: &mut [u8]) -> Result<Command, Faul
             none(words)?;
             Ok(Command::Stored)
         }
+        Word::Counters => {
+            let line = short(one(words)?)?;
+            Ok(Command::Counters { line })
+        }
         Word::Ask(what) => ask(what, words, room),
     }
 }

@@ -18,6 +18,7 @@ pub(crate) enum Word {
     Wait,
     Timers,
     Stored,
+    Counters,
     Ask(Asked),
 }
 
@@ -46,6 +47,8 @@ impl Word {
             Some(Word::Timers)
         } else if name == b"stored".as_slice() {
             Some(Word::Stored)
+        } else if name == b"counters".as_slice() {
+            Some(Word::Counters)
         } else {
             Asked::named(name).map(Word::Ask)
         }

@@ -23,6 +23,7 @@ use Rattle.model_card.specs.Card as machine
 use Rattle.model_card.specs.Event.{Event, at}
 use Rattle.model_card.specs.Machine.{after}
 use Rattle.model_card.specs.Run.{after_all}
+use Rattle.model_card.specs.HappeningsCounted.{happening_counted}
 use Rattle.model_card.specs.Happening.{Happening, expires, asks, line_of, events_of, HappensAt}
 use Rattle.model_sim.specs.Setup.{Setup, ordered}
 use Rattle.model_sim.specs.Steps.{Scene}
@@ -38,7 +39,7 @@ use Rattle.lapd_sim.specs.Stands.{Holds}
 -- ---- a card of either kind goes on
 
 pub octets_lead : (e : Event) (old new : octets_card.Held Store) → octets.Leads as_store e old new → Leads e (Octets old) (Octets new)
-octets_lead e old new h = record { kind = refl; lines = ap (λ (c : Config). c.lines) h.config; stands = h.stands }
+octets_lead e old new h = record { kind = refl; lines = ap (λ (c : Config). c.lines) h.config; stands = h.stands; counted = h.counted }
 
 one_event : (m : machine.Card) (e : Event) → after_all m (e ∷ []) ≡ after e m
 unfolding after_all
@@ -52,20 +53,20 @@ module _ (h : Happening) (old new : frames_card.Held Store) (whole : (m : machin
       (leads.stands m s.0, idle_after m h s.1 (whole m there))
 
   pub frames_lead : LeadsBy h (Frames old) (Frames new)
-  frames_lead = record { kind = refl; lines = ap (λ (c : Config). c.lines) leads.config; stands = goes_on }
+  frames_lead = record { kind = refl; lines = ap (λ (c : Config). c.lines) leads.config; stands = goes_on; counted = λ m s. leads.counted m s.0 }
 
 -- an expiry and a request are one event each
 pub expiry_leads : (line : ℕ) (timer : Timer) (old new : frames_card.Held Store) → line < old.config.lines → frames.Leads as_store (expires line timer) old new
     → Leads (at line (line_event.expiry timer)) (Frames old) (Frames new)
 expiry_leads line timer old new within leads =
     let by = frames_lead (expires line timer) old new (λ m there. (there, tt)) within leads in
-    record { kind = by.kind; lines = by.lines; stands = λ m s. subst (OnBoard (Frames new)) (one_event m (at line (line_event.expiry timer))) (by.stands m s) }
+    record { kind = by.kind; lines = by.lines; stands = λ m s. subst (OnBoard (Frames new)) (one_event m (at line (line_event.expiry timer))) (by.stands m s); counted = by.counted }
 
 pub request_leads : (line : ℕ) (r : Request) (old new : frames_card.Held Store) → line < old.config.lines → frames.Leads as_store (asks line r) old new
     → Leads (at line (line_event.request r)) (Frames old) (Frames new)
 request_leads line r old new within leads =
     let by = frames_lead (asks line r) old new (λ m there. (there, tt)) within leads in
-    record { kind = by.kind; lines = by.lines; stands = λ m s. subst (OnBoard (Frames new)) (one_event m (at line (line_event.request r))) (by.stands m s) }
+    record { kind = by.kind; lines = by.lines; stands = λ m s. subst (OnBoard (Frames new)) (one_event m (at line (line_event.request r))) (by.stands m s); counted = by.counted }
 
 -- ---- an exchange goes on
 
@@ -101,6 +102,7 @@ holds_once h orders text old new m holds leads plan moment clock = record {
   kind = holds.kind ∙ sym (ap (λ p. p.kind) plan);
   config = config_stays m.card (events_of m.card h) ∙ holds.config ∙ sym (ap (λ p. p.config) plan);
   card = leads.stands m.card holds.card;
+  counters = leads.counted m.card holds.card ∙ ap (λ all. happening_counted all m.card h) holds.counters;
   clock = clock ∙ ap (λ now. fold (ordered (line_of h) now) old.clock orders) holds.now ∙ ap (λ c. fold (ordered (line_of h) m.now) c orders) holds.clock;
   now = moment ∙ holds.now;
 }

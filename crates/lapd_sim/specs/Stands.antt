@@ -7,16 +7,17 @@ use Rattle.lapd_bits.specs.Framer as framing
 use Rattle.lapd_bits.specs.Deframer as deframing
 use Rattle.lapd_bits.specs.declared.deframer.Deframer.{Deframer}
 use Rattle.model_sim.specs.Setup as machine
-use Rattle.lapd_sim.specs.Boards.{OnBoard}
+use Rattle.lapd_sim.specs.Boards.{OnBoard, counters_on}
 use Rattle.lapd_sim.specs.declared.setup.Setup.{Setup}
 use Rattle.lapd_sim.specs.declared.exchange.Exchange.{Exchange}
 use Rattle.lapd_sim.specs.declared.terminal.Terminal.{Terminal}
 
--- The card, its clock and the moment.
+-- The card, its counters, its clock and the moment.
 pub record Holds (e : Exchange) (m : machine.Setup) : Type 0 where
   pub kind : m.kind ≡ e.plan.kind
   pub config : m.card.config ≡ e.plan.config
   pub card : OnBoard e.board m.card
+  pub counters : counters_on e.board ≡ m.counters
   pub clock : e.clock ≡ m.clock
   pub now : e.moment ≡ m.now
 

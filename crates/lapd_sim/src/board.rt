@@ -1,17 +1,18 @@
 //! The card of an exchange, of either kind.
 
-ghost use Rattle.std.specs.Prelude.{◌≡◌, ◌<◌, IfOk};
+ghost use Rattle.std.specs.Prelude.{◌≡◌, ◌<◌, get_or, IfOk};
 ghost use Rattle.model_card.specs.Card as machine;
 ghost use Rattle.model_card.specs.Event.{at};
 ghost use Rattle.model_card.specs.Machine.{answer};
 ghost use Rattle.model_line.specs.Event as line_event;
 ghost use Rattle.model_line.specs.Request.{request_of};
 ghost use Rattle.model_sim.specs.Steps.{held};
+ghost use Rattle.lapd_count.specs.Counters.{none_counted};
 ghost use Rattle.lapd_card.specs.Reply.{answer_of_result};
 ghost use Rattle.lapd_line.specs.Reports.{report_told};
 
 use crate::faults::LineFault;
-use lapd_card::{Card, CardFault, Config, FrameCard, Report, Request};
+use lapd_card::{Card, CardFault, Config, Counters, FrameCard, Report, Request};
 use lapd_frame::{Refusal, Timer};
 use lapd_script::{CardKind, FaultKind};
 use lapd_store::RawShelf;
@@ -32,13 +33,13 @@ pub(crate) enum Board {
 }
 
 impl Board {
-    ghost use Rattle.lapd_sim.specs.Boards.{kind_of, line_count, OnBoard, Leads};
+    ghost use Rattle.lapd_sim.specs.Boards.{kind_of, line_count, counters_on, OnBoard, Leads};
     ghost use Rattle.lapd_sim.specs.Obeyed.{Begins};
 
     pub(crate) fn start(alloc: Global, plan: Plan) -> Result<Board, LineFault>
         ensures kind { IfOk result (λ board. kind_of board ≡ plan.kind) }
         ensures lines { IfOk result (λ board. line_count board ≡ plan.config.lines) }
-        ensures begun { Begins result plan.kind plan.config (λ board m. OnBoard board m.card) }
+        ensures begun { Begins result plan.kind plan.config (λ board m. OnBoard board m.card × (counters_on board ≡ m.counters)) }
     {
         let config = plan.config;
         if config.fault().is_some() {
@@ -98,6 +99,17 @@ impl Board {
         match self {
             Board::Octets(card) => card.request(line, request),
             Board::Frames(card) => card.request(line, request),
+        }
+    }
+
+    /// What was counted of a line.
+    pub(crate) fn counters(&self, line: usize) -> &Counters
+        requires { line < line_count self.now }
+        ensures { result.now ≡ get_or (counters_on self.now) line none_counted }
+    {
+        match self {
+            Board::Octets(card) => card.counters(line),
+            Board::Frames(card) => card.counters(line),
         }
     }
 

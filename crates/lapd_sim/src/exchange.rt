@@ -14,7 +14,7 @@ ghost use Rattle.lapd_script.specs.declared.command.CardKind.TheVariants.{Octets
 ghost use Rattle.lapd_sim.specs.Boards.{kind_of, line_count, IsTaken};
 ghost use Rattle.lapd_sim.specs.Past.{HasPast};
 ghost use Rattle.model_sim.specs.Setup as machine;
-ghost use Rattle.model_sim.specs.Steps.{answer_text, with_event, octet_in, at_expiry, until, in_time, with_timers, after_stored, after_happening};
+ghost use Rattle.model_sim.specs.Steps.{answer_text, with_event, octet_in, at_expiry, until, in_time, with_timers, after_stored, after_counters, after_happening};
 ghost use Rattle.model_card.specs.Card.{line_at};
 ghost use Rattle.model_card.specs.Happening.{comes, failed, goes};
 ghost use Rattle.model_line.specs.Pull.{taken};
@@ -26,7 +26,9 @@ use lapd_card::{Fault, Report, Request, limit};
 use lapd_clock::{Clock, Lengths};
 use lapd_frame::{Order, Timer};
 use lapd_script::{CardKind, FaultKind};
-use lapd_transcript::{Page, Target, WriteFailed, put_refused, put_report, put_stored};
+use lapd_transcript::{
+    Page, Target, WriteFailed, put_counters, put_refused, put_report, put_stored,
+};
 use std::alloc::Global;
 
 /// The last moment of the clock, in milliseconds.
@@ -314,6 +316,20 @@ impl Exchange {
             → Tells result (output (T.taken target.old) page.old.items) (output (T.taken target.new) page.new.items) (Holds self.now) (after_stored (scene m)) }
     {
         put_stored(target, page, self.board.stored(), limit(&self.plan.config))
+    }
+
+    /// Shows what was counted of a line.
+    pub(crate) fn show_counters<T: Target>(
+        &self,
+        line: usize,
+        target: &mut T,
+        page: &mut Page,
+    ) -> Result<(), WriteFailed>
+        requires { line < self.now.plan.config.lines }
+        ensures { (m : machine.Setup) → Holds self.now m
+            → Tells result (output (T.taken target.old) page.old.items) (output (T.taken target.new) page.new.items) (Holds self.now) (after_counters line (scene m)) }
+    {
+        put_counters(target, page, line as u16, self.board.counters(line))
     }
 }
 

@@ -199,6 +199,7 @@ fn without_card(alloc: Global, command: Command) -> Result<Option<Setup>, LineFa
         Command::Wait { .. } => Err(LineFault::Faulty(FaultKind::NoCard)),
         Command::Timers { .. } => Err(LineFault::Faulty(FaultKind::NoCard)),
         Command::Stored => Err(LineFault::Faulty(FaultKind::NoCard)),
+        Command::Counters { .. } => Err(LineFault::Faulty(FaultKind::NoCard)),
         Command::Ask { .. } => Err(LineFault::Faulty(FaultKind::NoCard)),
     }
 }
@@ -227,6 +228,7 @@ fn with_card<T: Target>(
         Command::Wait { milliseconds } => setup.wait(milliseconds, target, page),
         Command::Timers { t200, t203, t201 } => setup.set_timers(t200, t203, t201),
         Command::Stored => setup.show_stored(target, page),
+        Command::Counters { line } => setup.show_counters(line, target, page),
         Command::Ask {
             line,
             tei,

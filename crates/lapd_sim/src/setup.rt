@@ -276,4 +276,21 @@ impl Setup {
             Err(WriteFailed) => Err(LineFault::Write),
         }
     }
+
+    /// Shows what was counted of a line.
+    pub(crate) fn show_counters<T: Target>(
+        &mut self,
+        line: u16,
+        target: &mut T,
+        page: &mut Page,
+    ) -> Result<(), LineFault>
+        ensures { (m : machine.Setup) → Stands self.old m
+            → Obeys result (output (T.taken target.old) page.old.items) (output (T.taken target.new) page.new.items) (Stands self.new) (with_card (meaning.counters line) (scene m)) }
+    {
+        let line = self.line(line)?;
+        match self.exchange.show_counters(line, target, page) {
+            Ok(()) => Ok(()),
+            Err(WriteFailed) => Err(LineFault::Write),
+        }
+    }
 }

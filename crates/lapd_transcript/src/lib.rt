@@ -5,7 +5,7 @@
 //! - `read_from`, `write_to`: any reader of std as a source, any writer of std as a target.
 //! - `output`: puts pieces of text onto a page, [`Page`], which goes to a target once it is full and by [`send`].
 //! - `lines`: puts the lines of a transcript onto a page, and writes what tells of a faulty line of a script.
-//! - `notes`: what an event brought.
+//! - `notes`: what an event brought; `counters`: what was counted of a line.
 //! - `shown`: what a frame says, octets of a line, and the bound of a card.
 //! - `names`: the names that stand in them.
 //!
@@ -19,6 +19,7 @@
 //! What `Debug` shows.
 #![tactic(auto)]
 
+mod counters;
 mod lines;
 mod names;
 mod notes;
@@ -28,6 +29,7 @@ mod shown;
 mod streams;
 mod write_to;
 
+pub use counters::put_counters;
 pub use lines::{
     put_frame, put_nothing, put_refused, put_report, put_sent, put_stored, write_faulty,
 };

@@ -8,7 +8,8 @@ ghost use Rattle.model_card.specs.Laws.{RefusedByTheTable, RunIsMoments};
 ghost use Rattle.model_card.specs.Promises.{IsWithinLimit, IsAmortised, IsAmortisedFromZero, HasSixOctetsAFrame, HasSevenOctetsAReject, IsLinear, IsIsolated, IsNeverFull, IsNumbered, IsNumberedFromZero, IsTextual};
 ghost use Rattle.model_card.specs.Run.{run, moments};
 ghost use Rattle.lapd_card.specs.Card.{line_count};
-ghost use Rattle.lapd_card.specs.Counted.{counters_in, all_counted, CountersAreNumbers};
+ghost use Rattle.lapd_card.specs.Counted.{counters_in};
+ghost use Rattle.model_card.specs.Counted.{all_counted, CountersAreNumbers};
 ghost use Rattle.lapd_card.specs.Drive.{line_of, events_of, Taken, MissesAt};
 ghost use Rattle.lapd_card.specs.Sink.{one_failure_more};
 ghost use Rattle.lapd_card.specs.Stands.{Stands};
@@ -37,17 +38,17 @@ pub fn drive<S: Shelf, K: Sink>(
         → Stands S.store card.new (run m (events_of events.now)).card) }
     ensures taken { OnOk result ((m : machine.Card) → Stands S.store card.old m
         → Taken K.takes sink.old (run m (events_of events.now)).replies sink.new) }
-    ensures counted { OnOk result ((m : machine.Card) → Stands S.store card.old m
+    ensures counters { OnOk result ((m : machine.Card) → Stands S.store card.old m
         → counters_in card.new.lines ≡ all_counted (counters_in card.old.lines) (moments m (events_of events.now))) }
     ensures stopped { IfErr result (λ fault. (m : machine.Card) → Stands S.store card.old m
         → Stands S.store card.new (run m (take (fault.at + 1) (events_of events.now))).card) }
     ensures taken_before { IfErr result (λ fault. (m : machine.Card) → Stands S.store card.old m
         → MissesAt K.takes K.misses m (events_of events.now) fault.at sink.old sink.new) }
-    ensures counted_before { IfErr result (λ fault. (m : machine.Card) → Stands S.store card.old m
+    ensures counters_before { IfErr result (λ fault. (m : machine.Card) → Stands S.store card.old m
         → counters_in card.new.lines ≡ all_counted (counters_in card.old.lines) (moments m (take (fault.at + 1) (events_of events.now)))) }
     ensures moments { RunIsMoments }
     ensures refused { RefusedByTheTable }
-    ensures numbers { CountersAreNumbers }
+    ensures counters_add_up { CountersAreNumbers }
     ensures by_event { (m : machine.Card) → Stands S.store card.old m → ArePriced m (events_of events.now) }
     ensures drops { (m : machine.Card) → Stands S.store card.old m → AreDropsWithoutCost m (events_of events.now) }
     ensures without_effect { (m : machine.Card) → Stands S.store card.old m

@@ -10,6 +10,8 @@ ghost use Rattle.model_card.specs.HappeningLaws.{AnswersSayIt};
 ghost use Rattle.model_card.specs.Happening.{spelled, AreIdle};
 ghost use Rattle.model_card.specs.Said.{replies};
 ghost use Rattle.lapd_card.specs.FrameCard.{line_count};
+ghost use Rattle.lapd_card.specs.Counted.{frame_counters_in};
+ghost use Rattle.model_card.specs.HappeningsCounted.{happenings_counted, FrameCountersAreNumbers};
 ghost use Rattle.lapd_card.specs.FrameDrive.{line_of, all_of, after_happenings, Taken, MissesAt};
 ghost use Rattle.lapd_card.specs.FrameStands.{Stands};
 ghost use Rattle.lapd_card.specs.Sink.{one_failure_more};
@@ -39,14 +41,19 @@ pub fn drive_frames<S: Shelf, K: FrameSink>(
         → Stands S.store card.new (after_happenings m (all_of happenings.now))) }
     ensures taken { OnOk result ((m : machine.Card) → Stands S.store card.old m
         → Taken K.takes sink.old (replies m (all_of happenings.now)) sink.new) }
+    ensures counters { OnOk result ((m : machine.Card) → Stands S.store card.old m
+        → frame_counters_in card.new.lines ≡ happenings_counted (frame_counters_in card.old.lines) m (all_of happenings.now)) }
     ensures stopped { IfErr result (λ fault. (m : machine.Card) → Stands S.store card.old m
         → Stands S.store card.new (after_happenings m (take (fault.at + 1) (all_of happenings.now)))) }
     ensures taken_before { IfErr result (λ fault. (m : machine.Card) → Stands S.store card.old m
         → MissesAt K.takes K.misses m (all_of happenings.now) fault.at sink.old sink.new) }
+    ensures counters_before { IfErr result (λ fault. (m : machine.Card) → Stands S.store card.old m
+        → frame_counters_in card.new.lines ≡ happenings_counted (frame_counters_in card.old.lines) m (take (fault.at + 1) (all_of happenings.now))) }
     ensures idle { (m : machine.Card) → Stands S.store card.old m → AreIdle m }
     ensures answers { AnswersSayIt }
     ensures moments { RunIsMoments }
     ensures refused { RefusedByTheTable }
+    ensures counters_add_up { FrameCountersAreNumbers }
     ensures by_event { (m : machine.Card) → Stands S.store card.old m → ArePriced m (spelled m (all_of happenings.now)) }
     ensures drops { (m : machine.Card) → Stands S.store card.old m → AreDropsWithoutCost m (spelled m (all_of happenings.now)) }
     ensures without_effect { (m : machine.Card) → Stands S.store card.old m

@@ -2,7 +2,8 @@
 --
 -- Read in this order: Event, Card, Machine, Run. Stored, Counts, ByEvent, Drops, Numbered, Pulled, Isolation and
 -- Sound are the words of the laws, Promises and Laws their statements. Room and Begun are what a card answers about itself. Happening is
--- what happens at a card for whole frames, and Said what it answers.
+-- what happens at a card for whole frames, and Said what it answers. Counted is what is counted of its lines, and
+-- HappeningsCounted the same of happenings.
 pub mod Event
 pub mod Card
 pub mod Machine
@@ -25,3 +26,5 @@ pub mod Happening
 pub mod Said
 pub mod HappeningLaws
 pub mod WorkedHappenings
+pub mod Counted
+pub mod HappeningsCounted

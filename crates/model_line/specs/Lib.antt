@@ -3,7 +3,7 @@
 -- Read in this order: Config, Event, Request; Line; Effect, whom an event concerns and what comes of it; Sides; Octet,
 -- Expiry, Refusal, Requested, Pull; Machine. Room and Begun are what a line answers about itself. Stored, Counts, Deliveries,
 -- Sound and Turns are the words of the laws, whose sentences stand in `src/laws.rt`. Whole is what a whole frame means in
--- octets, and WholeAtLine what such octets and pulls are at a line.
+-- octets, and WholeAtLine what such octets and pulls are at a line. Counted is what its counters count.
 pub mod Config
 pub mod Request
 pub mod Event
@@ -30,3 +30,4 @@ pub mod Whole
 pub mod WholeAtLine
 pub mod WholeLaws
 pub mod WorkedWhole
+pub mod Counted

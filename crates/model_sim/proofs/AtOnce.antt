@@ -16,14 +16,16 @@ use Rattle.model_card.specs.Event.{at}
 use Rattle.model_card.specs.Machine.{answer}
 use Rattle.model_card.specs.Run.{moments, after_all}
 use Rattle.model_line.specs.declared.faults.Fault.{Fault}
-use Rattle.model_line.specs.WholeAtLine.{answers_to, octet_alone, pulls_to_begin}
-use Rattle.model_card.specs.Happening.{Happening, comes, failed, goes, line_of, events_at, events_of, HappensAt, AreIdle, answer_in}
-use Rattle.model_card.specs.Said.{Said, says, gives, said, Means}
+use Rattle.model_line.specs.WholeAtLine.{answers_to, octet_alone, pulls_for, pulls_to_begin}
+use Rattle.model_card.specs.Happening.{Happening, comes, failed, goes, line_of, events_at, events_of, spelled, HappensAt, AreIdle, answer_in}
+use Rattle.model_card.specs.HappeningsCounted.{happening_counted}
+use Rattle.lapd_count.specs.declared.counters.Counters.{Counters}
+use Rattle.model_card.specs.Said.{Said, says, gives, next_of, said, Means}
 use Rattle.model_card.proofs.Happening.{frames_are_of_lines, lines_stay_idle}
 use Rattle.model_line.proofs.FramesCome.{frames_come_whole}
 use Rattle.model_line.proofs.FramesGo.{frames_go_whole}
-use Rattle.model_sim.specs.Setup.{ordered}
-use Rattle.model_sim.specs.Steps.{Scene, answer_text, with_event, with_events, after_happening}
+use Rattle.model_sim.specs.Setup.{Setup, ordered}
+use Rattle.model_sim.specs.Steps.{Scene, answer_text, with_event, with_events, with_counters, after_happening}
 
 -- ---- events of one line, by their answers
 
@@ -38,20 +40,20 @@ abbrev answers_at : Card → ℕ → List line_event.Event → List Answer
 answers_at card line events = map answer_in (moments card (map (at line) events))
 
 -- a scene with other orders carried out, and more told
-abbrev with_answers : ℕ → List line_event.Event → List Answer → Scene → Scene
-with_answers line events answers s = record {
-  setup = record s.setup { card = after_all s.setup.card (map (at line) events); clock = ordered_all line s.setup.now s.setup.clock answers };
+abbrev with_answers : List Counters → ℕ → List line_event.Event → List Answer → Scene → Scene
+with_answers counters line events answers s = record {
+  setup = record s.setup { card = after_all s.setup.card (map (at line) events); counters = counters; clock = ordered_all line s.setup.now s.setup.clock answers };
   text = s.text ++ text_of_all line answers;
 }
 
-by_answers : (line : ℕ) (events : List line_event.Event) (s : Scene)
-    → with_events (map (at line) events) s ≡ with_answers line events (answers_at s.setup.card line events) s
+by_answers : (counters : List Counters) (line : ℕ) (events : List line_event.Event) (s : Scene)
+    → with_counters counters (with_events (map (at line) events) s) ≡ with_answers counters line events (answers_at s.setup.card line events) s
 unfolding after_all moments
-by_answers line [] s = ap (λ text. record s { text = text }) (sym (append-nil s.text))
-by_answers line (e ∷ events) s =
+by_answers counters line [] s = ap (λ text. record (with_counters counters s) { text = text }) (sym (append-nil s.text))
+by_answers counters line (e ∷ events) s =
     let next = with_event s (at line e) in
-    by_answers line events next
-    ∙ ap (λ text. record { setup = (with_answers line events (answers_at next.setup.card line events) next).setup; text = text })
+    by_answers counters line events next
+    ∙ ap (λ text. record { setup = (with_answers counters line events (answers_at next.setup.card line events) next).setup; text = text })
     (append_assoc s.text (answer_text line (answer (at line e) s.setup.card)) (text_of_all line (answers_at next.setup.card line events)))
 
 -- ---- one answer beside others that say nothing
@@ -87,7 +89,7 @@ front_orders line now (value ∷ front) last orders clock = front_orders line no
 -- a scene after it
 abbrev pub at_once : Happening → List Order → List ℕ → Scene → Scene
 at_once h orders text s = record {
-  setup = record s.setup { card = after_all s.setup.card (events_of s.setup.card h); clock = fold (ordered (line_of h) s.setup.now) s.setup.clock orders };
+  setup = record s.setup { card = after_all s.setup.card (events_of s.setup.card h); counters = happening_counted s.setup.counters s.setup.card h; clock = fold (ordered (line_of h) s.setup.now) s.setup.clock orders };
   text = s.text ++ text;
 }
 
@@ -97,9 +99,10 @@ says_once h a s means =
     let line = line_of h in
     let events = events_at s.setup.card h in
     let (before, behind, is) = means in
-    by_answers line events s
-    ∙ ap (λ answers. with_answers line events answers s) is
-    ∙ ap (λ clock. record { setup = record s.setup { card = after_all s.setup.card (map (at line) events); clock = clock }; text = s.text ++ text_of_all line (quiet before ++ a ∷ quiet behind) })
+    let counters = happening_counted s.setup.counters s.setup.card h in
+    by_answers counters line events s
+    ∙ ap (λ answers. with_answers counters line events answers s) is
+    ∙ ap (λ clock. record { setup = record s.setup { card = after_all s.setup.card (map (at line) events); counters = counters; clock = clock }; text = s.text ++ text_of_all line (quiet before ++ a ∷ quiet behind) })
     (one_orders line s.setup.now before behind a s.setup.clock)
     ∙ ap (λ text. at_once h (orders_in a) text s) (one_says line before behind a)
 
@@ -163,8 +166,9 @@ calls_order m line now clock idle within =
 pub next_at_once : (line : ℕ) (s : Scene) → AreIdle s.setup.card → line < s.setup.card.config.lines
     → (after_happening (goes line) s).setup ≡ (at_once (goes line) (orders_of (taken s.setup.card.config (line_at line s.setup.card))) [] s).setup
 next_at_once line s idle within =
-    ap (λ (x : Scene). x.setup) (by_answers line (events_at s.setup.card (goes line)) s)
-    ∙ ap (λ clock. record s.setup { card = after_all s.setup.card (events_of s.setup.card (goes line)); clock = clock })
+    let counters = happening_counted s.setup.counters s.setup.card (goes line) in
+    ap (λ (x : Scene). x.setup) (by_answers counters line (events_at s.setup.card (goes line)) s)
+    ∙ ap (λ clock. record s.setup { card = after_all s.setup.card (events_of s.setup.card (goes line)); counters = counters; clock = clock })
     (calls_order s.setup.card line s.setup.now s.setup.clock idle within)
 
 -- ---- lines stay idle

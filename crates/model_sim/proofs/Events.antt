@@ -28,7 +28,7 @@ use Rattle.lapd_script.specs.Meaning as line
 use Rattle.lapd_script.specs.Read.{read}
 use Rattle.model_sim.specs.Pieces.{pieces_of, line_in}
 use Rattle.model_sim.specs.Setup.{Setup, begun, terminal_at, octets_sent, after_sending, with_terminal}
-use Rattle.model_sim.specs.Steps.{Scene, with_event, with_events, octets_at, Pulls, one_pull, pulls, expired, expiries, after_rx, after_in, after_pull, after_happening, after_next, after_coming, can_come, for_octets, for_frames, after_wait, after_timers, with_timers, with_card, without_card, last_moment, request_for}
+use Rattle.model_sim.specs.Steps.{Scene, with_event, with_events, octets_at, Pulls, one_pull, pulls, expired, expiries, after_rx, after_in, after_pull, after_happening, after_next, after_counters, after_coming, can_come, for_octets, for_frames, after_wait, after_timers, with_timers, with_card, without_card, last_moment, request_for}
 use Rattle.model_sim.specs.Script.{Fault, Played, not_begun, played, faulty, is_too_long, after_scene, after_bench, after_reading, unless_faulty, one_more}
 use Rattle.model_sim.specs.Events.{expiry_events, events_until, coming_events, meant_events, read_events, unless_fault, line_events, events_from, card_meant, first_card, ScriptsAreRuns}
 use Rattle.model_sim.proofs.Expiries.{drained}
@@ -223,6 +223,7 @@ meaning_leads (line.wait milliseconds) s =
     if_good (nat_le end last_moment) s.setup (events_until end s) (Ok (after_wait milliseconds s)) TimeOver (λ _. wait_led milliseconds s)
 meaning_leads (line.timers t200 t203 t201) s = timers_led (record { t200 = t200; t203 = t203; t201 = t201 }) s
 meaning_leads line.stored s = nothing_led s.setup
+meaning_leads (line.counters number) s = if_good (nat_lt number s.setup.card.config.lines) s.setup [] (Ok (after_counters number s)) BadLine (λ within. nothing_led s.setup)
 meaning_leads (line.ask number tei what octets) s =
     let e : Event = at number (request (request_for what tei octets)) in
     if_good (nat_lt number s.setup.card.config.lines) s.setup (e ∷ []) (Ok (with_event s e)) BadLine (λ good. event_led e s (ltb-true _ _ good))
@@ -314,6 +315,7 @@ reading_begins piece (Ok (line.pull number count)) p = stops refl _ refl
 reading_begins piece (Ok (line.wait milliseconds)) p = stops refl _ refl
 reading_begins piece (Ok (line.timers t200 t203 t201)) p = stops refl _ refl
 reading_begins piece (Ok line.stored) p = stops refl _ refl
+reading_begins piece (Ok (line.counters number)) p = stops refl _ refl
 reading_begins piece (Ok (line.ask number tei what octets)) p = stops refl _ refl
 
 line_begins : (piece : List ℕ) (fault : Option Fault) (p : Played) → Begins (read (line_in piece)) (one_more (on None fault p) piece)

@@ -21,7 +21,7 @@ use Rattle.lapd_script.specs.Meaning as line
 use Rattle.lapd_script.specs.Read.{read}
 use Rattle.model_sim.specs.Pieces.{pieces_of, line_in}
 use Rattle.model_sim.specs.Setup.{Setup, begun, terminal_at, octets_sent}
-use Rattle.model_sim.specs.Steps.{Scene, answer_text, octet_in, pulled_text, with_event, with_events, octets_at, Pulls, one_pull, pulls, expired, expiries, after_rx, after_pull, after_happening, after_next, after_coming, can_come, for_octets, for_frames, after_wait, after_timers, with_timers, with_card, without_card, last_moment}
+use Rattle.model_sim.specs.Steps.{Scene, answer_text, octet_in, pulled_text, with_event, with_events, octets_at, Pulls, one_pull, pulls, expired, expiries, after_rx, after_in, after_pull, after_happening, after_next, after_counters, after_coming, can_come, for_octets, for_frames, after_wait, after_timers, with_timers, with_card, without_card, last_moment}
 use Rattle.model_sim.specs.Script.{Fault, Played, not_begun, faulty, is_too_long, after_scene, after_bench, after_reading, one_more}
 use Rattle.model_sim.specs.Events.{expiry_events, coming_events, read_events, unless_fault, line_events, events_from, first_card}
 use Rattle.model_sim.specs.Replies.{replies_text, octet_given, said, meant_moments, read_moments, read_text, line_moments, line_text, moments_from, text_from, TranscriptsAreReplies}
@@ -145,6 +145,7 @@ meaning_says (line.wait milliseconds) b =
     (expiries_say (clocks.time_until end b.clock) end (scene_of b))
 meaning_says (line.timers t200 t203 t201) b = timers_say (record { t200 = t200; t203 = t203; t201 = t201 }) b
 meaning_says line.stored b = refl
+meaning_says (line.counters number) b = if_good (nat_lt number b.card.config.lines) _ (Ok (after_counters number (scene_of b))) BadLine refl
 meaning_says (line.ask number tei what octets) b =
     if_good (nat_lt number b.card.config.lines) _ _ BadLine (events_say _ (scene_of b))
 

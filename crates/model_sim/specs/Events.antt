@@ -43,6 +43,7 @@ meant_events (line.pull number count) s = replicate count (at number pull)
 meant_events (line.wait milliseconds) s = events_until (s.setup.now + milliseconds) s
 meant_events (line.timers t200 t203 t201) s = []
 meant_events line.stored s = []
+meant_events (line.counters number) s = []
 meant_events (line.ask number tei what octets) s = at number (request (request_for what tei octets)) ∷ []
 
 -- Before the card line, nothing.
@@ -80,6 +81,7 @@ card_meant (Ok (line.pull number count)) = None
 card_meant (Ok (line.wait milliseconds)) = None
 card_meant (Ok (line.timers t200 t203 t201)) = None
 card_meant (Ok line.stored) = None
+card_meant (Ok (line.counters number)) = None
 card_meant (Ok (line.ask number tei what octets)) = None
 
 abbrev pub first_card : List (List ℕ) → Option Config

@@ -8,9 +8,10 @@ use Rattle.model_card.specs.Stored.{limit}
 use Rattle.lapd_script.specs.declared.kind.FaultKind.{FaultKind}
 use Rattle.lapd_script.specs.Meaning as line
 use Rattle.lapd_script.specs.Read.{read}
+use Rattle.lapd_transcript.specs.Counted.{counters_text}
 use Rattle.lapd_transcript.specs.Text.{stored_text}
 use Rattle.model_sim.specs.Pieces.{pieces_of, line_in}
-use Rattle.model_sim.specs.Setup.{Setup, taken_at}
+use Rattle.model_sim.specs.Setup.{Setup, counters_at, taken_at}
 use Rattle.model_sim.specs.Steps.{answer_text, octet_in, pulled_text, next_text, held}
 use Rattle.model_sim.specs.Script.{Played, not_begun, one_more, played, transcript}
 use Rattle.model_sim.specs.Events.{meant_events, unless_fault, script_events, first_card}
@@ -26,7 +27,7 @@ abbrev pub octet_given : Moment → ℕ
 octet_given m = octet_in m.answer
 
 -- What a line says, where its events have these answers: of the octets that it pulls, all together; `next` tells the
--- frame that is taken from the card, and `stored` shows the card.
+-- frame that is taken from the card, `stored` shows the card, and `counters` what was counted.
 abbrev pub said : line.Meaning → Setup → List Moment → List ℕ
 said line.skip b ms = []
 said (line.card kind config) b ms = []
@@ -38,6 +39,7 @@ said (line.pull number count) b ms = pulled_text number (taken_at number b) (map
 said (line.wait milliseconds) b ms = replies_text ms
 said (line.timers t200 t203 t201) b ms = []
 said line.stored b ms = stored_text (held b.kind b.card) (limit b.card.config)
+said (line.counters number) b ms = counters_text number (counters_at number b)
 said (line.ask number tei what octets) b ms = replies_text ms
 
 -- The moments of a line, and what it says; before the card line, and from the first faulty line on, nothing.

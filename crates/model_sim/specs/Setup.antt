@@ -1,16 +1,19 @@
--- What a script is played on: a card for octets or for frames, the clock of its timers, and for octets, at each line, a
--- terminal and a listener.
+-- What a script is played on: a card for octets or for frames, its counters, the clock of its timers, and for octets, at
+-- each line, a terminal and a listener.
 use Rattle.std.specs.Prelude.{ℕ, ◌+◌, ◌*◌, ◌%◌, ◌==◌, if◌then◌else◌, List, [], ◌∷◌, ◌++◌, length, drop, set, get_or, replicate, fold, filter_map, Option, None, Some}
 use Rattle.lapd_bits.specs.Bits.{octets_of}
 use Rattle.lapd_bits.specs.Stream as stream
 use Rattle.lapd_bits.specs.Sent.{Item, idle, frame, line_text}
 use Rattle.lapd_frame.specs.declared.timers.Order.{Order}
 use Rattle.lapd_clock.specs.Timers as clocks
+use Rattle.lapd_count.specs.declared.counters.Counters.{Counters}
+use Rattle.lapd_count.specs.Counters.{none_counted}
 use Rattle.lapd_script.specs.declared.command.CardKind.{CardKind}
 use Rattle.model_line.specs.declared.config.Config.{Config}
 use Rattle.model_line.specs.Laws.{orders_in}
 use Rattle.model_card.specs.Event.{Event}
 use Rattle.model_card.specs.Card.{Card, fresh}
+use Rattle.model_card.specs.Counted.{moment_counted, moment_of}
 use Rattle.model_card.specs.Machine.{after, answer}
 
 -- The terminal of a line: all that it has put on the line, and how many octets of that it has given.
@@ -22,6 +25,7 @@ pub record Terminal : Type 0 where
 pub record Setup : Type 0 where
   pub kind : CardKind
   pub card : Card
+  pub counters : List Counters
   pub clock : clocks.Timers
   pub now : ℕ
   pub terminals : List Terminal
@@ -32,6 +36,7 @@ abbrev pub begun : CardKind → Config → Setup
 begun kind c = record {
   kind = kind;
   card = fresh c;
+  counters = replicate c.lines none_counted;
   clock = clocks.idle c.lines c.terminals;
   now = 0;
   terminals = replicate c.lines (record { items = []; given = 0 });
@@ -41,16 +46,20 @@ begun kind c = record {
 abbrev pub terminal_at : ℕ → Setup → Terminal
 terminal_at line b = get_or b.terminals line (record { items = []; given = 0 })
 
+abbrev pub counters_at : ℕ → Setup → Counters
+counters_at line b = get_or b.counters line none_counted
+
 abbrev pub taken_at : ℕ → Setup → List ℕ
 taken_at line b = get_or b.taken line []
 
--- An event at the card: the orders that it gives are applied at the moment.
+-- An event at the card: it is counted, and the orders that it gives are applied at the moment.
 abbrev pub ordered : ℕ → ℕ → clocks.Timers → Order → clocks.Timers
 ordered line now clock order = clocks.with_order clock line order now
 
 abbrev pub happened : Setup → Event → Setup
 happened b e = record b {
   card = after e b.card;
+  counters = moment_counted b.counters (moment_of b.card e);
   clock = fold (ordered e.line b.now) b.clock (orders_in (answer e b.card));
 }
 

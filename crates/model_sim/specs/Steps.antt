@@ -14,6 +14,8 @@ use Rattle.model_card.specs.Event.{Event, at}
 use Rattle.model_card.specs.Machine.{answer}
 use Rattle.model_card.specs.Stored.{stored, limit}
 use Rattle.model_card.specs.Happening.{Happening, comes, failed, goes, events_of}
+use Rattle.model_card.specs.HappeningsCounted.{happening_counted}
+use Rattle.lapd_count.specs.declared.counters.Counters.{Counters}
 use Rattle.lapd_script.specs.declared.kind.FaultKind.{FaultKind}
 use Rattle.lapd_script.specs.declared.kind.FaultKind.TheVariants.{BadNumber, NoCard, SecondCard, BadCard, WrongCard, BadLine, BadFrame, TimeOver}
 use Rattle.lapd_script.specs.declared.command.Asked.{Asked}
@@ -22,7 +24,8 @@ use Rattle.lapd_script.specs.declared.command.CardKind.{CardKind}
 use Rattle.lapd_script.specs.declared.command.CardKind.TheVariants.{Octets, Frames}
 use Rattle.lapd_script.specs.Meaning as line
 use Rattle.lapd_transcript.specs.Text.{report_text, refused_text, sent_text, frame_text, nothing_text, stored_text}
-use Rattle.model_sim.specs.Setup.{Setup, begun, happened, terminal_at, taken_at, octets_sent, after_sending, with_terminal, found, with_taken}
+use Rattle.lapd_transcript.specs.Counted.{counters_text}
+use Rattle.model_sim.specs.Setup.{Setup, begun, happened, terminal_at, counters_at, taken_at, octets_sent, after_sending, with_terminal, found, with_taken}
 
 -- A scene: the setup, and what has been said.
 pub record Scene : Type 0 where
@@ -82,9 +85,12 @@ abbrev pub after_pull : ℕ → ℕ → Scene → Scene
 after_pull line count s = after_pulls line (pulls count line (record { setup = s.setup; octets = [] })) s.text
 
 -- On a card for frames a frame that comes, a fault that is told in its place (`failed`), and a call for the next frame are
--- the events that they spell.
+-- the events that they spell; and they are counted as one.
+abbrev pub with_counters : List Counters → Scene → Scene
+with_counters counters s = record s { setup = record s.setup { counters = counters } }
+
 abbrev pub after_happening : Happening → Scene → Scene
-after_happening h s = with_events (events_of s.setup.card h) s
+after_happening h s = with_counters (happening_counted s.setup.counters s.setup.card h) (with_events (events_of s.setup.card h) s)
 
 -- `next`: what is taken, if anything.
 abbrev pub next_text : ℕ → Option Taken → List ℕ
@@ -154,6 +160,10 @@ held Frames card = stored card - sum_by held_sent card.lines
 abbrev pub after_stored : Scene → Scene
 after_stored s = record s { text = s.text ++ stored_text (held s.setup.kind s.setup.card) (limit s.setup.card.config) }
 
+-- `counters`: what was counted of the line.
+abbrev pub after_counters : ℕ → Scene → Scene
+after_counters line s = record s { text = s.text ++ counters_text line (counters_at line s.setup) }
+
 -- What can be wrong with a line once there is a card: it is about octets, and the card for frames, or the other way
 -- round; the card's line is not there; the frame's length, where a terminal sends it; the time.
 abbrev pub for_octets : CardKind → Result Scene FaultKind → Result Scene FaultKind
@@ -199,6 +209,7 @@ with_card (line.pull number count) s = for_octets s.setup.kind (at_line number s
 with_card (line.wait milliseconds) s = in_time milliseconds s
 with_card (line.timers t200 t203 t201) s = with_timers (record { t200 = t200; t203 = t203; t201 = t201 }) s
 with_card line.stored s = Ok (after_stored s)
+with_card (line.counters number) s = at_line number s (after_counters number s)
 with_card (line.ask number tei what octets) s = at_line number s (after_request number tei what octets s)
 
 -- and where there is none.
@@ -216,4 +227,5 @@ without_card (line.pull number count) = Err NoCard
 without_card (line.wait milliseconds) = Err NoCard
 without_card (line.timers t200 t203 t201) = Err NoCard
 without_card line.stored = Err NoCard
+without_card (line.counters number) = Err NoCard
 without_card (line.ask number tei what octets) = Err NoCard

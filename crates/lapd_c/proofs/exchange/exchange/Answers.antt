@@ -2,9 +2,10 @@
 use Rattle.std.proofs.Common.{◌≡◌, ℕ, suc, ◌+◌, ◌*◌, ◌<◌, ◌≤◌, length, refl, sym, subst, ◌∙◌, arith, inl, inr}
 use Rattle.std.proofs.lemmas.Bool.{and_parts, eqb-true, leb-true}
 use Rattle.model_line.specs.declared.config.Config.{Config}
+use Rattle.lapd_card.specs.Counted.{counters_in}
 use Rattle.lapd_c.specs.Kinds.{CardStands}
 use Rattle.lapd_c.specs.Exchange.{card_after}
-use Rattle.lapd_c.proofs.Exchanging.{card-made, octets-made, quiet-made, quiet-none, given-none, card-none, tells-made, shown-made}
+use Rattle.lapd_c.proofs.Exchanging.{card-made, counted-made, counted-none, counted-to, octets-made, quiet-made, quiet-none, given-none, card-none, tells-made, shown-made}
 use Rattle.lapd_c.proofs.exchange.exchange.Goals as goal
 
 pub loop-step-init : goal.loop-step-init
@@ -20,6 +21,7 @@ loop-step-init c =
         omega arith,
         λ m s. record {
           stands = subst (CardStands c.args.card.now) (sym (card-none c.args.line taken from m)) s;
+          counted = counted-none c.args.line taken from m (counters_in c.args.card.now.lines);
           octets = given-none c.args.line taken from m c.args.given.now;
           quiet = quiet-none c.args.line taken from m;
         },
@@ -40,23 +42,24 @@ loop-step-preserved c =
         λ m s.
             let t = i.made.2 m s in let there = card_after line taken from n m in
             record {
-              stands = card-made line taken from m n step _ _ _ _ at t e.leads;
-              octets = octets-made line taken from m n step _ _ _ _ at t (e.given there t.stands);
+              stands = card-made line taken from m _ n step _ _ _ _ at t e.leads;
+              counted = counted-made line taken from m _ n step _ _ _ _ at t e.leads;
+              octets = octets-made line taken from m _ n step _ _ _ _ at t (e.given there t.stands);
               quiet = quiet-made line taken from m n step at t.quiet (sym c.if-make_step.false ∙ e.tells there t.stands);
             },
       );
     }
 
-pub returns-then-make_step : goal.returns-then-make_step
-returns-then-make_step c =
+pub returns-then-make_step-clause-made : goal.returns-then-make_step-clause-made
+returns-then-make_step-clause-made c =
     let i = c.loop-step.invariant in let from = c.args.steps.now in let taken = c.args.taken.now in let line = c.args.line in
     let n = i.made.0 in let at = i.made.1 in let e = c.make_step.ensures in let step = c.loop-step.step in
     λ m s.
     let t = i.made.2 m s in let there = card_after line taken from n m in
     record {
       n = suc n;
-      stands = card-made line taken from m n step _ _ _ _ at t e.leads;
-      octets = octets-made line taken from m n step _ _ _ _ at t (e.given there t.stands);
+      stands = card-made line taken from m _ n step _ _ _ _ at t e.leads;
+      octets = octets-made line taken from m _ n step _ _ _ _ at t (e.given there t.stands);
       ended = inr (record {
         before = n;
         last = omega arith;
@@ -67,8 +70,19 @@ returns-then-make_step c =
       });
     }
 
-pub returns : goal.returns
-returns c =
+pub returns-then-make_step-clause-counted : goal.returns-then-make_step-clause-counted
+returns-then-make_step-clause-counted c =
+    let i = c.loop-step.invariant in let from = c.args.steps.now in let taken = c.args.taken.now in let line = c.args.line in
+    let n = i.made.0 in let at = i.made.1 in let step = c.loop-step.step in
+    λ m s. counted-to line taken from m _ _ (suc n) (step + 1) (omega (arith, at)) (counted-made line taken from m _ n step _ _ _ _ at (i.made.2 m s) c.make_step.ensures.leads)
+
+pub returns-clause-counted : goal.returns-clause-counted
+returns-clause-counted c =
+    let i = c.loop-step.invariant in
+    λ m s. counted-to c.args.line c.args.taken.now c.args.steps.now m _ _ i.made.0 _ (omega (arith, i.made.1)) (i.made.2 m s).counted
+
+pub returns-clause-made : goal.returns-clause-made
+returns-clause-made c =
     let i = c.loop-step.invariant in let n = i.made.0 in let at = i.made.1 in
     λ m s.
     let t = i.made.2 m s in

@@ -1,6 +1,7 @@
 -- So many steps were made, and none had anything to tell.
 use Rattle.std.proofs.Common.{◌≡◌, ℕ, ◌+◌, ◌<◌, ◌≤◌, length}
 use Rattle.lapd_card.specs.Card.{line_count}
+use Rattle.lapd_card.specs.Counted.{counters_in}
 use Rattle.model_card.specs.Card.{Card}
 use Rattle.lapd_c.specs.Kinds.{CardStands}
 use Rattle.lapd_c.proofs.Exchanging.{Through}
@@ -11,5 +12,5 @@ invariant-loop-step l = record {
   line : l.line < line_count l.card;
   lengths : length l.given ≡ length l.taken;
   bound : l.step ≤ l.end;
-  made : (n : ℕ) × (l.step ≡ l.initial.steps + n) × ((m : Card) → CardStands l.initial.card m → Through l.line l.taken l.initial.steps m n l.card l.initial.given l.given);
+  made : (n : ℕ) × (l.step ≡ l.initial.steps + n) × ((m : Card) → CardStands l.initial.card m → Through l.line l.taken l.initial.steps m (counters_in l.initial.card.lines) n l.card l.initial.given l.given);
 }

@@ -13,4 +13,4 @@ pub returns-in-Frames-clause-after : goal.returns-in-Frames-clause-after
 returns-in-Frames-clause-after c =
     let e = at c.args.line (line_event.request (request_of c.args.request)) in
     subst (λ old. AnyLeads e old (Frames c.request-in-Frames.new.self)) (sym c.in-Frames.is)
-    (leads_by_one (asks c.args.line (request_of c.args.request)) e c.in-Frames.card c.request-in-Frames.new.self (λ m. refl) c.request-in-Frames.ensures.after)
+    (leads_by_one (asks c.args.line (request_of c.args.request)) e c.in-Frames.card c.request-in-Frames.new.self (λ m. refl) (λ all m. refl) c.request-in-Frames.ensures.after)

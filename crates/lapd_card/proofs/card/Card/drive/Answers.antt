@@ -48,8 +48,8 @@ returns-then-is_err-clause-stopped g c =
     let is = slice_get-get_or c.args.events.now c.loop-at.at (Octet 0 0) c.loop-at-test.true in
     λ m s. ran-more g.S.Shelf.store m c.args.events.now c.loop-at.at _ c.loop-at.self c.answer.new.self is c.answer.ensures.leads (c.loop-at.invariant.ran m s)
 
-pub returns-then-is_err-clause-counted_before : goal.returns-then-is_err-clause-counted_before
-returns-then-is_err-clause-counted_before g c =
+pub returns-then-is_err-clause-counters_before : goal.returns-then-is_err-clause-counters_before
+returns-then-is_err-clause-counters_before g c =
     let is = slice_get-get_or c.args.events.now c.loop-at.at (Octet 0 0) c.loop-at-test.true in
     λ m s. counted-more g.S.Shelf.store m c.args.events.now c.loop-at.at _ c.args.self.now c.loop-at.self c.answer.new.self is c.answer.ensures.leads (c.loop-at.invariant.ran m s) (c.loop-at.invariant.counted m s)
 
@@ -59,11 +59,11 @@ returns-then-is_err-clause-taken_before g c =
     let yes = sym c.is_err.ensures.value ∙ c.if-is_err.true in
     λ m s. missed-at g.K.Sink.takes g.K.Sink.misses m c.args.events.now c.loop-at.at _ c.args.sink.now c.loop-at.sink c.answer.new.sink is (at_err c.answer.result _ yes c.answer.ensures.not_taken _ (c.loop-at.invariant.ran m s)) (c.loop-at.invariant.taken m s)
 
-pub returns-then-is_err-clause-numbers : goal.returns-then-is_err-clause-numbers
-returns-then-is_err-clause-numbers g c = numbers_in_runs
+pub returns-then-is_err-clause-counters_add_up : goal.returns-then-is_err-clause-counters_add_up
+returns-then-is_err-clause-counters_add_up g c = numbers_in_runs
 
-pub returns-clause-numbers : goal.returns-clause-numbers
-returns-clause-numbers g c = numbers_in_runs
+pub returns-clause-counters_add_up : goal.returns-clause-counters_add_up
+returns-clause-counters_add_up g c = numbers_in_runs
 
 pub returns-then-is_err-clause-moments : goal.returns-then-is_err-clause-moments
 returns-then-is_err-clause-moments g c = run_is_moments

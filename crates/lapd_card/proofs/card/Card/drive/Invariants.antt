@@ -2,7 +2,8 @@
 use Rattle.std.proofs.Common.{◌≡◌, take}
 use Rattle.model_card.specs.Card as machine
 use Rattle.model_card.specs.Run.{run, moments}
-use Rattle.lapd_card.specs.Counted.{counters_in, all_counted}
+use Rattle.lapd_card.specs.Counted.{counters_in}
+use Rattle.model_card.specs.Counted.{all_counted}
 use Rattle.lapd_card.specs.Drive.{events_of, Taken}
 use Rattle.lapd_card.specs.Stands.{Stands}
 use Rattle.lapd_card.proofs.card.Card.drive.Given as goal

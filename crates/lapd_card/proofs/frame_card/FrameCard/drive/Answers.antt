@@ -3,8 +3,9 @@ use Rattle.std.proofs.Common.{[], refl, sym, ◌∙◌}
 use Rattle.std.proofs.lemmas.Option.{slice_get-get_or}
 use Rattle.lapd_card.specs.declared.happenings.Happening.TheVariants.{Comes}
 use Rattle.model_card.proofs.Saying.{answers_say_it}
-use Rattle.lapd_card.proofs.FrameTaken.{ran-more, taken-more, missed-at}
+use Rattle.lapd_card.proofs.FrameTaken.{ran-more, counted-more, taken-more, missed-at}
 use Rattle.lapd_card.proofs.Taken.{at_ok, at_err}
+use Rattle.lapd_card.proofs.FrameCounting.{numbers_in_lists}
 use Rattle.model_card.specs.ByEvent.{ArePriced}
 use Rattle.model_card.specs.Drops.{AreDropsWithoutCost, AreDropsWithoutEffect}
 use Rattle.model_card.proofs.Amortised.{frames_amortised}
@@ -26,7 +27,7 @@ use Rattle.lapd_card.proofs.frame_card.FrameCard.drive.Goals as goal
 -- nothing has happened
 pub loop-at-init : goal.loop-at-init
 unfolding after_all
-loop-at-init g c = record { config = refl; none_failed = refl; ran = λ m s. s; taken = λ m s. refl }
+loop-at-init g c = record { config = refl; none_failed = refl; ran = λ m s. s; counted = λ m s. refl; taken = λ m s. refl }
 
 pub loop-at-preserved : goal.loop-at-preserved
 loop-at-preserved g c =
@@ -36,6 +37,7 @@ loop-at-preserved g c =
       config = c.answer.ensures.leads.config ∙ c.loop-at.invariant.config;
       none_failed = at_ok c.answer.result _ no c.answer.ensures.not_failed ∙ c.loop-at.invariant.none_failed;
       ran = λ m s. ran-more g.S.Shelf.store m c.args.happenings.now c.loop-at.at _ c.loop-at.self c.answer.new.self is c.answer.ensures.leads (c.loop-at.invariant.ran m s);
+      counted = λ m s. counted-more g.S.Shelf.store m c.args.happenings.now c.loop-at.at _ c.args.self.now c.loop-at.self c.answer.new.self is c.answer.ensures.leads (c.loop-at.invariant.ran m s) (c.loop-at.invariant.counted m s);
       taken = λ m s. taken-more g.K.FrameSink.takes m c.args.happenings.now c.loop-at.at _ c.args.sink.now c.loop-at.sink c.answer.new.sink is (at_ok c.answer.result _ no c.answer.ensures.taken _ (c.loop-at.invariant.ran m s)) (c.loop-at.invariant.taken m s);
     }
 
@@ -44,11 +46,22 @@ returns-then-is_err-clause-stopped g c =
     let is = slice_get-get_or c.args.happenings.now c.loop-at.at (Comes 0 (record { ref_ptr = (0, 0); now = [] })) c.loop-at-test.true in
     λ m s. ran-more g.S.Shelf.store m c.args.happenings.now c.loop-at.at _ c.loop-at.self c.answer.new.self is c.answer.ensures.leads (c.loop-at.invariant.ran m s)
 
+pub returns-then-is_err-clause-counters_before : goal.returns-then-is_err-clause-counters_before
+returns-then-is_err-clause-counters_before g c =
+    let is = slice_get-get_or c.args.happenings.now c.loop-at.at (Comes 0 (record { ref_ptr = (0, 0); now = [] })) c.loop-at-test.true in
+    λ m s. counted-more g.S.Shelf.store m c.args.happenings.now c.loop-at.at _ c.args.self.now c.loop-at.self c.answer.new.self is c.answer.ensures.leads (c.loop-at.invariant.ran m s) (c.loop-at.invariant.counted m s)
+
 pub returns-then-is_err-clause-taken_before : goal.returns-then-is_err-clause-taken_before
 returns-then-is_err-clause-taken_before g c =
     let is = slice_get-get_or c.args.happenings.now c.loop-at.at (Comes 0 (record { ref_ptr = (0, 0); now = [] })) c.loop-at-test.true in
     let yes = sym c.is_err.ensures.value ∙ c.if-is_err.true in
     λ m s. missed-at g.K.FrameSink.takes g.K.FrameSink.misses m c.args.happenings.now c.loop-at.at _ c.args.sink.now c.loop-at.sink c.answer.new.sink is (at_err c.answer.result _ yes c.answer.ensures.not_taken _ (c.loop-at.invariant.ran m s)) (c.loop-at.invariant.taken m s)
+
+pub returns-then-is_err-clause-counters_add_up : goal.returns-then-is_err-clause-counters_add_up
+returns-then-is_err-clause-counters_add_up g c = numbers_in_lists
+
+pub returns-clause-counters_add_up : goal.returns-clause-counters_add_up
+returns-clause-counters_add_up g c = numbers_in_lists
 
 pub returns-then-is_err-clause-moments : goal.returns-then-is_err-clause-moments
 returns-then-is_err-clause-moments g c = run_is_moments

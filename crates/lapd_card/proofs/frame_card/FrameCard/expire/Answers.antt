@@ -6,7 +6,10 @@ use Rattle.model_card.specs.Happening.{expires}
 use Rattle.lapd_line.specs.Reports.{report_told}
 use Rattle.lapd_card.specs.FrameCard.{line_count}
 use Rattle.lapd_card.specs.FrameStands.{Stands, Leads}
-use Rattle.lapd_card.proofs.OneHappening.{line-there, lines-serve, happening_leads, past_after, expiry_alone, expiry_said, starts_one}
+use Rattle.model_line.specs.Event as line_event
+use Rattle.model_line.specs.Machine.{answer}
+use Rattle.model_line.specs.Counted.{told_in_answer}
+use Rattle.lapd_card.proofs.OneHappening.{line-there, lines-serve, happening_leads, past_after, expiry_alone, expiry_said, expiry_shown, starts_one}
 use Rattle.lapd_card.proofs.frame_card.FrameCard.expire.Goals as goal
 
 -- the line is there
@@ -17,13 +20,13 @@ pub expire-requires-clause-serve : goal.expire-requires-clause-serve
 expire-requires-clause-serve g c = lines-serve g.S.Shelf.store (record { config = c.self.inside.config; lines = c.self.inside.lines; shelf = c.self.inside.shelf }) c.self.invariant
 
 pub invariant_of-self : goal.invariant_of-self
-invariant_of-self g c = past_after g.S.Shelf.store (expires c.args.line c.args.timer) (record { config = c.self.inside.config; lines = c.self.inside.lines; shelf = c.self.inside.shelf }) _ (happening_leads g.S.Shelf.store (expires c.args.line c.args.timer) (record { config = c.self.inside.config; lines = c.self.inside.lines; shelf = c.self.inside.shelf }) c.expire.new.self c.expire.new.shelf (subst (λ card. c.args.line < line_count card) (sym c.self.view_is) c.requires) _ (expiry_alone g.S.Shelf.store (record { config = c.self.inside.config; lines = c.self.inside.lines; shelf = c.self.inside.shelf }) c.args.line c.args.timer) c.expire.ensures.after) c.self.invariant
+invariant_of-self g c = past_after g.S.Shelf.store (expires c.args.line c.args.timer) (record { config = c.self.inside.config; lines = c.self.inside.lines; shelf = c.self.inside.shelf }) _ (happening_leads g.S.Shelf.store (expires c.args.line c.args.timer) (record { config = c.self.inside.config; lines = c.self.inside.lines; shelf = c.self.inside.shelf }) c.expire.new.self c.expire.new.shelf (subst (λ card. c.args.line < line_count card) (sym c.self.view_is) c.requires) _ (expiry_alone g.S.Shelf.store (record { config = c.self.inside.config; lines = c.self.inside.lines; shelf = c.self.inside.shelf }) c.args.line c.args.timer) c.expire.ensures.after (λ d l. told_in_answer (answer d (line_event.expiry c.args.timer) l)) c.expire.ensures.counted (λ m s. expiry_shown g.S.Shelf.store (record { config = c.self.inside.config; lines = c.self.inside.lines; shelf = c.self.inside.shelf }) c.args.line c.args.timer m s)) c.self.invariant
 
 pub returns-clause-told : goal.returns-clause-told
 returns-clause-told g c = λ m s. expiry_said g.S.Shelf.store c.args.line c.args.timer (record { config = c.self.inside.config; lines = c.self.inside.lines; shelf = c.self.inside.shelf }) _ c.expire.ensures.told m (subst (λ card. Stands g.S.Shelf.store card m) (sym c.self.view_is) s)
 
 pub returns-clause-after : goal.returns-clause-after
-returns-clause-after g c = subst (λ card. Leads g.S.Shelf.store (expires c.args.line c.args.timer) card (record { config = c.self.inside.config; lines = c.expire.new.self; shelf = c.expire.new.shelf })) c.self.view_is (happening_leads g.S.Shelf.store (expires c.args.line c.args.timer) (record { config = c.self.inside.config; lines = c.self.inside.lines; shelf = c.self.inside.shelf }) c.expire.new.self c.expire.new.shelf (subst (λ card. c.args.line < line_count card) (sym c.self.view_is) c.requires) _ (expiry_alone g.S.Shelf.store (record { config = c.self.inside.config; lines = c.self.inside.lines; shelf = c.self.inside.shelf }) c.args.line c.args.timer) c.expire.ensures.after)
+returns-clause-after g c = subst (λ card. Leads g.S.Shelf.store (expires c.args.line c.args.timer) card (record { config = c.self.inside.config; lines = c.expire.new.self; shelf = c.expire.new.shelf })) c.self.view_is (happening_leads g.S.Shelf.store (expires c.args.line c.args.timer) (record { config = c.self.inside.config; lines = c.self.inside.lines; shelf = c.self.inside.shelf }) c.expire.new.self c.expire.new.shelf (subst (λ card. c.args.line < line_count card) (sym c.self.view_is) c.requires) _ (expiry_alone g.S.Shelf.store (record { config = c.self.inside.config; lines = c.self.inside.lines; shelf = c.self.inside.shelf }) c.args.line c.args.timer) c.expire.ensures.after (λ d l. told_in_answer (answer d (line_event.expiry c.args.timer) l)) c.expire.ensures.counted (λ m s. expiry_shown g.S.Shelf.store (record { config = c.self.inside.config; lines = c.self.inside.lines; shelf = c.self.inside.shelf }) c.args.line c.args.timer m s))
 
 pub returns-clause-frames : goal.returns-clause-frames
 returns-clause-frames g c = λ m s. frames_by_event.expiries m c.args.line c.args.timer (reached-sound m s.reached) (subst (λ d. c.args.line < d.lines) (sym s.config) c.requires)

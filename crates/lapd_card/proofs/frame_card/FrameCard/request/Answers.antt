@@ -18,7 +18,7 @@ pub request-requires-clause-serve : goal.request-requires-clause-serve
 request-requires-clause-serve g c = lines-serve g.S.Shelf.store (record { config = c.self.inside.config; lines = c.self.inside.lines; shelf = c.self.inside.shelf }) c.self.invariant
 
 pub invariant_of-self : goal.invariant_of-self
-invariant_of-self g c = past_after g.S.Shelf.store (asks c.args.line (request_of c.args.request)) (record { config = c.self.inside.config; lines = c.self.inside.lines; shelf = c.self.inside.shelf }) _ (request_leads g.S.Shelf.store (request_of c.args.request) c.args.line (record { config = c.self.inside.config; lines = c.self.inside.lines; shelf = c.self.inside.shelf }) c.request.new.self c.request.new.shelf c.request.result (subst (λ card. c.args.line < line_count card) (sym c.self.view_is) c.requires) (IfErr-weaker c.request.result _ _ (λ why. refusal_is g.S.Shelf.store (request_of c.args.request) c.args.line c.from.result (record { config = c.self.inside.config; lines = c.self.inside.lines; shelf = c.self.inside.shelf }) (Some why) c.from.ensures) c.request.ensures.refused) (IfOk-weaker c.request.result _ _ (λ report. refusal_is g.S.Shelf.store (request_of c.args.request) c.args.line c.from.result (record { config = c.self.inside.config; lines = c.self.inside.lines; shelf = c.self.inside.shelf }) None c.from.ensures) c.request.ensures.accepted) c.request.ensures.unchanged c.request.ensures.kept c.request.ensures.after) c.self.invariant
+invariant_of-self g c = past_after g.S.Shelf.store (asks c.args.line (request_of c.args.request)) (record { config = c.self.inside.config; lines = c.self.inside.lines; shelf = c.self.inside.shelf }) _ (request_leads g.S.Shelf.store (request_of c.args.request) c.args.line (record { config = c.self.inside.config; lines = c.self.inside.lines; shelf = c.self.inside.shelf }) c.request.new.self c.request.new.shelf c.request.result (subst (λ card. c.args.line < line_count card) (sym c.self.view_is) c.requires) (IfErr-weaker c.request.result _ _ (λ why. refusal_is g.S.Shelf.store (request_of c.args.request) c.args.line c.from.result (record { config = c.self.inside.config; lines = c.self.inside.lines; shelf = c.self.inside.shelf }) (Some why) c.from.ensures) c.request.ensures.refused) (IfOk-weaker c.request.result _ _ (λ report. refusal_is g.S.Shelf.store (request_of c.args.request) c.args.line c.from.result (record { config = c.self.inside.config; lines = c.self.inside.lines; shelf = c.self.inside.shelf }) None c.from.ensures) c.request.ensures.accepted) c.request.ensures.unchanged c.request.ensures.kept c.request.ensures.after c.request.ensures.counted) c.self.invariant
 
 pub returns-clause-refused : goal.returns-clause-refused
 returns-clause-refused g c = IfErr-weaker c.request.result _ _ (λ why says m s. says m (subst (λ card. Stands g.S.Shelf.store card m) (sym c.self.view_is) s)) (IfErr-weaker c.request.result _ _ (λ why. refusal_is g.S.Shelf.store (request_of c.args.request) c.args.line c.from.result (record { config = c.self.inside.config; lines = c.self.inside.lines; shelf = c.self.inside.shelf }) (Some why) c.from.ensures) c.request.ensures.refused)
@@ -30,7 +30,7 @@ pub returns-clause-told : goal.returns-clause-told
 returns-clause-told g c = λ m s. request_told g.S.Shelf.store (request_of c.args.request) c.args.line (record { config = c.self.inside.config; lines = c.self.inside.lines; shelf = c.self.inside.shelf }) c.request.result (IfErr-weaker c.request.result _ _ (λ why. refusal_is g.S.Shelf.store (request_of c.args.request) c.args.line c.from.result (record { config = c.self.inside.config; lines = c.self.inside.lines; shelf = c.self.inside.shelf }) (Some why) c.from.ensures) c.request.ensures.refused) (IfOk-weaker c.request.result _ _ (λ report. refusal_is g.S.Shelf.store (request_of c.args.request) c.args.line c.from.result (record { config = c.self.inside.config; lines = c.self.inside.lines; shelf = c.self.inside.shelf }) None c.from.ensures) c.request.ensures.accepted) c.request.ensures.told m (subst (λ card. Stands g.S.Shelf.store card m) (sym c.self.view_is) s)
 
 pub returns-clause-after : goal.returns-clause-after
-returns-clause-after g c = subst (λ card. Leads g.S.Shelf.store (asks c.args.line (request_of c.args.request)) card (record { config = c.self.inside.config; lines = c.request.new.self; shelf = c.request.new.shelf })) c.self.view_is (request_leads g.S.Shelf.store (request_of c.args.request) c.args.line (record { config = c.self.inside.config; lines = c.self.inside.lines; shelf = c.self.inside.shelf }) c.request.new.self c.request.new.shelf c.request.result (subst (λ card. c.args.line < line_count card) (sym c.self.view_is) c.requires) (IfErr-weaker c.request.result _ _ (λ why. refusal_is g.S.Shelf.store (request_of c.args.request) c.args.line c.from.result (record { config = c.self.inside.config; lines = c.self.inside.lines; shelf = c.self.inside.shelf }) (Some why) c.from.ensures) c.request.ensures.refused) (IfOk-weaker c.request.result _ _ (λ report. refusal_is g.S.Shelf.store (request_of c.args.request) c.args.line c.from.result (record { config = c.self.inside.config; lines = c.self.inside.lines; shelf = c.self.inside.shelf }) None c.from.ensures) c.request.ensures.accepted) c.request.ensures.unchanged c.request.ensures.kept c.request.ensures.after)
+returns-clause-after g c = subst (λ card. Leads g.S.Shelf.store (asks c.args.line (request_of c.args.request)) card (record { config = c.self.inside.config; lines = c.request.new.self; shelf = c.request.new.shelf })) c.self.view_is (request_leads g.S.Shelf.store (request_of c.args.request) c.args.line (record { config = c.self.inside.config; lines = c.self.inside.lines; shelf = c.self.inside.shelf }) c.request.new.self c.request.new.shelf c.request.result (subst (λ card. c.args.line < line_count card) (sym c.self.view_is) c.requires) (IfErr-weaker c.request.result _ _ (λ why. refusal_is g.S.Shelf.store (request_of c.args.request) c.args.line c.from.result (record { config = c.self.inside.config; lines = c.self.inside.lines; shelf = c.self.inside.shelf }) (Some why) c.from.ensures) c.request.ensures.refused) (IfOk-weaker c.request.result _ _ (λ report. refusal_is g.S.Shelf.store (request_of c.args.request) c.args.line c.from.result (record { config = c.self.inside.config; lines = c.self.inside.lines; shelf = c.self.inside.shelf }) None c.from.ensures) c.request.ensures.accepted) c.request.ensures.unchanged c.request.ensures.kept c.request.ensures.after c.request.ensures.counted)
 
 pub returns-clause-frames : goal.returns-clause-frames
 returns-clause-frames g c = λ m s. frames_by_event.requests m c.args.line (request_of c.args.request) (reached-sound m s.reached) (subst (λ d. c.args.line < d.lines) (sym s.config) c.requires)

@@ -2,7 +2,8 @@
 use Rattle.std.proofs.Common.{[], ◌∷◌}
 use Rattle.model_line.specs.Event as line_event
 use Rattle.model_line.specs.Machine.{answer}
-use Rattle.lapd_card.proofs.OneFrameLine.{one_serves, one_leads, one_says}
+use Rattle.model_line.specs.Counted.{told_in_answer}
+use Rattle.lapd_card.proofs.OneFrameLine.{one_counts, one_serves, one_leads, one_says}
 use Rattle.lapd_card.proofs.frame_lines.FrameLines.expire.Goals as goal
 
 pub expire-requires : goal.expire-requires
@@ -13,3 +14,6 @@ returns-clause-told g c = one_says (λ d l. answer d (line_event.expiry c.args.t
 
 pub returns-clause-after : goal.returns-clause-after
 returns-clause-after g c = one_leads (λ d l. line_event.expiry c.args.timer ∷ []) _ _ c.args.line c.index_mut.result.now (record { same = c.self.view_is; within = c.requires.within; is = c.index_mut.ensures.value }) _ c.expire.new.self _ c.expire.ensures.after
+
+pub returns-clause-counted : goal.returns-clause-counted
+returns-clause-counted g c = one_counts (λ d l. told_in_answer (answer d (line_event.expiry c.args.timer) l)) _ _ c.args.line c.index_mut.result.now (record { same = c.self.view_is; within = c.requires.within; is = c.index_mut.ensures.value }) _ c.expire.new.self c.expire.ensures.counted

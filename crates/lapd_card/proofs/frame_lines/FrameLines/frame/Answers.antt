@@ -3,7 +3,8 @@ use Rattle.std.proofs.Common.{map}
 use Rattle.model_line.specs.Event as line_event
 use Rattle.model_line.specs.Whole.{line_octets, came}
 use Rattle.model_line.specs.WholeAtLine.{of_heard}
-use Rattle.lapd_card.proofs.OneFrameLine.{one_serves, one_leads, one_says}
+use Rattle.model_line.specs.Counted.{heard_counted}
+use Rattle.lapd_card.proofs.OneFrameLine.{one_counts, one_serves, one_leads, one_says}
 use Rattle.lapd_card.proofs.frame_lines.FrameLines.frame.Goals as goal
 
 pub frame-requires : goal.frame-requires
@@ -14,3 +15,6 @@ returns-clause-told g c = one_says (λ d l. (of_heard d (came d.n201 c.args.octe
 
 pub returns-clause-after : goal.returns-clause-after
 returns-clause-after g c = one_leads (λ d l. map line_event.octet (line_octets c.args.octets.now)) _ _ c.args.line c.index_mut.result.now (record { same = c.self.view_is; within = c.requires.within; is = c.index_mut.ensures.value }) _ c.frame.new.self _ c.frame.ensures.after
+
+pub returns-clause-counted : goal.returns-clause-counted
+returns-clause-counted g c = one_counts (λ d l. heard_counted d (came d.n201 c.args.octets.now) l) _ _ c.args.line c.index_mut.result.now (record { same = c.self.view_is; within = c.requires.within; is = c.index_mut.ensures.value }) _ c.frame.new.self c.frame.ensures.counted

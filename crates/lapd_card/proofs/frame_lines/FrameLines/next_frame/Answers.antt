@@ -1,9 +1,11 @@
 -- Hand-written answers for `FrameLines::next_frame`.
-use Rattle.std.proofs.Common.{◌+◌, ◌≤◌, length, sym, subst}
+use Rattle.std.proofs.Common.{[], ◌+◌, ◌≤◌, length, sym, subst}
 use Rattle.model_line.specs.Pull.{taken}
 use Rattle.model_line.specs.WholeAtLine.{pulls_for}
 use Rattle.lapd_line.specs.FrameStands.{IsNext}
-use Rattle.lapd_card.proofs.OneFrameLine.{one_serves, one_leads, one_holds, focused_at}
+use Rattle.std.specs.Option.{option_map_or}
+use Rattle.model_line.specs.Counted.{taken_shown}
+use Rattle.lapd_card.proofs.OneFrameLine.{one_counts, one_serves, one_leads, one_holds, focused_at}
 use Rattle.lapd_card.proofs.frame_lines.FrameLines.next_frame.Goals as goal
 
 pub next_frame-requires-clause-stands : goal.next_frame-requires-clause-stands
@@ -20,3 +22,6 @@ returns-clause-gives g c = one_holds (λ d l. IsNext (taken d l) c.next_frame.re
 
 pub returns-clause-after : goal.returns-clause-after
 returns-clause-after g c = one_leads pulls_for _ _ c.args.line c.index_mut.result.now (record { same = c.self.view_is; within = c.requires.within; is = c.index_mut.ensures.value }) _ c.next_frame.new.self _ c.next_frame.ensures.after
+
+pub returns-clause-counted : goal.returns-clause-counted
+returns-clause-counted g c = one_counts (λ d l. option_map_or taken_shown (taken d l) []) _ _ c.args.line c.index_mut.result.now (record { same = c.self.view_is; within = c.requires.within; is = c.index_mut.ensures.value }) _ c.next_frame.new.self c.next_frame.ensures.counted

@@ -6,7 +6,8 @@ use Rattle.model_line.specs.Machine.{answer}
 use Rattle.model_line.specs.Refusal.{refusal}
 use Rattle.model_line.specs.Request.{request_of}
 use Rattle.lapd_store.specs.Store.{used_slots}
-use Rattle.lapd_card.proofs.OneFrameLine.{one_serves, one_leads, one_says}
+use Rattle.model_line.specs.Counted.{told_in_answer}
+use Rattle.lapd_card.proofs.OneFrameLine.{one_counts, one_serves, one_leads, one_says}
 use Rattle.lapd_card.proofs.frame_lines.FrameLines.request.Goals as goal
 
 pub request-requires-clause-stands : goal.request-requires-clause-stands
@@ -23,3 +24,6 @@ returns-clause-told g c = IfOk-weaker c.request.result _ _ (λ report says. one_
 
 pub returns-clause-after : goal.returns-clause-after
 returns-clause-after g c = IfOk-weaker c.request.result _ _ (λ report. one_leads (λ d l. line_event.request (request_of c.args.request) ∷ []) _ c.args.self.now c.args.line c.index_mut.result.now (record { same = c.self.view_is; within = c.requires.within; is = c.index_mut.ensures.value }) _ c.request.new.self _) c.request.ensures.after
+
+pub returns-clause-counted : goal.returns-clause-counted
+returns-clause-counted g c = IfOk-weaker c.request.result _ _ (λ report. one_counts (λ d l. told_in_answer (answer d (line_event.request (request_of c.args.request)) l)) _ c.args.self.now c.args.line c.index_mut.result.now (record { same = c.self.view_is; within = c.requires.within; is = c.index_mut.ensures.value }) _ c.request.new.self) c.request.ensures.counted

@@ -1,6 +1,16 @@
 -- Hand-written answers for `FrameLine::failed`.
-use Rattle.lapd_line.proofs.FrameSteps.{fault_leads}
+use Rattle.std.proofs.Common.{refl, sym, ap}
+use Rattle.lapd_bits.specs.Stream.{dropped}
+use Rattle.model_line.specs.Whole.{cause_of}
+use Rattle.model_line.specs.Counted.{heard_counted, told_in_report}
+use Rattle.lapd_line.specs.Reports.{report_told}
+use Rattle.lapd_line.proofs.FrameCounting.{leads_on, counts_on}
 use Rattle.lapd_line.proofs.frame_line.FrameLine.failed.Goals as goal
 
 pub returns-clause-after : goal.returns-clause-after
-returns-clause-after c = λ store. fault_leads c.args.self.now store c.args.fault
+returns-clause-after c = λ store. leads_on c.count_told.new.self _ (c.fault_told-report.ensures.after store) c.count_told.ensures
+
+pub returns-clause-counted : goal.returns-clause-counted
+returns-clause-counted c = λ store.
+    counts_on (λ d m. heard_counted d (dropped (cause_of c.args.fault)) m) c.count_told.new.self (told_in_report (report_told c.fault_told-report.result)) refl c.count_told.ensures
+    (λ others m st. ap told_in_report (sym (c.fault_told-report.ensures.told m)))

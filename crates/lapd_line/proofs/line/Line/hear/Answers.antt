@@ -1,5 +1,5 @@
 -- Hand-written answers for `Line::hear`.
-use Rattle.std.proofs.Common.{◌≡◌, ℕ, ◌++◌, [], ◌∷◌, List, Option, None, option_to_list, false, refl, sym, subst, ◌∙◌}
+use Rattle.std.proofs.Common.{◌≡◌, ◌++◌, None, false, refl, sym, subst, ◌∙◌}
 use Rattle.std.proofs.lemmas.Bool.{false≢true}
 use Rattle.lapd_bits.specs.Deframer.{latest_of}
 use Rattle.lapd_count.specs.Shown.{heard_shown}

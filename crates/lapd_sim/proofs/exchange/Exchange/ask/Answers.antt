@@ -1,6 +1,7 @@
 -- Hand-written answers for `Exchange::ask`.
-use Rattle.std.proofs.Common.{◌∙◌, sym, subst}
+use Rattle.std.proofs.Common.{◌∙◌, sym, ap, subst}
 use Rattle.lapd_clock.specs.Timer.{AreInRange}
+use Rattle.model_card.specs.Counted.{moment_counted, moment_of}
 use Rattle.model_card.specs.Event.{at}
 use Rattle.model_line.specs.Event as line_event
 use Rattle.model_line.specs.Request.{request_of}
@@ -38,6 +39,7 @@ returns-in-Err-clause-told g c = λ m h.
       kind = h.kind;
       config = h.config;
       card = c.in-Err.ensures.after.stands m.card h.card;
+      counters = c.in-Err.ensures.after.counted m.card h.card ∙ ap (λ all. moment_counted all (moment_of m.card e)) h.counters;
       clock = refused-clock c.args.self.now.clock c.in-Err.refusal m e is h.clock;
       now = h.now;
     })

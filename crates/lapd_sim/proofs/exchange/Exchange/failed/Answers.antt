@@ -17,12 +17,12 @@ use Rattle.lapd_sim.proofs.exchange.Exchange.failed.Goals as goal
 
 pub invariant_of-self : goal.invariant_of-self
 invariant_of-self g c =
-    let leads = exchange_leads c.args.self.now c.in-Frames.card c.in-Frames.is (failed c.args.line c.args.fault) c.in-Frames.card (λ m there. (there, tt)) c.requires.line c.failed-report.ensures.after in
+    let leads = exchange_leads c.args.self.now c.in-Frames.card c.in-Frames.is (failed c.args.line c.args.fault) c.failed-report.new.self (λ m there. (there, tt)) c.requires.line c.failed-report.ensures.after in
     record {
       in_range = c.args.self.now.in_range;
       same_lines = leads.lines ∙ c.args.self.now.same_lines;
       same_kind = leads.kind ∙ c.args.self.now.same_kind;
-      past = past_by c.args.self.now.plan.config (failed c.args.line c.args.fault) c.args.self.now.board (Frames c.in-Frames.card) leads c.args.self.now.past;
+      past = past_by c.args.self.now.plan.config (failed c.args.line c.args.fault) c.args.self.now.board (Frames c.failed-report.new.self) leads c.args.self.now.past;
       clock_lines = c.carry_out.ensures.lines ∙ c.args.self.now.clock_lines;
       lengths = subst AreInRange (sym c.carry_out.ensures.lengths) c.args.self.now.lengths;
       in_time = c.args.self.now.in_time;
@@ -31,7 +31,7 @@ invariant_of-self g c =
 pub returns-clause-told : goal.returns-clause-told
 returns-clause-told g c = λ m h.
     let a = told (report_told c.failed-report.result) in
-    let leads = exchange_leads c.args.self.now c.in-Frames.card c.in-Frames.is (failed c.args.line c.args.fault) c.in-Frames.card (λ m there. (there, tt)) c.requires.line c.failed-report.ensures.after in
+    let leads = exchange_leads c.args.self.now c.in-Frames.card c.in-Frames.is (failed c.args.line c.args.fault) c.failed-report.new.self (λ m there. (there, tt)) c.requires.line c.failed-report.ensures.after in
     let on = on_frames c.args.self.now c.in-Frames.card c.in-Frames.is m.card h.card in
     let there : c.args.line < m.card.config.lines = subst (λ (k : Config). c.args.line < k.lines) (sym h.config) c.requires.line in
     told_as c.carry_out.result _ _ (Holds _) _ _ (fault_at_once c.args.line c.args.fault a (scene m) on.1 there (c.failed-report.ensures.told m.card on.0)) c.carry_out.ensures.written

@@ -24,7 +24,7 @@ returns-in-Ok g c = λ m h.
     pull_obeyed _ _ _ c.in_ok-line.ensures.0 c.args.count m (h.exchange.kind ∙ c.in_ok-for_kind.ensures) (subst (λ n. line < n) (sym (ap (λ config. config.lines) h.exchange.config)) c.in_ok-line.ensures.1)
     (subst (λ xs. IsPut (output (g.T.Target.taken c.args.target.now) c.args.page.now.items) (output (g.T.Target.taken c.tell.new.target) c.tell.new.page.items) (pulled_text line (taken_at line p.setup) xs)) octets (c.in-Ok.ensures.told (taken_at line p.setup) past))
     (record {
-      exchange = record { kind = holds.kind; config = holds.config; card = holds.card; clock = holds.clock; now = holds.now };
+      exchange = record { kind = holds.kind; config = holds.config; card = holds.card; counters = holds.counters; clock = holds.clock; now = holds.now };
       terminals = subst (λ ts. Each Sends c.args.self.now.terminals.items ts) (sym keep.0) h.terminals;
       listeners = each_set Hears c.args.self.now.listeners.items p.setup.taken line c.tell.new.listener (taken_at line p.setup ++ p.octets)
           (subst (λ xs. Hears c.tell.new.listener (taken_at line p.setup ++ xs)) octets (c.in-Ok.ensures.after (taken_at line p.setup) past))

@@ -17,7 +17,7 @@ returns-in-Ok g c = λ m h.
     let sends = subst (λ d. Sends d t) (sym c.index_mut.ensures.value)
     (each_at Sends c.args.self.now.terminals.items m.terminals line c.index_mut.result.now (record { items = []; given = 0 }) bound h.terminals) in
     let moved = with_terminal line (after_sending frame t) m in
-    let holds : Holds c.args.self.now.exchange moved = record { kind = h.exchange.kind; config = h.exchange.config; card = h.exchange.card; clock = h.exchange.clock; now = h.exchange.now } in
+    let holds : Holds c.args.self.now.exchange moved = record { kind = h.exchange.kind; config = h.exchange.config; card = h.exchange.card; counters = h.exchange.counters; clock = h.exchange.clock; now = h.exchange.now } in
     let told = c.in-Ok.ensures.told moved t holds sends in
     let keep = events_keep (octets_at line (octets_sent frame t)) (scene moved) in
     frame_obeyed _ _ _ c.in_ok-line.ensures.0 frame m (h.exchange.kind ∙ c.requires) (subst (λ n. line < n) (sym (ap (λ config. config.lines) h.exchange.config)) c.in_ok-line.ensures.1)
@@ -38,6 +38,6 @@ returns-in-Err g c = λ m h.
     let sends = subst (λ d. Sends d t) (sym c.index_mut.ensures.value)
     (each_at Sends c.args.self.now.terminals.items m.terminals line c.index_mut.result.now (record { items = []; given = 0 }) bound h.terminals) in
     let moved = with_terminal line (after_sending frame t) m in
-    let holds : Holds c.args.self.now.exchange moved = record { kind = h.exchange.kind; config = h.exchange.config; card = h.exchange.card; clock = h.exchange.clock; now = h.exchange.now } in
+    let holds : Holds c.args.self.now.exchange moved = record { kind = h.exchange.kind; config = h.exchange.config; card = h.exchange.card; counters = h.exchange.counters; clock = h.exchange.clock; now = h.exchange.now } in
     frame_broken _ _ (Stands c.args.self.now) c.in_ok-line.ensures.0 frame m (h.exchange.kind ∙ c.requires) (subst (λ n. line < n) (sym (ap (λ config. config.lines) h.exchange.config)) c.in_ok-line.ensures.1)
     (omega (arith, c.if-frame-lt-SHORTEST_FRAME.false)) (omega (arith, c.if-frame-gt-LONGEST_FRAME.false)) (c.in-Err.ensures.told moved t holds sends)

@@ -1,10 +1,10 @@
--- Hand-written answers for `FrameLine::next_frame`.
+-- Hand-written answers for `FrameLine::take`.
 use Rattle.std.proofs.Common.{subst, arith}
 use Rattle.model_line.specs.Pull.{taken}
 use Rattle.lapd_line.specs.Loading.{in_octets}
 use Rattle.lapd_line.specs.Pulls.{Takes, orders_taken}
 use Rattle.lapd_line.proofs.FrameSteps.{next_leads, taken_few}
-use Rattle.lapd_line.proofs.frame_line.FrameLine.next_frame.Goals as goal
+use Rattle.lapd_line.proofs.frame_line.FrameLine.take.Goals as goal
 
 pub returns-in_err-orders-clause-after : goal.returns-in_err-orders-clause-after
 returns-in_err-orders-clause-after g c =

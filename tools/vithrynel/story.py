@@ -65,7 +65,7 @@ def of_answer(at: int, said: str) -> Optional[Row]:
     word, _, rest = said.partition(" ")
     if word in ("tx", "frame", "nothing"):
         return None
-    if word in ("dropped", "lost"):
+    if word in ("dropped", "lost", "counter"):
         return Row(at, BESIDE, said)
     words = rest.split(" ")
     if word.partition("-")[0] in ("data", "unit"):
@@ -97,7 +97,7 @@ def of_step(step: Step, about: int) -> Iterator[Row]:
             yield from of_traffic(step)
             rest = of_rest(step) if not step.heard else None
             yield from [rest] if rest else []
-        else:
+        elif word != "counters":
             yield of_request(step.at, step.line)
     for said in step.answer:
         line, _, told = said.partition(" ")

@@ -17,7 +17,7 @@ use Rattle.model_sim.specs.Setup.{Setup}
 use Rattle.lapd_clock.specs.declared.fault.LengthFault.{LengthFault}
 use Rattle.lapd_clock.specs.Timers.{due_at}
 use Rattle.lapd_script.specs.declared.kind.FaultKind.{FaultKind}
-use Rattle.model_sim.specs.Steps.{Scene, with_event, with_events, octets_at, after_rx, at_line, answer_text, expiries, expired, Pulls, pulls, one_pull, after_pull, after_in, after_coming, can_come, for_octets, for_frames, with_card}
+use Rattle.model_sim.specs.Steps.{Scene, with_event, with_events, octets_at, after_rx, at_line, answer_text, expiries, expired, Pulls, pulls, one_pull, after_pull, after_in, after_counters, after_coming, can_come, for_octets, for_frames, with_card}
 use Rattle.lapd_sim.specs.declared.faults.LineFault.{LineFault}
 use Rattle.lapd_sim.specs.declared.faults.LineFault.TheVariants.{Faulty, Write, OutOfMemory}
 use Rattle.lapd_sim.specs.Obeyed.{Obeys, scene}
@@ -109,6 +109,19 @@ obeyed_there a b Q line s after there written stands = subst (λ said. Obeys (Ok
 
 pub broken_there : (a b : Output) (Q : Setup → Type 0) (line : ℕ) (s after : Scene) → line < s.setup.card.config.lines → IsStuck a b after.text → Obeys (Err Write) a b Q (at_line line s after)
 broken_there a b Q line s after there broken = subst (λ said. Obeys (Err Write) a b Q said) (sym (at_line_is line s after there)) broken
+
+-- what was counted of a line that is there
+pub counters_obeyed : (a b : Output) (Q : Setup → Type 0) {line at_it : ℕ} → line ≡ at_it → (m : Setup) → line < m.card.config.lines
+    → IsPut a b (after_counters line (scene m)).text → Q m → Obeys (Ok tt) a b Q (with_card (meaning.counters at_it) (scene m))
+counters_obeyed a b Q {line} e m there written stands =
+    subst (λ n. Obeys (Ok tt) a b Q (with_card (meaning.counters n) (scene m))) e
+    (obeyed_there a b Q line (scene m) (after_counters line (scene m)) there written stands)
+
+pub counters_broken : (a b : Output) (Q : Setup → Type 0) {line at_it : ℕ} → line ≡ at_it → (m : Setup) → line < m.card.config.lines
+    → IsStuck a b (after_counters line (scene m)).text → Obeys (Err Write) a b Q (with_card (meaning.counters at_it) (scene m))
+counters_broken a b Q {line} e m there broken =
+    subst (λ n. Obeys (Err Write) a b Q (with_card (meaning.counters n) (scene m))) e
+    (broken_there a b Q line (scene m) (after_counters line (scene m)) there broken)
 
 pub pulls_keep : (n line : ℕ) (p : Pulls) → Keeps p.setup (pulls n line p).setup
 pulls_keep zero line p = (refl, refl, refl)

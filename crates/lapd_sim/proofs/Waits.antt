@@ -10,7 +10,7 @@ use Rattle.model_line.specs.Event as line_event
 use Rattle.model_sim.specs.Setup.{Setup, happened}
 use Rattle.model_sim.specs.Steps.{Scene, answer_text, with_event, at_expiry, expired, until}
 use Rattle.lapd_sim.specs.Obeyed.{scene, Tells}
-use Rattle.lapd_sim.specs.Boards.{OnBoard}
+use Rattle.lapd_sim.specs.Boards.{OnBoard, counters_on}
 use Rattle.lapd_sim.specs.Stands.{Holds}
 use Rattle.lapd_sim.specs.declared.board.Plan.{Plan}
 use Rattle.lapd_sim.specs.declared.board.Board.{Board}
@@ -69,9 +69,9 @@ wait_lowers e middle new end due is out event =
     let prop : IsProp (time_until end new.clock < time_until end e.clock) = hlevel props in
     ∥∥₁_elim e.past prop (λ p.
     let (now, config, stands) = p in
-    let m : Setup = record { kind = e.plan.kind; card = now; clock = e.clock; now = e.moment; terminals = []; taken = [] } in
+    let m : Setup = record { kind = e.plan.kind; card = now; counters = counters_on e.board; clock = e.clock; now = e.moment; terminals = []; taken = [] } in
     let held : Holds new (happened (at_expiry end m) (at due.0 (line_event.expiry due.1))) =
-    event (at_expiry end m) (out m (record { kind = refl; config = config; card = stands; clock = refl; now = refl })) in
+    event (at_expiry end m) (out m (record { kind = refl; config = config; card = stands; counters = refl; clock = refl; now = refl })) in
     subst (λ c. time_until end c < time_until end e.clock) (sym held.clock) (expiry_lowers end due.0 due.1 due m e.lengths (sym is)))
 
 -- at the end, the moment is the end
@@ -86,6 +86,7 @@ waits_over e new before after end m u is w plan board clock now =
         kind = w.holds.kind ∙ ap (λ (p : Plan). p.kind) (sym plan);
         config = w.holds.config ∙ ap (λ (p : Plan). p.config) (sym plan);
         card = subst (λ (b : Board). OnBoard b w.by_now.setup.card) (sym board) w.holds.card;
+        counters = ap counters_on board ∙ w.holds.counters;
         clock = clock ∙ w.holds.clock;
         now = now;
       },

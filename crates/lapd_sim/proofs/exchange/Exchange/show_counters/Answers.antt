@@ -1,0 +1,15 @@
+-- Hand-written answers for `Exchange::show_counters`.
+use Rattle.std.proofs.Common.{get_or, sym, ap, ◌∙◌}
+use Rattle.lapd_count.specs.Counters.{none_counted}
+use Rattle.lapd_transcript.specs.Counted.{counters_text}
+use Rattle.model_sim.specs.Steps.{after_counters}
+use Rattle.lapd_sim.specs.Obeyed.{scene}
+use Rattle.lapd_sim.specs.Stands.{Holds}
+use Rattle.lapd_sim.proofs.Boards.{told_as}
+use Rattle.lapd_sim.proofs.exchange.Exchange.show_counters.Goals as goal
+
+pub returns : goal.returns
+returns g c = λ m h.
+    told_as c.put_counters.result _ _ (Holds c.args.self.now) (after_counters c.args.line (scene m)) (record (scene m) { text = counters_text c.args.line c.counters.result.now })
+    (ap (λ k. record (scene m) { text = counters_text c.args.line k }) (ap (λ all. get_or all c.args.line none_counted) (sym h.counters) ∙ sym c.counters.ensures))
+    c.put_counters.ensures h

@@ -1,66 +1,29 @@
 -- All that is asked of a link is answered: the law.
-use Rattle.std.proofs.Common.{◌≡◌, ◌≢◌, ℕ, ◌+◌, ◌*◌, ◌/◌, ◌<◌, ◌≤◌, ◌==◌, ◌&&◌, Bool, true, false, cond, List, [], ◌∷◌, ◌++◌, length, map, get_or, slice_get, Option, Some, None, IfSome, option_map, refl, sym, ap, ◌∙◌, subst, ◌⊎◌, inl, inr, arith, eqb-true, eq-eqb, true≢false, append_assoc, append-nil, length-append, Result, Ok, Err}
-use Rattle.std.specs.Prelude.{All, filter, flat_map, option_to_list}
-use Rattle.std.specs.Option.{option_map_or, unwrap_or}
+use Rattle.std.proofs.Common.{◌≡◌, ℕ, ◌<◌, ◌≤◌, ◌==◌, Bool, true, false, cond, List, [], ◌∷◌, ◌++◌, get_or, Option, Some, None, IfSome, refl, sym, ap, ◌∙◌, subst, inl, inr, arith, eqb-true, eq-eqb, true≢false, append_assoc, append-nil}
+use Rattle.std.specs.Prelude.{All, flat_map}
+use Rattle.std.specs.Option.{option_map_or}
 use Rattle.std.proofs.lemmas.Bool.{and_parts}
-use Rattle.std.proofs.lemmas.Grind.{flat_map-append}
-use Rattle.std.proofs.lemmas.List.{get_or-set_same, get_or-set_other}
+use Rattle.std.proofs.lemmas.List.{get_or-set_same}
 use Rattle.std.proofs.lemmas.List.Elements.{All-head, All-tail}
-use Rattle.lapd_bits.specs.Stream as stream
-use Rattle.lapd_bits.specs.declared.heard.Cause.TheVariants.{Tei}
-use Rattle.lapd_frame.specs.declared.addresses.Side.TheVariants.{User, Network}
-use Rattle.lapd_frame.specs.declared.faults.ReadFault.{ReadFault}
-use Rattle.lapd_frame.specs.declared.faults.ReadFault.TheVariants.{Undefined, WrongSize}
 use Rattle.lapd_frame.specs.declared.refusals.Refusal.TheVariants.{PoolFull}
 use Rattle.lapd_frame.specs.declared.services.Service.{Service}
-use Rattle.lapd_frame.specs.declared.services.Service.TheVariants.{Call, Packet}
-use Rattle.lapd_frame.specs.declared.controls.Control.{Control}
-use Rattle.lapd_frame.specs.declared.controls.Control.TheVariants as control
-use Rattle.lapd_frame.specs.Grammar.{Parts, AreOctets, head_of}
-use Rattle.lapd_frame.specs.Reading.{reading}
-use Rattle.lapd_frame.specs.Services.{sapi_of, service_of, same_service}
-use Rattle.lapd_frame.proofs.Spelling.{reading-again, reading-found, fault-again}
 use Rattle.lapd_tei.proofs.Tables.{place_of-is, at-within}
-use Rattle.model_link.specs.declared.frames.ControlFrame.{ControlFrame}
-use Rattle.model_link.specs.declared.terms.Terms.{Terms}
-use Rattle.model_link.specs.Events as link
-use Rattle.model_link.specs.Link.{Link, fresh as fresh_link, state_number}
-use Rattle.model_link.specs.Machine as links
-use Rattle.model_link.specs.Offers
-use Rattle.model_link.specs.Sound as link_sound
-use Rattle.model_link.specs.Sound.{IsGiven, is_information}
-use Rattle.model_link.specs.Steps.{begun as course_begun}
-use Rattle.model_link.specs.Told.{Given, orders_for}
-use Rattle.model_link.proofs.Giving.{given_is_frame}
+use Rattle.model_link.specs.Link.{fresh as fresh_link}
 use Rattle.model_line.specs.declared.config.Config.{Config}
-use Rattle.model_line.specs.Effect.{Aim, at_none, at_link}
-use Rattle.model_line.specs.Event.{Event, octet, expiry, request, pull, Answer, told, refused, pulled, nothing}
-use Rattle.model_line.specs.Line.{Line, fresh_line, link_count, link_number, link_in, link_of, place_in, place_at, tei_at, has_tei, state_in, state_of, terms}
+use Rattle.model_line.specs.Event.{pull, refused, nothing}
+use Rattle.model_line.specs.Line.{Line, fresh_line, link_count, link_number, link_in, place_in, tei_at, has_tei}
 use Rattle.model_line.specs.Machine as lines
-use Rattle.model_line.specs.Machine.{after, answer, aim_of}
-use Rattle.model_line.specs.Octet.{gained, management_sapi, group_tei, drop_for, at_place, to_service, addressed, message_of, aim_of_reading, aim_of_heard, aim_of_octet}
-use Rattle.model_line.specs.Pull.{Taken, taken, is_due, begun, frame_of, with_item, after_pull}
-use Rattle.model_line.specs.Request.{Request}
+use Rattle.model_line.specs.Machine.{after, answer}
+use Rattle.model_line.specs.Pull.{Taken, taken, is_due, with_item}
 use Rattle.model_line.specs.Sound as line
-use Rattle.model_line.specs.Sound.{IsInRange, IsSound}
-use Rattle.model_line.proofs.LinksSound.{sound_in}
+use Rattle.model_line.specs.Sound.{IsSound}
 use Rattle.model_line.proofs.Numbers.{place_at-number, number_within}
-use Rattle.model_line.proofs.Ranges.{terms_in_range}
 use Rattle.laws_line.specs.Drains.{most_pulls}
-use Rattle.laws_line.specs.Frames.{lost_in}
-use Rattle.laws_line.specs.Heard.{Ends, EndsOverlong, IsMalformed, IsTooLong}
-use Rattle.laws_line.specs.Requests.{of_link}
 use Rattle.laws_line.specs.Pulls.{HasNothing}
-use Rattle.laws_line.specs.Steady.{IsBy, Brings, BringsMalformed}
-use Rattle.laws_line.proofs.Ending.{ended-octets, gained-is, gained-adds}
-use Rattle.laws_line.proofs.Hearing.{sapi-is}
 use Rattle.laws_line.proofs.LinkMoves.{IsOne, taken-one}
-use Rattle.laws_line.proofs.Obeyed.{both-true}
-use Rattle.laws_line.proofs.Places.{is-off}
 use Rattle.model_card.specs.Card.{Card, fresh, line_at, is_full}
 use Rattle.model_card.specs.Event as card
 use Rattle.model_card.specs.Machine as cards
-use Rattle.model_card.specs.Pulled.{frame_taken, frame_in, octet_in}
 use Rattle.model_card.specs.Run.{Moment, moments, after_all, IsAtLine, AreAtLines}
 use Rattle.model_card.specs.Sound as card_sound
 use Rattle.model_card.proofs.CardSound.{fresh_is_sound, always_sound, after_is_sound}
@@ -68,369 +31,61 @@ use Rattle.model_card.proofs.Steps.{has_lines, by_room, line_sound}
 use Rattle.laws_card.specs.Among.{ArePullsAt, pulls_at}
 use Rattle.laws_card.proofs.Enough.{enough-pulls}
 use Rattle.laws_card.proofs.Wherever.{all-left, all-right, config-stays, begins-with-few}
-use Rattle.laws_trace.specs.AllAreAnswered.{is_answered, due_in, due, StaysOn, AllAreAnswered}
-use Rattle.laws_trace.specs.AnswersAreAsked as exchanges
-use Rattle.laws_trace.specs.AnswersAreAsked.{Exchange, asked_by, answered_by, asked_at, answered_at, IsPart}
+use Rattle.laws_trace.specs.AllAreAnswered.{due_in, due, StaysOn, AllAreAnswered}
+use Rattle.laws_trace.specs.AnswersAreAsked.{answered_at, IsPart}
 use Rattle.laws_trace.specs.Trace as traces
-use Rattle.laws_trace.specs.Trace.{Seen, heard, put, seen_told, seen_granted, seen, trace, Always}
-use Rattle.laws_trace.proofs.AnswersAreAsked.{answered-is, all-foreign, either-none}
-use Rattle.laws_trace.proofs.Answering.{due_of, not-overlong, frame-answered, others-stay}
-use Rattle.laws_trace.proofs.AskedOfLink.{answer_in, answers_in}
-use Rattle.laws_trace.proofs.HeardLengths.{ended-fits}
-use Rattle.laws_trace.proofs.OneLink.{frames_given, is_at_link, HasOne, HasNone, Goes, event-goes}
+use Rattle.laws_trace.specs.Trace.{seen, trace, Always}
+use Rattle.laws_trace.proofs.AskedOfLink.{answers_in}
 use Rattle.laws_trace.proofs.Parts.{of-itself, of-nothing, both, behind, through}
-use Rattle.laws_trace.proofs.PullRuns.{no-room, apart}
+use Rattle.laws_trace.proofs.PullRuns.{apart}
 use Rattle.laws_trace.proofs.Runs.{nothing-seen}
-use Rattle.laws_trace.proofs.Spelled.{whole-parts, given-spells}
 use Rattle.laws_trace.proofs.UnitsGoOut.{after-both}
-
-same-itself : (s : Service) → same_service s s ≡ true
-same-itself Call = refl
-same-itself Packet = refl
-
--- A frame for a link is an event of this link.
-addressed-is : (l : Line) (sapi to : ℕ) (command : Bool) (service : Service) (tei place : ℕ) (what : link.Received) (m : Aim)
-    → sapi ≡ sapi_of service → to ≡ tei → place_in l tei ≡ Some place
-    → addressed l (record { sapi = sapi; command = command; tei = to }) what m ≡ at_link service tei place (link.received what)
-addressed-is l sapi to command service tei place what m its by on =
-    ap (λ n. cond (n == management_sapi) (cond (to == group_tei) m (drop_for Tei)) (to_service l to what (service_of n))) its
-    ∙ by-service service
-    ∙ ap (λ n. at_place service n what (place_in l n)) by ∙ ap (at_place service tei what) on
-  where
-    by-service : (s : Service) → cond (sapi_of s == management_sapi) (cond (to == group_tei) m (drop_for Tei)) (to_service l to what (service_of (sapi_of s)))
-        ≡ at_place s to what (place_in l to)
-    by-service Call = refl
-    by-service Packet = refl
-
-at-some-place : (l : Line) (tei : ℕ) → has_tei tei l ≡ true → (place : ℕ) × (place_in l tei ≡ Some place)
-at-some-place l tei on = go (place_in l tei) refl
-  where
-    go : (o : Option ℕ) → place_in l tei ≡ o → (place : ℕ) × (place_in l tei ≡ Some place)
-    go None is = absurd (true≢false (sym on ∙ is-off l.management.places tei is))
-    go (Some place) is = (place, is)
+use Rattle.laws_trace.proofs.AnsweredAtLine.{answered, waits, due_at, none-due, event-serves, served-by, joins}
 
 module _ (service : Service) (tei : ℕ) where
-  abbrev asked : List Seen → List Exchange
-  asked t = flat_map (asked_at service tei) t
-
-  abbrev answered : List Seen → List Exchange
-  answered t = flat_map (answered_at service tei) t
-
-  abbrev answered_in : List ℕ → List Exchange
-  answered_in octets = exchanges.of_link service tei answered_by (reading Network octets)
-
-  abbrev waits : Line → List Exchange
-  waits l = answers_in (link_of service tei l).waiting
-
-  abbrev due_at : Line → Answer → List Seen → List Exchange
-  due_at l a t = cond (lost_in a == 0) (filter (is_answered (state_of service tei l)) (asked t)) []
-
-  none-due : (l : Line) (a : Answer) (t : List Seen) → asked t ≡ [] → due_at l a t ≡ []
-  none-due l a t none = ap (λ xs. cond (lost_in a == 0) (filter (is_answered (state_of service tei l)) xs) []) none ∙ either-none (lost_in a == 0)
-
-  -- What is asked is heard.
-  told-none : (a : Answer) → asked (seen_told a) ≡ []
-  told-none (told t) = refl
-  told-none (refused why) = refl
-  told-none (pulled value is_begun orders) = refl
-
-  granted-none : (r : Request) (a : Answer) → asked (seen_granted r a ++ seen_told a) ≡ []
-  granted-none r (told t) = refl
-  granted-none r (refused why) = refl
-  granted-none r (pulled value is_begun orders) = refl
-
-  begun-none : (o : Option Taken) (a : Answer) → asked (map traces.begun (option_to_list (option_map frame_taken o)) ++ map put (octet_in a)) ≡ []
-  begun-none None (told t) = refl
-  begun-none None (refused why) = refl
-  begun-none None (pulled value is_begun orders) = refl
-  begun-none (Some t) (told u) = refl
-  begun-none (Some t) (refused why) = refl
-  begun-none (Some t) (pulled value is_begun orders) = refl
-
-  heard-asks : (o : Option stream.Event) (a : Answer) → asked (map heard (option_to_list o) ++ seen_told a) ≡ flat_map (exchanges.asked_in service tei) (option_to_list o)
-  heard-asks None a = told-none a
-  heard-asks (Some e) a = ap (λ xs. exchanges.asked_in service tei e ++ xs) (told-none a)
-
-  -- A frame of the grammar for this link.
-  link-asks : (parts : Parts) → (parts.address.sapi == sapi_of service && parts.address.tei == tei) ≡ true
-      → exchanges.of_link service tei asked_by (Ok parts) ≡ asked_by parts.address.command parts.control
-  link-asks parts here = ap (λ b. cond b (asked_by parts.address.command parts.control) []) here
-
-  -- Where the event is none of the link, nothing is asked of it.
-  module _ (c : Config) (l : Line) (place : ℕ) (on : place_in l tei ≡ Some place) where
-    read-none : (octets : List ℕ) (r : Result Parts ReadFault) → is_at_link service tei (aim_of_reading l r) ≡ false → exchanges.of_link service tei asked_by r ≡ []
-    read-none octets (Err fault) aims = refl
-    read-none octets (Ok parts) aims = go (parts.address.sapi == sapi_of service && parts.address.tei == tei) refl
-      where
-        aimed : (parts.address.sapi == sapi_of service && parts.address.tei == tei) ≡ true → is_at_link service tei (aim_of_reading l (Ok parts)) ≡ true
-        aimed is =
-            let two = both-true (parts.address.sapi == sapi_of service) (parts.address.tei == tei) is in
-            ap (is_at_link service tei) (addressed-is l parts.address.sapi parts.address.tei parts.address.command service tei place (link.frame parts) (message_of parts.control parts.info)
-            (eqb-true parts.address.sapi (sapi_of service) two.0) (eqb-true parts.address.tei tei two.1) on)
-            ∙ ap (λ b. b && tei == tei) (same-itself service) ∙ eq-eqb tei tei refl
-
-        go : (b : Bool) → (parts.address.sapi == sapi_of service && parts.address.tei == tei) ≡ b → cond b (asked_by parts.address.command parts.control) [] ≡ []
-        go true is = absurd (true≢false (sym (aimed is) ∙ aims))
-        go false is = refl
-
-    heard-none : (o : Option stream.Event) → is_at_link service tei (option_map_or (aim_of_heard l) o (at_none nothing)) ≡ false → flat_map (exchanges.asked_in service tei) (option_to_list o) ≡ []
-    heard-none None aims = refl
-    heard-none (Some (stream.frame octets)) aims = append-nil _ ∙ read-none octets (reading User octets) aims
-    heard-none (Some (stream.overlong head)) aims = refl
-    heard-none (Some (stream.dropped cause)) aims = refl
-
-    none-asked : (e : Event) (a : Answer) → is_at_link service tei (aim_of c e l) ≡ false → asked (seen c e l a) ≡ []
-    none-asked (octet value) a aims = heard-asks (gained c.n201 l.received value) a ∙ heard-none (gained c.n201 l.received value) aims
-    none-asked (expiry timer) a aims = told-none a
-    none-asked (request r) a aims = granted-none r a
-    none-asked pull a aims = begun-none (begun c l) a
-
-  -- What a link gives is read as it is.
-  given-read : (c : Config) (g : Given) → IsGiven (terms c service tei) g.frame g.contents → answered_in (frame_of (terms c service tei) g) ≡ answer_in g.frame
-  given-read c g h =
-      let t = terms c service tei in
-      ap (exchanges.of_link service tei answered_by) (reading-again Network (whole-parts t g) (frame_of t g) (given-spells t g h))
-      ∙ ap (λ b. cond b (answer_in g.frame) []) (ap (λ b. b && tei == tei) (eq-eqb (sapi_of service) (sapi_of service) refl) ∙ eq-eqb tei tei refl)
-
-  module _ (c : Config) (l : Link) where
-    abbrev t : Terms
-    t = terms c service tei
-
-    offered : (ws : List ControlFrame) → let under = Offers.offer_among t ws (course_begun l) in
-        IfSome (links.given_of t l under under.sent) (λ g. IsGiven t g.frame g.contents)
-        → IsPart (answers_in ws) (flat_map answered_in (map (frame_of t) (option_to_list (links.given_of t l under under.sent))) ++ answers_in under.link.waiting)
-    offered [] h = of-nothing (flat_map answered_in (map (frame_of t) (option_to_list (links.given_of t l (Offers.offer_among t [] (course_begun l)) (Offers.offer_among t [] (course_begun l)).sent)))
-        ++ answers_in (Offers.offer_among t [] (course_begun l)).link.waiting)
-    offered (f ∷ fs) h =
-        let under = Offers.offer_among t (f ∷ fs) (course_begun l) in
-        let g : Given = record { frame = f; contents = None; orders = orders_for t l.running under.started under.link.running } in
-        let own : List Exchange = answered_in (frame_of t g) in
-        both (answer_in f) (own ++ []) (answers_in fs) (answers_in fs)
-        (subst (IsPart (answer_in f)) (sym (append-nil own ∙ given-read c g h)) (of-itself (answer_in f))) (of-itself (answers_in fs))
-
-    offer-serves : link_sound.IsInRange t → link_sound.IsSound t l
-        → IsPart (answers_in l.waiting) (flat_map answered_in (frames_given t link.offer l) ++ answers_in (links.after t link.offer l).waiting)
-    offer-serves range sound = offered l.waiting (given_is_frame t range l sound)
-
-  -- One event of a line, while the TEI stays on it.
-  module _ (c : Config) (ranged : IsInRange c) (e : Event) (l : Line) (s : IsSound c l) (was : has_tei tei l ≡ true) (is : has_tei tei (after c e l) ≡ true) where
-    abbrev a : Answer
-    a = answer c e l
-
-    abbrev shown : List Seen
-    shown = seen c e l a
-
-    abbrev own : Link
-    own = link_of service tei l
-
-    abbrev next : Line
-    next = after c e l
-
-    abbrev its : Terms
-    its = terms c service tei
-
-    there : (place : ℕ) × (place_in l tei ≡ Some place)
-    there = at-some-place l tei was
-
-    abbrev Serves : List Exchange → Type 0
-    Serves due = IsPart (waits l ++ due) (answered shown ++ waits next)
-
-    kept : IsPart (waits l) (answered shown ++ waits next) → due_at l a shown ≡ [] → Serves (due_at l a shown)
-    kept h none = subst Serves (sym none) (subst (λ xs. IsPart xs (answered shown ++ waits next)) (sym (append-nil (waits l))) h)
-
-    none-of-it : HasNone c service tei e l next a → Serves (due_at l a shown)
-    none-of-it x =
-        kept
-        (subst (λ xs. IsPart (waits l) (xs ++ waits next)) (sym (answered-is service tei c e l a ∙ all-foreign service tei (frame_in c e l) x.begins))
-        (subst (λ (y : Link). IsPart (waits l) (answers_in y.waiting)) (sym (x.stays was is)) (of-itself (waits l))))
-        (none-due l a shown (none-asked c l there.0 there.1 e a x.aims))
-
-    own-is : own ≡ link_in l service there.0
-    own-is = ap (λ o. option_map_or (link_in l service) o fresh_link) there.1
-
-    sound : link_sound.IsSound its own
-    sound = subst (link_sound.IsSound its) (sym own-is) (sound_in c ranged l s service tei there.0 (place_of-is l.management.places tei there.0 there.1).1)
-
-    range : link_sound.IsInRange its
-    range = terms_in_range c ranged service tei (s.management.table.range there.0 tei (place_of-is l.management.places tei there.0 there.1).1)
-
-    state-is : state_of service tei l ≡ Some (state_number own.state)
-    state-is = ap (option_map (state_in l service)) there.1 ∙ ap (λ (x : Link). Some (state_number x.state)) (sym own-is)
-
-    module _ (x : HasOne c service tei e l next a) where
-      answers-are : answered shown ≡ flat_map answered_in (frames_given its x.event own)
-      answers-are = answered-is service tei c e l a ∙ ap (flat_map answered_in) x.begins
-
-      after-is : (xs : List Exchange) → IsPart xs (flat_map answered_in (frames_given its x.event own) ++ answers_in (links.after its x.event own).waiting) → IsPart xs (answered shown ++ waits next)
-      after-is xs h =
-          subst (λ ys. IsPart xs (ys ++ waits next)) (sym answers-are)
-          (subst (λ (y : Link). IsPart xs (flat_map answered_in (frames_given its x.event own) ++ answers_in y.waiting)) (sym x.is) h)
-
-      -- a frame of the grammar
-      module _ (parts : Parts) (is-frame : x.event ≡ link.received (link.frame parts)) (b : Brings c l e service tei parts) where
-        here : (parts.address.sapi == sapi_of service && parts.address.tei == tei) ≡ true
-        here =
-            ap (λ d. d && parts.address.tei == tei) (eq-eqb parts.address.sapi (sapi_of service) (sapi-is parts.address.sapi service b.sapi))
-            ∙ eq-eqb parts.address.tei tei b.tei_is
-
-        asks-are : asked shown ≡ asked_by parts.address.command parts.control
-        asks-are =
-            ap (λ event. asked (seen c event l a)) b.by
-            ∙ ap (λ o. asked (map heard (option_to_list o) ++ seen_told a)) (gained-is c l b.value (Some (stream.frame b.octets)) b.ends)
-            ∙ heard-asks (Some (stream.frame b.octets)) a
-            ∙ append-nil (exchanges.of_link service tei asked_by (reading User b.octets))
-            ∙ ap (exchanges.of_link service tei asked_by) b.read ∙ link-asks parts here
-
-        fits : is_information parts.control ≡ true → length parts.info ≤ c.n201
-        fits info =
-            let spelled = reading-found User b.octets parts (ended-octets c l b.value (stream.frame b.octets) b.ends) b.read in
-            four parts.control info (ap length spelled.octets_are) (ended-fits c l b.value b.octets b.ends)
-          where
-            four : (k : Control) → is_information k ≡ true → length b.octets ≡ length (head_of User parts.address k ++ parts.info) → length b.octets ≤ c.n201 + 4 → length parts.info ≤ c.n201
-            four (control.Information ns nr p) info long few = omega (arith, long, few)
-            four (control.ReceiveReady nr p) info long few = absurd (cc info)
-            four (control.ReceiveNotReady nr p) info long few = absurd (cc info)
-            four (control.Reject nr p) info long few = absurd (cc info)
-            four (control.Sabme p) info long few = absurd (cc info)
-            four (control.Disc p) info long few = absurd (cc info)
-            four (control.Ui p) info long few = absurd (cc info)
-            four (control.Ua f) info long few = absurd (cc info)
-            four (control.Dm f) info long few = absurd (cc info)
-            four (control.Frmr f) info long few = absurd (cc info)
-            four (control.Xid f) info long few = absurd (cc info)
-
-        no-offer : link.received (link.frame parts) ≡ link.offer → ⊥
-        no-offer e = cc e
-
-        not-cleared : link.received (link.frame parts) ≡ link.cleared → ⊥
-        not-cleared e = cc e
-
-        none-given : (xs : List Exchange) → IsPart xs (answers_in (links.after its (link.received (link.frame parts)) own).waiting) → IsPart xs (answered shown ++ waits next)
-        none-given xs h =
-            after-is xs (subst (λ event. IsPart xs (flat_map answered_in (frames_given its event own) ++ answers_in (links.after its event own).waiting)) (sym is-frame) h)
-
-        frame-serves : (d : Bool) → (lost_in a == 0) ≡ d → Serves (cond d (filter (is_answered (state_of service tei l)) (asked shown)) [])
-        frame-serves true none =
-            let lost : (links.told its (link.received (link.frame parts)) own).lost ≡ 0 =
-            sym (x.lost ∙ ap (λ event. (links.told its event own).lost) is-frame) ∙ eqb-true (lost_in a) 0 none in
-            subst Serves (sym (ap (λ o. filter (is_answered o) (asked shown)) state-is ∙ ap (filter (is_answered (Some (state_number own.state)))) asks-are))
-            (none-given (waits l ++ due_of own.state parts.address.command parts.control)
-            (frame-answered its parts own (not-overlong its parts.control parts.info fits) lost))
-        frame-serves false some =
-            subst (λ xs. IsPart xs (answered shown ++ waits next)) (sym (append-nil (waits l)))
-            (none-given (waits l) (others-stay its (link.received (link.frame parts)) own no-offer not-cleared))
-
-      -- what the grammar does not have
-      malformed-asks : (what : link.Received) → BringsMalformed c l e service tei what → ((parts : Parts) → what ≡ link.frame parts → ⊥) → asked shown ≡ []
-      malformed-asks what b no-frame = ap (λ event. asked (seen c event l a)) b.by ∙ by-end b.ends
-        where
-          by-fault : (octets : List ℕ) (what : link.Received) → IsMalformed b.address octets what → AreOctets octets → exchanges.of_link service tei asked_by (reading User octets) ≡ []
-          by-fault octets link.undefined is small = ap (exchanges.of_link service tei asked_by) (fault-again User octets (Undefined b.address) small is)
-          by-fault octets link.wrong_size is small = ap (exchanges.of_link service tei asked_by) (fault-again User octets (WrongSize b.address) small is)
-          by-fault octets link.overlong is small = absurd is
-          by-fault octets (link.frame parts) is small = absurd is
-
-          by-end : (Ends c l b.value b.octets × IsMalformed b.address b.octets what) ⊎ (EndsOverlong c l b.value b.octets × IsTooLong b.address b.octets what)
-              → asked (map heard (option_to_list (gained c.n201 l.received b.value)) ++ seen_told a) ≡ []
-          by-end (inl y) =
-              ap (λ o. asked (map heard (option_to_list o) ++ seen_told a)) (gained-is c l b.value (Some (stream.frame b.octets)) y.0)
-              ∙ heard-asks (Some (stream.frame b.octets)) a ∙ append-nil (exchanges.of_link service tei asked_by (reading User b.octets))
-              ∙ by-fault b.octets what y.1 (ended-octets c l b.value (stream.frame b.octets) y.0)
-          by-end (inr y) =
-              ap (λ o. asked (map heard (option_to_list o) ++ seen_told a)) (gained-is c l b.value (Some (stream.overlong b.octets)) y.0)
-              ∙ heard-asks (Some (stream.overlong b.octets)) a
-
-      other-serves : (event : link.Event) → x.event ≡ event → (event ≡ link.offer → ⊥) → (event ≡ link.cleared → ⊥) → frames_given its event own ≡ [] → asked shown ≡ [] → Serves (due_at l a shown)
-      other-serves event same no-offer not-cleared silent none =
-          kept
-          (after-is (waits l)
-          (subst (λ event. IsPart (waits l) (flat_map answered_in (frames_given its event own) ++ answers_in (links.after its event own).waiting)) (sym same)
-          (subst (λ fs. IsPart (waits l) (flat_map answered_in fs ++ answers_in (links.after its event own).waiting)) (sym silent) (others-stay its event own no-offer not-cleared))))
-          (none-due l a shown none)
-
-      one-of-it : (event : link.Event) → x.event ≡ event → IsBy c l e a service tei event → Serves (due_at l a shown)
-      one-of-it (link.received (link.frame parts)) same by = frame-serves parts same by (lost_in a == 0) refl
-      one-of-it (link.received link.undefined) same by =
-          other-serves (link.received link.undefined) same (λ e. cc e) (λ e. cc e) refl (malformed-asks link.undefined by (λ parts e. cc e))
-      one-of-it (link.received link.wrong_size) same by =
-          other-serves (link.received link.wrong_size) same (λ e. cc e) (λ e. cc e) refl (malformed-asks link.wrong_size by (λ parts e. cc e))
-      one-of-it (link.received link.overlong) same by =
-          other-serves (link.received link.overlong) same (λ e. cc e) (λ e. cc e) refl (malformed-asks link.overlong by (λ parts e. cc e))
-      one-of-it (link.expired timer) same by =
-          other-serves (link.expired timer) same (λ e. cc e) (λ e. cc e) refl (ap (λ event. asked (seen c event l a)) by ∙ told-none a)
-      one-of-it (link.requested what full) same by =
-          other-serves (link.requested what full) same (λ e. cc e) (λ e. cc e) refl (ap (λ event. asked (seen c event l a)) by.0 ∙ granted-none (of_link service tei what) a)
-      one-of-it link.offer same by =
-          kept
-          (after-is (waits l)
-          (subst (λ event. IsPart (waits l) (flat_map answered_in (frames_given its event own) ++ answers_in (links.after its event own).waiting)) (sym same)
-          (offer-serves c own range sound)))
-          (none-due l a shown (ap (λ event. asked (seen c event l a)) by ∙ begun-none (begun c l) a))
-      one-of-it link.cleared same by = absurd by
-
-    pub event-serves : Serves (due_at l a shown)
-    event-serves = go (event-goes c e l service tei s)
-      where
-        go : Goes c service tei e l next a → Serves (due_at l a shown)
-        go (inl x) = none-of-it x
-        go (inr x) = one-of-it x x.event refl x.by
-
   -- A run of a card.
-  abbrev served-by : Config → Line → List Exchange → List Seen → Line → Type 0
-  served-by c before d t after = IsPart (waits before ++ d) (answered t ++ waits after)
-
-  joins : (c : Config) (k l m : Line) (d f : List Exchange) (t u : List Seen) → served-by c k d t l → served-by c l f u m → served-by c k (d ++ f) (t ++ u) m
-  joins c k l m d f t u h i =
-      subst (λ xs. IsPart (waits k ++ (d ++ f)) (xs ++ waits m)) (sym (flat_map-append (answered_at service tei) t u))
-      (subst (IsPart (waits k ++ (d ++ f))) (sym (append_assoc (answered t) (answered u) (waits m)))
-      (subst (λ xs. IsPart xs (answered t ++ (answered u ++ waits m))) (append_assoc (waits k) d f)
-      (through ((waits k ++ d) ++ f) ((answered t ++ waits l) ++ f) (answered t ++ (answered u ++ waits m))
-      (both (waits k ++ d) (answered t ++ waits l) f f h (of-itself f))
-      (subst (λ xs. IsPart xs (answered t ++ (answered u ++ waits m))) (sym (append_assoc (answered t) (waits l) f))
-      (both (answered t) (answered t) (waits l ++ f) (answered u ++ waits m) (of-itself (answered t)) i)))))
-
   abbrev moment-of : Card → card.Event → Moment
   moment-of m e = record { card = m; event = e; answer = cards.answer e m }
 
   nothing-happens : (m : Card) (e : card.Event) (number : ℕ) (after : Line) → traces.seen_in number (moment-of m e) ≡ [] → after ≡ line_at number m
-      → served-by m.config (line_at number m) (due_in service tei number (moment-of m e)) (traces.seen_in number (moment-of m e)) after
+      → served-by service tei m.config (line_at number m) (due_in service tei number (moment-of m e)) (traces.seen_in number (moment-of m e)) after
   nothing-happens m e number after none same =
       let l = line_at number m in
-      subst (λ (k : Line). served-by m.config l (due_in service tei number (moment-of m e)) (traces.seen_in number (moment-of m e)) k) (sym same)
-      (subst (λ t. served-by m.config l (due_at l (cards.answer e m) t) t l) (sym none)
-      (subst (λ d. IsPart (waits l ++ d) (waits l)) (sym (none-due l (cards.answer e m) [] refl))
-      (subst (λ xs. IsPart xs (waits l)) (sym (append-nil (waits l))) (of-itself (waits l)))))
+      subst (λ (k : Line). served-by service tei m.config l (due_in service tei number (moment-of m e)) (traces.seen_in number (moment-of m e)) k) (sym same)
+      (subst (λ t. served-by service tei m.config l (due_at service tei l (cards.answer e m) t) t l) (sym none)
+      (subst (λ d. IsPart (waits service tei l ++ d) (waits service tei l)) (sym (none-due service tei l (cards.answer e m) [] refl))
+      (subst (λ xs. IsPart xs (waits service tei l)) (sym (append-nil (waits service tei l))) (of-itself (waits service tei l)))))
 
   own-line : (m : Card) (e : card.Event) → card_sound.IsSound m → IsAtLine m e → has_tei tei (line_at e.line m) ≡ true → has_tei tei (line_at e.line (cards.after e m)) ≡ true
       → let l = line_at e.line m in
       let t = seen m.config e.what l (cards.answer e m) in
-      served-by m.config l (due_at l (cards.answer e m) t) t (line_at e.line (cards.after e m))
+      served-by service tei m.config l (due_at service tei l (cards.answer e m) t) t (line_at e.line (cards.after e m))
   own-line m e s here was is =
       let c = m.config in
       let l = line_at e.line m in
-      by_room (λ ls a. has_tei tei (get_or ls e.line (fresh_line c)) ≡ true → served-by c l (due_at l a (seen c e.what l a)) (seen c e.what l a) (get_or ls e.line (fresh_line c))) e m
+      by_room (λ ls a. has_tei tei (get_or ls e.line (fresh_line c)) ≡ true → served-by service tei c l (due_at service tei l a (seen c e.what l a)) (seen c e.what l a) (get_or ls e.line (fresh_line c))) e m
       (λ full still.
       let none = nothing-seen c e.what l (and_parts (lines.takes_slot c e.what l) (is_full m) full).0 in
-      subst (λ t. IsPart (waits l ++ due_at l (refused PoolFull) t) (answered t ++ waits l)) (sym none)
-      (subst (λ xs. IsPart xs (waits l)) (sym (append-nil (waits l))) (of-itself (waits l))))
+      subst (λ t. IsPart (waits service tei l ++ due_at service tei l (refused PoolFull) t) (answered service tei t ++ waits service tei l)) (sym none)
+      (subst (λ xs. IsPart xs (waits service tei l)) (sym (append-nil (waits service tei l))) (of-itself (waits service tei l))))
       (λ room still.
       let after-is = get_or-set_same m.lines e.line (lines.after c e.what l) (fresh_line c) (omega (arith, s.count, here)) in
-      subst (λ (x : Line). served-by c l (due_at l (lines.answer c e.what l) (seen c e.what l (lines.answer c e.what l))) (seen c e.what l (lines.answer c e.what l)) x) (sym after-is)
-      (event-serves c s.config e.what l (line_sound m e.line (has_lines m s) here) was (subst (λ (x : Line). has_tei tei x ≡ true) after-is still)))
+      subst (λ (x : Line). served-by service tei c l (due_at service tei l (lines.answer c e.what l) (seen c e.what l (lines.answer c e.what l))) (seen c e.what l (lines.answer c e.what l)) x) (sym after-is)
+      (event-serves service tei c s.config e.what l (line_sound m e.line (has_lines m s) here) was (subst (λ (x : Line). has_tei tei x ≡ true) after-is still)))
       is
 
   moment : (m : Card) (e : card.Event) (number : ℕ) → card_sound.IsSound m → IsAtLine m e → has_tei tei (line_at number m) ≡ true → has_tei tei (line_at number (cards.after e m)) ≡ true
       → (b : Bool) → (e.line == number) ≡ b
-      → served-by m.config (line_at number m) (due_in service tei number (moment-of m e)) (traces.seen_in number (moment-of m e)) (line_at number (cards.after e m))
+      → served-by service tei m.config (line_at number m) (due_in service tei number (moment-of m e)) (traces.seen_in number (moment-of m e)) (line_at number (cards.after e m))
   moment m e number s at-line was is false other =
       nothing-happens m e number (line_at number (cards.after e m)) (ap (λ b. cond b (seen m.config e.what (line_at number m) (cards.answer e m)) []) other)
       (apart m e number (λ same. true≢false (sym (eq-eqb e.line number (sym same)) ∙ other)))
   moment m e number s at-line was is true same =
       let at = eqb-true e.line number same in
       subst (λ b. let t = cond b (seen m.config e.what (line_at number m) (cards.answer e m)) [] in
-      served-by m.config (line_at number m) (due_at (line_at number m) (cards.answer e m) t) t (line_at number (cards.after e m))) (sym same)
+      served-by service tei m.config (line_at number m) (due_at service tei (line_at number m) (cards.answer e m) t) t (line_at number (cards.after e m))) (sym same)
       (subst (λ n. has_tei tei (line_at n m) ≡ true → has_tei tei (line_at n (cards.after e m)) ≡ true → let t = seen m.config e.what (line_at n m) (cards.answer e m) in
-      served-by m.config (line_at n m) (due_at (line_at n m) (cards.answer e m) t) t (line_at n (cards.after e m))) at (own-line m e s at-line) was is)
+      served-by service tei m.config (line_at n m) (due_at service tei (line_at n m) (cards.answer e m) t) t (line_at n (cards.after e m))) at (own-line m e s at-line) was is)
 
   first-on : (number : ℕ) (m : Card) (events : List card.Event) → StaysOn number tei m events → has_tei tei (line_at number m) ≡ true
   unfolding StaysOn
@@ -438,13 +93,13 @@ module _ (service : Service) (tei : ℕ) where
   first-on number m (e ∷ events) h = h.0
 
   pub run-serves : (m : Card) (events : List card.Event) (number : ℕ) → card_sound.IsSound m → AreAtLines m events → StaysOn number tei m events
-      → served-by m.config (line_at number m) (due service tei number (moments m events)) (trace number (moments m events)) (line_at number (after_all m events))
+      → served-by service tei m.config (line_at number m) (due service tei number (moments m events)) (trace number (moments m events)) (line_at number (after_all m events))
   unfolding moments after_all StaysOn
-  run-serves m [] number s all on = subst (λ xs. IsPart xs (waits (line_at number m))) (sym (append-nil (waits (line_at number m)))) (of-itself (waits (line_at number m)))
+  run-serves m [] number s all on = subst (λ xs. IsPart xs (waits service tei (line_at number m))) (sym (append-nil (waits service tei (line_at number m)))) (of-itself (waits service tei (line_at number m)))
   run-serves m (e ∷ events) number s all on =
       let here = All-head (IsAtLine m) e events all in
       let later = cards.after e m in
-      joins m.config (line_at number m) (line_at number later) (line_at number (after_all later events)) (due_in service tei number (moment-of m e)) (due service tei number (moments later events))
+      joins service tei m.config (line_at number m) (line_at number later) (line_at number (after_all later events)) (due_in service tei number (moment-of m e)) (due service tei number (moments later events))
       (traces.seen_in number (moment-of m e)) (trace number (moments later events))
       (moment m e number s here on.0 (first-on number later events on.1) (e.line == number) refl)
       (run-serves later events number (after_is_sound m e s here) (All-tail (IsAtLine m) e events all) on.1)
@@ -507,7 +162,7 @@ module _ (service : Service) (tei : ℕ) where
       (due-front (cards.after e m) front behind number)
 
   -- Nothing waits on any link where nothing waits at the line.
-  none-waits : (c : Config) (l : Line) → IsSound c l → HasNothing c l → waits l ≡ []
+  none-waits : (c : Config) (l : Line) → IsSound c l → HasNothing c l → waits service tei l ≡ []
   none-waits c l s h = go (place_in l tei) refl
     where
       go : (o : Option ℕ) → place_in l tei ≡ o → answers_in (option_map_or (link_in l service) o fresh_link).waiting ≡ []

@@ -1,6 +1,7 @@
 -- Lemmas.
 pub mod Runs
 pub mod Configurations
+pub mod OfferTells
 pub mod OneLink
 pub mod Begins
 pub mod Reading
@@ -14,6 +15,7 @@ pub mod Fitting
 pub mod FramesGoOut
 pub mod Spelled
 pub mod SmallMessages
+pub mod SmallMessagesWait
 pub mod OctetsBegin
 pub mod Flags
 pub mod Heads
@@ -40,6 +42,7 @@ pub mod DataRun
 pub mod AllDataGoesOut
 pub mod HeardLengths
 pub mod Answering
+pub mod AnsweredAtLine
 pub mod AllAreAnswered
 pub mod CommandsPut
 pub mod CommandsCaused

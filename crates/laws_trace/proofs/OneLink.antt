@@ -1,13 +1,12 @@
 -- What an event of a line is to the link of a service with a TEI, at whatever place the TEI is: one event of this link, or none.
-use Rattle.std.proofs.Common.{◌≡◌, ◌≢◌, ℕ, ◌==◌, ◌&&◌, ◌<◌, Bool, true, false, cond, List, [], ◌∷◌, map, slice_get, Option, Some, None, IfSome, option_map, refl, sym, ap, ◌∙◌, subst, arith, eqb-true, eq-eqb, true≢false, ◌⊎◌, inl, inr}
+use Rattle.std.proofs.Common.{◌≡◌, ℕ, ◌==◌, ◌&&◌, Bool, true, false, cond, List, [], ◌∷◌, map, slice_get, Option, Some, None, IfSome, option_map, refl, sym, ap, ◌∙◌, subst, eqb-true, eq-eqb, true≢false, ◌⊎◌, inl, inr}
 use Rattle.std.specs.Prelude.{All, option_to_list}
 use Rattle.std.specs.Option.{option_or, option_map_or}
-use Rattle.std.proofs.lemmas.List.Elements.{All-nil, All-cons, All-head, All-tail}
+use Rattle.std.proofs.lemmas.List.Elements.{All-nil, All-cons}
 use Rattle.std.proofs.lemmas.Option.{none-some}
 use Rattle.lapd_bits.specs.Stream as stream
 use Rattle.lapd_frame.specs.declared.refusals.Refusal.{Refusal}
 use Rattle.lapd_frame.specs.declared.services.Service.{Service}
-use Rattle.lapd_frame.specs.declared.services.Service.TheVariants.{Call, Packet}
 use Rattle.lapd_frame.specs.declared.timers.Timer.{Timer}
 use Rattle.lapd_frame.specs.declared.timers.Timer.TheVariants as timers
 use Rattle.lapd_frame.specs.Services.{same_service}
@@ -16,36 +15,29 @@ use Rattle.lapd_tei.specs.Laws as tei_laws
 use Rattle.lapd_tei.specs.Machine.{Management}
 use Rattle.lapd_tei.specs.Messages.{frame_of as message_frame}
 use Rattle.lapd_tei.specs.Sound.{IsAt, IsSoundTable}
-use Rattle.lapd_tei.specs.Table.{is_on}
 use Rattle.lapd_tei.specs.declared.messages.Message.{Message}
 use Rattle.lapd_tei.specs.declared.outcome.Change.{Change}
 use Rattle.lapd_tei.specs.declared.outcome.Change.TheVariants.{Gained, Left}
 use Rattle.lapd_tei.proofs.LawLemmas as tei_lemmas
-use Rattle.lapd_tei.proofs.Tables.{at-off}
-use Rattle.model_link.specs.declared.frames.ControlFrame.{ControlFrame}
 use Rattle.model_link.specs.declared.terms.Terms.{Terms}
 use Rattle.model_link.specs.Events as link
-use Rattle.model_link.specs.Link.{Link, fresh, address_at}
+use Rattle.model_link.specs.Link.{Link, fresh}
 use Rattle.model_link.specs.Machine as links
-use Rattle.model_link.specs.Offers
-use Rattle.model_link.specs.Steps.{Course, begun as course_begun, ◌then◌, changed}
 use Rattle.model_link.specs.Told.{Given}
-use Rattle.model_link.specs.Words
 use Rattle.model_link.specs.declared.timers.LinkTimer.{LinkTimer}
 use Rattle.model_link.specs.declared.timers.LinkTimer.TheVariants as kind
-use Rattle.model_link.specs.declared.timers.LinkTimer.TheVariants.{T200}
 use Rattle.model_line.specs.declared.config.Config.{Config}
 use Rattle.model_line.specs.Event.{Event, octet, expiry, request, pull, Answer, told, nothing}
 use Rattle.model_line.specs.Effect.{Aim, at_none, at_link, at_management, at_units, told_of_management, of_change, of_aim}
 use Rattle.model_line.specs.Expiry.{at_timer, aim_of_expiry}
-use Rattle.model_line.specs.Line.{Line, UnitData, link_number, service_at, place_at, place_in, tei_at, has_tei, link_at, link_in, link_of, link_count, terms, with_link}
+use Rattle.model_line.specs.Line.{Line, UnitData, link_number, service_at, place_at, place_in, has_tei, link_at, link_in, link_of, terms, with_link}
 use Rattle.model_line.specs.Machine.{aim_of, after, answer, unless_refused, unless_refused_told}
 use Rattle.model_line.specs.Octet.{gained, aim_of_heard, aim_of_octet, with_received}
 use Rattle.model_line.specs.Pull.{Taken, with_message, with_unit, unit_frame, with_given_frame, frame_of, taken, is_due, with_item, after_pull, answer_to_pull, first_taken, round}
 use Rattle.model_line.specs.Refusal.{refusal}
 use Rattle.model_line.specs.Request.{Request, Establish, Release, Data, Assign, Remove, Check, SetBusy, ClearBusy}
 use Rattle.model_line.specs.Requested.{at_requested, aim_of_request}
-use Rattle.model_line.specs.Sound.{IsSound, IsUnitData}
+use Rattle.model_line.specs.Sound.{IsSound}
 use Rattle.model_line.proofs.AimsSound.{IsProper}
 use Rattle.model_line.proofs.ProperAims.{heard_aims, octet_proper, expiry_proper, request_proper}
 use Rattle.model_line.proofs.PullSound.{round_below}
@@ -60,6 +52,7 @@ use Rattle.laws_line.proofs.Places.{is-off, has-no-place, has-place}
 use Rattle.laws_line.proofs.Readings as read
 use Rattle.laws_line.proofs.Tied.{Ties, octet-ties, expiry-ties, request-ties}
 use Rattle.laws_line.proofs.TimersFollow.{number-is}
+use Rattle.laws_trace.proofs.OfferTells.{offer-tells_nothing}
 
 -- The frame that an offer of a link gives; no other event gives one.
 abbrev pub frames_given : Terms → link.Event → Link → List (List ℕ)
@@ -336,26 +329,6 @@ module _ (c : Config) (l : Line) (s : IsSound c l) (service : Service) (tei : �
   took-any None (Some unit) = inl (alike l (with_unit l unit).line refl refl, inr (inl (unit, refl)))
   took-any None None = took-first (first_taken c l (round c l)) (of-links c l s (round c l) (round_below c l))
 
-  -- An offer tells nothing.
-  module _ (t : Terms) (x : Link) where
-    abbrev TellsNothing : Course → Type 0
-    TellsNothing k = (k.notes ≡ []) × (k.delivered ≡ None) × (k.unit ≡ None) × (k.lost ≡ 0)
-
-    choose : (b : Bool) (u v : Course) → TellsNothing u → TellsNothing v → TellsNothing (cond b u v)
-    choose true u v h k = h
-    choose false u v h k = k
-
-    offers : (ws : List ControlFrame) → TellsNothing (Offers.offer_among t ws (course_begun x))
-    offers (f ∷ fs) = (refl, refl, refl, refl)
-    offers [] =
-        let sent = (Offers.give_information then changed Offers.with_one_sent then Words.pending_is false) (course_begun x) in
-        choose (Offers.may_send_information t x) _ _
-        (choose (Offers.is_awaiting_acknowledgement sent.link) sent (Words.start T200 sent) (refl, refl, refl, refl) (refl, refl, refl, refl))
-        (choose x.pending _ _ (refl, refl, refl, refl) (refl, refl, refl, refl))
-
-    offer-tells_nothing : TellsNothing (links.course t link.offer x)
-    offer-tells_nothing = offers x.waiting
-
   -- A pull.
   abbrev Pulled : Line → List (List ℕ) → Type 0
   Pulled next frames =
@@ -396,7 +369,6 @@ module _ (c : Config) (l : Line) (s : IsSound c l) (service : Service) (tei : �
             begins = x.3;
           })
 
--- Any event.
 pub event-goes : (c : Config) (e : Event) (l : Line) (service : Service) (tei : ℕ) → IsSound c l → Goes c service tei e l (after c e l) (answer c e l)
 unfolding after answer
 event-goes c (octet value) l service tei s =

@@ -1,0 +1,30 @@
+-- An offer of a link tells layer 3 nothing.
+use Rattle.std.proofs.Common.{◌≡◌, Bool, true, false, cond, List, [], ◌∷◌, None, refl}
+use Rattle.model_link.specs.declared.frames.ControlFrame.{ControlFrame}
+use Rattle.model_link.specs.declared.terms.Terms.{Terms}
+use Rattle.model_link.specs.Events as link
+use Rattle.model_link.specs.Link.{Link}
+use Rattle.model_link.specs.Machine as links
+use Rattle.model_link.specs.Offers
+use Rattle.model_link.specs.Steps.{Course, begun as course_begun, ◌then◌, changed}
+use Rattle.model_link.specs.Words
+use Rattle.model_link.specs.declared.timers.LinkTimer.TheVariants.{T200}
+
+module _ (t : Terms) (x : Link) where
+  abbrev pub TellsNothing : Course → Type 0
+  TellsNothing k = (k.notes ≡ []) × (k.delivered ≡ None) × (k.unit ≡ None) × (k.lost ≡ 0)
+
+  choose : (b : Bool) (u v : Course) → TellsNothing u → TellsNothing v → TellsNothing (cond b u v)
+  choose true u v h k = h
+  choose false u v h k = k
+
+  offers : (ws : List ControlFrame) → TellsNothing (Offers.offer_among t ws (course_begun x))
+  offers (f ∷ fs) = (refl, refl, refl, refl)
+  offers [] =
+      let sent = (Offers.give_information then changed Offers.with_one_sent then Words.pending_is false) (course_begun x) in
+      choose (Offers.may_send_information t x) _ _
+      (choose (Offers.is_awaiting_acknowledgement sent.link) sent (Words.start T200 sent) (refl, refl, refl, refl) (refl, refl, refl, refl))
+      (choose x.pending _ _ (refl, refl, refl, refl) (refl, refl, refl, refl))
+
+  pub offer-tells_nothing : TellsNothing (links.course t link.offer x)
+  offer-tells_nothing = offers x.waiting

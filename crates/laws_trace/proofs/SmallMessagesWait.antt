@@ -1,0 +1,194 @@
+-- The messages of TEI management that wait stay small: what it hears are octets.
+use Rattle.std.proofs.Common.{◌≡◌, ℕ, ◌<◌, ◌==◌, Bool, true, false, cond, List, [], ◌∷◌, ◌++◌, length, drop, Option, Some, None, IfSome, refl, sym, subst, inl, inr, Result, Ok, Err}
+use Rattle.std.specs.Prelude.{All}
+use Rattle.std.specs.Option.{option_map_or}
+use Rattle.std.proofs.lemmas.List.Elements.{All-drop}
+use Rattle.lapd_bits.specs.Stream as stream
+use Rattle.lapd_bits.specs.StuffingLaws.{AreOctets}
+use Rattle.lapd_bits.specs.declared.heard.Cause.TheVariants.{Tei, Unserved}
+use Rattle.lapd_frame.specs.declared.addresses.Address.{Address}
+use Rattle.lapd_frame.specs.declared.addresses.Side.TheVariants.{User}
+use Rattle.lapd_frame.specs.declared.controls.Control.{Control}
+use Rattle.lapd_frame.specs.declared.controls.Control.TheVariants as control
+use Rattle.lapd_frame.specs.declared.faults.ReadFault.{ReadFault}
+use Rattle.lapd_frame.specs.declared.faults.ReadFault.TheVariants.{BadExtension, Undefined, WrongSize, Short}
+use Rattle.lapd_frame.specs.declared.overlong.Long.{Long}
+use Rattle.lapd_frame.specs.declared.overlong.Long.TheVariants as long
+use Rattle.lapd_frame.specs.declared.refusals.Refusal.{Refusal}
+use Rattle.lapd_frame.specs.declared.services.Service.{Service}
+use Rattle.lapd_frame.specs.declared.timers.Timer.{Timer}
+use Rattle.lapd_frame.specs.declared.timers.Timer.TheVariants as timers
+use Rattle.lapd_frame.specs.Grammar.{Parts, head_of}
+use Rattle.lapd_frame.specs.Reading.{reading, long_reading}
+use Rattle.lapd_frame.specs.Services.{service_of}
+use Rattle.lapd_frame.proofs.Spelling.{reading-found}
+use Rattle.lapd_tei.specs.Events as teis
+use Rattle.lapd_tei.specs.declared.outcome.Change.{Change}
+use Rattle.lapd_tei.specs.declared.outcome.Change.TheVariants.{Gained, Left}
+use Rattle.model_link.specs.Events as link
+use Rattle.model_link.specs.declared.timers.LinkTimer.TheVariants as kind
+use Rattle.model_line.specs.declared.config.Config.{Config}
+use Rattle.model_line.specs.Effect.{Aim, at_none, at_link, at_management, at_units, told_of_management, of_change, of_aim}
+use Rattle.model_line.specs.Event.{Event, LineTold, octet, expiry, request, pull, nothing}
+use Rattle.model_line.specs.Expiry.{aim_of_expiry, at_timer}
+use Rattle.model_line.specs.Line.{Line, place_in}
+use Rattle.model_line.specs.Machine.{after, unless_refused}
+use Rattle.model_line.specs.Octet.{gained, management_sapi, group_tei, drop_for, at_place, to_service, addressed, message_of, aim_of_reading, unless_at_link, aim_of_long, aim_of_heard, aim_of_octet, with_received}
+use Rattle.model_line.specs.Pull.{Taken, taken, is_due, with_item, after_pull}
+use Rattle.model_line.specs.Refusal.{refusal}
+use Rattle.model_line.specs.Request as asked
+use Rattle.model_line.specs.Request.{Request}
+use Rattle.model_line.specs.Requested.{aim_of_request, at_requested}
+use Rattle.model_line.specs.Sound.{IsSound}
+use Rattle.laws_line.proofs.Ending as ending
+use Rattle.laws_line.proofs.Ending.{ended-octets, gained-adds}
+use Rattle.laws_line.proofs.LinkMoves.{IsOne, taken-one}
+use Rattle.laws_trace.proofs.Heads.{head}
+use Rattle.laws_trace.proofs.SmallMessages.{IsSmall, IsOfOctets, after-small}
+
+-- What TEI management hears are octets.
+abbrev IsOfOctetsAt : Aim → Type 0
+IsOfOctetsAt (at_management e) = IsOfOctets e
+IsOfOctetsAt (at_none what) = Unit {0}
+IsOfOctetsAt (at_link service tei place e) = Unit {0}
+IsOfOctetsAt (at_units unit) = Unit {0}
+
+module _ (l : Line) where
+  place-aims : (service : Service) (tei : ℕ) (what : link.Received) (o : Option ℕ) → IsOfOctetsAt (at_place service tei what o)
+  place-aims service tei what None = tt
+  place-aims service tei what (Some place) = tt
+
+  service-aims : (tei : ℕ) (what : link.Received) (o : Option Service) → IsOfOctetsAt (to_service l tei what o)
+  service-aims tei what None = tt
+  service-aims tei what (Some service) = place-aims service tei what (place_in l tei)
+
+  addressed-aims : (address : Address) (what : link.Received) (message : Aim) → IsOfOctetsAt message → IsOfOctetsAt (addressed l address what message)
+  addressed-aims address what message h = go (address.sapi == management_sapi) (address.tei == group_tei)
+    where
+      go : (known group : Bool) → IsOfOctetsAt (cond known (cond group message (drop_for Tei)) (to_service l address.tei what (service_of address.sapi)))
+      go true true = h
+      go true false = tt
+      go false group = service-aims address.tei what (service_of address.sapi)
+
+  message-aims : (k : Control) (info : List ℕ) → AreOctets info → IsOfOctetsAt (message_of k info)
+  message-aims (control.Information ns nr p) info h = tt
+  message-aims (control.ReceiveReady nr pf) info h = tt
+  message-aims (control.ReceiveNotReady nr pf) info h = tt
+  message-aims (control.Reject nr pf) info h = tt
+  message-aims (control.Sabme p) info h = tt
+  message-aims (control.Disc p) info h = tt
+  message-aims (control.Ui p) info h = h
+  message-aims (control.Ua f) info h = tt
+  message-aims (control.Dm f) info h = tt
+  message-aims (control.Frmr f) info h = tt
+  message-aims (control.Xid pf) info h = tt
+
+  info-octets : (octets : List ℕ) (parts : Parts) → AreOctets octets → reading User octets ≡ Ok parts → AreOctets parts.info
+  info-octets octets parts h is =
+      let spelled = (reading-found User octets parts h is).octets_are in
+      let all = subst AreOctets spelled h in
+      subst AreOctets (drop-head (head_of User parts.address parts.control) parts.info) (All-drop (λ octet. octet < 256) (length (head_of User parts.address parts.control)) (head_of User parts.address parts.control ++ parts.info) all)
+    where
+      drop-head : (front back : List ℕ) → drop (length front) (front ++ back) ≡ back
+      drop-head [] back = refl
+      drop-head (x ∷ front) back = drop-head front back
+
+  reading-aims : (octets : List ℕ) → AreOctets octets → (r : Result Parts ReadFault) → reading User octets ≡ r → IsOfOctetsAt (aim_of_reading l r)
+  reading-aims octets h (Ok parts) is =
+      addressed-aims parts.address (link.frame parts) (message_of parts.control parts.info) (message-aims parts.control parts.info (info-octets octets parts h is))
+  reading-aims octets h (Err BadExtension) is = tt
+  reading-aims octets h (Err (Undefined address)) is = addressed-aims address link.undefined (drop_for Unserved) tt
+  reading-aims octets h (Err (WrongSize address)) is = addressed-aims address link.wrong_size (drop_for Unserved) tt
+  reading-aims octets h (Err Short) is = tt
+
+  unless-aims : (aim : Aim) → IsOfOctetsAt aim → IsOfOctetsAt (unless_at_link aim)
+  unless-aims (at_none what) h = tt
+  unless-aims (at_link service tei place event) h = tt
+  unless-aims (at_management event) h = h
+  unless-aims (at_units unit) h = tt
+
+  long-aims : (r : Result Long ReadFault) → IsOfOctetsAt (aim_of_long l r)
+  long-aims (Ok (long.Information address)) = addressed-aims address link.overlong (drop_for Unserved) tt
+  long-aims (Ok (long.Unnumbered address)) = unless-aims (addressed l address link.overlong (drop_for Unserved)) (addressed-aims address link.overlong (drop_for Unserved) tt)
+  long-aims (Err BadExtension) = tt
+  long-aims (Err (Undefined address)) = addressed-aims address link.undefined (drop_for Unserved) tt
+  long-aims (Err (WrongSize address)) = addressed-aims address link.wrong_size (drop_for Unserved) tt
+  long-aims (Err Short) = tt
+
+  heard-aims : (e : stream.Event) → ending.HasOctets e → IsOfOctetsAt (aim_of_heard l e)
+  heard-aims (stream.frame octets) h = reading-aims octets h (reading User octets) refl
+  heard-aims (stream.overlong head) h = long-aims (long_reading User head)
+  heard-aims (stream.dropped cause) h = tt
+
+octet-aims : (c : Config) (l : Line) (value : ℕ) → IsOfOctetsAt (aim_of_octet c value l)
+octet-aims c l value = go (gained c.n201 l.received value) refl
+  where
+    go : (o : Option stream.Event) → gained c.n201 l.received value ≡ o → IsOfOctetsAt (option_map_or (aim_of_heard l) o (at_none nothing))
+    go None is = tt
+    go (Some e) is = heard-aims l e (ended-octets c l value e (gained-adds c l value (Some e) is))
+
+timer-aims : (l : Line) (timer : Timer) → IsOfOctetsAt (aim_of_expiry timer l)
+timer-aims l (timers.T200 service tei) = by-place (place_in l tei)
+  where
+    by-place : (o : Option ℕ) → IsOfOctetsAt (at_timer service tei kind.T200 o)
+    by-place None = tt
+    by-place (Some place) = tt
+timer-aims l (timers.T203 service tei) = by-place (place_in l tei)
+  where
+    by-place : (o : Option ℕ) → IsOfOctetsAt (at_timer service tei kind.T203 o)
+    by-place None = tt
+    by-place (Some place) = tt
+timer-aims l timers.T201 = tt
+
+at-asked : (service : Service) (tei : ℕ) (what : link.Request) (o : Option ℕ) → IsOfOctetsAt (at_requested service tei what o)
+at-asked service tei what None = tt
+at-asked service tei what (Some place) = tt
+
+asked-aims : (l : Line) (r : Request) → IsOfOctetsAt (aim_of_request r l)
+asked-aims l (asked.Establish service tei) = at-asked service tei link.Establish (place_in l tei)
+asked-aims l (asked.Release service tei) = at-asked service tei link.Release (place_in l tei)
+asked-aims l (asked.Data service tei contents) = at-asked service tei (link.Data contents) (place_in l tei)
+asked-aims l (asked.Unit service tei contents) = tt
+asked-aims l (asked.Assign tei) = tt
+asked-aims l (asked.Remove tei) = tt
+asked-aims l (asked.Check tei) = tt
+asked-aims l (asked.SetBusy service tei) = at-asked service tei link.SetBusy (place_in l tei)
+asked-aims l (asked.ClearBusy service tei) = at-asked service tei link.ClearBusy (place_in l tei)
+
+request-aims : (l : Line) (r : Request) (o : Option Refusal) → IsOfOctetsAt (unless_refused o (aim_of_request r l))
+request-aims l r None = asked-aims l r
+request-aims l r (Some why) = tt
+
+-- The messages that wait then.
+changed-small : (c : Config) (o : Option Change) (t : LineTold) (l : Line) → All IsSmall l.management.waiting → All IsSmall (of_change c o t l).line.management.waiting
+changed-small c None t l h = h
+changed-small c (Some (Gained tei place)) t l h = h
+changed-small c (Some (Left tei place)) t l h = h
+
+aim-small : (c : Config) (aim : Aim) (l : Line) → IsOfOctetsAt aim → All IsSmall l.management.waiting → All IsSmall (of_aim c aim l).line.management.waiting
+aim-small c (at_none what) l fits h = h
+aim-small c (at_link service tei place e) l fits h = h
+aim-small c (at_management e) l fits h =
+    changed-small c (teis.told e l.management).change (told_of_management (teis.told e l.management)) (record l { management = teis.after e l.management })
+    (after-small e l.management fits h)
+aim-small c (at_units unit) l fits h = h
+
+pull-small : (c : Config) (l : Line) → IsSound c l → All IsSmall l.management.waiting → All IsSmall (after_pull c l).management.waiting
+pull-small c l s h = go (is_due l) (taken c l) (taken-one c l s)
+  where
+    took : (t : Taken) → IsOne c l t → All IsSmall t.line.management.waiting
+    took t (inl x) = subst (λ (u : Taken). All IsSmall u.line.management.waiting) (sym x.1) (All-drop IsSmall 1 l.management.waiting h)
+    took t (inr (inl x)) = subst (λ (u : Taken). All IsSmall u.line.management.waiting) (sym x.1) h
+    took t (inr (inr x)) = subst (λ (u : Taken). All IsSmall u.line.management.waiting) (sym x.is) h
+
+    go : (due : Bool) (o : Option Taken) → IfSome o (IsOne c l) → All IsSmall (cond due (with_item o l) l).management.waiting
+    go false o x = h
+    go true None x = h
+    go true (Some t) x = took t x
+
+pub messages-after : (c : Config) (e : Event) (l : Line) → IsSound c l → All IsSmall l.management.waiting → All IsSmall (after c e l).management.waiting
+unfolding after
+messages-after c (octet value) l s h = aim-small c (aim_of_octet c value l) (with_received value l) (octet-aims c l value) h
+messages-after c (expiry timer) l s h = aim-small c (aim_of_expiry timer l) l (timer-aims l timer) h
+messages-after c (request r) l s h = aim-small c (unless_refused (refusal c false r l) (aim_of_request r l)) l (request-aims l r (refusal c false r l)) h
+messages-after c pull l s h = pull-small c l s h

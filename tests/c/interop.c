@@ -9,7 +9,6 @@
  */
 #define _POSIX_C_SOURCE 200809L
 
-#include <libpri.h>
 #include <stdio.h>
 #include <stdlib.h>
 #include <string.h>
@@ -17,6 +16,7 @@
 
 #include "hdlc.h"
 #include "lapd.h"
+#include "libpri_terminal.h"
 
 /* ---- Frames that wait to go from one side to the other ------------------------------------------------------------ */
 
@@ -183,12 +183,6 @@ static int take(struct pri *pri, void *octets, int room) {
     return (int)length + 2;
 }
 
-static void said(struct pri *pri, char *text) {
-    (void)pri;
-    if (getenv("VERBOSE") != NULL)
-        fprintf(stderr, "    libpri: %s", text);
-}
-
 static void happened(pri_event *event) {
     if (event == NULL)
         return;
@@ -209,12 +203,6 @@ static void turn_terminal(void) {
 
 /* ---- Steps -------------------------------------------------------------------------------------------------------- */
 
-static uint64_t monotonic(void) {
-    struct timespec time;
-    clock_gettime(CLOCK_MONOTONIC, &time);
-    return (uint64_t)time.tv_sec * 1000 + (uint64_t)time.tv_nsec / 1000000;
-}
-
 /* Both go on until the count is what is wanted, or for so long. */
 static void step(const char *name, const unsigned *count, unsigned wanted, unsigned ms) {
     static const struct timespec moment = {0, 2000000};
@@ -228,16 +216,6 @@ static void step(const char *name, const unsigned *count, unsigned wanted, unsig
         printf("FAILED: %s\n", name);
         exit(1);
     }
-}
-
-static void call_out(void) {
-    struct pri_sr *request = pri_sr_new();
-    call = pri_new_call(terminal);
-    pri_sr_set_channel(request, 1, 0, 0);
-    pri_sr_set_bearer(request, 0, PRI_LAYER_1_ALAW);
-    pri_sr_set_called(request, "4711", PRI_NATIONAL_ISDN, 1);
-    pri_setup(terminal, call, request);
-    pri_sr_free(request);
 }
 
 static void call_in(uint8_t reference) {
@@ -270,14 +248,10 @@ int main(void) {
     if (lapd_card_start(&card, &config) != LAPD_OK || lapd_clock_start(&timers, &config) != LAPD_OK)
         return 1;
     now = monotonic();
-    pri_set_message(said);
-    pri_set_error(said);
-    terminal = pri_new_bri_cb(-1, 0, PRI_CPE, PRI_SWITCH_EUROISDN_E1, take, give, NULL);
-    if (getenv("VERBOSE") != NULL)
-        pri_set_debug(terminal, PRI_DEBUG_Q921_STATE | PRI_DEBUG_Q921_DUMP | PRI_DEBUG_Q931_STATE);
+    terminal = libpri_terminal(-1, take, give);
 
     step("the terminal asks for a TEI and gets one", &seen.assigned, 1, 8000);
-    call_out();
+    call = libpri_calls(terminal);
     step("it calls, and its link comes up", &seen.up, 1, 8000);
     step("its call is connected", &seen.calls_out, 1, 8000);
     want_state(7);
@@ -285,7 +259,7 @@ int main(void) {
     step("it hangs up", &seen.cleared, 1, 8000);
 
     from_terminal.lose = to_terminal.lose = 1;
-    call_out();
+    call = libpri_calls(terminal);
     step("it calls again; a frame is lost each way, and both recover", &seen.calls_out, 2, 15000);
     if (from_terminal.lost != 1 || to_terminal.lost != 1)
         return printf("FAILED: nothing was lost\n"), 1;

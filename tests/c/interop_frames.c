@@ -10,7 +10,6 @@
  */
 #define _POSIX_C_SOURCE 200809L
 
-#include <libpri.h>
 #include <poll.h>
 #include <stdbool.h>
 #include <stdint.h>
@@ -19,8 +18,9 @@
 #include <string.h>
 #include <sys/socket.h>
 #include <sys/wait.h>
-#include <time.h>
 #include <unistd.h>
+
+#include "libpri_terminal.h"
 
 enum { MOST_OCTETS = 2048 };
 
@@ -50,12 +50,6 @@ static int give(struct pri *pri, void *octets, int length) {
     return is_lost(octets, length, &lose_given) ? length : (int)send(line, octets, (size_t)length, MSG_NOSIGNAL);
 }
 
-static void said(struct pri *pri, char *text) {
-    (void)pri;
-    if (getenv("VERBOSE") != NULL)
-        fprintf(stderr, "    libpri: %s", text);
-}
-
 static void happened(pri_event *event) {
     if (event == NULL)
         return;
@@ -64,12 +58,6 @@ static void happened(pri_event *event) {
     cleared += event->e == PRI_EVENT_HANGUP_ACK || event->e == PRI_EVENT_HANGUP;
     if (event->e == PRI_EVENT_HANGUP || event->e == PRI_EVENT_HANGUP_REQ)
         pri_hangup(terminal, event->hangup.call, 16);
-}
-
-static uint64_t monotonic(void) {
-    struct timespec time;
-    clock_gettime(CLOCK_MONOTONIC, &time);
-    return (uint64_t)time.tv_sec * 1000 + (uint64_t)time.tv_nsec / 1000000;
 }
 
 /* The terminal goes on until the count is what is wanted, or for so long. */
@@ -85,16 +73,6 @@ static void step(const char *name, const unsigned *count, unsigned wanted, unsig
         printf("FAILED: %s\n", name);
         exit(1);
     }
-}
-
-static void call_out(void) {
-    struct pri_sr *request = pri_sr_new();
-    call = pri_new_call(terminal);
-    pri_sr_set_channel(request, 1, 0, 0);
-    pri_sr_set_bearer(request, 0, PRI_LAYER_1_ALAW);
-    pri_sr_set_called(request, "4711", PRI_NATIONAL_ISDN, 1);
-    pri_setup(terminal, call, request);
-    pri_sr_free(request);
 }
 
 /* The line card, at the other end of the line. */
@@ -120,18 +98,14 @@ int main(int words, char **argv) {
         return 2;
     setvbuf(stdout, NULL, _IOLBF, 0);
     pid_t child = start(argv[1], argv[2]);
-    pri_set_message(said);
-    pri_set_error(said);
-    terminal = pri_new_bri_cb(line, 0, PRI_CPE, PRI_SWITCH_EUROISDN_E1, take, give, NULL);
-    if (getenv("VERBOSE") != NULL)
-        pri_set_debug(terminal, PRI_DEBUG_Q921_STATE | PRI_DEBUG_Q921_DUMP | PRI_DEBUG_Q931_STATE);
+    terminal = libpri_terminal(line, take, give);
 
-    call_out();
+    call = libpri_calls(terminal);
     step("it asks for a TEI, comes up, and its call is connected", &answered, 1, 8000);
     pri_hangup(terminal, call, 16);
     step("it hangs up", &cleared, 1, 8000);
     lose_taken = lose_given = 1;
-    call_out();
+    call = libpri_calls(terminal);
     step("it calls again; a frame is lost each way, and both recover", &answered, 2, 15000);
     if (lost != 2)
         return printf("FAILED: nothing was lost\n"), 1;

@@ -76,7 +76,7 @@ pub(crate) const FLAG: u8 = 0b0111_1110;
 const FLAG_ONES: u8 = 6;
 
 /// What an octet brings in which a flag ends and nothing else does.
-#[derive(Clone, Copy, Debug)]
+#[derive(Clone, Copy)]
 pub(crate) struct FlagEnd {
     /// The 1s before the flag's last bit.
     pub(crate) before: u8,

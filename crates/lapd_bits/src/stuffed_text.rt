@@ -19,7 +19,7 @@ const OCTET_BITS: u64 = 8;
 const CHECK_BITS: u64 = 16;
 
 /// A stuffed text, up to now: its whole octets lie in a buffer, the first in its first place, and the bits after them wait.
-#[derive(Clone, Copy, Debug)]
+#[derive(Clone, Copy)]
 pub(crate) struct StuffedText {
     /// How many octets lie in the buffer.
     end: usize,

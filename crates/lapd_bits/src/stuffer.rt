@@ -10,7 +10,7 @@ const LATEST: u64 = 4;
 const FOUR_BUT_LATEST: u32 = 28;
 
 /// What bits make of themselves on a line.
-#[derive(Clone, Copy, Debug)]
+#[derive(Clone, Copy)]
 pub(crate) struct Stuffed {
     /// The bits, the first to go lowest, and how many they are.
     pub(crate) bits: u64,

@@ -230,7 +230,7 @@ const RUNS: [u8; 256] = [
 ];
 
 /// What an octet brings that ends nothing.
-#[derive(Clone, Copy, Debug)]
+#[derive(Clone, Copy)]
 pub(crate) struct Content {
     /// The bits that stay, the first to come lowest, and how many they are.
     pub(crate) bits: u8,

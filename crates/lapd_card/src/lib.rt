@@ -40,9 +40,9 @@
 //!
 //! # Only tested
 //!
-//! Starts, with each fault; an answer that is kept has its contents; single events and long runs; of a card for frames, one
-//! list of happenings, frames of bad lengths, and a room that is too small (`test_card`); such a card through C, beside one
-//! for octets to which the same happens (`tests/c/run`).
+//! Starts, with each fault; an answer that is kept has its contents; long runs; of a card for frames, one list of
+//! happenings, and a room that is too small (`test_card`); frames of each length, and such a card beside one for octets to
+//! which the same happens, through C (`tests/c/run`).
 #![tactic(auto)]
 
 mod begun;

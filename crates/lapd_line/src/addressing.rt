@@ -27,7 +27,7 @@ const MANAGEMENT: u8 = 63;
 pub(crate) const GROUP: u8 = 127;
 
 /// For whom a frame is, by its address.
-#[derive(Clone, Copy, PartialEq, Eq, Debug)]
+#[derive(Clone, Copy)]
 pub(crate) enum Addressee {
     /// Layer 2 management.
     Management,

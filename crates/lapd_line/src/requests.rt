@@ -32,7 +32,7 @@ use model_line::Request;
 pub(crate) const LAST_TEI: u8 = 126;
 
 /// What is asked of TEI management about a TEI.
-#[derive(Clone, Copy, PartialEq, Eq, Debug)]
+#[derive(Clone, Copy)]
 enum TeiRequest {
     Assign,
     Remove,

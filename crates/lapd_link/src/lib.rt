@@ -18,8 +18,7 @@
 //!
 //! # Only tested
 //!
-//! Starts with queues of 1 and 127 contents and rings of 2 and 16 control frames; a link's life, each refusal, and
-//! a lost frame that comes again after REJ (`test_parts`).
+//! Starts, as parts of a card's (`tests/scripts/card`); what each event leads to in each state (`tool_tables`).
 #![tactic(auto)]
 
 mod events;

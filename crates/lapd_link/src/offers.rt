@@ -18,7 +18,7 @@ use lapd_store::Slot;
 use model_link::ControlFrame;
 
 /// A frame that a link gives to be sent.
-#[derive(Clone, Copy, PartialEq, Eq, Debug)]
+#[derive(Clone, Copy)]
 pub struct Offer {
     /// Command or response, and the control field.
     pub frame: ControlFrame,

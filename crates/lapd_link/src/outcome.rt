@@ -5,7 +5,7 @@ ghost use Rattle.std.specs.Prelude.{◌≡◌};
 use lapd_frame::{Note, Order, ShortList};
 
 /// What an event told, without the contents that it delivered.
-#[derive(Clone, Copy, PartialEq, Eq, Debug)]
+#[derive(Clone, Copy)]
 pub struct Answer {
     /// What layer 3 and layer management are told, in order: at most two notes.
     pub notes: ShortList<Note>,
@@ -22,7 +22,7 @@ pub struct Answer {
 }
 
 /// What an event told, with the contents that it delivered, lent from the frame.
-#[derive(Clone, Copy, PartialEq, Eq, Debug)]
+#[derive(Clone, Copy)]
 pub struct Outcome<'a> {
     /// What layer 3 and layer management are told, in order: at most two notes.
     pub notes: ShortList<Note>,

@@ -5,7 +5,7 @@ ghost use Rattle.std.specs.Prelude.{◌≡◌};
 use lapd_frame::Frame;
 
 /// What came from the terminal with the link's address.
-#[derive(Clone, Copy, PartialEq, Eq, Debug)]
+#[derive(Clone, Copy)]
 pub enum Received<'a> {
     /// A frame, with its information.
     Frame(Frame<'a>),

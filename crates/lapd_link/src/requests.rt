@@ -18,7 +18,7 @@ use lapd_store::Shelf;
 use model_link::State;
 
 /// What layer 3 asks of a link (Q.921 clauses 4.1.1 and 5.6.6).
-#[derive(Clone, Copy, PartialEq, Eq, Debug)]
+#[derive(Clone, Copy)]
 pub enum LinkRequest<'a> {
     /// DL-ESTABLISH request.
     Establish,

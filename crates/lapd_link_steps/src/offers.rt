@@ -16,7 +16,7 @@ use lapd_frame::Control;
 use model_link::{ControlFrame, LinkTimer, State, Terms};
 
 /// A frame that is sent.
-#[derive(Clone, Copy, PartialEq, Eq, Debug)]
+#[derive(Clone, Copy)]
 pub struct Given {
     /// Command or response, and the control field.
     pub frame: ControlFrame,

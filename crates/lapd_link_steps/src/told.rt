@@ -9,7 +9,7 @@ use model_link::LinkTimer;
 pub(crate) const ALL: u8 = 127;
 
 /// What an event has told so far.
-#[derive(Clone, Copy, Debug)]
+#[derive(Clone, Copy)]
 pub struct Told {
     /// What layer 3 and layer management are told, in order.
     pub notes: ShortList<Note>,

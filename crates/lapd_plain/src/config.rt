@@ -10,7 +10,7 @@ use model_line::Config;
 
 /// How large a card is, and the limits of its lines and links: [`Config`] in C.
 #[repr(C)]
-#[derive(Clone, Copy, Debug)]
+#[derive(Clone, Copy)]
 pub struct PlainConfig {
     /// Lines: 1 to 64.
     pub lines: u16,

@@ -7,7 +7,7 @@ use lapd_count::Counters;
 
 /// The counters of a line: [`Counters`] in C.
 #[repr(C)]
-#[derive(Clone, Copy, Debug)]
+#[derive(Clone, Copy)]
 pub struct PlainCounters {
     /// Each at its place, which `include/lapd.h` has by name.
     pub values: [u64; 62],

@@ -7,7 +7,7 @@ use lapd_bits::Head;
 
 /// How a frame begins, and how long it is: [`Head`] in C.
 #[repr(C)]
-#[derive(Clone, Copy, Debug)]
+#[derive(Clone, Copy)]
 pub struct PlainHead {
     /// 3 or more; 0 where there is no frame.
     pub length: u16,

@@ -10,7 +10,7 @@ pub const LINK_PLACES: u8 = 254;
 
 /// A link of a line, with its state.
 #[repr(C)]
-#[derive(Clone, Copy, Debug)]
+#[derive(Clone, Copy)]
 pub struct PlainLink {
     /// 0 or 16.
     pub service: u8,

@@ -8,7 +8,7 @@ use lapd_frame::{Note, Service};
 
 /// A note, by its number. That of a link names its service by its SAPI, and its TEI; that of an error has its letter.
 #[repr(C)]
-#[derive(Clone, Copy, Debug)]
+#[derive(Clone, Copy)]
 pub struct PlainNote {
     /// 1 to 11, in the order of [`Note`].
     pub note: u8,

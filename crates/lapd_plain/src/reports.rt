@@ -17,7 +17,7 @@ const MOST_OCTETS: usize = 260;
 
 /// What an event led to. Behind the numbers of notes and orders, and behind `length`, the arrays may hold anything.
 #[repr(C)]
-#[derive(Clone, Copy, Debug)]
+#[derive(Clone, Copy)]
 pub struct PlainReport {
     /// 0 to 4.
     pub note_count: u8,

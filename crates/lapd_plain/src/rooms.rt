@@ -7,7 +7,7 @@ use model_link::Room;
 
 /// How much room a link has for contents: [`Room`] in C.
 #[repr(C)]
-#[derive(Clone, Copy, Debug)]
+#[derive(Clone, Copy)]
 pub struct PlainRoom {
     /// Slots of the card that are free: 0 to 8192.
     pub pool: u32,

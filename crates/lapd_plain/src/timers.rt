@@ -12,7 +12,7 @@ const LAST_TEI: u8 = 126;
 
 /// A timer of a line. That of a link names its service by its SAPI, and its TEI; T201 has 0 in both.
 #[repr(C)]
-#[derive(Clone, Copy, Debug)]
+#[derive(Clone, Copy)]
 pub struct PlainTimer {
     /// 1 is T200, 2 is T203, 3 is T201.
     pub timer: u8,
@@ -24,7 +24,7 @@ pub struct PlainTimer {
 
 /// What is to be done with a timer: 1 to start it, 2 to stop it.
 #[repr(C)]
-#[derive(Clone, Copy, Debug)]
+#[derive(Clone, Copy)]
 pub struct PlainOrder {
     /// 1 or 2.
     pub order: u8,
@@ -34,7 +34,7 @@ pub struct PlainOrder {
 
 /// A timer that fell due, with its line.
 #[repr(C)]
-#[derive(Clone, Copy, Debug)]
+#[derive(Clone, Copy)]
 pub struct PlainDue {
     /// Counted from 0.
     pub line: u32,

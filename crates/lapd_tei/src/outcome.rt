@@ -3,7 +3,7 @@
 use lapd_frame::{Note, Order, ShortList};
 
 /// A change of the line's TEIs. A TEI is 0 to 126; its place is that in the table, from 0 on.
-#[derive(Clone, Copy, PartialEq, Eq, Debug)]
+#[derive(Clone, Copy, PartialEq, Eq)]
 pub enum Change {
     /// The TEI is on the line now: its links begin, in state 4.
     Gained {
@@ -22,7 +22,7 @@ pub enum Change {
 }
 
 /// What an event led to.
-#[derive(Clone, Copy, PartialEq, Eq, Debug)]
+#[derive(Clone, Copy)]
 pub struct TeiOutcome {
     /// The notes of TEI management, which come before those of links that are cleared: at most one.
     pub notes: ShortList<Note>,

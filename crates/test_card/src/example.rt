@@ -3,7 +3,6 @@
 ghost use Rattle.std.specs.Prelude.{◌≡◌, ◌<◌, ◌≤◌, ◌^◌};
 ghost use Rattle.lapd_card.specs.Card.{line_count};
 
-use crate::refusals::SABME;
 use crate::starts::{USUAL, usual_card};
 use lapd_card::{Card, CardFault, Request};
 use lapd_clock::Clock;
@@ -25,12 +24,15 @@ fn serve(alloc: Global, shelf: SlabShelf, line: &mut [u8]) -> Result<bool, CardF
     Ok(is_up)
 }
 
+/// An opening flag, SABME with P=1 of TEI 64, and the flag after it.
+pub const SABME: [u8; 8] = [0x7E, 0x00, 0x81, 0xEF, 0x50, 0xB1, 0xFD, 0xFC];
+
 const ESTABLISHED: Note = Note::EstablishIndication(Service::Call, 64);
 
 #[test]
 fn a_line_is_served(rt: HostRuntime) -> Result<(), Fail> {
     let shelf = SlabShelf::start(rt.alloc(), 64, 260)?;
-    let mut line = [0x7E, 0x00, 0x81, 0xEF, 0x50, 0xB1, 0xFD, 0xFC];
+    let mut line = SABME;
     let is_up = serve(rt.alloc(), shelf, &mut line)?;
     assert!(rt; is_up);
     assert!(rt; line == [0x7E, 0x7E, 0x7E, 0x7E, 0x7E, 0x7E, 0x7E, 0x00]);

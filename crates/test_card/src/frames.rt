@@ -1,4 +1,4 @@
-//! A card for frames: a list of happenings, sinks that fail, frames that are bad, and a room that is too small.
+//! A card for frames: a list of happenings, a sink that fails, and a room that is too small.
 
 ghost use Rattle.std.specs.Prelude.{◌≡◌, ⊤, IfOk};
 ghost use Rattle.lapd_card.specs.FrameCard.{line_count};
@@ -123,39 +123,6 @@ fn happenings_are_answered(rt: HostRuntime) -> Result<(), Fail> {
     assert!(rt; card.lines() == 1);
     assert!(rt; card.drive(&HAPPENINGS, &mut sink) == Err(SinkFault { at: 0 }));
     assert!(rt; sink.at == 9 && sink.failures == 1);
-    Ok(())
-}
-
-/// Why a frame of so many octets 00 is dropped.
-fn dropped(card: &mut FrameCard<SlabShelf>, octets: &[u8]) -> Option<Cause> {
-    if card.lines() == 0 {
-        return None;
-    }
-    card.frame(0, octets).cause
-}
-
-/// Frames of each length near a border, and why they are dropped.
-const LENGTHS: [(usize, Cause); 8] = [
-    (0, Cause::Short),
-    (1, Cause::Short),
-    (2, Cause::Short),
-    (3, Cause::Short),
-    (4, Cause::Extension),
-    (264, Cause::Extension),
-    (265, Cause::Extension),
-    (65_535, Cause::Extension),
-];
-
-#[test]
-fn bad_frames_are_dropped(rt: HostRuntime) -> Result<(), Fail> {
-    let mut card = frame_card(rt.alloc())?;
-    let before = card.stored();
-    let octets = vec![in rt.alloc(); 0u8; 65_535]?;
-    for (length, cause) in LENGTHS {
-        let frame = octets.get(..length);
-        assert!(rt; frame.is_some_and(|frame| dropped(&mut card, frame) == Some(cause)));
-    }
-    assert!(rt; card.stored() == before);
     Ok(())
 }
 

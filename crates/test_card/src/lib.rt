@@ -4,11 +4,9 @@
 //! - `kept`: what a sink that keeps replies has kept after a list of events.
 //! - `starts`: which shelves a card starts with, and its faults in words.
 //! - `sinks`: whole lists of events, and sinks that fail.
-//! - `refusals`: requests that are refused, over any shelf, and what the card stores before and after.
 //! - `own_shelf`: a card over a shelf of the caller's own.
-//! - `frames`: a card for frames, with a list of happenings, bad frames, and a room that is too small.
+//! - `frames`: a card for frames, with a list of happenings and a room that is too small.
 //! - `example`: a line that is served, as in the README.
-//! - `rows`: worked rows, with every allocation after the starts refused by `tests/memory`: no answer changes.
 //! - `memory`: starts and long runs, of which `tests/memory` counts the allocations.
 #![tactic(auto)]
 
@@ -21,10 +19,6 @@ mod kept;
 mod memory;
 #[cfg(test)]
 mod own_shelf;
-#[cfg(test)]
-mod refusals;
-#[cfg(test)]
-mod rows;
 #[cfg(test)]
 mod sinks;
 #[cfg(test)]

@@ -4,12 +4,11 @@ ghost use Rattle.std.specs.Prelude.{◌<◌, All};
 ghost use Rattle.lapd_card.specs.Card.{line_count};
 ghost use Rattle.lapd_card.specs.Drive.{line_of};
 
+use crate::example::SABME;
 use crate::kept::keep_replies;
-use crate::refusals::bring_up;
 use crate::starts::{USUAL, usual_card};
 use lapd_card::{Card, Config, Event, Kept, KeptReply, Reply, Request};
 use lapd_frame::{Service, Timer};
-use lapd_line::Line;
 use lapd_store::{RawShelf, SlabShelf};
 use std::alloc::Global;
 use std::process::Abort;
@@ -34,6 +33,16 @@ const ENDED: [Event<'static>; 5] = [
     Event::Request(0, Request::Release(CALL, 64)),
     Event::Request(0, Request::Remove(64)),
 ];
+
+/// Puts TEI 64 on the line, and its terminal establishes the call control link.
+fn bring_up(rt: &impl Abort, card: &mut Card<SlabShelf>) {
+    assert!(rt; card.lines() == 1);
+    assert!(rt; card.request(0, Request::Assign(64)).is_ok());
+    for octet in SABME {
+        assert!(rt; card.lines() == 1);
+        let _ = card.octet(0, octet);
+    }
+}
 
 /// How many of so many events are refused; None where the sink did not keep every reply.
 fn refused(card: &mut Card<SlabShelf>, sink: &mut Kept, events: &[Event<'_>]) -> Option<usize>
@@ -101,13 +110,5 @@ fn a_card_starts(rt: HostRuntime) -> Result<(), Fail> {
 fn a_card_starts_over_a_region(rt: HostRuntime) -> Result<(), Fail> {
     let card = Card::start(rt.alloc(), SMALL, RawShelf::start(rt.alloc(), 64, 260)?)?;
     assert!(rt; card.lines() == 2);
-    Ok(())
-}
-
-#[test]
-fn a_line_starts(rt: HostRuntime) -> Result<(), Fail> {
-    assert!(rt; SMALL.fault().is_none());
-    let line = Line::start(rt.alloc(), &SMALL)?;
-    assert!(rt; line.state(CALL, 64).is_none());
     Ok(())
 }

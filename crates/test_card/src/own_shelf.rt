@@ -1,6 +1,5 @@
 //! A card over a shelf of the caller's own, which stands on a plain array and takes no memory.
 
-use crate::refusals::{refuse_at_a_line, refuse_when_full};
 use crate::starts::USUAL;
 use lapd_card::{Card, CardFault, Config, Request};
 use lapd_frame::{Refusal, Service};
@@ -21,13 +20,5 @@ fn a_card_over_a_shelf_of_the_callers_own(rt: HostRuntime) -> Result<(), Fail> {
     assert!(rt; card.lines() == 1);
     assert!(rt; card.request(0, unit).err() == Some(Refusal::QueueFull));
     assert!(rt; card.stored() == 8);
-    Ok(())
-}
-
-/// The same refusals as over the shelves of the product.
-#[test]
-fn refusals_over_a_shelf_of_the_callers_own(rt: HostRuntime) -> Result<(), Fail> {
-    refuse_at_a_line(&rt, &mut Card::start(rt.alloc(), USUAL, ArrayShelf::new())?);
-    refuse_when_full(&rt, &mut Card::start(rt.alloc(), USUAL, ArrayShelf::new())?);
     Ok(())
 }

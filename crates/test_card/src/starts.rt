@@ -4,7 +4,6 @@ ghost use Rattle.std.specs.Prelude.{◌≡◌, ◌≤◌, IfOk};
 ghost use Rattle.lapd_card.specs.Card.{line_count};
 
 use lapd_card::{Card, CardFault, Config, Field, Side};
-use lapd_line::StartFault;
 use lapd_store::{Shelf, SlabShelf};
 use std::alloc::Global;
 use std::fmt::Display;
@@ -76,5 +75,4 @@ fn faults_in_words(rt: HostRuntime) {
         "the shelf is too small",
     );
     says(&rt, rt.alloc(), &CardFault::OutOfMemory, "out of memory");
-    says(&rt, rt.alloc(), &StartFault::OutOfMemory, "out of memory");
 }

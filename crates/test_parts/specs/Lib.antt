@@ -1,2 +1,1 @@
 pub mod Outbox
-pub mod Works

@@ -12,7 +12,6 @@ mod busy;
 mod done;
 mod fault;
 mod frames;
-mod lengths;
 mod line;
 mod lines;
 mod sender;

@@ -6,11 +6,10 @@ use crate::busy::busy;
 use crate::done::Done;
 use crate::fault::Fault;
 use crate::frames::{Whole, serve};
-use crate::lengths::Lengths;
 use crate::line::{ROUND, framed, in_no_order, information, repeated};
 use crate::lines::{Traffic, exchange};
 use crate::sender::{N201, Sender};
-use crate::shelves::{Keeping, Shelves};
+use crate::shelves::{Shelves, keep};
 use crate::size::Size;
 use lapd_bits::{Deframer, Heard, fcs};
 use std::alloc::Global;
@@ -49,8 +48,8 @@ pub enum Work {
     Frames(Whole, u16),
     /// A card with 64 busy lines.
     Busy,
-    /// Contents that are put on a shelf, or lent.
-    Keep(Keeping),
+    /// Contents that are put on a shelf, lent and released.
+    Keep(Shelves, Size),
 }
 
 /// All of them, each with its word on the command line.
@@ -58,7 +57,7 @@ pub fn works() -> &'static [(&'static str, Work)] {
     &WORKS
 }
 
-const WORKS: [(&str, Work); 51] = [
+const WORKS: [(&str, Work); 35] = [
     ("check", Work::Check),
     ("hear-short", Work::HearShort),
     ("hear-long", Work::HearLong),
@@ -88,88 +87,12 @@ const WORKS: [(&str, Work); 51] = [
     ("frames-gone-1", Work::Frames(Whole::Gone, 1)),
     ("frames-gone-64", Work::Frames(Whole::Gone, 64)),
     ("busy-64", Work::Busy),
-    ("raw-start", Work::Keep(Keeping::Start(Shelves::Raw))),
-    (
-        "raw-fill-8",
-        Work::Keep(Keeping::Fill(Shelves::Raw, Lengths::Equal(Size::Narrow))),
-    ),
-    (
-        "raw-fill-64",
-        Work::Keep(Keeping::Fill(Shelves::Raw, Lengths::Equal(Size::Middle))),
-    ),
-    (
-        "raw-fill-260",
-        Work::Keep(Keeping::Fill(Shelves::Raw, Lengths::Equal(Size::Wide))),
-    ),
-    (
-        "raw-fill-mixed",
-        Work::Keep(Keeping::Fill(Shelves::Raw, Lengths::Mixed)),
-    ),
-    (
-        "raw-keep-8",
-        Work::Keep(Keeping::Keep(Shelves::Raw, Size::Narrow)),
-    ),
-    (
-        "raw-keep-64",
-        Work::Keep(Keeping::Keep(Shelves::Raw, Size::Middle)),
-    ),
-    (
-        "raw-keep-260",
-        Work::Keep(Keeping::Keep(Shelves::Raw, Size::Wide)),
-    ),
-    (
-        "raw-lend-8",
-        Work::Keep(Keeping::Lend(Shelves::Raw, Size::Narrow)),
-    ),
-    (
-        "raw-lend-64",
-        Work::Keep(Keeping::Lend(Shelves::Raw, Size::Middle)),
-    ),
-    (
-        "raw-lend-260",
-        Work::Keep(Keeping::Lend(Shelves::Raw, Size::Wide)),
-    ),
-    ("slab-start", Work::Keep(Keeping::Start(Shelves::Slab))),
-    (
-        "slab-fill-8",
-        Work::Keep(Keeping::Fill(Shelves::Slab, Lengths::Equal(Size::Narrow))),
-    ),
-    (
-        "slab-fill-64",
-        Work::Keep(Keeping::Fill(Shelves::Slab, Lengths::Equal(Size::Middle))),
-    ),
-    (
-        "slab-fill-260",
-        Work::Keep(Keeping::Fill(Shelves::Slab, Lengths::Equal(Size::Wide))),
-    ),
-    (
-        "slab-fill-mixed",
-        Work::Keep(Keeping::Fill(Shelves::Slab, Lengths::Mixed)),
-    ),
-    (
-        "slab-keep-8",
-        Work::Keep(Keeping::Keep(Shelves::Slab, Size::Narrow)),
-    ),
-    (
-        "slab-keep-64",
-        Work::Keep(Keeping::Keep(Shelves::Slab, Size::Middle)),
-    ),
-    (
-        "slab-keep-260",
-        Work::Keep(Keeping::Keep(Shelves::Slab, Size::Wide)),
-    ),
-    (
-        "slab-lend-8",
-        Work::Keep(Keeping::Lend(Shelves::Slab, Size::Narrow)),
-    ),
-    (
-        "slab-lend-64",
-        Work::Keep(Keeping::Lend(Shelves::Slab, Size::Middle)),
-    ),
-    (
-        "slab-lend-260",
-        Work::Keep(Keeping::Lend(Shelves::Slab, Size::Wide)),
-    ),
+    ("raw-keep-8", Work::Keep(Shelves::Raw, Size::Narrow)),
+    ("raw-keep-64", Work::Keep(Shelves::Raw, Size::Middle)),
+    ("raw-keep-260", Work::Keep(Shelves::Raw, Size::Wide)),
+    ("slab-keep-8", Work::Keep(Shelves::Slab, Size::Narrow)),
+    ("slab-keep-64", Work::Keep(Shelves::Slab, Size::Middle)),
+    ("slab-keep-260", Work::Keep(Shelves::Slab, Size::Wide)),
 ];
 
 impl Work {
@@ -187,7 +110,7 @@ impl Work {
             Work::Card(traffic, lines) => exchange(alloc, traffic, lines, rounds),
             Work::Frames(kind, lines) => serve(alloc, kind, lines, rounds),
             Work::Busy => busy(alloc, rounds),
-            Work::Keep(keeping) => keeping.run(alloc, rounds),
+            Work::Keep(shelves, size) => keep(alloc, shelves, size, rounds),
         }
     }
 }

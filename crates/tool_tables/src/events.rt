@@ -1,14 +1,11 @@
 //! What happens to a link, and what it leads to.
 
-ghost use Rattle.test_parts.specs.Works.{Works};
+ghost use Rattle.tool_tables.specs.Works.{Works};
 
+use crate::shelved_link::ShelvedLink;
 use lapd_frame::{Control, Refusal};
 use lapd_link::{Answer, LinkRequest, LinkTimer, Offer, Received};
 use lapd_seq::Seq;
-use test_parts::ShelvedLink;
-
-/// As many slots as the shelf of a link has.
-pub const SLOTS: u32 = 2;
 
 /// A state of a link, by the events that lead there from state 4.
 #[derive(Clone, Copy)]
@@ -111,8 +108,8 @@ impl Event {
 
 /// Leads a link to a state, and plays one event there.
 pub fn lead(shelved: &mut ShelvedLink, case: Case, event: Event) -> Led
-    requires { Works 2 shelved.old }
-    ensures { Works 2 shelved.new }
+    requires { Works shelved.old }
+    ensures { Works shelved.new }
 {
     prepare(shelved, case.events);
     hold(shelved, case.held);
@@ -131,8 +128,8 @@ pub fn lead(shelved: &mut ShelvedLink, case: Case, event: Event) -> Led
 
 /// Plays events, and after each sends what waits.
 fn prepare(shelved: &mut ShelvedLink, events: &[Event])
-    requires { Works 2 shelved.old }
-    ensures { Works 2 shelved.new }
+    requires { Works shelved.old }
+    ensures { Works shelved.new }
 {
     for event in events {
         let _ = give(shelved, *event);
@@ -141,8 +138,8 @@ fn prepare(shelved: &mut ShelvedLink, events: &[Event])
 }
 
 fn hold(shelved: &mut ShelvedLink, events: &[Event])
-    requires { Works 2 shelved.old }
-    ensures { Works 2 shelved.new }
+    requires { Works shelved.old }
+    ensures { Works shelved.new }
 {
     for event in events {
         let _ = give(shelved, *event);
@@ -150,59 +147,50 @@ fn hold(shelved: &mut ShelvedLink, events: &[Event])
 }
 
 fn skip(shelved: &mut ShelvedLink, frames: usize)
-    requires { Works 2 shelved.old }
-    ensures { Works 2 shelved.new }
+    requires { Works shelved.old }
+    ensures { Works shelved.new }
 {
     for _ in 0..frames {
-        let _ = shelved.offer(SLOTS);
+        let _ = shelved.offer();
     }
 }
 
 /// Sends what waits: no event of the tables lets more than three frames go.
 fn send(shelved: &mut ShelvedLink) -> [Option<Offer>; 4]
-    requires { Works 2 shelved.old }
-    ensures { Works 2 shelved.new }
+    requires { Works shelved.old }
+    ensures { Works shelved.new }
 {
-    let first = shelved.offer(SLOTS);
-    let second = shelved.offer(SLOTS);
-    let third = shelved.offer(SLOTS);
-    let fourth = shelved.offer(SLOTS);
+    let first = shelved.offer();
+    let second = shelved.offer();
+    let third = shelved.offer();
+    let fourth = shelved.offer();
     [first, second, third, fourth]
 }
 
 fn give(shelved: &mut ShelvedLink, event: Event) -> Result<Answer, Refusal>
-    requires { Works 2 shelved.old }
-    ensures { Works 2 shelved.new }
+    requires { Works shelved.old }
+    ensures { Works shelved.new }
 {
     match event {
         Event::Plain(frame, pf) => {
             let (command, control) = frame_of(frame, pf);
-            Ok(shelved.hear(SLOTS, command, control, &[]))
+            Ok(shelved.hear(command, control))
         }
-        Event::Command(kind, nr, p) => Ok(shelved.hear(SLOTS, true, control_of(kind, nr, p), &[])),
-        Event::Response(kind, nr, f) => Ok(shelved.hear(
-            SLOTS,
-            false,
-            control_of(kind, nr, f),
-            &[],
-        )),
-        Event::Malformed(malformed) => Ok(receive(shelved, malformed)),
-        Event::Expire(timer) => Ok(shelved.expire(SLOTS, timer)),
-        Event::Ask(request) => shelved.ask(SLOTS, request),
-        Event::Clear => Ok(shelved.clear(SLOTS)),
+        Event::Command(kind, nr, p) => Ok(shelved.hear(true, control_of(kind, nr, p))),
+        Event::Response(kind, nr, f) => Ok(shelved.hear(false, control_of(kind, nr, f))),
+        Event::Malformed(malformed) => Ok(shelved.receive(received(malformed))),
+        Event::Expire(timer) => Ok(shelved.expire(timer)),
+        Event::Ask(request) => shelved.ask(request),
+        Event::Clear => Ok(shelved.clear()),
     }
 }
 
-fn receive(shelved: &mut ShelvedLink, malformed: Malformed) -> Answer
-    requires { Works 2 shelved.old }
-    ensures { Works 2 shelved.new }
-{
-    let received = match malformed {
+fn received(malformed: Malformed) -> Received<'static> {
+    match malformed {
         Malformed::Undefined => Received::Undefined,
         Malformed::WrongSize => Received::WrongSize,
         Malformed::Overlong => Received::Overlong,
-    };
-    shelved.link.receive(received, &mut shelved.shelf)
+    }
 }
 
 /// Whether it is a command, and its control field.

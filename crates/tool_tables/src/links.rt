@@ -4,13 +4,13 @@
 use crate::cases::{
     down, numbered, numbered_down, others, recovery, recovery_busy, unnumbered, up, up_busy,
 };
-use crate::events::{Case, Event, Led, SLOTS, lead};
+use crate::events::{Case, Event, Led, lead};
+use crate::shelved_link::ShelvedLink;
 use crate::text::Text;
 use crate::words;
 use lapd_frame::Control;
 use lapd_link::Offer;
 use std::alloc::Global;
-use test_parts::ShelvedLink;
 
 const HEAD: &str = "# What a card does, printed by itself
 
@@ -110,7 +110,7 @@ fn row(alloc: Global, cases: &[Case], event: Event) -> Text {
 /// What one event leads to in one state.
 fn cell(alloc: Global, case: Case, event: Event) -> Text {
     let mut cell = Text::new(alloc);
-    match ShelvedLink::with_room(alloc, 2, 2, SLOTS) {
+    match ShelvedLink::start(alloc) {
         Ok(mut shelved) => {
             let led = lead(&mut shelved, case, event);
             tell(&mut cell, &led, event.polled());

@@ -1,7 +1,7 @@
 //! `tool_tables` prints `docs/TABLES.md`: what a link and TEI management do in each state with each event, played on
 //! the proved `Link` and `Teis` by their public calls.
 //!
-//! - `events`: what happens to a link, and what it leads to.
+//! - `shelved_link`: a link with its shelf. `events`: what happens to it, and what it leads to.
 //! - `cases`: the states of a link, and the events.
 //! - `links`: both as tables.
 //! - `teis`: the same of TEI management.
@@ -18,6 +18,7 @@ mod cases;
 mod events;
 mod fault;
 mod links;
+mod shelved_link;
 mod teis;
 mod text;
 mod words;

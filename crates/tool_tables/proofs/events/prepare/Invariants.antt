@@ -1,6 +1,6 @@
 -- The link works.
-use Rattle.test_parts.specs.Works.{Works}
+use Rattle.tool_tables.specs.Works.{Works}
 use Rattle.tool_tables.proofs.events.prepare.Given as goal
 
 abbrev pub invariant-loop-event : goal.invariant-loop-event
-invariant-loop-event l = Works 2 l.shelved
+invariant-loop-event l = Works l.shelved

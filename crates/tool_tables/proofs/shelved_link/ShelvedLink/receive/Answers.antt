@@ -1,6 +1,6 @@
--- Hand-written answers for `ShelvedLink::hear`.
+-- Hand-written answers for `ShelvedLink::receive`.
 use Rattle.std.proofs.Common.{[], ◌∙◌}
-use Rattle.test_parts.proofs.link.shelved_link.ShelvedLink.hear.Goals as goal
+use Rattle.tool_tables.proofs.shelved_link.ShelvedLink.receive.Goals as goal
 
 pub receive-requires : goal.receive-requires
 receive-requires c = ([], c.requires.0, c.requires.1)

@@ -1,6 +1,6 @@
 -- Hand-written answers for `ShelvedLink::clear`.
 use Rattle.std.proofs.Common.{[], ◌∙◌}
-use Rattle.test_parts.proofs.link.shelved_link.ShelvedLink.clear.Goals as goal
+use Rattle.tool_tables.proofs.shelved_link.ShelvedLink.clear.Goals as goal
 
 pub clear-requires : goal.clear-requires
 clear-requires c = ([], c.requires.0, c.requires.1)

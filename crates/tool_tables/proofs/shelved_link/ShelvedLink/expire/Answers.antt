@@ -1,6 +1,6 @@
 -- Hand-written answers for `ShelvedLink::expire`.
 use Rattle.std.proofs.Common.{[], ◌∙◌}
-use Rattle.test_parts.proofs.link.shelved_link.ShelvedLink.expire.Goals as goal
+use Rattle.tool_tables.proofs.shelved_link.ShelvedLink.expire.Goals as goal
 
 pub expire-requires : goal.expire-requires
 expire-requires c = ([], c.requires.0, c.requires.1)

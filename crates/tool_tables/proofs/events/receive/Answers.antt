@@ -1,9 +1,0 @@
--- Hand-written answers for `receive`.
-use Rattle.std.proofs.Common.{[], ◌∙◌}
-use Rattle.tool_tables.proofs.events.receive.Goals as goal
-
-pub receive-requires : goal.receive-requires
-receive-requires c = ([], c.requires.0, c.requires.1)
-
-pub returns : goal.returns
-returns c = (_, c.receive.ensures.stands [] c.requires.0 c.requires.1, c.receive.ensures.limits.slots ∙ c.requires.2)

@@ -1,0 +1,96 @@
+//! A link with its shelf.
+
+ghost use Rattle.std.specs.Prelude.{IfOk};
+
+use lapd_frame::{Address, Control, Frame, Refusal, Service};
+use lapd_link::{Answer, Link, LinkRequest, LinkTimer, Offer, Received, StartFault};
+use lapd_store::SlabShelf;
+use std::alloc::Global;
+
+/// As many contents and control frames as a link keeps, and slots as its shelf has.
+const ROOM: u32 = 2;
+
+/// A link of TEI 64 for call control, with a shelf of its own.
+#[derive(Drop)]
+pub struct ShelvedLink {
+    /// The link, opened.
+    pub link: Link,
+    /// Where its contents lie.
+    pub shelf: SlabShelf,
+}
+
+impl ShelvedLink {
+    ghost use Rattle.tool_tables.specs.Works.{Works};
+
+    /// A link that was opened, with a window and a queue of two contents of at most 8 octets, over as many slots, where two
+    /// control frames may wait.
+    pub fn start(alloc: Global) -> Result<ShelvedLink, StartFault>
+        ensures { IfOk result Works }
+    {
+        let mut link = Link::start(alloc, ROOM as u8, ROOM as u8)?;
+        let shelf = SlabShelf::start(alloc, ROOM, 8)?;
+        link.open(Service::Call, 64, ROOM as u8, 3, 8);
+        Ok(ShelvedLink { link, shelf })
+    }
+
+    /// The link hears a frame of its terminal, without information.
+    pub fn hear(&mut self, command: bool, control: Control) -> Answer
+        requires { Works self.old }
+        ensures { Works self.new }
+    {
+        self.receive(Received::Frame(frame_of(command, control)))
+    }
+
+    /// The link is handed what came.
+    pub fn receive(&mut self, received: Received<'_>) -> Answer
+        requires { Works self.old }
+        ensures { Works self.new }
+    {
+        self.link.receive(received, &mut self.shelf)
+    }
+
+    /// Layer 3 asks for something.
+    pub fn ask(&mut self, request: LinkRequest<'_>) -> Result<Answer, Refusal>
+        requires { Works self.old }
+        ensures { Works self.new }
+    {
+        self.link.request(request, &mut self.shelf, ROOM)
+    }
+
+    /// A timer expires.
+    pub fn expire(&mut self, timer: LinkTimer) -> Answer
+        requires { Works self.old }
+        ensures { Works self.new }
+    {
+        self.link.expire(timer, &mut self.shelf)
+    }
+
+    /// The next frame is sent.
+    pub fn offer(&mut self) -> Option<Offer>
+        requires { Works self.old }
+        ensures { Works self.new }
+    {
+        self.link.offer()
+    }
+
+    /// The TEI leaves the line.
+    pub fn clear(&mut self) -> Answer
+        requires { Works self.old }
+        ensures { Works self.new }
+    {
+        self.link.clear(&mut self.shelf)
+    }
+}
+
+fn frame_of(command: bool, control: Control) -> Frame<'static> {
+    let address = Address {
+        sapi: 0,
+        command,
+        tei: 64,
+    };
+    Frame {
+        address,
+        control,
+        info: &[],
+    }
+}

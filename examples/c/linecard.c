@@ -1,0 +1,110 @@
+/* linecard.c: what exchange.c and hardware.c do alike. See linecard.h. */
+#define _POSIX_C_SOURCE 200809L
+
+#include "linecard.h"
+
+#include <time.h>
+
+const lapd_config linecard_config = {.lines = 1, .terminals = 8, .k = 7, .k16 = 7, .queue = 8, .unit_queue = 4,
+                                     .control = 4, .slots = 64, .n201 = 260, .n200 = 3};
+
+bool linecard_is_ok(const linecard *own, uint32_t status, const char *call) {
+    if (status != LAPD_OK)
+        fprintf(stderr, "%s: %s: %s\n", own->program, call, lapd_status_text(status));
+    return status == LAPD_OK;
+}
+
+void put_octets(FILE *to, const uint8_t *octets, size_t length) {
+    for (size_t i = 0; i < length; i++)
+        fprintf(to, "%02X", octets[i]);
+    fputs(length == 0 ? "-\n" : "\n", to);
+}
+
+/* ---- Layer 3 ------------------------------------------------------------------------------------------------------ */
+
+/* A link came up or went down, a TEI came or left, or there was an error. */
+static void link_changed(const lapd_note *note) {
+    fprintf(stderr, "0 %s %u", lapd_note_text(note), note->tei);
+    fprintf(stderr, note->error != 0 ? " %c\n" : "\n", note->error);
+}
+
+/* Contents came on a link, or unit data to one or to all. */
+static void contents_came(const lapd_note *note, const lapd_report *report) {
+    fprintf(stderr, "0 %s %u ", lapd_note_text(note), note->tei);
+    put_octets(stderr, report->contents, report->length);
+}
+
+bool linecard_send(linecard *own, const lapd_note *note, const uint8_t *octets, size_t length) {
+    static lapd_report report;
+    if (own->record != NULL) {
+        fprintf(own->record, "%s 0 %u ", note->service == LAPD_PACKET ? "data16" : "data", note->tei);
+        put_octets(own->record, octets, length);
+    }
+    uint32_t status = lapd_data(&own->card, 0, note->service, note->tei, octets, length, &report);
+    if ((LAPD_REFUSED_BAD_TEI <= status && status <= LAPD_REFUSED_CONTROL_FULL) || status == LAPD_REFUSED_WRONG_SIDE) {
+        fprintf(stderr, "0 refused %s\n", lapd_status_text(status));
+        return true;
+    }
+    return linecard_is_ok(own, status, "data") && linecard_tell(own, &report);
+}
+
+bool linecard_tell(linecard *own, const lapd_report *report) {
+    if (!linecard_is_ok(own, lapd_clock_apply_report(&own->timers, 0, report, own->now), "orders"))
+        return false;
+    const lapd_note *data = NULL;
+    for (const lapd_note *note = report->notes; note < report->notes + report->note_count; note++)
+        if (note->note == LAPD_DATA_INDICATION || note->note == LAPD_UNIT_INDICATION) {
+            contents_came(note, report);
+            data = note->note == LAPD_DATA_INDICATION ? note : data;
+        } else {
+            link_changed(note);
+        }
+    if (report->cause != 0)
+        fprintf(stderr, "0 dropped %s\n", lapd_cause_text(report->cause));
+    if (report->lost != 0)
+        fprintf(stderr, "0 lost %u\n", report->lost);
+    return data == NULL || own->message_came(own, data, report->contents, report->length);
+}
+
+/* ---- Time --------------------------------------------------------------------------------------------------------- */
+
+static uint64_t monotonic(void) {
+    struct timespec time;
+    clock_gettime(CLOCK_MONOTONIC, &time);
+    return (uint64_t)time.tv_sec * 1000 + (uint64_t)time.tv_nsec / 1000000;
+}
+
+bool linecard_pass(linecard *own) {
+    static lapd_report report;
+    uint64_t moment = monotonic() - own->start;
+    if (own->record != NULL && moment > own->now)
+        fprintf(own->record, "wait %llu\n", (unsigned long long)(moment - own->now));
+    for (uint64_t next; lapd_clock_next(&own->timers, &next) == LAPD_OK && next <= moment;) {
+        lapd_due due;
+        own->now = next;
+        if (!linecard_is_ok(own, lapd_clock_due(&own->timers, own->now, &due), "due")
+            || !linecard_is_ok(own, lapd_expire(&own->card, due.line, &due.timer, &report), "expire")
+            || !linecard_tell(own, &report))
+            return false;
+    }
+    own->now = moment;
+    return true;
+}
+
+int linecard_patience(linecard *own) {
+    uint64_t moment;
+    if (lapd_clock_next(&own->timers, &moment) != LAPD_OK)
+        return -1;
+    return moment <= own->now ? 0 : moment - own->now > 10000 ? 10000 : (int)(moment - own->now);
+}
+
+bool linecard_begin(linecard *own) {
+    own->start = monotonic();
+    return linecard_is_ok(own, lapd_clock_start(&own->timers, &linecard_config), "clock");
+}
+
+bool linecard_end(linecard *own) {
+    lapd_clock_free(&own->timers);
+    lapd_card_free(&own->card);
+    return own->record == NULL || fclose(own->record) == 0;
+}

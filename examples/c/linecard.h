@@ -1,0 +1,54 @@
+/*
+ * linecard.h: what exchange.c and hardware.c do alike. A card with one line and its clock: orders go to the clock, notes to
+ * layer 3, and each timer expires at its moment. What layer 3 does with a message is each program's own.
+ */
+#ifndef LINECARD_H
+#define LINECARD_H
+
+#include <stdbool.h>
+#include <stddef.h>
+#include <stdint.h>
+#include <stdio.h>
+
+#include "lapd.h"
+
+typedef struct linecard linecard;
+
+struct linecard {
+    const char *program; /* its name, for what it says of faults */
+    bool (*message_came)(linecard *own, const lapd_note *note, const uint8_t *contents, size_t length);
+    FILE *record; /* where all that happens is written as a script of docs/FORMAT.md, or NULL */
+    lapd_card card;
+    lapd_clock timers;
+    uint64_t start, now; /* milliseconds of the system's monotonic time, and since the start */
+};
+
+/* The card, but for its kind, and the numbers that a script has for it. */
+extern const lapd_config linecard_config;
+#define LINECARD_NUMBERS "1 8 7 8 4 4 64 260 3"
+
+/* A call that can only fail by a fault of the program; says which, where it fails. */
+bool linecard_is_ok(const linecard *own, uint32_t status, const char *call);
+
+/* Hands the orders of a report to the clock, and its notes to layer 3. */
+bool linecard_tell(linecard *own, const lapd_report *report);
+
+/* Layer 3 sends a message on the link of this note. */
+bool linecard_send(linecard *own, const lapd_note *note, const uint8_t *octets, size_t length);
+
+/* Time goes on to now: each timer that falls due until then expires at its own moment. */
+bool linecard_pass(linecard *own);
+
+/* Milliseconds until a timer falls due, for poll. */
+int linecard_patience(linecard *own);
+
+/* Starts the clock, and time. */
+bool linecard_begin(linecard *own);
+
+/* Frees card and clock, and closes the record; whether it was written. */
+bool linecard_end(linecard *own);
+
+/* Writes octets as a script has them, and ends the line. */
+void put_octets(FILE *to, const uint8_t *octets, size_t length);
+
+#endif

@@ -107,6 +107,7 @@ impl Counters {
     }
 
     /// What is told of an event.
+    #[inline(always)]
     pub fn told(&mut self, notes: &[Note], cause: Option<Cause>, lost: u8)
         ensures { self.new ≡ with_all self.old (told_shown notes.now cause lost) }
     {

@@ -44,6 +44,7 @@ pub(crate) fn header(side: Side, octets: &[u8; 4]) -> Result<(Address, Control),
 
 // The control field, if these octets are one.
 #[tactic(auto, unfolding(crate::specs::Reading::control_of))]
+#[inline(always)]
 fn control_of(third: u8, fourth: u8) -> Option<Control>
     ensures { result ≡ control_of third fourth }
 {

@@ -52,7 +52,22 @@ impl<T: Copy> ShortList<T> {
     }
 
     /// Puts an item at the end. There has to be room: fewer than four items.
+    // The first item is put where it belongs; the others, which are rare, by a call.
+    #[inline(always)]
     pub fn push(&mut self, item: T)
+        requires room { length (listed self.old) < 4 }
+        ensures { listed self.new ≡ listed self.old ++ item ∷ [] }
+    {
+        match self {
+            ShortList::None => *self = ShortList::One([item]),
+            ShortList::One(_) | ShortList::Two(_) | ShortList::Three(_) | ShortList::Four(_) => {
+                self.push_more(item);
+            }
+        }
+    }
+
+    #[inline(never)]
+    fn push_more(&mut self, item: T)
         requires room { length (listed self.old) < 4 }
         ensures { listed self.new ≡ listed self.old ++ item ∷ [] }
     {

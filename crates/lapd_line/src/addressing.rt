@@ -62,7 +62,8 @@ impl LinkLayer {
     ghost use Rattle.lapd_line.specs.Reports.{octets_of, told_in};
 
     /// Serves what the octets of the line have brought.
-    // A program with both kinds of cards calls it from two places, and would keep it apart.
+    // A program with both kinds of cards calls it from two places, and would keep it apart. What is rare is kept apart, and
+    // its report is named before it is answered: a call that wrote it into the answer would keep all answers in memory.
     #[inline(always)]
     pub(crate) fn serve<S: Shelf>(&mut self, heard: Heard<'_>, shelf: &mut S) -> BareReport
         requires { Standing self.old (S.store shelf.old) }
@@ -72,7 +73,10 @@ impl LinkLayer {
             Heard::Nothing => BareReport::nothing(),
             Heard::Dropped(cause) => BareReport::dropped(cause),
             Heard::Frame(octets) => self.frame(octets, shelf),
-            Heard::Overlong(head) => self.overlong(&head, shelf),
+            Heard::Overlong(head) => {
+                let report = self.overlong(&head, shelf);
+                report
+            }
         }
     }
 
@@ -85,7 +89,10 @@ impl LinkLayer {
     {
         match read(self.config.side.other(), octets) {
             Ok(frame) => self.spelled(frame, shelf),
-            Err(fault) => self.faulty(fault, octets.len(), shelf),
+            Err(fault) => {
+                let report = self.faulty(fault, octets.len(), shelf);
+                report
+            }
         }
     }
 
@@ -97,7 +104,10 @@ impl LinkLayer {
             → Serves (λ m. aim_of_reading self.old.config m (Ok (parts_of frame.entry))) octets self.old (S.store shelf.old) self.new (S.store shelf.new) result }
     {
         match self.addressee(frame.address) {
-            Addressee::Management => self.message(frame.control, frame.info, shelf),
+            Addressee::Management => {
+                let report = self.message(frame.control, frame.info, shelf);
+                report
+            }
             Addressee::Link {
                 service,
                 tei,
@@ -152,6 +162,7 @@ impl LinkLayer {
     }
 
     /// Octets that spell no frame: `len` of them.
+    #[inline(never)]
     fn faulty<S: Shelf>(&mut self, fault: ReadFault, len: usize, shelf: &mut S) -> BareReport
         requires { Standing self.old (S.store shelf.old) }
         ensures { (octets : List ℕ) → length octets ≤ len
@@ -176,6 +187,7 @@ impl LinkLayer {
     }
 
     /// A frame that is longer than the line has room for, by its first four octets.
+    #[inline(never)]
     fn overlong<S: Shelf>(&mut self, head: &[u8; 4], shelf: &mut S) -> BareReport
         requires { Standing self.old (S.store shelf.old) }
         ensures { Serves (λ m. aim_of_long m (long_reading (heard_side self.old.config) head.now)) [] self.old (S.store shelf.old) self.new (S.store shelf.new) result }
@@ -224,6 +236,7 @@ impl LinkLayer {
 
     /// A frame of layer 2 management.
     /// UI alone is served, on the network's side.
+    #[inline(never)]
     fn message<S: Shelf>(&mut self, control: Control, info: &[u8], shelf: &mut S) -> BareReport
         requires { Standing self.old (S.store shelf.old) }
         ensures { (octets : List ℕ) → Serves (always (message_at self.old.config.side control info.now)) octets self.old (S.store shelf.old) self.new (S.store shelf.new) result }

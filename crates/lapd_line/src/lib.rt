@@ -15,7 +15,7 @@
 //!   what they store; `rooms`, how much more contents they take.
 //! - `links`, `units`: the links of all places of the TEI table, and the unit data that waits; `awake`, which links may
 //!   have something to give.
-//! - `reports`, `pulled`: the answers; `fault`: why a line can't be started.
+//! - `reports`, `pulled`: the answers; `counting`: what they tell is counted; `fault`: why a line can't be started.
 //!
 //! # Only tested
 //!
@@ -24,6 +24,7 @@
 
 mod addressing;
 mod awake;
+mod counting;
 mod expiries;
 mod fault;
 mod frame_line;

@@ -20,6 +20,7 @@ ghost use Rattle.model_line.specs.Room.{room_in};
 ghost use Rattle.model_line.specs.Sound.{IsInRange};
 ghost use Rattle.model_line.specs.Stored.{held_in};
 
+use crate::counting::count_told;
 use crate::fault::StartFault;
 use crate::link_layer::LinkLayer;
 use crate::pulled::Pulled;
@@ -129,6 +130,7 @@ impl Line {
 
     /// Serves what the latest octet has ended, and counts it. It stands behind the test of [`Line::hear`], so that an octet
     /// that ended nothing costs no copy of a report.
+    #[inline(always)]
     fn take_in<S: Shelf>(&mut self, shelf: &mut S) -> BareReport
         requires { Standing self.old.layer (S.store shelf.old) }
         ensures line { self.new ≡ with_counted (with_served self.new.layer self.old) (heard_shown (latest_of self.old.deframer) ++ bare_shown result) }
@@ -145,16 +147,14 @@ impl Line {
         ensures { self.new ≡ with_counted self.old (heard_shown (latest_of self.old.deframer) ++ bare_shown bare.now) }
     {
         self.counters.heard(self.deframer.latest());
-        self.counters
-            .told(bare.notes.as_slice(), bare.cause, bare.lost);
+        count_told(&mut self.counters, bare.notes, bare.cause, bare.lost);
     }
 
     /// Counts what was told.
     fn count_told(&mut self, report: &Report<'_>)
         ensures { self.new ≡ with_counted self.old (told_in_report (report_told report.now)) }
     {
-        self.counters
-            .told(report.notes(), report.cause, report.lost);
+        count_told(&mut self.counters, report.notes, report.cause, report.lost);
     }
 
     /// Counts the frame that was begun last.

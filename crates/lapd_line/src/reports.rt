@@ -9,7 +9,7 @@ use lapd_frame::{Note, Order, ShortList};
 /// What an octet, an expiry or an accepted request led to.
 #[derive(Clone, Copy, PartialEq, Eq, Debug)]
 pub struct Report<'a> {
-    notes: ShortList<Note>,
+    pub(crate) notes: ShortList<Note>,
     orders: ShortList<Order>,
     /// The contents that a frame delivered: of the I-frame or the UI frame that a note tells of. They are lent until
     /// the line's next octet.

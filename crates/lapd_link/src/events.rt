@@ -152,6 +152,7 @@ impl Link {
 }
 
 // What happens goes to its rows.
+#[inline(always)]
 fn take(entity: &mut Entity, terms: Terms, what: Happening<'_>) -> Told
     ensures { Took terms (info_at what.entry) (step terms (event_of what.entry)) entity.old entity.new result }
 {
@@ -164,6 +165,7 @@ fn take(entity: &mut Entity, terms: Terms, what: Happening<'_>) -> Told
     told
 }
 
+#[inline(always)]
 fn hear(entity: &mut Entity, terms: Terms, told: &mut Told, received: Received<'_>)
     requires { HasRoom 2 2 told.old }
     ensures { Does terms (info_of received.entry) (received_step terms (received_of received.entry)) entity.old told.old entity.new told.new }

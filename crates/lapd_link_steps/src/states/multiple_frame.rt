@@ -45,6 +45,7 @@ fn is_final(command: bool, pf: bool) -> bool
 
 impl Entity {
     // A frame with so many octets of information, in state 8 (`recovering`) or in state 7.
+    #[inline(always)]
     pub(crate) fn frame_in_7_8(
         &mut self,
         terms: Terms,
@@ -117,6 +118,7 @@ impl Entity {
     }
 
     // An N(R): it is not valid, or it has its effect.
+    #[inline(always)]
     fn number(
         &mut self,
         terms: Terms,

@@ -1,0 +1,36 @@
+//! What is told is counted.
+
+ghost use Rattle.std.specs.Prelude.{◌≡◌};
+ghost use Rattle.lapd_count.specs.Counters.{with_all};
+ghost use Rattle.lapd_count.specs.Shown.{told_shown};
+ghost use Rattle.lapd_frame.specs.ShortLists.{listed};
+
+use lapd_bits::Cause;
+use lapd_count::Counters;
+use lapd_frame::{Note, ShortList};
+
+/// Counts what was told. Mostly there are no notes, and then nothing is done with the list.
+#[inline(always)]
+pub(crate) fn count_told(
+    counters: &mut Counters,
+    notes: ShortList<Note>,
+    cause: Option<Cause>,
+    lost: u8,
+)
+    ensures { counters.new ≡ with_all counters.old (told_shown (listed notes) cause lost) }
+{
+    match notes {
+        ShortList::None => counters.told(&[], cause, lost),
+        ShortList::One(_) | ShortList::Two(_) | ShortList::Three(_) | ShortList::Four(_) => {
+            count_noted(counters, notes, cause, lost);
+        }
+    }
+}
+
+/// The same where there are notes. It takes the list by value, so that a caller need not keep it in memory.
+#[inline(never)]
+fn count_noted(counters: &mut Counters, notes: ShortList<Note>, cause: Option<Cause>, lost: u8)
+    ensures { counters.new ≡ with_all counters.old (told_shown (listed notes) cause lost) }
+{
+    counters.told(notes.as_slice(), cause, lost);
+}

@@ -36,7 +36,7 @@ impl From<AllocError> for PlayFault {
 }
 
 /// What stopped a line.
-#[derive(Clone, Copy)]
+#[derive(Clone, Copy, PartialEq, Eq, Debug)]
 pub(crate) enum LineFault {
     /// The line is faulty.
     Faulty(FaultKind),

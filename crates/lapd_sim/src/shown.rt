@@ -22,7 +22,7 @@ use std::alloc::{AllocError, Global};
 const MOST_ON_LINE: usize = 1300;
 
 /// Why a frame is not shown.
-#[derive(Clone, Copy)]
+#[derive(Clone, Copy, PartialEq, Eq, Debug)]
 pub(crate) enum FrameFault {
     /// The word is no even number of hexadecimal digits.
     BadOctets,

@@ -1,6 +1,5 @@
 pub mod Places
-pub mod ClockPlaces
-pub mod CardPlaces
+pub mod SlotPlaces
 pub mod Contents
 pub mod Kinded
 pub mod Served

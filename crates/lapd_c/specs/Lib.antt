@@ -1,7 +1,6 @@
 -- What the library for C says.
-pub mod ClockSlots
+pub mod Slots
 pub mod Clocks
-pub mod CardSlots
 pub mod Kinds
 pub mod Cards
 pub mod Laws

@@ -7,7 +7,7 @@ use std::error::Error;
 use std::fmt;
 
 /// What is wrong with a line of a script: the first of these that holds, in this order.
-#[derive(Clone, Copy)]
+#[derive(Clone, Copy, Debug)]
 pub enum FaultKind {
     /// The line has more than 4,096 octets without its line feed, or the script up to and with the line more than
     /// `2^63`. It is tested on lines that are skipped, too.

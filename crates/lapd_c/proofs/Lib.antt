@@ -1,5 +1,6 @@
 pub mod Places
-pub mod SlotPlaces
+pub mod ClockPlaces
+pub mod CardPlaces
 pub mod Contents
 pub mod Kinded
 pub mod Served

@@ -5,17 +5,13 @@ use Rattle.model_line.specs.Event.{Answer, told, refused, pulled}
 use Rattle.lapd_plain.specs.declared.reports.PlainReport.{PlainReport}
 use Rattle.lapd_plain.specs.Reports.{Shows, ShowsPull}
 use Rattle.lapd_c.specs.declared.card.CardHandle.{CardHandle}
-use Rattle.lapd_c.specs.declared.kinds.AnyCard.{AnyCard}
 use Rattle.lapd_c.specs.declared.kinds.AnyCard.TheVariants.{Octets, Frames}
+use Rattle.lapd_c.specs.CardSlots.{HeldCard}
 use Rattle.lapd_c.specs.Kinds.{Kind, kind_of, CardStands, FrameCardStands, AnyStands}
-
--- A card of either kind, or none.
-abbrev pub HeldCard : Type 0
-HeldCard = Option AnyCard
 
 -- The card that is there, or none; and its kind.
 abbrev pub card_of : CardHandle → HeldCard
-card_of h = h.slot.held
+card_of h = h.slot.card
 
 abbrev pub kind_in : CardHandle → Option Kind
 kind_in h = option_map kind_of (card_of h)

@@ -1,5 +1,5 @@
 -- A clock as C holds it.
-use Rattle.std.specs.Prelude.{◌≡◌, ◌≤◌, ◌^◌, ℕ, nat_lt, is_some, Option, IfSome, Result, Ok, Err, if◌then◌else◌}
+use Rattle.std.specs.Prelude.{◌≡◌, ◌≤◌, ◌^◌, ℕ, nat_lt, is_some, IfSome, Result, Ok, Err, if◌then◌else◌}
 use Rattle.lapd_frame.specs.declared.timers.Order.{Order}
 use Rattle.lapd_frame.specs.declared.timers.Timer.{Timer}
 use Rattle.lapd_clock.specs.Timer.{Lengths}
@@ -8,10 +8,11 @@ use Rattle.lapd_plain.specs.Statuses.{ok, wrong_line, wrong_time, no_place}
 use Rattle.lapd_plain.specs.declared.timers.PlainDue.{PlainDue}
 use Rattle.lapd_plain.specs.Timers.{plain_timer}
 use Rattle.lapd_c.specs.declared.clock.ClockHandle.{ClockHandle}
+use Rattle.lapd_c.specs.ClockSlots.{HeldClock}
 
 -- The clock that is there, or none.
-abbrev pub clock_of : ClockHandle → Option Timers
-clock_of h = h.slot.held
+abbrev pub clock_of : ClockHandle → HeldClock
+clock_of h = h.slot.clock
 
 -- It says of itself whether one is there; and that has the lines of a card.
 pub record IsHandle (h : ClockHandle) : Type 0 where

@@ -7,7 +7,8 @@ use Rattle.model_card.specs.Event.{Event}
 use Rattle.model_card.specs.Happening.{Happening}
 use Rattle.model_card.specs.HappeningsCounted.{happening_counted}
 use Rattle.lapd_c.specs.declared.card.CardHandle.{CardHandle}
-use Rattle.lapd_c.specs.Cards.{HeldCard, card_of}
+use Rattle.lapd_c.specs.CardSlots.{HeldCard}
+use Rattle.lapd_c.specs.Cards.{card_of}
 use Rattle.lapd_c.specs.Kinds.{counters_of}
 
 -- The counters of its lines; of no card, none.

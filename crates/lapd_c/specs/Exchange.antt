@@ -9,7 +9,8 @@ use Rattle.lapd_store.specs.Store.{Store}
 use Rattle.lapd_card.specs.Card.{Held}
 use Rattle.lapd_plain.specs.declared.reports.PlainReport.{PlainReport}
 use Rattle.lapd_c.specs.declared.kinds.AnyCard.TheVariants.{Octets, Frames}
-use Rattle.lapd_c.specs.Cards.{HeldCard, ShowsAnswer, octet_of}
+use Rattle.lapd_c.specs.Cards.{ShowsAnswer, octet_of}
+use Rattle.lapd_c.specs.CardSlots.{HeldCard}
 use Rattle.lapd_c.specs.Kinds.{CardStands}
 
 -- An answer has nothing to tell.

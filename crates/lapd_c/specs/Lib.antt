@@ -1,6 +1,7 @@
 -- What the library for C says.
-pub mod Slots
+pub mod ClockSlots
 pub mod Clocks
+pub mod CardSlots
 pub mod Kinds
 pub mod Cards
 pub mod Laws

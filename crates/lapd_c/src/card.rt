@@ -10,8 +10,8 @@ ghost use Rattle.lapd_c.specs.Counted.{counters_at};
 ghost use Rattle.lapd_c.specs.Kinds.{counters_of};
 ghost use Rattle.lapd_c.specs.Cards.{card_of, IsHandle, OctetsStand, FramesStand, OctetsStandIn, FramesStandIn};
 
+use crate::card_slot::CardSlot;
 use crate::kinds::AnyCard;
-use crate::slot::Slot;
 use lapd_card::{Card, FrameCard};
 use lapd_plain::{NO_CARD, NO_MEMORY, OK, PlainConfig, SECOND_START};
 use lapd_store::RawShelf;
@@ -23,7 +23,7 @@ use std::mem::replace;
 #[repr(C)]
 pub struct CardHandle {
     started: bool,
-    slot: Slot<AnyCard>,
+    slot: CardSlot,
 }
 
 impl CardHandle {
@@ -39,7 +39,7 @@ impl CardHandle {
             return None;
         }
         self.started = false;
-        let slot = replace(&mut self.slot, Slot::none());
+        let slot = replace(&mut self.slot, CardSlot::none());
         Some(slot.into_box(alloc))
     }
 
@@ -50,7 +50,7 @@ impl CardHandle {
         ensures handle { IsHandle self.new }
     {
         self.started = true;
-        let empty = replace(&mut self.slot, Slot::of(card));
+        let empty = replace(&mut self.slot, CardSlot::of(card));
         empty.gone();
     }
 }

@@ -8,7 +8,7 @@ ghost use Rattle.lapd_plain.specs.Statuses as status;
 ghost use Rattle.lapd_plain.specs.Timers.{order_in};
 ghost use Rattle.lapd_c.specs.Clocks.{clock_of, IsHandle, plain_due, apply_status, after_apply, lengths_given};
 
-use crate::slot::Slot;
+use crate::clock_slot::ClockSlot;
 use lapd_clock::{Clock, Lengths};
 use lapd_frame::Order;
 use lapd_plain::{
@@ -25,7 +25,7 @@ pub(crate) const LATEST: u64 = 1 << 63;
 #[repr(C)]
 pub struct ClockHandle {
     started: bool,
-    slot: Slot<Clock>,
+    slot: ClockSlot,
 }
 
 impl ClockHandle {
@@ -42,7 +42,7 @@ impl ClockHandle {
             return None;
         }
         self.started = false;
-        let slot = replace(&mut self.slot, Slot::none());
+        let slot = replace(&mut self.slot, ClockSlot::none());
         Some(slot.into_box(alloc))
     }
 
@@ -54,7 +54,7 @@ impl ClockHandle {
         ensures handle { IsHandle self.new }
     {
         self.started = true;
-        let empty = replace(&mut self.slot, Slot::of(clock));
+        let empty = replace(&mut self.slot, ClockSlot::of(clock));
         empty.gone();
     }
 }

@@ -4,11 +4,12 @@
 //! it from there, serves, and puts it back; a ghost field says which card it is, so that the contracts speak of the
 //! card's machine (`model_card`) and of the clock's timers (`lapd_clock`).
 //!
-//! - `card`: a card in C, how it begins and ends; `kinds`, what a card for octets and one for frames do alike.
-//!   `events`, what happens at it; for octets also `exchange`, octets taken and given in turn, `begun`, which frame a pull
-//!   began, and `counters`, what was counted of a line; for frames `frames`, which come and go. `questions`, what it
-//!   answers about itself; `links`, which links it has, and `rooms`, how many contents more one takes.
-//! - `clock`: a clock in C, and its exports; `clock_reports`, the orders of a report. `slot`: where a card or a clock lies.
+//! - `card`: a card in C, how it begins and ends; `kinds`, what a card for octets and one for frames do alike;
+//!   `card_slot`, where it lies. `events`, what happens at it; for octets also `exchange`, octets taken and given in
+//!   turn, `begun`, which frame a pull began, and
+//!   `counters`, what was counted of a line; for frames `frames`, which come and go. `questions`, what it answers
+//!   about itself; `links`, which links it has, and `rooms`, how many contents more one takes.
+//! - `clock`: a clock in C, and its exports; `clock_reports`, the orders of a report; `clock_slot`, where it lies.
 //! - `laws`: what holds of the machine's answers, so that a report has room for each.
 //! - `loose`: a box as the address of its block; `version`: which version this is.
 //!
@@ -27,8 +28,10 @@
 
 mod begun;
 mod card;
+mod card_slot;
 mod clock;
 mod clock_reports;
+mod clock_slot;
 mod counters;
 mod events;
 mod exchange;
@@ -39,5 +42,4 @@ mod links;
 mod loose;
 mod questions;
 mod rooms;
-mod slot;
 mod version;

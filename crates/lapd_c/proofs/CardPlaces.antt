@@ -1,0 +1,57 @@
+-- What stands in the machine for a card's place: a word, and what it owns.
+use Rattle.std.proofs.Common.{◌≡◌, ℕ, List, [], ◌∷◌, ◌++◌, IsSome, refl, subst}
+use mir.Raw.{raw as bare}
+use mir.Val.{Val, vptr, vstruct, of_list}
+use Rattle.std.proofs.lemmas.Bool.{false≢true}
+use seplogic.Ra.Ura.{Ura}
+use base.Logic.{never, fst∗}
+use types.Logic.{Logic, sem}
+use types.Kit.{Item, Goal, Seq, Step, step, ‵, ◌$◌, drop, fsplit, fjoin, fpick, fpack, feq_i, feq_l}
+use denote.RattleType.{RattleType, Valss}
+use denote.Builtin.{RawPtr}
+use denote.Memory.{lone}
+use denote.RawPtr.{Ptr, block_ptr, null_ptr, ptr_val, in_a_block}
+use denote.Steps.{nothing}
+use denote.Struct.Struct.{within}
+use denote.Struct.Owning.{shape}
+use Rattle.std.specs.declared.option.Option.TheVariants.{None, Some}
+use Rattle.std.specs.contracts.impls.GlobalAllocator.TheImpl.{ghosts}
+use Rattle.std_alloc.specs.Box.Ownership.{box_owns}
+use Rattle.lapd_c.specs.declared.kinds.AnyCard.{AnyCard}
+use Rattle.lapd_c.specs.CardSlots.{HeldCard, card_owns, card_row}
+use Rattle.lapd_c.specs.ClockSlots.{heap}
+use Rattle.lapd_c.specs.contracts.card_slot.CardSlot as slot
+use Rattle.lapd_c.proofs.ClockPlaces.{word}
+
+abbrev R : RattleType
+R = card_row
+
+module _ {M : Type 1} {𝓤 : Ura M} {𝓛 : Logic 𝓤} {K : Type 0} {Γ : List (Item 𝓤)} {G : Goal 𝓤 𝓛.H} where
+  by_card : K → (p : Ptr) (held : HeldCard) → IsSome held
+      → ((x : AnyCard) → held ≡ Some x → Seq K 𝓛 (‵ (box_owns (ghosts.dealloc_token heap) R p x) ∷ Γ) G)
+      → Seq K 𝓛 (‵ (card_owns p held) ∷ Γ) G
+  by_card t p None is rest = absurd (false≢true is)
+  by_card t p (Some x) is rest = rest x refl
+
+  -- the place of a card is taken apart
+  pub slot_opens : K → (d : slot.the_row.Denot) (vs : List Val) → IsSome d.card
+      → ((b o : ℕ) (x : AnyCard) → d.card ≡ Some x → vs ≡ word (vptr b o) ∷ []
+      → Seq K 𝓛 (‵ (box_owns (ghosts.dealloc_token heap) R (block_ptr b o) x) ∷ Γ) G)
+      → Seq K 𝓛 (‵ (slot.the_row.own_val d vs) ∷ Γ) G
+  slot_opens t d vs is rest =
+      fsplit t $ fpick t (λ vss. fsplit t $ feq_l t (λ whole. fsplit t $ feq_l t (λ pointer. drop t $
+      by_card t d.at d.card is (λ x held.
+      in_a_block t d.at (λ p. box_owns (ghosts.dealloc_token heap) R p x) (fst∗ 𝓤 (never 𝓤) (sem 𝓛 (ghosts.dealloc_token heap (bare (lone R.mir)) null_ptr))) (λ b o there.
+      let with_word = subst (λ (ps : List Val). vs ≡ vstruct (of_list (ps ++ [])) ∷ []) pointer whole in
+      rest b o x held (subst (λ (p : Ptr). vs ≡ vstruct (of_list (ptr_val p ∷ [])) ∷ []) there with_word))))))
+
+  -- and made
+  pub slot_made : K → (b o : ℕ) (x : AnyCard)
+      → Step K 𝓛 (‵ (slot.the_row.own_val (record { at = block_ptr b o; card = Some x }) (word (vptr b o) ∷ [])) ∷ Γ) G
+      (‵ (box_owns (ghosts.dealloc_token heap) R (block_ptr b o) x) ∷ Γ) G
+  slot_made t b o x = step (λ s.
+      let v : Val = word (vptr b o) in
+      nothing t $ feq_i t (List Val) (vptr b o ∷ []) (vptr b o ∷ []) refl $ fjoin t $
+      feq_i t (List Val) (v ∷ []) (v ∷ []) refl $ fjoin t $
+      fpack t (Valss (RawPtr ∷ [])) (within (shape slot.the_type) (block_ptr b o, tt) (v ∷ [])) (vptr b o ∷ [], tt) $
+      fjoin t $ s)

@@ -1,0 +1,70 @@
+//! Where a card lies.
+
+ghost use Rattle.std.specs.Prelude.{◌≡◌, None, Some, IsSome};
+ghost use Rattle.lapd_c.specs.CardSlots.{card_owns, HeldCard, held_card_code};
+
+use crate::kinds::AnyCard;
+use crate::loose::Loose;
+use std::alloc::Global;
+use std::marker::Model;
+use std::ptr::null_mut;
+
+/// Where a card lies, or that there is none. It owns the card.
+#[repr(C)]
+pub struct CardSlot {
+    at: *mut u8,
+    ghost card: { HeldCard } by { held_card_code },
+}
+
+impl Model for CardSlot {
+    ghost also_owns = { λ slot. card_owns slot.at slot.card };
+}
+
+impl CardSlot {
+    /// No card.
+    pub(crate) fn none() -> CardSlot
+        ensures { result.card ≡ None }
+    {
+        CardSlot { at: null_mut() }
+    }
+
+    /// The place of this card.
+    pub(crate) fn of(card: Box<AnyCard>) -> CardSlot
+        ensures { result.card ≡ Some card.value }
+    {
+        CardSlot::at(Loose::of(card))
+    }
+
+    /// The card that lies there.
+    pub(crate) fn into_box(self, alloc: Global) -> Box<AnyCard>
+        requires { IsSome self.card }
+        ensures { self.card ≡ Some result.value }
+    {
+        self.into_loose(alloc).into_box()
+    }
+
+    /// Lets the place go, where no card lies.
+    pub(crate) fn gone(self)
+        requires { self.card ≡ None }
+    {
+        let CardSlot { at: _ } = self;
+    }
+
+    fn at(card: Loose<AnyCard, Global>) -> CardSlot
+        ensures { result.card ≡ Some card.value }
+    {
+        let Loose { at, alloc: _ } = card;
+        CardSlot { at: at as *mut u8 }
+    }
+
+    fn into_loose(self, alloc: Global) -> Loose<AnyCard, Global>
+        requires { IsSome self.card }
+        ensures { self.card ≡ Some result.value }
+    {
+        let CardSlot { at } = self;
+        Loose {
+            at: at as *mut AnyCard,
+            alloc,
+        }
+    }
+}

@@ -1,0 +1,70 @@
+//! Where a clock lies.
+
+ghost use Rattle.std.specs.Prelude.{◌≡◌, None, Some, IsSome};
+ghost use Rattle.lapd_c.specs.ClockSlots.{clock_owns, HeldClock, held_clock_code};
+
+use crate::loose::Loose;
+use lapd_clock::Clock;
+use std::alloc::Global;
+use std::marker::Model;
+use std::ptr::null_mut;
+
+/// Where a clock lies, or that there is none. It owns the clock.
+#[repr(C)]
+pub struct ClockSlot {
+    at: *mut u8,
+    ghost clock: { HeldClock } by { held_clock_code },
+}
+
+impl Model for ClockSlot {
+    ghost also_owns = { λ slot. clock_owns slot.at slot.clock };
+}
+
+impl ClockSlot {
+    /// No clock.
+    pub(crate) fn none() -> ClockSlot
+        ensures { result.clock ≡ None }
+    {
+        ClockSlot { at: null_mut() }
+    }
+
+    /// The place of this clock.
+    pub(crate) fn of(clock: Box<Clock>) -> ClockSlot
+        ensures { result.clock ≡ Some clock.value }
+    {
+        ClockSlot::at(Loose::of(clock))
+    }
+
+    /// The clock that lies there.
+    pub(crate) fn into_box(self, alloc: Global) -> Box<Clock>
+        requires { IsSome self.clock }
+        ensures { self.clock ≡ Some result.value }
+    {
+        self.into_loose(alloc).into_box()
+    }
+
+    /// Lets the place go, where no clock lies.
+    pub(crate) fn gone(self)
+        requires { self.clock ≡ None }
+    {
+        let ClockSlot { at: _ } = self;
+    }
+
+    fn at(clock: Loose<Clock, Global>) -> ClockSlot
+        ensures { result.clock ≡ Some clock.value }
+    {
+        let Loose { at, alloc: _ } = clock;
+        ClockSlot { at: at as *mut u8 }
+    }
+
+    fn into_loose(self, alloc: Global) -> Loose<Clock, Global>
+        requires { IsSome self.clock }
+        ensures { self.clock ≡ Some result.value }
+    {
+        let ClockSlot { at } = self;
+        Loose {
+            at: at as *mut Clock,
+            alloc,
+        }
+    }
+}

@@ -122,12 +122,16 @@ impl LinkLayer {
                     shelf,
                 )
             }
-            Addressee::Nobody(cause) => self.for_nobody(frame, cause),
+            Addressee::Nobody(cause) => {
+                let report = self.for_nobody(frame, cause);
+                report
+            }
         }
     }
 
     /// A frame of the grammar that is for no link, nor for layer 2 management. On the user's side it may bring unit data
     /// that the network sends to the group.
+    #[inline(never)]
     fn for_nobody(&self, frame: Frame<'_>, cause: Cause) -> BareReport
         ensures { (octets : List ℕ) → frame.entry.info.now ≡ drop (start_of frame.entry.control) octets
             → told_in octets result ≡ told_at self.now.config self.now.config.side (parts_of frame.entry) (dropped cause) }

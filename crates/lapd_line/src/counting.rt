@@ -27,9 +27,23 @@ pub(crate) fn count_told(
     }
 }
 
-/// The same where there are notes. It takes the list by value, so that a caller need not keep it in memory.
+/// The same where there are notes, of which there is mostly one. It takes the list by value, so that a caller need not keep
+/// it in memory.
 #[inline(never)]
 fn count_noted(counters: &mut Counters, notes: ShortList<Note>, cause: Option<Cause>, lost: u8)
+    ensures { counters.new ≡ with_all counters.old (told_shown (listed notes) cause lost) }
+{
+    match notes {
+        ShortList::One(note) => counters.told(&note, cause, lost),
+        ShortList::None | ShortList::Two(_) | ShortList::Three(_) | ShortList::Four(_) => {
+            count_several(counters, notes, cause, lost);
+        }
+    }
+}
+
+/// The same, however many notes there are.
+#[inline(never)]
+fn count_several(counters: &mut Counters, notes: ShortList<Note>, cause: Option<Cause>, lost: u8)
     ensures { counters.new ≡ with_all counters.old (told_shown (listed notes) cause lost) }
 {
     counters.told(notes.as_slice(), cause, lost);

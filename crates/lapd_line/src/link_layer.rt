@@ -36,10 +36,10 @@ pub(crate) struct LinkLayer {
 pub(crate) fn link_number(place: usize, service: Service) -> usize
     ensures { place ≤ 8 → result ≡ machine.link_number place service }
 {
-    let call = place.saturating_mul(2);
+    let call = place.wrapping_mul(2);
     match service {
         Service::Call => call,
-        Service::Packet => call.saturating_add(1),
+        Service::Packet => call.wrapping_add(1),
     }
 }
 

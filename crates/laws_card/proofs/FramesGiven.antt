@@ -85,7 +85,7 @@ module _ (c : Config) (l : Line) where
   first-one (x ∷ xs) zero d within e = or-left (link_taken c l x) (first_taken c l xs) e
   first-one (x ∷ xs) (suc i) d within e = first-one xs i d (omega (arith, within)) (or-right (link_taken c l x) (first_taken c l xs) e)
 
-  link-none : (number : ℕ) → number < link_count c → taken c l ≡ None → link_taken c l number ≡ None
+  pub link-none : (number : ℕ) → number < link_count c → taken c l ≡ None → link_taken c l number ≡ None
   link-none number few e =
       let numbers = range_with_len 0 (link_count c) in
       let round_none : first_taken c l (round c l) ≡ None =

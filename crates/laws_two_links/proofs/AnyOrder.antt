@@ -38,12 +38,12 @@ abbrev pub Lane : Terms → List (List ℕ) → ℕ → ℕ → ℕ → ℕ → 
 Lane t cs r s lo hi owed [] = (r ≡ s) × (lo ≤ hi) × (owed ≡ false → lo ≡ hi)
 Lane t cs r s lo hi owed (f ∷ fs) = (v : ℕ) × (lo ≤ v) × ((Informs t cs r v f × Lane t cs (r + 1) s v hi owed fs) ⊎ (Notes t v f × Lane t cs r s v hi owed fs))
 
-lane-low : (t : Terms) (cs : List (List ℕ)) (r s lo hi : ℕ) (owed : Bool) (way : List Parts) → Lane t cs r s lo hi owed way → lo ≤ hi
+pub lane-low : (t : Terms) (cs : List (List ℕ)) (r s lo hi : ℕ) (owed : Bool) (way : List Parts) → Lane t cs r s lo hi owed way → lo ≤ hi
 lane-low t cs r s lo hi owed [] (at, low, told) = low
 lane-low t cs r s lo hi owed (f ∷ fs) (v, low, inl (here, rest)) = let more = lane-low t cs (r + 1) s v hi owed fs rest in omega (arith, low, more)
 lane-low t cs r s lo hi owed (f ∷ fs) (v, low, inr (here, rest)) = let more = lane-low t cs r s v hi owed fs rest in omega (arith, low, more)
 
-lane-order : (t : Terms) (cs : List (List ℕ)) (r s lo hi : ℕ) (owed : Bool) (way : List Parts) → Lane t cs r s lo hi owed way → r ≤ s
+pub lane-order : (t : Terms) (cs : List (List ℕ)) (r s lo hi : ℕ) (owed : Bool) (way : List Parts) → Lane t cs r s lo hi owed way → r ≤ s
 lane-order t cs r s lo hi owed [] (at, low, told) = omega (arith, at)
 lane-order t cs r s lo hi owed (f ∷ fs) (v, low, inl (here, rest)) = let more = lane-order t cs (r + 1) s v hi owed fs rest in omega (arith, more)
 lane-order t cs r s lo hi owed (f ∷ fs) (v, low, inr (here, rest)) = lane-order t cs r s v hi owed fs rest

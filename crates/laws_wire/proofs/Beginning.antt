@@ -1,0 +1,233 @@
+-- Two cards that have just begun: each has the TEI assigned, and one is asked to establish.
+use Rattle.std.proofs.Common.{◌≡◌, ℕ, zero, suc, ◌<◌, ◌≤◌, Bool, true, false, not, cond, List, [], ◌∷◌, ◌++◌, length, get_or, set, replicate, Option, Some, None, is_some, refl, sym, ap, subst, ◌∙◌, append-nil, arith}
+use Rattle.std.specs.Prelude.{All, nat_lt}
+use Rattle.std.specs.Option.{option_map_or}
+use Rattle.std.proofs.lemmas.Bool.{le-ltb, lt-ltb}
+use Rattle.std.proofs.lemmas.List.{get_or-set_same, length-replicate}
+use Rattle.std.proofs.lemmas.List.Elements.{All-nil, All-cons}
+use Rattle.lapd_frame.specs.declared.refusals.Refusal.{Refusal}
+use Rattle.lapd_frame.specs.declared.refusals.Refusal.TheVariants.{BadTei, NoLink, WrongState, TeiTaken, TableFull}
+use Rattle.lapd_frame.specs.declared.services.Service.{Service}
+use Rattle.lapd_frame.specs.declared.services.Service.TheVariants.{Call, Packet}
+use Rattle.lapd_frame.specs.Grammar.{AreOctets}
+use Rattle.lapd_tei.specs.Events as teis
+use Rattle.lapd_tei.specs.Machine.{empty}
+use Rattle.lapd_tei.specs.Table.{Places, is_on, free_place}
+use Rattle.lapd_tei.specs.Rows.{join_at, put_on}
+use Rattle.lapd_tei.specs.Words.{Course, begun as tei_begun, join}
+use Rattle.lapd_tei.proofs.Tables.{is_on-at, place_of-is, table-put}
+use Rattle.lapd_tei.proofs.SoundWords.{table-empty}
+use Rattle.model_link.specs.Events as link
+use Rattle.model_link.specs.Link.{Link, fresh}
+use Rattle.model_link.specs.Machine as links
+use Rattle.model_link.specs.Requests.{serves}
+use Rattle.model_link.specs.TwoEnds.{End, with_link}
+use Rattle.model_line.specs.declared.config.Config.{Config}
+use Rattle.model_line.specs.Effect.{Effect, at_management, of_aim, of_change, told_of_management}
+use Rattle.model_line.specs.Event.{nothing, request, told}
+use Rattle.model_line.specs.Line.{Line, fresh_line, link_number, terms, terms_at, link_at, link_of, link_in, link_count, has_tei}
+use Rattle.model_line.specs.Machine as lines
+use Rattle.model_line.specs.Machine.{unless_refused, unless_refused_told, of_request}
+use Rattle.model_line.specs.Refusal.{refusal}
+use Rattle.model_line.specs.Request.{Assign, Establish}
+use Rattle.model_line.specs.Sound as line_sound
+use Rattle.model_line.proofs.Offered.{fresh_gives_nothing}
+use Rattle.model_line.proofs.Ranges.{ranges_of}
+use Rattle.model_card.specs.Card.{Card, line_at}
+use Rattle.model_card.specs.Card as cards
+use Rattle.model_card.specs.Event.{at as event_at}
+use Rattle.model_card.specs.Happening.{Happening, asks, events_at, events_of, HappensAt, AreIdle}
+use Rattle.model_card.specs.Machine.{wants_room}
+use Rattle.model_card.specs.Run.{after_all}
+use Rattle.model_card.specs.Said.{says, said}
+use Rattle.model_card.proofs.CardSound.{always_sound, fresh_is_sound}
+use Rattle.model_card.proofs.Happening.{all_at, config_stays, lines_stay_idle}
+use Rattle.laws_wire.specs.Wire.{Station, Wire, happens, told_by}
+use Rattle.laws_wire.specs.Wire as wire
+use Rattle.laws_wire.specs.Call.{assigned}
+use Rattle.laws_wire.proofs.Calling.{asked, asks-establish, told-of-establish, end}
+use Rattle.laws_wire.proofs.LineSpeaks.{Speaks}
+use Rattle.laws_line.proofs.Managing.{by-two}
+use Rattle.laws_line.proofs.Places.{has-place}
+use Rattle.laws_wire.proofs.Standing.{IsCarried, Stands, asks-granted, link-ranges}
+use Rattle.laws_wire.proofs.Talking.{unheard, Holds, none-told}
+
+-- tables and lists of nothing
+none-on : (tei n : ℕ) → is_on tei (replicate n None) ≡ false
+none-on tei zero = refl
+none-on tei (suc n) = none-on tei n
+
+all-fresh : (n i : ℕ) → get_or (replicate n fresh) i fresh ≡ fresh
+all-fresh zero i = refl
+all-fresh (suc n) zero = refl
+all-fresh (suc n) (suc i) = all-fresh n i
+
+set-fresh : (xs : List Link) (i j : ℕ) → ((k : ℕ) → get_or xs k fresh ≡ fresh) → get_or (set xs i fresh) j fresh ≡ fresh
+set-fresh [] i j h = refl
+set-fresh (x ∷ xs) zero zero h = refl
+set-fresh (x ∷ xs) zero (suc j) h = h (suc j)
+set-fresh (x ∷ xs) (suc i) zero h = h 0
+set-fresh (x ∷ xs) (suc i) (suc j) h = set-fresh xs i j (λ k. h (suc k))
+
+all-fresh_lines : (c : Config) (n i : ℕ) → get_or (replicate n (fresh_line c)) i (fresh_line c) ≡ fresh_line c
+all-fresh_lines c zero i = refl
+all-fresh_lines c (suc n) zero = refl
+all-fresh_lines c (suc n) (suc i) = all-fresh_lines c n i
+
+-- A TEI comes to a table of free places: it is at the first.
+abbrev frees : ℕ → Places
+frees n = replicate n None
+
+free-is : (n : ℕ) → 1 ≤ n → free_place (frees n) ≡ Some 0
+free-is zero some = absurd (omega (arith, some))
+free-is (suc k) some = ap (λ b. cond {A = Option ℕ} b (Some 0) None) (lt-ltb 0 (length (frees (suc k))) (omega arith))
+
+three-pass : (a b d : Bool) (x y z : Refusal) → a ≡ false → b ≡ false → d ≡ false → cond a (Some x) (cond b (Some y) (cond d (Some z) None)) ≡ None
+three-pass a b d x y z e e' e'' = rw (e, e', e'') refl
+
+module _ (tei n : ℕ) (some : 1 ≤ n) where
+  joined : teis.course (teis.assign tei) (empty n) ≡ join tei 0 (tei_begun (empty n))
+  unfolding teis.course teis.refusal
+  joined =
+      ap (λ o. teis.unless_refused o (put_on tei) (empty n))
+      (by-two (is_on tei (replicate n None)) (not (is_some (free_place (replicate n None)))) TeiTaken TableFull (none-on tei n) (ap (λ o. not (is_some o)) (free-is n some)))
+      ∙ ap (λ o. join_at tei o (tei_begun (empty n))) (free-is n some)
+
+module _ (service : Service) (tei : ℕ) (c : Config) (ranged : line_sound.IsInRange c) (few : tei ≤ 126) where
+  abbrev l : Line
+  l = fresh_line c
+
+  some-terminals : 1 ≤ c.terminals
+  some-terminals = (ranges_of c ranged).terminals.least
+
+  none : refusal c false (Assign tei) l ≡ None
+  none =
+      three-pass (nat_lt 126 tei) (has_tei tei l) (not (is_some (free_place l.management.places))) BadTei TeiTaken TableFull (le-ltb 126 tei few) (none-on tei c.terminals)
+      (ap (λ o. not (is_some o)) (free-is c.terminals some-terminals))
+
+  abbrev with_course : Course → Effect
+  with_course x = of_change c x.told.change (told_of_management x.told) (record l { management = x.now })
+
+  abbrev on_line : Effect
+  on_line = with_course (join tei 0 (tei_begun (empty c.terminals)))
+
+  after-is : lines.after c (request (Assign tei)) l ≡ on_line.line
+  unfolding lines.after
+  after-is =
+      ap (λ o. (of_aim c (unless_refused o (at_management (teis.assign tei))) l).line) none
+      ∙ ap (λ x. (with_course x).line) (joined tei c.terminals some-terminals)
+
+  answer-is : lines.answer c (request (Assign tei)) l ≡ told nothing
+  unfolding lines.answer
+  answer-is =
+      ap (λ o. unless_refused_told o (of_aim c (unless_refused o (at_management (teis.assign tei))) l)) none
+      ∙ ap (λ x. told (with_course x).told) (joined tei c.terminals some-terminals)
+
+  links-fresh : (number : ℕ) → link_at number on_line.line ≡ fresh
+  links-fresh number = set-fresh (set l.links (link_number 0 Call) fresh) (link_number 0 Packet) number (λ k. set-fresh l.links (link_number 0 Call) k (all-fresh (link_count c)))
+
+  speaks : Speaks c service tei 0 fresh on_line.line
+  speaks =
+      let places = frees c.terminals in
+      let within : 0 < length places = (let many : length places ≡ c.terminals = length-replicate c.terminals None in let some = some-terminals in omega (arith, many, some)) in
+      record {
+        placed =
+            has-place (set places 0 (Some tei)) tei 0 (table-put places 0 tei (table-empty c.terminals) (none-on tei c.terminals) (free-is c.terminals some-terminals) few)
+            (get_or-set_same places 0 (Some tei) None within);
+        messages = refl;
+        units = refl;
+        silent = λ number low other. ap (links.given (terms_at c number on_line.line)) (links-fresh number) ∙ fresh_gives_nothing (terms_at c number on_line.line);
+        link = links-fresh (link_number 0 service);
+      }
+
+  module _ (line : ℕ) (within : line < c.lines) where
+    abbrev m : Card
+    m = cards.fresh c
+
+    abbrev its : Happening
+    its = asks line (Assign tei)
+
+    abbrev next : Card
+    next = after_all m (events_of m its)
+
+    same-line : line_at line m ≡ l
+    same-line = all-fresh_lines c c.lines line
+
+    here : HappensAt m its
+    here = (within, tt)
+
+    next-line : line_at line next ≡ on_line.line
+    unfolding after_all lines.takes_slot
+    next-line =
+        get_or-set_same m.lines line (lines.after c (request (Assign tei)) (line_at line m)) l (let many : length m.lines ≡ c.lines = length-replicate c.lines l in omega (arith, many, within))
+        ∙ ap (lines.after c (request (Assign tei))) same-line ∙ after-is
+
+    said-is : said m its ≡ says (told nothing)
+    unfolding lines.takes_slot
+    said-is = ap (λ x. says (lines.answer c (request (Assign tei)) x)) same-line ∙ ap says answer-is
+
+    begins : Holds c service tei 0 unheard (assigned c line tei) (end (terms c service tei) fresh [])
+    begins = record {
+      stands = record {
+        config = config_stays m (events_of m its);
+        sound = always_sound m (events_of m its) (fresh_is_sound c ranged) (all_at m line (events_at m its) within);
+        idle =
+            subst (λ events. AreIdle (after_all m events)) (append-nil (events_of m its))
+            (lines_stay_idle.always m (its ∷ []) (lines_stay_idle.begins c) (All-cons (HappensAt m) its [] here (All-nil (HappensAt m))));
+        within = within;
+        speaks = subst (Speaks c service tei 0 fresh) (sym next-line) speaks;
+        terms = refl;
+        way = refl;
+        carried = All-nil (IsCarried c service tei);
+      };
+      granted = ap (λ x. wire.unless_refused x []) said-is;
+      octets = subst (All AreOctets) (sym (ap (λ x. wire.unless_refused x []) said-is)) (All-nil AreOctets);
+      since = [];
+      told = ap told_by said-is;
+      delivered = refl;
+    }
+
+    -- and is asked to establish
+    abbrev s : Station
+    s = assigned c line tei
+
+    abbrev start : End
+    start = end (terms c service tei) fresh []
+
+    own : Stands s.card.config service tei 0 s start
+    own = subst (λ k. Stands k service tei 0 s start) (sym begins.stands.config) begins.stands
+
+    abbrev its_line : Line
+    its_line = line_at line s.card
+
+    not-refused : refusal s.card.config false (Establish service tei) its_line ≡ None
+    not-refused =
+        let at = (place_of-is its_line.management.places tei 0 own.speaks.placed).1 in
+        let on : has_tei tei its_line ≡ true = is_on-at its_line.management.places 0 tei at in
+        let link-is : link_of service tei its_line ≡ fresh = ap (λ o. option_map_or (link_in its_line service) o fresh) own.speaks.placed ∙ own.speaks.link in
+        three-pass (nat_lt 126 tei) (not (has_tei tei its_line)) (not (serves (link_of service tei its_line).state link.Establish)) BadTei NoLink WrongState (le-ltb 126 tei few)
+        (ap not on) (ap (λ (x : Link). not (serves x.state link.Establish)) link-is)
+
+    room : wants_room (event_at line (request (Establish service tei))) s.card ≡ false
+    unfolding lines.takes_slot
+    room = refl
+
+    pub calls : Holds c service tei 0 unheard (happens (asks line (Establish service tei)) s) (end (terms c service tei) asked [])
+    calls =
+        let t = terms c service tei in
+        let s' = happens (asks line (Establish service tei)) s in
+        let ranges = link-ranges service tei 0 s start own in
+        let x = asks-granted service tei 0 s start own (Establish service tei) link.Establish (λ l. refl) room not-refused in
+        let is : with_link (link.requested link.Establish false) start ≡ end t asked [] = ap (λ y. end t y []) (asks-establish t ranges) in
+        let same : s'.granted ≡ s.granted = x.granted ∙ append-nil s.granted in
+        record {
+          stands = subst (λ k. Stands k service tei 0 s' (end t asked [])) begins.stands.config (subst (Stands s.card.config service tei 0 s') is x.stands);
+          granted = same ∙ begins.granted;
+          octets = subst (All AreOctets) (sym same) begins.octets;
+          since = [];
+          told = x.told ∙ ap (λ ts. s.told ++ ts) (told-of-establish t ranges) ∙ append-nil s.told ∙ none-told c service tei 0 [] s start begins refl;
+          delivered = refl;
+        }
+
+    pub answers : Holds c service tei 0 unheard s start
+    answers = begins

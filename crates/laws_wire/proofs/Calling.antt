@@ -1,0 +1,125 @@
+-- An establishment between two links, before both are up: SABME waits and goes, then UA; behind it I-frames may be on their way.
+use Rattle.std.proofs.Common.{◌≡◌, ℕ, ◌≤◌, true, false, cond, List, [], ◌∷◌, ◌++◌, length, None, Some, refl, sym, ap, subst, ◌∙◌, arith}
+use Rattle.std.specs.Prelude.{nat_lt}
+use Rattle.std.proofs.lemmas.Bool.{lt-ltb}
+use Rattle.std.proofs.lemmas.List.Elements.{All-nil}
+use Rattle.lapd_frame.specs.declared.controls.Control.TheVariants.{Sabme, Ua}
+use Rattle.lapd_frame.specs.Grammar.{Parts}
+use Rattle.model_link.specs.declared.states.State.TheVariants as state
+use Rattle.model_link.specs.declared.timers.LinkTimer.TheVariants.{T200, T203}
+use Rattle.model_link.specs.declared.terms.Terms.{Terms}
+use Rattle.model_link.specs.Link.{Link, fresh, frame_of}
+use Rattle.model_link.specs.Events.{frame, received, requested, offer, Establish, Data}
+use Rattle.model_link.specs.Machine.{after, course, given}
+use Rattle.model_link.specs.Requests.{refusal}
+use Rattle.model_link.specs.Sound.{IsInRange, IsSound}
+use Rattle.model_link.specs.Steps.{begun}
+use Rattle.model_link.specs.TwoEnds.{End, with_sent}
+use Rattle.model_link.specs.Words.{command, response}
+use Rattle.model_link.proofs.SoundEvents.{sound-after, sound-fresh}
+use Rattle.laws_two_links.proofs.AnyOrder.{Steady}
+use Rattle.laws_two_links.proofs.AnyOrderRuns.{Pair}
+use Rattle.laws_wire.specs.Call.{confirmed, indicated}
+use Rattle.laws_wire.proofs.Speaking.{said_by}
+
+abbrev pub sabme : Terms → Parts
+sabme t = frame_of t (command (Sabme true))
+
+abbrev pub ua : Terms → Parts
+ua t = frame_of t (response (Ua true))
+
+-- The link that was asked to establish: SABME waits, went, and was answered.
+abbrev pub asked : Link
+asked = record fresh { state = state.AwaitingEstablishment; asked = true; running = Some T200; waiting = command (Sabme true) ∷ [] }
+
+abbrev pub awaiting : Link
+awaiting = record asked { waiting = [] }
+
+abbrev pub caller : Link
+caller = record fresh { state = state.Established; asked = true; running = Some T203 }
+
+-- The other link: UA waits, and went.
+abbrev pub answering : Link
+answering = record fresh { state = state.Established; running = Some T203; waiting = response (Ua true) ∷ [] }
+
+abbrev pub called : Link
+called = record answering { waiting = [] }
+
+module _ (t : Terms) (ranges : IsInRange t) where
+  room : nat_lt 0 t.control ≡ true
+  room = let low = ranges.control_low in lt-ltb 0 t.control (omega (arith, low))
+
+  pub asks-establish : after t (requested Establish false) fresh ≡ asked
+  asks-establish = ap (λ b. record asked { waiting = cond b ([] ++ command (Sabme true) ∷ []) [] }) room
+
+  pub told-of-establish : said_by (course t (requested Establish false) fresh) ≡ []
+  told-of-establish = ap (λ b. said_by (record (begun fresh) { lost = cond {A = ℕ} b 0 1 })) room
+
+  -- the frame may have the terms of the other end
+  pub takes-sabme : (u : Terms) → after t (received (frame (sabme u))) fresh ≡ answering
+  takes-sabme u = ap (λ b. record answering { waiting = cond b ([] ++ response (Ua true) ∷ []) [] }) room
+
+  pub told-of-sabme : (u : Terms) → said_by (course t (received (frame (sabme u))) fresh) ≡ indicated t.service t.tei ∷ []
+  told-of-sabme u = ap (λ b. said_by (record (begun fresh) { notes = Rattle.lapd_frame.specs.declared.notes.Note.TheVariants.EstablishIndication t.service t.tei ∷ []; lost = cond {A = ℕ} b 0 1 })) room
+
+  pub takes-ua : (u : Terms) → after t (received (frame (ua u))) awaiting ≡ caller
+  takes-ua u = refl
+
+  pub told-of-ua : (u : Terms) → said_by (course t (received (frame (ua u))) awaiting) ≡ confirmed t.service t.tei ∷ []
+  told-of-ua u = refl
+
+  sound-asked : IsSound t asked
+  sound-asked = subst (IsSound t) asks-establish (sound-after t ranges (requested Establish false) fresh (sound-fresh t ranges))
+
+  sound-awaiting : IsSound t awaiting
+  sound-awaiting = sound-after t ranges offer asked sound-asked
+
+  pub sound-caller : IsSound t caller
+  sound-caller = sound-after t ranges (received (frame (ua t))) awaiting sound-awaiting
+
+  sound-answering : IsSound t answering
+  sound-answering = subst (IsSound t) (takes-sabme t) (sound-after t ranges (received (frame (sabme t))) fresh (sound-fresh t ranges))
+
+  pub sound-called : IsSound t called
+  sound-called = sound-after t ranges offer answering sound-answering
+
+abbrev pub end : Terms → Link → List Parts → End
+end t l way = record { terms = t; link = l; way = way; delivered = [] }
+
+pub sends-sabme : (t : Terms) → with_sent (end t asked []) ≡ end t awaiting (sabme t ∷ [])
+sends-sabme t = refl
+
+-- no contents are granted before a link is up
+pub none-granted-asked : (t : Terms) (octets : List ℕ) → refusal t asked false (Data octets) ≡ None → ⊥
+none-granted-asked t octets e = cc e
+
+pub none-granted-awaiting : (t : Terms) (octets : List ℕ) → refusal t awaiting false (Data octets) ≡ None → ⊥
+none-granted-awaiting t octets e = cc e
+
+pub none-granted-fresh : (t : Terms) (octets : List ℕ) → refusal t fresh false (Data octets) ≡ None → ⊥
+none-granted-fresh t octets e = cc e
+
+pub none-given-awaiting : (t : Terms) → given t awaiting ≡ None
+none-given-awaiting t = refl
+
+-- the pair as both are up
+pub first-pair : (t u : Terms) → IsInRange t → IsInRange u → Pair (record { near = end t caller []; far = end u called [] })
+first-pair t u rt ru =
+    record {
+      near = record { ranges = rt; sound = sound-caller t rt; state = refl; peer_busy = refl; own_busy = refl; waiting = refl };
+      far = record { ranges = ru; sound = sound-called u ru; state = refl; peer_busy = refl; own_busy = refl; waiting = refl };
+      there = record { lane = (refl, omega arith, λ e. refl); delivered = refl; sizes = All-nil (λ octets. length octets ≤ u.n201) };
+      back = record { lane = (refl, omega arith, λ e. refl); delivered = refl; sizes = All-nil (λ octets. length octets ≤ t.n201) };
+    }
+
+-- The end that answers, with its UA in the ring, and on its way before all else.
+abbrev pub with_ua_waiting : End → End
+with_ua_waiting n = record n { link = record n.link { waiting = response (Ua true) ∷ [] } }
+
+abbrev pub with_ua_first : End → End
+with_ua_first n = record n { way = ua n.terms ∷ n.way }
+
+pub sends-ua : (n : End) → Steady n → n.way ≡ [] → with_sent (with_ua_waiting n) ≡ with_ua_first n
+sends-ua n h none =
+    (λ i. record n { link = record n.link { waiting = sym h.waiting i }; way = n.way ++ ua n.terms ∷ [] })
+    ∙ (λ i. record n { way = none i ++ ua n.terms ∷ [] }) ∙ (λ i. record n { way = ua n.terms ∷ sym none i })

@@ -1,0 +1,203 @@
+-- A line on which one link alone has anything to say.
+use Rattle.std.proofs.Common.{◌≡◌, ◌≢◌, ℕ, false, ◌<◌, ◌==◌, List, [], ◌∷◌, ◌++◌, map, get_or, set, slice_get, Option, Some, None, option_map, Ok, refl, sym, ap, subst, ◌∙◌, ◌⊎◌, inl, inr, arith, ⊎_elim, if◌then◌else◌}
+use Rattle.std.specs.Prelude.{All}
+use Rattle.std.specs.Option.{option_or, unwrap_or}
+use Rattle.std.proofs.lemmas.Bool.{cases_eq}
+use Rattle.std.proofs.lemmas.List.{get_or-set_same, get_or-set_other}
+use Rattle.std.proofs.lemmas.List.Elements.{All-head, All-tail}
+use Rattle.lapd_bits.specs.Sent.{frame as framed_item}
+use Rattle.lapd_bits.specs.Stream as stream
+use Rattle.lapd_bits.specs.RoundTrip.{IsHeardWhole}
+use Rattle.lapd_frame.specs.declared.services.Service.{Service}
+use Rattle.lapd_frame.specs.declared.services.Service.TheVariants.{Call, Packet}
+use Rattle.lapd_frame.specs.Grammar.{Parts}
+use Rattle.lapd_frame.specs.Reading.{reading}
+use Rattle.lapd_frame.specs.Services.{sapi_of, service_of}
+use Rattle.lapd_tei.specs.Messages.{frame_of as message_frame}
+use Rattle.lapd_tei.specs.Sound.{IsAt}
+use Rattle.lapd_tei.proofs.Tables.{place_of-is}
+use Rattle.model_link.specs.declared.terms.Terms.{Terms}
+use Rattle.model_link.specs.Events as link
+use Rattle.model_link.specs.Link.{Link, fresh}
+use Rattle.model_link.specs.Machine as links
+use Rattle.model_link.specs.Told.{Given}
+use Rattle.model_line.specs.declared.config.Config.{Config}
+use Rattle.model_line.specs.Effect.{Aim, at_link, told_of_link, of_aim}
+use Rattle.model_line.specs.Event.{octet, request, told}
+use Rattle.model_line.specs.Line.{Line, link_number, service_at, place_at, tei_at, terms, terms_at, link_at, link_in, link_count, place_in}
+use Rattle.model_line.specs.Machine as lines
+use Rattle.model_line.specs.Machine.{unless_refused, unless_refused_told, of_request}
+use Rattle.model_line.specs.Octet.{management_sapi, group_tei, drop_for, at_place, to_service, addressed, message_of, aim_of_heard, aim_of_reading, heard_side}
+use Rattle.model_line.specs.Sides.{at_side}
+use Rattle.model_line.specs.Pull.{Taken, with_message, with_unit, unit_taken, with_given_frame, link_taken, first_taken, round, taken}
+use Rattle.model_line.specs.Refusal.{refusal}
+use Rattle.model_line.specs.Request.{Request}
+use Rattle.model_line.specs.Requested.{at_requested, aim_of_request}
+use Rattle.model_line.specs.Sound.{IsSound}
+use Rattle.model_line.specs.Whole.{IsIdle, line_octets, came}
+use Rattle.model_line.specs.WholeAtLine.{after_events, pulls_for, of_heard, receiving}
+use Rattle.model_line.proofs.FrameCalls.{calls_for}
+use Rattle.model_line.proofs.FramesCome.{frames_come_whole}
+use Rattle.model_line.proofs.FramesGo.{frames_go_whole}
+use Rattle.model_line.proofs.Numbers.{place_at-number, service_at-number, number_within}
+use Rattle.model_line.proofs.PullSound.{round_below}
+use Rattle.laws_two_links.proofs.Waiting.{nothing-given, silent-stays}
+use Rattle.laws_card.proofs.FramesGiven.{link-none}
+use Rattle.laws_wire.proofs.Whole.{came-whole}
+
+-- The TEI is on the line, neither a message nor unit data waits, and no other link has anything to give.
+pub record Speaks (c : Config) (service : Service) (tei place : ℕ) (x : Link) (l : Line) : Type 0 where
+  pub placed : place_in l tei ≡ Some place
+  pub messages : l.management.waiting ≡ []
+  pub units : l.units ≡ []
+  pub silent : (number : ℕ) → number < link_count c → number ≢ link_number place service → links.given (terms_at c number l) (link_at number l) ≡ None
+  pub link : link_in l service place ≡ x
+
+module _ (c : Config) (service : Service) (tei place : ℕ) (l : Line) (s : IsSound c l) (x : Link) (h : Speaks c service tei place x l) where
+  abbrev t : Terms
+  t = terms c service tei
+
+  abbrev number : ℕ
+  number = link_number place service
+
+  pub at : IsAt l.management.places place tei
+  at = (place_of-is l.management.places tei place h.placed).1
+
+  few : number < link_count c
+  few = let within = (place_of-is l.management.places tei place h.placed).0 in number_within place c.terminals service (omega (arith, within, s.places))
+
+  own-terms : terms_at c number l ≡ t
+  own-terms =
+      ap (λ y. terms c y (unwrap_or (tei_at (place_at number) l) 0)) (service_at-number place service)
+      ∙ ap (λ p. terms c service (unwrap_or (tei_at p l) 0)) (place_at-number place service) ∙ ap (λ o. terms c service (unwrap_or o 0)) at
+
+  own-taken : link_taken c l number ≡ option_map (with_given_frame c l number t) (links.given t x)
+  own-taken =
+      ap (λ u. option_map (with_given_frame c l number u) (links.given u (link_at number l))) own-terms
+      ∙ ap (λ y. option_map (with_given_frame c l number t) (links.given t y)) h.link
+
+  other-taken : (n : ℕ) → n < link_count c → n ≢ number → link_taken c l n ≡ None
+  other-taken n low other = ap (λ o. option_map (with_given_frame c l n (terms_at c n l)) o) (h.silent n low other)
+
+  by-round : taken c l ≡ first_taken c l (round c l)
+  by-round =
+      ap (λ ms. option_or (option_map (with_message l) (option_map (message_frame c.side) (slice_get ms 0))) (option_or (unit_taken c l) (first_taken c l (round c l)))) h.messages
+      ∙ ap (λ us. option_or (option_map (with_unit c l) (slice_get us 0)) (first_taken c l (round c l))) h.units
+
+  first-is : (ns : List ℕ) → All (λ n. n < link_count c) ns → (o : Option Taken) → link_taken c l number ≡ o → (first_taken c l ns ≡ None) ⊎ (first_taken c l ns ≡ o)
+  first-is [] all o is = inl refl
+  first-is (n ∷ ns) all o is =
+      let rest = first-is ns (All-tail (λ n. n < link_count c) n ns all) o is in
+      ⊎_elim
+      (λ same. by-own o (ap (link_taken c l) same ∙ is) rest)
+      (λ other. passed n (other-taken n (All-head (λ n. n < link_count c) n ns all) other) o rest)
+      (cases_eq n number)
+    where
+      passed : (n : ℕ) → link_taken c l n ≡ None → (o : Option Taken) → (first_taken c l ns ≡ None) ⊎ (first_taken c l ns ≡ o)
+          → (option_or (link_taken c l n) (first_taken c l ns) ≡ None) ⊎ (option_or (link_taken c l n) (first_taken c l ns) ≡ o)
+      passed n none o (inl e) = inl (ap (λ q. option_or q (first_taken c l ns)) none ∙ e)
+      passed n none o (inr e) = inr (ap (λ q. option_or q (first_taken c l ns)) none ∙ e)
+
+      by-own : (o : Option Taken) → link_taken c l n ≡ o → (first_taken c l ns ≡ None) ⊎ (first_taken c l ns ≡ o)
+          → (option_or (link_taken c l n) (first_taken c l ns) ≡ None) ⊎ (option_or (link_taken c l n) (first_taken c l ns) ≡ o)
+      by-own None own rest = passed n own None rest
+      by-own (Some u) own rest = inr (ap (λ q. option_or q (first_taken c l ns)) own)
+
+  -- so what is taken is what it gives
+  pub takes-own : taken c l ≡ option_map (with_given_frame c l number t) (links.given t x)
+  takes-own =
+      ⊎_elim
+      (λ none. let nothing : taken c l ≡ None = by-round ∙ none in nothing ∙ sym (link-none c l number few nothing) ∙ own-taken)
+      (λ its. by-round ∙ its ∙ own-taken)
+      (first-is (round c l) (round_below c l) (link_taken c l number) refl)
+
+  -- the line with another link in its place
+  pub with-own : (y : Link) (l' : Line) → l'.management ≡ l.management → l'.units ≡ l.units → l'.links ≡ set l.links number y → Speaks c service tei place y l'
+  with-own y l' management units its = record {
+    placed = ap (λ m. Rattle.lapd_tei.specs.Machine.place tei m) management ∙ h.placed;
+    messages = ap (λ m. m.waiting) management ∙ h.messages;
+    units = units ∙ h.units;
+    silent = λ n low other.
+        ap (λ m. links.given (terms c (service_at n) (unwrap_or (get_or m.places (place_at n) None) 0)) (link_at n l')) management
+        ∙ ap (λ ls. links.given (terms_at c n l) (get_or ls n fresh)) its
+        ∙ ap (links.given (terms_at c n l)) (get_or-set_other l.links number n y fresh other) ∙ h.silent n low other;
+    link = ap (λ ls. get_or ls number fresh) its ∙ get_or-set_same l.links number y fresh (let small = few in omega (arith, small, s.count));
+  }
+
+  -- the next frame is called for
+  pub goes-on : Speaks c service tei place (links.after t link.offer x) (after_events c (pulls_for c l) l)
+  goes-on = go (links.given t x) refl
+    where
+      go : (o : Option Given) → links.given t x ≡ o → Speaks c service tei place (links.after t link.offer x) (after_events c (pulls_for c l) l)
+      go None none =
+          let nothing : taken c l ≡ None = takes-own ∙ ap (λ o. option_map (with_given_frame c l number t) o) none in
+          subst (λ y. Speaks c service tei place y (after_events c (pulls_for c l) l)) (sym (silent-stays t x (nothing-given t x none)))
+          (subst (λ events. Speaks c service tei place x (after_events c events l)) (sym (calls_for c l None nothing)) h)
+      go (Some g) some =
+          let own = with_given_frame c l number t g in
+          let is : taken c l ≡ Some own = takes-own ∙ ap (λ o. option_map (with_given_frame c l number t) o) some in
+          let whole = frames_go_whole c l own is in
+          let given = l.given ++ (whole.front ++ whole.last ∷ []) in
+          let next : Line = record own.line { items = l.items ++ framed_item own.frame ∷ []; given = given } in
+          let there : after_events c (pulls_for c l) l ≡ next = ap (λ events. after_events c events l) (calls_for c l (Some own) is) ∙ whole.line in
+          subst (λ y. Speaks c service tei place y (after_events c (pulls_for c l) l)) (ap (links.after t link.offer) h.link)
+          (subst (Speaks c service tei place (links.after t link.offer (link_at number l))) (sym there)
+          (with-own (links.after t link.offer (link_at number l)) next refl refl refl))
+
+  -- a frame comes that is for it
+  module _ (parts : Parts) (octets : List ℕ) (idle : IsIdle l.received) (whole : IsHeardWhole c.n201 octets) (read : reading (heard_side c) octets ≡ Ok parts)
+      (sapi : parts.address.sapi ≡ sapi_of service) (by : parts.address.tei ≡ tei) where
+    abbrev event : link.Event
+    event = link.received (link.frame parts)
+
+    by-sapi : (y : Service) (tei' : ℕ) (mm : Aim)
+        → (if sapi_of y == management_sapi then (if tei' == group_tei then mm else drop_for Rattle.lapd_bits.specs.declared.heard.Cause.TheVariants.Tei) else to_service l tei' (link.frame parts) (service_of (sapi_of y)))
+        ≡ at_place y tei' (link.frame parts) (place_in l tei')
+    by-sapi Call tei' mm = refl
+    by-sapi Packet tei' mm = refl
+
+    its-address : (mm : Aim) → addressed l parts.address (link.frame parts) mm ≡ at_link service tei place event
+    its-address mm =
+        ap (λ n. if n == management_sapi then (if parts.address.tei == group_tei then mm else drop_for Rattle.lapd_bits.specs.declared.heard.Cause.TheVariants.Tei) else to_service l parts.address.tei (link.frame parts) (service_of n)) sapi
+        ∙ by-sapi service parts.address.tei mm
+        ∙ ap (λ n. at_place service n (link.frame parts) (place_in l n)) by
+        ∙ ap (at_place service tei (link.frame parts)) h.placed
+
+    aim-is : aim_of_heard c l (stream.frame octets) ≡ at_link service tei place event
+    aim-is = ap (aim_of_reading c l) read ∙ ap (at_side c parts) (its-address (message_of parts.control parts.info))
+
+    heard-is : of_heard c (came c.n201 octets) l ≡ of_aim c (at_link service tei place event) l
+    heard-is = ap (λ e. of_heard c e l) (came-whole c.n201 octets whole) ∙ ap (λ aim. of_aim c aim l) aim-is
+
+    pub comes-told : (of_heard c (came c.n201 octets) l).told ≡ told_of_link (links.told t event x)
+    comes-told = ap (λ e. e.told) heard-is ∙ ap (λ y. told_of_link (links.told t event y)) h.link
+
+    pub comes-on : Speaks c service tei place (links.after t event x) (after_events c (map octet (line_octets octets)) l)
+    comes-on =
+        let one = frames_come_whole.frames c l octets idle whole.octets_are in
+        let next : Line = receiving (l.received ++ line_octets octets) (of_aim c (at_link service tei place event) l).line in
+        let there : after_events c (map octet (line_octets octets)) l ≡ next = one.line ∙ ap (λ e. receiving (l.received ++ line_octets octets) e.line) heard-is in
+        subst (λ y. Speaks c service tei place y (after_events c (map octet (line_octets octets)) l)) (ap (links.after t event) h.link)
+        (subst (Speaks c service tei place (links.after t event (link_at number l))) (sym there)
+        (with-own (links.after t event (link_at number l)) next refl refl refl))
+
+  -- a request for it is granted
+  module _ (r : Request) (asked : link.Request) (aims : aim_of_request r l ≡ at_requested service tei asked (place_in l tei)) (granted : refusal c false r l ≡ None) where
+    abbrev asks : link.Event
+    asks = link.requested asked false
+
+    aims-at : unless_refused (refusal c false r l) (aim_of_request r l) ≡ at_link service tei place asks
+    aims-at = ap (λ o. unless_refused o (aim_of_request r l)) granted ∙ aims ∙ ap (at_requested service tei asked) h.placed
+
+    pub asks-on : Speaks c service tei place (links.after t asks x) (lines.after c (request r) l)
+    unfolding lines.after
+    asks-on =
+        subst (λ y. Speaks c service tei place y (of_request c r l).line) (ap (links.after t asks) h.link)
+        (subst (λ aim. Speaks c service tei place (links.after t asks (link_at number l)) (of_aim c aim l).line) (sym aims-at)
+        (with-own (links.after t asks (link_at number l)) (of_aim c (at_link service tei place asks) l).line refl refl refl))
+
+    pub asks-told : lines.answer c (request r) l ≡ told (told_of_link (links.told t asks x))
+    unfolding lines.answer
+    asks-told =
+        ap (λ o. unless_refused_told o (of_request c r l)) granted ∙ ap (λ aim. told (of_aim c aim l).told) aims-at
+        ∙ ap (λ y. told (told_of_link (links.told t asks y))) h.link

@@ -1,0 +1,111 @@
+-- What changes nothing at a station: a call for a frame where none waits, taking a frame where none is on its way, and data that is refused.
+use Rattle.std.proofs.Common.{◌≡◌, ℕ, ◌+◌, ◌≤◌, false, List, [], ◌∷◌, length, map, drop, None, refl, sym, ap, subst, ◌∙◌, ◌⊎◌, inl, inr, arith}
+use Rattle.std.specs.Prelude.{All}
+use Rattle.std.proofs.lemmas.List.Elements.{All-head}
+use Rattle.lapd_frame.specs.declared.services.Service.{Service}
+use Rattle.lapd_frame.specs.Grammar.{Parts, AreOctets, spelling}
+use Rattle.model_link.specs.Events as link
+use Rattle.model_link.specs.Machine.{given}
+use Rattle.model_link.specs.Requests.{refusal}
+use Rattle.model_link.specs.TwoEnds.{End, with_link, with_sent, frame_given}
+use Rattle.model_link.specs.TwoEnds as two_ends
+use Rattle.model_line.specs.declared.config.Config.{Config}
+use Rattle.model_line.specs.Request as asked_of
+use Rattle.model_line.specs.Request.{Request, Establish, Release, Data, Assign, Remove, Check, SetBusy, ClearBusy}
+use Rattle.model_card.specs.Happening.{goes, asks}
+use Rattle.model_card.specs.Said.{said}
+use Rattle.laws_wire.specs.Wire.{Station, Wire, happens, frames_by, with_first_of, with_first_lost, requests, gives, takes, acting, turned}
+use Rattle.laws_wire.specs.Call.{IsTalkOf}
+use Rattle.laws_wire.proofs.Standing.{IsCarried, Stands, gives-frames}
+use Rattle.laws_wire.proofs.Talking.{Past, Holds, holds-given, holds-lost, More, holds-asked}
+use Rattle.laws_wire.proofs.Up.{turn_of, stays, granted_of, same-length}
+
+pub one-at-most : (xs : List (List ℕ)) → turn_of xs ≤ 1
+one-at-most [] = omega arith
+one-at-most (x ∷ xs) = omega arith
+
+module _ (service : Service) (tei : ℕ) where
+  -- two stations and the ends for which they stand
+  pub record Both (c d : Config) (p q : ℕ) (first second : Past) (w : Wire) (n m : End) : Type 0 where
+    pub near : Holds c service tei p first w.near n
+    pub far : Holds d service tei q second w.far m
+
+  pub turned-both : (c d : Config) (p q : ℕ) (first second : Past) (w : Wire) (n m : End) → Both c d p q first second w n m → Both d c q p second first (turned w) m n
+  turned-both c d p q first second w n m h = record { near = h.far; far = h.near }
+
+  -- the first frame on the way of a station
+  pub first-way : (k : Config) (place : ℕ) (first : Past) (s : Station) (n : End) (f : Parts) (fs : List Parts) → n.way ≡ f ∷ fs → Holds k service tei place first s n
+      → (s.way ≡ spelling k.side f ∷ map (spelling k.side) fs) × IsCarried k service tei f
+  first-way k place first s n f fs e h =
+      (h.stands.way ∙ ap (map (spelling k.side)) e, All-head (IsCarried k service tei) f fs (subst (All (IsCarried k service tei)) e h.stands.carried))
+
+  -- ---- what changes nothing
+
+  module _ (c d : Config) (p q : ℕ) (first second : Past) (w : Wire) (n m : End) (h : Both c d p q first second w n m) where
+    pub record Quiet (w' : Wire) (b : ℕ) : Type 0 where
+      pub both : Both c d p q first second w' n m
+      pub none : b ≡ 0
+      pub granted : granted_of w' ≡ granted_of w
+
+    pub frames-are : frames_by (said w.near.card (goes w.near.line)) ≡ map (spelling w.near.card.config.side) (frame_given n.terms (given n.terms n.link))
+    frames-are = gives-frames service tei p w.near n (subst (λ k. Stands k service tei p w.near n) (sym h.near.stands.config) h.near.stands)
+
+    pub same-count : granted_of (acting gives w) ≡ granted_of w
+    same-count = ap (λ k. k + length w.far.granted) (same-length w.near.granted)
+
+    pub quiet-gives : given n.terms n.link ≡ None → Quiet (acting gives w) (turn_of (frames_by (said w.near.card (goes w.near.line))))
+    quiet-gives none =
+        let same = stays n none in
+        record {
+          both = record {
+            near = subst (Holds c service tei p first (happens (goes w.near.line) w.near)) same (holds-given service tei p first c w.near n h.near (ap (λ (x : End). x.link.contents) same));
+            far = h.far;
+          };
+          none = ap turn_of frames-are ∙ ap (λ o. turn_of (map (spelling w.near.card.config.side) (frame_given n.terms o))) none;
+          granted = same-count;
+        }
+
+    pub quiet-takes : m.way ≡ [] → Quiet (acting takes w) (turn_of w.far.way)
+    quiet-takes e =
+        let empty : w.far.way ≡ [] = h.far.stands.way ∙ ap (map (spelling d.side)) e in
+        let same : with_first_of w.far.way w.near ≡ w.near = ap (λ way. with_first_of way w.near) empty in
+        let back : two_ends.with_first_lost m ≡ m = (λ i. record m { way = (ap (drop 1) e ∙ sym e) i }) in
+        record {
+          both = record {
+            near = subst (λ s. Holds c service tei p first s n) (sym same) h.near;
+            far = subst (Holds d service tei q second (with_first_lost w.far)) back (holds-lost service tei q second d w.far m h.far);
+          };
+          none = ap turn_of empty;
+          granted = ap (λ (s : Station). length s.granted + length w.far.granted) same;
+        }
+
+    pub quiet-asks : ((octets : List ℕ) → refusal n.terms n.link false (link.Data octets) ≡ None → ⊥) → (octets : List ℕ) → AreOctets octets
+        → Quiet (acting (requests (Data service tei octets)) w) 0
+    quiet-asks never octets are = go (holds-asked service tei p first c w.near n octets are h.near)
+      where
+        s' : Station
+        s' = happens (asks w.near.line (Data service tei octets)) w.near
+
+        go : (s' ≡ w.near) ⊎ More service tei p first c w.near s' n octets → Quiet (record w { near = s' }) 0
+        go (inl same) = record {
+          both = record { near = subst (λ s. Holds c service tei p first s n) (sym same) h.near; far = h.far };
+          none = refl;
+          granted = ap (λ (s : Station). length s.granted + length w.far.granted) same;
+        }
+        go (inr x) = absurd (never octets x.none)
+
+    -- a request in a call is for data
+    pub for-data : (P : Request → Type 0) → ((octets : List ℕ) → AreOctets octets → P (Data service tei octets)) → (r : Request) → IsTalkOf service tei (requests r) → P r
+    for-data P own (Data s t octets) is =
+        subst (λ s'. P (Data s' t octets)) (sym is.0) (subst (λ t'. P (Data service t' octets)) (sym is.1) (own octets is.2))
+    for-data P own (Establish s t) is = absurd is
+    for-data P own (Release s t) is = absurd is
+    for-data P own (asked_of.Unit s t octets) is = absurd is
+    for-data P own (Assign t) is = absurd is
+    for-data P own (Remove t) is = absurd is
+    for-data P own (Check t) is = absurd is
+    for-data P own (SetBusy s t) is = absurd is
+    for-data P own (ClearBusy s t) is = absurd is
+
+    pub quiet-requests : ((octets : List ℕ) → refusal n.terms n.link false (link.Data octets) ≡ None → ⊥) → (r : Request) → IsTalkOf service tei (requests r) → Quiet (acting (requests r) w) 0
+    quiet-requests never r is = for-data (λ r. Quiet (acting (requests r) w) 0) (quiet-asks never) r is

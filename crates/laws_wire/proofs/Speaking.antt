@@ -1,0 +1,100 @@
+-- What layer 3 is told by an event of a link.
+use Rattle.std.proofs.Common.{◌≡◌, ℕ, ◌+◌, ◌≤◌, true, false, cond, ◌==◌, List, [], ◌∷◌, ◌++◌, length, map, Some, refl, sym, ap, subst, ◌∙◌, inl, inr, eq-eqb, append_assoc, arith}
+use Rattle.std.specs.Prelude.{All, slice_get, unwrap_or, option_to_list, if◌then◌else◌}
+use Rattle.std.specs.Option.{option_or}
+use Rattle.std.proofs.lemmas.Bool.{le-ltb}
+use Rattle.std.proofs.lemmas.List.{map-append}
+use Rattle.lapd_seq.specs.Numbers.{seq}
+use Rattle.lapd_seq.specs.Circle.{named}
+use Rattle.lapd_frame.specs.declared.notes.ErrorCode.TheVariants as code
+use Rattle.lapd_frame.specs.declared.services.Service.{Service}
+use Rattle.lapd_frame.specs.Grammar.{Parts}
+use Rattle.model_link.specs.declared.terms.Terms.{Terms}
+use Rattle.model_link.specs.Link.{Link}
+use Rattle.model_link.specs.Events.{frame, received}
+use Rattle.model_link.specs.Established
+use Rattle.model_link.specs.Machine.{course, told}
+use Rattle.model_link.specs.MultipleFrame
+use Rattle.model_link.specs.Steps.{Course, begun}
+use Rattle.model_link.specs.TwoEnds.{End}
+use Rattle.model_link.specs.Words
+use Rattle.model_line.specs.Effect.{unserved_cause}
+use Rattle.model_line.specs.Event.{LineTold}
+use Rattle.laws_two_links.proofs.Plain.{plain, information_frame}
+use Rattle.laws_two_links.proofs.Halves.{named-number, fits-at}
+use Rattle.laws_two_links.proofs.BusyMoves.{acked, noted}
+use Rattle.laws_two_links.proofs.AnyOrder.{Informs, Notes, Lane, lane-low, lane-order, Steady, Direction, is-steady}
+use Rattle.laws_wire.specs.Wire.{tells_nothing}
+use Rattle.laws_wire.specs.Call.{data_told}
+
+-- what a course tells, but orders
+abbrev pub heard_by : Course → LineTold
+heard_by c = record { notes = c.notes; contents = option_or c.delivered c.unit; cause = unserved_cause c.unserved; orders = []; lost = c.lost }
+
+abbrev pub said_by : Course → List LineTold
+said_by c = if tells_nothing (heard_by c) then [] else heard_by c ∷ []
+
+-- of what is delivered its layer 3 is told, and of nothing else
+abbrev pub TellsData : Terms → Course → Type 0
+TellsData t c = said_by c ≡ map (data_told t.service t.tei) (option_to_list c.delivered)
+
+module _ (n m : End) (hn : Steady n) (hm : Steady m) (there : Direction n m) (back : Direction m n) where
+  same-link : m.link ≡ plain m.link
+  same-link = ap (λ (x : End). x.link) (is-steady m hm)
+
+  high : n.link.r ≤ m.link.s
+  high = lane-order m.terms m.link.contents n.link.r m.link.s n.link.a m.link.r m.link.pending m.way back.lane
+
+  names : (v : ℕ) → m.link.a ≤ v → v ≤ n.link.r → named m.link.a m.link.s (seq v) ≡ Some v
+  names v low up =
+      let within : m.link.s ≤ m.link.a + m.terms.k = hm.sound.within in
+      let small : m.terms.k ≤ 127 = hm.ranges.k_high in
+      named-number m.link.a m.link.s v low (let h = high in omega (arith, up, h)) (omega (arith, within, small))
+
+  abbrev Tells : Parts → Link → Type 0
+  Tells f l = TellsData m.terms (course m.terms (received (frame f)) l)
+
+  tells-i : (f : Parts) (fs : List Parts) (v : ℕ) → m.link.a ≤ v → (here : Informs n.terms n.link.contents m.link.r v f)
+      → Lane n.terms n.link.contents (m.link.r + 1) n.link.s v n.link.r n.link.pending fs → Tells f m.link
+  tells-i f fs v low here rest =
+      let l = here.l in
+      let octets = unwrap_or (slice_get l.contents l.s) [] in
+      let up : v ≤ n.link.r = lane-low n.terms n.link.contents (m.link.r + 1) n.link.s v n.link.r n.link.pending fs rest in
+      let named-v : named m.link.a m.link.s (seq l.r) ≡ Some v = subst (λ w. named m.link.a m.link.s (seq w) ≡ Some v) (sym here.means) (names v low up) in
+      let fits = le-ltb m.terms.n201 (length octets) (fits-at m.terms.n201 l.contents l.s (subst (λ cs. All (λ octets. length octets ≤ m.terms.n201) cs) (sym here.contents) there.sizes)) in
+      let next : ((seq l.s).value == (seq m.link.r).value) ≡ true = eq-eqb (seq l.s).value (seq m.link.r).value (ap (λ i. (seq i).value) here.number) in
+      let first = begun (plain m.link) in
+      let number : Course → Course = λ c. Words.by_number m.terms (seq l.r) Established.acknowledged_by_information_in_7 c in
+      let added = MultipleFrame.in_sequence m.terms false octets first in
+      let a = acked m false n.terms l v fits named-v low in
+      let is : course m.terms (received (frame (information_frame n.terms l))) (plain m.link) ≡ record added { link = record added.link { a = v; running = a.running }; started = a.started } =
+      ap (λ b. cond b (MultipleFrame.failed m.terms code.O first) (number (MultipleFrame.contents_in_7_8 m.terms (seq l.s) false octets first))) fits
+      ∙ ap (λ b. number (cond b (MultipleFrame.in_sequence m.terms false octets first) (MultipleFrame.out_of_sequence m.terms false first))) next
+      ∙ a.is in
+      subst (λ x. Tells f x) (sym same-link)
+      (subst (λ g. Tells g (plain m.link)) (sym here.is) (subst (TellsData m.terms) (sym is) refl))
+
+  tells-n : (f : Parts) (fs : List Parts) (v : ℕ) → m.link.a ≤ v → (here : Notes n.terms v f)
+      → Lane n.terms n.link.contents m.link.r n.link.s v n.link.r n.link.pending fs → Tells f m.link
+  tells-n f fs v low here rest =
+      let l = here.l in
+      let up : v ≤ n.link.r = lane-low n.terms n.link.contents m.link.r n.link.s v n.link.r n.link.pending fs rest in
+      let named-v : named m.link.a m.link.s (seq l.r) ≡ Some v = subst (λ w. named m.link.a m.link.s (seq w) ≡ Some v) (sym here.means) (names v low up) in
+      subst (λ x. Tells f x) (sym same-link)
+      (subst (λ g. Tells g (plain m.link)) (sym here.is) (subst (TellsData m.terms) (sym (noted m false n.terms l v named-v low).is) refl))
+
+  pub tells-data : (f : Parts) (fs : List Parts) → n.way ≡ f ∷ fs → Tells f m.link
+  tells-data f fs e = go (subst (λ way. Lane n.terms n.link.contents m.link.r n.link.s m.link.a n.link.r n.link.pending way) e there.lane)
+    where
+      go : Lane n.terms n.link.contents m.link.r n.link.s m.link.a n.link.r n.link.pending (f ∷ fs) → Tells f m.link
+      go (v, low, inl (here, rest)) = tells-i f fs v low here rest
+      go (v, low, inr (here, rest)) = tells-n f fs v low here rest
+
+-- so its layer 3 was told what it has delivered
+pub told-so-far : (service : Service) (tei : ℕ) (first : List LineTold) (old more : List (List ℕ)) (told said : List LineTold)
+    → told ≡ first ++ map (data_told service tei) old → said ≡ map (data_told service tei) more
+    → told ++ said ≡ first ++ map (data_told service tei) (old ++ more)
+told-so-far service tei first old more told said is more-is =
+    ap (λ t. t ++ said) is ∙ ap (λ t. (first ++ map (data_told service tei) old) ++ t) more-is
+    ∙ append_assoc first (map (data_told service tei) old) (map (data_told service tei) more)
+    ∙ ap (λ t. first ++ t) (sym (map-append (data_told service tei) old more))

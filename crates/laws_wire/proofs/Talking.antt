@@ -1,0 +1,199 @@
+-- A station in a call: what its layer 3 was granted is what its link accepted, and it was told what its link delivered.
+use Rattle.std.proofs.Common.{◌≡◌, ℕ, ◌≤◌, Bool, true, false, cond, List, [], ◌∷◌, ◌++◌, length, map, drop, Option, Some, None, Ok, refl, sym, ap, subst, ◌∙◌, ◌⊎◌, inl, inr, append-nil, append_assoc}
+use Rattle.std.specs.Prelude.{All, option_to_list, nat_lt}
+use Rattle.std.proofs.lemmas.Bool.{ltb-false}
+use Rattle.std.proofs.lemmas.List.Elements.{All-nil, All-cons, All-tail, All-append}
+use Rattle.lapd_frame.specs.declared.refusals.Refusal.{Refusal}
+use Rattle.lapd_frame.specs.declared.refusals.Refusal.TheVariants.{WrongState, TooLong}
+use Rattle.lapd_frame.specs.declared.services.Service.{Service}
+use Rattle.lapd_frame.specs.Grammar.{Parts, AreOctets, spelling, other_side}
+use Rattle.lapd_bits.specs.RoundTrip.{IsHeardWhole}
+use Rattle.model_link.specs.declared.terms.Terms.{Terms}
+use Rattle.model_link.specs.Events as link
+use Rattle.model_link.specs.Link.{Link}
+use Rattle.model_link.specs.Machine as links
+use Rattle.model_link.specs.Requests as requests
+use Rattle.model_link.specs.TwoEnds.{End, with_link, with_sent}
+use Rattle.model_link.specs.TwoEnds as two_ends
+use Rattle.model_line.specs.declared.config.Config.{Config}
+use Rattle.model_line.specs.Event.{LineTold}
+use Rattle.model_line.specs.Line.{link_in, terms}
+use Rattle.model_line.specs.Octet.{heard_side}
+use Rattle.model_line.specs.Request.{Data}
+use Rattle.model_card.specs.Card.{line_at}
+use Rattle.model_card.specs.Happening.{comes, goes, asks}
+use Rattle.laws_line.proofs.Asked.{link-grants}
+use Rattle.laws_wire.specs.Wire.{Station, happens, with_first_lost}
+use Rattle.laws_wire.specs.Call.{data_told}
+use Rattle.laws_wire.proofs.Asking.{with_more, asked-form}
+use Rattle.laws_wire.proofs.Speaking.{said_by, TellsData, told-so-far}
+use Rattle.laws_wire.proofs.Standing.{IsCarried, Stands, Granted, gives-stands, takes-stands, takes-told, asks-stands}
+
+-- Two configurations of the two sides.
+pub record Face (c d : Config) : Type 0 where
+  pub side : other_side c.side ≡ d.side
+  pub n201 : c.n201 ≡ d.n201
+
+-- What layer 3 of a station had been told before, and what its link had delivered.
+pub record Past : Type 0 where
+  pub told : List LineTold
+  pub had : List (List ℕ)
+
+abbrev pub unheard : Past
+unheard = record { told = []; had = [] }
+
+abbrev pub after_note : LineTold → Past
+after_note t = record { told = t ∷ []; had = [] }
+
+pub record Holds (c : Config) (service : Service) (tei place : ℕ) (past : Past) (s : Station) (n : End) : Type 0 where
+  pub stands : Stands c service tei place s n
+  pub granted : s.granted ≡ n.link.contents
+  pub octets : All AreOctets s.granted
+  pub since : List (List ℕ)
+  pub told : s.told ≡ past.told ++ map (data_told service tei) since
+  pub delivered : n.delivered ≡ past.had ++ since
+
+-- where nothing was delivered before
+module _ (c : Config) (service : Service) (tei place : ℕ) (before : List LineTold) (s : Station) (n : End) (h : Holds c service tei place (record { told = before; had = [] }) s n) where
+  pub all-told : s.told ≡ before ++ map (data_told service tei) n.delivered
+  all-told = h.told ∙ ap (λ xs. before ++ map (data_told service tei) xs) (sym h.delivered)
+
+  pub none-told : n.delivered ≡ [] → s.told ≡ before
+  none-told none = all-told ∙ ap (λ xs. before ++ map (data_told service tei) xs) none ∙ append-nil before
+
+module _ (service : Service) (tei place : ℕ) (first : Past) where
+  -- with its own configuration
+  own-stands : (c : Config) (s : Station) (n : End) → Stands c service tei place s n → Stands s.card.config service tei place s n
+  own-stands c s n h = subst (λ k. Stands k service tei place s n) (sym h.config) h
+
+  -- it gives
+  pub holds-given : (c : Config) (s : Station) (n : End) → Holds c service tei place first s n → (with_sent n).link.contents ≡ n.link.contents
+      → Holds c service tei place first (happens (goes s.line) s) (with_sent n)
+  holds-given c s n h kept = record {
+    stands =
+        subst (λ k. Stands k service tei place (happens (goes s.line) s) (with_sent n)) h.stands.config
+        (gives-stands service tei place s n (own-stands c s n h.stands) (subst (All AreOctets) h.granted h.octets));
+    granted = append-nil s.granted ∙ h.granted ∙ sym kept;
+    octets = subst (All AreOctets) (sym (append-nil s.granted)) h.octets;
+    since = h.since;
+    told = append-nil s.told ∙ h.told;
+    delivered = h.delivered;
+  }
+
+  -- the first frame on its way is taken
+  drop-carried : (c : Config) (way : List Parts) → All (IsCarried c service tei) way → All (IsCarried c service tei) (drop 1 way)
+  drop-carried c [] h = h
+  drop-carried c (f ∷ fs) h = All-tail (IsCarried c service tei) f fs h
+
+  drop-spelled : (f : Parts → List ℕ) (way : List Parts) → drop 1 (map f way) ≡ map f (drop 1 way)
+  drop-spelled f [] = refl
+  drop-spelled f (x ∷ xs) = refl
+
+  pub holds-lost : (c : Config) (s : Station) (n : End) → Holds c service tei place first s n → Holds c service tei place first (with_first_lost s) (two_ends.with_first_lost n)
+  holds-lost c s n h = record {
+    stands = record {
+      config = h.stands.config;
+      sound = h.stands.sound;
+      idle = h.stands.idle;
+      within = h.stands.within;
+      speaks = h.stands.speaks;
+      terms = h.stands.terms;
+      way = ap (drop 1) h.stands.way ∙ drop-spelled (spelling c.side) n.way;
+      carried = drop-carried c n.way h.stands.carried;
+    };
+    granted = h.granted;
+    octets = h.octets;
+    since = h.since;
+    told = h.told;
+    delivered = h.delivered;
+  }
+
+  -- it takes a frame of the other side
+  pub record Took (c : Config) (s : Station) (n : End) (octets : List ℕ) (f : Parts) : Type 0 where
+    pub stands : Stands c service tei place (happens (comes s.line octets) s) (with_link (link.received (link.frame f)) n)
+    pub told : (happens (comes s.line octets) s).told ≡ s.told ++ said_by (links.course n.terms (link.received (link.frame f)) n.link)
+
+  pub takes : (c d : Config) → Face c d → (s : Station) (n : End) (f : Parts) → Stands c service tei place s n → IsCarried d service tei f → Took c s n (spelling d.side f) f
+  takes c d face s n f h from =
+      let x = from.carried in
+      let same-n201 : d.n201 ≡ s.card.config.n201 = sym face.n201 ∙ ap (λ k. k.n201) (sym h.config) in
+      let whole : IsHeardWhole s.card.config.n201 (spelling d.side f) = subst (λ k. IsHeardWhole k (spelling d.side f)) same-n201 x.whole in
+      let side : d.side ≡ heard_side s.card.config = sym face.side ∙ ap (λ k. other_side k.side) (sym h.config) in
+      let read : Rattle.lapd_frame.specs.Reading.reading (heard_side s.card.config) (spelling d.side f) ≡ Ok f = subst (λ k. Rattle.lapd_frame.specs.Reading.reading k (spelling d.side f) ≡ Ok f) side x.read in
+      let own = own-stands c s n h in
+      record {
+        stands =
+            subst (λ k. Stands k service tei place (happens (comes s.line (spelling d.side f)) s) (with_link (link.received (link.frame f)) n)) h.config
+            (takes-stands service tei place s n own f (spelling d.side f) whole read from.sapi from.by);
+        told = takes-told service tei place s n own f (spelling d.side f) whole read from.sapi from.by;
+      }
+
+  same-data : (c : Config) (n : End) → n.terms ≡ terms c service tei → (xs : List (List ℕ)) → map (data_told n.terms.service n.terms.tei) xs ≡ map (data_told service tei) xs
+  same-data c n is xs = ap (λ t. map (data_told t.service t.tei) xs) is
+
+  pub holds-taken : (c d : Config) → Face c d → (s : Station) (n : End) (f : Parts) → Holds c service tei place first s n → IsCarried d service tei f
+      → TellsData n.terms (links.course n.terms (link.received (link.frame f)) n.link) → (with_link (link.received (link.frame f)) n).link.contents ≡ n.link.contents
+      → Holds c service tei place first (happens (comes s.line (spelling d.side f)) s) (with_link (link.received (link.frame f)) n)
+  holds-taken c d face s n f h from tells kept =
+      let x = takes c d face s n f h.stands from in
+      let more = option_to_list (links.course n.terms (link.received (link.frame f)) n.link).delivered in
+      record {
+        stands = x.stands;
+        granted = append-nil s.granted ∙ h.granted ∙ sym kept;
+        octets = subst (All AreOctets) (sym (append-nil s.granted)) h.octets;
+        since = h.since ++ more;
+        told = x.told ∙ told-so-far service tei first.told h.since more s.told _ h.told (tells ∙ same-data c n h.stands.terms more);
+        delivered = ap (λ xs. xs ++ more) h.delivered ∙ append_assoc first.had h.since more;
+      }
+
+  -- contents that are granted are not refused by the link, and have at most N201 octets
+  short-enough : (serves long : Bool) (why : Refusal) (rest : Option Refusal) → cond serves (cond long (Some TooLong) rest) (Some why) ≡ None → long ≡ false
+  short-enough true true why rest e = absurd (cc)
+  short-enough true false why rest e = refl
+  short-enough false long why rest e = absurd (cc)
+
+  pub fits : (t : Terms) (l : Link) (octets : List ℕ) → requests.refusal t l false (link.Data octets) ≡ None → length octets ≤ t.n201
+  fits t l octets e =
+      ltb-false t.n201 (length octets) (short-enough (requests.serves l.state (link.Data octets)) (nat_lt t.n201 (length octets)) WrongState _ e)
+
+  nothing-told : (t : Terms) (l : Link) (octets : List ℕ) → requests.refusal t l false (link.Data octets) ≡ None → said_by (links.course t (link.requested (link.Data octets) false) l) ≡ []
+  nothing-told t l octets e = ap (λ o. said_by (elim o [ None ↦ requests.granted t (link.Data octets) (Rattle.model_link.specs.Steps.begun l) | Some _ ↦ Rattle.model_link.specs.Steps.begun l ])) e
+
+  pub record More (c : Config) (s s' : Station) (n : End) (octets : List ℕ) : Type 0 where
+    pub none : requests.refusal n.terms n.link false (link.Data octets) ≡ None
+    pub holds : Holds c service tei place first s' (with_more octets n)
+    pub granted : s'.granted ≡ s.granted ++ octets ∷ []
+
+  pub holds-asked : (c : Config) (s : Station) (n : End) (octets : List ℕ) → AreOctets octets → Holds c service tei place first s n
+      → (happens (asks s.line (Data service tei octets)) s ≡ s) ⊎ More c s (happens (asks s.line (Data service tei octets)) s) n octets
+  holds-asked c s n octets are h =
+      let own = own-stands c s n h.stands in
+      go own (asks-stands service tei place s n own (Data service tei octets) (link.Data octets) (λ l. refl))
+    where
+      s' : Station
+      s' = happens (asks s.line (Data service tei octets)) s
+
+      go : (own : Stands s.card.config service tei place s n) → (s' ≡ s) ⊎ Granted service tei place s n own (Data service tei octets) (link.Data octets) (λ l. refl) s'
+          → (s' ≡ s) ⊎ More c s s' n octets
+      go own (inl same) = inl same
+      go own (inr x) =
+          let l = line_at s.line s.card in
+          let by-line : requests.refusal (terms s.card.config service tei) (link_in l service place) false (link.Data octets) ≡ None =
+          link-grants s.card.config service tei place octets l own.speaks.placed x.none in
+          let none : requests.refusal n.terms n.link false (link.Data octets) ≡ None =
+          subst (λ t. requests.refusal t n.link false (link.Data octets) ≡ None) (sym own.terms)
+          (subst (λ y. requests.refusal (terms s.card.config service tei) y false (link.Data octets) ≡ None) own.speaks.link by-line) in
+          inr (record {
+            none = none;
+            holds = record {
+              stands = subst (λ k. Stands k service tei place s' (with_more octets n)) h.stands.config (subst (Stands s.card.config service tei place s') (asked-form octets n none) x.stands);
+              granted = x.granted ∙ ap (λ xs. xs ++ octets ∷ []) h.granted;
+              octets =
+                  subst (All AreOctets) (sym x.granted)
+                  (All-append AreOctets s.granted (octets ∷ []) h.octets (All-cons AreOctets octets [] are (All-nil AreOctets)));
+              since = h.since;
+              told = x.told ∙ ap (λ ts. s.told ++ ts) (nothing-told n.terms n.link octets none) ∙ append-nil s.told ∙ h.told;
+              delivered = h.delivered;
+            };
+            granted = x.granted;
+          })

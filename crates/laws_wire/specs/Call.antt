@@ -1,0 +1,80 @@
+-- A call between two cards: what layer 3 of each asks for, and what it is told.
+use Rattle.std.specs.Prelude.{◌≡◌, ◌≤◌, ◌<◌, ℕ, ◌+◌, ◌*◌, List, [], ◌∷◌, ◌++◌, length, map, All, Some}
+use Rattle.lapd_frame.specs.Grammar.{AreOctets, other_side}
+use Rattle.lapd_frame.specs.declared.notes.Note.TheVariants as notes
+use Rattle.lapd_frame.specs.declared.services.Service.{Service}
+use Rattle.model_line.specs.declared.config.Config.{Config}
+use Rattle.model_line.specs.Event.{LineTold, nothing}
+use Rattle.model_line.specs.Request.{Request, Establish, Data, Assign}
+use Rattle.model_line.specs.Sound.{IsInRange}
+use Rattle.model_card.specs.Card.{fresh}
+use Rattle.model_card.specs.Happening.{asks}
+use Rattle.laws_wire.specs.Wire.{Station, Wire, happens, Act, requests, times_out, gives, takes, loses, Doing, at_near, at_far, doing_all, turns, IsStill}
+
+-- A card that has just begun, at one of its lines; it has the TEI assigned; and two such, of which one is asked to establish.
+abbrev pub station : Config → ℕ → Station
+station c line = record { card = fresh c; line = line; way = []; granted = []; told = [] }
+
+abbrev pub assigned : Config → ℕ → ℕ → Station
+assigned c line tei = happens (asks line (Assign tei)) (station c line)
+
+abbrev pub calling : Service → ℕ → Config → ℕ → Config → ℕ → Wire
+calling service tei c line d other =
+    record { near = happens (asks line (Establish service tei)) (assigned c line tei); far = assigned d other tei }
+
+-- Two configurations of the two sides, in range, with the same N201; a line of each; and a TEI that a terminal can have.
+pub record CanCall (c : Config) (line : ℕ) (d : Config) (other tei : ℕ) : Type 0 where
+  pub near : IsInRange c
+  pub far : IsInRange d
+  pub sides : d.side ≡ other_side c.side
+  pub n201 : c.n201 ≡ d.n201
+  pub near_line : line < c.lines
+  pub far_line : other < d.lines
+  pub terminal : tei ≤ 126
+
+-- What is done in a call: either layer 3 asks to send data, which are octets, and is granted or refused; and turns.
+abbrev pub IsData : Service → ℕ → Request → Type 0
+IsData service tei (Data s t contents) = (s ≡ service) × (t ≡ tei) × AreOctets contents
+IsData service tei other = ⊥
+
+abbrev pub IsTalkOf : Service → ℕ → Act → Type 0
+IsTalkOf service tei (requests r) = IsData service tei r
+IsTalkOf service tei (times_out timer) = ⊥
+IsTalkOf service tei gives = Unit {0}
+IsTalkOf service tei takes = Unit {0}
+IsTalkOf service tei loses = ⊥
+
+abbrev pub IsTalk : Service → ℕ → Doing → Type 0
+IsTalk service tei (at_near act) = IsTalkOf service tei act
+IsTalk service tei (at_far act) = IsTalkOf service tei act
+
+-- What layer 3 is told: that the link which it asked for is established, that the other has established it, and data.
+abbrev pub confirmed : Service → ℕ → LineTold
+confirmed service tei = record nothing { notes = notes.EstablishConfirm service tei ∷ [] }
+
+abbrev pub indicated : Service → ℕ → LineTold
+indicated service tei = record nothing { notes = notes.EstablishIndication service tei ∷ [] }
+
+abbrev pub data_told : Service → ℕ → List ℕ → LineTold
+data_told service tei contents = record nothing { notes = notes.Data service tei ∷ []; contents = Some contents }
+
+-- One establishment, and then the data that the other was granted to send, in order, and nothing else.
+abbrev pub all_told : Service → ℕ → LineTold → Station → List LineTold
+all_told service tei first other = first ∷ map (data_told service tei) other.granted
+
+abbrev pub IsBeginningOf : List LineTold → List LineTold → Type 0
+IsBeginningOf all told = (rest : List LineTold) × (told ++ rest ≡ all)
+
+-- At any time layer 3 of each was told a beginning of that, and where no turn is left it was told all; and there are at most
+-- four turns for the establishment, and four for each request for data that was granted.
+pub record ComesThrough (service : Service) (tei : ℕ) (taken : ℕ) (w : Wire) : Type 0 where
+  pub turns : taken ≤ 4 + 4 * (length w.near.granted + length w.far.granted)
+  pub near : IsStill w → w.near.told ≡ all_told service tei (confirmed service tei) w.far
+  pub far : IsStill w → w.far.told ≡ all_told service tei (indicated service tei) w.near
+  pub near_so_far : IsBeginningOf (all_told service tei (confirmed service tei) w.far) w.near.told
+  pub far_so_far : IsBeginningOf (all_told service tei (indicated service tei) w.near) w.far.told
+
+abbrev pub CallsComeThrough : Type 0
+CallsComeThrough =
+    (service : Service) (c d : Config) (line other tei : ℕ) (ds : List Doing) → CanCall c line d other tei → All (IsTalk service tei) ds →
+    let w = calling service tei c line d other in ComesThrough service tei (turns ds w) (doing_all ds w)

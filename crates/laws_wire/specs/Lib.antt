@@ -1,0 +1,5 @@
+-- Two cards on one wire, and worked values of them.
+pub mod Wire
+pub mod Call
+pub mod Facing
+pub mod Worked

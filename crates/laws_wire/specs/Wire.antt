@@ -1,0 +1,142 @@
+-- Two cards on one wire: a line of one faces a line of the other, and what one gives the other takes.
+use Rattle.std.specs.Prelude.{◌≡◌, ℕ, ◌+◌, ◌==◌, Bool, true, false, ◌&&◌, not, List, [], ◌∷◌, ◌++◌, length, drop, None, Some, is_some, if◌then◌else◌}
+use Rattle.lapd_frame.specs.declared.timers.Timer.{Timer}
+use Rattle.model_line.specs.Event.{LineTold, told, refused, pulled}
+use Rattle.model_line.specs.Request.{Request, Establish, Release, Data, Unit, Assign, Remove, Check, SetBusy, ClearBusy}
+use Rattle.model_card.specs.Card.{Card}
+use Rattle.model_card.specs.Happening.{Happening, comes, failed, goes, expires, asks, events_of}
+use Rattle.model_card.specs.Run.{after_all}
+use Rattle.model_card.specs.Said.{Said, says, said}
+use Rattle.model_card.specs.Said as call
+
+-- A card at one end of the wire, which is at one of its lines; the frames that it gave and that the other end has not taken
+-- yet, the oldest first; the contents that its layer 3 asked to send and was granted; and what its layer 3 was told.
+pub record Station : Type 0 where
+  pub card : Card
+  pub line : ℕ
+  pub way : List (List ℕ)
+  pub granted : List (List ℕ)
+  pub told : List LineTold
+
+-- What layer 3 is told by an answer: all but orders for timers, and nothing where it tells nothing else.
+abbrev pub tells_nothing : LineTold → Bool
+tells_nothing t = length t.notes == 0 && not (is_some t.contents) && not (is_some t.cause) && t.lost == 0
+
+abbrev pub without_orders : LineTold → List LineTold
+without_orders t = if tells_nothing t then [] else record t { orders = [] } ∷ []
+
+abbrev pub told_by : Said → List LineTold
+told_by (says (told t)) = without_orders t
+told_by (says (refused why)) = []
+told_by (says (pulled octet begun orders)) = []
+told_by (call.gives next) = []
+
+-- The frame that a call for the next frame gives.
+abbrev pub frames_by : Said → List (List ℕ)
+frames_by (says answer) = []
+frames_by (call.gives None) = []
+frames_by (call.gives (Some next)) = next.octets ∷ []
+
+-- The contents of a request for data, where it is granted.
+abbrev pub contents_of : Request → List (List ℕ)
+contents_of (Data service tei contents) = contents ∷ []
+contents_of (Establish service tei) = []
+contents_of (Release service tei) = []
+contents_of (Unit service tei contents) = []
+contents_of (Assign tei) = []
+contents_of (Remove tei) = []
+contents_of (Check tei) = []
+contents_of (SetBusy service tei) = []
+contents_of (ClearBusy service tei) = []
+
+abbrev pub contents_in : Happening → List (List ℕ)
+contents_in (asks line r) = contents_of r
+contents_in (comes line octets) = []
+contents_in (failed line fault) = []
+contents_in (goes line) = []
+contents_in (expires line timer) = []
+
+abbrev pub unless_refused : Said → List (List ℕ) → List (List ℕ)
+unless_refused (says (told t)) contents = contents
+unless_refused (says (refused why)) contents = []
+unless_refused (says (pulled octet begun orders)) contents = []
+unless_refused (call.gives next) contents = []
+
+-- Something happens at a station.
+abbrev pub happens : Happening → Station → Station
+happens h s = record {
+  card = after_all s.card (events_of s.card h);
+  line = s.line;
+  way = s.way ++ frames_by (said s.card h);
+  granted = s.granted ++ unless_refused (said s.card h) (contents_in h);
+  told = s.told ++ told_by (said s.card h);
+}
+
+pub record Wire : Type 0 where
+  pub near : Station
+  pub far : Station
+
+-- What can happen at an end: layer 3 or management asks for something, a timer expires, the next frame is called for and goes
+-- on its way, the first frame of the other's way comes, or the first of its own way is lost.
+pub data Act : Type 0 where
+  requests : Request → Act
+  times_out : Timer → Act
+  gives : Act
+  takes : Act
+  loses : Act
+
+pub data Doing : Type 0 where
+  at_near : Act → Doing
+  at_far : Act → Doing
+
+abbrev pub with_first_of : List (List ℕ) → Station → Station
+with_first_of [] s = s
+with_first_of (octets ∷ more) s = happens (comes s.line octets) s
+
+abbrev pub with_first_lost : Station → Station
+with_first_lost s = record s { way = drop 1 s.way }
+
+abbrev pub acting : Act → Wire → Wire
+acting (requests r) w = record w { near = happens (asks w.near.line r) w.near }
+acting (times_out timer) w = record w { near = happens (expires w.near.line timer) w.near }
+acting gives w = record w { near = happens (goes w.near.line) w.near }
+acting takes w = record { near = with_first_of w.far.way w.near; far = with_first_lost w.far }
+acting loses w = record w { near = with_first_lost w.near }
+
+abbrev pub turned : Wire → Wire
+turned w = record { near = w.far; far = w.near }
+
+abbrev pub doing : Doing → Wire → Wire
+doing (at_near act) w = acting act w
+doing (at_far act) w = turned (acting act (turned w))
+
+unfoldable pub doing_all : List Doing → Wire → Wire
+doing_all [] w = w
+doing_all (d ∷ ds) w = doing_all ds (doing d w)
+
+-- A turn is that an end gives a frame, or takes one; so many of what is done are turns.
+abbrev pub is_any : List (List ℕ) → Bool
+is_any [] = false
+is_any (octets ∷ more) = true
+
+abbrev pub is_turn_of : Act → Wire → Bool
+is_turn_of (requests r) w = false
+is_turn_of (times_out timer) w = false
+is_turn_of gives w = is_any (frames_by (said w.near.card (goes w.near.line)))
+is_turn_of takes w = is_any w.far.way
+is_turn_of loses w = false
+
+abbrev pub is_turn : Doing → Wire → Bool
+is_turn (at_near act) w = is_turn_of act w
+is_turn (at_far act) w = is_turn_of act (turned w)
+
+unfoldable pub turns : List Doing → Wire → ℕ
+turns [] w = 0
+turns (d ∷ ds) w = (if is_turn d w then 1 else 0) + turns ds (doing d w)
+
+-- No turn is left: neither end has a frame to give, and none is on its way.
+pub record IsStill (w : Wire) : Type 0 where
+  pub near : said w.near.card (goes w.near.line) ≡ call.gives None
+  pub far : said w.far.card (goes w.far.line) ≡ call.gives None
+  pub near_way : w.near.way ≡ []
+  pub far_way : w.far.way ≡ []

@@ -1,0 +1,16 @@
+//! Laws of two cards on one wire: a line of a card of the network's side faces a line of one of the user's, and what one
+//! gives the other takes. There is nothing to call: each law is the contract of a function that does nothing.
+//!
+//! `specs/` has the wire and what can happen at its ends (`Wire`), a call between two cards that have just begun, in the
+//! words of the calls of a card alone (`Call`), two cards that face each other by links in state 7 (`Facing`), and worked
+//! values that compute (`Worked`). What a card does at a happening is the machine of `model_card`, to the octet; the laws
+//! of two links are those of `laws_two_links`.
+//!
+//! # Open
+//!
+//! Frames that are lost, and timers that expire; the octets that one card's pulls give, taken one by one by the other.
+#![tactic(auto)]
+
+mod laws;
+
+pub use laws::{a_call_comes_through, cards_deliver};

@@ -20,7 +20,6 @@ ghost use Rattle.model_line.specs.Whole.{line_octets, fault_octets, came, is_too
 ghost use Rattle.model_line.specs.WholeAtLine.{of_heard, pulls_for};
 ghost use Rattle.lapd_line.specs.Loading.{in_octets};
 
-use crate::counting::count_told;
 use crate::fault::StartFault;
 use crate::link_layer::LinkLayer;
 use crate::outlet::Outlet;
@@ -270,7 +269,8 @@ impl FrameLine {
     fn count_told(&mut self, report: &Report<'_>)
         ensures { self.new ≡ with_frames_counted self.old (told_in_report (report_told report.now)) }
     {
-        count_told(&mut self.counters, report.notes, report.cause, report.lost);
+        self.counters
+            .told(report.notes(), report.cause, report.lost);
     }
 
     /// Serves a request of layer 3 or management, as [`Line::request`](crate::Line::request) does.

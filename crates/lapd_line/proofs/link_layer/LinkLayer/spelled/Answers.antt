@@ -21,4 +21,4 @@ returns-in-Link g c = λ octets is.
 pub returns-in-Nobody : goal.returns-in-Nobody
 returns-in-Nobody g c = λ octets is.
     serves_as (λ others m st. ap (at_side c.args.self.now.config (parts_of c.args.frame)) (aimed c.args.self.now (g.S.Shelf.store c.args.shelf.now) others m c.args.frame.address (link.frame (parts_of c.args.frame)) (message_of c.args.frame.control c.args.frame.info.now) _ c.in-Nobody.ensures.is st))
-    (serves_none c.args.self.now (g.S.Shelf.store c.args.shelf.now) octets c.for_nobody.result _ (c.for_nobody.ensures octets is))
+    (serves_none c.args.self.now (g.S.Shelf.store c.args.shelf.now) octets c.for_nobody-report.result _ (c.for_nobody-report.ensures octets is))

@@ -4,6 +4,9 @@ ghost use Rattle.std.specs.Prelude.{◌≡◌, ◌+◌, ◌-◌, ◌<◌, ◌≤
 ghost use Rattle.lapd_bits.specs.Heard.{heard_of};
 ghost use Rattle.lapd_bits.specs.Stream.{dropped};
 ghost use Rattle.lapd_count.specs.Counters.{none_counted};
+ghost use Rattle.lapd_count.specs.Shown.{heard_shown};
+ghost use Rattle.lapd_line.specs.Counted.{bare_shown};
+ghost use Rattle.lapd_line.specs.Reports.{octets_of};
 ghost use Rattle.lapd_store.specs.Ownership.{Owned, Holds};
 ghost use Rattle.lapd_store.specs.Store.{Store, used_slots};
 ghost use Rattle.model_line.specs.Event as line_event;
@@ -20,6 +23,7 @@ ghost use Rattle.model_line.specs.Whole.{line_octets, fault_octets, came, is_too
 ghost use Rattle.model_line.specs.WholeAtLine.{of_heard, pulls_for};
 ghost use Rattle.lapd_line.specs.Loading.{in_octets};
 
+use crate::counting::count_told;
 use crate::fault::StartFault;
 use crate::link_layer::LinkLayer;
 use crate::outlet::Outlet;
@@ -113,6 +117,16 @@ fn heard(octets: &[u8], n201: u16) -> Heard<'_>
     Heard::Frame(octets)
 }
 
+/// The octets of a frame that is heard, and none of anything else.
+fn octets_of(heard: Heard<'_>) -> &[u8]
+    ensures { result.now ≡ octets_of (heard_of heard.entry) }
+{
+    match heard {
+        Heard::Frame(octets) => octets,
+        Heard::Nothing | Heard::Dropped(_) | Heard::Overlong(_) => &[],
+    }
+}
+
 impl FrameLine {
     ghost use Rattle.std.specs.Option.{option_map_or};
     ghost use Rattle.model_line.specs.Counted.{heard_counted, taken_shown, told_in_answer, told_in_report};
@@ -146,31 +160,17 @@ impl FrameLine {
         ensures counted { Counts (λ c m. heard_counted c (came c.n201 octets.now) m) self.old (S.store shelf.old) self.new }
     {
         let heard = heard(octets, self.layer.config.n201);
-        let report = self.serve(octets, heard, shelf);
-        self.counters.heard(heard);
-        self.count_told(&report);
-        report
+        let bare = self.layer.serve(heard, shelf);
+        self.count_heard(heard, &bare);
+        bare.report(octets_of(heard))
     }
 
-    /// Serves a frame as which these octets are heard, and counts nothing.
-    fn serve<'a, S: Shelf>(
-        &mut self,
-        octets: &'a [u8],
-        heard: Heard<'a>,
-        shelf: &mut S,
-    ) -> Report<'a>
-        requires stands { (others : List Owned) × (m : machine.Line) × Stands self.old (S.store shelf.old) others m }
-        requires heard { heard_of heard ≡ Some (came (config_of self.old).n201 octets.now) }
-        ensures told { (others : List Owned) (m : machine.Line) → Stands self.old (S.store shelf.old) others m
-            → report_told result ≡ (of_heard (config_of self.old) (came (config_of self.old).n201 octets.now) m).told }
-        ensures after { Leads (λ m. map line_event.octet (line_octets octets.now)) self.old (S.store shelf.old) self.new (S.store shelf.new) }
-        ensures counters { self.new.counters ≡ self.old.counters }
+    /// Counts what is heard, and what was told of it.
+    fn count_heard(&mut self, heard: Heard<'_>, bare: &BareReport)
+        ensures { self.new ≡ with_frames_counted self.old (heard_shown (heard_of heard.entry) ++ bare_shown bare.now) }
     {
-        let lent: &[u8] = match heard {
-            Heard::Frame(octets) => octets,
-            Heard::Nothing | Heard::Dropped(_) | Heard::Overlong(_) => &[],
-        };
-        self.layer.serve(heard, shelf).report(lent)
+        self.counters.heard(heard);
+        count_told(&mut self.counters, bare.notes, bare.cause, bare.lost);
     }
 
     /// The controller tells a fault in place of a frame. It is reported with its cause, and changes nothing.
@@ -269,8 +269,7 @@ impl FrameLine {
     fn count_told(&mut self, report: &Report<'_>)
         ensures { self.new ≡ with_frames_counted self.old (told_in_report (report_told report.now)) }
     {
-        self.counters
-            .told(report.notes(), report.cause, report.lost);
+        count_told(&mut self.counters, report.notes, report.cause, report.lost);
     }
 
     /// Serves a request of layer 3 or management, as [`Line::request`](crate::Line::request) does.

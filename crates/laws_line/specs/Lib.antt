@@ -7,9 +7,9 @@ pub mod Frames
 pub mod Timers
 pub mod Requests
 pub mod Steady
+pub mod OneEvent
 pub mod Knowledge
 pub mod Begun
-pub mod Expiries
 pub mod Messages
 pub mod Causes
 pub mod Unmanaged

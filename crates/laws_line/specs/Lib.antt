@@ -19,6 +19,7 @@ pub mod Laws
 pub mod Worked
 pub mod WorkedPulls
 pub mod WorkedHeard
+pub mod WorkedOneEvent
 pub mod WorkedLinks
 pub mod WorkedMessages
 pub mod WorkedNoted

@@ -4,7 +4,6 @@ pub mod Serving
 pub mod Hearing
 pub mod Receiving
 pub mod TimersRun
-pub mod Restarting
 pub mod Happening
 pub mod Watching
 pub mod Knowing

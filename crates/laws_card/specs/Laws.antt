@@ -6,7 +6,7 @@ use Rattle.model_card.specs.Event.{Event}
 use Rattle.model_card.specs.Machine.{after}
 use Rattle.model_card.specs.Run.{IsAtLine, AreAtLines}
 use Rattle.model_card.specs.Sound.{IsSound}
-use Rattle.laws_card.specs.Promises.{IsKept, IsCountedIn, BeginsEmpty, IsServedIn, HasOneEvent, IsDelivered, AreReceived, BeginsUnheard, RunsWhatIsNeeded, NeedsNone, TimersAreLeft, NotesTell, TeisAreTold, BeginsDown, TeisHaveOnePlace, BegunIsTold}
+use Rattle.laws_card.specs.Promises.{IsKept, IsCountedIn, BeginsEmpty, IsServedIn, HasOneEvent, IsDelivered, AreReceived, BeginsUnheard, RunsWhatIsNeeded, NeedsNone, NotesTell, TeisAreTold, BeginsDown, TeisHaveOnePlace, BegunIsTold}
 use Rattle.laws_card.specs.Timers.{AllHaveTheirTimers}
 use Rattle.laws_card.specs.Frames.{AreCounted, AreAmortised, AreLinear, GivesWhatGoes, CallsEnd, WaitingIsGiven, PollsAreAnswered, CommandsAreAnswered}
 use Rattle.model_card.specs.Happening.{Happening, HappenAt, AreIdle}
@@ -32,9 +32,6 @@ pub record TimersFollow : Type 0 where
   pub none : (c : Config) → NeedsNone c
   pub begins : (c : Config) → AllHaveTheirTimers (fresh c)
   pub stays : (card : Card) (e : Event) → IsSound card → AllHaveTheirTimers card → IsAtLine card e → AllHaveTheirTimers (after e card)
-
-abbrev pub PullsLeaveTimers : Type 0
-PullsLeaveTimers = (card : Card) (events : List Event) → IsSound card → AreAtLines card events → TimersAreLeft card events
 
 pub record Known : Type 0 where
   pub up : (card : Card) (events : List Event) → IsSound card → AreAtLines card events → NotesTell card events

@@ -19,7 +19,7 @@ use Rattle.laws_card.specs.Heard.{IsHeardIn}
 use Rattle.laws_card.specs.Begun.{IsBegunIn}
 use Rattle.laws_card.specs.Knowledge.{up_by_notes, on_by_notes}
 use Rattle.laws_card.specs.Received.{octets_at}
-use Rattle.laws_card.specs.Timers.{runs_at_callers, LeavesTimersIn}
+use Rattle.laws_card.specs.Timers.{runs_at_callers}
 
 -- In every moment nothing that was accepted is lost silently.
 abbrev pub IsKept : Card → List Event → Type 0
@@ -98,7 +98,3 @@ TeisHaveOnePlace m events =
 -- In every moment the answer says that a frame was begun exactly where one was: the octet pulled has its first bit.
 abbrev pub BegunIsTold : Card → List Event → Type 0
 BegunIsTold m events = All IsBegunIn (moments m events)
-
--- In every moment a pull starts no timer anew that runs.
-abbrev pub TimersAreLeft : Card → List Event → Type 0
-TimersAreLeft m events = All LeavesTimersIn (moments m events)

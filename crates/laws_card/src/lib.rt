@@ -25,4 +25,4 @@ pub use frames::{calls_serve, frames_are_counted};
 pub use laws::{heard_is_delivered, nothing_is_lost, one_event, pulls_serve};
 pub use notes::{begun_is_true, notes_tell};
 pub use progress::{pulls_serve_a_line, pulls_serve_wherever};
-pub use timers::{pulls_leave_timers, timers_follow};
+pub use timers::timers_follow;

@@ -16,7 +16,6 @@ use Rattle.laws_card.proofs.Hearing.{heard-all}
 use Rattle.laws_card.proofs.Keeping.{kept, run-counted, begins-empty}
 use Rattle.laws_card.proofs.Knowing.{up-known, on-known, down-at-first, one-place}
 use Rattle.laws_card.proofs.Receiving.{run-received, begins-unheard}
-use Rattle.laws_card.proofs.Restarting.{leaves-all}
 use Rattle.laws_card.proofs.Serving.{served-in}
 use Rattle.laws_card.proofs.TimersRun.{needed-run, needs-none, reached-timely}
 use Rattle.laws_card.proofs.Wherever.{waiting-begun, come-to-an-end, few-to-go, begins-with-few}
@@ -39,7 +38,6 @@ module _ (m : Card) (events : List Event) (reached : IsReached m) (within : AreA
     nothing_is_lost = kept m events sound within;
     one_event = one-all m events sound within;
     begun_is_told = begun-told m events sound within;
-    pulls_leave_timers = leaves-all m events sound within;
     heard_is_delivered = heard-all m events sound within;
     received = front AreReceived run-received;
     begins_unheard = begins-unheard m.config;

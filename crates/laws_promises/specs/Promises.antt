@@ -2,7 +2,7 @@
 use Rattle.std.specs.Prelude.{ℕ, List, take}
 use Rattle.model_card.specs.Card.{Card}
 use Rattle.model_card.specs.Event.{Event}
-use Rattle.laws_card.specs.Promises.{IsKept, HasOneEvent, BegunIsTold, TimersAreLeft, IsDelivered, AreReceived, BeginsUnheard, IsCountedIn, BeginsEmpty, RunsWhatIsNeeded, NeedsNone, NotesTell, TeisAreTold, BeginsDown, TeisHaveOnePlace, IsServedIn}
+use Rattle.laws_card.specs.Promises.{IsKept, HasOneEvent, BegunIsTold, IsDelivered, AreReceived, BeginsUnheard, IsCountedIn, BeginsEmpty, RunsWhatIsNeeded, NeedsNone, NotesTell, TeisAreTold, BeginsDown, TeisHaveOnePlace, IsServedIn}
 use Rattle.laws_card.specs.PromisesOfPulls.{WaitingAreBegun, PullsComeToAnEnd, FewAreToGo, BeginsWithFew, EnoughPullsServe}
 
 -- From a card on: those of a whole list hold in each of its moments; those with a count hold after that many of its
@@ -27,10 +27,6 @@ pub record Promises (m : Card) (events : List Event) : Type 0 where
   -- octet pulled has its first bit; no other event puts a frame on a line, nor a flag, which a pull does where fewer than eight
   -- bits were left (clause 2.2).
   pub begun_is_told : BegunIsTold m events
-  -- A pull orders nothing, or it begins an I-frame of a link on its line whose T200 does not run: then it starts this
-  -- T200, and stops the link's T203 where that runs. So no pull starts anew a timer that runs, and puts off its expiry
-  -- (clause 5.6.1).
-  pub pulls_leave_timers : TimersAreLeft m events
   -- Contents of at most N201 octets are handed on, exactly of an I-frame in sequence that the link may take, and of a UI: the
   -- frame's information. An octet ends a frame where, in the bits of all octets that the line received, the frame is heard with
   -- this octet, behind what was heard before; one that ends nothing, or a stretch that is no frame, changes nothing but what was

@@ -1,67 +1,30 @@
 -- Lists of events that meet what the other promises ask, and what those give.
-use Rattle.std.proofs.Common.{◌≡◌, ℕ, ◌+◌, ◌*◌, ◌<◌, ◌≤◌, true, List, [], ◌∷◌, ◌++◌, map, length, refl, sym, subst, inl, arith, Some}
+use Rattle.std.proofs.Common.{◌≡◌, ℕ, ◌+◌, ◌*◌, ◌<◌, ◌≤◌, true, List, [], ◌∷◌, ◌++◌, map, refl, sym, subst, inl, arith}
 use Rattle.std.specs.Prelude.{All}
 use Rattle.std.proofs.lemmas.List.Elements.{All-cons, All-append}
 use Rattle.lapd_frame.specs.declared.controls.Control.TheVariants.{ReceiveReady, Ua}
-use Rattle.lapd_frame.specs.declared.services.Service.TheVariants.{Call}
 use Rattle.lapd_seq.specs.Numbers.{seq}
 use Rattle.model_link.specs.Words.{response}
-use Rattle.laws_two_links.specs.Polls.{IsPollWhileUp, asked_of}
 use Rattle.model_line.specs.declared.config.Config.{Config}
 use Rattle.model_line.specs.Event.{octet, request}
-use Rattle.model_line.specs.Line.{Line, link_number, link_in, terms}
+use Rattle.model_line.specs.Line.{Line}
 use Rattle.model_line.specs.Machine as lines
 use Rattle.model_line.specs.Request.{Assign}
-use Rattle.laws_line.specs.Heard.{Ends, IsFor}
 use Rattle.laws_line.specs.Drains.{bits_to_go, IsEnough, control_text, most_pulls_before}
-use Rattle.laws_line.specs.WorkedPolled.{small, octets_before, last_octet, poll, asked, both_wait, still_on_line, bits_are}
-use Rattle.laws_line.specs.WorkedSabme as sabme
-use Rattle.laws_line.specs.WorkedSabme.{before_sabme}
-use Rattle.laws_line.proofs.Premises.{poll-is-one, sabme-is-for, sabme-room, sabme-enough}
+use Rattle.laws_line.specs.WorkedPolled.{small, octets_before, last_octet, asked, both_wait, still_on_line, bits_are}
 use Rattle.model_card.specs.Card.{Card, fresh, line_at}
 use Rattle.model_card.specs.Event.{Event, at}
 use Rattle.model_card.specs.Machine.{after}
 use Rattle.model_card.specs.Run.{AreAtLines, after_all}
 use Rattle.model_card.specs.Sound.{IsSound}
 use Rattle.model_card.proofs.CardSound.{fresh_is_sound, after_is_sound, always_sound}
-use Rattle.laws_card.specs.Among.{pulls_at, IsBegunAmong, IsAnsweredAmong, IsIdleAmong}
-use Rattle.laws_card.specs.PromisesOfPulls.{IsHeardAndPulled, IsWaiting, ArePullsEnough, EnoughServe}
-use Rattle.laws_card.specs.WorkedAmong.{at_line_0, events_before, card_before, events_before_sabme, card_before_sabme, sabme_line_is, served, enough_pulls_are}
+use Rattle.laws_card.specs.Among.{pulls_at, IsBegunAmong, IsIdleAmong}
+use Rattle.laws_card.specs.PromisesOfPulls.{IsWaiting, ArePullsEnough, EnoughServe}
+use Rattle.laws_card.specs.WorkedAmong.{at_line_0, events_before, card_before, served, enough_pulls_are}
 use Rattle.laws_card.proofs.Enough.{enough-pulls}
 use Rattle.laws_card.proofs.Meanwhile.{few-lines, at-octet}
-use Rattle.laws_card.proofs.Premises.{IsAtSmall, only-pulls, served-at, octets-at, config-is, there, heard-there}
-use Rattle.laws_card.proofs.Wherever.{config-stays, answers-begun, come-to-an-end, begins-with-few}
-
--- The UA to a SABME is begun.
-abbrev sabme_events : List Event
-sabme_events = events_before_sabme ++ at 0 (octet sabme.last_octet) ∷ served 19
-
-sabme-at : AreAtLines (fresh small) sabme_events
-sabme-at =
-    All-append IsAtSmall events_before_sabme (at 0 (octet sabme.last_octet) ∷ served 19)
-    (All-cons IsAtSmall (at 0 (request (Assign 64))) (map at_line_0 sabme.octets_before) (omega arith) (octets-at sabme.octets_before))
-    (All-cons IsAtSmall (at 0 (octet sabme.last_octet)) (served 19) (omega arith) (served-at 19))
-
-sabme-there : (P : Config → Line → Type 0) → P small before_sabme → P card_before_sabme.config (line_at 0 card_before_sabme)
-sabme-there P p = subst (λ c. P c (line_at 0 card_before_sabme)) (sym (config-stays (fresh small) events_before_sabme)) (subst (P small) (sym sabme_line_is) p)
-
-sabme-heard : IsHeardAndPulled card_before_sabme 0 sabme.last_octet (served 19) Call 64 0 sabme.sabme
-sabme-heard = record {
-  heard = record {
-    octets = 0x00 ∷ 0x81 ∷ 0x7F ∷ [];
-    ends = sabme-there (λ c l. Ends c l sabme.last_octet (0x00 ∷ 0x81 ∷ 0x7F ∷ [])) sabme.sabme_ends;
-    is_for = sabme-there (λ c l. IsFor c l Call 64 0 sabme.sabme (0x00 ∷ 0x81 ∷ 0x7F ∷ [])) sabme-is-for;
-    room = sabme-there (λ c l. length (link_in l Call 0).waiting + 1 ≤ c.control) sabme-room;
-  };
-  only = only-pulls 19;
-  enough = sabme-there (λ c l. IsEnough c 19 (lines.after c (octet sabme.last_octet) l) (link_number 0 Call) (length (link_in l Call 0).waiting)) sabme-enough;
-}
-
-pub ua-is-begun : IsBegunAmong card_before_sabme 0 (at 0 (octet sabme.last_octet) ∷ served 19) (control_text card_before_sabme.config (link_number 0 Call) 64 (response (Ua true)))
-ua-is-begun =
-    (answers-begun (fresh small) sabme_events (fresh_is_sound small refl) sabme-at).unnumbered events_before_sabme (at 0 (octet sabme.last_octet) ∷ served 19) refl
-    0 sabme.last_octet (served 19) Call 64 0 sabme.sabme (Ua true) refl sabme-heard
-    (sabme-there (λ c l. asked_of (link_in l Call 0).state sabme.sabme.control ≡ Some (Ua true)) sabme.asked)
+use Rattle.laws_card.proofs.Premises.{IsAtSmall, only-pulls, served-at, octets-at, config-is, there}
+use Rattle.laws_card.proofs.Wherever.{waiting-begun, come-to-an-end, begins-with-few}
 
 -- Behind the poll: what waits is begun, and then idle flags go on.
 abbrev pub card_asked : Card
@@ -97,11 +60,11 @@ ends-in-flags =
 pub rr-is-begun : IsBegunAmong card_asked 0 (served 37) (control_text card_asked.config 0 64 (response (ReceiveReady (seq 0) true)))
 unfolding after_all lines.takes_slot
 rr-is-begun =
-    (answers-begun card_asked (served 37) asked-sound (all-at 37)).waiting [] (served 37) refl 0 0 64 (response (Ua true) ∷ []) (response (ReceiveReady (seq 0) true)) [] few
+    (waiting-begun card_asked (served 37) asked-sound (all-at 37)).waiting [] (served 37) refl 0 0 64 (response (Ua true) ∷ []) (response (ReceiveReady (seq 0) true)) [] few
     (asked-there (λ c l. IsWaiting c l 0 64 (response (Ua true) ∷ []) (response (ReceiveReady (seq 0) true)) []) (record { few = omega arith; on_line = still_on_line; waits = both_wait }))
     (only-pulls 37) (asked-there (λ c l. IsEnough c (pulls_at 0 (served 37)) l 0 1) (inl (omega (arith, bits_are))))
 
--- The poll is answered by the pulls that are enough for whatever waits.
+-- The answer to the poll is begun by the pulls that are enough for whatever waits.
 abbrev enough_events : List Event
 enough_events = events_before ++ at 0 (octet last_octet) ∷ served 160
 
@@ -112,10 +75,14 @@ enough-at =
 enough-serve : EnoughServe 0 (fresh small) enough_events
 enough-serve = enough-pulls (fresh small) enough_events (fresh_is_sound small refl) enough-at 0 (omega arith) (begins-with-few small 0 (omega arith))
 
-pulled : ArePullsEnough card_before 0 (served 160)
-pulled = record { only = only-pulls 160; enough = there (λ c l. most_pulls_before c ≤ pulls_at 0 (served 160)) (omega (arith, enough_pulls_are)) }
+abbrev here : List Event
+here = events_before ++ at 0 (octet last_octet) ∷ []
 
-pub is-answered-soon : IsAnsweredAmong card_before 0 (at 0 (octet last_octet) ∷ served 160) Call 64 0 (link_in (lines.after card_before.config (octet last_octet) (line_at 0 card_before)) Call 0).r
+pulled : ArePullsEnough card_asked 0 (served 160)
+pulled = record { only = only-pulls 160; enough = asked-there (λ c l. most_pulls_before c ≤ pulls_at 0 (served 160)) (omega (arith, enough_pulls_are)) }
+
+pub is-answered-soon : IsBegunAmong card_asked 0 (served 160) (control_text card_asked.config 0 64 (response (ReceiveReady (seq 0) true)))
+unfolding after_all lines.takes_slot
 is-answered-soon =
-    enough-serve.polls events_before (at 0 (octet last_octet) ∷ served 160) refl last_octet (served 160) Call 64 0 poll refl heard-there pulled
-    (there (λ c l. IsPollWhileUp (terms c Call 64) (link_in l Call 0) poll) poll-is-one)
+    enough-serve.waiting here (served 160) refl 0 64 (response (Ua true) ∷ []) (response (ReceiveReady (seq 0) true)) []
+    (asked-there (λ c l. IsWaiting c l 0 64 (response (Ua true) ∷ []) (response (ReceiveReady (seq 0) true)) []) (record { few = omega arith; on_line = still_on_line; waits = both_wait })) pulled

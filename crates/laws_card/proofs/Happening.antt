@@ -1,49 +1,96 @@
--- What a moment of a run is to each link.
-use Rattle.std.proofs.Common.{◌≡◌, ◌≢◌, ℕ, ◌<◌, List, get_or, set, refl, sym, ap, subst, arith, inl}
+-- In a moment of a run one part of one line has one event, and all else is as it was.
+use Rattle.std.proofs.Common.{◌≡◌, ◌≢◌, ℕ, true, false, List, get_or, refl, sym, ap, ◌∙◌, subst, arith, inr, true≢false}
 use Rattle.std.proofs.lemmas.Bool.{and_parts}
 use Rattle.std.proofs.lemmas.List.{get_or-set_same, get_or-set_other}
-use Rattle.model_line.specs.Event.{Answer}
-use Rattle.model_line.specs.Line.{Line, fresh_line, link_at, link_count}
+use Rattle.lapd_frame.specs.declared.refusals.Refusal.TheVariants.{PoolFull}
+use Rattle.lapd_frame.specs.declared.services.Service.{Service}
+use Rattle.lapd_tei.specs.Events as teis
+use Rattle.model_link.specs.Events as link
+use Rattle.model_line.specs.declared.config.Config.{Config}
+use Rattle.model_line.specs.Event as line_event
+use Rattle.model_line.specs.Event.{refused}
+use Rattle.model_line.specs.Line.{Line, fresh_line}
 use Rattle.model_line.specs.Machine as lines
-use Rattle.model_line.proofs.NumberedEvents.{slot_brings_nothing}
-use Rattle.laws_line.specs.Steady.{Happens}
-use Rattle.laws_line.proofs.Happening.{event-happens}
+use Rattle.laws_line.specs.OneEvent.{with_octet_of, IsOneEvent}
+use Rattle.laws_line.specs.Steady.{IsBy, IsOfManagement}
+use Rattle.laws_line.proofs.Parts.{one-event}
 use Rattle.model_card.specs.Event.{Event}
 use Rattle.model_card.specs.Card.{Card, line_at, is_full}
 use Rattle.model_card.specs.Machine.{after, answer}
-use Rattle.model_card.specs.Numbered.{LinkName}
 use Rattle.model_card.specs.Run.{IsAtLine, AreAtLines}
 use Rattle.model_card.specs.Sound.{IsSound}
 use Rattle.model_card.proofs.EachMoment.{moment_of, each_moment}
 use Rattle.model_card.proofs.Steps.{has_lines, by_room, line_sound}
-use Rattle.laws_card.specs.Faithful.{IsSteadyFor, IsSteadyIn}
-use Rattle.laws_card.specs.Promises.{AreSteady}
+use Rattle.laws_card.specs.Faithful.{IsOneEventIn}
+use Rattle.laws_card.specs.Promises.{HasOneEvent}
 
-module _ (card : Card) (e : Event) (s : IsSound card) (here : IsAtLine card e) (name : LinkName) (few : name.number < link_count card.config) where
-  abbrev Fate : ℕ → List Line → Answer → Type 0
-  Fate n ls a = Happens card.config name.number e.what (line_at n card) (get_or ls n (fresh_line card.config)) a
+-- A request that finds the pool full changes nothing, and is an event of no part; and nothing else takes a slot.
+stays : (e : line_event.Event) (l : Line) → ((value : ℕ) → e ≡ line_event.octet value → ⊥) → l ≡ with_octet_of e l
+stays (line_event.octet value) l none = absurd (none value refl)
+stays (line_event.expiry timer) l none = refl
+stays (line_event.request r) l none = refl
+stays line_event.pull l none = refl
 
-  at-line : Fate e.line (after e card).lines (answer e card)
-  at-line =
-      by_room (Fate e.line) e card
-      (λ full. inl (refl, (slot_brings_nothing card.config name.number e.what (line_at e.line card) (and_parts (lines.takes_slot card.config e.what (line_at e.line card)) (is_full card) full).0).goes_on))
-      (λ room.
-      let own = lines.after card.config e.what (line_at e.line card) in
-      subst (λ (x : Line). Happens card.config name.number e.what (line_at e.line card) x (lines.answer card.config e.what (line_at e.line card)))
-      (sym (get_or-set_same card.lines e.line own (fresh_line card.config) (omega (arith, s.count, here))))
-      (event-happens card.config e.what (line_at e.line card) name.number (line_sound card e.line (has_lines card s) here) few))
+module _ (c : Config) (l : Line) (e : line_event.Event) (takes : lines.takes_slot c e l ≡ true) where
+  no-octet : (value : ℕ) → e ≡ line_event.octet value → ⊥
+  unfolding lines.takes_slot
+  no-octet value is = true≢false (sym takes ∙ ap (λ e. lines.takes_slot c e l) is)
 
-  pub steady-for : IsSteadyFor name (moment_of card e)
-  steady-for = record {
-    here = λ is. subst (λ n. Fate n (after e card).lines (answer e card)) is at-line;
-    elsewhere = λ away.
-        by_room (λ ls a. link_at name.number (get_or ls name.line (fresh_line card.config)) ≡ link_at name.number (line_at name.line card)) e card
-        (λ full. refl)
-        (λ room. ap (link_at name.number) (get_or-set_other card.lines e.line name.line (lines.after card.config e.what (line_at e.line card)) (fresh_line card.config) (λ same. away (sym same))));
+  no-expiry : (timer : _) → e ≡ line_event.expiry timer → ⊥
+  unfolding lines.takes_slot
+  no-expiry timer is = true≢false (sym takes ∙ ap (λ e. lines.takes_slot c e l) is)
+
+  no-pull : e ≡ line_event.pull → ⊥
+  unfolding lines.takes_slot
+  no-pull is = true≢false (sym takes ∙ ap (λ e. lines.takes_slot c e l) is)
+
+  no-link : (service : Service) (tei : ℕ) (event : link.Event) → IsBy c l e (refused PoolFull) service tei event → ⊥
+  no-link service tei (link.received (link.frame parts)) by = no-octet by.value by.by
+  no-link service tei (link.received link.undefined) by = no-octet by.value by.by
+  no-link service tei (link.received link.wrong_size) by = no-octet by.value by.by
+  no-link service tei (link.received link.overlong) by = no-octet by.value by.by
+  no-link service tei (link.expired timer) by = no-expiry _ by
+  no-link service tei (link.requested asked full) by = true≢false (sym by.1)
+  no-link service tei link.offer by = no-pull by
+  no-link service tei link.cleared by = by
+
+  no-management : (event : teis.Event) → IsOfManagement c l e (refused PoolFull) event → ⊥
+  no-management (teis.message info) by = no-octet by.value by.by
+  no-management teis.expiry by = no-expiry _ by
+  no-management (teis.assign tei) by = true≢false (sym by.1)
+  no-management (teis.remove tei) by = true≢false (sym by.1)
+  no-management (teis.check tei) by = true≢false (sym by.1)
+
+  pub no-event : IsOneEvent c e l l (refused PoolFull)
+  no-event = record {
+    link = λ service tei place event other on by. absurd (no-link service tei event by);
+    management = λ event by. absurd (no-management event by);
+    units = λ unit granted. absurd (true≢false (sym granted.granted));
+    pulls = λ is. absurd (no-pull is);
+    none = inr (stays e l no-octet, tt);
   }
 
-steady-in : (card : Card) (e : Event) → IsSound card → IsAtLine card e → IsSteadyIn (moment_of card e)
-steady-in card e s here name named = steady-for card e s here name named.1
+module _ (card : Card) (e : Event) (s : IsSound card) (here : IsAtLine card e) where
+  abbrev l : Line
+  l = line_at e.line card
 
-pub steady-all : (card : Card) (events : List Event) → IsSound card → AreAtLines card events → AreSteady card events
-steady-all card events s all = each_moment IsSteadyIn steady-in card events s all
+  apart : (other : ℕ) → other ≢ e.line → line_at other (after e card) ≡ line_at other card
+  apart other away =
+      by_room (λ ls a. get_or ls other (fresh_line card.config) ≡ line_at other card) e card (λ full. refl)
+      (λ room. get_or-set_other card.lines e.line other (lines.after card.config e.what l) (fresh_line card.config) away)
+
+  at-line : IsOneEvent card.config e.what l (line_at e.line (after e card)) (answer e card)
+  at-line =
+      by_room (λ ls a. IsOneEvent card.config e.what l (get_or ls e.line (fresh_line card.config)) a) e card
+      (λ full. no-event card.config l e.what (and_parts (lines.takes_slot card.config e.what l) (is_full card) full).0)
+      (λ room.
+      let own = lines.after card.config e.what l in
+      subst (λ (x : Line). IsOneEvent card.config e.what l x (lines.answer card.config e.what l))
+      (sym (get_or-set_same card.lines e.line own (fresh_line card.config) (omega (arith, s.count, here))))
+      (one-event card.config e.what l (line_sound card e.line (has_lines card s) here)))
+
+  one-in : IsOneEventIn (moment_of card e)
+  one-in = record { own = at-line; others = apart }
+
+pub one-all : (card : Card) (events : List Event) → IsSound card → AreAtLines card events → HasOneEvent card events
+one-all card events s all = each_moment IsOneEventIn one-in card events s all

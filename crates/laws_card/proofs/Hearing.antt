@@ -1,27 +1,23 @@
 -- What an octet brings, in a moment of a run.
-use Rattle.std.proofs.Common.{◌≡◌, ◌≢◌, ℕ, true, false, List, get_or, Some, refl, sym, ap, ◌∙◌, subst, arith, true≢false}
+use Rattle.std.proofs.Common.{◌≡◌, ℕ, true, false, List, get_or, refl, sym, ap, ◌∙◌, subst, arith, true≢false}
 use Rattle.std.proofs.lemmas.Bool.{and_parts}
-use Rattle.std.proofs.lemmas.List.{get_or-set_same, get_or-set_other}
-use Rattle.std.proofs.lemmas.Option.{none-some}
+use Rattle.std.proofs.lemmas.List.{get_or-set_same}
 use Rattle.lapd_bits.specs.declared.heard.Cause.{Cause}
 use Rattle.lapd_bits.specs.declared.heard.Cause.TheVariants.{Unserved}
-use Rattle.lapd_frame.specs.declared.addresses.Address.{Address}
 use Rattle.lapd_frame.specs.declared.services.Service.{Service}
 use Rattle.lapd_frame.specs.Grammar.{Parts, Spells}
-use Rattle.model_link.specs.Events as link
 use Rattle.model_line.specs.declared.config.Config.{Config}
 use Rattle.model_line.specs.Octet.{heard_side}
 use Rattle.model_line.specs.Sides.{IsToGroup}
 use Rattle.model_line.specs.Event as line_event
-use Rattle.model_line.specs.Event.{Answer, refused, octet}
+use Rattle.model_line.specs.Event.{Answer, octet}
 use Rattle.model_line.specs.Line.{Line, fresh_line, link_in, terms}
 use Rattle.model_line.specs.Machine as lines
 use Rattle.model_line.specs.Sound as sound_line
-use Rattle.laws_line.specs.Heard.{Ends, EndsOverlong, EndsDropped, EndsNothing, IsFor, IsTo, IsMalformed, IsTooLong, IsOneEvent, IsNoEvent, IsDroppedFor, IsUnitOfGroup, IsToManagement, contents_in, due, IsNotedOnce, IsHeard}
-use Rattle.laws_line.proofs.Hearing.{one-event, malformed-event, overlong-event, no-event, dropped-stretch}
+use Rattle.laws_line.specs.Heard.{Ends, EndsDropped, EndsNothing, IsFor, IsNoEvent, IsDroppedFor, IsUnitOfGroup, IsToManagement, contents_in, due}
+use Rattle.laws_line.proofs.Hearing.{no-event, dropped-stretch}
 use Rattle.laws_line.proofs.Grouping.{group-unit, managed-dropped}
-use Rattle.laws_line.proofs.HandedOn.{due-is, contents-heard}
-use Rattle.laws_line.proofs.ToldOnce.{told-once}
+use Rattle.laws_line.proofs.HandedOn.{due-is}
 use Rattle.model_card.specs.Event.{Event}
 use Rattle.model_card.specs.Card.{Card, line_at, is_full}
 use Rattle.model_card.specs.Machine.{after, answer}
@@ -34,15 +30,6 @@ use Rattle.laws_card.specs.Promises.{IsDelivered}
 
 -- What an octet makes of its line, and answers.
 record OctetServed (c : Config) (before after : Line) (a : Answer) (value : ℕ) : Type 0 where
-  event : (service : Service) (tei place : ℕ) (parts : Parts) (octets : List ℕ)
-      → Ends c before value octets → IsFor c before service tei place parts octets
-      → IsOneEvent c before after a value service tei place (link.received (link.frame parts))
-  malformed : (service : Service) (tei place : ℕ) (address : Address) (octets : List ℕ) (what : link.Received)
-      → Ends c before value octets → IsTo before service tei place address → IsMalformed c address octets what
-      → IsOneEvent c before after a value service tei place (link.received what)
-  overlong : (service : Service) (tei place : ℕ) (address : Address) (head : List ℕ) (what : link.Received)
-      → EndsOverlong c before value head → IsTo before service tei place address → IsTooLong c address head what
-      → IsOneEvent c before after a value service tei place (link.received what)
   none : EndsNothing c before value → IsNoEvent before after a value
   dropped : (cause : Cause) → EndsDropped c before value cause → IsDroppedFor cause before after a value
   group : (parts : Parts) (octets : List ℕ) (service : Service) → Ends c before value octets → Spells (heard_side c) parts octets → IsToGroup c parts service
@@ -56,9 +43,6 @@ record OctetServed (c : Config) (before after : Line) (a : Answer) (value : ℕ)
 octet-served : (c : Config) (l : Line) (value : ℕ) → sound_line.IsInRange c → sound_line.IsSound c l
     → OctetServed c l (lines.after c (octet value) l) (lines.answer c (octet value) l) value
 octet-served c l value ranged s = record {
-  event = λ service tei place parts octets ends f. one-event c l value service tei place parts octets ends f;
-  malformed = λ service tei place address octets what ends f is. malformed-event c l value service tei place address octets what ends f is;
-  overlong = λ service tei place address head what ends f is. overlong-event c l value service tei place address head what ends f is;
   none = λ ends. no-event c l value ends;
   dropped = λ cause ends. dropped-stretch c l value cause ends;
   group = λ parts octets service ends spelled to. group-unit c l value parts octets service s ends spelled to;
@@ -69,8 +53,6 @@ octet-served c l value ranged s = record {
 -- The same of an event that may be an octet.
 record Served (c : Config) (e : line_event.Event) (before after : Line) (a : Answer) : Type 0 where
   by_octet : (value : ℕ) → e ≡ octet value → OctetServed c before after a value
-  once : IsNotedOnce a
-  heard : (contents : List ℕ) → contents_in a ≡ Some contents → IsHeard c before e a contents
 
 module _ (card : Card) (e : Event) (s : IsSound card) (here : IsAtLine card e) where
   takes-none : (value : ℕ) → lines.takes_slot card.config (octet value) (line_at e.line card) ≡ false
@@ -87,8 +69,6 @@ module _ (card : Card) (e : Event) (s : IsSound card) (here : IsAtLine card e) w
         by_octet = λ value is.
             subst (λ what. OctetServed card.config (line_at e.line card) (lines.after card.config what (line_at e.line card)) (lines.answer card.config what (line_at e.line card)) value) (sym is)
             (octet-served card.config (line_at e.line card) value s.config sound);
-        once = told-once card.config e.what (line_at e.line card) s.config sound;
-        heard = λ contents h. contents-heard card.config e.what (line_at e.line card) contents s.config sound h;
       }
 
   served-in : Served card.config e.what (line_at e.line card) (line_at e.line (after e card)) (answer e card)
@@ -98,31 +78,18 @@ module _ (card : Card) (e : Event) (s : IsSound card) (here : IsAtLine card e) w
       let takes = (and_parts (lines.takes_slot card.config e.what (line_at e.line card)) (is_full card) full).0 in
       record {
         by_octet = λ value is. absurd (no-octet takes value is);
-        once = refl;
-        heard = λ contents h. absurd (none-some contents h);
       })
       (λ room.
       subst (λ (x : Line). Served card.config e.what (line_at e.line card) x (lines.answer card.config e.what (line_at e.line card)))
       (sym (get_or-set_same card.lines e.line (lines.after card.config e.what (line_at e.line card)) (fresh_line card.config) (omega (arith, s.count, here)))) by-line)
 
-  apart : (other : ℕ) → other ≢ e.line → line_at other (after e card) ≡ line_at other card
-  apart other away =
-      by_room (λ ls a. get_or ls other (fresh_line card.config) ≡ line_at other card) e card (λ full. refl)
-      (λ room. get_or-set_other card.lines e.line other (lines.after card.config e.what (line_at e.line card)) (fresh_line card.config) away)
-
   pub heard-in : IsHeardIn (moment_of card e)
   heard-in = record {
-    event = λ value service tei place parts octets is ends f. (served-in.by_octet value is).event service tei place parts octets ends f;
-    malformed = λ value service tei place address octets what is ends f malformed. (served-in.by_octet value is).malformed service tei place address octets what ends f malformed;
-    overlong = λ value service tei place address head what is ends f long. (served-in.by_octet value is).overlong service tei place address head what ends f long;
     none = λ value is ends. (served-in.by_octet value is).none ends;
     dropped = λ value cause is ends. (served-in.by_octet value is).dropped cause ends;
     group = λ value parts octets service is ends spelled to. (served-in.by_octet value is).group parts octets service ends spelled to;
     management = λ value parts octets is ends spelled to. (served-in.by_octet value is).management parts octets ends spelled to;
     due = λ value service tei place parts octets is ends f. (served-in.by_octet value is).due_is service tei place parts octets ends f;
-    once = served-in.once;
-    heard = served-in.heard;
-    others = apart;
   }
 
 pub heard-all : (card : Card) (events : List Event) → IsSound card → AreAtLines card events → IsDelivered card events

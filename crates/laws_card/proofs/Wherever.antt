@@ -5,23 +5,22 @@ use Rattle.std.proofs.lemmas.Bool.{eqb-true, eqb-false}
 use Rattle.std.proofs.lemmas.List.{get_or-set_same, get_or-replicate}
 use Rattle.std.proofs.lemmas.List.Elements.{All-nil, All-cons, All-head, All-tail}
 use Rattle.model_line.specs.declared.config.Config.{Config}
-use Rattle.model_line.specs.Event.{octet}
-use Rattle.model_line.specs.Line.{Line, fresh_line, link_number, link_in}
+use Rattle.model_line.specs.Line.{Line, fresh_line}
 use Rattle.model_line.specs.Machine as lines
 use Rattle.laws_line.specs.Pulls.{HasNothing}
-use Rattle.laws_line.specs.Drains.{control_text, HasFewLeft}
+use Rattle.laws_line.specs.Drains.{HasFewLeft}
 use Rattle.laws_line.proofs.Bounds.{bits-few, fresh-few, each-few}
 use Rattle.model_card.specs.Card.{Card, line_at}
-use Rattle.model_card.specs.Event.{Event, at}
+use Rattle.model_card.specs.Event.{Event}
 use Rattle.model_card.specs.Machine.{after}
 use Rattle.model_card.specs.Run.{IsAtLine, AreAtLines, after_all}
 use Rattle.model_card.specs.Sound.{IsSound}
 use Rattle.model_card.proofs.CardSound.{after_is_sound, always_sound}
 use Rattle.model_card.proofs.Steps.{by_room}
-use Rattle.laws_card.specs.Among.{ArePullsAt, IsBegunAmong, IsAnsweredAmong}
-use Rattle.laws_card.specs.PromisesOfPulls.{Wherever, PollIsAnswered, UnnumberedIsAnswered, WaitingIsBegun, WaitingIsBegunMeanwhile, AnswersAreBegun, EndsInFlags, PullsComeToAnEnd, FewAreToGo, BeginsWithFew}
+use Rattle.laws_card.specs.Among.{ArePullsAt}
+use Rattle.laws_card.specs.PromisesOfPulls.{Wherever, WaitingIsBegun, WaitingIsBegunMeanwhile, WaitingAreBegun, EndsInFlags, PullsComeToAnEnd, FewAreToGo, BeginsWithFew}
 use Rattle.laws_card.proofs.Amid.{begun-amid}
-use Rattle.laws_card.proofs.Meanwhile.{IsServed, at-another, few-lines, line-sound, card-drains, card-idles, card-polled, card-unnumbered, card-waits}
+use Rattle.laws_card.proofs.Meanwhile.{IsServed, at-another, few-lines, line-sound, card-drains, card-idles, card-waits}
 
 -- What holds of all of a list holds of its parts.
 pub all-left : {X : Type 0} (P : X → Type 0) (xs ys : List X) → All P (xs ++ ys) → All P xs
@@ -50,23 +49,7 @@ unfolding after_all
 config-stays card [] = refl
 config-stays card (e ∷ events) = config-stays (after e card) events
 
--- Answers are begun.
-pub polls : (card : Card) (events : List Event) → IsSound card → AreAtLines card events → PollIsAnswered card events
-polls card events s all number value pulls service tei place parts split h p =
-    let these : AreAtLines card (at number (octet value) ∷ pulls) = subst (AreAtLines card) split all in
-    subst
-    (λ es. IsAnsweredAmong card number es service tei place (link_in (lines.after card.config (octet value) (line_at number card)) service place).r) (sym split)
-    (card-polled card number s (All-head (IsAtLine card) (at number (octet value)) pulls these) value pulls
-    (All-tail (IsAtLine card) (at number (octet value)) pulls these) h.only service tei place parts h.heard.octets h.heard.ends h.heard.is_for p h.heard.room h.enough)
-
-pub unnumbered : (card : Card) (events : List Event) → IsSound card → AreAtLines card events → UnnumberedIsAnswered card events
-unnumbered card events s all number value pulls service tei place parts answer split h asked =
-    let these : AreAtLines card (at number (octet value) ∷ pulls) = subst (AreAtLines card) split all in
-    let text = control_text card.config (link_number place service) tei (record { command = false; control = answer }) in
-    subst (λ es. IsBegunAmong card number es text) (sym split)
-    (card-unnumbered card number s (All-head (IsAtLine card) (at number (octet value)) pulls these) value pulls
-    (All-tail (IsAtLine card) (at number (octet value)) pulls these) h.only service tei place parts h.heard.octets answer h.heard.ends h.heard.is_for asked h.heard.room h.enough)
-
+-- What waits is begun.
 waiting : Law WaitingIsBegun
 unfolding Law
 waiting card events s all number link tei before f behind few h only enough = card-waits card number s few events all only link tei before f behind h enough
@@ -75,12 +58,10 @@ meanwhile : Law WaitingIsBegunMeanwhile
 unfolding Law
 meanwhile card events s all number link tei before f behind few h on less = begun-amid number link tei f events card s few h.few all on before behind h.waits less
 
-pub answers-begun : (m : Card) (events : List Event) → IsSound m → AreAtLines m events → AnswersAreBegun m events
+pub waiting-begun : (m : Card) (events : List Event) → IsSound m → AreAtLines m events → WaitingAreBegun m events
 unfolding Law
-answers-begun m events s all =
+waiting-begun m events s all =
     record {
-      polls = wherever PollIsAnswered polls m events s all;
-      unnumbered = wherever UnnumberedIsAnswered unnumbered m events s all;
       waiting = wherever WaitingIsBegun waiting m events s all;
       meanwhile = wherever WaitingIsBegunMeanwhile meanwhile m events s all;
     }

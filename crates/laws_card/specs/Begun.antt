@@ -5,4 +5,4 @@ use Rattle.laws_card.specs.Contents.{line_before, line_after}
 
 -- The answer says that a frame was begun exactly where one was, at the line of the event.
 abbrev pub IsBegunIn : Moment → Type 0
-IsBegunIn m = BeginsAs (says_begun m.answer) (line_before m) (line_after m)
+IsBegunIn m = BeginsAs m.event.what (says_begun m.answer) (line_before m) (line_after m)

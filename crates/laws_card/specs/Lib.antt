@@ -5,7 +5,6 @@ pub mod Heard
 pub mod Knowledge
 pub mod Begun
 pub mod Received
-pub mod Messages
 pub mod Promises
 pub mod Timers
 pub mod Laws
@@ -15,7 +14,6 @@ pub mod WorkedNotes
 pub mod WorkedBegun
 pub mod WorkedPlaces
 pub mod WorkedReceived
-pub mod WorkedReasons
 pub mod Among
 pub mod PromisesOfPulls
 pub mod WorkedAmong

@@ -14,13 +14,12 @@ use Rattle.model_card.specs.Numbered.{LinkName}
 use Rattle.model_card.specs.Promises.{HasLink}
 use Rattle.model_card.specs.Run.{moments, after_all}
 use Rattle.laws_card.specs.Contents.{link_named, begun, history, accepted_at}
-use Rattle.laws_card.specs.Faithful.{IsFaithful, UnitsWaitIn, TurnStaysIn, IsPulledIn, IsHeededIn, TakesEffectIn, ExpiryTakesEffectIn, IsSteadyIn}
+use Rattle.laws_card.specs.Faithful.{IsFaithful, IsOneEventIn}
 use Rattle.laws_card.specs.Heard.{IsHeardIn}
 use Rattle.laws_card.specs.Begun.{IsBegunIn}
 use Rattle.laws_card.specs.Knowledge.{up_by_notes, on_by_notes}
-use Rattle.laws_card.specs.Messages.{HaveCausesIn, AreThereIn, HaveReasonsIn, NotesItsOwnIn}
 use Rattle.laws_card.specs.Received.{octets_at}
-use Rattle.laws_card.specs.Timers.{runs_at_callers, LeavesTimersIn}
+use Rattle.laws_card.specs.Timers.{runs_at_callers}
 
 -- In every moment nothing that was accepted is lost silently.
 abbrev pub IsKept : Card → List Event → Type 0
@@ -43,33 +42,9 @@ abbrev pub IsServedIn : Card → List Event → Type 0
 IsServedIn m events =
     (number : ℕ) → number < m.config.lines → IsServed m.config (accepted_at m events number) (line_at number (after_all m events))
 
--- In every moment unit data waits that was granted,
-abbrev pub UnitsWaitAll : Card → List Event → Type 0
-UnitsWaitAll m events = All UnitsWaitIn (moments m events)
-
--- and whose turn it is, is changed by pulls alone.
-abbrev pub TurnsStay : Card → List Event → Type 0
-TurnsStay m events = All TurnStaysIn (moments m events)
-
--- In every moment a pull is one of the machine of its line, of which `IsServedIn` speaks.
-abbrev pub ArePulled : Card → List Event → Type 0
-ArePulled m events = All IsPulledIn (moments m events)
-
--- In every moment each frame for a link is heeded,
-abbrev pub AreHeeded : Card → List Event → Type 0
-AreHeeded m events = All IsHeededIn (moments m events)
-
--- each request that is granted takes effect,
-abbrev pub TakeEffect : Card → List Event → Type 0
-TakeEffect m events = All TakesEffectIn (moments m events)
-
--- so does each expiry of a timer that runs,
-abbrev pub ExpiriesTakeEffectIn : Card → List Event → Type 0
-ExpiriesTakeEffectIn m events = All ExpiryTakesEffectIn (moments m events)
-
--- each link is steady,
-abbrev pub AreSteady : Card → List Event → Type 0
-AreSteady m events = All IsSteadyIn (moments m events)
+-- In every moment one part of one line has one event, and all else is as it was;
+abbrev pub HasOneEvent : Card → List Event → Type 0
+HasOneEvent m events = All IsOneEventIn (moments m events)
 
 -- and what was heard is delivered, once, and from whom, and nothing else.
 abbrev pub IsDelivered : Card → List Event → Type 0
@@ -123,23 +98,3 @@ TeisHaveOnePlace m events =
 -- In every moment the answer says that a frame was begun exactly where one was: the octet pulled has its first bit.
 abbrev pub BegunIsTold : Card → List Event → Type 0
 BegunIsTold m events = All IsBegunIn (moments m events)
-
--- In every moment each message of TEI management that comes to wait has its cause, and each cause its message;
-abbrev pub MessagesHaveCauses : Card → List Event → Type 0
-MessagesHaveCauses m events = All HaveCausesIn (moments m events)
-
--- and a TEI that is told to a terminal is on its line when the message comes to wait.
-abbrev pub ToldTeisAreThere : Card → List Event → Type 0
-ToldTeisAreThere m events = All AreThereIn (moments m events)
-
--- In every moment what is noted of TEIs has its reason.
-abbrev pub NotesHaveReasons : Card → List Event → Type 0
-NotesHaveReasons m events = All HaveReasonsIn (moments m events)
-
--- In every moment a pull starts no timer anew that runs.
-abbrev pub TimersAreLeft : Card → List Event → Type 0
-TimersAreLeft m events = All LeavesTimersIn (moments m events)
-
--- And in every moment nothing else is noted than what the event has noted.
-abbrev pub NothingElseIsNoted : Card → List Event → Type 0
-NothingElseIsNoted m events = All NotesItsOwnIn (moments m events)

@@ -1,57 +1,19 @@
 -- What is promised of the pulls in a list of events, from a card on.
-use Rattle.std.specs.Prelude.{◌≡◌, ℕ, ◌+◌, ◌-◌, ◌*◌, ◌<◌, ◌≤◌, ◌==◌, ◌&&◌, if◌then◌else◌, false, List, [], ◌∷◌, ◌++◌, length, Some}
-use Rattle.lapd_frame.specs.declared.controls.Control.{Control}
-use Rattle.lapd_frame.specs.declared.services.Service.{Service}
-use Rattle.lapd_frame.specs.Grammar.{Parts}
+use Rattle.std.specs.Prelude.{◌≡◌, ℕ, ◌+◌, ◌-◌, ◌*◌, ◌<◌, ◌≤◌, ◌==◌, ◌&&◌, if◌then◌else◌, List, [], ◌∷◌, ◌++◌, length, Some}
 use Rattle.model_link.specs.declared.frames.ControlFrame.{ControlFrame}
-use Rattle.laws_two_links.specs.Polls.{IsPollWhileUp, asked_of}
 use Rattle.model_line.specs.declared.config.Config.{Config}
-use Rattle.model_line.specs.Event.{octet}
-use Rattle.model_line.specs.Line.{Line, link_number, link_count, place_at, tei_at, link_at, link_in, terms}
-use Rattle.model_line.specs.Machine as lines
-use Rattle.laws_line.specs.Heard.{Ends, IsFor}
+use Rattle.model_line.specs.Line.{Line, link_count, place_at, tei_at, link_at}
 use Rattle.laws_line.specs.Drains.{longest_text, bits_to_go, bits_before, IsEnough, control_text, HasFewLeft, most_bits, most_pulls, most_pulls_before}
 use Rattle.laws_line.specs.Among.{is_pull, go_first}
 use Rattle.model_card.specs.Card.{Card, fresh, line_at}
-use Rattle.model_card.specs.Event.{Event, at}
+use Rattle.model_card.specs.Event.{Event}
 use Rattle.model_card.specs.Machine.{after}
 use Rattle.model_card.specs.Run.{after_all}
-use Rattle.laws_card.specs.Among.{ArePullsAt, pulls_at, IsBegunAmong, IsAnsweredAmong, IsIdleAmong}
+use Rattle.laws_card.specs.Among.{ArePullsAt, pulls_at, IsBegunAmong, IsIdleAmong}
 
 -- Wherever in a list of events: of the card after any front of it, and of the events behind that.
 abbrev pub Wherever : (Card → List Event → Type 0) → Card → List Event → Type 0
 Wherever P m events = (front behind : List Event) → events ≡ front ++ behind → P (after_all m front) behind
-
--- An octet ends a frame for the link of a service and a TEI on the line, where one control frame more finds room.
-pub record IsHeardThere (card : Card) (number value : ℕ) (service : Service) (tei place : ℕ) (parts : Parts) : Type 0 where
-  pub octets : List ℕ
-  pub ends : Ends card.config (line_at number card) value octets
-  pub is_for : IsFor card.config (line_at number card) service tei place parts octets
-  pub room : length (link_in (line_at number card) service place).waiting + 1 ≤ card.config.control
-
--- And then the line is only pulled, and often enough for a control frame that waits last of that link.
-pub record IsHeardAndPulled (card : Card) (number value : ℕ) (pulls : List Event) (service : Service) (tei place : ℕ) (parts : Parts) : Type 0 where
-  pub heard : IsHeardThere card number value service tei place parts
-  pub only : ArePullsAt number pulls
-  pub enough :
-      IsEnough card.config (pulls_at number pulls) (lines.after card.config (octet value) (line_at number card)) (link_number place service)
-      (length (link_in (line_at number card) service place).waiting)
-
--- Where that frame is a poll in state 7 or 8, one of the pulls begins its answer: a response with F=1 and N(R) = V(R).
-abbrev pub PollIsAnswered : Card → List Event → Type 0
-PollIsAnswered card events =
-    (number value : ℕ) (pulls : List Event) (service : Service) (tei place : ℕ) (parts : Parts) → events ≡ at number (octet value) ∷ pulls →
-    IsHeardAndPulled card number value pulls service tei place parts →
-    IsPollWhileUp (terms card.config service tei) (link_in (line_at number card) service place) parts →
-    IsAnsweredAmong card number events service tei place (link_in (lines.after card.config (octet value) (line_at number card)) service place).r
-
--- Where it is SABME or DISC, one of them begins the UA or the DM that the state asks for, with F = P.
-abbrev pub UnnumberedIsAnswered : Card → List Event → Type 0
-UnnumberedIsAnswered card events =
-    (number value : ℕ) (pulls : List Event) (service : Service) (tei place : ℕ) (parts : Parts) (answer : Control) → events ≡ at number (octet value) ∷ pulls →
-    IsHeardAndPulled card number value pulls service tei place parts →
-    asked_of (link_in (line_at number card) service place).state parts.control ≡ Some answer →
-    IsBegunAmong card number events (control_text card.config (link_number place service) tei (record { command = false; control = answer }))
 
 -- A control frame waits on a link of a TEI on the line, with others of its link before it.
 pub record IsWaiting (c : Config) (l : Line) (link tei : ℕ) (before : List ControlFrame) (f : ControlFrame) (behind : List ControlFrame) : Type 0 where
@@ -93,9 +55,7 @@ WaitingIsBegunMeanwhile card events =
     bits_before card.config (line_at number card) link (length before) + come_first_at number card events * longest_text card.config < 8 * pulls_of number events →
     IsBegunAmong card number events (control_text card.config link tei f)
 
-pub record AnswersAreBegun (m : Card) (events : List Event) : Type 0 where
-  pub polls : Wherever PollIsAnswered m events
-  pub unnumbered : Wherever UnnumberedIsAnswered m events
+pub record WaitingAreBegun (m : Card) (events : List Event) : Type 0 where
   pub waiting : Wherever WaitingIsBegun m events
   pub meanwhile : Wherever WaitingIsBegunMeanwhile m events
 
@@ -130,28 +90,12 @@ pub record ArePullsEnough (card : Card) (number : ℕ) (events : List Event) : T
   pub only : ArePullsAt number events
   pub enough : most_pulls_before card.config ≤ pulls_at number events
 
--- One of them begins a control frame that waits on a link of a TEI on the line;
+-- One of them begins a control frame that waits on a link of a TEI on the line.
 abbrev pub WaitingIsBegunBy : ℕ → Card → List Event → Type 0
 WaitingIsBegunBy number card events =
     (link tei : ℕ) (before : List ControlFrame) (f : ControlFrame) (behind : List ControlFrame) →
     IsWaiting card.config (line_at number card) link tei before f behind → ArePullsEnough card number events →
     IsBegunAmong card number events (control_text card.config link tei f)
-
--- where they follow an octet that ends a poll for a link in state 7 or 8, the answer to it, with F=1 and N(R) = V(R);
-abbrev pub PollIsAnsweredBy : ℕ → Card → List Event → Type 0
-PollIsAnsweredBy number card events =
-    (value : ℕ) (pulls : List Event) (service : Service) (tei place : ℕ) (parts : Parts) → events ≡ at number (octet value) ∷ pulls →
-    IsHeardThere card number value service tei place parts → ArePullsEnough card number pulls →
-    IsPollWhileUp (terms card.config service tei) (link_in (line_at number card) service place) parts →
-    IsAnsweredAmong card number events service tei place (link_in (lines.after card.config (octet value) (line_at number card)) service place).r
-
--- and where they follow one that ends SABME or DISC, the UA or the DM that the state asks for.
-abbrev pub UnnumberedIsAnsweredBy : ℕ → Card → List Event → Type 0
-UnnumberedIsAnsweredBy number card events =
-    (value : ℕ) (pulls : List Event) (service : Service) (tei place : ℕ) (parts : Parts) (answer : Control) → events ≡ at number (octet value) ∷ pulls →
-    IsHeardThere card number value service tei place parts → ArePullsEnough card number pulls →
-    asked_of (link_in (line_at number card) service place).state parts.control ≡ Some answer →
-    IsBegunAmong card number events (control_text card.config (link_number place service) tei (record { command = false; control = answer }))
 
 -- After the pulls that are enough for all that may go, idle flags go on, and nothing else.
 abbrev pub EndsInFlagsBy : ℕ → Card → List Event → Type 0
@@ -161,8 +105,6 @@ EndsInFlagsBy number card events =
 
 pub record EnoughServe (number : ℕ) (m : Card) (events : List Event) : Type 0 where
   pub waiting : Wherever (WaitingIsBegunBy number) m events
-  pub polls : Wherever (PollIsAnsweredBy number) m events
-  pub unnumbered : Wherever (UnnumberedIsAnsweredBy number) m events
   pub ends : Wherever (EndsInFlagsBy number) m events
 
 -- So it is of a line of which at most the longest frame is left at first, as on a card that has just begun and after

@@ -1,10 +1,9 @@
 -- The timers that run at a caller's that obeys the orders, over whole runs.
 use Rattle.std.specs.Prelude.{◌<◌, ℕ, ◌==◌, Bool, List, fold, if◌then◌else◌}
 use Rattle.lapd_frame.specs.declared.timers.Timer.{Timer}
-use Rattle.laws_line.specs.Timers.{runs_then, HaveTheirTimers, LeavesTimers}
+use Rattle.laws_line.specs.Timers.{runs_then, HaveTheirTimers}
 use Rattle.model_card.specs.Card.{Card, line_at}
 use Rattle.model_card.specs.Run.{Moment}
-use Rattle.laws_card.specs.Contents.{line_before, line_after}
 
 -- Whether a timer of a line runs at a caller's, from moment to moment: by the events at that line and the answers to them,
 -- and by nothing else.
@@ -17,7 +16,3 @@ runs_at_callers line timer running ms = fold (one_more line timer) running ms
 -- Each link of the card runs the timer that it needs.
 pub record AllHaveTheirTimers (card : Card) : Type 0 where
   pub lines : (line : ℕ) → line < card.config.lines → HaveTheirTimers (line_at line card)
-
--- A pull leaves the timers that run.
-abbrev pub LeavesTimersIn : Moment → Type 0
-LeavesTimersIn m = LeavesTimers m.card.config m.event.what (line_before m) (line_after m) m.answer

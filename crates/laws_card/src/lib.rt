@@ -5,29 +5,24 @@
 //! `laws_line`, and those of a link in `laws_link`. `specs/` has the contents of the links from moment to moment
 //! (`Contents`), what holds in a moment (`Faithful`, `Heard`), what is promised of a list of events (`Promises`), which
 //! timers a caller runs (`Timers`), what a line comes to by its pulls (`Among`, `PromisesOfPulls`), what notes tell
-//! (`Knowledge`), which frames pulls begin (`Begun`), which octets come to a line (`Received`), why messages of TEI
-//! management come to wait (`Messages`), what frames that come and go whole count and how soon they go (`Frames`), the
-//! laws, which say of which cards and lists (`Laws`), and worked values (`Worked`, `WorkedTimers`, `WorkedNotes`,
-//! `WorkedBegun`, `WorkedPlaces`, `WorkedReceived`, `WorkedReasons`). Each law is the contract of a call that does nothing.
+//! (`Knowledge`), which frames pulls begin (`Begun`), which octets come to a line (`Received`), what frames that come and go
+//! whole count and how soon they go (`Frames`), the laws, which say of which cards and lists (`Laws`), and worked values
+//! (`Worked`, `WorkedTimers`, `WorkedNotes`, `WorkedBegun`, `WorkedPlaces`, `WorkedReceived`). Each law is the contract of a
+//! call that does nothing.
 //! `laws_promises` has all promises of a list of events in one record, `Promises`: a law here names the fields that it
 //! proves, and their comments say it in words.
 //!
-//! - `laws`, `timers`, `notes`, `management`, `progress`, `frames`: the laws.
+//! - `laws`, `timers`, `notes`, `progress`, `frames`: the laws.
 #![tactic(auto)]
 
 mod frames;
 mod laws;
-mod management;
 mod notes;
 mod progress;
 mod timers;
 
 pub use frames::{calls_serve, frames_are_counted};
-pub use laws::{
-    expiries_take_effect, frames_are_heeded, heard_is_delivered, links_are_steady, nothing_is_lost,
-    pulls_serve, requests_take_effect,
-};
-pub use management::messages_have_causes;
-pub use notes::{begun_is_true, notes_tell, nothing_else_is_noted};
+pub use laws::{heard_is_delivered, nothing_is_lost, one_event, pulls_serve};
+pub use notes::{begun_is_true, notes_tell};
 pub use progress::{pulls_serve_a_line, pulls_serve_wherever};
-pub use timers::{pulls_leave_timers, timers_follow};
+pub use timers::timers_follow;

@@ -1,16 +1,11 @@
 //! What the notes of a card tell. The law is the contract of a call that does nothing.
 
-ghost use Rattle.laws_card.specs.Laws.{Known, NotesAreOwn, BegunIsTrue};
+ghost use Rattle.laws_card.specs.Laws.{Known, BegunIsTrue};
 
 /// By notes layer 3 knows which links are up, and management which TEIs are on each line: `notes_tell`, `teis_are_told`,
 /// `begins_down` and `one_place`.
 pub fn notes_tell()
     ensures { Known }
-{}
-
-/// An answer notes what its event has noted, and nothing else: `nothing_else_is_noted`.
-pub fn nothing_else_is_noted()
-    ensures { NotesAreOwn }
 {}
 
 /// The answer to a pull says that a frame was begun exactly where one was: `begun_is_told`.

@@ -18,7 +18,7 @@ ghost use Rattle.model_card.specs.Event.{Event, at};
 ghost use Rattle.model_card.specs.Run.{AreAtLines, run};
 ghost use Rattle.model_card.specs.Sound.{IsSound};
 ghost use Rattle.laws_card.specs.Among.{ArePullsAt, pulls_at, IsBegunAmong, IsAnsweredAmong, IsIdleAmong};
-ghost use Rattle.laws_card.specs.PromisesOfPulls.{IsWaiting, AnswersAreBegun, PullsComeToAnEnd, FewAreToGo, BeginsWithFew, EnoughPullsServe};
+ghost use Rattle.laws_card.specs.PromisesOfPulls.{IsWaiting, WaitingAreBegun, PullsComeToAnEnd, FewAreToGo, BeginsWithFew, EnoughPullsServe};
 
 /// The pulls of a line serve it, whatever happens at the other lines of its card meanwhile. Once they are more than an
 /// eighth of the bits to go there, nothing waits on it but I-frames that may not go (`drained`); and then idle flags go
@@ -59,17 +59,16 @@ pub fn pulls_serve_a_line()
         IsBegunAmong card number events (control_text card.config link tei f) }
 {}
 
-/// So it is wherever in a list of events a line is only pulled, from any card on. After an octet that ends a poll of states 7
-/// and 8 for a link on the line, or SABME or DISC, one of the pulls begins the answer, once they are enough, and so any
-/// control frame that waits; that also where other events of the line are between its pulls, by the messages and the unit
-/// data that come meanwhile (`answered`).
+/// So it is wherever in a list of events a line is only pulled, from any card on. One of the pulls begins a control frame that
+/// waits, so also each answer, once they are enough; that also where other events of the line are between its pulls, by the
+/// messages and the unit data that come meanwhile (`begun`).
 /// Once they give more than the bits to go, nothing waits but I-frames that may not go, and idle flags go on (`ended`).
 /// And on a card as it begins, and after whatever happens to it, the bits to go of a line are at most what the
 /// configuration allows (`few`, `begins`). So the numbers of pulls that are enough for a control frame that waits, and for
 /// all that may go, are computed from the configuration (`enough`): 23,050 and 64,346 with eight terminals, N201 of 260,
 /// windows of 7, 4 unit data and 4 control frames.
 pub fn pulls_serve_wherever()
-    ensures answered { (m : Card) (events : List Event) → IsSound m → AreAtLines m events → AnswersAreBegun m events }
+    ensures begun { (m : Card) (events : List Event) → IsSound m → AreAtLines m events → WaitingAreBegun m events }
     ensures ended { (m : Card) (events : List Event) → IsSound m → AreAtLines m events → PullsComeToAnEnd m events }
     ensures few { (m : Card) (events : List Event) → IsSound m → AreAtLines m events → FewAreToGo m events }
     ensures begins { (c : Config) → BeginsWithFew c }

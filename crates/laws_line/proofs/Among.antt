@@ -8,6 +8,8 @@ use Rattle.model_link.specs.declared.states.State.{State}
 use Rattle.model_link.specs.declared.terms.Terms.{Terms}
 use Rattle.model_link.specs.Events as link
 use Rattle.model_link.specs.Link.{Link}
+use Rattle.model_link.specs.Machine as links
+use Rattle.laws_link.proofs.Follows.{event-follows}
 use Rattle.laws_link.specs.States.{as_heard, is_overlong}
 use Rattle.laws_link.specs.Waiting.{waiting_left, room, put}
 use Rattle.lapd_tei.specs.Events as teis
@@ -27,8 +29,8 @@ use Rattle.model_line.specs.Requested.{aim_of_request}
 use Rattle.model_line.specs.Sound.{IsInRange, IsSound}
 use Rattle.model_line.proofs.LineSound.{after_sound}
 use Rattle.laws_line.specs.Heard.{EndsNothing}
-use Rattle.laws_line.specs.Steady.{IsBy, Happens}
-use Rattle.laws_line.proofs.Happening.{event-happens}
+use Rattle.laws_line.specs.Steady.{IsBy}
+use Rattle.laws_line.proofs.Happening.{Happens, event-happens}
 use Rattle.laws_line.proofs.Hearing.{no-event}
 use Rattle.laws_line.specs.Drains.{longest_text, way_round, frames_before, bits_before, control_text}
 use Rattle.laws_line.specs.Among.{after_events, is_pull, pulls_in, go_first, comes_first, come_first, StaysOnLine, IsBegunIn}
@@ -111,11 +113,13 @@ module _ (c : Config) (ranged : IsInRange c) (number tei : ℕ) (few : number < 
   stays : (e : Event) (l : Line) → is_pull e ≡ false → tei_at (place_at number) l ≡ Some tei → tei_at (place_at number) (after c e l) ≡ Some tei
       → Happens c number e l (after c e l) (answer c e l) → Waits (frames l) (frames (after c e l))
   unfolding Waits
-  stays e l apart at at' (inl same) = ([], ap (λ (x : Link). x.waiting) same.0 ∙ sym (append-nil (frames l)))
+  stays e l apart at at' (inl same) = ([], ap (λ (x : Link). x.waiting) same ∙ sym (append-nil (frames l)))
   stays e l apart at at' (inr (inl gone)) = absurd (gone.0 (at' ∙ sym at))
   stays e l apart at at' (inr (inr one)) =
-      let w = left-waiting (terms c (service_at number) one.tei) one.event (link_at number l) (link_at number (after c e l)).state (no-offer e l (answer c e l) (service_at number) one.tei one.event apart one.by) in
-      (w.0, one.steady.follows.leaves.waiting ∙ w.1)
+      let t = terms c (service_at number) one.tei in
+      let own = links.after t one.event (link_at number l) in
+      let w = left-waiting t one.event (link_at number l) own.state (no-offer e l (answer c e l) (service_at number) one.tei one.event apart one.by) in
+      (w.0, ap (λ (x : Link). x.waiting) one.is ∙ (event-follows t one.event (link_at number l)).leaves.waiting ∙ w.1)
 
   abbrev Waiting : Line → List ControlFrame → ControlFrame → List ControlFrame → Type 0
   Waiting l before f behind = frames l ≡ before ++ f ∷ behind

@@ -1,8 +1,8 @@
 -- An answer says that a frame was begun exactly where one was: each event.
-use Rattle.std.proofs.Common.{◌≡◌, ℕ, ◌+◌, ◌*◌, ◌≤◌, ◌<◌, Bool, true, false, cond, is_some, nat_lt, List, [], ◌∷◌, ◌++◌, length, length-append, Option, Some, None, IfSome, refl, ap, sym, ◌∙◌, subst, arith, inl, inr}
+use Rattle.std.proofs.Common.{◌≡◌, ℕ, ◌+◌, ◌<◌, Bool, true, false, cond, is_some, nat_lt, List, [], ◌∷◌, ◌++◌, length, length-append, Option, Some, None, IfSome, refl, ap, sym, ◌∙◌, arith, inl, inr}
 use Rattle.std.proofs.lemmas.Bool.{ltb-true}
 use Rattle.lapd_bits.specs.Bits.{bits}
-use Rattle.lapd_bits.specs.Sent.{Item, idle, frame, line_text}
+use Rattle.lapd_bits.specs.Sent.{line_text}
 use Rattle.lapd_bits.proofs.BitLemmas.{length-bits}
 use Rattle.lapd_frame.specs.declared.refusals.Refusal.{Refusal}
 use Rattle.lapd_tei.specs.Events as teis
@@ -21,7 +21,7 @@ use Rattle.model_line.specs.Requested.{aim_of_request}
 use Rattle.model_line.specs.Sound.{IsInRange, IsSound}
 use Rattle.model_line.proofs.PullSound.{TakesSoundly, taken_sound}
 use Rattle.model_line.proofs.TextGoesOn.{left_is}
-use Rattle.laws_line.specs.Begun.{says_begun, BeginsFrame, BeginsNone, BeginsAs}
+use Rattle.laws_line.specs.Begun.{says_begun, BeginsAs}
 
 -- No other event puts anything on the line.
 changed : (c : Config) (o : Option Change) (r : LineTold) (l : Line) → (of_change c o r l).line.items ≡ l.items
@@ -52,9 +52,9 @@ module _ (c : Config) (ranged : IsInRange c) (l : Line) (s : IsSound c l) where
       omega (arith, length-bits (given ++ o ∷ []), length-bits l.given, length-append given (o ∷ []), size)
 
   by-item : (due : Bool) → is_due l ≡ due → (o : Option Taken) → IfSome o (TakesSoundly c l)
-      → BeginsAs (is_some (cond due o None)) l (with_octet (cond due (with_item o l) l))
+      → BeginsAs pull (is_some (cond due o None)) l (with_octet (cond due (with_item o l) l))
   by-item false e o h = inl refl
-  by-item true e None h = inr refl
+  by-item true e None h = inr (refl, omega (arith, long, few e), refl)
   by-item true e (Some t) h = record {
     octets = t.frame;
     items = refl;
@@ -62,18 +62,18 @@ module _ (c : Config) (ranged : IsInRange c) (l : Line) (s : IsSound c l) where
     with_it = omega (arith, long, few e, given-more t.line.given (next_octet (with_item (Some t) l)) h.given);
   }
 
-  pub pull-begins : BeginsAs (is_some (cond (is_due l) (taken c l) None)) l (after_pull c l)
+  pub pull-begins : BeginsAs pull (is_some (cond (is_due l) (taken c l) None)) l (after_pull c l)
   pull-begins = by-item (is_due l) refl (taken c l) (taken_sound c ranged l s)
 
 -- Any event.
-pub begins-as : (c : Config) (e : Event) (l : Line) → IsInRange c → IsSound c l → BeginsAs (says_begun (answer c e l)) l (after c e l)
+pub begins-as : (c : Config) (e : Event) (l : Line) → IsInRange c → IsSound c l → BeginsAs e (says_begun (answer c e l)) l (after c e l)
 unfolding after answer
 begins-as c (octet value) l ranged s = inl (aimed c (aim_of_octet c value l) (with_received value l))
 begins-as c (expiry timer) l ranged s = inl (aimed c (aim_of_expiry timer l) l)
 begins-as c (request r) l ranged s = go (refusal c false r l)
   where
     go : (o : Option Refusal)
-        → BeginsAs (says_begun (unless_refused_told o (of_aim c (unless_refused o (aim_of_request r l)) l))) l (of_aim c (unless_refused o (aim_of_request r l)) l).line
+        → BeginsAs (request r) (says_begun (unless_refused_told o (of_aim c (unless_refused o (aim_of_request r l)) l))) l (of_aim c (unless_refused o (aim_of_request r l)) l).line
     go None = inl (aimed c (aim_of_request r l) l)
     go (Some why) = inl refl
 begins-as c pull l ranged s = pull-begins c ranged l s

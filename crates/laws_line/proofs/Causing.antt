@@ -1,5 +1,5 @@
 -- Why a message of TEI management comes to wait: each event of a line.
-use Rattle.std.proofs.Common.{◌≡◌, ◌⊎◌, inl, inr, ℕ, ◌<◌, ◌==◌, Bool, true, false, not, cond, [], ◌∷◌, length, Option, Some, None, IfSome, refl, sym, ap, ◌∙◌, subst, arith}
+use Rattle.std.proofs.Common.{◌≡◌, ◌⊎◌, inl, inr, ℕ, ◌<◌, ◌==◌, Bool, true, false, cond, List, [], ◌∷◌, length, Option, Some, None, IfSome, refl, sym, ap, ◌∙◌, subst, arith}
 use Rattle.std.specs.Option.{option_map_or}
 use Rattle.lapd_bits.specs.declared.heard.Cause.TheVariants.{Tei}
 use Rattle.lapd_frame.specs.declared.addresses.Address.{Address}
@@ -36,6 +36,7 @@ use Rattle.laws_line.specs.Causes.{Hears, HasCause, IsTaken, HaveCauses}
 use Rattle.laws_line.specs.Frames.{lost_in}
 use Rattle.laws_line.specs.Messages.{Said, Says, Serves, Expires, Grants}
 use Rattle.laws_line.specs.Share.{is_granted}
+use Rattle.laws_line.specs.Steady.{BringsMessage}
 use Rattle.laws_line.proofs.Asked.{passed}
 use Rattle.laws_line.proofs.Granting.{not-refused}
 use Rattle.laws_line.proofs.GroupAims.{brings, IsUi, hears, octet-aims}
@@ -61,13 +62,30 @@ module _ (c : Config) (l : Line) where
       ap (λ n. cond (n == management_sapi) (cond (address.tei == group_tei) m (drop_for Tei)) (to_service l address.tei what (service_of n))) sapi
       ∙ ap (λ n. cond (n == group_tei) m (drop_for Tei)) group
 
-  heard-aim : (e : Event) (said : Said) (h : Hears c l e said) → aim_of_octet c h.value l ≡ at_management (teis.message h.parts.info)
-  heard-aim e said h =
+  pub message-aim : (e : Event) (info : List ℕ) (h : BringsMessage c l e info) → aim_of_octet c h.value l ≡ at_management (teis.message info)
+  message-aim e info h =
       ap (λ o. option_map_or (aim_of_heard c l) o (at_none nothing)) (brings c l h.value h.octets h.ends)
       ∙ ap (aim_of_reading c l) h.read
       ∙ ap (at_side c h.parts) (to-group h.parts.address (link.frame h.parts) (message_of h.parts.control h.parts.info) h.sapi h.group)
       ∙ ap (λ k. at_side c h.parts (message_of k h.parts.info)) h.control
       ∙ ap (λ side. managed_at side (teis.message h.parts.info)) h.network
+      ∙ ap (λ i. at_management (teis.message i)) h.info_is
+
+  heard-aim : (e : Event) (said : Said) (h : Hears c l e said) → aim_of_octet c h.value l ≡ at_management (teis.message h.parts.info)
+  heard-aim e said h = message-aim e h.parts.info (record {
+    network = h.network;
+    value = h.value;
+    by = h.by;
+    octets = h.octets;
+    ends = h.ends;
+    parts = h.parts;
+    read = h.read;
+    sapi = h.sapi;
+    group = h.group;
+    poll = h.poll;
+    control = h.control;
+    info_is = refl;
+  })
 
   served : (e : Event) (said : Said) → IsSound c l → length l.management.places < 63 → Hears c l e said
       → Serves said l.management (after c e l).management (lost_in (answer c e l))

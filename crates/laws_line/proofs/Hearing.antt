@@ -55,7 +55,7 @@ addressed-is l address service tei place what m sapi tei-is on =
     by-service Packet = refl
 
 -- what an octet that is aimed at a link comes to
-by-aim : (c : Config) (l : Line) (value : ℕ) (service : Service) (tei place : ℕ) (what : link.Received)
+pub by-aim : (c : Config) (l : Line) (value : ℕ) (service : Service) (tei place : ℕ) (what : link.Received)
     → aim_of_octet c value l ≡ at_link service tei place (link.received what)
     → IsOneEvent c l (after c (octet value) l) (answer c (octet value) l) value service tei place (link.received what)
 unfolding after answer
@@ -71,7 +71,7 @@ by-aim c l value service tei place what aim = record {
   };
 }
 
-heard-aim : (c : Config) (l : Line) (value : ℕ) (o : Option stream.Event) → gained c.n201 l.received value ≡ o
+pub heard-aim : (c : Config) (l : Line) (value : ℕ) (o : Option stream.Event) → gained c.n201 l.received value ≡ o
     → aim_of_octet c value l ≡ option_map_or (aim_of_heard c l) o (at_none nothing)
 heard-aim c l value o gains = ap (λ o. option_map_or (aim_of_heard c l) o (at_none nothing)) gains
 

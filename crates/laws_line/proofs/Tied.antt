@@ -161,7 +161,7 @@ module _ (c : Config) (l : Line) (answer : Answer) (granted : is_granted answer 
   asked-ties : (service : Service) (tei : ℕ) (asked : link.Request) (o : Option ℕ)
       → Ties c l (request (Rattle.laws_line.specs.Requests.of_link service tei asked)) answer (at_requested service tei asked o)
   asked-ties service tei asked None = tt
-  asked-ties service tei asked (Some place) = (refl, granted)
+  asked-ties service tei asked (Some place) = (refl, granted, refl)
 
   pub request-ties : (r : Request) → Ties c l (request r) answer (aim_of_request r l)
   request-ties (Establish service tei) = asked-ties service tei link.Establish (place_in l tei)

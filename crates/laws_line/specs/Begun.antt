@@ -2,8 +2,9 @@
 use Rattle.std.specs.Prelude.{◌≡◌, ◌⊎◌, ℕ, ◌≤◌, ◌<◌, ◌++◌, Bool, true, false, List, [], ◌∷◌, length}
 use Rattle.lapd_bits.specs.Bits.{bits}
 use Rattle.lapd_bits.specs.Sent.{idle, frame, line_text}
-use Rattle.model_line.specs.Event.{Answer, told, refused, pulled}
+use Rattle.model_line.specs.Event.{Event, pull, Answer, told, refused, pulled}
 use Rattle.model_line.specs.Line.{Line}
+use Rattle.laws_line.specs.Pulls.{bits_left}
 
 -- What an answer says of it: only that to a pull tells of a frame.
 abbrev pub says_begun : Answer → Bool
@@ -19,10 +20,10 @@ pub record BeginsFrame (before after : Line) : Type 0 where
   pub not_before : length (bits before.given) ≤ length (line_text before.items)
   pub with_it : length (line_text before.items) < length (bits after.given)
 
--- Or no frame is there that was not there before: nothing, or an idle flag.
-abbrev pub BeginsNone : Line → Line → Type 0
-BeginsNone before after = (after.items ≡ before.items) ⊎ (after.items ≡ before.items ++ idle ∷ [])
+-- Or no frame is there that was not there before: nothing, or, by a pull with fewer than eight bits left, an idle flag.
+abbrev pub BeginsNone : Event → Line → Line → Type 0
+BeginsNone e before after = (after.items ≡ before.items) ⊎ ((e ≡ pull) × (bits_left before < 8) × (after.items ≡ before.items ++ idle ∷ []))
 
-abbrev pub BeginsAs : Bool → Line → Line → Type 0
-BeginsAs true before after = BeginsFrame before after
-BeginsAs false before after = BeginsNone before after
+abbrev pub BeginsAs : Event → Bool → Line → Line → Type 0
+BeginsAs e true before after = BeginsFrame before after
+BeginsAs e false before after = BeginsNone e before after

@@ -1,12 +1,12 @@
 -- What layer 3 and management know of a line by the notes of its answers, and by the requests that were granted.
-use Rattle.std.specs.Prelude.{ℕ, ◌==◌, ◌&&◌, Bool, true, false, List, fold, Option, if◌then◌else◌}
+use Rattle.std.specs.Prelude.{ℕ, ◌==◌, ◌&&◌, Bool, true, false, fold, if◌then◌else◌}
 use Rattle.std.specs.Option.{option_map_or}
 use Rattle.lapd_frame.specs.declared.notes.Note.{Note}
-use Rattle.lapd_frame.specs.declared.notes.Note.TheVariants.{EstablishIndication, EstablishConfirm, ReleaseIndication, ReleaseConfirm, Data, Unit, Error, Assigned, Removed, Doubled, Xid}
+use Rattle.lapd_frame.specs.declared.notes.Note.TheVariants.{EstablishIndication, EstablishConfirm, ReleaseIndication, ReleaseConfirm, Assigned, Removed, Doubled}
 use Rattle.lapd_frame.specs.declared.services.Service.{Service}
 use Rattle.lapd_frame.specs.Services.{same_service}
 use Rattle.model_link.specs.Known.{is_up}
-use Rattle.model_line.specs.Event.{Event, octet, expiry, request, pull, Answer}
+use Rattle.model_line.specs.Event.{Event, request, Answer}
 use Rattle.model_line.specs.Laws.{notes_in}
 use Rattle.model_line.specs.Line.{Line, place_in, link_in}
 use Rattle.model_line.specs.Request as requests
@@ -22,13 +22,7 @@ up_by_note service tei up (EstablishIndication of by) = if is_of_link service te
 up_by_note service tei up (EstablishConfirm of by) = if is_of_link service tei of by then true else up
 up_by_note service tei up (ReleaseIndication of by) = if is_of_link service tei of by then false else up
 up_by_note service tei up (ReleaseConfirm of by) = if is_of_link service tei of by then false else up
-up_by_note service tei up (Data of by) = up
-up_by_note service tei up (Unit of by) = up
-up_by_note service tei up (Error of by code) = up
-up_by_note service tei up (Assigned by) = up
-up_by_note service tei up (Removed by) = up
-up_by_note service tei up (Doubled by) = up
-up_by_note service tei up (Xid of by) = up
+up_by_note service tei up other = up
 
 abbrev pub taken_for_up : Service → ℕ → Bool → Answer → Bool
 taken_for_up service tei up answer = fold (up_by_note service tei) up (notes_in answer)
@@ -46,32 +40,17 @@ abbrev pub on_by_note : ℕ → Bool → Note → Bool
 on_by_note tei on (Assigned by) = if by == tei then true else on
 on_by_note tei on (Removed by) = if by == tei then false else on
 on_by_note tei on (Doubled by) = if by == tei then false else on
-on_by_note tei on (EstablishIndication of by) = on
-on_by_note tei on (EstablishConfirm of by) = on
-on_by_note tei on (ReleaseIndication of by) = on
-on_by_note tei on (ReleaseConfirm of by) = on
-on_by_note tei on (Data of by) = on
-on_by_note tei on (Unit of by) = on
-on_by_note tei on (Error of by code) = on
-on_by_note tei on (Xid of by) = on
+on_by_note tei on other = on
 
 -- and so by a request of management that was granted: MDL-ASSIGN and MDL-REMOVE request (clauses 4.1.1.5 and 5.3.4).
 abbrev pub on_by_request : ℕ → Bool → Request → Bool
 on_by_request tei on (requests.Assign asked) = if asked == tei then true else on
 on_by_request tei on (requests.Remove asked) = if asked == tei then false else on
-on_by_request tei on (requests.Establish service asked) = on
-on_by_request tei on (requests.Release service asked) = on
-on_by_request tei on (requests.Data service asked contents) = on
-on_by_request tei on (requests.Unit service asked contents) = on
-on_by_request tei on (requests.Check asked) = on
-on_by_request tei on (requests.SetBusy service asked) = on
-on_by_request tei on (requests.ClearBusy service asked) = on
+on_by_request tei on other = on
 
 abbrev pub on_by_event : ℕ → Bool → Event → Answer → Bool
 on_by_event tei on (request r) answer = if is_granted answer then on_by_request tei on r else on
-on_by_event tei on (octet value) answer = on
-on_by_event tei on (expiry timer) answer = on
-on_by_event tei on pull answer = on
+on_by_event tei on other answer = on
 
 abbrev pub taken_for_on : ℕ → Bool → Event → Answer → Bool
 taken_for_on tei on event answer = fold (on_by_note tei) (on_by_event tei on event answer) (notes_in answer)

@@ -9,7 +9,7 @@ use Rattle.lapd_frame.specs.Grammar.{Parts, Spells}
 use Rattle.model_link.specs.Events as link
 use Rattle.model_line.specs.declared.config.Config.{Config}
 use Rattle.model_line.specs.Event.{Event, octet}
-use Rattle.model_line.specs.Line.{Line, fresh_line, link_count, place_in, link_in, terms, has_tei}
+use Rattle.model_line.specs.Line.{Line, fresh_line, link_count, link_in, terms, has_tei}
 use Rattle.model_line.specs.Machine.{after, answer}
 use Rattle.model_line.specs.Octet.{heard_side}
 use Rattle.model_line.specs.Sides.{IsToGroup}
@@ -17,11 +17,8 @@ use Rattle.model_line.specs.Sound.{IsInRange, IsSound}
 use Rattle.laws_line.specs.Share.{share_of, IsKept, asked_by}
 use Rattle.laws_line.specs.Loss.{IsTold}
 use Rattle.laws_line.specs.Pulls.{contents_of, IsServed, UnitsWait, TurnStays}
-use Rattle.laws_line.specs.Frames.{IsFollowed, IsHeeded}
-use Rattle.laws_line.specs.Requests.{LinkTakesEffect, ManagementTakesEffect}
-use Rattle.laws_line.specs.Steady.{BringsMalformed, Happens}
-use Rattle.laws_line.specs.Expiries.{ExpiryTakesEffect}
-use Rattle.laws_line.specs.Heard.{Ends, EndsOverlong, EndsDropped, EndsNothing, IsFor, IsTo, IsMalformed, IsTooLong, IsOneEvent, IsNoEvent, IsDroppedFor, IsUnitOfGroup, IsToManagement, contents_in, due, IsNotedOnce, IsHeard}
+use Rattle.laws_line.specs.OneEvent.{IsOneEvent}
+use Rattle.laws_line.specs.Heard.{Ends, EndsOverlong, EndsDropped, EndsNothing, IsFor, IsTo, IsMalformed, IsTooLong, IsOneEvent as IsOneOctet, IsNoEvent, IsDroppedFor, IsUnitOfGroup, IsToManagement, contents_in, due, IsNotedOnce, IsHeard}
 use Rattle.laws_line.specs.Begun.{says_begun, BeginsAs}
 use Rattle.laws_line.specs.Causes.{HaveCauses, AreThere}
 use Rattle.laws_line.specs.Reasons.{HaveReasons}
@@ -51,13 +48,13 @@ pub record PullsServe : Type 0 where
 pub record HeardIsDelivered : Type 0 where
   pub event : (c : Config) (l : Line) (value : ℕ) (service : Service) (tei place : ℕ) (parts : Parts) (octets : List ℕ)
       → Ends c l value octets → IsFor c l service tei place parts octets
-      → IsOneEvent c l (after c (octet value) l) (answer c (octet value) l) value service tei place (link.received (link.frame parts))
+      → IsOneOctet c l (after c (octet value) l) (answer c (octet value) l) value service tei place (link.received (link.frame parts))
   pub malformed : (c : Config) (l : Line) (value : ℕ) (service : Service) (tei place : ℕ) (address : Address) (octets : List ℕ)
       (what : link.Received) → Ends c l value octets → IsTo l service tei place address → IsMalformed c address octets what
-      → IsOneEvent c l (after c (octet value) l) (answer c (octet value) l) value service tei place (link.received what)
+      → IsOneOctet c l (after c (octet value) l) (answer c (octet value) l) value service tei place (link.received what)
   pub overlong : (c : Config) (l : Line) (value : ℕ) (service : Service) (tei place : ℕ) (address : Address) (head : List ℕ)
       (what : link.Received) → EndsOverlong c l value head → IsTo l service tei place address → IsTooLong c address head what
-      → IsOneEvent c l (after c (octet value) l) (answer c (octet value) l) value service tei place (link.received what)
+      → IsOneOctet c l (after c (octet value) l) (answer c (octet value) l) value service tei place (link.received what)
   pub none : (c : Config) (l : Line) (value : ℕ) → EndsNothing c l value
       → IsNoEvent l (after c (octet value) l) (answer c (octet value) l) value
   pub dropped : (c : Config) (l : Line) (value : ℕ) (cause : Cause) → EndsDropped c l value cause
@@ -76,16 +73,6 @@ pub record HeardIsDelivered : Type 0 where
   pub heard : (c : Config) (e : Event) (l : Line) (contents : List ℕ) → IsInRange c → IsSound c l
       → contents_in (answer c e l) ≡ Some contents → IsHeard c l e (answer c e l) contents
 
--- A frame for a link is heeded: polls are answered, deliveries acknowledged, and what was rejected is sent again; and of one
--- that the grammar does not have, or that is too long, follows what the tables say.
-pub record FramesAreHeeded : Type 0 where
-  pub frames : (c : Config) (l : Line) (value : ℕ) (service : Service) (tei place : ℕ) (parts : Parts) (octets : List ℕ) → IsSound c l
-      → Ends c l value octets → IsFor c l service tei place parts octets
-      → IsHeeded (terms c service tei) parts (link_in l service place) (link_in (after c (octet value) l) service place) (answer c (octet value) l)
-  pub malformed : (c : Config) (e : Event) (l : Line) (service : Service) (tei place : ℕ) (what : link.Received) → IsSound c l
-      → BringsMalformed c l e service tei what → place_in l tei ≡ Some place
-      → IsFollowed (terms c service tei) what (link_in l service place) (link_in (after c e l) service place) (answer c e l)
-
 -- What a caller has to run is what it runs by obeying: so it is as a line begins, where it runs no timer, and each event
 -- keeps it so.
 pub record TimersFollow : Type 0 where
@@ -99,15 +86,9 @@ pub record TimersFollow : Type 0 where
 abbrev pub PullsLeaveTimers : Type 0
 PullsLeaveTimers = (c : Config) (e : Event) (l : Line) → IsSound c l → LeavesTimers c e l (after c e l) (answer c e l)
 
--- A request that is granted takes effect, at its link or in TEI management.
-pub record RequestsTakeEffect : Type 0 where
-  pub link : (c : Config) (e : Event) (l : Line) → IsInRange c → IsSound c l → LinkTakesEffect c e l (after c e l) (answer c e l)
-  pub management : (c : Config) (e : Event) (l : Line) → ManagementTakesEffect e l (after c e l) (answer c e l)
-
--- Whatever happens on a line, a link is left as it is, or is as one that begins, or has one event, and is steady.
-abbrev pub LinksAreSteady : Type 0
-LinksAreSteady = (c : Config) (e : Event) (l : Line) (number : ℕ) → IsSound c l → number < link_count c
-    → Happens c number e l (after c e l) (answer c e l)
+-- Whatever happens on a line, one part of it has one event, and all else of it is as it was.
+abbrev pub OneEvent : Type 0
+OneEvent = (c : Config) (e : Event) (l : Line) → IsSound c l → IsOneEvent c e l (after c e l) (answer c e l)
 
 -- By notes alone layer 3 knows whether a link is up, and by notes and granted requests management knows which TEIs are on
 -- the line.
@@ -125,11 +106,7 @@ NothingElseIsNoted = (c : Config) (e : Event) (l : Line) → IsSound c l → Not
 
 -- What an answer says of a frame that was begun is what became of the line's text.
 abbrev pub BegunIsTrue : Type 0
-BegunIsTrue = (c : Config) (e : Event) (l : Line) → IsInRange c → IsSound c l → BeginsAs (says_begun (answer c e l)) l (after c e l)
-
--- The expiry of a link's timer that runs has its effect at this link.
-abbrev pub ExpiriesTakeEffect : Type 0
-ExpiriesTakeEffect = (c : Config) (e : Event) (l : Line) → IsSound c l → ExpiryTakesEffect c e l (after c e l) (answer c e l)
+BegunIsTrue = (c : Config) (e : Event) (l : Line) → IsInRange c → IsSound c l → BeginsAs e (says_begun (answer c e l)) l (after c e l)
 
 -- Messages of TEI management have their causes, a TEI that is told to a terminal is on the line, and notes of TEIs have
 -- their reasons.

@@ -7,9 +7,9 @@ pub mod Frames
 pub mod Timers
 pub mod Requests
 pub mod Steady
+pub mod OneEvent
 pub mod Knowledge
 pub mod Begun
-pub mod Expiries
 pub mod Messages
 pub mod Causes
 pub mod Unmanaged
@@ -19,6 +19,7 @@ pub mod Laws
 pub mod Worked
 pub mod WorkedPulls
 pub mod WorkedHeard
+pub mod WorkedOneEvent
 pub mod WorkedLinks
 pub mod WorkedMessages
 pub mod WorkedNoted

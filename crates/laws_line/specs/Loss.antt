@@ -20,14 +20,7 @@ abbrev pub is_loss_of : Service → ℕ → Note → Bool
 is_loss_of service tei (notes.EstablishIndication of by) = same_service of service && by == tei
 is_loss_of service tei (notes.ReleaseIndication of by) = same_service of service && by == tei
 is_loss_of service tei (notes.ReleaseConfirm of by) = same_service of service && by == tei
-is_loss_of service tei (notes.EstablishConfirm of by) = false
-is_loss_of service tei (notes.Data of by) = false
-is_loss_of service tei (notes.Unit of by) = false
-is_loss_of service tei (notes.Error of by code) = false
-is_loss_of service tei (notes.Assigned by) = false
-is_loss_of service tei (notes.Removed by) = false
-is_loss_of service tei (notes.Doubled by) = false
-is_loss_of service tei (notes.Xid of by) = false
+is_loss_of service tei other = false
 
 -- Layer 3 asked for it by a release of this link that was granted;
 pub record IsReleased (number : ℕ) (event : Event) (l : Line) (answer : Answer) : Type 0 where

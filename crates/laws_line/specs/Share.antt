@@ -1,17 +1,17 @@
 -- What an event is to the contents of one link of a line: what it accepts, acknowledges and empties.
-use Rattle.std.specs.Prelude.{◌≡◌, ℕ, ◌==◌, Bool, true, false, List, [], ◌∷◌, if◌then◌else◌}
+use Rattle.std.specs.Prelude.{ℕ, ◌==◌, Bool, true, false, List, [], ◌∷◌, if◌then◌else◌}
 use Rattle.std.specs.Option.{option_map_or}
 use Rattle.lapd_frame.specs.declared.services.Service.{Service}
 use Rattle.laws_link.specs.History as links
 use Rattle.laws_link.specs.History.{Share, share}
 use Rattle.lapd_tei.specs.Events as teis
 use Rattle.model_line.specs.declared.config.Config.{Config}
-use Rattle.model_line.specs.Event.{Event, octet, expiry, request, pull, Answer, told, refused, pulled}
+use Rattle.model_line.specs.Event.{Event, request, Answer, told, refused, pulled}
 use Rattle.model_line.specs.Deliveries.{is_change_at}
 use Rattle.model_line.specs.Effect.{Aim, at_none, at_link, at_management, at_units}
 use Rattle.model_line.specs.Line.{Line, link_number, place_at, place_in, terms, link_in, link_at}
 use Rattle.model_line.specs.Machine.{aim_of}
-use Rattle.model_line.specs.Request.{Request, Establish, Release, Data, Unit, Assign, Remove, Check, SetBusy, ClearBusy}
+use Rattle.model_line.specs.Request.{Request, Data}
 
 -- What is nothing to a link, and what ends it or begins it: a TEI that leaves its place, or comes to it.
 abbrev pub no_share : Share
@@ -49,17 +49,8 @@ is_granted (pulled value begun orders) = false
 
 abbrev pub asked_for : ℕ → Request → Line → List (List ℕ)
 asked_for number (Data service tei contents) l = if is_of number service tei l then contents ∷ [] else []
-asked_for number (Establish service tei) l = []
-asked_for number (Release service tei) l = []
-asked_for number (Unit service tei contents) l = []
-asked_for number (Assign tei) l = []
-asked_for number (Remove tei) l = []
-asked_for number (Check tei) l = []
-asked_for number (SetBusy service tei) l = []
-asked_for number (ClearBusy service tei) l = []
+asked_for number other l = []
 
 abbrev pub asked_by : ℕ → Event → Line → Answer → List (List ℕ)
 asked_by number (request r) l answer = if is_granted answer then asked_for number r l else []
-asked_by number (octet value) l answer = []
-asked_by number (expiry timer) l answer = []
-asked_by number pull l answer = []
+asked_by number other l answer = []

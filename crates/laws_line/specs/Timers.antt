@@ -33,9 +33,7 @@ is_needed T201 l = is_some l.management.check
 -- At a caller's, a timer that has expired runs no more when it hands the expiry to the line;
 abbrev pub left_by : Event → Timer → Bool → Bool
 left_by (expiry expired) timer running = if is_same expired timer then false else running
-left_by (octet value) timer running = running
-left_by (request r) timer running = running
-left_by pull timer running = running
+left_by other timer running = running
 
 -- and then it obeys the orders of the answer, one after the other.
 abbrev pub runs_then : Timer → Bool → Event → Answer → Bool

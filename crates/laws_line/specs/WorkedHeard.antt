@@ -17,7 +17,7 @@ use Rattle.laws_line.specs.Heard.{Ends, EndsDropped, EndsNothing, contents_in, d
 use Rattle.laws_line.specs.Worked.{usual, both_up}
 
 -- TEI 64 is on the line, its links are up, and an I-frame of its call control link came, with its check, behind a flag.
-abbrev before_flag : Line
+abbrev pub before_flag : Line
 before_flag = record both_up { received = 0x7E ∷ 0x00 ∷ 0x81 ∷ 0x00 ∷ 0x00 ∷ 0x41 ∷ 0x2F ∷ 0xAD ∷ [] }
 
 -- The flag ends the frame;
@@ -26,7 +26,7 @@ unfolding low_bits
 frame_ends = refl
 
 -- its contents are due, since it is I-frame 0, and none was received before;
-abbrev information : Parts
+abbrev pub information : Parts
 information = record { address = record { sapi = 0; command = true; tei = 64 }; control = Information (seq 0) (seq 0) false; info = 0x41 ∷ [] }
 
 contents_due : due (terms usual Call 64) information (link_in before_flag Call 0) ≡ Some (0x41 ∷ [])

@@ -4,11 +4,11 @@
 //! The machine itself, and the laws that say what a line never does, stand in `model_line`; the laws of a single link
 //! in `laws_link`. `specs/` has the words of these laws: what an event is to the contents of one link (`Share`), how
 //! layer 3 learns that a link keeps nothing (`Loss`), what a pull begins (`Pulls`), what an octet brings (`Heard`),
-//! what a frame makes of its link (`Frames`), which timers are needed, run and started (`Timers`), what comes of a
-//! request that is granted (`Requests`), what an event may change of a link (`Steady`), what notes tell (`Knowledge`),
-//! which frames pulls begin (`Begun`), what TEI management does, row by row (`Messages`), and which event is the cause
+//! which events are those of a link (`Steady`, `Requests`), that one part has each and nothing else changes (`OneEvent`),
+//! which timers are needed, run and started (`Timers`), what notes tell (`Knowledge`), which frames pulls begin (`Begun`),
+//! what TEI management does, row by row (`Messages`), and which event is the cause
 //! (`Causes`) and the reason of a note (`Reasons`), all that an answer notes (`Noted`), the laws (`Laws`), and worked
-//! values (`Worked`, `WorkedPulls`, `WorkedHeard`, `WorkedLinks`, `WorkedMessages`, `WorkedNoted`). `Drains` and
+//! values (`Worked`, `WorkedPulls`, `WorkedHeard`, `WorkedOneEvent`, `WorkedLinks`, `WorkedMessages`, `WorkedNoted`). `Drains` and
 //! `Among` say what a line comes to with pulls, or with other events between them; their bounds are numbers of pulls,
 //! which are octets of the line, and speak of no time (`docs/PROGRESS.md` has numbers for usual configurations). Each
 //! law is the contract of a call that does nothing; `laws`, `timers`, `notes` and `management` name the fields of `Promises`
@@ -28,10 +28,7 @@ mod notes;
 mod progress;
 mod timers;
 
-pub use laws::{
-    expiries_take_effect, frames_are_heeded, heard_is_delivered, links_are_steady, nothing_is_lost,
-    pulls_serve, requests_take_effect,
-};
+pub use laws::{heard_is_delivered, nothing_is_lost, one_event, pulls_serve};
 pub use management::{messages_have_causes, users_manage_nothing};
 pub use notes::{begun_is_true, notes_tell, nothing_else_is_noted};
 pub use progress::{pulls_come_to_an_end, what_waits_is_begun, what_waits_is_begun_meanwhile};

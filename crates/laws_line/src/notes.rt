@@ -8,8 +8,10 @@ pub fn notes_tell()
     ensures { NotesTell }
 {}
 
-/// An answer notes what its event has noted, and nothing else: `nothing_else_is_noted`. Of a TEI that leaves, the link of call
-/// control ends first.
+/// All that is noted is of one event of a link, or of one TEI that comes or leaves. Of a link of a TEI on the line it is what the
+/// table of notes has for the event. Of a TEI that comes, that it was assigned, if a terminal asked for it; of one that leaves,
+/// that two terminals have it, or that none answered, unless management took it off, and after that what its two links tell as
+/// they end, that of call control first. Else there are none (Q.921 clauses 5.2.3, 5.3.2 to 5.3.4 and 5.5 to 5.8).
 pub fn nothing_else_is_noted()
     ensures { NothingElseIsNoted }
 {}

@@ -6,29 +6,23 @@ use Rattle.std.specs.Option.{option_map_or}
 use Rattle.lapd_seq.specs.declared.numbers.Seq.{Seq}
 use Rattle.lapd_seq.specs.Circle.{named}
 use Rattle.lapd_frame.specs.declared.controls.Control.{Control}
-use Rattle.lapd_frame.specs.declared.controls.Control.TheVariants.{Information, ReceiveReady, ReceiveNotReady, Reject, Sabme, Disc, Ui, Ua, Dm, Frmr, Xid}
+use Rattle.lapd_frame.specs.declared.controls.Control.TheVariants.{Information, ReceiveReady, ReceiveNotReady, Reject}
 use Rattle.lapd_frame.specs.declared.notes.Note.{Note}
 use Rattle.lapd_frame.specs.declared.notes.Note.TheVariants as notes
 use Rattle.model_link.specs.declared.terms.Terms.{Terms}
 use Rattle.model_link.specs.Link.{Link, is_multiple_frame}
-use Rattle.model_link.specs.Events.{Received, frame, undefined, wrong_size, overlong, Request, Establish, Release, Data, SetBusy, ClearBusy, Event, received, expired, requested, offer, cleared}
+use Rattle.model_link.specs.Events.{Received, frame, Request, Release, Data, Event, received, requested, cleared}
 use Rattle.model_link.specs.Requests.{refusal}
 use Rattle.model_link.specs.Machine.{told}
 
 -- Contents that layer 3 gives in a data request that is not refused.
 abbrev pub contents_of : Request → List (List ℕ)
-contents_of Establish = []
-contents_of Release = []
 contents_of (Data octets) = octets ∷ []
-contents_of SetBusy = []
-contents_of ClearBusy = []
+contents_of other = []
 
 abbrev pub accepted : Terms → Event → Link → List (List ℕ)
 accepted t (requested request pool_is_full) l = if is_some (refusal t l pool_is_full request) then [] else contents_of request
-accepted t (received r) l = []
-accepted t (expired timer) l = []
-accepted t offer l = []
-accepted t cleared l = []
+accepted t other l = []
 
 -- The N(R) of a supervisory frame, or of an I-frame of at most N201 octets.
 abbrev pub number_of : Terms → Control → List ℕ → Option Seq
@@ -36,19 +30,11 @@ number_of t (Information ns nr p) octets = if nat_lt t.n201 (length octets) then
 number_of t (ReceiveReady nr pf) octets = Some nr
 number_of t (ReceiveNotReady nr pf) octets = Some nr
 number_of t (Reject nr pf) octets = Some nr
-number_of t (Sabme p) octets = None
-number_of t (Disc p) octets = None
-number_of t (Ui p) octets = None
-number_of t (Ua f) octets = None
-number_of t (Dm f) octets = None
-number_of t (Frmr f) octets = None
-number_of t (Xid pf) octets = None
+number_of t other octets = None
 
 abbrev pub number_received : Terms → Received → Option Seq
 number_received t (frame f) = number_of t f.control f.info
-number_received t undefined = None
-number_received t wrong_size = None
-number_received t overlong = None
+number_received t other = None
 
 -- How many of the contents that are kept it acknowledges: in states 7 and 8 those before the number of a..=s that it
 -- names, and none where it names no number (Q.921 clauses 5.6.3.2 and 5.8.2).
@@ -62,40 +48,25 @@ acknowledged_by (Some nr) l =
 
 abbrev pub acknowledged : Terms → Event → Link → ℕ
 acknowledged t (received r) l = acknowledged_by (number_received t r) l
-acknowledged t (expired timer) l = 0
-acknowledged t (requested request pool_is_full) l = 0
-acknowledged t offer l = 0
-acknowledged t cleared l = 0
+acknowledged t other l = 0
 
 -- All contents that are kept go where layer 3 asked for it by a release that is not refused, where the TEI leaves the
 -- line, and where layer 3 is told so: by an indication of an establishment, or by an indication or a confirm of a
 -- release. These three notes are told of no other event, so that they always say that nothing is kept.
 abbrev pub is_release : Request → Bool
-is_release Establish = false
 is_release Release = true
-is_release (Data octets) = false
-is_release SetBusy = false
-is_release ClearBusy = false
+is_release other = false
 
 abbrev pub ends : Terms → Event → Link → Bool
 ends t (requested request pool_is_full) l = if is_some (refusal t l pool_is_full request) then false else is_release request
 ends t cleared l = true
-ends t (received r) l = false
-ends t (expired timer) l = false
-ends t offer l = false
+ends t other l = false
 
 abbrev pub is_loss : Note → Bool
 is_loss (notes.EstablishIndication service tei) = true
-is_loss (notes.EstablishConfirm service tei) = false
 is_loss (notes.ReleaseIndication service tei) = true
 is_loss (notes.ReleaseConfirm service tei) = true
-is_loss (notes.Data service tei) = false
-is_loss (notes.Unit service tei) = false
-is_loss (notes.Error service tei code) = false
-is_loss (notes.Assigned tei) = false
-is_loss (notes.Removed tei) = false
-is_loss (notes.Doubled tei) = false
-is_loss (notes.Xid service tei) = false
+is_loss other = false
 
 abbrev pub tells_loss : List Note → Bool
 tells_loss ns = list_any is_loss ns

@@ -3,11 +3,11 @@ use Rattle.std.specs.Prelude.{◌≡◌, ◌⊎◌, ℕ, ◌+◌, ◌%◌, Bool,
 use Rattle.std.specs.Option.{option_map_or}
 use Rattle.lapd_seq.specs.declared.numbers.Seq.{Seq}
 use Rattle.lapd_frame.specs.declared.controls.Control.{Control}
-use Rattle.lapd_frame.specs.declared.controls.Control.TheVariants.{Information, ReceiveReady, ReceiveNotReady, Reject, Sabme, Disc, Ui, Ua, Dm, Frmr, Xid}
+use Rattle.lapd_frame.specs.declared.controls.Control.TheVariants.{Information}
 use Rattle.model_link.specs.declared.terms.Terms.{Terms}
 use Rattle.model_link.specs.declared.frames.ControlFrame.{ControlFrame}
 use Rattle.model_link.specs.Link.{Link}
-use Rattle.model_link.specs.Events.{Event, received, expired, requested, offer, cleared}
+use Rattle.model_link.specs.Events.{Event, offer}
 use Rattle.model_link.specs.Machine.{after, given}
 use Rattle.model_link.specs.Sound.{is_information}
 use Rattle.model_link.specs.Told.{Given}
@@ -15,16 +15,7 @@ use Rattle.model_link.specs.Told.{Given}
 -- The N(S) of an I-frame.
 abbrev pub number_sent : Control → Option Seq
 number_sent (Information ns nr p) = Some ns
-number_sent (ReceiveReady nr pf) = None
-number_sent (ReceiveNotReady nr pf) = None
-number_sent (Reject nr pf) = None
-number_sent (Sabme p) = None
-number_sent (Disc p) = None
-number_sent (Ui p) = None
-number_sent (Ua f) = None
-number_sent (Dm f) = None
-number_sent (Frmr f) = None
-number_sent (Xid pf) = None
+number_sent other = None
 
 -- A frame carries contents number j of a list where it is an I-frame, its information is these contents, and N(S) is j
 -- modulo 128 (Q.921 clauses 3.5.2.1 and 3.5.2.4). No other frame of a link carries contents.
@@ -47,10 +38,7 @@ is_i_frame g = is_information g.frame.control
 
 abbrev pub i_frames : Terms → Event → Link → ℕ
 i_frames t offer l = one (option_map_or is_i_frame (given t l) false)
-i_frames t (received r) l = 0
-i_frames t (expired timer) l = 0
-i_frames t (requested request pool_is_full) l = 0
-i_frames t cleared l = 0
+i_frames t other l = 0
 
 -- V(S) goes on by each I-frame that is given. An event that gives none leaves it, or takes it back to V(A): I-frames
 -- carry contents one after the other, but where all that is not acknowledged is sent again, or goes, or the numbers begin

@@ -8,21 +8,17 @@ use Rattle.model_card.specs.Run.{IsAtLine, AreAtLines}
 use Rattle.model_card.specs.Sound.{IsSound}
 use Rattle.model_card.proofs.Reaching.{reached-sound}
 use Rattle.laws_card.specs.Promises.{AreReceived, IsCountedIn, NotesTell, TeisAreTold, TeisHaveOnePlace, IsServedIn}
-use Rattle.laws_card.specs.PromisesOfPulls.{AnswersAreBegun, PullsComeToAnEnd, FewAreToGo, EnoughPullsServe}
+use Rattle.laws_card.specs.PromisesOfPulls.{WaitingAreBegun, PullsComeToAnEnd, FewAreToGo, EnoughPullsServe}
 use Rattle.laws_card.proofs.Beginning.{begun-told}
-use Rattle.laws_card.proofs.Causing.{caused-all, there-all, reasons-all, noted-all}
 use Rattle.laws_card.proofs.Enough.{enough-pulls}
-use Rattle.laws_card.proofs.Granting.{effect-all, expiries-all}
-use Rattle.laws_card.proofs.Happening.{steady-all}
+use Rattle.laws_card.proofs.Happening.{one-all}
 use Rattle.laws_card.proofs.Hearing.{heard-all}
-use Rattle.laws_card.proofs.Heeding.{heeded-all}
 use Rattle.laws_card.proofs.Keeping.{kept, run-counted, begins-empty}
 use Rattle.laws_card.proofs.Knowing.{up-known, on-known, down-at-first, one-place}
 use Rattle.laws_card.proofs.Receiving.{run-received, begins-unheard}
-use Rattle.laws_card.proofs.Restarting.{leaves-all}
-use Rattle.laws_card.proofs.Serving.{served-in, units-all, turns-stay, are-pulled}
+use Rattle.laws_card.proofs.Serving.{served-in}
 use Rattle.laws_card.proofs.TimersRun.{needed-run, needs-none, reached-timely}
-use Rattle.laws_card.proofs.Wherever.{answers-begun, come-to-an-end, few-to-go, begins-with-few}
+use Rattle.laws_card.proofs.Wherever.{waiting-begun, come-to-an-end, few-to-go, begins-with-few}
 use Rattle.laws_promises.specs.Promises.{Promises}
 
 module _ (m : Card) (events : List Event) (reached : IsReached m) (within : AreAtLines m events) where
@@ -40,19 +36,8 @@ module _ (m : Card) (events : List Event) (reached : IsReached m) (within : AreA
   pub promises-kept : Promises m events
   promises-kept = record {
     nothing_is_lost = kept m events sound within;
-    units_wait = units-all m events sound within;
-    turns_stay = turns-stay m events sound within;
-    pulls_are_lines = are-pulled m events sound within;
-    frames_are_heeded = heeded-all m events sound within;
-    requests_take_effect = effect-all m events sound within;
-    expiries_take_effect = expiries-all m events sound within;
-    links_are_steady = steady-all m events sound within;
+    one_event = one-all m events sound within;
     begun_is_told = begun-told m events sound within;
-    messages_have_causes = caused-all m events sound within;
-    told_teis_are_there = there-all m events sound within;
-    notes_have_reasons = reasons-all m events sound within;
-    pulls_leave_timers = leaves-all m events sound within;
-    nothing_else_is_noted = noted-all m events sound within;
     heard_is_delivered = heard-all m events sound within;
     received = front AreReceived run-received;
     begins_unheard = begins-unheard m.config;
@@ -65,7 +50,7 @@ module _ (m : Card) (events : List Event) (reached : IsReached m) (within : AreA
     begins_down = down-at-first m.config;
     one_place = front TeisHaveOnePlace one-place;
     served = front IsServedIn served-in;
-    answers_are_begun = front AnswersAreBegun answers-begun;
+    waiting_is_begun = front WaitingAreBegun waiting-begun;
     pulls_come_to_an_end = front PullsComeToAnEnd come-to-an-end;
     few_to_go = front FewAreToGo few-to-go;
     begins_with_few = begins-with-few m.config;

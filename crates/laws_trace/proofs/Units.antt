@@ -21,6 +21,7 @@ use Rattle.model_line.specs.Request as asked
 use Rattle.model_line.specs.Request.{Request}
 use Rattle.model_line.specs.Sound.{IsInRange, IsUnitData, IsSound}
 use Rattle.laws_line.specs.Pulls.{IsOfLink, IsOwed, IsIdle, contents_of, units_asked, unit_asked}
+use Rattle.laws_link.proofs.Follows.{event-follows}
 use Rattle.laws_line.proofs.Happening.{event-happens}
 use Rattle.laws_line.proofs.Serving.{served, units-wait}
 use Rattle.model_card.specs.Pulled.{frame_taken, octet_in}
@@ -41,11 +42,13 @@ fresh-none c number few = subst (λ (x : Link). All IsPlain x.waiting) (sym (get
 event-none : (c : Config) (e : Event) (l : Line) → IsSound c l → NoneWaits c l → NoneWaits c (after c e l)
 event-none c e l s h number few =
     elim (event-happens c e l number s few) [
-      | inl same ↦ subst (λ (x : Link). All IsPlain x.waiting) (sym same.0) (h number few)
+      | inl same ↦ subst (λ (x : Link). All IsPlain x.waiting) (sym same) (h number few)
       | inr (inl moved) ↦ subst (λ (x : Link). All IsPlain x.waiting) (sym moved.1) (All-nil IsPlain)
       | inr (inr one) ↦
-          subst (All IsPlain) (sym one.steady.follows.leaves.waiting)
-          (all-left (terms c (service_at number) one.tei) _ (link_at number l) _ (h number few))
+          let t = terms c (service_at number) one.tei in
+          subst (λ (x : Link). All IsPlain x.waiting) (sym one.is)
+          (subst (All IsPlain) (sym (event-follows t one.event (link_at number l)).leaves.waiting)
+          (all-left t _ (link_at number l) _ (h number few)))
     ]
 
 -- What a trace is to the unit data that waits before it and after it.

@@ -1,10 +1,10 @@
 -- Hand-written answers for `pulls_serve_wherever`.
 use Rattle.laws_card.proofs.Enough.{enough-pulls}
-use Rattle.laws_card.proofs.Wherever.{answers-begun, come-to-an-end, few-to-go, begins-with-few}
+use Rattle.laws_card.proofs.Wherever.{waiting-begun, come-to-an-end, few-to-go, begins-with-few}
 use Rattle.laws_card.proofs.progress.pulls_serve_wherever.Goals as goal
 
-pub returns-clause-answered : goal.returns-clause-answered
-returns-clause-answered c = answers-begun
+pub returns-clause-begun : goal.returns-clause-begun
+returns-clause-begun c = waiting-begun
 
 pub returns-clause-ended : goal.returns-clause-ended
 returns-clause-ended c = come-to-an-end

@@ -1,0 +1,114 @@
+-- An event of a link of a line is one of this link alone.
+use Rattle.std.proofs.Common.{◌≡◌, ◌≢◌, ℕ, true, false, Some, None, refl, sym, ap, ◌∙◌, subst, ⊎_elim}
+use Rattle.lapd_bits.specs.Stream as stream
+use Rattle.lapd_frame.specs.declared.services.Service.{Service}
+use Rattle.lapd_frame.specs.Grammar.{Parts}
+use Rattle.model_link.specs.declared.timers.LinkTimer.{LinkTimer}
+use Rattle.model_link.specs.declared.timers.LinkTimer.TheVariants.{T200, T203}
+use Rattle.model_link.specs.Events as link
+use Rattle.model_link.specs.Machine as links
+use Rattle.model_line.specs.declared.config.Config.{Config}
+use Rattle.model_line.specs.Event.{Event, octet, expiry, request, pull, told}
+use Rattle.model_line.specs.Effect.{at_link, told_of_link, of_aim}
+use Rattle.model_line.specs.Expiry.{at_timer, aim_of_expiry}
+use Rattle.model_line.specs.Line.{Line, place_in, link_in, terms}
+use Rattle.model_line.specs.Machine.{after, answer, unless_refused, unless_refused_told, of_request}
+use Rattle.model_line.specs.Octet.{message_of, aim_of_reading, aim_of_octet}
+use Rattle.model_line.specs.Refusal.{refusal}
+use Rattle.model_line.specs.Requested.{at_requested, aim_of_request}
+use Rattle.model_line.specs.Sides.{at_side}
+use Rattle.laws_line.specs.Heard.{IsTo, IsOneEvent as IsOneOctet}
+use Rattle.laws_line.specs.OneEvent.{IsAlone}
+use Rattle.laws_line.specs.Requests.{of_link}
+use Rattle.laws_line.specs.Share.{is_granted}
+use Rattle.laws_line.specs.Steady.{Brings, BringsMalformed, timer_of, IsBy}
+use Rattle.laws_line.proofs.Ending.{gained-is}
+use Rattle.laws_line.proofs.Granting.{not-refused}
+use Rattle.laws_line.proofs.Hearing.{sapi-is, addressed-is, heard-aim, by-aim, malformed-event, overlong-event}
+
+module _ (c : Config) (l : Line) (service : Service) (tei place : ℕ) (on : place_in l tei ≡ Some place) where
+  abbrev Alone : Event → link.Event → Type 0
+  Alone e event = IsAlone c e l (after c e l) (answer c e l) service tei place event
+
+  by-octet : (value : ℕ) (event : link.Event) → IsOneOctet c l (after c (octet value) l) (answer c (octet value) l) value service tei place event → Alone (octet value) event
+  by-octet value event one = record { line = one.line; answer_is = one.answer_is }
+
+  by-frame : (e : Event) (parts : Parts) → Brings c l e service tei parts → Alone e (link.received (link.frame parts))
+  by-frame e parts b =
+      let address = parts.address in
+      let aim : aim_of_octet c b.value l ≡ at_link service tei place (link.received (link.frame parts)) =
+      heard-aim c l b.value (Some (stream.frame b.octets)) (gained-is c l b.value (Some (stream.frame b.octets)) b.ends)
+      ∙ ap (aim_of_reading c l) b.read
+      ∙ ap (at_side c parts)
+      (addressed-is l address service tei place (link.frame parts) (message_of parts.control parts.info) (sapi-is address.sapi service b.sapi) b.tei_is on) in
+      subst (λ e. Alone e (link.received (link.frame parts))) (sym b.by)
+      (by-octet b.value (link.received (link.frame parts)) (by-aim c l b.value service tei place (link.frame parts) aim))
+
+  by-malformed : (e : Event) (what : link.Received) → BringsMalformed c l e service tei what → Alone e (link.received what)
+  by-malformed e what b =
+      let whose : IsTo l service tei place b.address = record { sapi = sapi-is b.address.sapi service b.sapi; tei_is = b.tei_is; on_line = on } in
+      subst (λ e. Alone e (link.received what)) (sym b.by)
+      (by-octet b.value (link.received what)
+      (⊎_elim
+      (λ x. malformed-event c l b.value service tei place b.address b.octets what x.0 whose x.1)
+      (λ x. overlong-event c l b.value service tei place b.address b.octets what x.0 whose x.1) b.ends))
+
+  timer-aim : (timer : LinkTimer) → aim_of_expiry (timer_of service tei timer) l ≡ at_link service tei place (link.expired timer)
+  timer-aim T200 = ap (at_timer service tei T200) on
+  timer-aim T203 = ap (at_timer service tei T203) on
+
+  by-timer : (timer : LinkTimer) → Alone (expiry (timer_of service tei timer)) (link.expired timer)
+  unfolding after answer
+  by-timer timer =
+      let aim = timer-aim timer in
+      let event = link.expired timer in
+      record {
+        line = ap (λ a. (of_aim c a l).line) aim;
+        answer_is = record {
+          own = told_of_link (links.told (terms c service tei) event (link_in l service place));
+          is = ap (λ a. told (of_aim c a l).told) aim;
+          notes = refl;
+          contents = refl;
+          orders = refl;
+          lost = refl;
+        };
+      }
+
+  request-aim : (asked : link.Request) → aim_of_request (of_link service tei asked) l ≡ at_link service tei place (link.requested asked false)
+  request-aim link.Establish = ap (at_requested service tei link.Establish) on
+  request-aim link.Release = ap (at_requested service tei link.Release) on
+  request-aim (link.Data contents) = ap (at_requested service tei (link.Data contents)) on
+  request-aim link.SetBusy = ap (at_requested service tei link.SetBusy) on
+  request-aim link.ClearBusy = ap (at_requested service tei link.ClearBusy) on
+
+  by-request : (asked : link.Request) → refusal c false (of_link service tei asked) l ≡ None → Alone (request (of_link service tei asked)) (link.requested asked false)
+  unfolding after answer
+  by-request asked none =
+      let r = of_link service tei asked in
+      let event = link.requested asked false in
+      let aim : unless_refused (refusal c false r l) (aim_of_request r l) ≡ at_link service tei place event =
+      ap (λ o. unless_refused o (aim_of_request r l)) none ∙ request-aim asked in
+      record {
+        line = ap (λ a. (of_aim c a l).line) aim;
+        answer_is = record {
+          own = told_of_link (links.told (terms c service tei) event (link_in l service place));
+          is = ap (λ o. unless_refused_told o (of_request c r l)) none ∙ ap (λ a. told (of_aim c a l).told) aim;
+          notes = refl;
+          contents = refl;
+          orders = refl;
+          lost = refl;
+        };
+      }
+
+  pub is-alone : (e : Event) (event : link.Event) → e ≢ pull → IsBy c l e (answer c e l) service tei event → Alone e event
+  is-alone e (link.received (link.frame parts)) other by = by-frame e parts by
+  is-alone e (link.received link.undefined) other by = by-malformed e link.undefined by
+  is-alone e (link.received link.wrong_size) other by = by-malformed e link.wrong_size by
+  is-alone e (link.received link.overlong) other by = by-malformed e link.overlong by
+  is-alone e (link.expired timer) other by = subst (λ e. Alone e (link.expired timer)) (sym by) (by-timer timer)
+  is-alone e (link.requested asked full) other by =
+      subst (λ full. Alone e (link.requested asked full)) (sym by.2)
+      (subst (λ e. is_granted (answer c e l) ≡ true → Alone e (link.requested asked false)) (sym by.0)
+      (λ granted. by-request asked (not-refused c (of_link service tei asked) l granted)) by.1)
+  is-alone e link.offer other by = absurd (other by)
+  is-alone e link.cleared other by = absurd by

@@ -1,0 +1,51 @@
+-- Worked values: events of one part of a line, which leave all else as it was.
+use Rattle.std.proofs.Common.{ap, arith}
+use Rattle.std.specs.Prelude.{◌≡◌, ℕ, [], ◌∷◌, Some, refl}
+use Rattle.lapd_bits.specs.Bits.{low_bits}
+use Rattle.lapd_bits.specs.declared.heard.Cause.TheVariants.{Fcs}
+use Rattle.lapd_frame.specs.declared.notes.Note.TheVariants.{ReleaseIndication}
+use Rattle.lapd_frame.specs.declared.services.Service.TheVariants.{Call, Packet}
+use Rattle.lapd_frame.specs.Reading.{reading, header_of, control_of, unnumbered_of}
+use Rattle.lapd_seq.specs.Circle.{distance_of, named}
+use Rattle.lapd_seq.specs.Numbers.{seq}
+use Rattle.lapd_tei.specs.declared.outcome.Change.TheVariants.{Left}
+use Rattle.lapd_tei.specs.Events as teis
+use Rattle.model_link.specs.Events.{received, frame}
+use Rattle.model_link.specs.Link.{fresh}
+use Rattle.model_link.specs.Machine as links
+use Rattle.model_line.specs.Event.{LineTold, octet, request, told, dropped, nothing}
+use Rattle.model_line.specs.Line.{link_at, link_in, with_link, terms}
+use Rattle.model_line.specs.Machine.{after, answer}
+use Rattle.model_line.specs.Request.{Unit, Remove}
+use Rattle.laws_line.specs.OneEvent.{with_octet_of, noted_behind, SaysNothing}
+use Rattle.laws_line.specs.Worked.{usual, both_up}
+use Rattle.laws_line.specs.WorkedHeard.{before_flag, information}
+
+-- The flag behind an I-frame of call control's link of TEI 64 is an event of this link, and changes nothing else but what was
+-- received.
+i_frame_alone : after usual (octet 0x7E) before_flag
+    ≡ with_octet_of (octet 0x7E) (with_link 0 (links.after (terms usual Call 64) (received (frame information)) (link_in before_flag Call 0)) before_flag)
+unfolding after seq distance_of named reading header_of control_of unnumbered_of teis.course teis.refusal low_bits
+i_frame_alone = refl
+
+-- Unit data waits, and nothing else changes.
+unit_alone : after usual (request (Unit Packet 127 (0xAB ∷ []))) both_up
+    ≡ record both_up { units = record { service = Packet; tei = 127; contents = 0xAB ∷ [] } ∷ [] }
+unfolding after reading header_of control_of unnumbered_of teis.course teis.refusal
+unit_alone = refl
+
+-- A TEI that leaves takes its two links along: they are as ones that begin, and tell that they are released.
+both_anew : link_at 0 (after usual (request (Remove 64)) both_up) ∷ link_at 1 (after usual (request (Remove 64)) both_up) ∷ [] ≡ fresh ∷ fresh ∷ []
+unfolding after reading header_of control_of unnumbered_of teis.course teis.refusal
+both_anew = refl
+
+both_told : noted_behind usual both_up (Some (Left 64 0)) ≡ ReleaseIndication Call 64 ∷ ReleaseIndication Packet 64 ∷ []
+unfolding reading header_of control_of unnumbered_of teis.course teis.refusal
+both_told = refl
+
+-- An answer says nothing that has why a stretch is no frame; one that counts a frame as lost says more.
+says_why : SaysNothing (told (dropped Fcs))
+says_why = refl
+
+says_more : SaysNothing (told (record nothing { lost = 1 })) → ⊥
+says_more e = let one : 1 ≡ 0 = ap (λ (t : LineTold). t.lost) e in omega (arith, one)

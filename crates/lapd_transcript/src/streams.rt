@@ -5,11 +5,11 @@ ghost use Rattle.std.specs.Io.KnownBytes.{ReadConsumes};
 ghost use Rattle.lapd_transcript.specs.Streams.{Taken, Writes, one_failure_more};
 
 /// A read failed.
-#[derive(Clone, Copy)]
+#[derive(Clone, Copy, PartialEq, Eq, Debug)]
 pub struct ReadFailed;
 
 /// A write failed.
-#[derive(Clone, Copy)]
+#[derive(Clone, Copy, PartialEq, Eq, Debug)]
 pub struct WriteFailed;
 
 /// Where octets are read from. It counts the reads that failed.

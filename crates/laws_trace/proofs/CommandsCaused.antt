@@ -65,7 +65,7 @@ at-5 disc t what ns h x = absurd (cc h)
 at-5 enquiry t what ns h x = absurd (cc h)
 
 -- Errors that are noted.
-same-itself : (s : Service) → same_service s s ≡ true
+pub same-itself : (s : Service) → same_service s s ≡ true
 same-itself Call = refl
 same-itself Packet = refl
 
@@ -262,14 +262,14 @@ by-asked k t Established ClearBusy full ns m h = absurd (cc m)
 by-asked k t TimerRecovery ClearBusy full ns m h = absurd (cc m)
 
 -- So each command has its cause.
-abbrev IsNoOther : Event → Type 0
+abbrev pub IsNoOther : Event → Type 0
 IsNoOther offer = ⊥
 IsNoOther cleared = ⊥
 IsNoOther (received what) = Unit {0}
 IsNoOther (expired timer) = Unit {0}
 IsNoOther (requested r full) = Unit {0}
 
-caused : (k : Kind) (t : Terms) (e : Event) (l : Link) → IsNoOther e → let to = state_after t e l in
+pub caused : (k : Kind) (t : Terms) (e : Event) (l : Link) → IsNoOther e → let to = state_after t e l in
     (moves l.state to || is_time e l) ≡ true → leads k to ≡ true → is_why k t e (told_by t e l to) ≡ true
 caused k t (received (frame f)) l other m h = by-state k t f.info (takes_contents (received (frame f)) l) l (frame f) l.state f.address.command f.control m h
 caused k t (received undefined) l other m h = malformed k t undefined code.L l.state m h

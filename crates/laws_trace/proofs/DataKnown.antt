@@ -189,7 +189,7 @@ module _ (t : Terms) (k : Link) (s : IsSound t k) (e : Event) (all : List (List 
 if-some : {X : Type 0} (P : X → Type 0) (o : Option X) (x : X) → o ≡ Some x → IfSome o P → P x
 if-some P o x is h = subst (λ o. IfSome o P) is h
 
-none-sent : (control : Control) (info : List ℕ) → is_information control ≡ false → sent_by control info ≡ None
+pub none-sent : (control : Control) (info : List ℕ) → is_information control ≡ false → sent_by control info ≡ None
 none-sent (Information ns nr p) info e = absurd (true≢false e)
 none-sent (ReceiveReady nr pf) info e = refl
 none-sent (ReceiveNotReady nr pf) info e = refl

@@ -287,7 +287,7 @@ module _ (c : Config) (service : Service) (tei : ℕ) where
   after-pull (Some t) n k (refused why) count = ((tt, tt), refl, count)
   after-pull (Some t) n k (pulled value is_begun orders) count = ((tt, (tt, tt)), refl, count)
 
-  event-passes : IsInRange c → (e : Event) (l : Line) → IsSound c l → (n : ℕ) → IsCount (link_of service tei l) n
+  pub event-passes : IsInRange c → (e : Event) (l : Line) → IsSound c l → (n : ℕ) → IsCount (link_of service tei l) n
       → Passes (record { frame = None; count = n }) (seen c e l (answer c e l)) (link_of service tei (after c e l))
   unfolding answer
   event-passes ranged (octet value) l s n before =

@@ -1,5 +1,5 @@
 -- What an event of a line is to the link of a service with a TEI, at whatever place the TEI is: one event of this link, or none.
-use Rattle.std.proofs.Common.{◌≡◌, ℕ, ◌==◌, ◌&&◌, Bool, true, false, cond, List, [], ◌∷◌, map, slice_get, Option, Some, None, IfSome, option_map, refl, sym, ap, ◌∙◌, subst, eqb-true, eq-eqb, true≢false, ◌⊎◌, inl, inr}
+use Rattle.std.proofs.Common.{◌≡◌, ℕ, ◌==◌, ◌&&◌, Bool, true, false, cond, List, [], ◌∷◌, map, slice_get, Option, Some, None, IfSome, option_map, refl, sym, ap, ◌∙◌, subst, eqb-true, ◌⊎◌, inl, inr}
 use Rattle.std.specs.Prelude.{All, option_to_list}
 use Rattle.std.specs.Option.{option_or, option_map_or}
 use Rattle.std.proofs.lemmas.List.Elements.{All-nil, All-cons}
@@ -7,33 +7,31 @@ use Rattle.std.proofs.lemmas.Option.{none-some}
 use Rattle.lapd_bits.specs.Stream as stream
 use Rattle.lapd_frame.specs.declared.refusals.Refusal.{Refusal}
 use Rattle.lapd_frame.specs.declared.services.Service.{Service}
+use Rattle.lapd_frame.specs.declared.timers.Order.{Order}
 use Rattle.lapd_frame.specs.declared.timers.Timer.{Timer}
 use Rattle.lapd_frame.specs.declared.timers.Timer.TheVariants as timers
 use Rattle.lapd_frame.specs.Services.{same_service}
 use Rattle.lapd_tei.specs.Events as teis
-use Rattle.lapd_tei.specs.Laws as tei_laws
-use Rattle.lapd_tei.specs.Machine.{Management}
 use Rattle.lapd_tei.specs.Messages.{frame_of as message_frame}
-use Rattle.lapd_tei.specs.Sound.{IsAt, IsSoundTable}
+use Rattle.lapd_tei.specs.Sound.{IsAt}
 use Rattle.lapd_tei.specs.declared.messages.Message.{Message}
-use Rattle.lapd_tei.specs.declared.outcome.Change.{Change}
-use Rattle.lapd_tei.specs.declared.outcome.Change.TheVariants.{Gained, Left}
-use Rattle.lapd_tei.proofs.LawLemmas as tei_lemmas
 use Rattle.model_link.specs.declared.terms.Terms.{Terms}
 use Rattle.model_link.specs.Events as link
 use Rattle.model_link.specs.Link.{Link, fresh}
 use Rattle.model_link.specs.Machine as links
+use Rattle.model_link.specs.Steps.{Sent}
 use Rattle.model_link.specs.Told.{Given}
 use Rattle.model_link.specs.declared.timers.LinkTimer.{LinkTimer}
 use Rattle.model_link.specs.declared.timers.LinkTimer.TheVariants as kind
 use Rattle.model_line.specs.declared.config.Config.{Config}
 use Rattle.model_line.specs.Event.{Event, octet, expiry, request, pull, Answer, told, nothing}
-use Rattle.model_line.specs.Effect.{Aim, at_none, at_link, at_management, at_units, told_of_management, of_change, of_aim}
+use Rattle.model_line.specs.Effect.{Aim, at_none, at_link, at_management, at_units, of_aim}
 use Rattle.model_line.specs.Expiry.{at_timer, aim_of_expiry}
+use Rattle.model_line.specs.Laws.{orders_in}
 use Rattle.model_line.specs.Line.{Line, UnitData, link_number, service_at, place_at, place_in, has_tei, link_at, link_in, link_of, terms, with_link}
 use Rattle.model_line.specs.Machine.{aim_of, after, answer, unless_refused, unless_refused_told}
 use Rattle.model_line.specs.Octet.{gained, aim_of_heard, aim_of_octet, with_received}
-use Rattle.model_line.specs.Pull.{Taken, with_message, with_unit, unit_frame, with_given_frame, frame_of, taken, is_due, with_item, after_pull, answer_to_pull, first_taken, round}
+use Rattle.model_line.specs.Pull.{Taken, begun, with_message, with_unit, unit_frame, with_given_frame, frame_of, taken, is_due, orders_of, with_item, after_pull, answer_to_pull, first_taken, round}
 use Rattle.model_line.specs.Refusal.{refusal}
 use Rattle.model_line.specs.Request.{Request, Establish, Release, Data, Assign, Remove, Check, SetBusy, ClearBusy}
 use Rattle.model_line.specs.Requested.{at_requested, aim_of_request}
@@ -45,14 +43,15 @@ use Rattle.model_card.specs.Pulled.{frame_taken, frame_in}
 use Rattle.laws_line.specs.Frames.{lost_in}
 use Rattle.laws_line.specs.Heard.{notes_of, contents_in}
 use Rattle.laws_line.specs.Steady.{IsBy}
-use Rattle.laws_line.proofs.Following.{some-same}
 use Rattle.laws_line.proofs.LinkMoves.{OfLink, of-links}
 use Rattle.laws_line.proofs.Obeyed.{services-equal, both-true}
-use Rattle.laws_line.proofs.Places.{is-off, has-no-place, has-place}
+use Rattle.laws_line.proofs.Places.{has-place}
 use Rattle.laws_line.proofs.Readings as read
 use Rattle.laws_line.proofs.Tied.{Ties, octet-ties, expiry-ties, request-ties}
 use Rattle.laws_line.proofs.TimersFollow.{number-is}
+use Rattle.laws_trace.proofs.ManagedLink.{alike, Remains, managed, starts-none}
 use Rattle.laws_trace.proofs.OfferTells.{offer-tells_nothing}
+use Rattle.laws_trace.proofs.OrdersOfLink.{StartNone, none-ordered, other-starts-none}
 
 -- The frame that an offer of a link gives; no other event gives one.
 abbrev pub frames_given : Config → Terms → link.Event → Link → List (List ℕ)
@@ -79,6 +78,7 @@ pub record HasOne (c : Config) (service : Service) (tei : ℕ) (e : Event) (befo
   pub contents : contents_in a ≡ option_or (links.told (terms c service tei) event (link_of service tei before)).delivered
       (links.told (terms c service tei) event (link_of service tei before)).unit
   pub lost : lost_in a ≡ (links.told (terms c service tei) event (link_of service tei before)).lost
+  pub orders : orders_in a ≡ (links.told (terms c service tei) event (link_of service tei before)).orders
   pub begins : frame_in c e before ≡ frames_given c (terms c service tei) event (link_of service tei before)
 
 -- A frame of TEI management, unit data, or a frame of another link.
@@ -87,11 +87,13 @@ IsForeign c service tei frame =
     ((message : Message) × (frame ≡ message_frame c.side message)) ⊎ ((unit : UnitData) × (frame ≡ unit_frame c unit))
     ⊎ ((t : Terms) × (g : Given) × (frame ≡ frame_of c t g) × ((same_service t.service service && t.tei == tei) ≡ false))
 
--- No event of the link: it stays as it is, or its TEI comes or leaves, and it is as one that begins.
+-- No event of the link: it stays as it is, or its TEI comes or leaves, and it is as one that begins; and none of its timers is
+-- started.
 pub record HasNone (c : Config) (service : Service) (tei : ℕ) (e : Event) (before after : Line) (a : Answer) : Type 0 where
   pub is : (link_of service tei after ≡ link_of service tei before) ⊎ (link_of service tei after ≡ fresh)
   pub stays : has_tei tei before ≡ true → has_tei tei after ≡ true → link_of service tei after ≡ link_of service tei before
   pub aims : is_at_link service tei (aim_of c e before) ≡ false
+  pub orders : StartNone service tei (orders_in a)
   pub begins : All (IsForeign c service tei) (frame_in c e before)
 
 abbrev pub Goes : Config → Service → ℕ → Event → Line → Line → Answer → Type 0
@@ -100,11 +102,11 @@ Goes c service tei e before after a = HasNone c service tei e before after a ⊎
 abbrev pub itself : Link → Link
 itself x = x
 
--- No other event gives a frame.
+-- No other event gives a frame; and what concerns no part orders nothing.
 module _ (c : Config) (l : Line) where
   abbrev Silent : Aim → Type 0
   Silent (at_link its by place event) = frames_given c (terms c its by) event (link_of its by l) ≡ []
-  Silent (at_none what) = Unit {0}
+  Silent (at_none what) = what.orders ≡ []
   Silent (at_management me) = Unit {0}
   Silent (at_units unit) = Unit {0}
 
@@ -112,11 +114,11 @@ module _ (c : Config) (l : Line) where
   octet-silent value = go (gained c.n201 l.received value)
     where
       go : (o : Option stream.Event) → Silent (option_map_or (aim_of_heard c l) o (at_none nothing))
-      go None = tt
-      go (Some e) = heard_aims c l Silent (λ cause. tt) (λ its by place what at. refl) (λ info. tt) (λ parts service to. tt) e
+      go None = refl
+      go (Some e) = heard_aims c l Silent (λ cause. refl) (λ its by place what at. refl) (λ info. tt) (λ parts service to. refl) e
 
   timer-silent : (its : Service) (by : ℕ) (k : LinkTimer) (o : Option ℕ) → Silent (at_timer its by k o)
-  timer-silent its by k None = tt
+  timer-silent its by k None = refl
   timer-silent its by k (Some place) = refl
 
   expiry-silent : (timer : Timer) → Silent (aim_of_expiry timer l)
@@ -125,7 +127,7 @@ module _ (c : Config) (l : Line) where
   expiry-silent timers.T201 = tt
 
   asked-silent : (its : Service) (by : ℕ) (asked : link.Request) (o : Option ℕ) → Silent (at_requested its by asked o)
-  asked-silent its by asked None = tt
+  asked-silent its by asked None = refl
   asked-silent its by asked (Some place) = refl
 
   request-silent : (r : Request) → Silent (aim_of_request r l)
@@ -140,16 +142,6 @@ module _ (c : Config) (l : Line) where
   request-silent (ClearBusy its by) = asked-silent its by link.ClearBusy (place_in l by)
 
 module _ (c : Config) (l : Line) (s : IsSound c l) (service : Service) (tei : ℕ) where
-  -- the same table, and the same links
-  alike : (before after : Line) → after.management.places ≡ before.management.places → after.links ≡ before.links → link_of service tei after ≡ link_of service tei before
-  alike before after places links = read.same-read fresh itself service tei before after places links
-
-  -- It stays as it is, or its TEI comes or leaves.
-  abbrev Remains : Line → Type 0
-  Remains next =
-      (link_of service tei next ≡ link_of service tei l)
-      ⊎ ((link_of service tei next ≡ fresh) × (has_tei tei l ≡ true → has_tei tei next ≡ true → ⊥))
-
   -- An event of one link, by whether it is this one.
   module _ (its : Service) (by place : ℕ) (event : link.Event) (at : IsAt l.management.places place by) where
     abbrev x : Link
@@ -175,21 +167,36 @@ module _ (c : Config) (l : Line) (s : IsSound c l) (service : Service) (tei : �
     no-frame : All (IsForeign c service tei) (frame_in c e l)
     no-frame = subst (All (IsForeign c service tei)) (sym none_begins) (All-nil (IsForeign c service tei))
 
-    stays : (aim : Aim) → aim_of c e l ≡ aim → is_at_link service tei aim ≡ false → (next : Line) → Remains next → Goes c service tei e l next a
-    stays aim is none next (inl same) = inl (record { is = inl same; stays = λ was there. same; aims = ap (is_at_link service tei) is ∙ none; begins = no-frame })
-    stays aim is none next (inr anew) =
-        inl (record { is = inr anew.0; stays = λ was there. absurd (anew.1 was there); aims = ap (is_at_link service tei) is ∙ none; begins = no-frame })
+    stays : (aim : Aim) → aim_of c e l ≡ aim → is_at_link service tei aim ≡ false → StartNone service tei (orders_in a) → (next : Line) → Remains c l s service tei next
+        → Goes c service tei e l next a
+    stays aim is none starts next (inl same) =
+        inl (record { is = inl same; stays = λ was there. same; aims = ap (is_at_link service tei) is ∙ none; orders = starts; begins = no-frame })
+    stays aim is none starts next (inr anew) =
+        inl (record {
+          is = inr anew.0;
+          stays = λ was there. absurd (anew.1 was there);
+          aims = ap (is_at_link service tei) is ∙ none;
+          orders = starts;
+          begins = no-frame;
+        })
 
     abbrev Tells : Aim → Type 0
     Tells aim =
         (notes_of a ≡ (of_aim c aim now).told.notes) × (contents_in a ≡ (of_aim c aim now).told.contents) × (lost_in a ≡ (of_aim c aim now).told.lost)
+        × (orders_in a ≡ (of_aim c aim now).told.orders)
+
+    -- orders that start none
+    none-started : (aim : Aim) → Tells aim → StartNone service tei (of_aim c aim now).told.orders → StartNone service tei (orders_in a)
+    none-started aim tells h = subst (StartNone service tei) (sym tells.3) h
 
     at-one : (its : Service) (by place : ℕ) (event : link.Event) → aim_of c e l ≡ at_link its by place event → IsAt l.management.places place by
         → IsBy c l e a its by event → Tells (at_link its by place event) → frames_given c (terms c its by) event (link_of its by l) ≡ []
         → (b : Bool) → (same_service its service && by == tei) ≡ b → Goes c service tei e l (of_aim c (at_link its by place event) now).line a
     at-one its by place event is at ties tells silent false other =
-        stays (at_link its by place event) is other (of_aim c (at_link its by place event) now).line
-        (inl (alike (with_link (link_number place its) (y its by place event at) l) (of_aim c (at_link its by place event) now).line refl refl
+        stays (at_link its by place event) is other
+        (none-started (at_link its by place event) tells (other-starts-none (terms c its by) event (x its by place event at) service tei other))
+        (of_aim c (at_link its by place event) now).line
+        (inl (alike c l s service tei (with_link (link_number place its) (y its by place event at) l) (of_aim c (at_link its by place event) now).line refl refl
         ∙ other-stays its by place event at other))
     at-one its by place event is at ties tells silent true same =
         let parts = both-true (same_service its service) (by == tei) same in
@@ -210,52 +217,9 @@ module _ (c : Config) (l : Line) (s : IsSound c l) (service : Service) (tei : �
               notes = tells.0 ∙ ap (λ x. (links.told (terms c its by) event x).notes) before;
               contents = tells.1 ∙ ap (λ x. option_or (links.told (terms c its by) event x).delivered (links.told (terms c its by) event x).unit) before;
               lost = tells.2 ∙ ap (λ x. (links.told (terms c its by) event x).lost) before;
+              orders = tells.3 ∙ ap (λ x. (links.told (terms c its by) event x).orders) before;
               begins = none_begins ∙ sym silent;
             }
-
-  -- An event of TEI management: a TEI comes, or leaves, or none does.
-  module _ (received : List ℕ) (me : teis.Event) (fits : tei_laws.IsInRange me) where
-    abbrev m : Management
-    m = teis.after me l.management
-
-    table : IsSoundTable m.places
-    table = (tei_lemmas.sound-after me l.management fits s.management).table
-
-    abbrev next : Option Change → Line
-    next o = (of_change c o (told_of_management (teis.told me l.management)) (record l { received = received; management = m })).line
-
-    abbrev Stays : Option Change → Type 0
-    Stays o = Remains (next o)
-
-    comes : (by place : ℕ) → tei_laws.HasJoined l.management.places m.places by place → (b : Bool) → (by == tei) ≡ b → Stays (Some (Gained by place))
-    comes by place joined true same =
-        inr (
-          read.filled-read fresh itself refl c l s m table place (Some by) joined.is_there joined.within service tei (ap Some (eqb-true by tei same)),
-          λ was there. true≢false (sym was ∙ ap (λ n. has_tei n l) (sym (eqb-true by tei same)) ∙ joined.was_off),
-        )
-    comes by place joined false other =
-        inl (read.elsewhere fresh itself refl c l s m table place (Some by) joined.is_there joined.within service tei
-        (λ same. true≢false (sym (eq-eqb by tei (some-same by tei same)) ∙ other)) (λ at. none-some tei (sym joined.was_free ∙ at)))
-
-    leaves : (by place : ℕ) → tei_laws.HasLeft l.management.places m.places by place → (b : Bool) → (by == tei) ≡ b → Stays (Some (Left by place))
-    leaves by place gone true same =
-        let was-there = gone.was_there ∙ ap Some (eqb-true by tei same) in
-        inr (
-          read.emptied-read fresh itself refl c l s m table place None gone.is_free gone.within service tei refl was-there,
-          λ was there. true≢false (sym there
-              ∙ is-off m.places tei (has-no-place m.places tei (read.emptied fresh itself refl c l s m table place None gone.is_free gone.within tei refl was-there))),
-        )
-    leaves by place gone false other =
-        inl (read.elsewhere fresh itself refl c l s m table place None gone.is_free gone.within service tei (λ same. none-some tei same)
-        (λ at. true≢false (sym (eq-eqb by tei (some-same by tei (sym gone.was_there ∙ at))) ∙ other)))
-
-    by-change : (o : Option Change) → tei_laws.Moves l.management.places o m.places → Stays o
-    by-change None moves = inl (alike l (next None) moves refl)
-    by-change (Some (Gained by place)) joined = comes by place joined (by == tei) refl
-    by-change (Some (Left by place)) gone = leaves by place gone (by == tei) refl
-
-    managed : Stays (teis.told me l.management).change
-    managed = by-change (teis.told me l.management).change (tei_lemmas.changes_are_told me l.management fits s.management)
 
   -- Any aim.
   module _ (received : List ℕ) (e : Event) (a : Answer) (none_begins : frame_in c e l ≡ []) where
@@ -265,11 +229,15 @@ module _ (c : Config) (l : Line) (s : IsSound c l) (service : Service) (tei : �
     aim-goes : (aim : Aim) → aim_of c e l ≡ aim → IsProper c l aim → Ties c l e a aim → Tells received e a none_begins aim → Silent c l aim
         → Goes c service tei e l (to-be aim) a
     aim-goes (at_none what) is proper ties tells silent =
-        stays received e a none_begins (at_none what) is refl (to-be (at_none what)) (inl (alike l (to-be (at_none what)) refl refl))
+        stays received e a none_begins (at_none what) is refl (none-started received e a none_begins (at_none what) tells (subst (StartNone service tei) (sym silent) (none-ordered service tei))) (to-be (at_none what))
+        (inl (alike c l s service tei l (to-be (at_none what)) refl refl))
     aim-goes (at_units unit) is proper ties tells silent =
-        stays received e a none_begins (at_units unit) is refl (to-be (at_units unit)) (inl (alike l (to-be (at_units unit)) refl refl))
+        stays received e a none_begins (at_units unit) is refl (none-started received e a none_begins (at_units unit) tells (none-ordered service tei)) (to-be (at_units unit))
+        (inl (alike c l s service tei l (to-be (at_units unit)) refl refl))
     aim-goes (at_management me) is proper ties tells silent =
-        stays received e a none_begins (at_management me) is refl (to-be (at_management me)) (managed received me proper)
+        stays received e a none_begins (at_management me) is refl
+        (none-started received e a none_begins (at_management me) tells (starts-none c l s service tei received me proper (teis.told me l.management).change)) (to-be (at_management me))
+        (managed c l s service tei received me proper)
     aim-goes (at_link its by place event) is proper ties tells silent =
         at-one received e a none_begins its by place event is proper ties tells silent (same_service its service && by == tei) refl
 
@@ -281,18 +249,32 @@ module _ (c : Config) (l : Line) (s : IsSound c l) (service : Service) (tei : �
     place : ℕ
     placed : place_in l tei ≡ Some place
     is : link_of service tei t.line ≡ links.after Own link.offer (link_of service tei l)
+    orders : t.orders ≡ (links.told Own link.offer (link_of service tei l)).orders
     begins : t.frame ∷ [] ≡ frames_given c Own link.offer (link_of service tei l)
 
   abbrev Took : Taken → Type 0
-  Took t = ((link_of service tei t.line ≡ link_of service tei l) × IsForeign c service tei t.frame) ⊎ Takes t
+  Took t = ((link_of service tei t.line ≡ link_of service tei l) × IsForeign c service tei t.frame × StartNone service tei t.orders) ⊎ Takes t
+
+  -- what a link gives, it orders as well
+  given-orders : (t : Terms) (x : Link) (g : Given) → links.given t x ≡ Some g → g.orders ≡ (links.told t link.offer x).orders
+  given-orders t x g = go (links.course t link.offer x).sent
+    where
+      go : (o : Option Sent) → links.given_of t x (links.course t link.offer x) o ≡ Some g → g.orders ≡ (links.told t link.offer x).orders
+      go None e = absurd (none-some g e)
+      go (Some sent) e = ap (λ (h : Given). h.orders) (sym (some-same-given e))
+        where
+          some-same-given : {u v : Given} → Some u ≡ Some v → u ≡ v
+          some-same-given e = cc e
 
   took-link : (its : Service) (by place : ℕ) (g : Given) → (at : IsAt l.management.places place by) → links.given (terms c its by) (link_in l its place) ≡ Some g
       → (b : Bool) → (same_service its service && by == tei) ≡ b → Took (with_given_frame c l (link_number place its) (terms c its by) g)
   took-link its by place g at given false other =
       let t = with_given_frame c l (link_number place its) (terms c its by) g in
       inl (
-        alike (with_link (link_number place its) (y its by place link.offer at) l) t.line refl refl ∙ other-stays its by place link.offer at other,
+        alike c l s service tei (with_link (link_number place its) (y its by place link.offer at) l) t.line refl refl ∙ other-stays its by place link.offer at other,
         inr (inr (terms c its by, g, refl, other)),
+        subst (StartNone service tei) (sym (given-orders (terms c its by) (link_in l its place) g given))
+            (other-starts-none (terms c its by) link.offer (link_in l its place) service tei other),
       )
   took-link its by place g at given true same =
       let parts = both-true (same_service its service) (by == tei) same in
@@ -307,6 +289,9 @@ module _ (c : Config) (l : Line) (s : IsSound c l) (service : Service) (tei : �
         placed = subst (λ n. place_in l n ≡ Some place) by-is (has-place l.management.places by place s.management.table at);
         is = own ∙ read.same-read fresh itself its by (with_link (link_number place its) (y its by place link.offer at) l) t.line refl refl
             ∙ own-after its by place link.offer at ∙ ap (λ x. links.after (terms c its by) link.offer x) (sym own-l) ∙ ap (λ u. links.after u link.offer (link_of service tei l)) (sym own-terms);
+        orders = given-orders (terms c its by) (link_in l its place) g given
+            ∙ ap (λ x. (links.told (terms c its by) link.offer x).orders) (sym (own-before its by place link.offer at) ∙ sym own-l)
+            ∙ ap (λ u. (links.told u link.offer (link_of service tei l)).orders) (sym own-terms);
         begins = ap (λ o. map (frame_of c (terms c its by)) (option_to_list o)) (sym (ap (links.given (terms c its by)) (own-before its by place link.offer at) ∙ given))
             ∙ ap (λ x. frames_given c (terms c its by) link.offer x) (sym own-l) ∙ ap (λ u. frames_given c u link.offer (link_of service tei l)) (sym own-terms);
       })
@@ -325,35 +310,38 @@ module _ (c : Config) (l : Line) (s : IsSound c l) (service : Service) (tei : �
 
   took-any : (m : Option Message) (u : Option UnitData)
       → IfSome (option_or (option_map (with_message l) (option_map (message_frame c.side) m)) (option_or (option_map (with_unit c l) u) (first_taken c l (round c l)))) Took
-  took-any (Some message) u = inl (alike l (with_message l (message_frame c.side message)).line refl refl, inl (message, refl))
-  took-any None (Some unit) = inl (alike l (with_unit c l unit).line refl refl, inr (inl (unit, refl)))
+  took-any (Some message) u = inl (alike c l s service tei l (with_message l (message_frame c.side message)).line refl refl, inl (message, refl), none-ordered service tei)
+  took-any None (Some unit) = inl (alike c l s service tei l (with_unit c l unit).line refl refl, inr (inl (unit, refl)), none-ordered service tei)
   took-any None None = took-first (first_taken c l (round c l)) (of-links c l s (round c l) (round_below c l))
 
   -- A pull.
-  abbrev Pulled : Line → List (List ℕ) → Type 0
-  Pulled next frames =
-      ((link_of service tei next ≡ link_of service tei l) × All (IsForeign c service tei) frames)
+  abbrev Pulled : Line → List (List ℕ) → List Order → Type 0
+  Pulled next frames orders =
+      ((link_of service tei next ≡ link_of service tei l) × All (IsForeign c service tei) frames × StartNone service tei orders)
       ⊎ ((place : ℕ) × (place_in l tei ≡ Some place) × (link_of service tei next ≡ links.after Own link.offer (link_of service tei l))
-      × (frames ≡ frames_given c Own link.offer (link_of service tei l)))
+      × (frames ≡ frames_given c Own link.offer (link_of service tei l)) × (orders ≡ (links.told Own link.offer (link_of service tei l)).orders))
 
   pulled : (due : Bool) (o : Option Taken) → IfSome o Took
       → Pulled (record (cond due (with_item o l) l) { given = (after_pull c l).given }) (option_to_list (option_map frame_taken (cond due o None)))
-  pulled false o h = inl (alike l (record l { given = (after_pull c l).given }) refl refl, All-nil (IsForeign c service tei))
-  pulled true None h = inl (alike l (record (with_item None l) { given = (after_pull c l).given }) refl refl, All-nil (IsForeign c service tei))
+      (option_map_or orders_of (cond due o None) [])
+  pulled false o h = inl (alike c l s service tei l (record l { given = (after_pull c l).given }) refl refl, All-nil (IsForeign c service tei), none-ordered service tei)
+  pulled true None h =
+      inl (alike c l s service tei l (record (with_item None l) { given = (after_pull c l).given }) refl refl, All-nil (IsForeign c service tei), none-ordered service tei)
   pulled true (Some t) (inl x) =
       inl (
-        alike t.line (record (with_item (Some t) l) { given = (after_pull c l).given }) refl refl ∙ x.0,
+        alike c l s service tei t.line (record (with_item (Some t) l) { given = (after_pull c l).given }) refl refl ∙ x.0,
         All-cons (IsForeign c service tei) t.frame [] x.1 (All-nil (IsForeign c service tei)),
+        x.2,
       )
   pulled true (Some t) (inr x) =
-      inr (x.place, x.placed, alike t.line (record (with_item (Some t) l) { given = (after_pull c l).given }) refl refl ∙ x.is, x.begins)
+      inr (x.place, x.placed, alike c l s service tei t.line (record (with_item (Some t) l) { given = (after_pull c l).given }) refl refl ∙ x.is, x.begins, x.orders)
 
   pull-goes : Goes c service tei pull l (after c pull l) (answer c pull l)
   unfolding after answer
   pull-goes = go (pulled (is_due l) (taken c l) (took-any (slice_get l.management.waiting 0) (slice_get l.units 0)))
     where
-      go : Pulled (after_pull c l) (frame_in c pull l) → Goes c service tei pull l (after_pull c l) (answer_to_pull c l)
-      go (inl x) = inl (record { is = inl x.0; stays = λ was there. x.0; aims = refl; begins = x.1 })
+      go : Pulled (after_pull c l) (frame_in c pull l) (option_map_or orders_of (begun c l) []) → Goes c service tei pull l (after_pull c l) (answer_to_pull c l)
+      go (inl x) = inl (record { is = inl x.0; stays = λ was there. x.0; aims = refl; orders = x.2; begins = x.1 })
       go (inr x) =
           let q = offer-tells_nothing Own (link_of service tei l) in
           inr (record {
@@ -366,6 +354,7 @@ module _ (c : Config) (l : Line) (s : IsSound c l) (service : Service) (tei : �
             notes = sym q.0;
             contents = sym (ap (λ o. option_or o (links.told Own link.offer (link_of service tei l)).unit) q.1 ∙ q.2);
             lost = sym q.3;
+            orders = x.4;
             begins = x.3;
           })
 
@@ -375,11 +364,11 @@ event-goes c (octet value) l service tei s =
     let aim = aim_of_octet c value l in
     let now = with_received value l in
     aim-goes c l s service tei now.received (octet value) (told (of_aim c aim now).told) refl aim refl (octet_proper c l value)
-    (octet-ties c l value (told (of_aim c aim now).told)) (refl, refl, refl) (octet-silent c l value)
+    (octet-ties c l value (told (of_aim c aim now).told)) (refl, refl, refl, refl) (octet-silent c l value)
 event-goes c (expiry timer) l service tei s =
     let aim = aim_of_expiry timer l in
     aim-goes c l s service tei l.received (expiry timer) (told (of_aim c aim l).told) refl aim refl (expiry_proper c l timer)
-    (expiry-ties c l timer (told (of_aim c aim l).told)) (refl, refl, refl) (expiry-silent c l timer)
+    (expiry-ties c l timer (told (of_aim c aim l).told)) (refl, refl, refl, refl) (expiry-silent c l timer)
 event-goes c (request r) l service tei s = go (refusal c false r l) refl
   where
     go : (o : Option Refusal) → refusal c false r l ≡ o
@@ -387,13 +376,14 @@ event-goes c (request r) l service tei s = go (refusal c false r l) refl
     go None none =
         let a = told (of_aim c (aim_of_request r l) l).told in
         aim-goes c l s service tei l.received (request r) a refl (aim_of_request r l) (ap (λ o. unless_refused o (aim_of_request r l)) none)
-        (subst (λ o. IsProper c l (unless_refused o (aim_of_request r l))) none (request_proper c l r)) (request-ties c l a refl r) (refl, refl, refl)
+        (subst (λ o. IsProper c l (unless_refused o (aim_of_request r l))) none (request_proper c l r)) (request-ties c l a refl r) (refl, refl, refl, refl)
         (request-silent c l r)
     go (Some why) some =
         inl (record {
           is = inl refl;
           stays = λ was there. refl;
           aims = ap (λ o. is_at_link service tei (unless_refused o (aim_of_request r l))) some;
+          orders = none-ordered service tei;
           begins = All-nil (IsForeign c service tei);
         })
 event-goes c pull l service tei s = pull-goes c l s service tei

@@ -37,7 +37,7 @@ answered_by command (Reject nr f) = if not command && f then poll ∷ [] else []
 answered_by command other = []
 
 -- By the frames heard, and by those that begin, of the link of a service with a TEI.
-abbrev pub of_link : Service → ℕ → (Bool → Control → List Exchange) → Result Parts ReadFault → List Exchange
+abbrev pub of_link : {X : Type 0} → Service → ℕ → (Bool → Control → List X) → Result Parts ReadFault → List X
 of_link service tei by (Ok frame) =
     if frame.address.sapi == sapi_of service && frame.address.tei == tei then by frame.address.command frame.control else []
 of_link service tei by (Err fault) = []
@@ -55,10 +55,10 @@ answered_at c service tei (begun octets) = of_link service tei answered_by (read
 answered_at c service tei other = []
 
 -- One list is another from which some things may be left out.
-pub data IsPart : List Exchange → List Exchange → Type 0 where
+pub data IsPart {X : Type 0} : List X → List X → Type 0 where
   none : IsPart [] []
-  left_out : (x : Exchange) (some all : List Exchange) → IsPart some all → IsPart some (x ∷ all)
-  taken : (x : Exchange) (some all : List Exchange) → IsPart some all → IsPart (x ∷ some) (x ∷ all)
+  left_out : (x : X) (some all : List X) → IsPart some all → IsPart some (x ∷ all)
+  taken : (x : X) (some all : List X) → IsPart some all → IsPart (x ∷ some) (x ∷ all)
 
 -- The answers of a link that begin are among what was asked of it: each for one frame heard, of its kind and with its bit, in
 -- their order, and none twice. (Not all that is asked is answered: not what finds no room to wait, what waits where a TEI leaves,

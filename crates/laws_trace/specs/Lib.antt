@@ -12,6 +12,12 @@ pub mod MessagesComeFirst
 pub mod AnswersAreAsked
 pub mod AllAreAnswered
 pub mod CommandsHaveCauses
+pub mod ReceiptsCount
+pub mod Managing
+pub mod MessagesAreOwed
+pub mod TeisAgree
+pub mod TimersAreTimely
+pub mod WorkedTimers
 pub mod WorkedUnits
 pub mod WorkedFrames
 pub mod WorkedTurns
@@ -21,3 +27,5 @@ pub mod WorkedDeliveries
 pub mod DataGoesOut
 pub mod WorkedData
 pub mod WorkedCommands
+pub mod WorkedReceipts
+pub mod WorkedManaging

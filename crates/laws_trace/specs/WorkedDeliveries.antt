@@ -58,7 +58,7 @@ gap h =
 
 -- An I-frame with N(S)=0 that is heard on a link that was just established is told, in its moment; where it is not, the law is
 -- broken.
-abbrev i_frame : List Event
+abbrev pub i_frame : List Event
 i_frame = hears 0x00 ∷ hears 0x02 ∷ hears 0x01 ∷ hears 0x00 ∷ hears 0x82 ∷ hears 0x5E ∷ hears 0x5A ∷ hears 0xFD ∷ []
 
 abbrev of_i_frame : Seen

@@ -11,6 +11,10 @@ ghost use Rattle.laws_trace.specs.DataGoesOut.{DataGoesOut, AllDataGoesOut};
 ghost use Rattle.laws_trace.specs.Deliveries.{Deliveries, AllAreTold};
 ghost use Rattle.laws_trace.specs.LinksTakeTurns.{LinksTakeTurns};
 ghost use Rattle.laws_trace.specs.MessagesComeFirst.{MessagesComeFirst};
+ghost use Rattle.laws_trace.specs.MessagesAreOwed.{MessagesAreOwed, AllMessagesGoOut};
+ghost use Rattle.laws_trace.specs.ReceiptsCount.{ReceiptsCount};
+ghost use Rattle.laws_trace.specs.TeisAgree.{TeisAgree, HeldForOne};
+ghost use Rattle.laws_trace.specs.TimersAreTimely.{TimersRun, TimersAreStarted};
 ghost use Rattle.laws_trace.specs.TurnsMeanwhile.{LinksTakeTurnsMeanwhile};
 ghost use Rattle.laws_trace.specs.UnitsAreHeard.{UnitsAreHeard, AllUnitsAreHeard};
 ghost use Rattle.laws_trace.specs.UnitsGoOut.{UnitsGoOut, AllUnitsGoOut};
@@ -127,4 +131,45 @@ pub fn all_are_answered()
 /// 5.6.7, 5.7.1 and 5.10.3).
 pub fn commands_have_causes()
     ensures { Always CommandsHaveCauses }
+{}
+
+/// Receipts count what was told. The RR, RNR and REJ of a link that begin are among those that were due: for each command with
+/// P=1 that was heard, one with F=1; for each I-frame of which nothing was told, REJ; for each SetBusy and ClearBusy that was
+/// granted, RNR or RR; for each expiry of its T200 or T203, an enquiry; and RR with F=0 by itself. Each has as its N(R) the
+/// number of contents told of the link since its numbers began, modulo 128, as it was when the receipt was due, which is as it
+/// begins for the RR by itself; in their order, and none twice (Q.921 clauses 3.5.2.4 to 3.5.2.6, 5.6.2 to 5.6.7 and 5.8.1).
+pub fn receipts_count()
+    ensures { Always ReceiptsCount }
+{}
+
+/// Messages of TEI management are owed. The frames that begin with SAPI 63 are the first of the messages that are owed, in
+/// their order, whole, each once (`front`), and they are all of them, once the line was only pulled, as often as the
+/// configuration says (`all`). Owed are: to a terminal that asks for a TEI by an Ri, the one that is held for this Ri, or that
+/// there is none; a check of a TEI, once as it begins, by a granted request or a verify, and once more as T201 expires; and that
+/// a TEI is removed, by a granted request, or since two terminals have it; except those that the answer counts as lost. And what
+/// is noted of TEIs, and granted, agrees with what is heard (`notes`): a TEI that is noted as assigned was asked for right
+/// before, and is the lowest from 64 on that was not on the line; it is noted that two have one where a second terminal answers
+/// its check in one period, and that one was removed where T201 expires for the second time and none had answered, and nowhere
+/// else; and management is granted to put on the line what is not there, and to remove or check what is. So no TEI is held for
+/// two Ri at a time, no Ri has two, and each that is held is on the line (`held`). The user's side serves no message, and is
+/// granted neither a removal nor a check (Q.921 clauses 4.1.1.5 and 5.3.1 to 5.3.5).
+pub fn messages_are_owed()
+    ensures front { Always MessagesAreOwed }
+    ensures all { Always AllMessagesGoOut }
+    ensures notes { Always TeisAgree }
+    ensures held { Always HeldForOne }
+{}
+
+/// Timers are timely. At a caller's that obeys the orders T200 of a link runs exactly where an answer is awaited: in states 5, 6
+/// and 8, and in state 7 where an I-frame that went is not acknowledged, or the terminal is busy. T203 runs exactly where none is,
+/// in state 7; and neither in state 4, nor where the TEI is not on the line (`run`). An answer orders that one is started exactly
+/// where it runs then, and it did not run, or had just expired, or is started anew: because the link moves to another state, or, in
+/// state 7, because of a frame. For T200 this is RNR, and RR, or I while the terminal is not busy, whose N(R) acknowledges an
+/// I-frame; for T203 it is RR, REJ, I or SABME (`started`). So T200 runs on from an earlier I-frame or enquiry when further I-frames
+/// go (clause 5.6.1), when a frame acknowledges nothing, and in state 8 until the enquiry is answered (clause 5.6.7); and no UI,
+/// XID, UA, request for data or pull starts a timer anew that runs (Q.921 clauses 5.5.1, 5.5.3, 5.6.1 to 5.6.7, 5.9.1, 5.9.8 and
+/// 5.10.3).
+pub fn timers_are_timely()
+    ensures run { Always TimersRun }
+    ensures started { Always TimersAreStarted }
 {}

@@ -8,13 +8,13 @@
 //!
 //! # Open
 //!
-//! That what is heard is what came (`received` of `Promises` says so); that messages of TEI management begin, and of two
-//! control frames alike both, but for answers (`all_are_answered`); when unit data goes, where other events of the line come
-//! between its pulls; of commands, which cause each one has (`commands_have_causes` counts them), and that each cause has its
-//! command; when T200 is started anew: after an acknowledgement of a part, and with each command; turns, where the place of the
-//! first link changes. The N(R) of RR, RNR and REJ: it may be behind what was told (docs/HOSTILE.md), and no law says how far.
-//! Which contents stay where numbers begin, and when I-frames go again. Of what is noted only contents, and errors that lead to
-//! SABME, are spoken of here, and of what is lost only that its moment may leave an answer out.
+//! That what is heard is what came (`received` of `Promises` says so); that of two control frames alike both begin, but for
+//! answers (`all_are_answered`); when messages of TEI management and unit data go, where other events of the line come between
+//! its pulls; of commands, which cause each one has, and that each cause has its command; of timers, that an order stops only
+//! one that ran, and when T201 is started anew; turns, where the place of the first link changes. Which of RR and RNR goes
+//! (`receipts_count` allows either), and that each that is due does, but for answers. Which contents stay where numbers begin,
+//! and when I-frames go again. Of notes only contents, TEIs, and errors that lead to SABME; of losses only that their moment
+//! may leave an answer or a message out.
 #![tactic(auto)]
 
 mod laws;
@@ -22,5 +22,6 @@ mod laws;
 pub use laws::{
     all_are_answered, all_frames_go_out, answers_are_asked, commands_have_causes, data_goes_out,
     frames_are_read, frames_go_out, links_take_turns, links_take_turns_meanwhile,
-    messages_come_first, ranges_are_served, units_are_heard, units_go_out, what_is_told_was_heard,
+    messages_are_owed, messages_come_first, ranges_are_served, receipts_count, timers_are_timely,
+    units_are_heard, units_go_out, what_is_told_was_heard,
 };

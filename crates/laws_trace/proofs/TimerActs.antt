@@ -1,0 +1,205 @@
+-- What the steps of the tables do to what timers depend on: the state, V(A), V(S), whether the terminal is busy, and the timer.
+use Rattle.std.proofs.Common.{◌≡◌, ℕ, ◌==◌, ◌&&◌, Bool, true, false, cond, List, [], Option, Some, None, refl, ap, ◌∙◌}
+use Rattle.std.specs.Prelude.{nat_lt, length}
+use Rattle.lapd_frame.specs.declared.controls.Control.TheVariants.{Ua}
+use Rattle.lapd_frame.specs.declared.notes.ErrorCode.{ErrorCode}
+use Rattle.lapd_frame.specs.declared.notes.ErrorCode.TheVariants as code
+use Rattle.lapd_seq.specs.declared.numbers.Seq.{Seq}
+use Rattle.lapd_seq.specs.Circle.{named}
+use Rattle.model_link.specs.declared.states.State.{State}
+use Rattle.model_link.specs.declared.states.State.TheVariants.{TeiAssigned, AwaitingEstablishment, Established}
+use Rattle.model_link.specs.declared.terms.Terms.{Terms}
+use Rattle.model_link.specs.declared.timers.LinkTimer.{LinkTimer}
+use Rattle.model_link.specs.declared.timers.LinkTimer.TheVariants.{T200, T203}
+use Rattle.model_link.specs.Link.{Link, is_asked, has_outstanding, is_own_busy, is_rejecting}
+use Rattle.model_link.specs.Steps.{Course, Step, ◌then◌, nothing, depending_on, by_bit}
+use Rattle.model_link.specs.Words
+use Rattle.model_link.specs.MultipleFrame
+use Rattle.model_link.specs.Established as seven
+use Rattle.model_link.specs.TimerRecovery as eight
+use Rattle.model_link.specs.AwaitingEstablishment as five
+
+pub record Timing : Type 0 where
+  pub state : State
+  pub a : ℕ
+  pub s : ℕ
+  pub busy : Bool
+  pub running : Option LinkTimer
+  pub started : Option LinkTimer
+
+abbrev pub timing : Course → Timing
+timing c = record { state = c.link.state; a = c.link.a; s = c.link.s; busy = c.link.peer_busy; running = c.link.running; started = c.started }
+
+pub record Acts (f : Step) (F : Timing → Timing) : Type 0 where
+  pub acts : (c : Course) → timing (f c) ≡ F (timing c)
+
+abbrev pub itself : Timing → Timing
+itself x = x
+
+abbrev pub by_test : Bool → (Timing → Timing) → (Timing → Timing) → Timing → Timing
+by_test b F G x = cond b (F x) (G x)
+
+abbrev pub by_name : Option ℕ → (Timing → Timing) → (ℕ → Timing → Timing) → Timing → Timing
+by_name None F G x = F x
+by_name (Some n) F G x = G n x
+
+-- what the words do
+abbrev pub starts : LinkTimer → Timing → Timing
+starts timer x = record x { running = Some timer; started = Some timer }
+
+abbrev pub stops : Timing → Timing
+stops x = record x { running = None; started = None }
+
+abbrev pub begins : Timing → Timing
+begins x = record x { state = Established; a = 0; s = 0; running = Some T203; started = Some T203 }
+
+abbrev pub ends : Timing → Timing
+ends x = record x { state = TeiAssigned; s = x.a; running = None; started = None }
+
+abbrev pub awaits : State → Timing → Timing
+awaits state x = record x { state = state; running = Some T200; started = Some T200 }
+
+abbrev pub fails : Timing → Timing
+fails x = record x { state = AwaitingEstablishment; busy = false; running = Some T200; started = Some T200 }
+
+abbrev pub acknowledges : ℕ → Timing → Timing
+acknowledges n x = record x { a = n }
+
+abbrev pub with_busy : Bool → Timing → Timing
+with_busy b x = record x { busy = b }
+
+-- what a valid N(R) does, an I-frame, and a supervisory frame
+abbrev pub informs : Bool → Seq → (ℕ → Timing → Timing) → Timing → Timing
+informs over nr F x = cond over (fails x) (by_name (named x.a x.s nr) fails F x)
+
+abbrev pub supervises : Bool → Seq → (ℕ → Timing → Timing) → Timing → Timing
+supervises busy nr F x = by_name (named x.a x.s nr) fails F (with_busy busy x)
+
+abbrev pub acknowledged : ℕ → Timing → Timing
+acknowledged n x = cond (n == x.s) (starts T203 (acknowledges n x)) (cond (nat_lt x.a n) (starts T200 (acknowledges n x)) x)
+
+abbrev pub informed : ℕ → Timing → Timing
+informed n x = cond x.busy (acknowledges n x) (acknowledged n x)
+
+abbrev pub recovers : LinkTimer → Bool → ℕ → Timing → Timing
+recovers timer final n x = cond final (record (starts timer x) { a = n; s = n; state = Established }) (acknowledges n x)
+
+-- One step after the other, and choices.
+pub both : (f g : Step) (F G : Timing → Timing) → Acts f F → Acts g G → Acts (f then g) (λ x. G (F x))
+both f g F G h k = record { acts = λ c. k.acts (f c) ∙ ap G (h.acts c) }
+
+pub whichever : (test : Link → Bool) (f g : Step) (F : Timing → Timing) → Acts f F → Acts g F → Acts (depending_on test f g) F
+whichever test f g F h k = record { acts = λ c. go c (test c.link) }
+  where
+    go : (c : Course) (b : Bool) → timing (cond b (f c) (g c)) ≡ F (timing c)
+    go c true = h.acts c
+    go c false = k.acts c
+
+pub by-bit : (b : Bool) (f g : Step) (F G : Timing → Timing) → Acts f F → Acts g G → Acts (by_bit b f g) (by_test b F G)
+by-bit true f g F G h k = record { acts = h.acts }
+by-bit false f g F G h k = record { acts = k.acts }
+
+pub either-bit : (b : Bool) (f g : Step) (F : Timing → Timing) → Acts f F → Acts g F → Acts (by_bit b f g) F
+either-bit true f g F h k = record { acts = h.acts }
+either-bit false f g F h k = record { acts = k.acts }
+
+-- by a choice that depends on it
+pub by-choice : (test : Link → Bool) (t : Timing → Bool) → ((c : Course) → test c.link ≡ t (timing c)) → (f g : Step) (F G : Timing → Timing) → Acts f F → Acts g G
+    → Acts (depending_on test f g) (λ x. cond (t x) (F x) (G x))
+by-choice test t same f g F G h k = record { acts = λ c. go c (test c.link) ∙ ap (λ b. cond b (F (timing c)) (G (timing c))) (same c) }
+  where
+    go : (c : Course) (b : Bool) → timing (cond b (f c) (g c)) ≡ cond b (F (timing c)) (G (timing c))
+    go c true = h.acts c
+    go c false = k.acts c
+
+module _ (t : Terms) where
+  pub failed-acts : (e : ErrorCode) → Acts (MultipleFrame.failed t e) fails
+  failed-acts e = record { acts = λ c. refl }
+
+  pub by-number : (nr : Seq) (step : ℕ → Step) (F : ℕ → Timing → Timing) → ((n : ℕ) → Acts (step n) (F n))
+      → Acts (Words.by_number t nr step) (λ x. by_name (named x.a x.s nr) fails F x)
+  by-number nr step F h = record { acts = λ c. go c (named c.link.a c.link.s nr) }
+    where
+      go : (c : Course) (o : Option ℕ)
+          → timing (elim o as (λ o. Course) [ None ↦ (Words.error t code.J then Words.re_establish t) c | Some n ↦ step n c ]) ≡ by_name o fails F (timing c)
+      go c None = refl
+      go c (Some n) = (h n).acts c
+
+  pub answers : (b : Bool) → Acts (by_bit b (Words.answer t) nothing) itself
+  answers b = either-bit b (Words.answer t) nothing itself (record { acts = λ c. refl }) (record { acts = λ c. refl })
+
+  -- what comes of contents
+  pub contents-acts : (ns : Seq) (p : Bool) (octets : List ℕ) → Acts (MultipleFrame.contents_in_7_8 t ns p octets) itself
+  contents-acts ns p octets =
+      whichever is_own_busy (MultipleFrame.dropped t p) (depending_on (MultipleFrame.is_next ns) (MultipleFrame.in_sequence t p octets) (MultipleFrame.out_of_sequence t p)) itself
+      (answers p)
+      (whichever (MultipleFrame.is_next ns) (MultipleFrame.in_sequence t p octets) (MultipleFrame.out_of_sequence t p) itself in-sequence out-of-sequence)
+    where
+      in-sequence : Acts (MultipleFrame.in_sequence t p octets) itself
+      in-sequence =
+          both (Words.count_received then Words.rejecting_is false then Words.deliver t octets) (by_bit p (Words.answer t) (Words.pending_is true)) itself itself
+          (record { acts = λ c. refl })
+          (either-bit p (Words.answer t) (Words.pending_is true) itself (record { acts = λ c. refl }) (record { acts = λ c. refl }))
+
+      out-of-sequence : Acts (MultipleFrame.out_of_sequence t p) itself
+      out-of-sequence =
+          whichever is_rejecting (by_bit p (Words.answer t) nothing) (Words.rejecting_is true then Words.reject t p) itself (answers p) (record { acts = λ c. refl })
+
+  -- an I-frame, and a supervisory frame
+  pub information-acts : (ns nr : Seq) (p : Bool) (octets : List ℕ) (effect : ℕ → Step) (F : ℕ → Timing → Timing) → ((n : ℕ) → Acts (effect n) (F n))
+      → Acts (MultipleFrame.information_in_7_8 t ns nr p octets effect) (informs (nat_lt t.n201 (length octets)) nr F)
+  information-acts ns nr p octets effect F h =
+      by-bit (nat_lt t.n201 (length octets)) (MultipleFrame.failed t code.O) (MultipleFrame.contents_in_7_8 t ns p octets then Words.by_number t nr effect) fails
+      (λ x. by_name (named x.a x.s nr) fails F x) (failed-acts code.O)
+      (both (MultipleFrame.contents_in_7_8 t ns p octets) (Words.by_number t nr effect) itself (λ x. by_name (named x.a x.s nr) fails F x) (contents-acts ns p octets)
+      (by-number nr effect F h))
+
+  pub supervisory-acts : (own : MultipleFrame.Particulars) (busy command pf : Bool) (nr : Seq) (effect : Bool → ℕ → Step) (F : ℕ → Timing → Timing)
+      → ((b : Bool) → Acts (own.told_of b) itself) → ((n : ℕ) → Acts (effect (MultipleFrame.is_final command pf) n) (F n))
+      → Acts (MultipleFrame.supervisory t own busy command pf nr effect) (supervises busy nr F)
+  supervisory-acts own busy command pf nr effect F told h =
+      let final = MultipleFrame.is_final command pf in
+      both (Words.peer_busy_is busy) (MultipleFrame.answered t command pf then own.told_of final then Words.by_number t nr (effect final)) (with_busy busy)
+      (λ x. by_name (named x.a x.s nr) fails F x) (record { acts = λ c. refl })
+      (both (MultipleFrame.answered t command pf) (own.told_of final then Words.by_number t nr (effect final)) itself (λ x. by_name (named x.a x.s nr) fails F x)
+      (answers (command && pf))
+      (both (own.told_of final) (Words.by_number t nr (effect final)) itself (λ x. by_name (named x.a x.s nr) fails F x) (told final)
+      (by-number nr (effect final) F h)))
+
+  -- What a valid N(R) does.
+  pub acknowledged-acts : (n : ℕ) → Acts (seven.acknowledged_in_7 n) (acknowledged n)
+  acknowledged-acts n =
+      by-choice (seven.is_all_sent n) (λ x. n == x.s) (λ c. refl) (Words.acknowledge n then Words.start T203) _ (λ x. starts T203 (acknowledges n x)) _
+      (record { acts = λ c. refl })
+      (by-choice (seven.is_beyond_acknowledged n) (λ x. nat_lt x.a n) (λ c. refl) (Words.acknowledge n then Words.start T200) nothing (λ x. starts T200 (acknowledges n x)) itself
+      (record { acts = λ c. refl }) (record { acts = λ c. refl }))
+
+  pub informed-acts : (n : ℕ) → Acts (seven.acknowledged_by_information_in_7 n) (informed n)
+  informed-acts n =
+      by-choice (λ l. l.peer_busy) (λ x. x.busy) (λ c. refl) (Words.acknowledge n) (seven.acknowledged_in_7 n) (acknowledges n) (acknowledged n) (record { acts = λ c. refl })
+      (acknowledged-acts n)
+
+  pub recovers-acts : (timer : LinkTimer) (final : Bool) (n : ℕ) → Acts (eight.acknowledged_in_8 timer final n) (recovers timer final n)
+  recovers-acts timer true n = record { acts = λ c. refl }
+  recovers-acts timer false n = record { acts = λ c. refl }
+
+  -- SABME in states 7 and 8, and UA in state 5
+  pub sabme-acts : (p : Bool) → Acts (MultipleFrame.sabme_in_7_8 t p) (λ x. with_busy false (begins x))
+  sabme-acts p = record { acts = λ c. go c (has_outstanding c.link) }
+    where
+      go : (c : Course) (b : Bool) → let d = (Words.send t (Words.response (Ua p)) then Words.clear_flags then Words.error t code.F) c in
+          timing ((Words.zero_numbers then Words.start T203 then Words.enter Established) (cond b ((Words.discard then Words.establish_indication t) d) d))
+          ≡ with_busy false (begins (timing c))
+      go c true = refl
+      go c false = refl
+
+  pub agreed-acts : Acts (five.frame_in_5 t [] (Ua true)) begins
+  agreed-acts = record { acts = λ c. go c (is_asked c.link) (has_outstanding c.link) }
+    where
+      go : (c : Course) (asked outstanding : Bool) →
+          timing ((Words.zero_numbers then Words.start T203 then Words.enter Established)
+          (cond asked (Words.establish_confirm t c) (cond outstanding ((Words.discard then Words.establish_indication t) c) c)))
+          ≡ begins (timing c)
+      go c true b = refl
+      go c false true = refl
+      go c false false = refl

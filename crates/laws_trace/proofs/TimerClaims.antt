@@ -1,0 +1,339 @@
+-- What an observer knows of a link, and when its timers are started anew: what each row comes to, over plain values.
+use Rattle.std.proofs.Common.{◌≡◌, ℕ, ◌+◌, ◌%◌, ◌≤◌, ◌<◌, ◌==◌, ◌&&◌, ◌||◌, Bool, true, false, cond, not, Option, Some, None, refl, sym, ap, ◌∙◌, subst, arith, eq-eqb, eqb-true, true≢false, ltb-true, ltb-false}
+use Rattle.std.specs.Prelude.{nat_lt}
+use Rattle.std.specs.Option.{option_map_or}
+use Rattle.lapd_frame.specs.declared.controls.Control.{Control}
+use Rattle.lapd_frame.specs.declared.controls.Control.TheVariants.{Information, ReceiveReady, ReceiveNotReady, Reject, Sabme, Ua}
+use Rattle.lapd_seq.specs.declared.numbers.Seq.{Seq}
+use Rattle.lapd_seq.specs.Circle.{named}
+use Rattle.lapd_seq.proofs.Callers.{seq-value}
+use Rattle.model_link.specs.declared.states.State.{State}
+use Rattle.model_link.specs.declared.states.State.TheVariants.{TeiAssigned, AwaitingEstablishment, AwaitingRelease, Established, TimerRecovery}
+use Rattle.model_link.specs.declared.timers.LinkTimer.{LinkTimer}
+use Rattle.model_link.specs.declared.timers.LinkTimer.TheVariants.{T200, T203}
+use Rattle.model_link.specs.Link.{state_number}
+use Rattle.model_link.specs.Told.{runs}
+use Rattle.model_link.proofs.SoundRows.{named-within}
+use Rattle.model_link.proofs.Taking.{named-is_seq}
+use Rattle.laws_trace.specs.TimersAreTimely.{Known, nothing_yet, number_heard, hears, is_state, renews, differ}
+use Rattle.laws_trace.proofs.TimerActs.{Timing, by_name, starts, begins, ends, awaits, fails, acknowledges, with_busy, informs, supervises, informed, recovers}
+use Rattle.laws_trace.proofs.TimerActs as acts
+
+-- What is known is true in states 7 and 8, and in the others nothing is kept in mind.
+pub record IsKnown (k : Known) (a s : ℕ) (busy : Bool) : Type 0 where
+  pub acknowledged : k.acknowledged ≡ a % 128
+  pub next : k.next ≡ s % 128
+  pub busy_is : k.busy ≡ busy
+
+abbrev pub Agrees : State → Known → ℕ → ℕ → Bool → Type 0
+Agrees TeiAssigned k a s busy = k ≡ nothing_yet
+Agrees AwaitingEstablishment k a s busy = k ≡ nothing_yet
+Agrees AwaitingRelease k a s busy = k ≡ nothing_yet
+Agrees Established k a s busy = IsKnown k a s busy
+Agrees TimerRecovery k a s busy = IsKnown k a s busy
+
+abbrev pub told_state : State → Option ℕ
+told_state state = Some (state_number state)
+
+-- What is known behind a control field that is heard, or behind none.
+abbrev pub heard_by : State → State → Known → Option Control → Known
+heard_by from to k o =
+    let in_7 = is_state 7 (told_state to) in
+    cond (in_7 || is_state 8 (told_state to)) (option_map_or (hears (is_state 8 (told_state from) && in_7) in_7 k) o k) nothing_yet
+
+abbrev pub anew_by : LinkTimer → State → State → Known → Option Control → Bool
+anew_by timer from to k o = differ (told_state from) (told_state to) || (is_state 7 (told_state from) && option_map_or (renews timer k) o false)
+
+-- A timer that ran, which had not just expired, and that runs afterwards, is started exactly where one of the causes is there.
+pub record Good (k : Known) (ran : LinkTimer → Bool) (x y : Timing) (o : Option Control) : Type 0 where
+  pub agrees : Agrees y.state (heard_by x.state y.state k o) y.a y.s y.busy
+  pub anew : (timer : LinkTimer) → ran timer ≡ true → runs timer y.running ≡ true → runs timer y.started ≡ anew_by timer x.state y.state k o
+
+abbrev pub ran_by : Option LinkTimer → LinkTimer → Bool
+ran_by r timer = runs timer r
+
+-- no timer but the one that runs
+abbrev pub Only : LinkTimer → (LinkTimer → Bool) → Type 0
+Only T200 ran = ran T203 ≡ false
+Only T203 ran = ran T200 ≡ false
+
+not-both : {X : Type 0} (b : Bool) → b ≡ false → b ≡ true → X
+not-both b none some = absurd (true≢false (sym some ∙ none))
+
+not-t203 : {X : Type 0} → runs T203 (Some T200) ≡ true → X
+not-t203 e = cc e
+
+not-t200 : {X : Type 0} → runs T200 (Some T203) ≡ true → X
+not-t200 e = cc e
+
+module _ (k : Known) (ran : LinkTimer → Bool) (a s : ℕ) (busy : Bool) (r : Option LinkTimer) where
+  abbrev pub at : State → Timing
+  at state = record { state = state; a = a; s = s; busy = busy; running = r; started = None }
+
+  -- No timer runs afterwards, or none but T200, which awaits the answer to DISC.
+  pub ended : (from : State) (o : Option Control) → Good k ran (at from) (ends (at from)) o
+  ended from o = record { agrees = refl; anew = λ timer was now. not-both false refl now }
+
+  pub stopped : (from : State) (o : Option Control) → Good k ran (at from) (record (acts.stops (at from)) { state = TeiAssigned }) o
+  stopped from o = record { agrees = refl; anew = λ timer was now. not-both false refl now }
+
+  pub released-7 : Good k ran (at Established) (record (awaits AwaitingRelease (at Established)) { s = a }) None
+  released-7 = record { agrees = refl; anew = go }
+    where
+      go : (timer : LinkTimer) → ran timer ≡ true → runs timer (Some T200) ≡ true → runs timer (Some T200) ≡ anew_by timer Established AwaitingRelease k None
+      go T200 was now = refl
+      go T203 was now = not-t203 now
+
+  pub released-8 : Good k ran (at TimerRecovery) (record (awaits AwaitingRelease (at TimerRecovery)) { s = a }) None
+  released-8 = record { agrees = refl; anew = go }
+    where
+      go : (timer : LinkTimer) → ran timer ≡ true → runs timer (Some T200) ≡ true → runs timer (Some T200) ≡ anew_by timer TimerRecovery AwaitingRelease k None
+      go T200 was now = refl
+      go T203 was now = not-t203 now
+
+  -- T200 or T203 expires in state 7.
+  pub expired-7 : IsKnown k a s busy → Good k ran (at Established) (awaits TimerRecovery (at Established)) None
+  expired-7 known = record { agrees = known; anew = go }
+    where
+      go : (timer : LinkTimer) → ran timer ≡ true → runs timer (Some T200) ≡ true → runs timer (Some T200) ≡ anew_by timer Established TimerRecovery k None
+      go T200 was now = refl
+      go T203 was now = not-t203 now
+
+  -- The link is down: no timer ran.
+  module _ (none : (timer : LinkTimer) → ran timer ≡ false) where
+    never : {X : Type 0} (timer : LinkTimer) → ran timer ≡ true → X
+    never timer some = not-both (ran timer) (none timer) some
+
+    pub same-4 : (o : Option Control) → Good k ran (at TeiAssigned) (at TeiAssigned) o
+    same-4 o = record { agrees = refl; anew = λ timer was now. never timer was }
+
+    pub sabme-4 : (p : Bool) → Good k ran (at TeiAssigned) (with_busy false (begins (at TeiAssigned))) (Some (Sabme p))
+    sabme-4 p = record { agrees = record { acknowledged = refl; next = refl; busy_is = refl }; anew = λ timer was now. never timer was }
+
+    pub asked-4 : Good k ran (at TeiAssigned) (fails (at TeiAssigned)) None
+    asked-4 = record { agrees = refl; anew = λ timer was now. never timer was }
+
+    -- T200 has expired, and awaits the answer to another command
+    pub again-5 : Good k ran (at AwaitingEstablishment) (awaits AwaitingEstablishment (at AwaitingEstablishment)) None
+    again-5 = record { agrees = refl; anew = λ timer was now. never timer was }
+
+    pub again-6 : Good k ran (at AwaitingRelease) (awaits AwaitingRelease (at AwaitingRelease)) None
+    again-6 = record { agrees = refl; anew = λ timer was now. never timer was }
+
+    pub again-8 : IsKnown k a s busy → Good k ran (at TimerRecovery) (awaits TimerRecovery (at TimerRecovery)) None
+    again-8 known = record { agrees = known; anew = λ timer was now. never timer was }
+
+  -- T200 runs, and it awaits an answer to SABME or DISC.
+  module _ (only : ran T203 ≡ false) where
+    by-t200 : (y : Timing) (from : State) (o : Option Control) → (ran T200 ≡ true → runs T200 y.running ≡ true → runs T200 y.started ≡ anew_by T200 from y.state k o)
+        → (timer : LinkTimer) → ran timer ≡ true → runs timer y.running ≡ true → runs timer y.started ≡ anew_by timer from y.state k o
+    by-t200 y from o h T200 was now = h was now
+    by-t200 y from o h T203 was now = not-both (ran T203) only was
+
+    pub same-5 : (o : Option Control) → Good k ran (at AwaitingEstablishment) (at AwaitingEstablishment) o
+    same-5 o = record { agrees = refl; anew = λ timer was now. refl }
+
+    pub agreed-5 : k ≡ nothing_yet → busy ≡ false → Good k ran (at AwaitingEstablishment) (begins (at AwaitingEstablishment)) (Some (Ua true))
+    agreed-5 none calm = record {
+      agrees = subst (λ k. IsKnown k 0 0 busy) (sym none) (record { acknowledged = refl; next = refl; busy_is = sym calm });
+      anew = by-t200 (begins (at AwaitingEstablishment)) AwaitingEstablishment (Some (Ua true)) (λ was now. not-t200 now);
+    }
+
+    pub same-6 : (o : Option Control) → Good k ran (at AwaitingRelease) (at AwaitingRelease) o
+    same-6 o = record { agrees = refl; anew = λ timer was now. refl }
+
+    -- State 8, in which T200 runs.
+    module _ (known : IsKnown k a s busy) where
+      pub same-8 : (o : Option Control) → option_map_or (hears false false k) o k ≡ k → Good k ran (at TimerRecovery) (at TimerRecovery) o
+      same-8 o same = record { agrees = subst (λ k. IsKnown k a s busy) (sym same) known; anew = λ timer was now. refl }
+
+      pub failed-8 : (b : Bool) (o : Option Control) → Good k ran (at TimerRecovery) (fails (with_busy b (at TimerRecovery))) o
+      failed-8 b o = record { agrees = refl; anew = by-t200 (fails (with_busy b (at TimerRecovery))) TimerRecovery o (λ was now. refl) }
+
+      pub sabme-8 : (p : Bool) → Good k ran (at TimerRecovery) (with_busy false (begins (at TimerRecovery))) (Some (Sabme p))
+      sabme-8 p = record {
+        agrees = record { acknowledged = refl; next = refl; busy_is = refl };
+        anew = by-t200 (with_busy false (begins (at TimerRecovery))) TimerRecovery (Some (Sabme p)) (λ was now. not-t200 now);
+      }
+
+      named-value : (nr : Seq) (n : ℕ) → named a s nr ≡ Some n → nr.value ≡ n % 128
+      named-value nr n is = seq-value nr n (named-is_seq a s n nr is)
+
+      pub informed-8 : (over : Bool) (ns nr : Seq) (p : Bool) → Good k ran (at TimerRecovery) (informs over nr acknowledges (at TimerRecovery)) (Some (Information ns nr p))
+      informed-8 true ns nr p = failed-8 busy (Some (Information ns nr p))
+      informed-8 false ns nr p = go (named a s nr) refl
+        where
+          go : (o : Option ℕ) → named a s nr ≡ o → Good k ran (at TimerRecovery) (by_name o fails acknowledges (at TimerRecovery)) (Some (Information ns nr p))
+          go None is = failed-8 busy (Some (Information ns nr p))
+          go (Some n) is =
+              record { agrees = record { acknowledged = named-value nr n is; next = known.next; busy_is = known.busy_is }; anew = λ timer was now. refl }
+
+      pub ready-8 : (final : Bool) (nr : Seq) (p : Bool) → Good k ran (at TimerRecovery) (supervises false nr (recovers T203 final) (at TimerRecovery)) (Some (ReceiveReady nr p))
+      ready-8 final nr p = go final (named a s nr) refl
+        where
+          go : (final : Bool) (o : Option ℕ) → named a s nr ≡ o
+              → Good k ran (at TimerRecovery) (by_name o fails (recovers T203 final) (with_busy false (at TimerRecovery))) (Some (ReceiveReady nr p))
+          go final None is = failed-8 false (Some (ReceiveReady nr p))
+          go true (Some n) is = record {
+            agrees = record { acknowledged = named-value nr n is; next = named-value nr n is; busy_is = refl };
+            anew = by-t200 (recovers T203 true n (with_busy false (at TimerRecovery))) TimerRecovery (Some (ReceiveReady nr p)) (λ was now. not-t200 now);
+          }
+          go false (Some n) is = record { agrees = record { acknowledged = named-value nr n is; next = known.next; busy_is = refl }; anew = λ timer was now. refl }
+
+      pub not-ready-8 : (final : Bool) (nr : Seq) (p : Bool) → Good k ran (at TimerRecovery) (supervises true nr (recovers T200 final) (at TimerRecovery)) (Some (ReceiveNotReady nr p))
+      not-ready-8 final nr p = go final (named a s nr) refl
+        where
+          go : (final : Bool) (o : Option ℕ) → named a s nr ≡ o
+              → Good k ran (at TimerRecovery) (by_name o fails (recovers T200 final) (with_busy true (at TimerRecovery))) (Some (ReceiveNotReady nr p))
+          go final None is = failed-8 true (Some (ReceiveNotReady nr p))
+          go true (Some n) is = record {
+            agrees = record { acknowledged = named-value nr n is; next = named-value nr n is; busy_is = refl };
+            anew = by-t200 (recovers T200 true n (with_busy true (at TimerRecovery))) TimerRecovery (Some (ReceiveNotReady nr p)) (λ was now. refl);
+          }
+          go false (Some n) is = record { agrees = record { acknowledged = named-value nr n is; next = known.next; busy_is = refl }; anew = λ timer was now. refl }
+
+      pub reject-8 : (final : Bool) (nr : Seq) (p : Bool) → Good k ran (at TimerRecovery) (supervises false nr (recovers T203 final) (at TimerRecovery)) (Some (Reject nr p))
+      reject-8 final nr p = go final (named a s nr) refl
+        where
+          go : (final : Bool) (o : Option ℕ) → named a s nr ≡ o
+              → Good k ran (at TimerRecovery) (by_name o fails (recovers T203 final) (with_busy false (at TimerRecovery))) (Some (Reject nr p))
+          go final None is = failed-8 false (Some (Reject nr p))
+          go true (Some n) is = record {
+            agrees = record { acknowledged = named-value nr n is; next = named-value nr n is; busy_is = refl };
+            anew = by-t200 (recovers T203 true n (with_busy false (at TimerRecovery))) TimerRecovery (Some (Reject nr p)) (λ was now. not-t200 now);
+          }
+          go false (Some n) is = record { agrees = record { acknowledged = named-value nr n is; next = known.next; busy_is = refl }; anew = λ timer was now. refl }
+
+  -- State 7: T200 runs where an acknowledgement is awaited, or the terminal is busy, else T203.
+  module _ (ordered : a ≤ s) (within : s ≤ a + 127) (known : IsKnown k a s busy) (idle : ran T203 ≡ true → (s ≡ a) × (busy ≡ false)) where
+    pub same-7 : (o : Option Control) → option_map_or (hears false true k) o k ≡ k → ((timer : LinkTimer) → option_map_or (renews timer k) o false ≡ false)
+        → Good k ran (at Established) (at Established) o
+    same-7 o same none = record { agrees = subst (λ k. IsKnown k a s busy) (sym same) known; anew = λ timer was now. sym (none timer) }
+
+    failing : (b : Bool) (o : Option Control) (timer : LinkTimer) → runs timer (Some T200) ≡ true → runs timer (Some T200) ≡ anew_by timer Established AwaitingEstablishment k o
+    failing b o T200 now = refl
+    failing b o T203 now = not-t203 now
+
+    pub failed-7 : (b : Bool) (o : Option Control) → Good k ran (at Established) (fails (with_busy b (at Established))) o
+    failed-7 b o = record { agrees = refl; anew = λ timer was now. failing b o timer now }
+
+    by-t203 : (o : Option Control) (timer : LinkTimer) → renews T203 k (Sabme true) ≡ true → option_map_or (renews T203 k) o false ≡ true → runs timer (Some T203) ≡ true
+        → runs timer (Some T203) ≡ anew_by timer Established Established k o
+    by-t203 o T200 h renewed now = not-t200 now
+    by-t203 o T203 h renewed now = sym renewed
+
+    by-t200-7 : (o : Option Control) (timer : LinkTimer) → option_map_or (renews T200 k) o false ≡ true → runs timer (Some T200) ≡ true
+        → runs timer (Some T200) ≡ anew_by timer Established Established k o
+    by-t200-7 o T203 renewed now = not-t203 now
+    by-t200-7 o T200 renewed now = sym renewed
+
+    pub sabme-7 : (p : Bool) → Good k ran (at Established) (with_busy false (begins (at Established))) (Some (Sabme p))
+    sabme-7 p = record {
+      agrees = record { acknowledged = refl; next = refl; busy_is = refl };
+      anew = λ timer was now. by-t203 (Some (Sabme p)) timer refl refl now;
+    }
+
+    value-7 : (nr : Seq) (n : ℕ) → named a s nr ≡ Some n → nr.value ≡ n % 128
+    value-7 nr n is = seq-value nr n (named-is_seq a s n nr is)
+
+    -- an N(R) that acknowledges an I-frame is another than the last; one that does not is the last
+    other-number : (nr : Seq) (n : ℕ) → named a s nr ≡ Some n → a < n → not (nr.value == k.acknowledged) ≡ true
+    other-number nr n is more = go (nr.value == k.acknowledged) refl
+      where
+        go : (b : Bool) → (nr.value == k.acknowledged) ≡ b → not b ≡ true
+        go false e = refl
+        go true e =
+            let same : n % 128 ≡ a % 128 = sym (value-7 nr n is) ∙ eqb-true nr.value k.acknowledged e ∙ known.acknowledged in
+            let high : n ≤ s = (named-within a s n nr is).1 in
+            absurd (omega (arith, same, more, high, within))
+
+    same-number : (nr : Seq) (n : ℕ) → named a s nr ≡ Some n → n ≡ a → not (nr.value == k.acknowledged) ≡ false
+    same-number nr n is same =
+        ap not (eq-eqb nr.value k.acknowledged (value-7 nr n is ∙ ap (λ n. n % 128) same ∙ sym known.acknowledged))
+
+    -- RR, and I while the terminal is not busy
+    module _ (o : Option Control) (nr : Seq) (again : Bool) (heard : option_map_or (hears false true k) o k ≡ number_heard nr.value false again k)
+        (t200_by : option_map_or (renews T200 k) o false ≡ not (nr.value == k.acknowledged)) (t203_by : option_map_or (renews T203 k) o false ≡ true) where
+      quiet-now : (n : ℕ) → named a s nr ≡ Some n → n ≡ a → (n == s) ≡ false → (timer : LinkTimer) → ran timer ≡ true → false ≡ option_map_or (renews timer k) o false
+      quiet-now n is same other T200 was = sym (t200_by ∙ same-number nr n is same)
+      quiet-now n is same other T203 was = absurd (true≢false (sym (eq-eqb n s (same ∙ sym (idle was).0)) ∙ other))
+
+      pub acknowledged-7 : (n : ℕ) → named a s nr ≡ Some n → Good k ran (at Established) (acts.acknowledged n (with_busy again (at Established))) o
+      acknowledged-7 n is = go (n == s) refl (nat_lt a n) refl
+        where
+          x : Timing
+          x = with_busy again (at Established)
+
+          numbers : (m : ℕ) → n ≡ m → IsKnown (option_map_or (hears false true k) o k) m s again
+          numbers m same =
+              subst (λ k. IsKnown k m s again) (sym heard)
+              (record { acknowledged = value-7 nr n is ∙ ap (λ n. n % 128) same; next = known.next; busy_is = refl })
+
+          go : (all : Bool) → (n == s) ≡ all → (more : Bool) → nat_lt a n ≡ more
+              → Good k ran (at Established) (cond all (starts T203 (acknowledges n x)) (cond more (starts T200 (acknowledges n x)) x)) o
+          go true e more f = record { agrees = numbers n refl; anew = λ timer was now. by-t203 o timer refl t203_by now }
+          go false e true f = record {
+            agrees = numbers n refl;
+            anew = λ timer was now. by-t200-7 o timer (t200_by ∙ other-number nr n is (ltb-true a n f)) now;
+          }
+          go false e false f =
+              let low : a ≤ n = (named-within a s n nr is).0 in
+              let high : n ≤ a = ltb-false a n f in
+              let same : n ≡ a = omega (arith, low, high) in
+              record { agrees = numbers a same; anew = λ timer was now. quiet-now n is same e timer was }
+
+    pub ready-7 : (nr : Seq) (p : Bool) → Good k ran (at Established) (supervises false nr acts.acknowledged (at Established)) (Some (ReceiveReady nr p))
+    ready-7 nr p = go (named a s nr) refl
+      where
+        go : (o : Option ℕ) → named a s nr ≡ o → Good k ran (at Established) (by_name o fails acts.acknowledged (with_busy false (at Established))) (Some (ReceiveReady nr p))
+        go None is = failed-7 false (Some (ReceiveReady nr p))
+        go (Some n) is = acknowledged-7 (Some (ReceiveReady nr p)) nr false refl refl refl n is
+
+    pub not-ready-7 : (nr : Seq) (p : Bool)
+        → Good k ran (at Established) (supervises true nr (λ n x. starts T200 (acknowledges n x)) (at Established)) (Some (ReceiveNotReady nr p))
+    not-ready-7 nr p = go (named a s nr) refl
+      where
+        go : (o : Option ℕ) → named a s nr ≡ o
+            → Good k ran (at Established) (by_name o fails (λ n x. starts T200 (acknowledges n x)) (with_busy true (at Established))) (Some (ReceiveNotReady nr p))
+        go None is = failed-7 true (Some (ReceiveNotReady nr p))
+        go (Some n) is = record {
+          agrees = record { acknowledged = value-7 nr n is; next = known.next; busy_is = refl };
+          anew = λ timer was now. by-t200-7 (Some (ReceiveNotReady nr p)) timer refl now;
+        }
+
+    pub reject-7 : (nr : Seq) (p : Bool)
+        → Good k ran (at Established) (supervises false nr (λ n x. record (starts T203 x) { a = n; s = n }) (at Established)) (Some (Reject nr p))
+    reject-7 nr p = go (named a s nr) refl
+      where
+        go : (o : Option ℕ) → named a s nr ≡ o
+            → Good k ran (at Established) (by_name o fails (λ n x. record (starts T203 x) { a = n; s = n }) (with_busy false (at Established))) (Some (Reject nr p))
+        go None is = failed-7 false (Some (Reject nr p))
+        go (Some n) is = record {
+          agrees = record { acknowledged = value-7 nr n is; next = value-7 nr n is; busy_is = refl };
+          anew = λ timer was now. by-t203 (Some (Reject nr p)) timer refl refl now;
+        }
+
+    pub informed-7 : (over : Bool) (ns nr : Seq) (p : Bool) → Good k ran (at Established) (informs over nr informed (at Established)) (Some (Information ns nr p))
+    informed-7 true ns nr p = failed-7 busy (Some (Information ns nr p))
+    informed-7 false ns nr p = go (named a s nr) refl
+      where
+        o : Option Control
+        o = Some (Information ns nr p)
+
+        -- the terminal is busy, so T200 runs
+        while-busy : busy ≡ true → (timer : LinkTimer) → ran timer ≡ true → false ≡ option_map_or (renews timer k) o false
+        while-busy is T200 was = sym (ap (λ b. not b && not (nr.value == k.acknowledged)) (known.busy_is ∙ is))
+        while-busy is T203 was = not-both busy (idle was).1 is
+
+        by-busy : (b : Bool) → busy ≡ b → (n : ℕ) → named a s nr ≡ Some n → Good k ran (at Established) (cond b (acknowledges n (at Established)) (acts.acknowledged n (at Established))) o
+        by-busy true is n names = record {
+          agrees = record { acknowledged = value-7 nr n names; next = known.next; busy_is = known.busy_is };
+          anew = λ timer was now. while-busy is timer was;
+        }
+        by-busy false is n names =
+            acknowledged-7 o nr busy (ap (λ b. number_heard nr.value false b k) known.busy_is)
+            (ap (λ b. not b && not (nr.value == k.acknowledged)) (known.busy_is ∙ is)) refl n names
+
+        go : (m : Option ℕ) → named a s nr ≡ m → Good k ran (at Established) (by_name m fails informed (at Established)) o
+        go None is = failed-7 busy o
+        go (Some n) is = by-busy busy refl n is

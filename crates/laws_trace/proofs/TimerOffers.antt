@@ -1,0 +1,145 @@
+-- What is known of a link, and its timers, over an offer; and what its orders start.
+use Rattle.std.proofs.Common.{◌≡◌, ℕ, ◌+◌, ◌%◌, ◌&&◌, ◌||◌, Bool, true, false, cond, List, [], ◌∷◌, ◌++◌, Option, Some, None, refl, sym, ap, ◌∙◌, subst, arith, eq-eqb, true≢false}
+use Rattle.std.specs.Prelude.{All, ◌==◌, not, nat_lt, length}
+use Rattle.std.specs.Option.{option_map_or, unwrap_or}
+use Rattle.std.proofs.lemmas.List.Elements.{All-head}
+use Rattle.lapd_frame.specs.declared.services.Service.{Service}
+use Rattle.lapd_frame.specs.declared.services.Service.TheVariants.{Call, Packet}
+use Rattle.lapd_frame.specs.declared.timers.Order.TheVariants.{Start, Stop}
+use Rattle.lapd_frame.specs.declared.timers.Timer.{Timer}
+use Rattle.lapd_frame.specs.Services.{same_service}
+use Rattle.lapd_seq.specs.Numbers.{seq}
+use Rattle.model_link.specs.declared.frames.ControlFrame.{ControlFrame}
+use Rattle.model_link.specs.declared.states.State.{State}
+use Rattle.model_link.specs.declared.states.State.TheVariants.{TeiAssigned, AwaitingEstablishment, AwaitingRelease, Established, TimerRecovery}
+use Rattle.model_link.specs.declared.terms.Terms.{Terms}
+use Rattle.model_link.specs.declared.timers.LinkTimer.{LinkTimer}
+use Rattle.model_link.specs.declared.timers.LinkTimer.TheVariants.{T200, T203}
+use Rattle.model_link.specs.Events as link
+use Rattle.model_link.specs.Link.{Link, outstanding}
+use Rattle.model_link.specs.Machine as links
+use Rattle.model_link.specs.Offers
+use Rattle.model_link.specs.Offers.{is_established}
+use Rattle.model_link.specs.Sound.{IsSound, IsWaitingFrame}
+use Rattle.model_link.specs.Steps.{Course, begun}
+use Rattle.model_link.specs.Timed.{is_same, obeyed}
+use Rattle.model_link.specs.Told.{Given, runs, timer_at}
+use Rattle.model_link.specs.Words
+use Rattle.laws_trace.specs.DataGoesOut.{Sent, sent_by}
+use Rattle.laws_trace.specs.TimersAreTimely.{Known, nothing_yet, is_state, sends}
+use Rattle.laws_trace.proofs.DataKnown.{none-sent}
+use Rattle.laws_trace.proofs.TimerActs.{Timing, timing}
+use Rattle.laws_trace.proofs.TimerClaims.{Agrees, told_state}
+
+-- What is known behind an I-frame that begins, or behind none.
+abbrev pub sent_known : State → Known → Option Sent → Known
+sent_known here k o = cond (is_state 7 (told_state here) || is_state 8 (told_state here)) (option_map_or (sends k) o k) nothing_yet
+
+pub record Offered (k : Known) (l : Link) (y : Timing) (o : Option Sent) : Type 0 where
+  pub state : y.state ≡ l.state
+  pub agrees : Agrees y.state (sent_known y.state k o) y.a y.s y.busy
+  pub quiet : (timer : LinkTimer) → runs timer l.running ≡ true → runs timer y.running ≡ true → runs timer y.started ≡ false
+
+abbrev pub given_sent : Given → Option Sent
+given_sent g = sent_by g.frame.control (unwrap_or g.contents [])
+
+pub same-known : (here : State) (k : Known) (a s : ℕ) (busy : Bool) → Agrees here k a s busy → Agrees here (sent_known here k None) a s busy
+same-known TeiAssigned k a s busy h = refl
+same-known AwaitingEstablishment k a s busy h = refl
+same-known AwaitingRelease k a s busy h = refl
+same-known Established k a s busy h = h
+same-known TimerRecovery k a s busy h = h
+
+one-more : (here : State) (k : Known) (a s : ℕ) (busy : Bool) (sent : Sent) → is_established here ≡ true → sent.ns ≡ s % 128 → Agrees here k a s busy
+    → Agrees here (sent_known here k (Some sent)) a (s + 1) busy
+one-more TeiAssigned k a s busy sent up ns h = absurd (true≢false (sym up))
+one-more AwaitingEstablishment k a s busy sent up ns h = absurd (true≢false (sym up))
+one-more AwaitingRelease k a s busy sent up ns h = absurd (true≢false (sym up))
+one-more TimerRecovery k a s busy sent up ns h = absurd (true≢false (sym up))
+one-more Established k a s busy sent up ns h =
+    record { acknowledged = h.acknowledged; next = ap (λ n. (n + 1) % 128) ns ∙ (let e : (s % 128 + 1) % 128 ≡ (s + 1) % 128 = omega arith in e); busy_is = h.busy_is }
+
+first-of : (a b c d : Bool) → (a && b && c && d) ≡ true → a ≡ true
+first-of true b c d e = refl
+first-of false b c d e = absurd (true≢false (sym e))
+
+module _ (t : Terms) (k : Known) (l : Link) (s : IsSound t l) (agrees : Agrees l.state k l.a l.s l.peer_busy) where
+  abbrev Claim : Course → Type 0
+  Claim c = Offered k l (timing c) (option_map_or given_sent (links.given_of t l c c.sent) None)
+
+  -- nothing but what goes changes
+  stays : (c : Course) → timing c ≡ timing (begun l) → option_map_or given_sent (links.given_of t l c c.sent) None ≡ None → Claim c
+  stays c same none =
+      subst (λ y. Offered k l y (option_map_or given_sent (links.given_of t l c c.sent) None)) (sym same)
+      (subst (Offered k l (timing (begun l))) (sym none)
+      (record { state = refl; agrees = same-known l.state k l.a l.s l.peer_busy agrees; quiet = λ timer was now. refl }))
+
+  by-waiting : (ws : List ControlFrame) → All (IsWaitingFrame t) ws → Claim (Offers.offer_among t ws (begun l))
+  unfolding seq
+  by-waiting (f ∷ fs) all =
+      stays (Offers.give_waiting f fs (begun l)) refl (none-sent f.control [] (All-head (IsWaitingFrame t) f fs all).without_contents)
+  by-waiting [] all = by-send (Offers.may_send_information t l) refl
+    where
+      sent : Course
+      sent = record (begun l) { link = record l { s = l.s + 1; pending = false }; sent = Some (record { frame = Offers.next_information l; contents = Offers.first_unsent l }) }
+
+      by-pending : (b : Bool) → Claim (cond b (Offers.send_acknowledgement (begun l)) (begun l))
+      by-pending true = stays (Offers.send_acknowledgement (begun l)) refl refl
+      by-pending false = stays (begun l) refl refl
+
+      went : is_established l.state ≡ true
+          → Agrees l.state (sent_known l.state k (Some (record { ns = l.s % 128; nr = l.r % 128; contents = unwrap_or (Offers.first_unsent l) [] }))) l.a (l.s + 1) l.peer_busy
+      went up = one-more l.state k l.a l.s l.peer_busy (record { ns = l.s % 128; nr = l.r % 128; contents = unwrap_or (Offers.first_unsent l) [] }) up refl agrees
+
+      newly : (timer : LinkTimer) → runs T200 l.running ≡ false → runs timer l.running ≡ true → runs timer (Some T200) ≡ true → runs timer (Some T200) ≡ false
+      newly T200 off was now = absurd (true≢false (sym was ∙ off))
+      newly T203 off was now = refl
+
+      by-timer : is_established l.state ≡ true → (b : Bool) → runs T200 l.running ≡ b → Claim (cond b sent (Words.start T200 sent))
+      by-timer up true on = record { state = refl; agrees = went up; quiet = λ timer was now. refl }
+      by-timer up false off = record { state = refl; agrees = went up; quiet = λ timer was now. newly timer off was now }
+
+      by-send : (b : Bool) → Offers.may_send_information t l ≡ b
+          → Claim (cond b (Offers.send_information (begun l)) (cond l.pending (Offers.send_acknowledgement (begun l)) (begun l)))
+      by-send true may = by-timer (first-of (is_established l.state) (not l.peer_busy) (nat_lt (outstanding l) t.k) (nat_lt l.s (length l.contents)) may) (runs T200 l.running) refl
+      by-send false may = by-pending l.pending
+
+  pub offer-good : Offered k l (timing (links.course t link.offer l)) (option_map_or given_sent (links.given t l) None)
+  offer-good = by-waiting l.waiting s.frames
+
+-- The orders of an event of a link start what the event started, if it runs.
+module _ (own other : Timer) (same : is_same own own ≡ true) (differs : is_same other own ≡ false) where
+  first : (p q x y : Bool) → obeyed own false (cond p (Start own ∷ []) (cond q (Stop own ∷ []) []) ++ cond x (Start other ∷ []) (cond y (Stop other ∷ []) [])) ≡ p
+  first true q true y = rw (differs, same) refl
+  first true q false true = rw (differs, same) refl
+  first true q false false = rw same refl
+  first false true true y = rw (differs, same) refl
+  first false true false true = rw (differs, same) refl
+  first false true false false = rw same refl
+  first false false true y = rw differs refl
+  first false false false true = rw differs refl
+  first false false false false = refl
+
+  last : (p q x y : Bool) → obeyed own false (cond x (Start other ∷ []) (cond y (Stop other ∷ []) []) ++ cond p (Start own ∷ []) (cond q (Stop own ∷ []) [])) ≡ p
+  last true q true y = rw (differs, same) refl
+  last true q false true = rw (differs, same) refl
+  last true q false false = rw same refl
+  last false true true y = rw (differs, same) refl
+  last false true false true = rw (differs, same) refl
+  last false true false false = rw same refl
+  last false false true y = rw differs refl
+  last false false false true = rw differs refl
+  last false false false false = refl
+
+its-own : (service : Service) (tei : ℕ) → (same_service service service && (tei == tei)) ≡ true
+its-own Call tei = eq-eqb tei tei refl
+its-own Packet tei = eq-eqb tei tei refl
+
+pub told-starts : (t : Terms) (e : link.Event) (l : Link) (timer : LinkTimer) → let c = links.course t e l in
+    obeyed (timer_at t timer) false (links.told t e l).orders ≡ (runs timer c.started && runs timer c.link.running)
+told-starts t e l T200 =
+    let c = links.course t e l in
+    first (timer_at t T200) (timer_at t T203) (its-own t.service t.tei) refl (runs T200 c.started && runs T200 c.link.running) _ _ _
+told-starts t e l T203 =
+    let c = links.course t e l in
+    last (timer_at t T203) (timer_at t T200) (its-own t.service t.tei) refl (runs T203 c.started && runs T203 c.link.running) _ _ _

@@ -1,0 +1,231 @@
+-- What is known of a link, and when its timers are started anew: each row of the tables, but for offers.
+use Rattle.std.proofs.Common.{◌≡◌, ℕ, ◌≤◌, ◌+◌, Bool, true, false, List, Option, Some, None, refl, sym, subst}
+use Rattle.std.specs.Prelude.{nat_lt, length}
+use Rattle.std.specs.Option.{option_map_or}
+use Rattle.lapd_frame.specs.declared.controls.Control.{Control}
+use Rattle.lapd_frame.specs.declared.controls.Control.TheVariants.{Information, ReceiveReady, ReceiveNotReady, Reject, Sabme, Disc, Ui, Ua, Dm, Frmr, Xid}
+use Rattle.lapd_frame.specs.declared.notes.ErrorCode.{ErrorCode}
+use Rattle.lapd_frame.specs.declared.notes.ErrorCode.TheVariants as code
+use Rattle.model_link.specs.declared.states.State.{State}
+use Rattle.model_link.specs.declared.states.State.TheVariants.{TeiAssigned, AwaitingEstablishment, AwaitingRelease, Established, TimerRecovery}
+use Rattle.model_link.specs.declared.terms.Terms.{Terms}
+use Rattle.model_link.specs.declared.timers.LinkTimer.{LinkTimer}
+use Rattle.model_link.specs.declared.timers.LinkTimer.TheVariants.{T200, T203}
+use Rattle.model_link.specs.Link.{Link}
+use Rattle.model_link.specs.Machine
+use Rattle.model_link.specs.MultipleFrame
+use Rattle.model_link.specs.Established as seven
+use Rattle.model_link.specs.TimerRecovery as eight
+use Rattle.model_link.specs.Steps.{Step, begun, nothing}
+use Rattle.model_link.specs.Words
+use Rattle.laws_trace.specs.TimersAreTimely.{Known, nothing_yet, renews}
+use Rattle.laws_trace.proofs.TimerActs as acts
+use Rattle.laws_trace.proofs.TimerActs.{Timing, timing, Acts, itself, either-bit, whichever}
+use Rattle.laws_trace.proofs.TimerClaims as claims
+use Rattle.laws_trace.proofs.TimerClaims.{IsKnown, Good}
+
+abbrev pub in_state : State → Link → Link
+in_state here l = record l { state = here }
+
+each-timer : (P : LinkTimer → Type 0) → P T200 → P T203 → (timer : LinkTimer) → P timer
+each-timer P x y T200 = x
+each-timer P x y T203 = y
+
+-- UI in any state
+unit-acts : (t : Terms) (octets : List ℕ) → Acts (Words.unit_data t octets) itself
+unit-acts t octets =
+    either-bit (nat_lt t.n201 (length octets)) Words.leave_unserved (Words.deliver_unit t octets) itself (record { acts = λ c. refl }) (record { acts = λ c. refl })
+
+module _ (t : Terms) (k : Known) (ran : LinkTimer → Bool) (l : Link) where
+  -- What holds of a link in each state.
+  abbrev pub Facts : State → Type 0
+  Facts TeiAssigned = (timer : LinkTimer) → ran timer ≡ false
+  Facts AwaitingEstablishment = (ran T203 ≡ false) × (k ≡ nothing_yet) × (l.peer_busy ≡ false)
+  Facts AwaitingRelease = ran T203 ≡ false
+  Facts Established = IsKnown k l.a l.s l.peer_busy × (l.a ≤ l.s) × (l.s ≤ l.a + 127) × (ran T203 ≡ true → (l.s ≡ l.a) × (l.peer_busy ≡ false))
+  Facts TimerRecovery = (ran T203 ≡ false) × IsKnown k l.a l.s l.peer_busy
+
+  abbrev at : State → Timing
+  at state = timing (begun (in_state state l))
+
+  abbrev Row : State → Step → Option Control → Type 0
+  Row here f o = Good k ran (at here) (timing (f (begun (in_state here l)))) o
+
+  moved : (here : State) (o : Option Control) (f : Step) (F : Timing → Timing) → Acts f F → Good k ran (at here) (F (at here)) o → Row here f o
+  moved here o f F h good = subst (λ y. Good k ran (at here) y o) (sym (h.acts (begun (in_state here l)))) good
+
+  -- State 4.
+  same-4 : ((timer : LinkTimer) → ran timer ≡ false) → (o : Option Control) → Good k ran (at TeiAssigned) (at TeiAssigned) o
+  same-4 none o = claims.same-4 k ran l.a l.s l.peer_busy l.running none o
+
+  in-4 : ((timer : LinkTimer) → ran timer ≡ false) → (b : Bool) (octets : List ℕ) (control : Control) → Row TeiAssigned (Machine.frame_in TeiAssigned t b octets control) (Some control)
+  in-4 none b octets (Sabme p) = claims.sabme-4 k ran l.a l.s l.peer_busy l.running none p
+  in-4 none b octets (Disc p) = same-4 none (Some (Disc p))
+  in-4 none b octets (Ua true) = same-4 none (Some (Ua true))
+  in-4 none b octets (Ua false) = same-4 none (Some (Ua false))
+  in-4 none b octets (Ui p) = moved TeiAssigned (Some (Ui p)) (Words.unit_data t octets) itself (unit-acts t octets) (same-4 none (Some (Ui p)))
+  in-4 none b octets (Xid p) = same-4 none (Some (Xid p))
+  in-4 none b octets (Dm p) = same-4 none (Some (Dm p))
+  in-4 none b octets (Frmr p) = same-4 none (Some (Frmr p))
+  in-4 none b octets (Information ns nr p) = same-4 none (Some (Information ns nr p))
+  in-4 none b octets (ReceiveReady nr p) = same-4 none (Some (ReceiveReady nr p))
+  in-4 none b octets (ReceiveNotReady nr p) = same-4 none (Some (ReceiveNotReady nr p))
+  in-4 none b octets (Reject nr p) = same-4 none (Some (Reject nr p))
+
+  -- State 5.
+  same-5 : ran T203 ≡ false → (o : Option Control) → Good k ran (at AwaitingEstablishment) (at AwaitingEstablishment) o
+  same-5 only o = claims.same-5 k ran l.a l.s l.peer_busy l.running only o
+
+  in-5 : Facts AwaitingEstablishment → (b : Bool) (octets : List ℕ) (control : Control)
+      → Row AwaitingEstablishment (Machine.frame_in AwaitingEstablishment t b octets control) (Some control)
+  in-5 facts b octets (Sabme p) = same-5 facts.0 (Some (Sabme p))
+  in-5 facts b octets (Disc p) = same-5 facts.0 (Some (Disc p))
+  in-5 facts b octets (Ua true) =
+      moved AwaitingEstablishment (Some (Ua true)) (Machine.frame_in AwaitingEstablishment t b octets (Ua true)) acts.begins (record { acts = (acts.agreed-acts t).acts })
+      (claims.agreed-5 k ran l.a l.s l.peer_busy l.running facts.0 facts.1 facts.2)
+  in-5 facts b octets (Ua false) = same-5 facts.0 (Some (Ua false))
+  in-5 facts b octets (Dm true) = claims.ended k ran l.a l.s l.peer_busy l.running AwaitingEstablishment (Some (Dm true))
+  in-5 facts b octets (Dm false) = same-5 facts.0 (Some (Dm false))
+  in-5 facts b octets (Ui p) = moved AwaitingEstablishment (Some (Ui p)) (Words.unit_data t octets) itself (unit-acts t octets) (same-5 facts.0 (Some (Ui p)))
+  in-5 facts b octets (Xid p) = same-5 facts.0 (Some (Xid p))
+  in-5 facts b octets (Frmr p) = same-5 facts.0 (Some (Frmr p))
+  in-5 facts b octets (Information ns nr p) = same-5 facts.0 (Some (Information ns nr p))
+  in-5 facts b octets (ReceiveReady nr p) = same-5 facts.0 (Some (ReceiveReady nr p))
+  in-5 facts b octets (ReceiveNotReady nr p) = same-5 facts.0 (Some (ReceiveNotReady nr p))
+  in-5 facts b octets (Reject nr p) = same-5 facts.0 (Some (Reject nr p))
+
+  -- State 6.
+  same-6 : ran T203 ≡ false → (o : Option Control) → Good k ran (at AwaitingRelease) (at AwaitingRelease) o
+  same-6 only o = claims.same-6 k ran l.a l.s l.peer_busy l.running only o
+
+  in-6 : ran T203 ≡ false → (b : Bool) (octets : List ℕ) (control : Control) → Row AwaitingRelease (Machine.frame_in AwaitingRelease t b octets control) (Some control)
+  in-6 only b octets (Sabme p) = same-6 only (Some (Sabme p))
+  in-6 only b octets (Disc p) = same-6 only (Some (Disc p))
+  in-6 only b octets (Ua true) = claims.stopped k ran l.a l.s l.peer_busy l.running AwaitingRelease (Some (Ua true))
+  in-6 only b octets (Ua false) = same-6 only (Some (Ua false))
+  in-6 only b octets (Dm true) = claims.stopped k ran l.a l.s l.peer_busy l.running AwaitingRelease (Some (Dm true))
+  in-6 only b octets (Dm false) = same-6 only (Some (Dm false))
+  in-6 only b octets (Ui p) = moved AwaitingRelease (Some (Ui p)) (Words.unit_data t octets) itself (unit-acts t octets) (same-6 only (Some (Ui p)))
+  in-6 only b octets (Xid p) = same-6 only (Some (Xid p))
+  in-6 only b octets (Frmr p) = same-6 only (Some (Frmr p))
+  in-6 only b octets (Information ns nr p) = same-6 only (Some (Information ns nr p))
+  in-6 only b octets (ReceiveReady nr p) = same-6 only (Some (ReceiveReady nr p))
+  in-6 only b octets (ReceiveNotReady nr p) = same-6 only (Some (ReceiveNotReady nr p))
+  in-6 only b octets (Reject nr p) = same-6 only (Some (Reject nr p))
+
+  -- State 7.
+  module _ (facts : Facts Established) where
+    same-7 : (o : Option Control) → option_map_or (Rattle.laws_trace.specs.TimersAreTimely.hears false true k) o k ≡ k
+        → option_map_or (renews T200 k) o false ≡ false → option_map_or (renews T203 k) o false ≡ false → Good k ran (at Established) (at Established) o
+    same-7 o same one two =
+        claims.same-7 k ran l.a l.s l.peer_busy l.running facts.1 facts.2 facts.0 facts.3 o same (each-timer (λ timer. option_map_or (renews timer k) o false ≡ false) one two)
+
+    failed-7 : (o : Option Control) → Good k ran (at Established) (acts.fails (at Established)) o
+    failed-7 o = claims.failed-7 k ran l.a l.s l.peer_busy l.running facts.1 facts.2 facts.0 facts.3 l.peer_busy o
+
+    unsolicited : (b : Bool) → Acts (seven.unsolicited t b) itself
+    unsolicited b = either-bit b (Words.error t code.A) nothing itself (record { acts = λ c. refl }) (record { acts = λ c. refl })
+
+    in-7 : (b : Bool) (octets : List ℕ) (control : Control) → Row Established (Machine.frame_in Established t b octets control) (Some control)
+    in-7 b octets (Information ns nr p) =
+        moved Established (Some (Information ns nr p)) (Machine.frame_in Established t b octets (Information ns nr p)) (acts.informs (nat_lt t.n201 (length octets)) nr acts.informed)
+        (acts.information-acts t ns nr p octets seven.acknowledged_by_information_in_7 acts.informed (acts.informed-acts t))
+        (claims.informed-7 k ran l.a l.s l.peer_busy l.running facts.1 facts.2 facts.0 facts.3 (nat_lt t.n201 (length octets)) ns nr p)
+    in-7 b octets (ReceiveReady nr p) =
+        moved Established (Some (ReceiveReady nr p)) (Machine.frame_in Established t b octets (ReceiveReady nr p)) (acts.supervises false nr acts.acknowledged)
+        (acts.supervisory-acts t (seven.particulars_in_7 t) false b p nr (seven.either_way seven.acknowledged_in_7) acts.acknowledged unsolicited (acts.acknowledged-acts t))
+        (claims.ready-7 k ran l.a l.s l.peer_busy l.running facts.1 facts.2 facts.0 facts.3 nr p)
+    in-7 b octets (ReceiveNotReady nr p) =
+        moved Established (Some (ReceiveNotReady nr p)) (Machine.frame_in Established t b octets (ReceiveNotReady nr p))
+        (acts.supervises true nr (λ n x. acts.starts T200 (acts.acknowledges n x)))
+        (acts.supervisory-acts t (seven.particulars_in_7 t) true b p nr (seven.either_way seven.acknowledged_by_rnr_in_7) (λ n x. acts.starts T200 (acts.acknowledges n x)) unsolicited
+        (λ n. record { acts = λ c. refl }))
+        (claims.not-ready-7 k ran l.a l.s l.peer_busy l.running facts.1 facts.2 facts.0 facts.3 nr p)
+    in-7 b octets (Reject nr p) =
+        moved Established (Some (Reject nr p)) (Machine.frame_in Established t b octets (Reject nr p)) (acts.supervises false nr (λ n x. record (acts.starts T203 x) { a = n; s = n }))
+        (acts.supervisory-acts t (seven.particulars_in_7 t) false b p nr (seven.either_way seven.acknowledged_by_rej_in_7) (λ n x. record (acts.starts T203 x) { a = n; s = n }) unsolicited
+        (λ n. record { acts = λ c. refl }))
+        (claims.reject-7 k ran l.a l.s l.peer_busy l.running facts.1 facts.2 facts.0 facts.3 nr p)
+    in-7 b octets (Sabme p) =
+        moved Established (Some (Sabme p)) (Machine.frame_in Established t b octets (Sabme p)) (λ x. acts.with_busy false (acts.begins x)) (acts.sabme-acts t p)
+        (claims.sabme-7 k ran l.a l.s l.peer_busy l.running facts.1 facts.2 facts.0 facts.3 p)
+    in-7 b octets (Disc p) = claims.ended k ran l.a l.s l.peer_busy l.running Established (Some (Disc p))
+    in-7 b octets (Ua f) =
+        moved Established (Some (Ua f)) (MultipleFrame.ua_in_7_8 t f) itself
+        (either-bit f (Words.error t code.C) (Words.error t code.D) itself (record { acts = λ c. refl }) (record { acts = λ c. refl })) (same-7 (Some (Ua f)) refl refl refl)
+    in-7 b octets (Dm true) = same-7 (Some (Dm true)) refl refl refl
+    in-7 b octets (Dm false) = failed-7 (Some (Dm false))
+    in-7 b octets (Frmr f) = failed-7 (Some (Frmr f))
+    in-7 b octets (Ui p) = moved Established (Some (Ui p)) (Words.unit_data t octets) itself (unit-acts t octets) (same-7 (Some (Ui p)) refl refl refl)
+    in-7 b octets (Xid p) = same-7 (Some (Xid p)) refl refl refl
+
+  -- State 8.
+  module _ (facts : Facts TimerRecovery) where
+    same-8 : (o : Option Control) → option_map_or (Rattle.laws_trace.specs.TimersAreTimely.hears false false k) o k ≡ k → Good k ran (at TimerRecovery) (at TimerRecovery) o
+    same-8 o same = claims.same-8 k ran l.a l.s l.peer_busy l.running facts.0 facts.1 o same
+
+    failed-8 : (o : Option Control) → Good k ran (at TimerRecovery) (acts.fails (at TimerRecovery)) o
+    failed-8 o = claims.failed-8 k ran l.a l.s l.peer_busy l.running facts.0 facts.1 l.peer_busy o
+
+    solicited : (b : Bool) → Acts (eight.solicited b) itself
+    solicited b = record { acts = λ c. refl }
+
+    in-8 : (b : Bool) (octets : List ℕ) (control : Control) → Row TimerRecovery (Machine.frame_in TimerRecovery t b octets control) (Some control)
+    in-8 b octets (Information ns nr p) =
+        moved TimerRecovery (Some (Information ns nr p)) (Machine.frame_in TimerRecovery t b octets (Information ns nr p))
+        (acts.informs (nat_lt t.n201 (length octets)) nr acts.acknowledges)
+        (acts.information-acts t ns nr p octets Words.acknowledge acts.acknowledges (λ n. record { acts = λ c. refl }))
+        (claims.informed-8 k ran l.a l.s l.peer_busy l.running facts.0 facts.1 (nat_lt t.n201 (length octets)) ns nr p)
+    in-8 b octets (ReceiveReady nr p) =
+        let final = MultipleFrame.is_final b p in
+        moved TimerRecovery (Some (ReceiveReady nr p)) (Machine.frame_in TimerRecovery t b octets (ReceiveReady nr p)) (acts.supervises false nr (acts.recovers T203 final))
+        (acts.supervisory-acts t (eight.particulars_in_8 t) false b p nr (eight.acknowledged_in_8 T203) (acts.recovers T203 final) solicited (acts.recovers-acts t T203 final))
+        (claims.ready-8 k ran l.a l.s l.peer_busy l.running facts.0 facts.1 final nr p)
+    in-8 b octets (ReceiveNotReady nr p) =
+        let final = MultipleFrame.is_final b p in
+        moved TimerRecovery (Some (ReceiveNotReady nr p)) (Machine.frame_in TimerRecovery t b octets (ReceiveNotReady nr p)) (acts.supervises true nr (acts.recovers T200 final))
+        (acts.supervisory-acts t (eight.particulars_in_8 t) true b p nr (eight.acknowledged_in_8 T200) (acts.recovers T200 final) solicited (acts.recovers-acts t T200 final))
+        (claims.not-ready-8 k ran l.a l.s l.peer_busy l.running facts.0 facts.1 final nr p)
+    in-8 b octets (Reject nr p) =
+        let final = MultipleFrame.is_final b p in
+        moved TimerRecovery (Some (Reject nr p)) (Machine.frame_in TimerRecovery t b octets (Reject nr p)) (acts.supervises false nr (acts.recovers T203 final))
+        (acts.supervisory-acts t (eight.particulars_in_8 t) false b p nr (eight.acknowledged_in_8 T203) (acts.recovers T203 final) solicited (acts.recovers-acts t T203 final))
+        (claims.reject-8 k ran l.a l.s l.peer_busy l.running facts.0 facts.1 final nr p)
+    in-8 b octets (Sabme p) =
+        moved TimerRecovery (Some (Sabme p)) (Machine.frame_in TimerRecovery t b octets (Sabme p)) (λ x. acts.with_busy false (acts.begins x)) (acts.sabme-acts t p)
+        (claims.sabme-8 k ran l.a l.s l.peer_busy l.running facts.0 facts.1 p)
+    in-8 b octets (Disc p) = claims.ended k ran l.a l.s l.peer_busy l.running TimerRecovery (Some (Disc p))
+    in-8 b octets (Ua f) =
+        moved TimerRecovery (Some (Ua f)) (MultipleFrame.ua_in_7_8 t f) itself
+        (either-bit f (Words.error t code.C) (Words.error t code.D) itself (record { acts = λ c. refl }) (record { acts = λ c. refl })) (same-8 (Some (Ua f)) refl)
+    in-8 b octets (Dm true) = failed-8 (Some (Dm true))
+    in-8 b octets (Dm false) = failed-8 (Some (Dm false))
+    in-8 b octets (Frmr f) = failed-8 (Some (Frmr f))
+    in-8 b octets (Ui p) = moved TimerRecovery (Some (Ui p)) (Words.unit_data t octets) itself (unit-acts t octets) (same-8 (Some (Ui p)) refl)
+    in-8 b octets (Xid p) = same-8 (Some (Xid p)) refl
+
+  -- Any frame, and what the grammar does not have.
+  pub by-frame : (here : State) → Facts here → (b : Bool) (octets : List ℕ) (control : Control) → Row here (Machine.frame_in here t b octets control) (Some control)
+  by-frame TeiAssigned facts b octets control = in-4 facts b octets control
+  by-frame AwaitingEstablishment facts b octets control = in-5 facts b octets control
+  by-frame AwaitingRelease facts b octets control = in-6 facts b octets control
+  by-frame Established facts b octets control = in-7 facts b octets control
+  by-frame TimerRecovery facts b octets control = in-8 facts b octets control
+
+  pub malformed : (here : State) → Facts here → (e : ErrorCode) → Row here (Machine.malformed_in here t e) None
+  malformed TeiAssigned facts e = same-4 facts None
+  malformed AwaitingEstablishment facts e = same-5 facts.0 None
+  malformed AwaitingRelease facts e = same-6 facts None
+  malformed Established facts e = failed-7 facts None
+  malformed TimerRecovery facts e = failed-8 facts None
+
+  -- Nothing of it changes.
+  pub unchanged : (here : State) → Facts here → (f : Step) → Acts f itself → Row here f None
+  unchanged TeiAssigned facts f h = moved TeiAssigned None f itself h (same-4 facts None)
+  unchanged AwaitingEstablishment facts f h = moved AwaitingEstablishment None f itself h (same-5 facts.0 None)
+  unchanged AwaitingRelease facts f h = moved AwaitingRelease None f itself h (same-6 facts None)
+  unchanged Established facts f h = moved Established None f itself h (same-7 facts None refl refl refl)
+  unchanged TimerRecovery facts f h = moved TimerRecovery None f itself h (same-8 facts None refl)
+
+  nothing-acts : Acts nothing itself
+  nothing-acts = record { acts = λ c. refl }

@@ -1,0 +1,105 @@
+-- What is known of a link, and when its timers are started: one event of a line.
+use Rattle.std.proofs.Common.{◌≡◌, ℕ, ◌||◌, Bool, true, false, ◌++◌, map, Option, Some, None, option_map, refl, ap, ◌∙◌}
+use Rattle.std.specs.Prelude.{fold, option_to_list}
+use Rattle.std.specs.List.{list_any}
+use Rattle.std.specs.Option.{option_map_or}
+use Rattle.lapd_bits.specs.Stream as stream
+use Rattle.lapd_frame.specs.declared.controls.Control.{Control}
+use Rattle.lapd_frame.specs.declared.services.Service.{Service}
+use Rattle.model_link.specs.declared.timers.LinkTimer.{LinkTimer}
+use Rattle.model_line.specs.declared.config.Config.{Config}
+use Rattle.model_line.specs.Event.{Event, octet, expiry, request, pull, Answer, told, refused, pulled}
+use Rattle.model_line.specs.Line.{Line}
+use Rattle.model_line.specs.Octet.{gained}
+use Rattle.model_line.specs.Pull.{Taken, begun}
+use Rattle.model_line.specs.Request.{Request}
+use Rattle.model_card.specs.Pulled.{frame_taken, octet_in}
+use Rattle.laws_trace.specs.DataGoesOut.{Sent}
+use Rattle.laws_trace.specs.Deliveries.{frame_of as frame_heard}
+use Rattle.laws_trace.specs.TimersAreTimely.{Known, hears, sends, control_in, learns, renews, renews_by}
+use Rattle.laws_trace.specs.Trace as traces
+use Rattle.laws_trace.specs.Trace.{Seen, seen, seen_told, seen_granted}
+use Rattle.laws_trace.proofs.DataGoesOut.{sent_of, sent_with}
+use Rattle.laws_trace.proofs.Deliveries.{frame_by}
+
+-- What is seen of an event: what is learned by it.
+module _ (c : Config) (service : Service) (tei : ℕ) (k : Known) where
+  abbrev by_control : Bool → Bool → Option Control → Known
+  by_control r i o = option_map_or (hears r i k) o k
+
+  told-learns : (r i : Bool) (k : Known) (a : Answer) → fold (learns c service tei r i) k (seen_told a) ≡ k
+  told-learns r i k (told t) = refl
+  told-learns r i k (refused why) = refl
+  told-learns r i k (pulled value is_begun orders) = refl
+
+  octet-learns : (r i : Bool) (o : Option stream.Event) (a : Answer)
+      → fold (learns c service tei r i) k (map traces.heard (option_to_list o) ++ seen_told a) ≡ by_control r i (control_in service tei (option_map_or (frame_heard c) o None))
+  octet-learns r i None a = told-learns r i k a
+  octet-learns r i (Some e) a = told-learns r i (by_control r i (control_in service tei (frame_heard c e))) a
+
+  asked-learns : (r i : Bool) (asked : Request) (a : Answer) → fold (learns c service tei r i) k (seen_granted asked a ++ seen_told a) ≡ k
+  asked-learns r i asked (told t) = refl
+  asked-learns r i asked (refused why) = refl
+  asked-learns r i asked (pulled value is_begun orders) = refl
+
+  put-learns : (r i : Bool) (k : Known) (a : Answer) → fold (learns c service tei r i) k (map traces.put (octet_in a)) ≡ k
+  put-learns r i k (told t) = refl
+  put-learns r i k (refused why) = refl
+  put-learns r i k (pulled value is_begun orders) = refl
+
+  pull-learns : (r i : Bool) (o : Option Taken) (a : Answer)
+      → fold (learns c service tei r i) k (map traces.begun (option_to_list (option_map frame_taken o)) ++ map traces.put (octet_in a)) ≡ option_map_or (sends k) (sent_with c service tei o) k
+  pull-learns r i None a = put-learns r i k a
+  pull-learns r i (Some t) a = put-learns r i (option_map_or (sends k) (sent_of c service tei (frame_taken t)) k) a
+
+  -- and whether a timer is started anew
+  or-false : (b : Bool) → (b || false) ≡ b
+  or-false true = refl
+  or-false false = refl
+
+  told-renews : (timer : LinkTimer) (a : Answer) → list_any (renews_by c service tei timer k) (seen_told a) ≡ false
+  told-renews timer (told t) = refl
+  told-renews timer (refused why) = refl
+  told-renews timer (pulled value is_begun orders) = refl
+
+  octet-renews : (timer : LinkTimer) (o : Option stream.Event) (a : Answer) → list_any (renews_by c service tei timer k) (map traces.heard (option_to_list o) ++ seen_told a)
+      ≡ option_map_or (renews timer k) (control_in service tei (option_map_or (frame_heard c) o None)) false
+  octet-renews timer None a = told-renews timer a
+  octet-renews timer (Some e) a =
+      ap (λ b. option_map_or (renews timer k) (control_in service tei (frame_heard c e)) false || b) (told-renews timer a)
+      ∙ or-false (option_map_or (renews timer k) (control_in service tei (frame_heard c e)) false)
+
+  asked-renews : (timer : LinkTimer) (asked : Request) (a : Answer) → list_any (renews_by c service tei timer k) (seen_granted asked a ++ seen_told a) ≡ false
+  asked-renews timer asked (told t) = refl
+  asked-renews timer asked (refused why) = refl
+  asked-renews timer asked (pulled value is_begun orders) = refl
+
+  pull-renews : (timer : LinkTimer) (o : Option Taken) (a : Answer)
+      → list_any (renews_by c service tei timer k) (map traces.begun (option_to_list (option_map frame_taken o)) ++ map traces.put (octet_in a)) ≡ false
+  pull-renews timer None (told t) = refl
+  pull-renews timer None (refused why) = refl
+  pull-renews timer None (pulled value is_begun orders) = refl
+  pull-renews timer (Some t) (told u) = refl
+  pull-renews timer (Some t) (refused why) = refl
+  pull-renews timer (Some t) (pulled value is_begun orders) = refl
+
+  abbrev pub sent_at : Event → Line → Option Sent
+  sent_at pull l = sent_with c service tei (begun c l)
+  sent_at (octet value) l = None
+  sent_at (expiry timer) l = None
+  sent_at (request r) l = None
+
+  pub seen-learns : (e : Event) (l : Line) (a : Answer) (r i : Bool)
+      → fold (learns c service tei r i) k (seen c e l a)
+      ≡ option_map_or (sends k) (sent_at e l) (option_map_or (hears r i k) (control_in service tei (frame_by c e l)) k)
+  seen-learns (octet value) l a r i = octet-learns r i (gained c.n201 l.received value) a
+  seen-learns (expiry timer) l a r i = told-learns r i k a
+  seen-learns (request asked) l a r i = asked-learns r i asked a
+  seen-learns pull l a r i = pull-learns r i (begun c l) a
+
+  pub seen-renews : (e : Event) (l : Line) (a : Answer) (timer : LinkTimer)
+      → list_any (renews_by c service tei timer k) (seen c e l a) ≡ option_map_or (renews timer k) (control_in service tei (frame_by c e l)) false
+  seen-renews (octet value) l a timer = octet-renews timer (gained c.n201 l.received value) a
+  seen-renews (expiry other) l a timer = told-renews timer a
+  seen-renews (request asked) l a timer = asked-renews timer asked a
+  seen-renews pull l a timer = pull-renews timer (begun c l) a

@@ -1,0 +1,204 @@
+-- The timers of a link are started as they are due: each event of a line.
+use Rattle.std.proofs.Common.{◌≡◌, ℕ, ◌&&◌, ◌||◌, not, Bool, true, false, cond, Option, Some, None, refl, sym, ap, ◌∙◌, subst, true≢false, inl, inr}
+use Rattle.std.specs.Option.{option_map_or}
+use Rattle.lapd_frame.specs.declared.controls.Control.{Control}
+use Rattle.lapd_frame.specs.declared.services.Service.{Service}
+use Rattle.lapd_frame.specs.declared.timers.Timer.{Timer}
+use Rattle.lapd_tei.proofs.Tables.{place_of-is, is_on-at}
+use Rattle.laws_two_links.specs.Needed.{HasItsTimer}
+use Rattle.model_link.specs.declared.states.State.{State}
+use Rattle.model_link.specs.declared.states.State.TheVariants.{TeiAssigned, AwaitingEstablishment, AwaitingRelease, Established, TimerRecovery}
+use Rattle.model_link.specs.declared.terms.Terms.{Terms}
+use Rattle.model_link.specs.declared.timers.LinkTimer.{LinkTimer}
+use Rattle.model_link.specs.declared.timers.LinkTimer.TheVariants.{T200, T203}
+use Rattle.model_link.specs.Events as link
+use Rattle.model_link.specs.Link.{Link}
+use Rattle.model_link.specs.Machine as links
+use Rattle.model_link.specs.Sound as link_sound
+use Rattle.model_link.specs.Timed.{is_same, obeyed}
+use Rattle.model_link.specs.Told.{runs, timer_at}
+use Rattle.model_line.specs.declared.config.Config.{Config}
+use Rattle.model_line.specs.Event.{Event, octet, expiry, request, pull, Answer}
+use Rattle.model_line.specs.Laws.{orders_in}
+use Rattle.model_line.specs.Line.{Line, link_of, place_in, has_tei, state_of, terms}
+use Rattle.model_line.specs.Machine.{after, answer}
+use Rattle.model_line.specs.Sound.{IsInRange, IsSound}
+use Rattle.laws_line.specs.Steady.{timer_of}
+use Rattle.laws_line.specs.Timers.{is_needed, left_by, HaveTheirTimers}
+use Rattle.laws_line.proofs.TimersFollow.{followed, timely-line}
+use Rattle.laws_trace.specs.TimersAreTimely.{Known, control_in, is_state, renews, differ, is_anew}
+use Rattle.laws_trace.specs.Trace.{seen}
+use Rattle.laws_trace.proofs.Deliveries.{frame_by}
+use Rattle.laws_trace.proofs.OneLink.{HasOne, HasNone, Goes, event-goes}
+use Rattle.laws_trace.proofs.TimerActs.{timing}
+use Rattle.laws_trace.proofs.TimerClaims.{told_state, anew_by}
+use Rattle.laws_trace.proofs.TimerEvents.{control_of, event-good}
+use Rattle.laws_trace.proofs.TimerOffers.{Offered, given_sent, told-starts}
+use Rattle.laws_trace.proofs.TimersOfLine.{seen-renews}
+use Rattle.laws_trace.proofs.TimersOfEvent as events
+use Rattle.laws_trace.proofs.TimersOfEvent.{IsTrueOf, state-on, off-fresh, needed-is}
+
+and-true : (b : Bool) → (b && true) ≡ b
+and-true true = refl
+and-true false = refl
+
+module _ (c : Config) (ranged : IsInRange c) (l : Line) (s : IsSound c l) (timed : HaveTheirTimers l) (service : Service) (tei : ℕ) (k : Known)
+    (agrees : IsTrueOf service tei k l) (e : Event) where
+  abbrev a : Answer
+  a = answer c e l
+
+  abbrev t : Terms
+  t = terms c service tei
+
+  abbrev own : Link
+  own = link_of service tei l
+
+  abbrev next : Link
+  next = link_of service tei (after c e l)
+
+  abbrev next_timed : HaveTheirTimers (after c e l)
+  next_timed = timely-line c e l ranged s timed
+
+  abbrev One : Type 0
+  One = HasOne c service tei e l (after c e l) (answer c e l)
+
+  sound : One → link_sound.IsSound t own
+  sound x = events.sound c ranged l s timed service tei k agrees e x
+
+  range : One → link_sound.IsInRange t
+  range x = events.range c ranged l s timed service tei k agrees e x
+
+  own-timed : (place : ℕ) → place_in l tei ≡ Some place → HasItsTimer own
+  own-timed place is = events.own-timed c ranged l s timed service tei k agrees e place is
+
+  offers : One → Offered k own (timing (links.course t link.offer own)) (option_map_or given_sent (links.given t own) None)
+  offers x = events.offers c ranged l s timed service tei k agrees e x
+
+  -- When a timer is started.
+  module _ (timer : LinkTimer) where
+    abbrev its : Timer
+    its = timer_of service tei timer
+
+    abbrev was : Bool
+    was = left_by e its (is_needed its l)
+
+    abbrev is_due : Bool
+    is_due = is_anew c service tei timer k (state_of service tei l) (state_of service tei (after c e l)) (seen c e l a)
+
+    placed-if : (x : Line) → HaveTheirTimers x → is_needed its x ≡ true → (place : ℕ) × (place_in x tei ≡ Some place)
+    placed-if x h needs = go (place_in x tei) refl
+      where
+        go : (o : Option ℕ) → place_in x tei ≡ o → (place : ℕ) × (place_in x tei ≡ Some place)
+        go (Some place) on = (place, on)
+        go None off = absurd (true≢false (sym needs ∙ needed-is service tei x h timer ∙ ap (λ (y : Link). runs timer y.running) (off-fresh service tei x off)))
+
+    on-line : (x : Line) (place : ℕ) → place_in x tei ≡ Some place → has_tei tei x ≡ true
+    on-line x place on = is_on-at x.management.places place tei (place_of-is x.management.places tei place on).1
+
+    -- a timer that ran was needed
+    ran-needed : (e : Event) (b : Bool) → left_by e its b ≡ true → b ≡ true
+    ran-needed (expiry other) b h = go (is_same other its) h
+      where
+        go : (same : Bool) → cond same false b ≡ true → b ≡ true
+        go true h = absurd (true≢false (sym h))
+        go false h = h
+    ran-needed (octet value) b h = h
+    ran-needed (request r) b h = h
+    ran-needed pull b h = h
+
+    differ-same : (state : State) → differ (told_state state) (told_state state) ≡ false
+    differ-same TeiAssigned = refl
+    differ-same AwaitingEstablishment = refl
+    differ-same AwaitingRelease = refl
+    differ-same Established = refl
+    differ-same TimerRecovery = refl
+
+    and-false : (b : Bool) → (b && false) ≡ false
+    and-false true = refl
+    and-false false = refl
+
+    due-so : (place there : ℕ) → place_in l tei ≡ Some place → place_in (after c e l) tei ≡ Some there → (to : State) → next.state ≡ to → (o : Option Control)
+        → control_in service tei (frame_by c e l) ≡ o → is_due ≡ anew_by timer own.state to k o
+    due-so place there on stays to is o control =
+        ap (λ p. is_anew c service tei timer k p (state_of service tei (after c e l)) (seen c e l a)) (state-on service tei l place on)
+        ∙ ap (λ p. is_anew c service tei timer k (told_state own.state) p (seen c e l a)) (state-on service tei (after c e l) there stays ∙ ap told_state is)
+        ∙ ap (λ b. differ (told_state own.state) (told_state to) || (is_state 7 (told_state own.state) && b)) (seen-renews c service tei k e l a timer ∙ ap (λ o. option_map_or (renews timer k) o false) control)
+
+    none-due : (place there : ℕ) → place_in l tei ≡ Some place → place_in (after c e l) tei ≡ Some there → next.state ≡ own.state
+        → control_in service tei (frame_by c e l) ≡ None → is_due ≡ false
+    none-due place there on stays same control =
+        due-so place there on stays own.state same None control
+        ∙ ap (λ b. b || (is_state 7 (told_state own.state) && false)) (differ-same own.state) ∙ and-false (is_state 7 (told_state own.state))
+
+    abbrev Started : Type 0
+    Started = was ≡ true → is_needed its (after c e l) ≡ true → obeyed its false (orders_in a) ≡ is_due
+
+    none-started : HasNone c service tei e l (after c e l) a → Started
+    none-started x ran runs_on =
+        let here = placed-if l timed (ran-needed e (is_needed its l) ran) in
+        let there = placed-if (after c e l) next_timed runs_on in
+        let same = x.stays (on-line l here.0 here.1) (on-line (after c e l) there.0 there.1) in
+        x.orders timer ∙ sym (none-due here.0 there.0 here.1 there.1 (ap (λ (y : Link). y.state) same) (events.no-control c ranged l s timed service tei k agrees e x here.0 here.1))
+
+    one-started : HasOne c service tei e l (after c e l) a → Started
+    one-started x ran runs_on =
+        let there = placed-if (after c e l) next_timed runs_on in
+        let needs : is_needed its l ≡ runs timer own.running = needed-is service tei l timed timer in
+        let runs_later : runs timer (links.after t x.event own).running ≡ true =
+        ap (λ (y : Link). runs timer y.running) (sym x.is) ∙ sym (needed-is service tei (after c e l) next_timed timer) ∙ runs_on in
+        let starts : obeyed its false (orders_in a) ≡ runs timer (links.course t x.event own).started =
+        ap (obeyed its false) x.orders ∙ ap (λ u. obeyed u false (links.told t x.event own).orders) (at-own timer) ∙ told-starts t x.event own timer
+        ∙ ap (λ b. runs timer (links.course t x.event own).started && b) runs_later ∙ and-true (runs timer (links.course t x.event own).started) in
+        starts ∙ events.either c ranged l s timed service tei k agrees e x
+        (λ o.
+        let g = event-good t k own (sound x) (range x).k_high (own-timed x.place x.placed) agrees x.event o.no_offer o.no_cleared in
+        g.anew timer (sym (o.left timer) ∙ ap (left_by e its) (sym needs) ∙ ran) runs_later
+        ∙ sym (due-so x.place there.0 x.placed there.1 (links.after t x.event own).state (ap (λ (y : Link). y.state) x.is) (control_of x.event) o.control))
+        (λ is offered.
+        let own_ran : runs timer own.running ≡ true = sym needs ∙ ap (λ e. left_by e its (is_needed its l)) (sym is) ∙ ran in
+        ap (λ event. runs timer (links.course t event own).started) offered
+        ∙ (offers x).quiet timer own_ran (ap (λ event. runs timer (links.after t event own).running) (sym offered) ∙ runs_later)
+        ∙ sym (none-due x.place there.0 x.placed there.1 (ap (λ (y : Link). y.state) (x.is ∙ ap (λ event. links.after t event own) offered) ∙ (offers x).state)
+        (ap (λ e. control_in service tei (frame_by c e l)) is)))
+      where
+        at-own : (timer : LinkTimer) → timer_of service tei timer ≡ timer_at t timer
+        at-own T200 = refl
+        at-own T203 = refl
+
+    started : Started
+    started = go (event-goes c e l service tei s)
+      where
+        go : Goes c service tei e l (after c e l) a → Started
+        go (inl x) = none-started x
+        go (inr x) = one-started x
+
+    -- where it does not run afterwards, it is not started
+    never-started : was ≡ true → is_needed its (after c e l) ≡ false → obeyed its false (orders_in a) ≡ false
+    never-started ran off = go (event-goes c e l service tei s)
+      where
+        at-own : (timer : LinkTimer) → timer_of service tei timer ≡ timer_at t timer
+        at-own T200 = refl
+        at-own T203 = refl
+
+        go : Goes c service tei e l (after c e l) a → obeyed its false (orders_in a) ≡ false
+        go (inl x) = x.orders timer
+        go (inr x) =
+            ap (obeyed its false) x.orders ∙ ap (λ u. obeyed u false (links.told t x.event own).orders) (at-own timer) ∙ told-starts t x.event own timer
+            ∙ ap (λ b. runs timer (links.course t x.event own).started && b)
+            (ap (λ (y : Link). runs timer y.running) (sym x.is) ∙ sym (needed-is service tei (after c e l) next_timed timer) ∙ off)
+            ∙ and-false (runs timer (links.course t x.event own).started)
+
+    abbrev IsStarted : Bool → Type 0
+    IsStarted ran = obeyed its false (orders_in a) ≡ (obeyed its ran (orders_in a) && (not ran || is_due))
+
+    pub event-started : IsStarted was
+    event-started = go was refl (is_needed its (after c e l)) refl
+      where
+        go : (b : Bool) → was ≡ b → (d : Bool) → is_needed its (after c e l) ≡ d → IsStarted was
+        go false is d on = subst IsStarted (sym is) (sym (and-true (obeyed its false (orders_in a))))
+        go true is false off =
+            let post : obeyed its was (orders_in a) ≡ false = followed c e l its ranged s timed ∙ off in
+            never-started is off ∙ ap (λ b. b && (not was || is_due)) (sym post)
+        go true is true on =
+            let post : obeyed its was (orders_in a) ≡ true = followed c e l its ranged s timed ∙ on in
+            started is on ∙ sym (ap (λ b. b && (not was || is_due)) post ∙ ap (λ b. not b || is_due) is)

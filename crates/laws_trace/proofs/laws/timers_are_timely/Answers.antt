@@ -1,0 +1,9 @@
+-- Hand-written answers for `timers_are_timely`.
+use Rattle.laws_trace.proofs.TimersAreTimely.{timers-run, timers-are-started}
+use Rattle.laws_trace.proofs.laws.timers_are_timely.Goals as goal
+
+pub returns-clause-run : goal.returns-clause-run
+returns-clause-run c = λ config events number ranged all within. timers-run config events number ranged all within
+
+pub returns-clause-started : goal.returns-clause-started
+returns-clause-started c = λ config events number ranged all within. timers-are-started config events number ranged all within

@@ -1,0 +1,54 @@
+-- Worked values: messages of TEI management that are owed and that begin, and ones that break the laws.
+use Rattle.std.specs.Prelude.{◌≡◌, List, [], ◌∷◌, ◌++◌, map, None, refl}
+use Rattle.std.proofs.lemmas.List.Elements.{All-head}
+use Rattle.lapd_bits.specs.Bits.{low_bits}
+use Rattle.lapd_frame.specs.declared.addresses.Side.TheVariants.{Network}
+use Rattle.lapd_frame.specs.declared.notes.Note.TheVariants.{Assigned}
+use Rattle.lapd_frame.specs.declared.timers.Timer.TheVariants.{T201}
+use Rattle.lapd_frame.specs.Reading.{reading, header_of, control_of, unnumbered_of}
+use Rattle.lapd_tei.specs.declared.messages.Message.TheVariants.{IdentityAssigned, IdentityCheckRequest}
+use Rattle.lapd_tei.specs.Events as teis
+use Rattle.lapd_tei.specs.Messages.{frame_of}
+use Rattle.model_line.specs.Event.{expiry}
+use Rattle.model_line.specs.Machine as lines
+use Rattle.model_line.specs.Request.{Assign, Check}
+use Rattle.model_card.specs.Card.{fresh}
+use Rattle.model_card.specs.Event.{Event, at}
+use Rattle.model_card.specs.Run.{moments}
+use Rattle.laws_card.specs.Worked.{usual, on_0, hears}
+use Rattle.laws_trace.specs.Managing.{none_on, owed_through}
+use Rattle.laws_trace.specs.MessagesAreOwed.{messages_begun, owed}
+use Rattle.laws_trace.specs.TeisAgree.{IsTrue, AgreeThrough}
+use Rattle.laws_trace.specs.Trace.{noted, trace_of, IsFront}
+use Rattle.laws_trace.specs.WorkedUnits.{pulls}
+
+-- A terminal asks for a TEI by Ri 0x1234: the lowest is owed to it, and begins.
+abbrev asked : List Event
+asked =
+    hears 0x7E ∷ hears 0x7C ∷ hears 0xDF ∷ hears 0x17 ∷ hears 0x78 ∷ hears 0x90 ∷ hears 0xA0 ∷ hears 0x09 ∷ hears 0xF8 ∷ hears 0x6E ∷ hears 0xA1
+    ∷ hears 0xE1 ∷ hears 0xF7 ∷ []
+
+assigned_owed : owed usual 0 none_on (moments (fresh usual) asked) ≡ IdentityAssigned 0x1234 64 ∷ []
+unfolding moments owed owed_through lines.after lines.answer lines.takes_slot teis.course teis.refusal low_bits reading header_of control_of unnumbered_of
+assigned_owed = refl
+
+assigned_begins : messages_begun usual (trace_of usual (asked ++ pulls 2) 0) ≡ frame_of Network (IdentityAssigned 0x1234 64) ∷ []
+unfolding moments lines.after lines.answer lines.takes_slot teis.course teis.refusal low_bits reading header_of control_of unnumbered_of
+assigned_begins = refl
+
+-- A check is owed its request, and one more where T201 expires; and a second expiry owes nothing.
+checked_twice : owed usual 0 none_on (moments (fresh usual) (on_0 (Assign 64) ∷ on_0 (Check 64) ∷ at 0 (expiry T201) ∷ at 0 (expiry T201) ∷ []))
+    ≡ IdentityCheckRequest 64 ∷ IdentityCheckRequest 64 ∷ []
+unfolding moments owed owed_through lines.after lines.answer lines.takes_slot teis.course teis.refusal
+checked_twice = refl
+
+-- Where a message begins that is not owed, or the first that is owed is passed over, the law is broken.
+not_owed : IsFront (frame_of Network (IdentityAssigned 7 64) ∷ []) [] → ⊥
+not_owed front = cc front.whole_is
+
+passed_over : IsFront (frame_of Network (IdentityCheckRequest 64) ∷ []) (map (frame_of Network) (IdentityAssigned 7 64 ∷ IdentityCheckRequest 64 ∷ [])) → ⊥
+passed_over front = cc front.whole_is
+
+-- Where it is noted that a TEI was assigned, and no terminal asked, the law is broken.
+unasked : AgreeThrough usual none_on (noted (Assigned 64 ∷ []) None ∷ []) → ⊥
+unasked h = cc (All-head (IsTrue none_on) (Assigned 64) [] h.0.are).asked

@@ -4,8 +4,8 @@
  * from what its reports tell, and from which frames began or were given; by table 5 of the standard, and not by the
  * library's code. The card is one for octets, or for frames. For tests alone.
  *
- *     counts SEED KIND     status 1 where a counter is another, or where hardly any name has something; KIND is octets or
- *                          frames
+ *     counts SEED KIND [user]   status 1 where a counter is another, or where hardly any name has something; KIND is octets
+ *                               or frames; user where the card is the user's side
  */
 #include <stdio.h>
 #include <stdlib.h>
@@ -16,7 +16,7 @@
 
 enum { LINES = 3, N201 = 16, TURNS = 4000 };
 
-static const lapd_config config = {LINES, 8, 7, 7, 8, 4, 2, 40, N201, 3, LAPD_NETWORK};
+static lapd_config config = {LINES, 8, 7, 7, 8, 4, 2, 40, N201, 3, LAPD_NETWORK};
 static lapd_card card;
 static bool for_frames;
 static lapd_report report;
@@ -42,10 +42,12 @@ static unsigned kind_of(unsigned control) {
     return LAPD_HEARD_UNDEFINED;
 }
 
-/* A frame that was heard (from a terminal, whose commands have C/R 0) or begun. Octets that it has not are 0. */
+/* A frame that was heard or begun: commands have C/R 0 from a terminal, and 1 from the network. Octets that it has not
+ * are 0. */
 static void count_frame(uint32_t line, bool is_begun, const uint8_t octets[4], size_t length) {
     unsigned kind = kind_of(octets[2]);
-    bool is_command = (octets[0] & 2) == (is_begun ? 2 : 0), asks = kind <= LAPD_HEARD_REJ;
+    bool from_network = is_begun == (config.side == LAPD_NETWORK);
+    bool is_command = (octets[0] & 2) == (from_network ? 2 : 0), asks = kind <= LAPD_HEARD_REJ;
     counted[line][(is_begun ? LAPD_BEGUN_I : LAPD_HEARD_I) + kind]++;
     counted[line][is_begun ? LAPD_BEGUN_OCTETS : LAPD_HEARD_OCTETS] += length;
     if (is_command && asks && octets[3] % 2 == 1)
@@ -140,6 +142,8 @@ static size_t likely_frame(uint8_t *octets) {
         return 4 + below(8);
     if (octets[2] == 0x73 || (octets[2] % 4 == 1 && below(2)))
         octets[0] |= 2;
+    if (config.side == LAPD_USER)
+        octets[0] ^= 2;
     return octets[2] % 4 == 3 ? 3 : 4;
 }
 
@@ -233,10 +237,12 @@ static unsigned names(void) {
 
 int main(int count, char **words) {
     int failed = 0;
-    if (count != 3)
+    if (count < 3)
         return 2;
     seed = (uint32_t)strtoul(words[1], NULL, 10);
     for_frames = strcmp(words[2], "frames") == 0;
+    if (count > 3)
+        config.side = LAPD_USER;
     if ((for_frames ? lapd_card_start_frames(&card, &config) : lapd_card_start(&card, &config)) != LAPD_OK)
         return 1;
     for (uint32_t line = 0; line < LINES; line++) {
@@ -250,5 +256,5 @@ int main(int count, char **words) {
         failed |= compare(line);
     printf("counts: %u of %d names\n", names(), LAPD_COUNTERS);
     lapd_card_free(&card);
-    return failed || names() < 45;
+    return failed || names() < (config.side == LAPD_USER ? 40 : 45);
 }

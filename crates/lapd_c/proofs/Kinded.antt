@@ -62,6 +62,6 @@ pub none_counts : (line : ℕ) (m : machine.Card) (all : List Counters) (next : 
     → happening_counted all m (goes line) ≡ all
 none_counts line m all next out none is = go (next_at line m) (subst (λ (n : Option NextFrame). IsNext (next_at line m) n out) none is)
   where
-    go : (o : Option Taken) → IsNext o None out → set all line (with_all (get_or all line none_counted) (option_map_or taken_shown o [])) ≡ all
+    go : (o : Option Taken) → IsNext o None out → set all line (with_all (get_or all line none_counted) (option_map_or (taken_shown m.config) o [])) ≡ all
     go None is = set-get_or all line none_counted
     go (Some k) is = absurd is

@@ -106,7 +106,7 @@ impl FrameLines {
         ensures rest { drop (written result) out.new ≡ drop (written result) out.old }
         ensures room { length out.new ≡ length out.old }
         ensures after { Lead line pulls_for self.old (S.store shelf.old) self.new (S.store shelf.new) }
-        ensures counted { CountsAt line (λ c l. option_map_or taken_shown (taken c l) []) self.old (S.store shelf.old) self.new }
+        ensures counted { CountsAt line (λ c l. option_map_or (taken_shown c) (taken c l) []) self.old (S.store shelf.old) self.new }
     {
         self.lines[line].next_frame(out, shelf)
     }

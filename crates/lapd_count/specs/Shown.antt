@@ -1,10 +1,12 @@
 -- What is counted of a frame, of what is heard, and of what is told.
-use Rattle.std.specs.Prelude.{ℕ, ◌%◌, ◌/◌, ◌==◌, ◌&&◌, Bool, List, [], ◌∷◌, ◌++◌, length, get_or, map, Option, Some, None, if◌then◌else◌}
+use Rattle.std.specs.Prelude.{ℕ, ◌%◌, ◌/◌, ◌==◌, ◌&&◌, Bool, true, List, [], ◌∷◌, ◌++◌, length, get_or, map, Option, Some, None, if◌then◌else◌}
 use Rattle.lapd_bits.specs.declared.heard.Cause.{Cause}
 use Rattle.lapd_bits.specs.declared.heads.Head.{Head}
 use Rattle.lapd_bits.specs.Stream.{Event, frame, overlong, dropped}
+use Rattle.lapd_frame.specs.declared.addresses.Side.{Side}
 use Rattle.lapd_frame.specs.declared.notes.Note.{Note}
 use Rattle.lapd_frame.specs.declared.notes.Note.TheVariants as note
+use Rattle.lapd_frame.specs.Grammar.{cr_bit, other_side}
 use Rattle.lapd_count.specs.declared.counter.Counter.{Counter}
 use Rattle.lapd_count.specs.declared.counter.Counter.TheVariants.{Frames, Octets, Polls, Overlong, Dropped, Errors, EstablishIndications, EstablishConfirms, ReleaseIndications, ReleaseConfirms, Data, Units, Xids, Assigned, Removed, Doubled, Lost}
 use Rattle.lapd_count.specs.declared.counter.Way.{Way}
@@ -13,33 +15,33 @@ use Rattle.lapd_count.specs.Counters.{More}
 use Rattle.lapd_count.specs.declared.kinds.Kind.{Kind}
 use Rattle.lapd_count.specs.Kinds.{kind_of, asks}
 
--- The C/R bit of a command: 0 of a terminal's, 1 of the network's (Q.921 clause 3.3.2).
-abbrev pub command_bit : Way → ℕ
-command_bit Heard = 0
-command_bit Begun = 1
+-- Who sends what a line hears, and what it begins: the line is this side's.
+abbrev pub sender : Side → Way → Side
+sender side Heard = other_side side
+sender side Begun = side
 
--- A poll: a command of a kind that asks whose P bit, the lowest of the second control octet, is 1.
-abbrev pub is_poll : Way → ℕ → Kind → ℕ → Bool
-is_poll way first kind second = (first / 2 % 2 == command_bit way) && asks kind && (second % 2 == 1)
+-- A poll: a command (Q.921 clause 3.3.2) of a kind that asks whose P bit, the lowest of the second control octet, is 1.
+abbrev pub is_poll : Side → Way → ℕ → Kind → ℕ → Bool
+is_poll side way first kind second = (first / 2 % 2 == cr_bit (sender side way) true) && asks kind && (second % 2 == 1)
 
 -- A frame whose first octet is `first`, and whose control field is these two octets, or the first of them.
-abbrev pub frame_shown : Way → ℕ → ℕ → ℕ → ℕ → List More
-frame_shown way first control second octets =
+abbrev pub frame_shown : Side → Way → ℕ → ℕ → ℕ → ℕ → List More
+frame_shown side way first control second octets =
     (Frames way (kind_of control), 1) ∷ (Octets way, octets)
-    ∷ (if is_poll way first (kind_of control) second then (Polls way, 1) ∷ [] else [])
+    ∷ (if is_poll side way first (kind_of control) second then (Polls way, 1) ∷ [] else [])
 
-abbrev pub octets_shown : Way → List ℕ → List More
-octets_shown way octets = frame_shown way (get_or octets 0 0) (get_or octets 2 0) (get_or octets 3 0) (length octets)
+abbrev pub octets_shown : Side → Way → List ℕ → List More
+octets_shown side way octets = frame_shown side way (get_or octets 0 0) (get_or octets 2 0) (get_or octets 3 0) (length octets)
 
-abbrev pub head_shown : Head → List More
-head_shown head = frame_shown Begun (get_or head.octets 0 0) (get_or head.octets 2 0) (get_or head.octets 3 0) head.length
+abbrev pub head_shown : Side → Head → List More
+head_shown side head = frame_shown side Begun (get_or head.octets 0 0) (get_or head.octets 2 0) (get_or head.octets 3 0) head.length
 
 -- What is heard. (What is dropped is counted by what is told of it.)
-abbrev pub heard_shown : Option Event → List More
-heard_shown None = []
-heard_shown (Some (frame octets)) = octets_shown Heard octets
-heard_shown (Some (overlong head)) = (Overlong, 1) ∷ []
-heard_shown (Some (dropped cause)) = []
+abbrev pub heard_shown : Side → Option Event → List More
+heard_shown side None = []
+heard_shown side (Some (frame octets)) = octets_shown side Heard octets
+heard_shown side (Some (overlong head)) = (Overlong, 1) ∷ []
+heard_shown side (Some (dropped cause)) = []
 
 -- What is told: each note, the cause of a drop, and what found no room.
 abbrev pub counter_of : Note → Counter

@@ -2,6 +2,7 @@
 use Rattle.std.specs.Prelude.{◌≡◌, ◌-◌, [], ◌∷◌, Some, None, refl}
 use Rattle.lapd_bits.specs.declared.heard.Cause.TheVariants.{Fcs}
 use Rattle.lapd_bits.specs.Stream.{frame}
+use Rattle.lapd_frame.specs.declared.addresses.Side.TheVariants.{User, Network}
 use Rattle.lapd_frame.specs.declared.notes.ErrorCode.TheVariants.{F}
 use Rattle.lapd_frame.specs.declared.notes.Note.TheVariants.{Error}
 use Rattle.lapd_frame.specs.declared.services.Service.TheVariants.{Call}
@@ -12,18 +13,25 @@ use Rattle.lapd_count.specs.Counters.{most, none_counted, value_in, with_all}
 use Rattle.lapd_count.specs.Shown.{heard_shown, octets_shown, told_shown}
 
 -- An RR command with P=1 is a poll of a terminal; an RR response with F=1 is none.
-worked_poll : heard_shown (Some (frame (0x00 ∷ 0x81 ∷ 0x01 ∷ 0x01 ∷ []))) ≡ (Frames Heard ReceiveReady, 1) ∷ (Octets Heard, 4) ∷ (Polls Heard, 1) ∷ []
+worked_poll : heard_shown Network (Some (frame (0x00 ∷ 0x81 ∷ 0x01 ∷ 0x01 ∷ []))) ≡ (Frames Heard ReceiveReady, 1) ∷ (Octets Heard, 4) ∷ (Polls Heard, 1) ∷ []
 worked_poll = refl
 
-worked_answer : octets_shown Heard (0x02 ∷ 0x81 ∷ 0x01 ∷ 0x01 ∷ []) ≡ (Frames Heard ReceiveReady, 1) ∷ (Octets Heard, 4) ∷ []
+worked_answer : octets_shown Network Heard (0x02 ∷ 0x81 ∷ 0x01 ∷ 0x01 ∷ []) ≡ (Frames Heard ReceiveReady, 1) ∷ (Octets Heard, 4) ∷ []
 worked_answer = refl
 
 -- The network's command has C/R = 1.
-worked_own_poll : octets_shown Begun (0x02 ∷ 0x81 ∷ 0x00 ∷ 0x01 ∷ 0x08 ∷ []) ≡ (Frames Begun Information, 1) ∷ (Octets Begun, 5) ∷ (Polls Begun, 1) ∷ []
+worked_own_poll : octets_shown Network Begun (0x02 ∷ 0x81 ∷ 0x00 ∷ 0x01 ∷ 0x08 ∷ []) ≡ (Frames Begun Information, 1) ∷ (Octets Begun, 5) ∷ (Polls Begun, 1) ∷ []
 worked_own_poll = refl
 
+-- On the user's side it is the other way round.
+worked_users_poll : octets_shown User Heard (0x02 ∷ 0x81 ∷ 0x01 ∷ 0x01 ∷ []) ≡ (Frames Heard ReceiveReady, 1) ∷ (Octets Heard, 4) ∷ (Polls Heard, 1) ∷ []
+worked_users_poll = refl
+
+worked_users_answer : octets_shown User Begun (0x02 ∷ 0x81 ∷ 0x01 ∷ 0x01 ∷ []) ≡ (Frames Begun ReceiveReady, 1) ∷ (Octets Begun, 4) ∷ []
+worked_users_answer = refl
+
 -- SABME with P=1 asks for an answer, too, but is no poll.
-worked_sabme : octets_shown Heard (0x00 ∷ 0x81 ∷ 0x7F ∷ []) ≡ (Frames Heard Sabme, 1) ∷ (Octets Heard, 3) ∷ []
+worked_sabme : octets_shown Network Heard (0x00 ∷ 0x81 ∷ 0x7F ∷ []) ≡ (Frames Heard Sabme, 1) ∷ (Octets Heard, 3) ∷ []
 worked_sabme = refl
 
 worked_told : told_shown (Error Call 64 F ∷ []) (Some Fcs) 2 ≡ (Errors F, 1) ∷ (Dropped Fcs, 1) ∷ (Lost, 2) ∷ []

@@ -10,7 +10,7 @@ use lapd_frame::ErrorCode;
 /// From where a frame comes, and where it goes.
 #[derive(Clone, Copy, PartialEq, Eq, Debug)]
 pub enum Way {
-    /// It was heard: a terminal sent it.
+    /// It was heard: the other side of the line sent it.
     Heard,
     /// It was begun: a pull has begun to send it, or it was given whole.
     Begun,

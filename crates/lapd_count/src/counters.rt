@@ -10,7 +10,7 @@ ghost use Rattle.lapd_count.specs.Shown.{frame_shown, is_poll, head_shown, heard
 use crate::counter::{Counter, Way};
 use crate::kinds::Kind;
 use lapd_bits::{Cause, Head, Heard};
-use lapd_frame::Note;
+use lapd_frame::{Note, Side};
 
 /// How many counters there are.
 const COUNT: usize = 62;
@@ -54,25 +54,26 @@ impl Counters {
 
     /// A frame, by the octets in which its C/R bit and its control field stand, and its length.
     #[inline(always)]
-    fn frame(&mut self, way: Way, first: u8, control: u8, second: u8, length: usize)
-        ensures { self.new ≡ with_all self.old (frame_shown way first control second length) }
+    fn frame(&mut self, side: Side, way: Way, first: u8, control: u8, second: u8, length: usize)
+        ensures { self.new ≡ with_all self.old (frame_shown side way first control second length) }
     {
         let kind = Kind::of(control);
         self.add(Counter::Frames(way, kind), 1);
         self.add(Counter::Octets(way), length as u64);
-        if is_poll(way, first, kind, second) {
+        if is_poll(side, way, first, kind, second) {
             self.add(Counter::Polls(way), 1);
         }
     }
 
-    /// What is heard.
-    pub fn heard(&mut self, heard: Heard<'_>)
-        ensures { self.new ≡ with_all self.old (heard_shown (heard_of heard.entry)) }
+    /// What is heard at a line of this side.
+    pub fn heard(&mut self, side: Side, heard: Heard<'_>)
+        ensures { self.new ≡ with_all self.old (heard_shown side (heard_of heard.entry)) }
     {
         match heard {
             Heard::Nothing | Heard::Dropped(_) => {}
             Heard::Overlong(_) => self.add(Counter::Overlong, 1),
             Heard::Frame(octets) => self.frame(
+                side,
                 Way::Heard,
                 octet_at(octets, 0),
                 octet_at(octets, 2),
@@ -83,21 +84,29 @@ impl Counters {
     }
 
     /// A frame is begun.
-    pub fn begun(&mut self, head: &Head)
-        ensures { self.new ≡ with_all self.old (head_shown head.now) }
+    pub fn begun(&mut self, side: Side, head: &Head)
+        ensures { self.new ≡ with_all self.old (head_shown side head.now) }
     {
         let [first, _, control, second] = head.octets;
-        self.frame(Way::Begun, first, control, second, usize::from(head.length));
+        self.frame(
+            side,
+            Way::Begun,
+            first,
+            control,
+            second,
+            usize::from(head.length),
+        );
     }
 
     /// A frame is given whole: from its address to its information.
-    pub fn given(&mut self, octets: &[u8])
-        ensures { self.new ≡ with_all self.old (option_map_or head_shown (head_of octets.now) []) }
+    pub fn given(&mut self, side: Side, octets: &[u8])
+        ensures { self.new ≡ with_all self.old (option_map_or (head_shown side) (head_of octets.now) []) }
     {
         if octets.is_empty() {
             return;
         }
         self.frame(
+            side,
             Way::Begun,
             octet_at(octets, 0),
             octet_at(octets, 2),
@@ -161,12 +170,16 @@ fn counter_of(note: &Note) -> Counter
 }
 
 /// Whether it is a poll.
-fn is_poll(way: Way, first: u8, kind: Kind, second: u8) -> bool
-    ensures { result ≡ is_poll way first kind second }
+fn is_poll(side: Side, way: Way, first: u8, kind: Kind, second: u8) -> bool
+    ensures { result ≡ is_poll side way first kind second }
 {
-    let bit = match way {
-        Way::Heard => 0,
-        Way::Begun => 1,
+    let sender = match way {
+        Way::Heard => side.other(),
+        Way::Begun => side,
+    };
+    let bit = match sender {
+        Side::User => 0,
+        Side::Network => 1,
     };
     first / 2 % 2 == bit && kind.asks() && second % 2 == 1
 }

@@ -59,14 +59,14 @@ all_counted k some more = sym (fold-append with_more k some more)
 
 -- what an octet shows: what is heard with it, and what is told
 pub octet_shown : (c : Config) (value : ℕ) (m : machine.Line) (heard : Option stream.Event) (t : LineTold) → gained c.n201 m.received value ≡ heard → told t ≡ answer c (octet value) m
-    → shown c (octet value) m (answer c (octet value) m) ≡ heard_shown heard ++ told_in_report t
+    → shown c (octet value) m (answer c (octet value) m) ≡ heard_shown c.side heard ++ told_in_report t
 octet_shown c value m heard t is says =
-    ap (λ h. heard_shown h ++ told_in_answer (answer c (octet value) m)) is
-    ∙ ap (λ a. heard_shown heard ++ told_in_answer a) (sym says)
+    ap (λ h. heard_shown c.side h ++ told_in_answer (answer c (octet value) m)) is
+    ∙ ap (λ a. heard_shown c.side heard ++ told_in_answer a) (sym says)
 
 -- what a pull shows: the frame that it begins
 pub begins_shown : (c : Config) (m : machine.Line) (value : ℕ) (orders : List Order) (head : Option Head) → pulled value true orders ≡ answer c pull m → head ≡ head_of (latest_frame (after c pull m).items)
-    → shown c pull m (answer c pull m) ≡ option_map_or head_shown head []
+    → shown c pull m (answer c pull m) ≡ option_map_or (head_shown c.side) head []
 unfolding answer
 begins_shown c m value orders head says is = go (begun c m) refl (ap is_begun says)
   where
@@ -74,11 +74,11 @@ begins_shown c m value orders head says is = go (begun c m) refl (ap is_begun sa
     is_begun (pulled value begun orders) = begun
     is_begun other = false
 
-    go : (o : Option Taken) → begun c m ≡ o → true ≡ is_some (begun c m) → option_map_or taken_shown (begun c m) [] ≡ option_map_or head_shown head []
+    go : (o : Option Taken) → begun c m ≡ o → true ≡ is_some (begun c m) → option_map_or (taken_shown c) (begun c m) [] ≡ option_map_or (head_shown c.side) head []
     go None none some = absurd (false≢true (sym (some ∙ ap is_some none)))
     go (Some k) one some =
-        ap (λ o. option_map_or taken_shown o []) one
-        ∙ ap (λ h. option_map_or head_shown h [])
+        ap (λ o. option_map_or (taken_shown c) o []) one
+        ∙ ap (λ h. option_map_or (head_shown c.side) h [])
         (sym (is ∙ ap head_of (latest_is_begun c pull m) ∙ ap (λ o. head_of (option_map_or frame_taken o (latest_frame m.items))) one))
 
 pub begins_none : (c : Config) (m : machine.Line) (value : ℕ) (orders : List Order) → pulled value false orders ≡ answer c pull m → shown c pull m (answer c pull m) ≡ []
@@ -89,6 +89,6 @@ begins_none c m value orders says = go (begun c m) refl (ap is_begun says)
     is_begun (pulled value begun orders) = begun
     is_begun other = true
 
-    go : (o : Option Taken) → begun c m ≡ o → false ≡ is_some (begun c m) → option_map_or taken_shown (begun c m) [] ≡ []
-    go None none some = ap (λ o. option_map_or taken_shown o []) none
+    go : (o : Option Taken) → begun c m ≡ o → false ≡ is_some (begun c m) → option_map_or (taken_shown c) (begun c m) [] ≡ []
+    go None none some = ap (λ o. option_map_or (taken_shown c) o []) none
     go (Some k) one some = absurd (false≢true (some ∙ ap is_some one))

@@ -30,7 +30,7 @@ use crate::outlet::Outlet;
 use crate::reports::{BareReport, Report};
 use lapd_bits::{Cause, Heard};
 use lapd_count::Counters;
-use lapd_frame::{Order, Refusal, Service, ShortList, Timer};
+use lapd_frame::{Order, Refusal, Service, ShortList, Side, Timer};
 use lapd_link::Room;
 use lapd_store::Shelf;
 use model_line::{Config, Fault, Request};
@@ -159,17 +159,18 @@ impl FrameLine {
         ensures after { Leads (λ m. map line_event.octet (line_octets octets.now)) self.old (S.store shelf.old) self.new (S.store shelf.new) }
         ensures counted { Counts (λ c m. heard_counted c (came c.n201 octets.now) m) self.old (S.store shelf.old) self.new }
     {
+        let side = self.layer.config.side;
         let heard = heard(octets, self.layer.config.n201);
         let bare = self.layer.serve(heard, shelf);
-        self.count_heard(heard, &bare);
+        self.count_heard(side, heard, &bare);
         bare.report(octets_of(heard))
     }
 
     /// Counts what is heard, and what was told of it.
-    fn count_heard(&mut self, heard: Heard<'_>, bare: &BareReport)
-        ensures { self.new ≡ with_frames_counted self.old (heard_shown (heard_of heard.entry) ++ bare_shown bare.now) }
+    fn count_heard(&mut self, side: Side, heard: Heard<'_>, bare: &BareReport)
+        ensures { self.new ≡ with_frames_counted self.old (heard_shown side (heard_of heard.entry) ++ bare_shown bare.now) }
     {
-        self.counters.heard(heard);
+        self.counters.heard(side, heard);
         count_told(&mut self.counters, bare.notes, bare.cause, bare.lost);
     }
 
@@ -210,10 +211,11 @@ impl FrameLine {
         ensures rest { drop (written result) out.new ≡ drop (written result) out.old }
         ensures room { length out.new ≡ length out.old }
         ensures after { Leads (pulls_for (config_of self.old)) self.old (S.store shelf.old) self.new (S.store shelf.new) }
-        ensures counted { Counts (λ c m. option_map_or taken_shown (taken c m) []) self.old (S.store shelf.old) self.new }
+        ensures counted { Counts (λ c m. option_map_or (taken_shown c) (taken c m) []) self.old (S.store shelf.old) self.new }
     {
+        let side = self.layer.config.side;
         let next = self.take(out, shelf)?;
-        self.counters.given(&out[..next.length]);
+        self.counters.given(side, &out[..next.length]);
         Some(next)
     }
 

@@ -27,7 +27,7 @@ use crate::pulled::Pulled;
 use crate::reports::{BareReport, Report};
 use lapd_bits::{Deframer, Ended, Framer, Head, Heard};
 use lapd_count::Counters;
-use lapd_frame::{Order, Refusal, Service, ShortList, Timer};
+use lapd_frame::{Order, Refusal, Service, ShortList, Side, Timer};
 use lapd_link::Room;
 use lapd_store::Shelf;
 use model_line::{Config, Request};
@@ -133,20 +133,21 @@ impl Line {
     #[inline(always)]
     fn take_in<S: Shelf>(&mut self, shelf: &mut S) -> BareReport
         requires { Standing self.old.layer (S.store shelf.old) }
-        ensures line { self.new ≡ with_counted (with_served self.new.layer self.old) (heard_shown (latest_of self.old.deframer) ++ bare_shown result) }
+        ensures line { self.new ≡ with_counted (with_served self.new.layer self.old) (heard_shown self.old.layer.config.side (latest_of self.old.deframer) ++ bare_shown result) }
         ensures served { Serves (aim_of_event self.old.layer.config (latest_of self.old.deframer)) (latest_frame self.old)
             self.old.layer (S.store shelf.old) self.new.layer (S.store shelf.new) result }
     {
+        let side = self.layer.config.side;
         let bare = self.serve(shelf);
-        self.count_heard(&bare);
+        self.count_heard(side, &bare);
         bare
     }
 
     /// Counts what the latest octet ended, and what was told of it.
-    fn count_heard(&mut self, bare: &BareReport)
-        ensures { self.new ≡ with_counted self.old (heard_shown (latest_of self.old.deframer) ++ bare_shown bare.now) }
+    fn count_heard(&mut self, side: Side, bare: &BareReport)
+        ensures { self.new ≡ with_counted self.old (heard_shown side (latest_of self.old.deframer) ++ bare_shown bare.now) }
     {
-        self.counters.heard(self.deframer.latest());
+        self.counters.heard(side, self.deframer.latest());
         count_told(&mut self.counters, bare.notes, bare.cause, bare.lost);
     }
 
@@ -158,11 +159,11 @@ impl Line {
     }
 
     /// Counts the frame that was begun last.
-    fn count_begun(&mut self)
-        ensures { self.new ≡ with_counted self.old (option_map_or head_shown self.old.framer.begun []) }
+    fn count_begun(&mut self, side: Side)
+        ensures { self.new ≡ with_counted self.old (option_map_or (head_shown side) self.old.framer.begun []) }
     {
         if let Some(head) = self.framer.begun() {
-            self.counters.begun(&head);
+            self.counters.begun(side, &head);
         }
     }
 
@@ -312,9 +313,10 @@ impl Line {
             → pulled_of result ≡ answer (config_of self.old) line_event.pull m }
         ensures after { Leads line_event.pull self.old (S.store shelf.old) self.new (S.store shelf.new) }
     {
+        let side = self.layer.config.side;
         let pulled = self.give_next(shelf);
         if pulled.begun {
-            self.count_begun();
+            self.count_begun(side);
         }
         pulled
     }

@@ -25,7 +25,7 @@ counted_at number shown all = set all number (with_all (get_or all number none_c
 abbrev pub happening_shown : Card → Happening → List More
 happening_shown m (comes line octets) = heard_counted m.config (came m.config.n201 octets) (line_at line m)
 happening_shown m (failed line fault) = heard_counted m.config (dropped (cause_of fault)) (line_at line m)
-happening_shown m (goes line) = option_map_or taken_shown (taken m.config (line_at line m)) []
+happening_shown m (goes line) = option_map_or (taken_shown m.config) (taken m.config (line_at line m)) []
 happening_shown m (expires line timer) = told_in_answer (answer (at line (line_event.expiry timer)) m)
 happening_shown m (asks line r) = told_in_answer (answer (at line (line_event.request r)) m)
 

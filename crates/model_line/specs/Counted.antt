@@ -25,20 +25,20 @@ told_in_answer (refused why) = []
 told_in_answer (pulled value is_begun orders) = []
 
 -- The frame that is taken.
-abbrev pub taken_shown : Taken → List More
-taken_shown t = option_map_or head_shown (head_of t.frame) []
+abbrev pub taken_shown : Config → Taken → List More
+taken_shown c t = option_map_or (head_shown c.side) (head_of t.frame) []
 
 -- What an event and its answer show: an octet, what is heard with it; a pull, the frame that begins with it; and each, what
 -- it is answered with.
 abbrev pub shown : Config → Event → machine.Line → Answer → List More
-shown c (octet value) l a = heard_shown (gained c.n201 l.received value) ++ told_in_answer a
+shown c (octet value) l a = heard_shown c.side (gained c.n201 l.received value) ++ told_in_answer a
 shown c (expiry timer) l a = told_in_answer a
 shown c (request r) l a = told_in_answer a
-shown c pull l a = option_map_or taken_shown (begun c l) []
+shown c pull l a = option_map_or (taken_shown c) (begun c l) []
 
 -- Where a line takes and gives whole frames: what is heard, and what is told of it.
 abbrev pub heard_counted : Config → stream.Event → machine.Line → List More
-heard_counted c heard l = heard_shown (Some heard) ++ told_in_report (of_heard c heard l).told
+heard_counted c heard l = heard_shown c.side (Some heard) ++ told_in_report (of_heard c heard l).told
 
 -- The counters after an event at a line.
 abbrev pub counted : Config → Event → machine.Line → Counters → Counters

@@ -24,4 +24,4 @@ pub returns-clause-after : goal.returns-clause-after
 returns-clause-after g c = one_leads pulls_for _ _ c.args.line c.index_mut.result.now (record { same = c.self.view_is; within = c.requires.within; is = c.index_mut.ensures.value }) _ c.next_frame.new.self _ c.next_frame.ensures.after
 
 pub returns-clause-counted : goal.returns-clause-counted
-returns-clause-counted g c = one_counts (λ d l. option_map_or taken_shown (taken d l) []) _ _ c.args.line c.index_mut.result.now (record { same = c.self.view_is; within = c.requires.within; is = c.index_mut.ensures.value }) _ c.next_frame.new.self c.next_frame.ensures.counted
+returns-clause-counted g c = one_counts (λ d l. option_map_or (taken_shown d) (taken d l) []) _ _ c.args.line c.index_mut.result.now (record { same = c.self.view_is; within = c.requires.within; is = c.index_mut.ensures.value }) _ c.next_frame.new.self c.next_frame.ensures.counted

@@ -40,7 +40,7 @@ returns-clause-counted g c =
     let bare = c.serve-bare.result in
     let served = subst (λ h. Serves (aim_of_event old.layer.config h) (octets_of h) old.layer s c.serve-bare.new.self t bare) c.heard-heard.ensures c.serve-bare.ensures in
     let came_is = Some (came (config_of old).n201 c.args.octets.now) in
-    counts_on (λ d m. heard_counted d (came d.n201 c.args.octets.now) m) c.count_heard.new.self (heard_shown (heard_of c.heard-heard.result) ++ bare_shown bare) refl c.count_heard.ensures
+    counts_on (λ d m. heard_counted d (came d.n201 c.args.octets.now) m) c.count_heard.new.self (heard_shown (config_of old).side (heard_of c.heard-heard.result) ++ bare_shown bare) refl c.count_heard.ensures
     (λ others m st.
-    ap (λ told. heard_shown came_is ++ told_in_report told) (sym (served.told others m st.layer))
-    ∙ ap (λ h. heard_shown h ++ bare_shown bare) (sym c.heard-heard.ensures))
+    ap (λ told. heard_shown (config_of old).side came_is ++ told_in_report told) (sym (served.told others m st.layer))
+    ∙ ap (λ h. heard_shown (config_of old).side h ++ bare_shown bare) (sym c.heard-heard.ensures))

@@ -45,7 +45,7 @@ returns-in-Dropped g c =
       after =
           counted_on
           (stepped old mid s t c.args.octet c.take_in.result c.step.ensures.heard c.step.ensures.after refl (λ on. absurd (false≢true on)) c.take_in.ensures.served refl)
-          c.take_in.new.self (heard_shown (latest_of c.step.new.self) ++ bare_shown c.take_in.result) c.take_in.ensures.line
+          c.take_in.new.self (heard_shown (config_of old).side (latest_of c.step.new.self) ++ bare_shown c.take_in.result) c.take_in.ensures.line
           (λ others m st.
           octet_shown (config_of old) c.args.octet m (latest_of c.step.new.self) (told_in (latest_frame mid) c.take_in.result)
           (gained_is (config_of old).n201 c.args.octet m.received _ (c.step.ensures.heard (config_of old).n201 m.received st.received))

@@ -1,4 +1,4 @@
-//! A line card that ends D-channels, network side (ITU-T Q.921, modulo 128): octets of its lines go in, and notes for
+//! A line card that ends D-channels, either side (ITU-T Q.921, modulo 128): octets of its lines go in, and notes for
 //! layer 3, orders for timers and octets for the lines come out.
 //!
 //! A card has up to 64 lines and one shelf of slots for the contents that wait on them. Each line ends the D-channel of

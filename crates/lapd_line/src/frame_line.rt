@@ -40,7 +40,7 @@ use std::alloc::Global;
 const LONGEST: usize = 264;
 
 /// A line whose flags, stuffed 0s and checks are a controller's: what it holds of its terminals now (Q.921 clauses 3 and
-/// 5, network side).
+/// 5, either side).
 ///
 /// It is a line of octets at which nothing else comes than the octets that frames and faults mean. Contents that wait lie on a
 /// shelf, which is handed to each call and is always the same one. All memory of the line itself is taken by

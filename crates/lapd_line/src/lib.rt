@@ -7,8 +7,8 @@
 //! A [`FrameLine`] is the same for a line whose flags, stuffed 0s and checks are a controller's. It takes and gives whole
 //! frames, and stands for a line that has had the octets which these mean (`model_line`).
 //!
-//! - `line`: the calls: an octet that comes, a timer that expires, a request, and an octet that goes out; and the state
-//!   of a link, how much room it has, and how many octets the line stores; `frame_line`: the same for whole frames.
+//! - `line`: the calls: an octet that comes, a timer that expires, a request, and an octet that goes out; `looks`: the
+//!   state of a link, how much room it has, and how many octets the line stores; `frame_line`: all that for whole frames.
 //! - `link_layer`: what the calls change beside the bits: TEI management, links and units; `starts`, how they begin;
 //!   `addressing`, what is heard; `expiries`, timers; `tei_changes`, links that open and are cleared; `requests`, what
 //!   is requested of a link, of TEI management and as unit data; `pulls`, what goes out, and `outlet`, where to; `held`,
@@ -32,6 +32,7 @@ mod held;
 mod line;
 mod link_layer;
 mod links;
+mod looks;
 mod outlet;
 mod pulled;
 mod pulls;

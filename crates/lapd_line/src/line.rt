@@ -1,13 +1,12 @@
 //! The line: one call an event.
 
 ghost use Rattle.std.specs.Option.{option_map_or};
-ghost use Rattle.std.specs.Prelude.{◌≡◌, ◌-◌, ◌<◌, ◌≤◌, ◌++◌, List, [], length, IsTrue, IsFalse, Some, None, IsSome, IfOk, IfErr, OnErr, nat_le};
+ghost use Rattle.std.specs.Prelude.{◌≡◌, ◌<◌, ◌≤◌, ◌++◌, List, [], length, IsTrue, IsFalse, Some, None, IsSome, IfOk, IfErr, OnErr, nat_le};
 ghost use Rattle.lapd_bits.specs.Deframer.{latest_of};
 ghost use Rattle.lapd_count.specs.Counters.{none_counted};
 ghost use Rattle.lapd_count.specs.Shown.{head_shown, heard_shown};
 ghost use Rattle.lapd_store.specs.Ownership.{Owned, Holds};
 ghost use Rattle.lapd_store.specs.Store.{Store, used_slots};
-ghost use Rattle.model_line.specs.Begun.{head_begun};
 ghost use Rattle.model_line.specs.Event as line_event;
 ghost use Rattle.model_line.specs.Event.{told};
 ghost use Rattle.model_line.specs.Line as machine;
@@ -16,37 +15,34 @@ ghost use Rattle.model_link.specs.Told.{starts};
 ghost use Rattle.model_line.specs.Machine.{after, answer};
 ghost use Rattle.model_line.specs.Refusal.{refusal};
 ghost use Rattle.model_line.specs.Request.{request_of};
-ghost use Rattle.model_line.specs.Room.{room_in};
 ghost use Rattle.model_line.specs.Sound.{IsInRange};
-ghost use Rattle.model_line.specs.Stored.{held_in};
 
 use crate::counting::count_told;
 use crate::fault::StartFault;
 use crate::link_layer::LinkLayer;
 use crate::pulled::Pulled;
 use crate::reports::{BareReport, Report};
-use lapd_bits::{Deframer, Ended, Framer, Head, Heard};
+use lapd_bits::{Deframer, Ended, Framer, Heard};
 use lapd_count::Counters;
-use lapd_frame::{Order, Refusal, Service, ShortList, Side, Timer};
-use lapd_link::Room;
+use lapd_frame::{Order, Refusal, ShortList, Side, Timer};
 use lapd_store::Shelf;
 use model_line::{Config, Request};
 use std::alloc::Global;
 
-/// A line of a card: what it holds of its terminals now (Q.921 clauses 2, 3 and 5, network side).
+/// A line of a card: what it holds of its terminals now (Q.921 clauses 2, 3 and 5, either side).
 ///
 /// Contents that wait lie on a shelf, which is handed to each call and is always the same one. All memory of the line
 /// itself is taken by [`Line::start`]; no other call takes any.
 #[derive(Debug, Drop)]
 pub struct Line {
-    deframer: Deframer,
-    framer: Framer,
-    layer: LinkLayer,
+    pub(crate) deframer: Deframer,
+    pub(crate) framer: Framer,
+    pub(crate) layer: LinkLayer,
     /// A pull found nothing to send, and nothing has happened since but octets that ended nothing and pulls. So the next
     /// pull need not look for messages, unit data and links that are awake again.
     nothing_waits: bool,
     /// What was counted since the start.
-    counters: Counters,
+    pub(crate) counters: Counters,
 }
 
 impl Line {
@@ -348,59 +344,6 @@ impl Line {
         let taken = self.layer.take(&mut self.framer, shelf);
         self.nothing_waits = taken.is_none();
         taken
-    }
-
-    /// The state of the link of a service with this TEI, by its number in Q.921 (annex B): 4 to 8. None where the TEI is
-    /// not on the line.
-    pub fn state(&self, service: Service, tei: u8) -> Option<u8>
-        ensures { (store : Store) (others : List Owned) (m : machine.Line) → Stands self.now store others m
-            → result ≡ machine.state_of service tei m }
-    {
-        self.layer.state(service, tei)
-    }
-
-    /// How much room the link of a service with this TEI has for contents, and its V(A). The whole card may hold `slots`.
-    ///
-    /// # Errors
-    ///
-    /// There is no such link: `BadTei` where the TEI is over 126, `NoLink` where it is not on the line.
-    pub fn room<S: Shelf>(
-        &self,
-        service: Service,
-        tei: u8,
-        shelf: &S,
-        slots: u32,
-    ) -> Result<Room, Refusal>
-        ensures { (others : List Owned) (m : machine.Line) → Stands self.now (S.store shelf.now) others m
-            → result ≡ room_in (config_of self.now) (slots - used_slots (S.store shelf.now)) service tei m }
-    {
-        self.layer.room(service, tei, shelf, slots)
-    }
-
-    /// How the frame that a pull began last begins, and how long it is; none where none was begun yet. So after a pull that
-    /// has [`begun`](Pulled::begun) a frame, this is that frame, until a pull begins another.
-    pub fn begun(&self) -> Option<Head>
-        ensures { (store : Store) (others : List Owned) (m : machine.Line) → Stands self.now store others m
-            → result ≡ head_begun m }
-    {
-        self.framer.begun()
-    }
-
-    /// What was counted of the line since its start.
-    pub fn counters(&self) -> &Counters
-        ensures { result.now ≡ self.now.counters }
-    {
-        &self.counters
-    }
-
-    /// How many octets the line stores beside those in slots of the shelf: of the frame that is received, of the frame
-    /// that is sent, of control frames and messages that wait, and of assignments that are remembered.
-    pub fn held(&self) -> u32
-        requires { (store : Store) × (others : List Owned) × (m : machine.Line) × Stands self.now store others m }
-        ensures { (store : Store) (others : List Owned) (m : machine.Line) → Stands self.now store others m
-            → result ≡ held_in (config_of self.now) m }
-    {
-        self.deframer.held() + self.framer.held() + self.layer.held()
     }
 
     /// The frame that the latest octet ended; no octets where it ended none.

@@ -1,5 +1,5 @@
 //! One data link: the acknowledged exchange of contents with one terminal for one service (Q.921 clause 5, states 4 to
-//! 8 of annex B, network side, modulo 128).
+//! 8 of annex B, either side, modulo 128).
 //!
 //! A [`Link`] takes what happens to it one event at a time and answers what its user is told:
 //!

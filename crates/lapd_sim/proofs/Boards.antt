@@ -28,7 +28,7 @@ use Rattle.model_card.specs.Happening.{Happening, expires, asks, line_of, events
 use Rattle.model_sim.specs.Setup.{Setup, ordered}
 use Rattle.model_sim.specs.Steps.{Scene}
 use Rattle.model_sim.proofs.AtOnce.{at_once, orders_of, idle_after}
-use Rattle.model_sim.proofs.Events.{config_stays}
+use Rattle.model_sim.proofs.Runs.{config_stays}
 use Rattle.lapd_sim.specs.declared.board.Board.{Board}
 use Rattle.lapd_sim.specs.declared.board.Board.TheVariants.{Octets, Frames}
 use Rattle.lapd_sim.specs.declared.exchange.Exchange.{Exchange}

@@ -5,7 +5,7 @@ use Rattle.model_card.specs.Event.{Event}
 use Rattle.model_card.specs.Machine.{after}
 use Rattle.model_card.specs.Run.{after_all}
 use Rattle.model_card.specs.Happening.{Happening, events_of}
-use Rattle.model_sim.proofs.Events.{config_stays}
+use Rattle.model_sim.proofs.Runs.{config_stays}
 use Rattle.model_line.specs.declared.config.Config.{Config}
 use Rattle.lapd_sim.specs.Past.{HasPast}
 use Rattle.lapd_sim.specs.declared.board.Board.{Board}

@@ -1,5 +1,5 @@
 //! The machine of a line, as definitions: what each octet, timer expiry, request and pull makes of the line's whole
-//! past, and what it answers (Q.921 clauses 2, 3 and 5, network side).
+//! past, and what it answers (Q.921 clauses 2, 3 and 5, either side).
 //!
 //! A line joins what is heard in its octets, TEI management, a link of each service for each TEI, unit data that
 //! waits, and the bits that go out. `specs/` has the machine and worked values of it. It reads from the line and its

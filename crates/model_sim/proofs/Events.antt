@@ -17,7 +17,6 @@ use Rattle.model_line.specs.Event.{pull, expiry, request}
 use Rattle.model_line.specs.Sound.{IsInRange}
 use Rattle.model_card.specs.Event.{Event, at}
 use Rattle.model_card.specs.Card.{Card, fresh}
-use Rattle.model_card.specs.Machine.{after}
 use Rattle.model_card.specs.Run.{after_all, IsAtLine, AreAtLines}
 use Rattle.model_card.specs.Happening.{Happening, comes, failed, goes, line_of, events_at, events_of}
 use Rattle.lapd_script.specs.declared.command.CardKind.{CardKind}
@@ -32,17 +31,8 @@ use Rattle.model_sim.specs.Steps.{Scene, with_event, with_events, octets_at, Pul
 use Rattle.model_sim.specs.Script.{Fault, Played, not_begun, played, faulty, is_too_long, after_scene, after_bench, after_reading, unless_faulty, one_more}
 use Rattle.model_sim.specs.Events.{expiry_events, events_until, coming_events, meant_events, read_events, unless_fault, line_events, events_from, card_meant, first_card, ScriptsAreRuns}
 use Rattle.model_sim.proofs.Expiries.{drained}
+use Rattle.model_sim.proofs.Runs.{after_all-append, config_stays, one_event, no_event, event_before}
 use Rattle.model_sim.proofs.Kept.{IsKept, events_kept, pulls_kept, octets_within, pulls_within, wait_ticks, none_later}
-
-after_all-append : (card : Card) (xs ys : List Event) → after_all card (xs ++ ys) ≡ after_all (after_all card xs) ys
-unfolding after_all
-after_all-append card [] ys = refl
-after_all-append card (x ∷ xs) ys = after_all-append (after x card) xs ys
-
-pub config_stays : (card : Card) (events : List Event) → (after_all card events).config ≡ card.config
-unfolding after_all
-config_stays card [] = refl
-config_stays card (e ∷ events) = config_stays (after e card) events
 
 -- Events, pulls and expiries.
 events_lead : (events : List Event) (s : Scene) → (with_events events s).setup.card ≡ after_all s.setup.card events
@@ -54,18 +44,6 @@ pulls_lead : (count number : ℕ) (p : Pulls) → (pulls count number p).setup.c
 unfolding after_all
 pulls_lead zero number p = refl
 pulls_lead (suc count) number p = pulls_lead count number (one_pull number p)
-
-one_event : (card : Card) (e : Event) → after e card ≡ after_all card (e ∷ [])
-unfolding after_all
-one_event card e = refl
-
-no_event : (card : Card) → card ≡ after_all card []
-unfolding after_all
-no_event card = refl
-
-event_before : (card : Card) (e : Event) (events : List Event) → after_all (after e card) events ≡ after_all card (e ∷ events)
-unfolding after_all
-event_before card e events = refl
 
 expiries_lead : (most end : ℕ) (s : Scene) → (expiries most end s).setup.card ≡ after_all s.setup.card (expiry_events most end s)
 expiries_lead zero end s = no_event s.setup.card

@@ -1,5 +1,6 @@
 pub mod Expiries
 pub mod Kept
+pub mod Runs
 pub mod Events
 pub mod Replies
 pub mod Waits

@@ -15,7 +15,8 @@ use Rattle.model_sim.specs.Setup.{Setup}
 use Rattle.model_sim.specs.Steps.{held}
 use Rattle.model_sim.specs.Events.{script_events, HasRun}
 use Rattle.model_sim.specs.Within.{bound_of, ScriptsStayWithin}
-use Rattle.model_sim.proofs.Events.{config_stays, scripts_are_runs}
+use Rattle.model_sim.proofs.Events.{scripts_are_runs}
+use Rattle.model_sim.proofs.Runs.{config_stays}
 
 run_within : (c : Config) (events : List Event) → IsInRange c → AreAtLines (fresh c) events → stored (after_all (fresh c) events) ≤ bound_of c
 run_within c events ranged within = stored_within_limit.always (fresh c) events (cards_stay_sound.begins c ranged) within

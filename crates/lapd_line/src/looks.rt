@@ -1,0 +1,73 @@
+//! What a line tells of itself: looks at it, which change nothing.
+
+ghost use Rattle.std.specs.Prelude.{◌≡◌, ◌-◌, List};
+ghost use Rattle.lapd_store.specs.Ownership.{Owned};
+ghost use Rattle.lapd_store.specs.Store.{Store, used_slots};
+ghost use Rattle.model_line.specs.Begun.{head_begun};
+ghost use Rattle.model_line.specs.Line as machine;
+ghost use Rattle.model_line.specs.Room.{room_in};
+ghost use Rattle.model_line.specs.Stored.{held_in};
+
+use crate::line::Line;
+use lapd_bits::Head;
+use lapd_count::Counters;
+use lapd_frame::{Refusal, Service};
+use lapd_link::Room;
+use lapd_store::Shelf;
+
+impl Line {
+    ghost use Rattle.lapd_line.specs.Stands.{Stands, config_of};
+
+    /// The state of the link of a service with this TEI, by its number in Q.921 (annex B): 4 to 8. None where the TEI is
+    /// not on the line.
+    pub fn state(&self, service: Service, tei: u8) -> Option<u8>
+        ensures { (store : Store) (others : List Owned) (m : machine.Line) → Stands self.now store others m
+            → result ≡ machine.state_of service tei m }
+    {
+        self.layer.state(service, tei)
+    }
+
+    /// How much room the link of a service with this TEI has for contents, and its V(A). The whole card may hold `slots`.
+    ///
+    /// # Errors
+    ///
+    /// There is no such link: `BadTei` where the TEI is over 126, `NoLink` where it is not on the line.
+    pub fn room<S: Shelf>(
+        &self,
+        service: Service,
+        tei: u8,
+        shelf: &S,
+        slots: u32,
+    ) -> Result<Room, Refusal>
+        ensures { (others : List Owned) (m : machine.Line) → Stands self.now (S.store shelf.now) others m
+            → result ≡ room_in (config_of self.now) (slots - used_slots (S.store shelf.now)) service tei m }
+    {
+        self.layer.room(service, tei, shelf, slots)
+    }
+
+    /// How the frame that a pull began last begins, and how long it is; none where none was begun yet. So after a pull that
+    /// has [`begun`](Pulled::begun) a frame, this is that frame, until a pull begins another.
+    pub fn begun(&self) -> Option<Head>
+        ensures { (store : Store) (others : List Owned) (m : machine.Line) → Stands self.now store others m
+            → result ≡ head_begun m }
+    {
+        self.framer.begun()
+    }
+
+    /// What was counted of the line since its start.
+    pub fn counters(&self) -> &Counters
+        ensures { result.now ≡ self.now.counters }
+    {
+        &self.counters
+    }
+
+    /// How many octets the line stores beside those in slots of the shelf: of the frame that is received, of the frame
+    /// that is sent, of control frames and messages that wait, and of assignments that are remembered.
+    pub fn held(&self) -> u32
+        requires { (store : Store) × (others : List Owned) × (m : machine.Line) × Stands self.now store others m }
+        ensures { (store : Store) (others : List Owned) (m : machine.Line) → Stands self.now store others m
+            → result ≡ held_in (config_of self.now) m }
+    {
+        self.deframer.held() + self.framer.held() + self.layer.held()
+    }
+}

@@ -1,6 +1,5 @@
 -- What whoever watches a line knows of its TEIs, and which messages are owed: one event of a line.
-use Rattle.std.proofs.Common.{◌≡◌, ℕ, ◌==◌, Bool, true, false, cond, not, List, [], ◌∷◌, ◌++◌, map, drop, slice_get, Option, Some, None, IfSome, option_map, refl, sym, ap, ◌∙◌, subst, append-nil, true≢false, inl, inr, arith}
-use Rattle.std.specs.Prelude.{All, fold, filter, flat_map, option_to_list, is_some}
+use Rattle.std.proofs.Common.{◌≡◌, ℕ, ◌==◌, Bool, true, false, cond, not, List, [], ◌∷◌, ◌++◌, map, drop, slice_get, All, fold, filter, flat_map, Option, Some, None, IfSome, is_some, option_map, option_to_list, refl, sym, ap, ◌∙◌, subst, append-nil, true≢false, inl, inr, arith}
 use Rattle.std.specs.Option.{option_map_or, unwrap_or}
 use Rattle.std.proofs.lemmas.List.Elements.{All-nil, All-cons}
 use Rattle.lapd_bits.specs.Stream as stream
@@ -51,7 +50,7 @@ use Rattle.laws_trace.specs.Managing.{Said, Managed, manage, heard_with, said_of
 use Rattle.laws_trace.specs.MessagesAreOwed.{messages_begun, of_management, is_message}
 use Rattle.laws_trace.specs.TeisAgree.{AreTold, Agrees, AgreeThrough}
 use Rattle.laws_trace.specs.Trace as traces
-use Rattle.laws_trace.specs.Trace.{Seen, seen, seen_told, seen_granted, heard, put, frames_begun}
+use Rattle.laws_trace.specs.Trace.{Seen, seen, seen_told, seen_granted, heard, put}
 use Rattle.laws_trace.proofs.ManagingNotes.{IsOther, link-others, others-change, noted-on, owed-on, told-on, behind, Cases, is_management, heard-cases}
 use Rattle.laws_trace.proofs.ReadAgain.{read-again}
 use Rattle.laws_trace.proofs.ManagingKnown.{Knows, seen_check, hearing, Few, twice-none, few-known, Tells, owed_notes}

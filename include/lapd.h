@@ -1,10 +1,11 @@
 /*
- * lapd.h: a line card that ends ISDN D-channels, network side (ITU-T Q.921, modulo 128), for C99 and C++.
+ * lapd.h: a line card that ends ISDN D-channels (ITU-T Q.921, modulo 128), for C99 and C++.
  *
  * A card takes what comes from its lines and answers with notes for layer 3, orders for timers, and what to send. It is
- * one of two kinds, as its start says. Where a driver gives and takes whole frames, as it does over every controller that
- * has flags, stuffed 0s and checks in hardware, it is a card for frames: lapd_card_start_frames. Where it gives and takes
- * the octets of the bit stream, it is a card for octets: lapd_card_start.
+ * the network's side of its lines or, where `side` of its configuration says so, the user's: a private exchange's end of a
+ * trunk. It is one of two kinds, as its start says. Where a driver gives and takes whole frames, as it does over every
+ * controller that has flags, stuffed 0s and checks in hardware, it is a card for frames: lapd_card_start_frames. Where it
+ * gives and takes the octets of the bit stream, it is a card for octets: lapd_card_start.
  *
  * A card has no callbacks, starts no thread, prints nothing, sets no errno, and takes memory in its start alone, as a
  * clock does. Link as pkg-config says of lapd (-llapd -llapd_malloc), or of lapd-shared. A program without malloc brings
@@ -16,7 +17,7 @@
  *  - Each pointer is valid for what it points to, and none is null, also where a length is 0.
  *  - A length is the true number of octets behind its pointer.
  *  - What two arguments of a call point to does not overlap, and neither overlaps what a card or a clock holds: the
- *    proofs take each as a place of its own. Where one might come to it, the call says what to do.
+ *    proofs take each as a place of its own. Where it could happen by mistake, the call says what to do.
  *  - A card or a clock is used by one call at a time; other cards and clocks may be used meanwhile. Where starts
  *    and frees run at the same time, the three functions of memory must allow it (malloc's do, heap.c's do not).
  *  - It begins as LAPD_CARD_NONE or LAPD_CLOCK_NONE, no copy of it is used, and its fields are left alone.
@@ -65,7 +66,7 @@ enum {
     LAPD_OK = 0, /* the call did what it says */
 
     /* A request was refused: the first of these that holds. Nothing has changed. */
-    LAPD_REFUSED_BAD_TEI = 1,       /* the TEI is over 126 (for unit data over 127) */
+    LAPD_REFUSED_BAD_TEI = 1,       /* the TEI is over 126 (for unit data on the network's side over 127) */
     LAPD_REFUSED_NO_LINK = 2,       /* the TEI is not on the line (not for assign, nor for unit data to 127) */
     LAPD_REFUSED_WRONG_STATE = 3,   /* the state of the link does not serve the request */
     LAPD_REFUSED_TOO_LONG = 4,      /* the contents are longer than n201 */
@@ -367,7 +368,7 @@ struct lapd_room {
  * LAPD_REFUSED_QUEUE_FULL exactly where `queue` is 0, and else as LAPD_REFUSED_POOL_FULL exactly where `pool` is 0.
  * LAPD_REFUSED_NO_LINK: the TEI is not on the line.
  *
- * Each contents that the terminal acknowledges lets V(A) rise by one, modulo 128, and `queue` and `pool` too. So where
+ * Each contents that the terminal acknowledges raises V(A) by one, modulo 128, and `queue` and `pool` too. So where
  * the link keeps n contents (the card's `queue` less the room's), all of them are acknowledged once V(A) has risen by n;
  * unless the link is established anew, which sets V(A) to 0.
  */

@@ -1,11 +1,12 @@
 /*
  * lapd.h: a line card that ends ISDN D-channels (ITU-T Q.921, modulo 128), for C99 and C++.
  *
- * A card takes what comes from its lines and answers with notes for layer 3, orders for timers, and what to send. It is
- * the network's side of its lines or, where `side` of its configuration says so, the user's: a private exchange's end of a
- * trunk. It is one of two kinds, as its start says. Where a driver gives and takes whole frames, as it does over every
- * controller that has flags, stuffed 0s and checks in hardware, it is a card for frames: lapd_card_start_frames. Where it
- * gives and takes the octets of the bit stream, it is a card for octets: lapd_card_start.
+ * A card takes what comes from its lines and answers with notes for layer 3, orders for timers, and what to send. It
+ * is the network's side of its lines or, where `side` of its configuration says so, the user's: a private exchange's
+ * end of a trunk. It is one of two kinds, as its start says. Where a driver gives and takes whole frames, as it does
+ * over every controller that has flags, stuffed 0s and checks in hardware, it is a card for frames:
+ * lapd_card_start_frames. Where it gives and takes the octets of the bit stream, it is a card for octets:
+ * lapd_card_start.
  *
  * A card has no callbacks, starts no thread, prints nothing, sets no errno, and takes memory in its start alone, as a
  * clock does. Link as pkg-config says of lapd (-llapd -llapd_malloc), or of lapd-shared. A program without malloc brings
@@ -136,7 +137,7 @@ typedef struct lapd_config {
 
 enum {
     LAPD_NETWORK = 0, /* the exchange */
-    LAPD_USER = 1     /* a terminal whose TEIs are not assigned by the network, or a private exchange */
+    LAPD_USER = 1     /* a private exchange (PBX), or a terminal whose TEI the network does not assign */
 };
 
 /* ---- What is told ----------------------------------------------------------------------------------------------- */
@@ -147,7 +148,7 @@ enum {
 };
 
 enum {
-    LAPD_GROUP_TEI = 127,   /* the TEI of all terminals of a line, for unit data */
+    LAPD_GROUP_TEI = 127,   /* the TEI of all terminals of a line, for unit data that the network's side sends */
     LAPD_MOST_NOTES = 4,    /* no event tells more notes */
     LAPD_MOST_ORDERS = 4,   /* nor gives more orders */
     LAPD_MOST_OCTETS = 260, /* no configuration allows longer contents */
@@ -562,7 +563,7 @@ static inline uint32_t lapd_data(lapd_card *card, uint32_t line, uint8_t service
 }
 
 /* Contents without acknowledgement (DL-UNIT DATA request), also those of the report itself; LAPD_GROUP_TEI is all
- * terminals of the line. */
+ * terminals of the line, to which the network's side alone sends. */
 static inline uint32_t lapd_unit(lapd_card *card, uint32_t line, uint8_t service, uint8_t tei,
                                  const uint8_t *contents, size_t length, lapd_report *report) {
     return lapd_request_with(card, line, LAPD_UNIT, service, tei, contents, length, report);
@@ -573,12 +574,12 @@ static inline uint32_t lapd_assign(lapd_card *card, uint32_t line, uint8_t tei, 
     return lapd_request(card, line, LAPD_ASSIGN, LAPD_CALL, tei, (const uint8_t *)"", 0, report);
 }
 
-/* Takes the TEI from the line (MDL-REMOVE request). */
+/* Takes the TEI from the line (MDL-REMOVE request). Of the network's side alone: LAPD_REFUSED_WRONG_SIDE. */
 static inline uint32_t lapd_remove(lapd_card *card, uint32_t line, uint8_t tei, lapd_report *report) {
     return lapd_request(card, line, LAPD_REMOVE, LAPD_CALL, tei, (const uint8_t *)"", 0, report);
 }
 
-/* Asks the terminals of the line who has the TEI. */
+/* Asks the terminals of the line who has the TEI. Of the network's side alone: LAPD_REFUSED_WRONG_SIDE. */
 static inline uint32_t lapd_check(lapd_card *card, uint32_t line, uint8_t tei, lapd_report *report) {
     return lapd_request(card, line, LAPD_CHECK, LAPD_CALL, tei, (const uint8_t *)"", 0, report);
 }

@@ -1,5 +1,6 @@
 /*
- * lapd.h: a line card that ends ISDN D-channels, network side (ITU-T Q.921, modulo 128), for C99 and C++.
+ * lapd.h: a line card that ends ISDN D-channels (ITU-T Q.921, modulo 128), as the network's side or the user's, for C99
+ * and C++.
  *
  * A card takes what comes from its lines and answers with notes for layer 3, orders for timers, and what to send. It is
  * one of two kinds, as its start says. Where a driver gives and takes whole frames, as it does over every controller that
@@ -65,7 +66,7 @@ enum {
     LAPD_OK = 0, /* the call did what it says */
 
     /* A request was refused: the first of these that holds. Nothing has changed. */
-    LAPD_REFUSED_BAD_TEI = 1,       /* the TEI is over 126 (for unit data over 127) */
+    LAPD_REFUSED_BAD_TEI = 1,       /* the TEI is over 126 (for unit data of the network's side over 127) */
     LAPD_REFUSED_NO_LINK = 2,       /* the TEI is not on the line (not for assign, nor for unit data to 127) */
     LAPD_REFUSED_WRONG_STATE = 3,   /* the state of the link does not serve the request */
     LAPD_REFUSED_TOO_LONG = 4,      /* the contents are longer than n201 */
@@ -162,7 +163,7 @@ enum {
     LAPD_RELEASE_INDICATION = 3,   /* the link is down without a request */
     LAPD_RELEASE_CONFIRM = 4,      /* the link is down, as was asked for */
     LAPD_DATA_INDICATION = 5,      /* the report's contents came in an I-frame, in order */
-    LAPD_UNIT_INDICATION = 6,      /* the report's contents came in a UI frame */
+    LAPD_UNIT_INDICATION = 6,      /* the report's contents came in a UI frame; on the user's side also to the group */
     LAPD_ERROR_INDICATION = 7,     /* an error, for layer management; its letter is in the note */
     LAPD_ASSIGNED = 8,             /* TEI management gave the TEI to a terminal that asked for one */
     LAPD_REMOVED = 9,              /* no terminal has the TEI any more: it left the line */
@@ -560,8 +561,8 @@ static inline uint32_t lapd_data(lapd_card *card, uint32_t line, uint8_t service
     return lapd_request_with(card, line, LAPD_DATA, service, tei, contents, length, report);
 }
 
-/* Contents without acknowledgement (DL-UNIT DATA request), also those of the report itself; LAPD_GROUP_TEI is all
- * terminals of the line. */
+/* Contents without acknowledgement (DL-UNIT DATA request), also those of the report itself. LAPD_GROUP_TEI is all
+ * terminals of the line, to which the network's side alone sends. */
 static inline uint32_t lapd_unit(lapd_card *card, uint32_t line, uint8_t service, uint8_t tei,
                                  const uint8_t *contents, size_t length, lapd_report *report) {
     return lapd_request_with(card, line, LAPD_UNIT, service, tei, contents, length, report);

@@ -164,7 +164,7 @@ enum {
     LAPD_RELEASE_INDICATION = 3,   /* the link is down without a request */
     LAPD_RELEASE_CONFIRM = 4,      /* the link is down, as was asked for */
     LAPD_DATA_INDICATION = 5,      /* the report's contents came in an I-frame, in order */
-    LAPD_UNIT_INDICATION = 6,      /* the report's contents came in a UI frame */
+    LAPD_UNIT_INDICATION = 6,      /* the report's contents came in a UI frame; on the user's side also to the group */
     LAPD_ERROR_INDICATION = 7,     /* an error, for layer management; its letter is in the note */
     LAPD_ASSIGNED = 8,             /* TEI management gave the TEI to a terminal that asked for one */
     LAPD_REMOVED = 9,              /* no terminal has the TEI any more: it left the line */

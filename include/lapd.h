@@ -1,10 +1,12 @@
 /*
- * lapd.h: a line card that ends ISDN D-channels, network side (ITU-T Q.921, modulo 128), for C99 and C++.
+ * lapd.h: a line card that ends ISDN D-channels (ITU-T Q.921, modulo 128), for C99 and C++.
  *
- * A card takes what comes from its lines and answers with notes for layer 3, orders for timers, and what to send. It is
- * one of two kinds, as its start says. Where a driver gives and takes whole frames, as it does over every controller that
- * has flags, stuffed 0s and checks in hardware, it is a card for frames: lapd_card_start_frames. Where it gives and takes
- * the octets of the bit stream, it is a card for octets: lapd_card_start.
+ * A card takes what comes from its lines and answers with notes for layer 3, orders for timers, and what to send. It
+ * is the network's side of its lines or, where `side` of its configuration says so, the user's: a private exchange's
+ * end of a trunk. It is one of two kinds, as its start says. Where a driver gives and takes whole frames, as it does
+ * over every controller that has flags, stuffed 0s and checks in hardware, it is a card for frames:
+ * lapd_card_start_frames. Where it gives and takes the octets of the bit stream, it is a card for octets:
+ * lapd_card_start.
  *
  * A card has no callbacks, starts no thread, prints nothing, sets no errno, and takes memory in its start alone, as a
  * clock does. Link as pkg-config says of lapd (-llapd -llapd_malloc), or of lapd-shared. A program without malloc brings
@@ -16,7 +18,7 @@
  *  - Each pointer is valid for what it points to, and none is null, also where a length is 0.
  *  - A length is the true number of octets behind its pointer.
  *  - What two arguments of a call point to does not overlap, and neither overlaps what a card or a clock holds: the
- *    proofs take each as a place of its own. Where one might come to it, the call says what to do.
+ *    proofs take each as a place of its own. Where it could happen by mistake, the call says what to do.
  *  - A card or a clock is used by one call at a time; other cards and clocks may be used meanwhile. Where starts
  *    and frees run at the same time, the three functions of memory must allow it (malloc's do, heap.c's do not).
  *  - It begins as LAPD_CARD_NONE or LAPD_CLOCK_NONE, no copy of it is used, and its fields are left alone.
@@ -65,7 +67,7 @@ enum {
     LAPD_OK = 0, /* the call did what it says */
 
     /* A request was refused: the first of these that holds. Nothing has changed. */
-    LAPD_REFUSED_BAD_TEI = 1,       /* the TEI is over 126 (for unit data over 127) */
+    LAPD_REFUSED_BAD_TEI = 1,       /* the TEI is over 126 (for unit data on the network's side over 127) */
     LAPD_REFUSED_NO_LINK = 2,       /* the TEI is not on the line (not for assign, nor for unit data to 127) */
     LAPD_REFUSED_WRONG_STATE = 3,   /* the state of the link does not serve the request */
     LAPD_REFUSED_TOO_LONG = 4,      /* the contents are longer than n201 */
@@ -135,7 +137,7 @@ typedef struct lapd_config {
 
 enum {
     LAPD_NETWORK = 0, /* the exchange */
-    LAPD_USER = 1     /* a terminal whose TEIs are not assigned by the network, or a private exchange */
+    LAPD_USER = 1     /* a private exchange (PBX), or a terminal whose TEI the network does not assign */
 };
 
 /* ---- What is told ----------------------------------------------------------------------------------------------- */
@@ -146,7 +148,7 @@ enum {
 };
 
 enum {
-    LAPD_GROUP_TEI = 127,   /* the TEI of all terminals of a line, for unit data */
+    LAPD_GROUP_TEI = 127,   /* the TEI of all terminals of a line, for unit data that the network's side sends */
     LAPD_MOST_NOTES = 4,    /* no event tells more notes */
     LAPD_MOST_ORDERS = 4,   /* nor gives more orders */
     LAPD_MOST_OCTETS = 260, /* no configuration allows longer contents */
@@ -162,7 +164,7 @@ enum {
     LAPD_RELEASE_INDICATION = 3,   /* the link is down without a request */
     LAPD_RELEASE_CONFIRM = 4,      /* the link is down, as was asked for */
     LAPD_DATA_INDICATION = 5,      /* the report's contents came in an I-frame, in order */
-    LAPD_UNIT_INDICATION = 6,      /* the report's contents came in a UI frame */
+    LAPD_UNIT_INDICATION = 6,      /* the report's contents came in a UI frame; on the user's side also to the group */
     LAPD_ERROR_INDICATION = 7,     /* an error, for layer management; its letter is in the note */
     LAPD_ASSIGNED = 8,             /* TEI management gave the TEI to a terminal that asked for one */
     LAPD_REMOVED = 9,              /* no terminal has the TEI any more: it left the line */
@@ -367,7 +369,7 @@ struct lapd_room {
  * LAPD_REFUSED_QUEUE_FULL exactly where `queue` is 0, and else as LAPD_REFUSED_POOL_FULL exactly where `pool` is 0.
  * LAPD_REFUSED_NO_LINK: the TEI is not on the line.
  *
- * Each contents that the terminal acknowledges lets V(A) rise by one, modulo 128, and `queue` and `pool` too. So where
+ * Each contents that the terminal acknowledges raises V(A) by one, modulo 128, and `queue` and `pool` too. So where
  * the link keeps n contents (the card's `queue` less the room's), all of them are acknowledged once V(A) has risen by n;
  * unless the link is established anew, which sets V(A) to 0.
  */
@@ -561,7 +563,7 @@ static inline uint32_t lapd_data(lapd_card *card, uint32_t line, uint8_t service
 }
 
 /* Contents without acknowledgement (DL-UNIT DATA request), also those of the report itself; LAPD_GROUP_TEI is all
- * terminals of the line. */
+ * terminals of the line, to which the network's side alone sends. */
 static inline uint32_t lapd_unit(lapd_card *card, uint32_t line, uint8_t service, uint8_t tei,
                                  const uint8_t *contents, size_t length, lapd_report *report) {
     return lapd_request_with(card, line, LAPD_UNIT, service, tei, contents, length, report);
@@ -572,12 +574,12 @@ static inline uint32_t lapd_assign(lapd_card *card, uint32_t line, uint8_t tei, 
     return lapd_request(card, line, LAPD_ASSIGN, LAPD_CALL, tei, (const uint8_t *)"", 0, report);
 }
 
-/* Takes the TEI from the line (MDL-REMOVE request). */
+/* Takes the TEI from the line (MDL-REMOVE request). Of the network's side alone: LAPD_REFUSED_WRONG_SIDE. */
 static inline uint32_t lapd_remove(lapd_card *card, uint32_t line, uint8_t tei, lapd_report *report) {
     return lapd_request(card, line, LAPD_REMOVE, LAPD_CALL, tei, (const uint8_t *)"", 0, report);
 }
 
-/* Asks the terminals of the line who has the TEI. */
+/* Asks the terminals of the line who has the TEI. Of the network's side alone: LAPD_REFUSED_WRONG_SIDE. */
 static inline uint32_t lapd_check(lapd_card *card, uint32_t line, uint8_t tei, lapd_report *report) {
     return lapd_request(card, line, LAPD_CHECK, LAPD_CALL, tei, (const uint8_t *)"", 0, report);
 }

@@ -1,6 +1,6 @@
-//! The timers of an exchange's lines: which of them run, and which falls due first.
+//! The timers of a card's lines: which of them run, and which falls due first.
 //!
-//! A line of the network side of LAPD has T200 and T203 for each link, so two of each for each
+//! A line of LAPD has T200 and T203 for each link, so two of each for each
 //! terminal (one link for each service), and one T201 (Q.921 clause 5.9). Its events order timers
 //! started and stopped. A `Clock` keeps the moment at which each running timer falls due, and
 //! gives the timers back one after the other as their moments come. It reads no clock of its own:

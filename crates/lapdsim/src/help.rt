@@ -6,8 +6,8 @@ ghost use Rattle.lapd_script.specs.Words.{texts};
 
 /// What `--help` writes.
 const HELP: &[u8] = b"\
-lapdsim plays the network side of LAPD (ITU-T Q.921, modulo 128) on a simulated
-line card.
+lapdsim plays LAPD (ITU-T Q.921, modulo 128) on a simulated line card, which is
+the network's side of its lines or the user's.
 
   lapdsim run                     plays the script on standard input, and writes
                                   its transcript
@@ -35,7 +35,7 @@ transcripts, docs/MACHINE.md what the card does, README.md where to begin.
 
 /// What `--version` writes.
 const VERSION: &[u8] =
-    b"lapdsim 1.0 (Vithrynel), the network side of LAPD, ITU-T Q.921 (09/97), modulo 128\n";
+    b"lapdsim 1.0 (Vithrynel), LAPD for line cards, ITU-T Q.921 (09/97), modulo 128\n";
 
 /// What is written for these words, where they ask what the program is; nothing for words that ask for work.
 pub fn help(words: &[&str]) -> Option<&'static [u8]>

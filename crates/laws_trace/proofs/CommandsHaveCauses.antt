@@ -48,7 +48,7 @@ use Rattle.model_card.specs.Run.{Moment, moments, after_all, IsAtLine, AreAtLine
 use Rattle.model_card.specs.Sound as card_sound
 use Rattle.model_card.proofs.CardSound.{fresh_is_sound, after_is_sound}
 use Rattle.model_card.proofs.Steps.{has_lines, by_room, line_sound}
-use Rattle.laws_trace.specs.CommandsHaveCauses.{Kind, sabme, disc, enquiry, is_command, is_of_link, begins, is_own, is_error, is_cause, is_cause_in, CommandsHaveCauses}
+use Rattle.laws_trace.specs.CommandsHaveCauses.{Kind, sabme, disc, enquiry, is_command, is_read_as, is_of_kind, is_own, is_error, is_cause, is_cause_in, CommandsHaveCauses}
 use Rattle.laws_trace.specs.Trace as traces
 use Rattle.laws_trace.specs.Trace.{Seen, seen, trace, frames_begun, Always}
 use Rattle.laws_trace.proofs.CommandsCaused.{is_why, link-caused}
@@ -107,44 +107,44 @@ no-why enquiry t ns = refl
 
 module _ (service : Service) (tei : ℕ) (k : Kind) where
   abbrev goes : Config → List (List ℕ) → ℕ
-  goes c frames = length (filter (begins c service tei k) frames)
+  goes c frames = length (filter (is_of_kind c service tei k) frames)
 
   abbrev waits : Line → ℕ
   waits l = count k (link_of service tei l).waiting
 
   goes-both : (c : Config) (xs ys : List (List ℕ)) → goes c (xs ++ ys) ≡ goes c xs + goes c ys
-  goes-both c xs ys = ap length (filter-append (begins c service tei k) xs ys) ∙ length-append (filter (begins c service tei k) xs) (filter (begins c service tei k) ys)
+  goes-both c xs ys = ap length (filter-append (is_of_kind c service tei k) xs ys) ∙ length-append (filter (is_of_kind c service tei k) xs) (filter (is_of_kind c service tei k) ys)
 
   -- Frames of others are none of its commands.
-  foreign : (c : Config) (frame : List ℕ) → IsForeign c service tei frame → begins c service tei k frame ≡ false
+  foreign : (c : Config) (frame : List ℕ) → IsForeign c service tei frame → is_of_kind c service tei k frame ≡ false
   foreign c frame (inl x) =
-      ap (begins c service tei k) x.1
-      ∙ read-again c.side (λ r. is_of_link service tei k r ≡ false) (record { sapi = 63; command = true; tei = 127 }) (Ui false)
+      ap (is_of_kind c service tei k) x.1
+      ∙ read-again c.side (λ r. is_read_as service tei k r ≡ false) (record { sapi = 63; command = true; tei = 127 }) (Ui false)
       (λ info. and-none (63 == sapi_of service && 127 == tei) (is_command k true (Ui false)) (no-ui k)) (λ fault. refl) (information_of x.0)
   foreign c frame (inr (inl x)) =
-      ap (begins c service tei k) x.1
-      ∙ read-again c.side (λ r. is_of_link service tei k r ≡ false) (record { sapi = sapi_of x.0.service; command = true; tei = x.0.tei }) (Ui false)
+      ap (is_of_kind c service tei k) x.1
+      ∙ read-again c.side (λ r. is_read_as service tei k r ≡ false) (record { sapi = sapi_of x.0.service; command = true; tei = x.0.tei }) (Ui false)
       (λ info. and-none (sapi_of x.0.service == sapi_of service && x.0.tei == tei) (is_command k true (Ui false)) (no-ui k)) (λ fault. refl) x.0.contents
   foreign c frame (inr (inr x)) =
       let t = x.0 in
       let g = x.1 in
       let away : (sapi_of t.service == sapi_of service && t.tei == tei) ≡ false = ap (λ b. b && t.tei == tei) (same-sapi t.service service) ∙ x.3 in
-      ap (begins c service tei k) x.2
-      ∙ read-again c.side (λ r. is_of_link service tei k r ≡ false) (address_at t g.frame.command) g.frame.control
+      ap (is_of_kind c service tei k) x.2
+      ∙ read-again c.side (λ r. is_read_as service tei k r ≡ false) (address_at t g.frame.command) g.frame.control
       (λ info. ap (λ b. b && is_command k g.frame.command g.frame.control) away) (λ fault. refl) (unwrap_or g.contents [])
 
   all-foreign : (c : Config) (frames : List (List ℕ)) → All (IsForeign c service tei) frames → goes c frames ≡ 0
   all-foreign c [] h = refl
   all-foreign c (f ∷ frames) h =
-      let whole = one-kept (begins c service tei k) f frames in
-      let first : one (begins c service tei k f) ≡ 0 = ap one (foreign c f (All-head (IsForeign c service tei) f frames h)) in
+      let whole = one-kept (is_of_kind c service tei k) f frames in
+      let first : one (is_of_kind c service tei k f) ≡ 0 = ap one (foreign c f (All-head (IsForeign c service tei) f frames h)) in
       let rest = all-foreign c frames (All-tail (IsForeign c service tei) f frames h) in
       omega (arith, whole, first, rest)
 
   -- What a link gives.
-  given-goes : (c : Config) (t : Terms) (g : Given) → one (begins c service tei k (frame_of c t g)) ≤ one (command_of k g.frame)
+  given-goes : (c : Config) (t : Terms) (g : Given) → one (is_of_kind c service tei k (frame_of c t g)) ≤ one (command_of k g.frame)
   given-goes c t g =
-      read-again c.side (λ r. one (is_of_link service tei k r) ≤ one (command_of k g.frame)) (address_at t g.frame.command) g.frame.control
+      read-again c.side (λ r. one (is_read_as service tei k r) ≤ one (command_of k g.frame)) (address_at t g.frame.command) g.frame.control
       (λ info. both-least (sapi_of t.service == sapi_of service && t.tei == tei) (command_of k g.frame)) (λ fault. none-least (one (command_of k g.frame))) (unwrap_or g.contents [])
 
   plain : (f other : ControlFrame) → f ≡ other → command_of k other ≡ false → command_of k f ≡ false
@@ -180,7 +180,7 @@ module _ (service : Service) (tei : ℕ) (k : Kind) where
       let none : one (is_why k t link.offer (links.told t link.offer l).notes) ≡ 0 = ap one (no-why k t (links.told t link.offer l).notes) in
       omega (arith, few, none)
   offered c t l (Some g) h =
-      let first = one-kept (begins c service tei k) (frame_of c t g) [] in
+      let first = one-kept (is_of_kind c service tei k) (frame_of c t g) [] in
       omega (arith, first, given-goes c t g, in-order t l (links.after t link.offer l) g.frame h)
 
   -- One event of a line.

@@ -26,7 +26,7 @@ use Rattle.model_card.specs.Card.{fresh, line_at}
 use Rattle.model_card.specs.Pulled.{frame_taken}
 use Rattle.model_card.specs.Run.{moments, after_all}
 use Rattle.laws_trace.specs.Trace.{Always, seen, trace, frames_begun}
-use Rattle.laws_trace.specs.LinksTakeTurns.{TakeTurns, LinkName, named_in, is_of_link, links_begun, LinksTakeTurns}
+use Rattle.laws_trace.specs.LinksTakeTurns.{TakeTurns, LinkName, named_in, is_of_a_link, links_begun, LinksTakeTurns}
 use Rattle.laws_trace.proofs.PullRuns.{pulled-behind}
 use Rattle.laws_trace.proofs.Turns.{link-frame, ui-frame, name-is}
 use Rattle.laws_trace.proofs.Units.{NoneWaits, pulled-frames, plain-order, first-of}
@@ -53,18 +53,18 @@ module _ (c : Config) (ranged : line.IsInRange c) (l : Line) (s : line.IsSound c
   links-stay same = record { places = places; stays_silent = λ number few q. silent-there number (ap (λ ls. get_or ls number fresh_link) same) q }
 
   abbrev names-of : Option Taken → List LinkName
-  names-of o = map named_in (filter (is_of_link c.side) (option_to_list (option_map frame_taken o)))
+  names-of o = map named_in (filter (is_of_a_link c.side) (option_to_list (option_map frame_taken o)))
 
-  no-name : (t : Taken) (names : List LinkName) → is_of_link c.side t.frame ≡ false → Walk c l names → Walk c l (names-of (Some t) ++ names)
+  no-name : (t : Taken) (names : List LinkName) → is_of_a_link c.side t.frame ≡ false → Walk c l names → Walk c l (names-of (Some t) ++ names)
   no-name t names none walk = subst (λ b. Walk c l (map named_in (cond b (t.frame ∷ []) []) ++ names)) (sym none) walk
 
-  a-name : (t : Taken) (name : LinkName) (names : List LinkName) → is_of_link c.side t.frame ≡ true → named_in t.frame ≡ name → Walk c l (name ∷ names) → Walk c l (names-of (Some t) ++ names)
+  a-name : (t : Taken) (name : LinkName) (names : List LinkName) → is_of_a_link c.side t.frame ≡ true → named_in t.frame ≡ name → Walk c l (name ∷ names) → Walk c l (names-of (Some t) ++ names)
   a-name t name names one is walk =
       subst (λ b. Walk c l (map named_in (cond b (t.frame ∷ []) []) ++ names)) (sym one) (subst (λ n. Walk c l (n ∷ names)) (sym is) walk)
 
   of-link : (t : Taken) (x : IsOfLink c (contents_of l) l next t.frame) (names : List LinkName) → Walk c next names → Walk c l (names-of (Some t) ++ names)
   of-link t x names walk =
-      a-name t (named x.number x.tei) names (ap (is_of_link c.side) x.spelled ∙ link-frame c.side (record { sapi = sapi_of (service_at x.number); command = x.command; tei = x.tei }) x.control (plain-order c l next t.frame plain x) (unwrap_or x.information [])) (ap named_in x.spelled ∙ name-is c.side (record { sapi = sapi_of (service_at x.number); command = x.command; tei = x.tei }) x.control (unwrap_or x.information []))
+      a-name t (named x.number x.tei) names (ap (is_of_a_link c.side) x.spelled ∙ link-frame c.side (record { sapi = sapi_of (service_at x.number); command = x.command; tei = x.tei }) x.control (plain-order c l next t.frame plain x) (unwrap_or x.information [])) (ap named_in x.spelled ∙ name-is c.side (record { sapi = sapi_of (service_at x.number); command = x.command; tei = x.tei }) x.control (unwrap_or x.information []))
       (goes l next x.number x.tei names s (record { places = places; stays_silent = stays }) (record {
         few = x.few;
         on_line = x.on_line;
@@ -93,27 +93,27 @@ module _ (c : Config) (ranged : line.IsInRange c) (l : Line) (s : line.IsSound c
       → (names : List LinkName) → Walk c next names → Walk c l (names-of o ++ names)
   by-pull None x names walk = still l next names (links-stay x.links) x.turn walk
   by-pull (Some t) (inl x) names walk =
-      no-name t names (ap (is_of_link c.side) x.spelled ∙ ui-frame c.side (record { sapi = 63; command = true; tei = 127 }) (information_of x.message) (omega arith) (omega arith) refl) (still l next names (links-stay x.links) x.turn walk)
+      no-name t names (ap (is_of_a_link c.side) x.spelled ∙ ui-frame c.side (record { sapi = 63; command = true; tei = 127 }) (information_of x.message) (omega arith) (omega arith) refl) (still l next names (links-stay x.links) x.turn walk)
   by-pull (Some t) (inr (inl x)) names walk =
-      no-name t names (ap (is_of_link c.side) x.spelled ∙ ui-frame c.side (record { sapi = sapi_of x.unit.service; command = true; tei = x.unit.tei }) x.unit.contents (small-sapi x.unit.service) (let small = first-of c l.units x.unit x.oldest s.units in omega (arith, small)) refl)
+      no-name t names (ap (is_of_a_link c.side) x.spelled ∙ ui-frame c.side (record { sapi = sapi_of x.unit.service; command = true; tei = x.unit.tei }) x.unit.contents (small-sapi x.unit.service) (let small = first-of c l.units x.unit x.oldest s.units in omega (arith, small)) refl)
       (still l next names (links-stay x.links) x.turn walk)
   by-pull (Some t) (inr (inr x)) names walk = of-link t x names walk
 
   pub pull-walks : (names : List LinkName) → Walk c next names → Walk c l (links_begun c (seen c pull l (lines.answer c pull l)) ++ names)
   pull-walks names walk =
-      subst (λ fs. Walk c l (map named_in (filter (is_of_link c.side) fs) ++ names)) (sym (pulled-frames (begun c l) (lines.answer c pull l))) (by-pull (begun c l) (served c l s) names walk)
+      subst (λ fs. Walk c l (map named_in (filter (is_of_a_link c.side) fs) ++ names)) (sym (pulled-frames (begun c l) (lines.answer c pull l))) (by-pull (begun c l) (served c l s) names walk)
 
 -- A run.
 abbrev WalksBy : Config → Line → List (List ℕ) → Type 0
-WalksBy c l frames = Walk c l (map named_in (filter (is_of_link c.side) frames))
+WalksBy c l frames = Walk c l (map named_in (filter (is_of_a_link c.side) frames))
 
-names-append : (c : Config) (front behind : List (List ℕ)) → map named_in (filter (is_of_link c.side) (front ++ behind)) ≡ map named_in (filter (is_of_link c.side) front) ++ map named_in (filter (is_of_link c.side) behind)
-names-append c front behind = ap (map named_in) (filter-append (is_of_link c.side) front behind) ∙ map-append named_in (filter (is_of_link c.side) front) (filter (is_of_link c.side) behind)
+names-append : (c : Config) (front behind : List (List ℕ)) → map named_in (filter (is_of_a_link c.side) (front ++ behind)) ≡ map named_in (filter (is_of_a_link c.side) front) ++ map named_in (filter (is_of_a_link c.side) behind)
+names-append c front behind = ap (map named_in) (filter-append (is_of_a_link c.side) front behind) ∙ map-append named_in (filter (is_of_a_link c.side) front) (filter (is_of_a_link c.side) behind)
 
 pull-walks-by : (c : Config) → line.IsInRange c → (l : Line) → line.IsSound c l → NoneWaits c l → (frames : List (List ℕ)) → WalksBy c (lines.after c pull l) frames
     → WalksBy c l (frames_begun (seen c pull l (lines.answer c pull l)) ++ frames)
 pull-walks-by c ranged l s plain frames walk =
-    subst (Walk c l) (sym (names-append c (frames_begun (seen c pull l (lines.answer c pull l))) frames)) (pull-walks c ranged l s plain (map named_in (filter (is_of_link c.side) frames)) walk)
+    subst (Walk c l) (sym (names-append c (frames_begun (seen c pull l (lines.answer c pull l))) frames)) (pull-walks c ranged l s plain (map named_in (filter (is_of_a_link c.side) frames)) walk)
 
 pub links-take-turns : Always LinksTakeTurns
 links-take-turns c events number ranged all within before pulls split only =

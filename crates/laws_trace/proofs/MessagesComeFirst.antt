@@ -22,7 +22,7 @@ use Rattle.model_card.specs.Run.{moments, after_all}
 use Rattle.laws_card.proofs.Wherever.{all-right, config-stays}
 use Rattle.laws_line.specs.Pulls.{IsMessage, IsUnit, IsOfLink, IsOwed, IsIdle, contents_of}
 use Rattle.laws_line.proofs.Serving.{served}
-use Rattle.laws_trace.specs.LinksTakeTurns.{is_of_link}
+use Rattle.laws_trace.specs.LinksTakeTurns.{is_of_a_link}
 use Rattle.laws_trace.specs.MessagesComeFirst.{rank, AreByRank, MessagesComeFirst}
 use Rattle.laws_trace.specs.Trace.{Always, seen, frames_begun, trace}
 use Rattle.laws_trace.specs.Units.{is_unit}
@@ -83,7 +83,7 @@ module _ (c : Config) (l : Line) (s : IsSound c l) (plain : NoneWaits c l) (fram
   message-pull : (frame : List ℕ) → IsMessage c l next frame → ByRank c next frames → ByRank c l (frame ∷ frames)
   message-pull frame x h =
       let a : Address = record { sapi = 63; command = true; tei = 127 } in
-      let of_link : is_of_link c.side frame ≡ false = ap (is_of_link c.side) x.spelled ∙ ui-frame c.side a (information_of x.message) (omega arith) (omega arith) refl in
+      let of_link : is_of_a_link c.side frame ≡ false = ap (is_of_a_link c.side) x.spelled ∙ ui-frame c.side a (information_of x.message) (omega arith) (omega arith) refl in
       let unit : is_unit c.side frame ≡ false = ap (is_unit c.side) x.spelled ∙ other-frame c.side a (Ui false) refl (information_of x.message) in
       let zero : rank c.side frame ≡ 0 = ap (λ b. cond b 2 (cond (is_unit c.side frame) 1 0)) of_link ∙ ap (λ b. cond {A = ℕ} b 1 0) unit in
       record {
@@ -96,7 +96,7 @@ module _ (c : Config) (l : Line) (s : IsSound c l) (plain : NoneWaits c l) (fram
   unit-pull frame x h =
       let small = first-of c l.units x.unit x.oldest s.units in
       let a : Address = record { sapi = sapi_of x.unit.service; command = true; tei = x.unit.tei } in
-      let of_link : is_of_link c.side frame ≡ false = ap (is_of_link c.side) x.spelled ∙ ui-frame c.side a x.unit.contents (small-sapi x.unit.service) (omega (arith, small)) refl in
+      let of_link : is_of_a_link c.side frame ≡ false = ap (is_of_a_link c.side) x.spelled ∙ ui-frame c.side a x.unit.contents (small-sapi x.unit.service) (omega (arith, small)) refl in
       let unit : is_unit c.side frame ≡ true = ap (is_unit c.side) x.spelled ∙ unit-is c x.unit small in
       let one : rank c.side frame ≡ 1 = ap (λ b. cond b 2 (cond (is_unit c.side frame) 1 0)) of_link ∙ ap (λ b. cond {A = ℕ} b 1 0) unit in
       let behind : All (AtLeast c.side 1) frames = h.units (x.messages ∙ x.no_message) in
@@ -109,7 +109,7 @@ module _ (c : Config) (l : Line) (s : IsSound c l) (plain : NoneWaits c l) (fram
   link-pull : (frame : List ℕ) → IsOfLink c (contents_of l) l next frame → ByRank c next frames → ByRank c l (frame ∷ frames)
   link-pull frame x h =
       let a : Address = record { sapi = sapi_of (service_at x.number); command = x.command; tei = x.tei } in
-      let of_link : is_of_link c.side frame ≡ true = ap (is_of_link c.side) x.spelled ∙ link-frame c.side a x.control (plain-order c l next frame plain x) (unwrap_or x.information []) in
+      let of_link : is_of_a_link c.side frame ≡ true = ap (is_of_a_link c.side) x.spelled ∙ link-frame c.side a x.control (plain-order c l next frame plain x) (unwrap_or x.information []) in
       let two : rank c.side frame ≡ 2 = ap (λ b. cond b 2 (cond (is_unit c.side frame) 1 0)) of_link in
       let behind : All (AtLeast c.side 2) frames = h.links (x.messages ∙ x.its_turn.no_message) (x.units ∙ x.its_turn.no_unit) in
       record {

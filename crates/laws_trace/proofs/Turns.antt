@@ -15,7 +15,7 @@ use Rattle.lapd_frame.proofs.AddressField.{address-again}
 use Rattle.lapd_frame.proofs.ControlField.{control-again}
 use Rattle.lapd_frame.proofs.Spelling.{reading-again}
 use Rattle.laws_trace.specs.Units.{is_ui}
-use Rattle.laws_trace.specs.LinksTakeTurns.{named_in, is_no_ui, is_of_link}
+use Rattle.laws_trace.specs.LinksTakeTurns.{named_in, is_no_ui, is_of_a_link}
 
 -- What is no UI is of a link, whether the grammar has it or not.
 module _ (side : Side) (a : Address) (c : Control) (other : is_ui c ≡ false) where
@@ -35,7 +35,7 @@ module _ (side : Side) (a : Address) (c : Control) (other : is_ui c ≡ false) w
   by-length r true h = refl
   by-length r false h = h
 
-  pub link-frame : (info : List ℕ) → is_of_link side (spelling side (record { address = a; control = c; info = info })) ≡ true
+  pub link-frame : (info : List ℕ) → is_of_a_link side (spelling side (record { address = a; control = c; info = info })) ≡ true
   unfolding reading header_of
   link-frame info =
       let octets = spelling side (record { address = a; control = c; info = info }) in
@@ -47,7 +47,7 @@ module _ (side : Side) (a : Address) (c : Control) (other : is_ui c ≡ false) w
       (subst (λ x. is_no_ui (completed octets (cond bad (Err BadExtension) (checked x (Some c)))) ≡ true) (sym (address-again side a)) (by-extension octets bad)))
 
 -- A UI of the grammar is not.
-pub ui-frame : (side : Side) (a : Address) (info : List ℕ) → a.sapi < 64 → a.tei < 128 → a.command ≡ true → is_of_link side (spelling side (record { address = a; control = Ui false; info = info })) ≡ false
+pub ui-frame : (side : Side) (a : Address) (info : List ℕ) → a.sapi < 64 → a.tei < 128 → a.command ≡ true → is_of_a_link side (spelling side (record { address = a; control = Ui false; info = info })) ≡ false
 ui-frame side a info sapi tei command =
     let parts : Parts = record { address = a; control = Ui false; info = info } in
     ap is_no_ui (reading-again side parts (spelling side parts) (record { is_frame = record { sapi = sapi; tei = tei; kind = command; size = refl }; octets_are = refl }))

@@ -36,7 +36,7 @@ use Rattle.laws_card.specs.PromisesOfPulls.{StaysAt}
 use Rattle.laws_card.proofs.Wherever.{all-left, all-right, config-stays}
 use Rattle.laws_trace.specs.Trace as traces
 use Rattle.laws_trace.specs.Trace.{Always, Seen, seen, trace, frames_begun, IsAmong}
-use Rattle.laws_trace.specs.LinksTakeTurns.{LinkName, named_in, is_of_link, links_begun}
+use Rattle.laws_trace.specs.LinksTakeTurns.{LinkName, named_in, is_of_a_link, links_begun}
 use Rattle.laws_trace.specs.TurnsMeanwhile.{name_of, HasToSend, HasToSendAllTheWhile, LinksTakeTurnsMeanwhile}
 use Rattle.laws_trace.proofs.Octets.{no-frame, no-frame-asked}
 use Rattle.laws_trace.proofs.PullRuns.{apart, none-after}
@@ -128,16 +128,16 @@ module _ (c : Config) (one tei other its : ℕ) where
   -- One event.
   module _ (ranged : line.IsInRange c) (l : Line) (h : Meets l) (plain : NoneWaits c l) where
     abbrev names-in : List (List ℕ) → List LinkName
-    names-in frames = map named_in (filter (is_of_link c.side) frames)
+    names-in frames = map named_in (filter (is_of_a_link c.side) frames)
 
     small-sapi : (service : Service) → sapi_of service < 64
     small-sapi Call = omega arith
     small-sapi Packet = omega arith
 
-    no-name : (frame : List ℕ) (names : List LinkName) → is_of_link c.side frame ≡ false → Walk l names → Walk l (names-in (frame ∷ []) ++ names)
+    no-name : (frame : List ℕ) (names : List LinkName) → is_of_a_link c.side frame ≡ false → Walk l names → Walk l (names-in (frame ∷ []) ++ names)
     no-name frame names none walk = subst (λ b. Walk l (map named_in (cond b (frame ∷ []) []) ++ names)) (sym none) walk
 
-    a-name : (frame : List ℕ) (name : LinkName) (names : List LinkName) → is_of_link c.side frame ≡ true → named_in frame ≡ name → Walk l (name ∷ names) → Walk l (names-in (frame ∷ []) ++ names)
+    a-name : (frame : List ℕ) (name : LinkName) (names : List LinkName) → is_of_a_link c.side frame ≡ true → named_in frame ≡ name → Walk l (name ∷ names) → Walk l (names-in (frame ∷ []) ++ names)
     a-name frame name names is named walk =
         subst (λ b. Walk l (map named_in (cond b (frame ∷ []) []) ++ names)) (sym is) (subst (λ n. Walk l (n ∷ names)) (sym named) walk)
 
@@ -147,7 +147,7 @@ module _ (c : Config) (one tei other its : ℕ) where
     of-link : (frame : List ℕ) (x : IsOfLink c (contents_of l) l next frame) (names : List LinkName) → Walk next names → Walk l (names-in (frame ∷ []) ++ names)
     of-link frame x names walk =
         let a : Address = record { sapi = sapi_of (service_at x.number); command = x.command; tei = x.tei } in
-        a-name frame (name_of x.number x.tei) names (ap (is_of_link c.side) x.spelled ∙ link-frame c.side a x.control (plain-order c l next frame plain x) (unwrap_or x.information []))
+        a-name frame (name_of x.number x.tei) names (ap (is_of_a_link c.side) x.spelled ∙ link-frame c.side a x.control (plain-order c l next frame plain x) (unwrap_or x.information []))
         (ap named_in x.spelled ∙ name-is c.side a x.control (unwrap_or x.information []))
         (goes l next x.number x.tei names h (record {
           on_line = x.on_line;
@@ -163,11 +163,11 @@ module _ (c : Config) (one tei other its : ℕ) where
     by-pull None x names walk = still l next names x.turn walk
     by-pull (Some t) (inl x) names walk =
         let a : Address = record { sapi = 63; command = true; tei = 127 } in
-        no-name t.frame names (ap (is_of_link c.side) x.spelled ∙ ui-frame c.side a (information_of x.message) (omega arith) (omega arith) refl) (still l next names x.turn walk)
+        no-name t.frame names (ap (is_of_a_link c.side) x.spelled ∙ ui-frame c.side a (information_of x.message) (omega arith) (omega arith) refl) (still l next names x.turn walk)
     by-pull (Some t) (inr (inl x)) names walk =
         let a : Address = record { sapi = sapi_of x.unit.service; command = true; tei = x.unit.tei } in
         let small = first-of c l.units x.unit x.oldest h.sound.units in
-        no-name t.frame names (ap (is_of_link c.side) x.spelled ∙ ui-frame c.side a x.unit.contents (small-sapi x.unit.service) (omega (arith, small)) refl) (still l next names x.turn walk)
+        no-name t.frame names (ap (is_of_a_link c.side) x.spelled ∙ ui-frame c.side a x.unit.contents (small-sapi x.unit.service) (omega (arith, small)) refl) (still l next names x.turn walk)
     by-pull (Some t) (inr (inr x)) names walk = of-link t.frame x names walk
 
     none-begins : (e : line_event.Event) (a : Answer) (names : List LinkName) → frames_begun (seen c e l a) ≡ [] → (lines.after c e l).turn ≡ l.turn
@@ -186,8 +186,8 @@ module _ (c : Config) (one tei other its : ℕ) where
 
 names-both : (c : Config) (t u : List Seen) → links_begun c (t ++ u) ≡ links_begun c t ++ links_begun c u
 names-both c t u =
-    ap (map named_in) (ap (filter (is_of_link c.side)) (flat_map-append traces.frame_begun t u) ∙ filter-append (is_of_link c.side) (frames_begun t) (frames_begun u))
-    ∙ map-append named_in (filter (is_of_link c.side) (frames_begun t)) (filter (is_of_link c.side) (frames_begun u))
+    ap (map named_in) (ap (filter (is_of_a_link c.side)) (flat_map-append traces.frame_begun t u) ∙ filter-append (is_of_a_link c.side) (frames_begun t) (frames_begun u))
+    ∙ map-append named_in (filter (is_of_a_link c.side) (frames_begun t)) (filter (is_of_a_link c.side) (frames_begun u))
 
 -- A run.
 module _ (number one tei other its : ℕ) where

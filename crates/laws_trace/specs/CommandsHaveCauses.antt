@@ -36,16 +36,16 @@ is_command enquiry command (ReceiveNotReady nr p) = command && p
 is_command enquiry command (Reject nr p) = command && p
 is_command kind command other = false
 
-abbrev pub is_of_link : Service → ℕ → Kind → Result Parts ReadFault → Bool
-is_of_link service tei kind (Ok frame) =
+abbrev pub is_read_as : Service → ℕ → Kind → Result Parts ReadFault → Bool
+is_read_as service tei kind (Ok frame) =
     (frame.address.sapi == sapi_of service && frame.address.tei == tei) && is_command kind frame.address.command frame.control
-is_of_link service tei kind (Err fault) = false
+is_read_as service tei kind (Err fault) = false
 
-abbrev pub begins : Config → Service → ℕ → Kind → List ℕ → Bool
-begins c service tei kind octets = is_of_link service tei kind (reading c.side octets)
+abbrev pub is_of_kind : Config → Service → ℕ → Kind → List ℕ → Bool
+is_of_kind c service tei kind octets = is_read_as service tei kind (reading c.side octets)
 
 abbrev pub commands_begun : Config → Service → ℕ → Kind → List Seen → ℕ
-commands_begun c service tei kind t = length (filter (begins c service tei kind) (frames_begun t))
+commands_begun c service tei kind t = length (filter (is_of_kind c service tei kind) (frames_begun t))
 
 -- What leads to one: for SABME a granted request to establish the link, or an error of it that is noted of what was heard; for
 -- DISC a granted request to release it; for an enquiry the expiry of its T203; and for each the expiry of its T200 (clauses

@@ -25,11 +25,11 @@ abbrev pub is_no_ui : Result Parts ReadFault → Bool
 is_no_ui (Ok frame) = not (is_ui frame.control)
 is_no_ui (Err fault) = true
 
-abbrev pub is_of_link : Side → List ℕ → Bool
-is_of_link side octets = is_no_ui (reading side octets)
+abbrev pub is_of_a_link : Side → List ℕ → Bool
+is_of_a_link side octets = is_no_ui (reading side octets)
 
 abbrev pub links_begun : Config → List Seen → List LinkName
-links_begun c t = map named_in (filter (is_of_link c.side) (frames_begun t))
+links_begun c t = map named_in (filter (is_of_a_link c.side) (frames_begun t))
 
 -- Between two frames of one link begins one of every other link that begins one behind these.
 abbrev pub TakeTurns : List LinkName → Type 0

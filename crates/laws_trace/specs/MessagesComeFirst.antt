@@ -7,12 +7,12 @@ use Rattle.model_card.specs.Event.{Event}
 use Rattle.model_card.specs.Run.{moments, after_all}
 use Rattle.laws_card.specs.Among.{ArePullsAt}
 use Rattle.laws_trace.specs.Trace.{trace, frames_begun}
-use Rattle.laws_trace.specs.LinksTakeTurns.{is_of_link}
+use Rattle.laws_trace.specs.LinksTakeTurns.{is_of_a_link}
 use Rattle.laws_trace.specs.Units.{is_unit}
 
 -- The rank of a frame: 0 of a message of TEI management, 1 of unit data, and 2 of a link (profile).
 abbrev pub rank : Side → List ℕ → ℕ
-rank side octets = if is_of_link side octets then 2 else if is_unit side octets then 1 else 0
+rank side octets = if is_of_a_link side octets then 2 else if is_unit side octets then 1 else 0
 
 -- None begins before one of a lower rank.
 abbrev pub AreByRank : Side → List (List ℕ) → Type 0

@@ -59,7 +59,7 @@ pub fn all_frames_go_out()
     ensures waited { Always AllThatWaitedBegins }
 {}
 
-/// Unit data is heard at the other end. The UI frames that a receiver hears in the octets that a line puts, but those of TEI
+/// Unit data is heard at the other end. The UI frames that a receiver hears in the octets that a line puts, except those of TEI
 /// management, are the first of the unit data that was granted: in order, whole, each once, with its service and its TEI
 /// (`front`). And they are all of it, once the line was only pulled, as often as the configuration says (`all`). This holds
 /// where the contents that were granted are octets, each 0 to 255 (Q.921 clauses 2.2 to 2.7, 3.6.5 and 5.2.2).

@@ -14,9 +14,9 @@ use std::alloc::Global;
 
 const HEAD: &str = "# What a card does, printed by itself
 
-For whoever has the standard's state tables at hand. `tool_tables` prints this page: it plays each event on the proved
-`Link` and `Teis`, by their public calls, and tells what they answer. A test compares. [MACHINE.md](MACHINE.md) has the
-rules in words.
+For a reader who has the standard's state tables at hand. `tool_tables` prints this page: it plays each event on the
+proved `Link` and `Teis`, by their public calls, and tells what they answer. A test compares. A link is the same on both
+sides of a line; TEI management is the network's side alone. [MACHINE.md](MACHINE.md) has the rules in words.
 
 ## Links
 
@@ -32,7 +32,7 @@ Events stand down, states across; events with the same row stand beside each oth
 
 An empty cell: nothing is sent, told or ordered, and the state stays. A ditto mark (\"): as in the cell to the left. The
 window is 2, and so are the contents that a link keeps and the control frames that may wait; N200 is 3, N201 is 8
-octets; V(A) and V(R) are 0. Each column begins where what waited has been sent, but for two answers where it says that
+octets; V(A) and V(R) are 0. Each column begins where what waited has been sent, except two answers where it says that
 they wait.
 ";
 

@@ -14,7 +14,7 @@ const HEAD: &str = "
 A line with room for two TEIs. A cell has, in this order: the message that is sent, or how many found no room and are
 lost; what layer management is told; what is ordered of T201; and which TEI comes to the line (+) or leaves it (-). Ri is
 the reference number of a request; that of TEI 64 is 1, that of TEI 65 is 2. A check has two periods of T201. What waited
-has been sent, but for four messages where a column says that they wait.
+has been sent, except four messages where a column says that they wait.
 ";
 
 /// What happens to TEI management.

@@ -1,6 +1,7 @@
 -- What is told is what was heard: over runs.
 use Rattle.std.proofs.Common.{◌≡◌, ℕ, ◌+◌, ◌%◌, ◌<◌, ◌&&◌, ◌||◌, Bool, true, false, cond, List, [], ◌∷◌, ◌++◌, map, Option, Some, None, option_map, refl, sym, ap, ◌∙◌, subst, arith, eqb-true, eq-eqb, ◌==◌, Result, Ok, Err, true≢false, ◌⊎◌, inl, inr}
 use Rattle.std.specs.Prelude.{fold, option_to_list, is_some}
+use Rattle.lapd_frame.specs.declared.notes.Note.{Note}
 use Rattle.std.specs.List.{list_any}
 use Rattle.std.specs.Option.{option_or, option_map_or}
 use Rattle.std.proofs.lemmas.List.{get_or-replicate}
@@ -56,7 +57,7 @@ use Rattle.model_card.specs.Run.{after_all, AreAtLines}
 use Rattle.model_card.proofs.CardSound.{fresh_is_sound}
 use Rattle.laws_trace.specs.Trace as traces
 use Rattle.laws_trace.specs.Trace.{Seen, seen_told, seen, Always}
-use Rattle.laws_trace.specs.Deliveries.{Watched, nothing_yet, parts_of, frame_of, is_for, begins, counted, watch, number_in, IsOfFrame, IsHeard, AreHeard, Deliveries}
+use Rattle.laws_trace.specs.Deliveries.{Watched, nothing_yet, parts_of, frame_of, is_for, begins, counted, watch, number_in, IsOfFrame, IsHeard, Deliveries}
 use Rattle.laws_trace.specs.Units.{is_ui}
 use Rattle.laws_trace.proofs.Begins.{unless, up-before}
 use Rattle.laws_trace.proofs.Deliveries.{frame_by, data-tells, unit-tells, data-own, unit-own, none-noted, one-begins, data-of, unit-of, group-notes}
@@ -255,6 +256,21 @@ module _ (c : Config) (ranged : IsInRange c) (l : Line) (s : IsSound c l) (e : E
         one-counts x,
       )
 
+-- What is heard of notes, one after the other.
+abbrev IsHeardIn : Service → ℕ → Watched → Seen → Type 0
+IsHeardIn service tei w (traces.noted ns contents) = IsHeard service tei w ns contents
+IsHeardIn service tei w other = Unit {0}
+
+abbrev AreHeard : Config → Service → ℕ → Watched → List Seen → Type 0
+AreHeard c service tei w [] = Unit {0}
+AreHeard c service tei w (x ∷ t) = IsHeardIn service tei w x × AreHeard c service tei (watch c service tei w x) t
+
+-- So it is of notes wherever they are told.
+heard-at : (c : Config) (service : Service) (tei : ℕ) (w : Watched) (before : List Seen) (ns : List Note) (contents : Option (List ℕ)) (behind : List Seen)
+    → AreHeard c service tei w (before ++ traces.noted ns contents ∷ behind) → IsHeard service tei (fold (watch c service tei) w before) ns contents
+heard-at c service tei w [] ns contents behind h = h.0
+heard-at c service tei w (x ∷ before) ns contents behind h = heard-at c service tei (watch c service tei w x) before ns contents behind h.1
+
 -- What is seen of an event, to whoever watches the link.
 module _ (c : Config) (service : Service) (tei : ℕ) where
   abbrev pub Passes : Watched → List Seen → Link → Type 0
@@ -342,4 +358,5 @@ run-passes c events number ranged all within service tei =
     (run-shows Stands Shows rests joins steps (cards.fresh c) events number (fresh_is_sound c ranged) all tt).0 service tei 0 (λ up. ap (λ (k : Link). k.r) off)
 
 pub deliveries : Always Deliveries
-deliveries c events number ranged all within service tei = (run-passes c events number ranged all within service tei).0
+deliveries c events number ranged all within service tei before ns contents behind split =
+    heard-at c service tei nothing_yet before ns contents behind (subst (AreHeard c service tei nothing_yet) split (run-passes c events number ranged all within service tei).0)

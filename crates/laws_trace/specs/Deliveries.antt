@@ -95,17 +95,11 @@ pub record IsHeard (service : Service) (tei : ℕ) (w : Watched) (ns : List Note
   pub unit_is : list_any (is_unit_of service tei) ns ≡ true → IsOfFrame service tei w (λ control. is_ui control ≡ true) contents
   pub once : count_by tells_contents ns ≡ length (option_to_list contents)
 
-abbrev pub IsHeardIn : Service → ℕ → Watched → Seen → Type 0
-IsHeardIn service tei w (noted ns contents) = IsHeard service tei w ns contents
-IsHeardIn service tei w other = Unit {0}
-
-abbrev pub AreHeard : Config → Service → ℕ → Watched → List Seen → Type 0
-AreHeard c service tei w [] = Unit {0}
-AreHeard c service tei w (x ∷ t) = IsHeardIn service tei w x × AreHeard c service tei (watch c service tei w x) t
-
--- So it is of every link, from the start of the card on.
+-- So it is of every link, from the start of the card on, wherever notes are told.
 abbrev pub Deliveries : Config → List Event → ℕ → Type 0
-Deliveries c events number = (service : Service) (tei : ℕ) → AreHeard c service tei nothing_yet (trace_of c events number)
+Deliveries c events number =
+    (service : Service) (tei : ℕ) (before : List Seen) (ns : List Note) (contents : Option (List ℕ)) (behind : List Seen) →
+    trace_of c events number ≡ before ++ noted ns contents ∷ behind → IsHeard service tei (fold (watch c service tei) nothing_yet before) ns contents
 
 -- And contents that may be told are told, in the moment of their frame: an I-frame for a link in state 7 or 8, own busy off, of
 -- at most N201 octets, whose N(S) is the number of contents told, modulo 128 (clauses 5.6.2 and 5.6.6).

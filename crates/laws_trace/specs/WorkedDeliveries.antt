@@ -1,5 +1,5 @@
 -- Worked values: what a watcher of a link counts, and traces that break the law.
-use Rattle.std.specs.Prelude.{◌≡◌, ℕ, ◌*◌, List, [], ◌∷◌, ◌++◌, Some, None, fold, refl}
+use Rattle.std.specs.Prelude.{◌≡◌, ℕ, ◌*◌, List, [], ◌∷◌, ◌++◌, take, Some, None, fold, refl}
 use Rattle.std.specs.Option.{option_map_or}
 use Rattle.std.proofs.Common.{ap, ◌∙◌}
 use Rattle.lapd_bits.specs.Stream as stream
@@ -18,7 +18,7 @@ use Rattle.model_card.specs.Event.{Event}
 use Rattle.model_card.specs.Run.{moments, after_all}
 use Rattle.laws_card.specs.Worked as worked
 use Rattle.laws_card.specs.Worked.{usual, hears}
-use Rattle.laws_trace.specs.Deliveries.{nothing_yet, number_in, watch, AreHeard, IsTold}
+use Rattle.laws_trace.specs.Deliveries.{nothing_yet, number_in, watch, IsHeard, IsTold}
 use Rattle.laws_trace.specs.Trace.{Seen, heard, noted, lost, trace, trace_of}
 use Rattle.lapd_bits.specs.Bits.{low_bits}
 
@@ -46,13 +46,13 @@ unfolding reading header_of control_of unnumbered_of
 still_one = refl
 
 -- What is told with no frame breaks the law; so does an I-frame that leaves a gap.
-unheard : AreHeard usual Call 64 nothing_yet (noted (Data Call 64 ∷ []) (Some (0xAB ∷ [])) ∷ []) → ⊥
-unheard h = cc ((h.0.data_is refl).heard)
+unheard : IsHeard Call 64 nothing_yet (Data Call 64 ∷ []) (Some (0xAB ∷ [])) → ⊥
+unheard h = cc ((h.data_is refl).heard)
 
-gap : AreHeard usual Call 64 nothing_yet (up ++ information 1 0xAB) → ⊥
+gap : IsHeard Call 64 (fold (watch usual Call 64) nothing_yet (up ++ take 1 (information 1 0xAB))) (Data Call 64 ∷ []) (Some (0xAB ∷ [])) → ⊥
 unfolding seq reading header_of control_of unnumbered_of
 gap h =
-    let x = h.1.1.1.1.0.data_is refl in
+    let x = h.data_is refl in
     let apart : Some 1 ≡ Some 0 = ap (λ o. option_map_or (λ (f : Parts). number_in f.control) o None) x.heard ∙ x.control in
     cc apart
 

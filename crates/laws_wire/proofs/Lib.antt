@@ -3,6 +3,9 @@ pub mod Asking
 pub mod Speaking
 pub mod Calling
 pub mod Whole
+pub mod Fair
+pub mod Ringing
+pub mod Joint
 pub mod Spelled
 pub mod LineSpeaks
 pub mod Standing
@@ -11,7 +14,16 @@ pub mod Up
 pub mod Quiet
 pub mod Phases
 pub mod Beginning
+pub mod SoFar
 pub mod Run
+pub mod Held
+pub mod Acting
+pub mod LossyPhases
+pub mod StillRinging
+pub mod LossyRinging
+pub mod LossyHalf
+pub mod LossyUp
+pub mod LossyRun
 pub mod Again
 pub mod Delivering
 pub mod PremisesMet

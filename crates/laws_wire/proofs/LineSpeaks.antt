@@ -10,6 +10,7 @@ use Rattle.lapd_bits.specs.Stream as stream
 use Rattle.lapd_bits.specs.RoundTrip.{IsHeardWhole}
 use Rattle.lapd_frame.specs.declared.services.Service.{Service}
 use Rattle.lapd_frame.specs.declared.services.Service.TheVariants.{Call, Packet}
+use Rattle.lapd_frame.specs.declared.timers.Timer.{Timer}
 use Rattle.lapd_frame.specs.Grammar.{Parts}
 use Rattle.lapd_frame.specs.Reading.{reading}
 use Rattle.lapd_frame.specs.Services.{sapi_of, service_of}
@@ -17,13 +18,15 @@ use Rattle.lapd_tei.specs.Messages.{frame_of as message_frame}
 use Rattle.lapd_tei.specs.Sound.{IsAt}
 use Rattle.lapd_tei.proofs.Tables.{place_of-is}
 use Rattle.model_link.specs.declared.terms.Terms.{Terms}
+use Rattle.model_link.specs.declared.timers.LinkTimer.{LinkTimer}
 use Rattle.model_link.specs.Events as link
 use Rattle.model_link.specs.Link.{Link, fresh}
 use Rattle.model_link.specs.Machine as links
 use Rattle.model_link.specs.Told.{Given}
 use Rattle.model_line.specs.declared.config.Config.{Config}
 use Rattle.model_line.specs.Effect.{Aim, at_link, told_of_link, of_aim}
-use Rattle.model_line.specs.Event.{octet, request, told}
+use Rattle.model_line.specs.Event.{octet, expiry, request, told}
+use Rattle.model_line.specs.Expiry.{at_timer, aim_of_expiry}
 use Rattle.model_line.specs.Line.{Line, link_number, service_at, place_at, tei_at, terms, terms_at, link_at, link_in, link_count, place_in}
 use Rattle.model_line.specs.Machine as lines
 use Rattle.model_line.specs.Machine.{unless_refused, unless_refused_told, of_request}
@@ -201,3 +204,22 @@ module _ (c : Config) (service : Service) (tei place : ℕ) (l : Line) (s : IsSo
     asks-told =
         ap (λ o. unless_refused_told o (of_request c r l)) granted ∙ ap (λ aim. told (of_aim c aim l).told) aims-at
         ∙ ap (λ y. told (told_of_link (links.told t asks y))) h.link
+
+  -- a timer of it expires
+  module _ (timer : Timer) (its : LinkTimer) (aims : aim_of_expiry timer l ≡ at_timer service tei its (place_in l tei)) where
+    abbrev expires : link.Event
+    expires = link.expired its
+
+    expires-at : aim_of_expiry timer l ≡ at_link service tei place expires
+    expires-at = aims ∙ ap (at_timer service tei its) h.placed
+
+    pub expires-on : Speaks c service tei place (links.after t expires x) (lines.after c (expiry timer) l)
+    unfolding lines.after
+    expires-on =
+        subst (λ y. Speaks c service tei place y (of_aim c (aim_of_expiry timer l) l).line) (ap (links.after t expires) h.link)
+        (subst (λ aim. Speaks c service tei place (links.after t expires (link_at number l)) (of_aim c aim l).line) (sym expires-at)
+        (with-own (links.after t expires (link_at number l)) (of_aim c (at_link service tei place expires) l).line refl refl refl))
+
+    pub expires-told : lines.answer c (expiry timer) l ≡ told (told_of_link (links.told t expires x))
+    unfolding lines.answer
+    expires-told = ap (λ aim. told (of_aim c aim l).told) expires-at ∙ ap (λ y. told (told_of_link (links.told t expires y))) h.link

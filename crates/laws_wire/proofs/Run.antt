@@ -1,7 +1,6 @@
 -- A whole call: how many turns there are, what layer 3 was told so far, and what it was told where no turn is left.
-use Rattle.std.proofs.Common.{◌≡◌, ℕ, ◌+◌, ◌*◌, ◌≤◌, List, [], ◌∷◌, ◌++◌, map, take, drop, None, refl, sym, ap, subst, ◌∙◌, inl, inr, arith}
+use Rattle.std.proofs.Common.{◌≡◌, ℕ, ◌+◌, ◌*◌, ◌≤◌, List, [], ◌∷◌, map, take, None, refl, sym, ap, subst, ◌∙◌, inl, inr, arith}
 use Rattle.std.specs.Prelude.{All, if◌then◌else◌}
-use Rattle.std.proofs.lemmas.List.{map-append, take-append-drop}
 use Rattle.std.proofs.lemmas.List.Elements.{All-head, All-tail}
 use Rattle.lapd_frame.specs.declared.services.Service.{Service}
 use Rattle.lapd_frame.specs.Grammar.{Parts, spelling, other_side}
@@ -23,6 +22,7 @@ use Rattle.laws_wire.specs.Call.{calling, IsTalk, confirmed, indicated, data_tol
 use Rattle.laws_wire.proofs.Beginning.{calls, answers}
 use Rattle.laws_wire.proofs.Calling.{asked, caller, end, with_ua_waiting, with_ua_first}
 use Rattle.laws_wire.proofs.Spelled.{twice-other}
+use Rattle.laws_wire.proofs.SoFar.{at-first, then-data}
 use Rattle.laws_wire.proofs.Standing.{Stands, still-gives-none}
 use Rattle.laws_wire.proofs.Talking.{Face, Past, unheard, after_note, Holds, all-told, none-told}
 use Rattle.laws_wire.proofs.Up.{pair_of, Talk, granted_of}
@@ -95,21 +95,10 @@ module _ (service : Service) (tei : ℕ) where
         }
 
     -- at any time
-    at-first : (first : LineTold) (granted : List (List ℕ)) (told : List LineTold) → told ≡ [] → IsBeginningOf (first ∷ map (data_told service tei) granted) told
-    at-first first granted told none = (first ∷ map (data_told service tei) granted, ap (λ ts. ts ++ first ∷ map (data_told service tei) granted) none)
-
-    then-data : (first : LineTold) (r : ℕ) (granted : List (List ℕ)) (told : List LineTold) → told ≡ first ∷ map (data_told service tei) (take r granted)
-        → IsBeginningOf (first ∷ map (data_told service tei) granted) told
-    then-data first r granted told is = (
-      map (data_told service tei) (drop r granted),
-      ap (λ ts. ts ++ map (data_told service tei) (drop r granted)) is
-          ∙ ap (λ ts. first ∷ ts) (sym (map-append (data_told service tei) (take r granted) (drop r granted)) ∙ ap (map (data_told service tei)) (take-append-drop r granted)),
-    )
-
     by-pair : (first : LineTold) (k : Config) (place : ℕ) (other s : Station) (m n : End) → Holds k service tei place (after_note first) s n → other.granted ≡ m.link.contents
         → n.delivered ≡ take n.link.r m.link.contents → IsBeginningOf (first ∷ map (data_told service tei) other.granted) s.told
     by-pair first k place other s m n h granted delivered =
-        then-data first n.link.r other.granted s.told
+        then-data service tei first n.link.r other.granted s.told
         (all-told k service tei place (first ∷ []) s n h ∙ ap (λ xs. first ∷ map (data_told service tei) xs) (delivered ∙ ap (take n.link.r) (sym granted)))
 
     pub record ToldSoFar (w : Wire) : Type 0 where
@@ -117,14 +106,14 @@ module _ (service : Service) (tei : ℕ) where
       pub far : IsBeginningOf (indicated service tei ∷ map (data_told service tei) w.near.granted) w.far.told
 
     pub told-so_far : (w : Wire) (k : ℕ) → On w k → ToldSoFar w
-    told-so_far w k (inl h) = record { near = at-first (confirmed service tei) w.far.granted w.near.told (none-told c service tei p [] w.near _ h.both.near refl); far = at-first (indicated service tei) w.near.granted w.far.told (none-told d service tei q [] w.far _ h.both.far refl) }
-    told-so_far w k (inr (inl h)) = record { near = at-first (confirmed service tei) w.far.granted w.near.told (none-told c service tei p [] w.near _ h.both.near refl); far = at-first (indicated service tei) w.near.granted w.far.told (none-told d service tei q [] w.far _ h.both.far refl) }
+    told-so_far w k (inl h) = record { near = at-first service tei (confirmed service tei) w.far.granted w.near.told (none-told c service tei p [] w.near _ h.both.near refl); far = at-first service tei (indicated service tei) w.near.granted w.far.told (none-told d service tei q [] w.far _ h.both.far refl) }
+    told-so_far w k (inr (inl h)) = record { near = at-first service tei (confirmed service tei) w.far.granted w.near.told (none-told c service tei p [] w.near _ h.both.near refl); far = at-first service tei (indicated service tei) w.near.granted w.far.told (none-told d service tei q [] w.far _ h.both.far refl) }
     told-so_far w k (inr (inr (inl h))) = record {
-      near = at-first (confirmed service tei) w.far.granted w.near.told (none-told c service tei p [] w.near _ h.both.near refl);
+      near = at-first service tei (confirmed service tei) w.far.granted w.near.told (none-told c service tei p [] w.near _ h.both.near refl);
       far = by-pair (indicated service tei) d q w.near w.far (end (terms c service tei) caller []) (with_ua_waiting h.m) h.both.far h.both.near.granted h.pair.there.delivered;
     }
     told-so_far w k (inr (inr (inr (inl h)))) = record {
-      near = at-first (confirmed service tei) w.far.granted w.near.told (none-told c service tei p [] w.near _ h.both.near refl);
+      near = at-first service tei (confirmed service tei) w.far.granted w.near.told (none-told c service tei p [] w.near _ h.both.near refl);
       far = by-pair (indicated service tei) d q w.near w.far (end (terms c service tei) caller []) (with_ua_first h.m) h.both.far h.both.near.granted h.pair.there.delivered;
     }
     told-so_far w k (inr (inr (inr (inr h)))) = record {

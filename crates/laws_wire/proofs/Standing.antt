@@ -7,11 +7,13 @@ use Rattle.std.proofs.lemmas.List.Elements.{All-nil, All-cons, All-head, All-tai
 use Rattle.lapd_frame.specs.declared.refusals.Refusal.{Refusal}
 use Rattle.lapd_frame.specs.declared.refusals.Refusal.TheVariants.{PoolFull}
 use Rattle.lapd_frame.specs.declared.services.Service.{Service}
+use Rattle.lapd_frame.specs.declared.timers.Timer.{Timer}
 use Rattle.lapd_frame.specs.Grammar.{Parts, AreOctets, spelling}
 use Rattle.lapd_frame.specs.Reading.{reading}
 use Rattle.lapd_frame.specs.Services.{sapi_of}
 use Rattle.lapd_bits.specs.RoundTrip.{IsHeardWhole}
 use Rattle.model_link.specs.declared.terms.Terms.{Terms}
+use Rattle.model_link.specs.declared.timers.LinkTimer.{LinkTimer}
 use Rattle.model_link.specs.Events as link
 use Rattle.model_link.specs.Link.{Link, frame_of}
 use Rattle.model_link.specs.Machine as links
@@ -24,7 +26,8 @@ use Rattle.model_link.specs.declared.frames.ControlFrame.{ControlFrame}
 use Rattle.model_link.proofs.Giving.{given_is_frame}
 use Rattle.model_line.specs.declared.config.Config.{Config}
 use Rattle.model_line.specs.Effect.{told_of_link}
-use Rattle.model_line.specs.Event.{Answer, request, told, refused}
+use Rattle.model_line.specs.Event.{Answer, expiry, request, told, refused}
+use Rattle.model_line.specs.Expiry.{at_timer, aim_of_expiry}
 use Rattle.model_line.specs.Line.{Line, fresh_line, place_in, link_number, terms}
 use Rattle.model_line.specs.Machine as lines
 use Rattle.model_line.specs.Machine.{unless_refused, unless_refused_told, of_request}
@@ -40,7 +43,7 @@ use Rattle.model_line.proofs.Offered.{given_short}
 use Rattle.model_line.proofs.Ranges.{terms_in_range}
 use Rattle.model_card.specs.Card.{Card, line_at}
 use Rattle.model_card.specs.Event.{at as event_at}
-use Rattle.model_card.specs.Happening.{Happening, comes, goes, asks, line_of, events_at, events_of, HappensAt, AreIdle}
+use Rattle.model_card.specs.Happening.{Happening, comes, goes, expires, asks, line_of, events_at, events_of, HappensAt, AreIdle}
 use Rattle.model_card.specs.Machine.{wants_room}
 use Rattle.model_card.specs.Run.{after_all}
 use Rattle.model_card.specs.Said.{says, gives, next_of, said}
@@ -50,7 +53,7 @@ use Rattle.model_card.proofs.Happening.{all_at, config_stays, frames_are_of_line
 use Rattle.model_card.proofs.Steps.{has_lines, line_sound}
 use Rattle.laws_wire.specs.Wire.{Station, happens, told_by, frames_by, contents_in, contents_of, with_first_lost}
 use Rattle.laws_wire.specs.Wire as wire
-use Rattle.laws_wire.proofs.LineSpeaks.{Speaks, at, takes-own, goes-on, comes-told, comes-on, asks-on, asks-told}
+use Rattle.laws_wire.proofs.LineSpeaks.{Speaks, at, takes-own, goes-on, comes-told, comes-on, asks-on, asks-told, expires-on, expires-told}
 use Rattle.laws_wire.proofs.Speaking.{said_by}
 use Rattle.laws_wire.proofs.Spelled.{Carries, carries}
 
@@ -309,3 +312,25 @@ module _ (service : Service) (tei place : ℕ) (s : Station) (n : End) (h : Stan
             ∙ same-station m PoolFull refl)
         by-room false is =
             by-line (refusal c false r l) refl (found-room is)
+
+  -- ---- a timer of it expires
+
+  module _ (timer : Timer) (its : LinkTimer) (aims : (l : Line) → aim_of_expiry timer l ≡ at_timer service tei its (place_in l tei)) where
+    abbrev expiring : Happening
+    expiring = expires s.line timer
+
+    pub expires-stands : Stands c service tei place (happens expiring s) (with_link (link.expired its) n)
+    unfolding after_all lines.takes_slot
+    expires-stands =
+        let e = link.expired its in
+        stands-then expiring (h.within, tt) (with_link e n) (happens expiring s) refl refl refl
+        (subst (λ u. Speaks c service tei place (links.after u e n.link) (line_at s.line (after_all m (events_of m expiring)))) (sym h.terms)
+        (subst (Speaks c service tei place (links.after t e n.link)) (sym (there (lines.after c (expiry timer) l) (after_all m (events_of m expiring)) refl))
+        (expires-on c service tei place l own-sound n.link h.speaks timer its (aims l))))
+        (append-nil s.way ∙ h.way) h.carried
+
+    pub expires-said : (happens expiring s).told ≡ s.told ++ said_by (links.course n.terms (link.expired its) n.link)
+    unfolding lines.takes_slot
+    expires-said =
+        ap (λ a. s.told ++ told_by (says a)) (expires-told c service tei place l own-sound n.link h.speaks timer its (aims l))
+        ∙ ap (λ u. s.told ++ said_by (links.course u (link.expired its) n.link)) (sym h.terms)

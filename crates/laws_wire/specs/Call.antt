@@ -9,7 +9,7 @@ use Rattle.model_line.specs.Request.{Request, Establish, Data, Assign}
 use Rattle.model_line.specs.Sound.{IsInRange}
 use Rattle.model_card.specs.Card.{fresh}
 use Rattle.model_card.specs.Happening.{asks}
-use Rattle.laws_wire.specs.Wire.{Station, Wire, happens, Act, requests, times_out, gives, takes, loses, Doing, at_near, at_far, doing_all, turns, IsStill}
+use Rattle.laws_wire.specs.Wire.{Station, Wire, happens, Act, requests, gives, takes, Doing, at_near, at_far, doing_all, turns, IsStill}
 
 -- A card that has just begun, at one of its lines; it has the TEI assigned; and two such, of which one is asked to establish.
 abbrev pub station : Config → ℕ → Station
@@ -39,10 +39,9 @@ IsData service tei other = ⊥
 
 abbrev pub IsTalkOf : Service → ℕ → Act → Type 0
 IsTalkOf service tei (requests r) = IsData service tei r
-IsTalkOf service tei (times_out timer) = ⊥
 IsTalkOf service tei gives = Unit {0}
 IsTalkOf service tei takes = Unit {0}
-IsTalkOf service tei loses = ⊥
+IsTalkOf service tei other = ⊥
 
 abbrev pub IsTalk : Service → ℕ → Doing → Type 0
 IsTalk service tei (at_near act) = IsTalkOf service tei act

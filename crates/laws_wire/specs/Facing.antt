@@ -2,7 +2,7 @@
 use Rattle.std.specs.Prelude.{◌≡◌, ◌≢◌, ℕ, ◌+◌, ◌*◌, ◌<◌, ◌≤◌, ◌==◌, ◌&&◌, Bool, false, List, [], ◌∷◌, ◌++◌, length, map, flat_map, All, Some, option_to_list, Result, Ok, Err, if◌then◌else◌}
 use Rattle.std.specs.List.{list_any}
 use Rattle.lapd_frame.specs.declared.notes.Note.{Note}
-use Rattle.lapd_frame.specs.declared.notes.Note.TheVariants.{EstablishIndication, EstablishConfirm, ReleaseIndication, ReleaseConfirm, Data, Unit, Error, Assigned, Removed, Doubled, Xid}
+use Rattle.lapd_frame.specs.declared.notes.Note.TheVariants.{Data}
 use Rattle.lapd_frame.specs.declared.faults.ReadFault.{ReadFault}
 use Rattle.lapd_frame.specs.declared.services.Service.{Service}
 use Rattle.lapd_frame.specs.Grammar.{Parts, AreOctets, other_side}
@@ -27,16 +27,7 @@ line_of s = line_at s.line s.card
 -- The data that layer 3 was told of by this link.
 abbrev pub is_data : Service → ℕ → Note → Bool
 is_data service tei (Data s t) = same_service s service && t == tei
-is_data service tei (EstablishIndication s t) = false
-is_data service tei (EstablishConfirm s t) = false
-is_data service tei (ReleaseIndication s t) = false
-is_data service tei (ReleaseConfirm s t) = false
-is_data service tei (Unit s t) = false
-is_data service tei (Error s t code) = false
-is_data service tei (Assigned t) = false
-is_data service tei (Removed t) = false
-is_data service tei (Doubled t) = false
-is_data service tei (Xid s t) = false
+is_data service tei other = false
 
 abbrev pub data_in : Service → ℕ → LineTold → List (List ℕ)
 data_in service tei t = if list_any (is_data service tei) t.notes then option_to_list t.contents else []

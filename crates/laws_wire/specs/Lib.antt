@@ -1,5 +1,7 @@
 -- Two cards on one wire, and worked values of them.
 pub mod Wire
 pub mod Call
+pub mod Losing
 pub mod Facing
 pub mod Worked
+pub mod WorkedLosing

@@ -1,10 +1,10 @@
 -- Two cards on one wire: a line of one faces a line of the other, and what one gives the other takes.
 use Rattle.std.specs.Prelude.{◌≡◌, ℕ, ◌+◌, ◌==◌, Bool, true, false, ◌&&◌, not, List, [], ◌∷◌, ◌++◌, length, drop, None, Some, is_some, if◌then◌else◌}
 use Rattle.lapd_frame.specs.declared.timers.Timer.{Timer}
-use Rattle.model_line.specs.Event.{LineTold, told, refused, pulled}
-use Rattle.model_line.specs.Request.{Request, Establish, Release, Data, Unit, Assign, Remove, Check, SetBusy, ClearBusy}
+use Rattle.model_line.specs.Event.{LineTold, told}
+use Rattle.model_line.specs.Request.{Request, Data}
 use Rattle.model_card.specs.Card.{Card}
-use Rattle.model_card.specs.Happening.{Happening, comes, failed, goes, expires, asks, events_of}
+use Rattle.model_card.specs.Happening.{Happening, comes, goes, expires, asks, events_of}
 use Rattle.model_card.specs.Run.{after_all}
 use Rattle.model_card.specs.Said.{Said, says, said}
 use Rattle.model_card.specs.Said as call
@@ -27,40 +27,25 @@ without_orders t = if tells_nothing t then [] else record t { orders = [] } ∷ 
 
 abbrev pub told_by : Said → List LineTold
 told_by (says (told t)) = without_orders t
-told_by (says (refused why)) = []
-told_by (says (pulled octet begun orders)) = []
-told_by (call.gives next) = []
+told_by other = []
 
 -- The frame that a call for the next frame gives.
 abbrev pub frames_by : Said → List (List ℕ)
-frames_by (says answer) = []
-frames_by (call.gives None) = []
 frames_by (call.gives (Some next)) = next.octets ∷ []
+frames_by other = []
 
 -- The contents of a request for data, where it is granted.
 abbrev pub contents_of : Request → List (List ℕ)
 contents_of (Data service tei contents) = contents ∷ []
-contents_of (Establish service tei) = []
-contents_of (Release service tei) = []
-contents_of (Unit service tei contents) = []
-contents_of (Assign tei) = []
-contents_of (Remove tei) = []
-contents_of (Check tei) = []
-contents_of (SetBusy service tei) = []
-contents_of (ClearBusy service tei) = []
+contents_of other = []
 
 abbrev pub contents_in : Happening → List (List ℕ)
 contents_in (asks line r) = contents_of r
-contents_in (comes line octets) = []
-contents_in (failed line fault) = []
-contents_in (goes line) = []
-contents_in (expires line timer) = []
+contents_in other = []
 
 abbrev pub unless_refused : Said → List (List ℕ) → List (List ℕ)
 unless_refused (says (told t)) contents = contents
-unless_refused (says (refused why)) contents = []
-unless_refused (says (pulled octet begun orders)) contents = []
-unless_refused (call.gives next) contents = []
+unless_refused other contents = []
 
 -- Something happens at a station.
 abbrev pub happens : Happening → Station → Station
@@ -120,11 +105,9 @@ is_any [] = false
 is_any (octets ∷ more) = true
 
 abbrev pub is_turn_of : Act → Wire → Bool
-is_turn_of (requests r) w = false
-is_turn_of (times_out timer) w = false
 is_turn_of gives w = is_any (frames_by (said w.near.card (goes w.near.line)))
 is_turn_of takes w = is_any w.far.way
-is_turn_of loses w = false
+is_turn_of other w = false
 
 abbrev pub is_turn : Doing → Wire → Bool
 is_turn (at_near act) w = is_turn_of act w

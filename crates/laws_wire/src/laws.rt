@@ -2,6 +2,7 @@
 
 ghost use Rattle.laws_wire.specs.Call.{CallsComeThrough};
 ghost use Rattle.laws_wire.specs.Facing.{CallsFace, CardsDeliver};
+ghost use Rattle.laws_wire.specs.Losing.{CallsAreToldInOrder};
 
 /// A call comes through. Two cards have just begun, one of each side, and a line of one faces a line of the other; each has
 /// the same TEI assigned, and layer 3 of one asks for the establishment of a link, of either service. Then data is asked for
@@ -24,4 +25,14 @@ pub fn a_call_comes_through()
 pub fn cards_deliver()
     ensures cards { CardsDeliver }
     ensures calls { CallsFace }
+{}
+
+/// What is told is in order, whatever is lost and whenever timers expire. Two cards have just begun as in
+/// [`a_call_comes_through`], and one is asked to establish. Then data is asked for at either end, T200 and T203 of the link
+/// expire at either end, and frames are given, taken or lost, in any order and at any time. As long as no error of the link
+/// is told at either end, layer 3 of each was told one establishment and then a beginning of the data that the other was
+/// granted to send, in order, each once, and nothing else. An error is needed for more than that: it comes with each further
+/// establishment, and after one contents may come a second time (`specs/WorkedLosing`).
+pub fn told_in_order()
+    ensures { CallsAreToldInOrder }
 {}

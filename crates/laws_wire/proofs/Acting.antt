@@ -1,0 +1,218 @@
+-- What happens at one end of a wire whose link is up, where frames are lost and timers expire.
+use Rattle.std.proofs.Common.{◌≡◌, ℕ, IsTrue, List, [], ◌∷◌, ◌++◌, drop, refl, sym, ap, subst, ◌∙◌, ◌⊎◌, inl, inr, append-nil}
+use Rattle.lapd_frame.specs.declared.services.Service.{Service}
+use Rattle.lapd_frame.specs.declared.timers.Timer.{Timer}
+use Rattle.lapd_frame.specs.Grammar.{Parts, AreOctets, spelling}
+use Rattle.model_link.specs.declared.frames.ControlFrame.{ControlFrame}
+use Rattle.model_link.specs.declared.timers.LinkTimer.{LinkTimer}
+use Rattle.model_link.specs.Events as link
+use Rattle.model_link.specs.Link.{is_multiple_frame}
+use Rattle.model_link.specs.Machine.{course}
+use Rattle.model_link.specs.Sound.{IsInRange, IsSound}
+use Rattle.model_link.specs.Steps.{Course}
+use Rattle.model_link.specs.TwoEnds.{End, with_link, with_sent}
+use Rattle.model_link.specs.TwoEnds as two_ends
+use Rattle.model_link.proofs.Direction.{frames_of, line_of}
+use Rattle.model_line.specs.declared.config.Config.{Config}
+use Rattle.model_line.specs.Event.{LineTold}
+use Rattle.model_line.specs.Expiry.{at_timer, aim_of_expiry}
+use Rattle.model_line.specs.Line.{Line, place_in}
+use Rattle.model_line.specs.Request.{Data}
+use Rattle.model_card.specs.Happening.{comes, goes, expires, asks}
+use Rattle.laws_link.proofs.Follows.{event-follows}
+use Rattle.laws_wire.specs.Wire.{Station, happens, with_first_lost}
+use Rattle.laws_wire.proofs.Asking.{with_more}
+use Rattle.laws_wire.proofs.Fair.{HasError, Fine, frame-fair, timer-fair}
+use Rattle.laws_wire.proofs.Held.{Held, TellsIt, Erred, now-erred, held-given, held-lost, taken-told, held-taken, expired-told, held-expired, Grants, held-asked}
+use Rattle.laws_wire.proofs.Joint.{Joint, turned-joint, IsMeant, since, line-on, loses-first, Goes, waits-more, goes-on, only-link, accepts, timer-goes, timer-delivers, GivesOn, gives-on, first-means, HearsOn, hears-on}
+use Rattle.laws_wire.proofs.Standing.{IsCarried, Stands, link-sound, link-ranges}
+use Rattle.laws_wire.proofs.Talking.{Face}
+
+-- the first of a line that begins with other frames is one of those, or none is before it
+pub record Before (f : Parts) (rest first line : List Parts) : Type 0 where
+  pub others : List Parts
+  pub is : first ≡ f ∷ others
+  pub behind : rest ≡ others ++ line
+
+pub record First (f : Parts) (rest first line : List Parts) : Type 0 where
+  pub none : first ≡ []
+  pub is : line ≡ f ∷ rest
+
+pub which : (f : Parts) (rest first line : List Parts) → f ∷ rest ≡ first ++ line → First f rest first line ⊎ Before f rest first line
+which f rest [] line e = inl (record { none = refl; is = sym e })
+which f rest (g ∷ gs) line e =
+    let whole : f ∷ rest ≡ g ∷ (gs ++ line) = e in
+    let head : g ≡ f = cc in
+    let tail : rest ≡ gs ++ line = cc in
+    inr (record { others = gs; is = ap (λ x. x ∷ gs) head; behind = tail })
+
+module _ (service : Service) (tei place : ℕ) (past : List LineTold) (c : Config) where
+  abbrev Its : Station → End → Type 0
+  Its s n = Held c service tei place past s n
+
+  own-stands : (s : Station) (n : End) → Its s n → Stands s.card.config service tei place s n
+  own-stands s n h = subst (λ k. Stands k service tei place s n) (sym h.stands.config) h.stands
+
+  pub sound : (s : Station) (n : End) → Its s n → IsSound n.terms n.link
+  sound s n h = link-sound service tei place s n (own-stands s n h)
+
+  pub ranges : (s : Station) (n : End) → Its s n → IsInRange n.terms
+  ranges s n h = link-ranges service tei place s n (own-stands s n h)
+
+  -- An end whose link is up, with what is on its line.
+  pub record UpAt (s : Station) (n m : End) (first near far : List Parts) : Type 0 where
+    pub held : Its s n
+    pub up : IsTrue (is_multiple_frame n.link.state)
+    pub line : line_of n ≡ first ++ near
+    pub joint : Joint n m near far
+
+  pub record Acted (s' : Station) (m : End) (first far : List Parts) : Type 0 where
+    pub n : End
+    pub near : List Parts
+    pub at : UpAt s' n m first near far
+
+  module _ (s : Station) (n m : End) (first near far : List Parts) (h : UpAt s n m first near far) where
+    abbrev ws : List ControlFrame
+    ws = n.link.waiting
+
+    tells : (x : Course) → Fine n.terms x.link.state x.notes x.delivered x.unit → TellsIt n.terms.service n.terms.tei x
+    tells x y = record { its_notes = y.its_notes; no_unit = y.no_unit }
+
+    -- it is asked to send more
+    pub up-asks : (octets : List ℕ) → AreOctets octets → Acted (happens (asks s.line (Data service tei octets)) s) m first far
+    up-asks octets are = go (held-asked service tei place past c s n h.held octets are)
+      where
+        s' : Station
+        s' = happens (asks s.line (Data service tei octets)) s
+
+        go : (s' ≡ s) ⊎ Grants service tei place past c s n h.held octets s' → Acted s' m first far
+        go (inl same) = record { n = n; near = near; at = subst (λ x. UpAt x n m first near far) (sym same) h }
+        go (inr x) =
+            let l' = (with_more octets n).link in
+            let g : Goes n.link l' (octets ∷ []) = accepts octets n.link in
+            record {
+              n = with_more octets n;
+              near = near ++ frames_of n.terms (since ws l'.waiting);
+              at = record {
+                held = x.held;
+                up = h.up;
+                line = line-on n.terms n.way first near ws l'.waiting (since ws l'.waiting) h.line (waits-more n.link l' (octets ∷ []) g);
+                joint = goes-on n m l' (octets ∷ []) near far g h.joint;
+              };
+            }
+
+    -- a timer expires
+    pub up-expires : (timer : Timer) (its : LinkTimer) → ((l : Line) → aim_of_expiry timer l ≡ at_timer service tei its (place_in l tei))
+        → Acted (happens (expires s.line timer) s) m first far ⊎ Erred (happens (expires s.line timer) s)
+    up-expires timer its aims = go (timer-fair n.terms n.link h.up its).fair
+      where
+        e : link.Event
+        e = link.expired its
+
+        x : Course
+        x = course n.terms e n.link
+
+        s' : Station
+        s' = happens (expires s.line timer) s
+
+        go : HasError x.notes ⊎ Fine n.terms x.link.state x.notes x.delivered x.unit → Acted s' m first far ⊎ Erred s'
+        go (inl error) = inr (now-erred s s' x (expired-told service tei place past c s n h.held timer its aims) error)
+        go (inr fine) =
+            let g : Goes n.link x.link [] = timer-goes n.terms n.link h.up its fine.up in
+            let news = since ws x.link.waiting in
+            let is = only-link n e (timer-delivers n.terms n.link its) in
+            let kept : x.link.contents ≡ n.link.contents = g.same ∙ append-nil n.link.contents in
+            inl (record {
+              n = with_link e n;
+              near = near ++ frames_of n.terms news;
+              at = record {
+                held = held-expired service tei place past c s n h.held timer its aims (tells x fine) kept;
+                up = fine.up;
+                line = line-on n.terms n.way first near ws x.link.waiting news h.line (waits-more n.link x.link [] g);
+                joint = subst (λ y. Joint y m (near ++ frames_of n.terms news) far) (sym is) (goes-on n m x.link [] near far g h.joint);
+              };
+            })
+
+    -- it gives
+    pub up-gives : Acted (happens (goes s.line) s) m first far
+    up-gives =
+        let x : GivesOn n m first near far = gives-on n m first near far (ranges s n h.held) (sound s n h.held) h.line h.joint in
+        record {
+          n = with_sent n;
+          near = near ++ x.news;
+          at = record {
+            held = held-given service tei place past c s n h.held x.contents;
+            up = subst (λ state. IsTrue (is_multiple_frame state)) (sym (event-follows n.terms link.offer n.link).leaves.state) h.up;
+            line = x.line;
+            joint = x.joint;
+          };
+        }
+
+    -- the first frame on its way is lost
+    pub record Lost (f : Parts) : Type 0 where
+      pub lost : ((first ≡ []) × IsMeant f × Acted (with_first_lost s) m first far) ⊎ ((others : List Parts) × (first ≡ f ∷ others) × Acted (with_first_lost s) m others far)
+
+    pub up-loses : (f : Parts) (fs : List Parts) → n.way ≡ f ∷ fs → Lost f
+    up-loses f fs e = go (which f (fs ++ frames_of n.terms ws) first near (sym (ap (λ way. way ++ frames_of n.terms ws) e) ∙ h.line))
+      where
+        n' : End
+        n' = two_ends.with_first_lost n
+
+        now : line_of n' ≡ fs ++ frames_of n.terms ws
+        now = ap (λ way. drop 1 way ++ frames_of n.terms ws) e
+
+        held : Its (with_first_lost s) n'
+        held = held-lost service tei place past c s n h.held
+
+        go : First f (fs ++ frames_of n.terms ws) first near ⊎ Before f (fs ++ frames_of n.terms ws) first near → Lost f
+        go (inl x) =
+            let rest = fs ++ frames_of n.terms ws in
+            let joint : Joint n m rest far = loses-first n m f rest far (subst (λ xs. Joint n m xs far) x.is h.joint) in
+            record {
+              lost = inl (
+                x.none,
+                first-means m n f far rest (turned-joint n m (f ∷ rest) far (subst (λ xs. Joint n m xs far) x.is h.joint)),
+                record {
+                  n = n';
+                  near = rest;
+                  at = record { held = held; up = h.up; line = now ∙ ap (λ xs. xs ++ rest) (sym x.none); joint = record { there = joint.there; back = joint.back } };
+                },
+              );
+            }
+        go (inr x) = record {
+          lost = inr (x.others, x.is, record { n = n'; near = near; at = record { held = held; up = h.up; line = now ∙ x.behind; joint = record { there = h.joint.there; back = h.joint.back } } });
+        }
+
+  -- it takes the first frame of the other's line
+  pub up-hears : (d : Config) → Face c d → (s : Station) (n m : End) (f : Parts) (first near far : List Parts) → UpAt s n m first near (f ∷ far) → IsCarried d service tei f
+      → IsInRange m.terms
+      → Acted (happens (comes s.line (spelling d.side f)) s) (two_ends.with_first_lost m) first far ⊎ Erred (happens (comes s.line (spelling d.side f)) s)
+  up-hears d face s n m f first near far h from far-ranges = go (frame-fair n.terms n.link h.up f meant.number meant.means).fair
+    where
+      meant : IsMeant f
+      meant = first-means n m f near far h.joint
+
+      e : link.Event
+      e = link.received (link.frame f)
+
+      x : Course
+      x = course n.terms e n.link
+
+      s' : Station
+      s' = happens (comes s.line (spelling d.side f)) s
+
+      go : HasError x.notes ⊎ Fine n.terms x.link.state x.notes x.delivered x.unit → Acted s' (two_ends.with_first_lost m) first far ⊎ Erred s'
+      go (inl error) = inr (now-erred s s' x (taken-told service tei place past c s n h.held d face f from) error)
+      go (inr fine) =
+          let y : HearsOn n m f near far = hears-on n m f near far (ranges s n h.held) far-ranges (sound s n h.held) h.up fine.up h.joint in
+          let news = since n.link.waiting x.link.waiting in
+          inl (record {
+            n = with_link e n;
+            near = near ++ frames_of n.terms news;
+            at = record {
+              held = held-taken service tei place past c s n h.held d face f from (record { its_notes = fine.its_notes; no_unit = fine.no_unit }) y.contents;
+              up = fine.up;
+              line = line-on n.terms n.way first near n.link.waiting x.link.waiting news h.line y.waits;
+              joint = record { there = y.joint.there; back = y.joint.back };
+            };
+          })

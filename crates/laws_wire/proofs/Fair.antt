@@ -1,0 +1,236 @@
+-- An event of a link in states 7 and 8 tells an error; or it leaves the link there, tells what it delivers, and nothing else.
+use Rattle.std.proofs.Common.{◌≡◌, ℕ, Bool, true, false, cond, ◌||◌, IsTrue, List, [], ◌∷◌, ◌++◌, length, map, Option, None, Some, refl, sym, ap, subst, ◌∙◌, ◌⊎◌, inl, inr, true≢false}
+use Rattle.std.specs.Prelude.{nat_lt, option_to_list}
+use Rattle.std.specs.List.{list_any}
+use Rattle.std.proofs.lemmas.List.Folds.{list_any-append}
+use Rattle.lapd_seq.specs.declared.numbers.Seq.{Seq}
+use Rattle.lapd_seq.specs.Circle.{named}
+use Rattle.lapd_frame.specs.declared.controls.Control.{Control}
+use Rattle.lapd_frame.specs.declared.controls.Control.TheVariants.{Information, ReceiveReady, ReceiveNotReady, Reject, Sabme, Disc, Ui, Ua, Dm, Frmr, Xid}
+use Rattle.lapd_frame.specs.declared.notes.ErrorCode.{ErrorCode}
+use Rattle.lapd_frame.specs.declared.notes.ErrorCode.TheVariants as code
+use Rattle.lapd_frame.specs.declared.notes.Note.{Note}
+use Rattle.lapd_frame.specs.declared.notes.Note.TheVariants as notes
+use Rattle.lapd_frame.specs.Grammar.{Parts}
+use Rattle.model_link.specs.declared.states.State.{State}
+use Rattle.model_link.specs.declared.states.State.TheVariants.{TeiAssigned, AwaitingEstablishment, AwaitingRelease, Established, TimerRecovery}
+use Rattle.model_link.specs.declared.timers.LinkTimer.{LinkTimer}
+use Rattle.model_link.specs.declared.timers.LinkTimer.TheVariants.{T200, T203}
+use Rattle.model_link.specs.declared.terms.Terms.{Terms}
+use Rattle.model_link.specs.Link.{Link, is_multiple_frame, has_outstanding}
+use Rattle.model_link.specs.Events.{frame, received, expired}
+use Rattle.model_link.specs.Steps.{Course, begun, Step, ◌then◌, by_bit}
+use Rattle.model_link.specs.Words
+use Rattle.model_link.specs.MultipleFrame
+use Rattle.model_link.specs.Established
+use Rattle.model_link.specs.TimerRecovery
+use Rattle.model_link.specs.Machine
+use Rattle.model_link.proofs.Leads.{Leads, keeping_then, nothing_leads, depending_leads, bit_leads}
+use Rattle.model_link.proofs.Lines.{Means}
+use Rattle.laws_wire.specs.Losing.{is_error}
+
+abbrev pub HasError : List Note → Type 0
+HasError ns = list_any is_error ns ≡ true
+
+or-true : (b : Bool) → (b || true) ≡ true
+or-true true = refl
+or-true false = refl
+
+pub error-told : (ns : List Note) (n : Note) → is_error n ≡ true → HasError (ns ++ n ∷ [])
+error-told ns n is = list_any-append is_error ns (n ∷ []) ∙ ap (λ b. list_any is_error ns || (b || false)) is ∙ or-true (list_any is_error ns)
+
+pub record Fine (t : Terms) (here : State) (ns : List Note) (d u : Option (List ℕ)) : Type 0 where
+  pub up : IsTrue (is_multiple_frame here)
+  pub its_notes : ns ≡ map (λ octets. notes.Data t.service t.tei) (option_to_list d)
+  pub no_unit : u ≡ None
+
+pub record Fair (t : Terms) (c : Course) : Type 0 where
+  pub fair : HasError c.notes ⊎ Fine t c.link.state c.notes c.delivered c.unit
+
+module _ (t : Terms) where
+  failed_fair : (e : ErrorCode) → Leads (Fair t) (MultipleFrame.failed t e) (Fair t)
+  failed_fair e = record { leads = λ c h. record { fair = inl (error-told c.notes (notes.Error t.service t.tei e) refl) } }
+
+  error_fair : (e : ErrorCode) → Leads (Fair t) (Words.error t e) (Fair t)
+  error_fair e = record { leads = λ c h. record { fair = inl (error-told c.notes (notes.Error t.service t.tei e) refl) } }
+
+  enquire_fair : Leads (Fair t) (Words.enquire t) (Fair t)
+  enquire_fair = record { leads = λ c h. record { fair = h.fair } }
+
+  answer_fair : Leads (Fair t) (Words.answer t) (Fair t)
+  answer_fair = record { leads = λ c h. record { fair = h.fair } }
+
+  reject_fair : (f : Bool) → Leads (Fair t) (Words.reject t f) (Fair t)
+  reject_fair f = record { leads = λ c h. record { fair = h.fair } }
+
+  peer_busy_fair : (b : Bool) → Leads (Fair t) (Words.peer_busy_is b) (Fair t)
+  peer_busy_fair b = record { leads = λ c h. record { fair = h.fair } }
+
+  rejecting_fair : (b : Bool) → Leads (Fair t) (Words.rejecting_is b) (Fair t)
+  rejecting_fair b = record { leads = λ c h. record { fair = h.fair } }
+
+  pending_fair : (b : Bool) → Leads (Fair t) (Words.pending_is b) (Fair t)
+  pending_fair b = record { leads = λ c h. record { fair = h.fair } }
+
+  repeats_fair : (n : ℕ) → Leads (Fair t) (Words.repeats_are n) (Fair t)
+  repeats_fair n = record { leads = λ c h. record { fair = h.fair } }
+
+  repeated_fair : Leads (Fair t) Words.repeated (Fair t)
+  repeated_fair = record { leads = λ c h. record { fair = h.fair } }
+
+  start_fair : (timer : LinkTimer) → Leads (Fair t) (Words.start timer) (Fair t)
+  start_fair timer = record { leads = λ c h. record { fair = h.fair } }
+
+  acknowledge_fair : (n : ℕ) → Leads (Fair t) (Words.acknowledge n) (Fair t)
+  acknowledge_fair n = record { leads = λ c h. record { fair = h.fair } }
+
+  again_fair : (n : ℕ) → Leads (Fair t) (Words.send_again_from n) (Fair t)
+  again_fair n = record { leads = λ c h. record { fair = h.fair } }
+
+  entered : (state to : State) (ns : List Note) (d u : Option (List ℕ)) → IsTrue (is_multiple_frame to) → HasError ns ⊎ Fine t state ns d u → HasError ns ⊎ Fine t to ns d u
+  entered state to ns d u up (inl e) = inl e
+  entered state to ns d u up (inr x) = inr (record { up = up; its_notes = x.its_notes; no_unit = x.no_unit })
+
+  enter_fair : Leads (Fair t) (Words.enter Established) (Fair t)
+  enter_fair = record { leads = λ c h. record { fair = entered c.link.state Established c.notes c.delivered c.unit refl h.fair } }
+
+  recover_fair : Leads (Fair t) (Words.enter TimerRecovery) (Fair t)
+  recover_fair = record { leads = λ c h. record { fair = entered c.link.state TimerRecovery c.notes c.delivered c.unit refl h.fair } }
+
+  number_fair : {f : ℕ → Step} (nr : Seq) → ((n : ℕ) → Leads (Fair t) (f n) (Fair t)) → Leads (Fair t) (Words.by_number t nr f) (Fair t)
+  number_fair {f} nr x = record { leads = λ c h. go c h (named c.link.a c.link.s nr) }
+    where
+      go : (c : Course) → Fair t c → (o : Option ℕ) → Fair t (elim o [ None ↦ (Words.error t code.J then Words.re_establish t) c | Some n ↦ f n c ])
+      go c h None = record { fair = inl (error-told c.notes (notes.Error t.service t.tei code.J) refl) }
+      go c h (Some n) = (x n).leads c h
+
+ruleset words = (keeping_then, nothing_leads, depending_leads, bit_leads, failed_fair, error_fair, enquire_fair, answer_fair, reject_fair, peer_busy_fair, rejecting_fair, pending_fair, repeats_fair, repeated_fair, start_fair, acknowledge_fair, again_fair, enter_fair, recover_fair)
+
+module _ (t : Terms) where
+  timer_7 : Leads (Fair t) (Established.timer_in_7 t) (Fair t)
+  timer_7 = search words depth 12 fits 4000
+
+  t200_8 : Leads (Fair t) (TimerRecovery.t200_in_8 t) (Fair t)
+  t200_8 = search words depth 12 fits 4000
+
+  in_7 : (n : ℕ) → Leads (Fair t) (Established.acknowledged_in_7 n) (Fair t)
+  in_7 n = search words depth 12 fits 4000
+
+  by_information_7 : (n : ℕ) → Leads (Fair t) (Established.acknowledged_by_information_in_7 n) (Fair t)
+  by_information_7 n = search words depth 12 fits 4000
+
+  rnr_7 : (n : ℕ) → Leads (Fair t) (Established.acknowledged_by_rnr_in_7 n) (Fair t)
+  rnr_7 n = search words depth 12 fits 4000
+
+  rej_7 : (n : ℕ) → Leads (Fair t) (Established.acknowledged_by_rej_in_7 n) (Fair t)
+  rej_7 n = search words depth 12 fits 4000
+
+  in_8 : (timer : LinkTimer) (final : Bool) (n : ℕ) → Leads (Fair t) (TimerRecovery.acknowledged_in_8 timer final n) (Fair t)
+  in_8 timer final n = search words depth 12 fits 4000
+
+  -- supervisory frames
+  supervised : (own : MultipleFrame.Particulars) (busy b pf : Bool) (nr : Seq) (effect : Bool → ℕ → Step) → ((final : Bool) → Leads (Fair t) (own.told_of final) (Fair t))
+      → ((final : Bool) (n : ℕ) → Leads (Fair t) (effect final n) (Fair t)) → Leads (Fair t) (MultipleFrame.supervisory t own busy b pf nr effect) (Fair t)
+  supervised own busy b pf nr effect told x =
+      keeping_then (peer_busy_fair t busy) (keeping_then answered (keeping_then (told (MultipleFrame.is_final b pf)) (number_fair t nr (x (MultipleFrame.is_final b pf)))))
+    where
+      answered : Leads (Fair t) (MultipleFrame.answered t b pf) (Fair t)
+      answered = search words depth 12 fits 4000
+
+  unsolicited_fair : (final : Bool) → Leads (Fair t) (Established.unsolicited t final) (Fair t)
+  unsolicited_fair final = search words depth 12 fits 4000
+
+  -- I-frames
+  module _ (l : Link) (up : IsTrue (is_multiple_frame l.state)) where
+    pub at-first : Fair t (begun l)
+    at-first = record { fair = inr (record { up = up; its_notes = refl; no_unit = refl }) }
+
+    in-sequence : (p : Bool) (octets : List ℕ) → Fair t (MultipleFrame.in_sequence t p octets (begun l))
+    in-sequence p octets =
+        let x : Leads (Fair t) (by_bit p (Words.answer t) (Words.pending_is true)) (Fair t) = search words depth 12 fits 4000 in
+        x.leads ((Words.count_received then Words.rejecting_is false then Words.deliver t octets) (begun l)) (record { fair = inr (record { up = up; its_notes = refl; no_unit = refl }) })
+
+    either : (b : Bool) (u v : Course) → Fair t u → Fair t v → Fair t (cond b u v)
+    either true u v x y = x
+    either false u v x y = y
+
+    contents : (ns : Seq) (p : Bool) (octets : List ℕ) → Fair t (MultipleFrame.contents_in_7_8 t ns p octets (begun l))
+    contents ns p octets =
+        let dropped : Leads (Fair t) (MultipleFrame.dropped t p) (Fair t) = search words depth 12 fits 4000 in
+        let out : Leads (Fair t) (MultipleFrame.out_of_sequence t p) (Fair t) = search words depth 12 fits 4000 in
+        either l.own_busy _ _ (dropped.leads (begun l) at-first)
+        (either (MultipleFrame.is_next ns l) _ _ (in-sequence p octets) (out.leads (begun l) at-first))
+
+    information : (ns nr : Seq) (p : Bool) (octets : List ℕ) (f : ℕ → Step) → ((n : ℕ) → Leads (Fair t) (f n) (Fair t))
+        → Fair t (MultipleFrame.information_in_7_8 t ns nr p octets f (begun l))
+    information ns nr p octets f x =
+        either (nat_lt t.n201 (length octets)) _ _ ((failed_fair t code.O).leads (begun l) at-first)
+        ((number_fair t nr x).leads (MultipleFrame.contents_in_7_8 t ns p octets (begun l)) (contents ns p octets))
+
+    frames-7 : (b : Bool) (octets : List ℕ) (m : ℕ) (control : Control) → Means m control → Fair t (Established.frame_in_7 t b octets control (begun l))
+    frames-7 b octets m (Information ns nr p) e = information ns nr p octets Established.acknowledged_by_information_in_7 by_information_7
+    frames-7 b octets m (ReceiveReady nr pf) e = (supervised (Established.particulars_in_7 t) false b pf nr (Established.particulars_in_7 t).by_rr unsolicited_fair (λ final n. in_7 n)).leads (begun l) at-first
+    frames-7 b octets m (ReceiveNotReady nr pf) e = (supervised (Established.particulars_in_7 t) true b pf nr (Established.particulars_in_7 t).by_rnr unsolicited_fair (λ final n. rnr_7 n)).leads (begun l) at-first
+    frames-7 b octets m (Reject nr pf) e = (supervised (Established.particulars_in_7 t) false b pf nr (Established.particulars_in_7 t).by_rej unsolicited_fair (λ final n. rej_7 n)).leads (begun l) at-first
+    frames-7 b octets m (Sabme p) e = absurd e
+    frames-7 b octets m (Disc p) e = absurd e
+    frames-7 b octets m (Ui p) e = absurd e
+    frames-7 b octets m (Ua f) e = absurd e
+    frames-7 b octets m (Dm f) e = absurd e
+    frames-7 b octets m (Frmr f) e = absurd e
+    frames-7 b octets m (Xid pf) e = absurd e
+
+    frames-8 : (b : Bool) (octets : List ℕ) (m : ℕ) (control : Control) → Means m control → Fair t (TimerRecovery.frame_in_8 t b octets control (begun l))
+    frames-8 b octets m (Information ns nr p) e = information ns nr p octets Words.acknowledge (acknowledge_fair t)
+    frames-8 b octets m (ReceiveReady nr pf) e = (supervised (TimerRecovery.particulars_in_8 t) false b pf nr (TimerRecovery.particulars_in_8 t).by_rr (λ final. nothing_leads) (in_8 T203)).leads (begun l) at-first
+    frames-8 b octets m (ReceiveNotReady nr pf) e = (supervised (TimerRecovery.particulars_in_8 t) true b pf nr (TimerRecovery.particulars_in_8 t).by_rnr (λ final. nothing_leads) (in_8 T200)).leads (begun l) at-first
+    frames-8 b octets m (Reject nr pf) e = (supervised (TimerRecovery.particulars_in_8 t) false b pf nr (TimerRecovery.particulars_in_8 t).by_rej (λ final. nothing_leads) (in_8 T203)).leads (begun l) at-first
+    frames-8 b octets m (Sabme p) e = absurd e
+    frames-8 b octets m (Disc p) e = absurd e
+    frames-8 b octets m (Ui p) e = absurd e
+    frames-8 b octets m (Ua f) e = absurd e
+    frames-8 b octets m (Dm f) e = absurd e
+    frames-8 b octets m (Frmr f) e = absurd e
+    frames-8 b octets m (Xid pf) e = absurd e
+
+    frames-in : (here : State) → IsTrue (is_multiple_frame here) → (b : Bool) (octets : List ℕ) (m : ℕ) (control : Control) → Means m control
+        → Fair t (Machine.frame_in here t b octets control (begun l))
+    frames-in TeiAssigned is b octets m control e = absurd (true≢false (sym is))
+    frames-in AwaitingEstablishment is b octets m control e = absurd (true≢false (sym is))
+    frames-in AwaitingRelease is b octets m control e = absurd (true≢false (sym is))
+    frames-in Established is b octets m control e = frames-7 b octets m control e
+    frames-in TimerRecovery is b octets m control e = frames-8 b octets m control e
+
+    pub frame-fair : (f : Parts) (m : ℕ) → Means m f.control → Fair t (Machine.course t (received (frame f)) l)
+    frame-fair f m e = frames-in l.state up f.address.command f.info m f.control e
+
+    -- timers
+    expired-in : (here : State) → IsTrue (is_multiple_frame here) → (timer : LinkTimer) → Fair t (Machine.expired_in here timer t (begun l))
+    expired-in TeiAssigned is timer = absurd (true≢false (sym is))
+    expired-in AwaitingEstablishment is timer = absurd (true≢false (sym is))
+    expired-in AwaitingRelease is timer = absurd (true≢false (sym is))
+    expired-in Established is timer = timer_7.leads (begun l) at-first
+    expired-in TimerRecovery is T200 = t200_8.leads (begun l) at-first
+    expired-in TimerRecovery is T203 = at-first
+
+    pub timer-fair : (timer : LinkTimer) → Fair t (Machine.course t (expired timer) l)
+    timer-fair timer = either (Machine.is_running timer l) _ _ (expired-in l.state up timer) at-first
+
+    -- SABME is an error
+    pub sabme-error : (f : Parts) (p : Bool) → f.control ≡ Sabme p → HasError (Machine.course t (received (frame f)) l).notes
+    sabme-error f p is = subst (λ control. HasError (Machine.frame_step t f.address.command f.info control (begun l)).notes) (sym is) (sabme-in l.state up)
+      where
+        first : Course
+        first = (Words.send t (Words.response (Ua p)) then Words.clear_flags then Words.error t code.F) (begun l)
+
+        by-outstanding : (b : Bool)
+            → HasError ((Words.zero_numbers then Words.start T203 then Words.enter Established) (cond b ((Words.discard then Words.establish_indication t) first) first)).notes
+        by-outstanding true = refl
+        by-outstanding false = refl
+
+        sabme-in : (here : State) → IsTrue (is_multiple_frame here) → HasError (Machine.frame_in here t f.address.command f.info (Sabme p) (begun l)).notes
+        sabme-in TeiAssigned is = absurd (true≢false (sym is))
+        sabme-in AwaitingEstablishment is = absurd (true≢false (sym is))
+        sabme-in AwaitingRelease is = absurd (true≢false (sym is))
+        sabme-in Established is = by-outstanding (has_outstanding first.link)
+        sabme-in TimerRecovery is = by-outstanding (has_outstanding first.link)

@@ -1,0 +1,246 @@
+-- A station in a call in which frames are lost and timers expire: what its layer 3 was granted is what its link accepted, and
+-- layer 3 heard what its link delivered.
+use Rattle.std.proofs.Common.{◌≡◌, ℕ, Bool, true, false, cond, not, ◌&&◌, ◌||◌, ◌==◌, suc, List, [], ◌∷◌, ◌++◌, length, map, Option, Some, None, is_some, refl, sym, ap, subst, ◌∙◌, ◌⊎◌, inl, inr, append-nil, append_assoc, eqb-true, arith}
+use Rattle.std.specs.Prelude.{All, option_to_list, flat_map}
+use Rattle.std.specs.List.{list_any}
+use Rattle.std.specs.Option.{option_or}
+use Rattle.std.proofs.lemmas.Bool.{and_parts, false≢true}
+use Rattle.std.proofs.lemmas.List.{map-append}
+use Rattle.std.proofs.lemmas.List.Concat.{flat_map-append}
+use Rattle.std.proofs.lemmas.List.Folds.{list_any-append, list_any_none}
+use Rattle.lapd_frame.specs.declared.notes.Note.{Note}
+use Rattle.lapd_frame.specs.declared.notes.Note.TheVariants as notes
+use Rattle.lapd_frame.specs.declared.services.Service.{Service}
+use Rattle.lapd_frame.specs.declared.timers.Timer.{Timer}
+use Rattle.lapd_frame.specs.Grammar.{Parts, AreOctets, spelling}
+use Rattle.model_link.specs.declared.timers.LinkTimer.{LinkTimer}
+use Rattle.model_link.specs.Events as link
+use Rattle.model_link.specs.Machine as links
+use Rattle.model_link.specs.Requests as requests
+use Rattle.model_link.specs.Steps.{Course}
+use Rattle.model_link.specs.TwoEnds.{End, with_link, with_sent}
+use Rattle.model_link.specs.TwoEnds as two_ends
+use Rattle.model_line.specs.declared.config.Config.{Config}
+use Rattle.model_line.specs.Event as line_event
+use Rattle.model_line.specs.Event.{LineTold, nothing}
+use Rattle.model_line.specs.Expiry.{at_timer, aim_of_expiry}
+use Rattle.model_line.specs.Line.{Line, place_in}
+use Rattle.model_line.specs.Request.{Data}
+use Rattle.model_card.specs.Happening.{comes, goes, expires, asks}
+use Rattle.model_card.specs.Said.{Said, says, gives, said}
+use Rattle.laws_wire.specs.Wire.{Station, happens, with_first_lost, tells_nothing, unless_refused}
+use Rattle.laws_wire.specs.Call.{data_told}
+use Rattle.laws_wire.specs.Losing.{for_layer_3, heard_in, is_error, HasNoError}
+use Rattle.laws_wire.proofs.Asking.{with_more}
+use Rattle.laws_wire.proofs.Fair.{HasError}
+use Rattle.laws_wire.proofs.Speaking.{heard_by, said_by}
+use Rattle.laws_wire.proofs.Standing.{IsCarried, Stands, expires-stands, expires-said}
+use Rattle.laws_wire.proofs.Talking.{Face, unheard, Holds, holds-given, holds-lost, holds-asked, More, Took, takes as takes_frame}
+
+-- ---- what layer 3 hears of an event
+
+abbrev layer_of : List Note → Option (List ℕ) → List LineTold
+layer_of ns contents = cond (length ns == 0 && not (is_some contents)) [] (record nothing { notes = ns; contents = contents } ∷ [])
+
+heard-of : (c : Course) → flat_map for_layer_3 (said_by c) ≡ layer_of c.notes (option_or c.delivered c.unit)
+heard-of c = go (tells_nothing (heard_by c)) refl
+  where
+    contents : Option (List ℕ)
+    contents = option_or c.delivered c.unit
+
+    go : (b : Bool) → tells_nothing (heard_by c) ≡ b → flat_map for_layer_3 (cond b [] (heard_by c ∷ [])) ≡ layer_of c.notes contents
+    go true e =
+        let three = (and_parts ((length c.notes == 0 && not (is_some contents)) && not (is_some (heard_by c).cause)) ((heard_by c).lost == 0) e).0 in
+        let two = (and_parts (length c.notes == 0 && not (is_some contents)) (not (is_some (heard_by c).cause)) three).0 in
+        sym (ap (λ b. cond b [] (record nothing { notes = c.notes; contents = contents } ∷ [])) two)
+    go false e = append-nil (for_layer_3 (heard_by c))
+
+-- of what is delivered it hears, and of nothing else
+pub record TellsIt (service : Service) (tei : ℕ) (c : Course) : Type 0 where
+  pub its_notes : c.notes ≡ map (λ octets. notes.Data service tei) (option_to_list c.delivered)
+  pub no_unit : c.unit ≡ None
+
+hears-it : (service : Service) (tei : ℕ) (c : Course) → TellsIt service tei c → flat_map for_layer_3 (said_by c) ≡ map (data_told service tei) (option_to_list c.delivered)
+hears-it service tei c h =
+    heard-of c ∙ ap (λ ns. layer_of ns (option_or c.delivered c.unit)) h.its_notes
+    ∙ ap (λ u. layer_of (map (λ octets. notes.Data service tei) (option_to_list c.delivered)) (option_or c.delivered u)) h.no_unit ∙ go c.delivered
+  where
+    go : (o : Option (List ℕ)) → layer_of (map (λ octets. notes.Data service tei) (option_to_list o)) (option_or o None) ≡ map (data_told service tei) (option_to_list o)
+    go None = refl
+    go (Some octets) = refl
+
+-- ---- errors that were told
+
+abbrev tells_error : LineTold → Bool
+tells_error t = list_any is_error t.notes
+
+abbrev pub Erred : Station → Type 0
+Erred s = list_any tells_error s.told ≡ true
+
+some-notes : (ns : List Note) → HasError ns → (length ns == 0) ≡ true → ⊥
+some-notes [] h e = false≢true h
+some-notes (n ∷ ns) h e = let none : suc (length ns) ≡ 0 = eqb-true (length (n ∷ ns)) 0 e in absurd (omega (arith, none))
+
+error-said : (c : Course) → HasError c.notes → list_any tells_error (said_by c) ≡ true
+error-said c h = go (tells_nothing (heard_by c)) refl
+  where
+    contents : Option (List ℕ)
+    contents = option_or c.delivered c.unit
+
+    go : (b : Bool) → tells_nothing (heard_by c) ≡ b → list_any tells_error (cond b [] (heard_by c ∷ [])) ≡ true
+    go true e =
+        let three = (and_parts ((length c.notes == 0 && not (is_some contents)) && not (is_some (heard_by c).cause)) ((heard_by c).lost == 0) e).0 in
+        let two = (and_parts (length c.notes == 0 && not (is_some contents)) (not (is_some (heard_by c).cause)) three).0 in
+        let none = (and_parts (length c.notes == 0) (not (is_some contents)) two).0 in
+        absurd (some-notes c.notes h none)
+    go false e = ap (λ b. b || false) h
+
+or-right : (b : Bool) → (b || true) ≡ true
+or-right true = refl
+or-right false = refl
+
+pub now-erred : (s s' : Station) (c : Course) → s'.told ≡ s.told ++ said_by c → HasError c.notes → Erred s'
+now-erred s s' c told h =
+    ap (list_any tells_error) told ∙ list_any-append tells_error s.told (said_by c) ∙ ap (λ b. list_any tells_error s.told || b) (error-said c h)
+    ∙ or-right (list_any tells_error s.told)
+
+pub erred-stays : (s s' : Station) (more : List LineTold) → s'.told ≡ s.told ++ more → Erred s → Erred s'
+erred-stays s s' more told h =
+    ap (list_any tells_error) told ∙ list_any-append tells_error s.told more ∙ ap (λ b. b || list_any tells_error more) h
+
+pub not-erred : (s : Station) → HasNoError s → Erred s → ⊥
+not-erred s none h = false≢true (sym (list_any_none tells_error s.told none) ∙ h)
+
+-- ---- a station and the end for which it stands
+
+-- what asks for nothing is granted nothing
+none-granted : (a : Said) → unless_refused a [] ≡ []
+none-granted (says (line_event.told t)) = refl
+none-granted (says (line_event.refused why)) = refl
+none-granted (says (line_event.pulled octet begun orders)) = refl
+none-granted (gives next) = refl
+
+pub record Held (c : Config) (service : Service) (tei place : ℕ) (past : List LineTold) (s : Station) (n : End) : Type 0 where
+  pub stands : Stands c service tei place s n
+  pub granted : s.granted ≡ n.link.contents
+  pub octets : All AreOctets s.granted
+  pub heard : heard_in s ≡ past ++ map (data_told service tei) n.delivered
+
+module _ (service : Service) (tei place : ℕ) (past : List LineTold) (c : Config) (s : Station) (n : End) (h : Held c service tei place past s n) where
+  -- what stands for the station, without what it was told
+  quiet : Holds c service tei place (record { told = s.told; had = n.delivered }) s n
+  quiet = record { stands = h.stands; granted = h.granted; octets = h.octets; since = []; told = sym (append-nil s.told); delivered = sym (append-nil n.delivered) }
+
+  own : Stands s.card.config service tei place s n
+  own = subst (λ k. Stands k service tei place s n) (sym h.stands.config) h.stands
+
+  -- what it heard by an event
+  heard-then : (s' : Station) (x : Course) → s'.told ≡ s.told ++ said_by x → TellsIt n.terms.service n.terms.tei x
+      → heard_in s' ≡ past ++ map (data_told service tei) (n.delivered ++ option_to_list x.delivered)
+  heard-then s' x told y =
+      let z = subst (λ t. TellsIt t.service t.tei x) h.stands.terms y in
+      ap (flat_map for_layer_3) told ∙ flat_map-append for_layer_3 s.told (said_by x) ∙ ap (λ ts. ts ++ flat_map for_layer_3 (said_by x)) h.heard
+      ∙ ap (λ ts. (past ++ map (data_told service tei) n.delivered) ++ ts) (hears-it service tei x z)
+      ∙ append_assoc past (map (data_told service tei) n.delivered) (map (data_told service tei) (option_to_list x.delivered))
+      ∙ ap (λ ts. past ++ ts) (sym (map-append (data_told service tei) n.delivered (option_to_list x.delivered)))
+
+  heard-data : (xs : List (List ℕ)) → flat_map for_layer_3 (map (data_told service tei) xs) ≡ map (data_told service tei) xs
+  heard-data [] = refl
+  heard-data (x ∷ xs) = ap (λ ts. data_told service tei x ∷ ts) (heard-data xs)
+
+  heard-so-far : (s' : Station) (more : List (List ℕ)) → s'.told ≡ s.told ++ map (data_told service tei) more
+      → heard_in s' ≡ past ++ map (data_told service tei) (n.delivered ++ more)
+  heard-so-far s' more told =
+      ap (flat_map for_layer_3) told ∙ flat_map-append for_layer_3 s.told (map (data_told service tei) more)
+      ∙ ap (λ ts. ts ++ flat_map for_layer_3 (map (data_told service tei) more)) h.heard
+      ∙ ap (λ ts. (past ++ map (data_told service tei) n.delivered) ++ ts) (heard-data more)
+      ∙ append_assoc past (map (data_told service tei) n.delivered) (map (data_told service tei) more)
+      ∙ ap (λ ts. past ++ ts) (sym (map-append (data_told service tei) n.delivered more))
+
+  pub held-given : (with_sent n).link.contents ≡ n.link.contents → Held c service tei place past (happens (goes s.line) s) (with_sent n)
+  held-given kept =
+      let x = holds-given service tei place (record { told = s.told; had = n.delivered }) c s n quiet kept in
+      record { stands = x.stands; granted = x.granted; octets = x.octets; heard = ap (flat_map for_layer_3) (append-nil s.told) ∙ h.heard }
+
+  pub held-lost : Held c service tei place past (with_first_lost s) (two_ends.with_first_lost n)
+  held-lost =
+      let x = holds-lost service tei place (record { told = s.told; had = n.delivered }) c s n quiet in
+      record { stands = x.stands; granted = x.granted; octets = x.octets; heard = h.heard }
+
+  -- a frame of the other side
+  module _ (d : Config) (face : Face c d) (f : Parts) (from : IsCarried d service tei f) where
+    abbrev took : Station
+    took = happens (comes s.line (spelling d.side f)) s
+
+    abbrev x : Course
+    x = links.course n.terms (link.received (link.frame f)) n.link
+
+    it_took : Took service tei place unheard c s n (spelling d.side f) f
+    it_took = takes_frame service tei place unheard c d face s n f h.stands from
+
+    pub taken-told : took.told ≡ s.told ++ said_by x
+    taken-told = it_took.told
+
+    pub taken-stands : Stands c service tei place took (with_link (link.received (link.frame f)) n)
+    taken-stands = it_took.stands
+
+    pub held-taken : TellsIt n.terms.service n.terms.tei x → (with_link (link.received (link.frame f)) n).link.contents ≡ n.link.contents
+        → Held c service tei place past took (with_link (link.received (link.frame f)) n)
+    held-taken tells kept = record {
+      stands = it_took.stands;
+      granted = append-nil s.granted ∙ h.granted ∙ sym kept;
+      octets = subst (All AreOctets) (sym (append-nil s.granted)) h.octets;
+      heard = heard-then took x it_took.told tells;
+    }
+
+  -- a timer
+  module _ (timer : Timer) (its : LinkTimer) (aims : (l : Line) → aim_of_expiry timer l ≡ at_timer service tei its (place_in l tei)) where
+    abbrev after : Station
+    after = happens (expires s.line timer) s
+
+    pub expired-told : after.told ≡ s.told ++ said_by (links.course n.terms (link.expired its) n.link)
+    expired-told = expires-said service tei place s n own timer its aims
+
+    pub held-expired : TellsIt n.terms.service n.terms.tei (links.course n.terms (link.expired its) n.link) → (with_link (link.expired its) n).link.contents ≡ n.link.contents
+        → Held c service tei place past after (with_link (link.expired its) n)
+    held-expired tells kept =
+        let same : after.granted ≡ s.granted = ap (λ xs. s.granted ++ xs) (none-granted (said s.card (expires s.line timer))) ∙ append-nil s.granted in
+        record {
+          stands = subst (λ k. Stands k service tei place after (with_link (link.expired its) n)) h.stands.config (expires-stands service tei place s n own timer its aims);
+          granted = same ∙ h.granted ∙ sym kept;
+          octets = subst (All AreOctets) (sym same) h.octets;
+          heard = heard-then after (links.course n.terms (link.expired its) n.link) expired-told tells;
+        }
+
+  -- data
+  pub record Grants (octets : List ℕ) (s' : Station) : Type 0 where
+    pub none : requests.refusal n.terms n.link false (link.Data octets) ≡ None
+    pub held : Held c service tei place past s' (with_more octets n)
+
+  pub held-asked : (octets : List ℕ) → AreOctets octets → (happens (asks s.line (Data service tei octets)) s ≡ s) ⊎ Grants octets (happens (asks s.line (Data service tei octets)) s)
+  held-asked octets are = go (holds-asked service tei place (record { told = s.told; had = n.delivered }) c s n octets are quiet)
+    where
+      s' : Station
+      s' = happens (asks s.line (Data service tei octets)) s
+
+      go : (s' ≡ s) ⊎ More service tei place (record { told = s.told; had = n.delivered }) c s s' n octets → (s' ≡ s) ⊎ Grants octets s'
+      go (inl same) = inl same
+      go (inr y) = inr (record {
+        none = y.none;
+        held = record { stands = y.holds.stands; granted = y.holds.granted; octets = y.holds.octets; heard = heard-so-far s' y.holds.since y.holds.told ∙ ap (λ xs. past ++ map (data_told service tei) xs) (sym y.holds.delivered) };
+      })
+
+  -- the first that it hears is its establishment
+  pub held-first : (first : LineTold) (s' : Station) (n' : End) (x : Course) → past ≡ [] → n.delivered ≡ [] → n'.delivered ≡ [] → Stands c service tei place s' n' → s'.granted ≡ s.granted
+      → n'.link.contents ≡ n.link.contents → s'.told ≡ s.told ++ said_by x → said_by x ≡ first ∷ [] → for_layer_3 first ≡ first ∷ []
+      → Held c service tei place (first ∷ []) s' n'
+  held-first first s' n' x none before now stands granted kept told said is = record {
+    stands = stands;
+    granted = granted ∙ h.granted ∙ sym kept;
+    octets = subst (All AreOctets) (sym granted) h.octets;
+    heard =
+        ap (flat_map for_layer_3) told ∙ flat_map-append for_layer_3 s.told (said_by x)
+        ∙ ap (λ ts. ts ++ flat_map for_layer_3 (said_by x)) (h.heard ∙ ap (λ ts. ts ++ map (data_told service tei) n.delivered) none ∙ ap (map (data_told service tei)) before)
+        ∙ ap (flat_map for_layer_3) said ∙ append-nil (for_layer_3 first) ∙ is
+        ∙ ap (λ xs. first ∷ map (data_told service tei) xs) (sym now);
+  }

@@ -1,0 +1,242 @@
+-- Two ends whose links are up, by what is on the line from each to the other: first what is on its way, and then what waits.
+use Rattle.std.proofs.Common.{◌≡◌, ℕ, ◌+◌, ◌≤◌, Bool, true, false, cond, IsTrue, List, [], ◌∷◌, ◌++◌, length, take, drop, None, refl, sym, ap, subst, ◌∙◌, append_assoc, append-nil, true≢false, arith}
+use Rattle.std.specs.Prelude.{option_to_list}
+use Rattle.std.proofs.lemmas.List.Elements.{All-nil}
+use Rattle.std.proofs.lemmas.List.Prefix.{front_rest}
+use Rattle.lapd_frame.specs.Grammar.{Parts}
+use Rattle.model_link.specs.declared.states.State.{State}
+use Rattle.model_link.specs.declared.states.State.TheVariants.{TeiAssigned, AwaitingEstablishment, AwaitingRelease, Established, TimerRecovery}
+use Rattle.model_link.specs.declared.timers.LinkTimer.{LinkTimer}
+use Rattle.model_link.specs.declared.timers.LinkTimer.TheVariants.{T200, T203}
+use Rattle.model_link.specs.declared.frames.ControlFrame.{ControlFrame}
+use Rattle.model_link.specs.declared.terms.Terms.{Terms}
+use Rattle.model_link.specs.Events.{frame, received, expired, offer}
+use Rattle.model_link.specs.Link.{Link, is_multiple_frame}
+use Rattle.model_link.specs.Machine
+use Rattle.model_link.specs.Machine.{course, after}
+use Rattle.model_link.specs.Sound.{IsInRange, IsSound, IsSettledIn, IsWaitingFrame}
+use Rattle.model_link.specs.Steps.{Course, begun}
+use Rattle.model_link.specs.TwoEnds.{End, with_link, with_sent}
+use Rattle.model_link.proofs.Delivering.{event-delivers}
+use Rattle.model_link.proofs.Direction.{Direction, frames_of, frames-append, line_of, sender-goes, receiver-goes, sender-loses, receiver-loses}
+use Rattle.model_link.proofs.Facing.{Reports, Up, no-reports, any_number, still, timer_7_up, t200_8_up}
+use Rattle.model_link.proofs.FacingInformation.{at-first}
+use Rattle.model_link.proofs.Hearing.{sender-hears, receiver-hears}
+use Rattle.model_link.proofs.Lines.{Carried, Means, Rising}
+use Rattle.model_link.proofs.Sending.{Gave, offer-gave}
+use Rattle.model_link.proofs.Taking.{frame-taken, none-delivered}
+
+-- An end with this on its line.
+abbrev pub bare : Link → Link
+bare l = record l { waiting = [] }
+
+abbrev pub shown : End → List Parts → End
+shown n line = record n { link = bare n.link; way = line }
+
+pub record Joint (n m : End) (near far : List Parts) : Type 0 where
+  pub there : Direction (shown n near) (shown m far)
+  pub back : Direction (shown m far) (shown n near)
+
+pub turned-joint : (n m : End) (near far : List Parts) → Joint n m near far → Joint m n far near
+turned-joint n m near far h = record { there = h.back; back = h.there }
+
+-- by the line alone
+relined : (x y : End) (near far : List Parts) → line_of x ≡ near → line_of y ≡ far → Direction x y → Direction (shown x near) (shown y far)
+relined x y near far e e' h = record {
+  carried = subst (Carried x.link.contents (x.link.a + x.terms.k) y.link.r) (e ∙ sym (append-nil near)) h.carried;
+  rising = subst (Rising x.link.a y.link.r) (e' ∙ sym (append-nil far)) h.rising;
+  delivered = h.delivered;
+  accepted = h.accepted;
+}
+
+-- what waits more
+abbrev pub since : List ControlFrame → List ControlFrame → List ControlFrame
+since ws ws' = drop (length ws) ws'
+
+reports-since : (r : ℕ) (ws ws' : List ControlFrame) → Reports r ws ws' → Reports r [] (since ws ws')
+reports-since r ws ws' h = record { news = h.news; more = front_rest ws' ws h.news h.more; are = h.are }
+
+waits-since : (r : ℕ) (ws ws' : List ControlFrame) → Reports r ws ws' → ws' ≡ ws ++ since ws ws'
+waits-since r ws ws' h = h.more ∙ ap (λ xs. ws ++ xs) (sym (front_rest ws' ws h.news h.more))
+
+-- so the line grows by it
+pub line-on : (t : Terms) (way first line : List Parts) (ws ws' news : List ControlFrame) → way ++ frames_of t ws ≡ first ++ line → ws' ≡ ws ++ news
+    → way ++ frames_of t ws' ≡ first ++ (line ++ frames_of t news)
+line-on t way first line ws ws' news e more =
+    ap (λ xs. way ++ frames_of t xs) more ∙ ap (λ fs. way ++ fs) (frames-append t ws news) ∙ sym (append_assoc way (frames_of t ws) (frames_of t news))
+    ∙ ap (λ fs. fs ++ frames_of t news) e ∙ append_assoc first line (frames_of t news)
+
+-- the first on a line is lost
+pub loses-first : (n m : End) (f : Parts) (near far : List Parts) → Joint n m (f ∷ near) far → Joint n m near far
+loses-first n m f near far h = record {
+  there = sender-loses (shown n (f ∷ near)) (shown m far) h.there;
+  back = receiver-loses (shown m far) (shown n (f ∷ near)) h.back;
+}
+
+-- A link goes on by itself: more contents may be accepted, and reports may wait.
+pub record Goes (l l' : Link) (more : List (List ℕ)) : Type 0 where
+  pub same : l'.contents ≡ l.contents ++ more
+  pub still : l'.a ≡ l.a
+  pub received : l'.r ≡ l.r
+  pub reports : Reports l.r l.waiting l'.waiting
+
+pub waits-more : (l l' : Link) (more : List (List ℕ)) → Goes l l' more → l'.waiting ≡ l.waiting ++ since l.waiting l'.waiting
+waits-more l l' more g = waits-since l.r l.waiting l'.waiting g.reports
+
+pub goes-on : (n m : End) (l' : Link) (more : List (List ℕ)) (near far : List Parts) → Goes n.link l' more → Joint n m near far
+    → Joint (record n { link = l' }) m (near ++ frames_of n.terms (since n.link.waiting l'.waiting)) far
+goes-on n m l' more near far g h =
+    let news = since n.link.waiting l'.waiting in
+    let line = near ++ frames_of n.terms news in
+    let reports = reports-since n.link.r n.link.waiting l'.waiting g.reports in
+    let y : Link = record l' { waiting = news } in
+    record {
+      there =
+          relined (record (shown n near) { link = y }) (shown m far) line far refl (append-nil far)
+          (sender-goes (shown n near) (shown m far) y more n.link.r g.same g.still reports h.there);
+      back =
+          relined (shown m far) (record (shown n near) { link = y }) far line (append-nil far) refl
+          (receiver-goes (shown m far) (shown n near) y g.received reports h.back);
+    }
+
+-- an event that delivers nothing changes the link alone
+pub only-link : (n : End) (e : Rattle.model_link.specs.Events.Event) → (course n.terms e n.link).delivered ≡ None → with_link e n ≡ record n { link = after n.terms e n.link }
+only-link n e none =
+    λ i. record n { link = after n.terms e n.link; delivered = (ap (λ o. n.delivered ++ option_to_list o) none ∙ append-nil n.delivered) i }
+
+pub accepts : (octets : List ℕ) (l : Link) → Goes l (record l { contents = l.contents ++ octets ∷ [] }) (octets ∷ [])
+accepts octets l = record { same = refl; still = refl; received = refl; reports = no-reports l.r l.waiting }
+
+-- a timer
+module _ (t : Terms) (l : Link) where
+  stays : Goes l l []
+  stays = record { same = sym (append-nil l.contents); still = refl; received = refl; reports = no-reports l.r l.waiting }
+
+  by-up : (c : Course) → Up l l.a l.r c → IsTrue (is_multiple_frame c.link.state) → Goes l c.link []
+  by-up c h up = let x = h.stay up in record { same = x.same ∙ sym (append-nil l.contents); still = x.acknowledged; received = x.received; reports = x.reports }
+
+  expired-goes : (here : State) → IsTrue (is_multiple_frame here) → (timer : LinkTimer) → IsTrue (is_multiple_frame (Machine.expired_in here timer t (begun l)).link.state)
+      → Goes l (Machine.expired_in here timer t (begun l)).link []
+  expired-goes TeiAssigned before timer up = absurd (true≢false (sym before))
+  expired-goes AwaitingEstablishment before timer up = absurd (true≢false (sym before))
+  expired-goes AwaitingRelease before timer up = absurd (true≢false (sym before))
+  expired-goes Established before timer up = by-up _ ((timer_7_up t l {S = still l.s}).leads (begun l) (at-first t l)) up
+  expired-goes TimerRecovery before T200 up = by-up _ ((t200_8_up t l {S = still l.s}).leads (begun l) (at-first t l)) up
+  expired-goes TimerRecovery before T203 up = stays
+
+  either : (b : Bool) (u v : Course) → (IsTrue (is_multiple_frame u.link.state) → Goes l u.link []) → (IsTrue (is_multiple_frame v.link.state) → Goes l v.link [])
+      → IsTrue (is_multiple_frame (cond b u v).link.state) → Goes l (cond b u v).link []
+  either true u v x y up = x up
+  either false u v x y up = y up
+
+  pub timer-goes : IsTrue (is_multiple_frame l.state) → (timer : LinkTimer) → IsTrue (is_multiple_frame (after t (expired timer) l).state) → Goes l (after t (expired timer) l) []
+  timer-goes before timer up = either (Machine.is_running timer l) _ _ (λ x. expired-goes l.state before timer x) (λ x. stays) up
+
+  pub timer-delivers : (timer : LinkTimer) → (course t (expired timer) l).delivered ≡ None
+  timer-delivers timer = none-delivered t l (course t (expired timer) l) (event-delivers t l (expired timer))
+
+-- an end gives
+pub record GivesOn (n m : End) (first near far : List Parts) : Type 0 where
+  pub news : List Parts
+  pub line : line_of (with_sent n) ≡ first ++ (near ++ news)
+  pub joint : Joint (with_sent n) m (near ++ news) far
+  pub contents : (with_sent n).link.contents ≡ n.link.contents
+
+pub gives-on : (n m : End) (first near far : List Parts) → IsInRange n.terms → IsSound n.terms n.link → line_of n ≡ first ++ near → Joint n m near far → GivesOn n m first near far
+gives-on n m first near far ranges sound e h =
+    let c = course n.terms offer n.link in
+    let g : Gave n.terms n.link c = offer-gave n.terms ranges n.link sound n.link.waiting refl in
+    let line = near ++ g.news in
+    let up : Carried n.link.contents (n.link.a + n.terms.k) m.link.r near = subst (Carried n.link.contents (n.link.a + n.terms.k) m.link.r) (append-nil near) h.there.carried in
+    let its : Rising m.link.a n.link.r near = subst (Rising m.link.a n.link.r) (append-nil near) h.back.rising in
+    record {
+      news = g.news;
+      line = g.line n.way ∙ ap (λ fs. fs ++ g.news) e ∙ append_assoc first near g.news;
+      joint = record {
+        there = record {
+          carried =
+              subst (λ cs. Carried cs (c.link.a + n.terms.k) m.link.r (line ++ [])) (sym g.same)
+              (subst (λ a. Carried n.link.contents (a + n.terms.k) m.link.r (line ++ [])) (sym g.acknowledged)
+              (subst (Carried n.link.contents (n.link.a + n.terms.k) m.link.r) (sym (append-nil line)) (g.carried m.link.r near up)));
+          rising = subst (λ a. Rising a m.link.r (far ++ [])) (sym g.acknowledged) h.there.rising;
+          delivered = h.there.delivered ∙ ap (λ cs. take m.link.r cs) (sym g.same);
+          accepted = subst (λ cs. m.link.r ≤ length cs) (sym g.same) h.there.accepted;
+        };
+        back = record {
+          carried = subst (λ r. Carried m.link.contents (m.link.a + m.terms.k) r (far ++ [])) (sym g.received) h.back.carried;
+          rising =
+              subst (λ r. Rising m.link.a r (line ++ [])) (sym g.received)
+              (subst (Rising m.link.a n.link.r) (sym (append-nil line)) (g.rising m.link.a near its));
+          delivered = h.back.delivered ∙ ap (λ r. take r m.link.contents) (sym g.received);
+          accepted = subst (λ r. r ≤ length m.link.contents) (sym g.received) h.back.accepted;
+        };
+      };
+      contents = g.same;
+    }
+
+-- soundness does not need what waits
+settled-bare : (state : State) (l : Link) → IsSettledIn state l → IsSettledIn state (bare l)
+settled-bare TeiAssigned l h = h
+settled-bare AwaitingEstablishment l h = h
+settled-bare AwaitingRelease l h = h
+settled-bare Established l h = h
+settled-bare TimerRecovery l h = h
+
+sound-bare : (t : Terms) (l : Link) → IsSound t l → IsSound t (bare l)
+sound-bare t l h = record {
+  ordered = h.ordered;
+  accepted = h.accepted;
+  within = h.within;
+  settled = settled-bare l.state l h.settled;
+  queue = h.queue;
+  ring = omega arith;
+  quiet = h.quiet;
+  sizes = h.sizes;
+  frames = All-nil (IsWaitingFrame t);
+}
+
+-- what the first on a line is
+pub record IsMeant (f : Parts) : Type 0 where
+  pub number : ℕ
+  pub means : Means number f.control
+
+pub first-means : (n m : End) (f : Parts) (near far : List Parts) → Joint n m near (f ∷ far) → IsMeant f
+first-means n m f near far h = let x : Rising n.link.a m.link.r (f ∷ (far ++ [])) = h.there.rising in record { number = x.0; means = x.2 }
+
+-- an end hears it
+pub record HearsOn (n m : End) (f : Parts) (near far : List Parts) : Type 0 where
+  pub waits : (with_link (received (frame f)) n).link.waiting ≡ n.link.waiting ++ since n.link.waiting (with_link (received (frame f)) n).link.waiting
+  pub joint : Joint (with_link (received (frame f)) n) m (near ++ frames_of n.terms (since n.link.waiting (with_link (received (frame f)) n).link.waiting)) far
+  pub contents : (with_link (received (frame f)) n).link.contents ≡ n.link.contents
+
+pub hears-on : (n m : End) (f : Parts) (near far : List Parts) → IsInRange n.terms → IsInRange m.terms → IsSound n.terms n.link → IsTrue (is_multiple_frame n.link.state)
+    → IsTrue (is_multiple_frame (after n.terms (received (frame f)) n.link).state) → Joint n m near (f ∷ far) → HearsOn n m f near far
+hears-on n m f near far ranges far-ranges sound before up h =
+    let c = course n.terms (received (frame f)) n.link in
+    let ds = n.delivered ++ option_to_list c.delivered in
+    let ws = n.link.waiting in
+    let news = since ws c.link.waiting in
+    let line = near ++ frames_of n.terms news in
+    let y : Link = record c.link { waiting = news } in
+    let is = first-means n m f near far h in
+    let this = frame-taken n.terms n.link before f.address.command f.info is.number f.control is.means in
+    let stay = (this.took.by.stay up).2 in
+    record {
+      waits = waits-since this.r ws c.link.waiting stay.reports;
+      joint = record {
+        there =
+            relined (record (shown n near) { link = y; delivered = ds }) (record (shown m (f ∷ far)) { way = far }) line far refl (append-nil far)
+            (sender-hears (shown n near) (shown m (f ∷ far)) f far y ds any_number ranges (sound-bare n.terms n.link sound) refl
+            (λ p means.
+            let other = frame-taken n.terms n.link before f.address.command f.info p f.control means in
+            let by = other.took.by.stay up in
+            let x = by.2 in
+            (other.r, by.0, by.1, record { same = x.same; acknowledged = x.acknowledged; sent = x.sent; received = x.received; reports = reports-since other.r ws c.link.waiting x.reports }))
+            h.there);
+        back =
+            relined (record (shown m (f ∷ far)) { way = far }) (record (shown n near) { link = y; delivered = ds }) far line (append-nil far) refl
+            (receiver-hears (shown n near) (shown m (f ∷ far)) f far y ds this.r this.delivered far-ranges refl this.advance stay.received
+            (reports-since this.r ws c.link.waiting stay.reports) (ap (λ o. n.delivered ++ option_to_list o) (this.took.delivered up)) h.back);
+      };
+      contents = stay.same;
+    }

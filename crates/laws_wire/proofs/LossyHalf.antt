@@ -1,0 +1,176 @@
+-- The second phase of such a call: one end still rings, and the other is up.
+use Rattle.std.proofs.Common.{◌≡◌, ℕ, true, List, [], ◌∷◌, ◌++◌, map, refl, sym, ap, subst, ◌∙◌, ◌⊎◌, inl, inr, append-nil}
+use Rattle.std.specs.Prelude.{option_to_list}
+use Rattle.std.proofs.lemmas.List.Elements.{All-head}
+use Rattle.lapd_frame.specs.declared.services.Service.{Service}
+use Rattle.lapd_frame.specs.Grammar.{Parts, spelling}
+use Rattle.model_link.specs.declared.terms.Terms.{Terms}
+use Rattle.model_link.specs.Events as link
+use Rattle.model_link.specs.Machine.{course}
+use Rattle.model_link.specs.Sound.{IsInRange}
+use Rattle.model_link.specs.TwoEnds.{End, with_link}
+use Rattle.model_link.proofs.Direction.{frames_of}
+use Rattle.model_line.specs.declared.config.Config.{Config}
+use Rattle.model_line.specs.Event.{LineTold}
+use Rattle.model_line.specs.Line.{terms}
+use Rattle.model_card.specs.Happening.{comes}
+use Rattle.laws_wire.specs.Wire.{Station, Wire, happens, with_first_of, with_first_lost, Act, requests, times_out, gives, takes, loses, acting, turned}
+use Rattle.laws_wire.specs.Call.{confirmed, indicated}
+use Rattle.laws_wire.specs.Losing.{IsRoughTalkOf}
+use Rattle.laws_wire.proofs.Acting.{Acted, up-asks, up-expires, up-gives, up-loses}
+use Rattle.laws_wire.proofs.Calling.{sabme, ua, end, caller}
+use Rattle.laws_wire.proofs.Fair.{HasError, sabme-error}
+use Rattle.laws_wire.proofs.Held.{Held, TellsIt, Erred, now-erred, held-first, taken-told, taken-stands, held-taken}
+use Rattle.laws_wire.proofs.Joint.{Joint, turned-joint, IsMeant}
+use Rattle.laws_wire.proofs.LossyPhases.{made, for-data, for-timer, first-way, empty, UaOrNone, IsHalf, Went, as-half, as-up, no-take, no-take_far, no-loss_far, reface}
+use Rattle.laws_wire.proofs.Ringing.{ringing, answered, IsSabme, AreSabmes, Ignores, ignores}
+use Rattle.laws_wire.proofs.StillRinging.{StillRings, rings-asks, rings-expires, rings-gives, rings-loses}
+use Rattle.laws_wire.proofs.Talking.{Face}
+
+module _ (service : Service) (tei : ℕ) (c d : Config) (p q : ℕ) (face : Face c d) (back : Face d c) (rt : IsInRange (terms c service tei)) (ru : IsInRange (terms d service tei)) where
+  abbrev t : Terms
+  t = terms c service tei
+
+  abbrev u : Terms
+  u = terms d service tei
+
+  abbrev first_near : List LineTold
+  first_near = confirmed service tei ∷ []
+
+  abbrev first_far : List LineTold
+  first_far = indicated service tei ∷ []
+
+  abbrev Leads : Wire → Type 0
+  Leads w = Went service tei c d p q w
+
+  module _ (w : Wire) (h : IsHalf service tei c d p q w) where
+    half-with : (s : Station) → StillRings service tei c p s → Leads (record w { near = s })
+    half-with s x =
+        as-half service tei c d p q _ (record { repeats = x.repeats; waiting = x.waiting; way = x.way; near = x.held; sabmes = x.sabmes; m = h.m; first = h.first; line = h.line; is_ua = h.is_ua; far = h.far })
+
+    half-or : (s : Station) → StillRings service tei c p s ⊎ Erred s → Leads (record w { near = s })
+    half-or s (inl x) = half-with s x
+    half-or s (inr e) = inr (inl e)
+
+    abbrev caller_end : End
+    caller_end = end t (ringing h.repeats h.waiting) h.way
+
+    acted-half : (w' : Wire) (first : List Parts) → UaOrNone service tei c d p q first → Held c service tei p [] w'.near caller_end → Acted service tei q first_far d w'.far (end t caller []) first [] → Leads w'
+    acted-half w' first is near x =
+        as-half service tei c d p q w' (record { repeats = h.repeats; waiting = h.waiting; way = h.way; near = near; sabmes = h.sabmes; m = x.n; first = first; line = x.near; is_ua = is; far = x.at })
+
+    -- the first frame on the way of the other, where it is not UA
+    unheard-by : (f : Parts) (fs : List Parts) → h.m.way ≡ f ∷ fs → IsMeant f → h.first ≡ [] → Acted service tei q first_far d (with_first_lost w.far) (end t caller []) h.first []
+        → Leads (acting takes w)
+    unheard-by f fs e meant none x =
+        let way = first-way service tei d q first_far w.far h.m f fs e h.far.held in
+        let i : Ignores t h.repeats h.waiting f = ignores t h.repeats h.waiting f meant.number meant.means in
+        let s' = happens (comes w.near.line (spelling d.side f)) w.near in
+        let event = link.received (link.frame f) in
+        let tells : TellsIt service tei (course t event caller_end.link) =
+        record {
+          its_notes = i.notes ∙ ap (λ o. map (λ octets. Rattle.lapd_frame.specs.declared.notes.Note.TheVariants.Data service tei) (option_to_list o)) (sym i.delivered);
+          no_unit = i.unit;
+        } in
+        let is : with_link event caller_end ≡ caller_end = (λ j. record caller_end { link = i.stays j; delivered = ap option_to_list i.delivered j }) in
+        let near : Held c service tei p [] s' caller_end =
+        subst (Held c service tei p [] s') is (held-taken service tei p [] c w.near caller_end h.near d face f way.1 tells (ap (λ l. l.contents) i.stays)) in
+        subst (λ ways. Leads (record { near = with_first_of ways w.near; far = with_first_lost w.far })) (sym way.0)
+        (acted-half (record { near = s'; far = with_first_lost w.far }) h.first h.is_ua near x)
+
+    -- UA comes
+    confirms : (fs : List Parts) → h.m.way ≡ ua u ∷ fs → Acted service tei q first_far d (with_first_lost w.far) (end t caller []) [] [] → Leads (acting takes w)
+    confirms fs e x =
+        let f = ua u in
+        let way = first-way service tei d q first_far w.far h.m f fs e h.far.held in
+        let s' = happens (comes w.near.line (spelling d.side f)) w.near in
+        let n' = end t (answered h.repeats h.waiting) h.way in
+        let there : Joint x.n n' x.near [] =
+        record {
+          there = record { carried = x.at.joint.there.carried; rising = x.at.joint.there.rising; delivered = x.at.joint.there.delivered; accepted = x.at.joint.there.accepted };
+          back = record { carried = x.at.joint.back.carried; rising = x.at.joint.back.rising; delivered = x.at.joint.back.delivered; accepted = x.at.joint.back.accepted };
+        } in
+        let held : Held c service tei p first_near s' n' =
+        held-first service tei p [] c w.near caller_end h.near (confirmed service tei) s' n' (course t (link.received (link.frame f)) caller_end.link) refl refl refl
+        (taken-stands service tei p [] c w.near caller_end h.near d face f way.1) (append-nil w.near.granted) refl
+        (taken-told service tei p [] c w.near caller_end h.near d face f way.1) refl refl in
+        subst (λ ways. Leads (record { near = with_first_of ways w.near; far = with_first_lost w.far })) (sym way.0)
+        (as-up service tei c d p q (record { near = s'; far = with_first_lost w.far }) (record {
+          n = n';
+          m = x.n;
+          first = h.way ++ frames_of t h.waiting;
+          there = [];
+          here = x.near;
+          sabmes = h.sabmes;
+          near = record { held = held; up = refl; line = sym (append-nil (h.way ++ frames_of t h.waiting)); joint = turned-joint x.n n' x.near [] there };
+          far = reface service tei c d p q first_far d q (with_first_lost w.far) x.n (end t caller []) n' [] x.near [] x.at there;
+        }))
+
+    -- what was before the line
+    only-ua : (f : Parts) (others : List Parts) → h.first ≡ f ∷ others → (f ≡ ua u) × (others ≡ [])
+    only-ua f others e = go h.is_ua
+      where
+        go : UaOrNone service tei c d p q h.first → (f ≡ ua u) × (others ≡ [])
+        go (inl none) = let wrong : [] ≡ f ∷ others = sym none ∙ e in absurd (cc)
+        go (inr is) = let same : f ∷ others ≡ ua u ∷ [] = sym e ∙ is in let head : f ≡ ua u = cc in let tail : others ≡ [] = cc in (head, tail)
+
+    half-takes : (way : List Parts) → h.m.way ≡ way → Leads (acting takes w)
+    half-takes [] e = no-take service tei c d p q w (empty service tei d q first_far w.far h.m h.far.held e) (as-half service tei c d p q w h)
+    half-takes (f ∷ fs) e = go (up-loses service tei q first_far d w.far h.m (end t caller []) h.first h.line [] h.far f fs e).lost
+      where
+        go : ((h.first ≡ []) × IsMeant f × Acted service tei q first_far d (with_first_lost w.far) (end t caller []) h.first [])
+            ⊎ ((others : List Parts) × (h.first ≡ f ∷ others) × Acted service tei q first_far d (with_first_lost w.far) (end t caller []) others []) → Leads (acting takes w)
+        go (inl (none, meant, x)) = unheard-by f fs e meant none x
+        go (inr (others, is, x)) =
+            let only = only-ua f others is in
+            confirms fs (e ∙ ap (λ y. y ∷ fs) only.0) (subst (λ first. Acted service tei q first_far d (with_first_lost w.far) (end t caller []) first []) only.1 x)
+
+    pub half-near : (act : Act) → IsRoughTalkOf service tei act → Leads (acting act w)
+    half-near (requests r) is =
+        for-data service tei (λ r. Leads (acting (requests r) w)) (λ octets are. half-with _ (rings-asks service tei c p w.near h.repeats h.waiting h.way h.near h.sabmes octets are)) r is
+    half-near (times_out timer) is =
+        for-timer service tei (λ timer. Leads (acting (times_out timer) w)) (λ timer its aims. half-or _ (rings-expires service tei c p w.near h.repeats h.waiting h.way h.near h.sabmes timer its aims)) timer is
+    half-near gives is = half-with _ (rings-gives service tei c p w.near h.repeats h.waiting h.way h.near h.sabmes)
+    half-near takes is = half-takes h.m.way refl
+    half-near loses is = half-with _ (rings-loses service tei c p w.near h.repeats h.waiting h.way h.near h.sabmes)
+
+    -- the other end
+    half-made : (s : Station) → Acted service tei q first_far d s (end t caller []) h.first [] → Leads (made w s)
+    half-made s x = acted-half (made w s) h.first h.is_ua h.near x
+
+    half-made_or : (s : Station) → Acted service tei q first_far d s (end t caller []) h.first [] ⊎ Erred s → Leads (made w s)
+    half-made_or s (inl x) = half-made s x
+    half-made_or s (inr e) = inr (inr e)
+
+    half-loses : (way : List Parts) → h.m.way ≡ way → Leads (turned (acting loses (turned w)))
+    half-loses [] e = no-loss_far service tei c d p q w (empty service tei d q first_far w.far h.m h.far.held e) (as-half service tei c d p q w h)
+    half-loses (f ∷ fs) e = go (up-loses service tei q first_far d w.far h.m (end t caller []) h.first h.line [] h.far f fs e).lost
+      where
+        go : ((h.first ≡ []) × IsMeant f × Acted service tei q first_far d (with_first_lost w.far) (end t caller []) h.first [])
+            ⊎ ((others : List Parts) × (h.first ≡ f ∷ others) × Acted service tei q first_far d (with_first_lost w.far) (end t caller []) others [])
+            → Leads (made w (with_first_lost w.far))
+        go (inl (none, meant, x)) = half-made (with_first_lost w.far) x
+        go (inr (others, is, x)) = acted-half (made w (with_first_lost w.far)) others (inl (only-ua f others is).1) h.near x
+
+    -- SABME comes again
+    half-hears : (way : List Parts) → h.way ≡ way → Leads (turned (acting takes (turned w)))
+    half-hears [] e = no-take_far service tei c d p q w (empty service tei c p [] w.near caller_end h.near e) (as-half service tei c d p q w h)
+    half-hears (f ∷ fs) e =
+        let way = first-way service tei c p [] w.near caller_end f fs e h.near in
+        let is : f ≡ sabme t = All-head (IsSabme t) f (fs ++ frames_of t h.waiting) (subst (λ way. AreSabmes t way h.waiting) e h.sabmes) in
+        let s' = happens (comes w.far.line (spelling c.side f)) w.far in
+        let x = course h.m.terms (link.received (link.frame f)) h.m.link in
+        let error : HasError x.notes = sabme-error h.m.terms h.m.link h.far.up f true (ap (λ y. y.control) is) in
+        subst (λ ways. Leads (record { near = with_first_lost w.near; far = with_first_of ways w.far })) (sym way.0)
+        (inr (inr (now-erred w.far s' x (taken-told service tei q first_far d w.far h.m h.far.held c back f way.1) error)))
+
+    pub half-far : (act : Act) → IsRoughTalkOf service tei act → Leads (turned (acting act (turned w)))
+    half-far (requests r) is =
+        for-data service tei (λ r. Leads (turned (acting (requests r) (turned w))))
+        (λ octets are. half-made _ (up-asks service tei q first_far d w.far h.m (end t caller []) h.first h.line [] h.far octets are)) r is
+    half-far (times_out timer) is =
+        for-timer service tei (λ timer. Leads (turned (acting (times_out timer) (turned w))))
+        (λ timer its aims. half-made_or _ (up-expires service tei q first_far d w.far h.m (end t caller []) h.first h.line [] h.far timer its aims)) timer is
+    half-far gives is = half-made _ (up-gives service tei q first_far d w.far h.m (end t caller []) h.first h.line [] h.far)
+    half-far takes is = half-hears h.way refl
+    half-far loses is = half-loses h.m.way refl

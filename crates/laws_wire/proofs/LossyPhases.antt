@@ -1,0 +1,157 @@
+-- A call in which frames are lost and timers expire: SABME goes as often as T200 expires; then the other end is up, and UA may be on
+-- its way, or lost; and then both are up, and SABME may still be on its way. Or an error was told.
+use Rattle.std.proofs.Common.{◌≡◌, ℕ, List, [], ◌∷◌, map, drop, refl, sym, ap, subst, ◌∙◌, ◌⊎◌, inl, inr}
+use Rattle.std.specs.Prelude.{All}
+use Rattle.std.proofs.lemmas.List.Elements.{All-head}
+use Rattle.lapd_frame.specs.declared.services.Service.{Service}
+use Rattle.lapd_frame.specs.declared.timers.Timer.{Timer}
+use Rattle.lapd_frame.specs.declared.timers.Timer.TheVariants as timers
+use Rattle.lapd_frame.specs.Grammar.{Parts, AreOctets, spelling}
+use Rattle.model_link.specs.declared.frames.ControlFrame.{ControlFrame}
+use Rattle.model_link.specs.declared.terms.Terms.{Terms}
+use Rattle.model_link.specs.declared.timers.LinkTimer.{LinkTimer}
+use Rattle.model_link.specs.declared.timers.LinkTimer.TheVariants as link_timer
+use Rattle.model_link.specs.Link.{fresh}
+use Rattle.model_link.specs.TwoEnds.{End}
+use Rattle.model_line.specs.declared.config.Config.{Config}
+use Rattle.model_line.specs.Event.{LineTold}
+use Rattle.model_line.specs.Expiry.{at_timer, aim_of_expiry}
+use Rattle.model_line.specs.Line.{Line, place_in, terms}
+use Rattle.model_line.specs.Request as asked_of
+use Rattle.model_line.specs.Request.{Request, Data}
+use Rattle.laws_wire.specs.Wire.{Station, Wire, with_first_of, with_first_lost, requests, takes, loses, acting, turned}
+use Rattle.laws_wire.specs.Call.{confirmed, indicated}
+use Rattle.laws_wire.specs.Losing.{IsOfLink, IsRoughTalkOf}
+use Rattle.laws_wire.proofs.Acting.{UpAt}
+use Rattle.laws_wire.proofs.Calling.{ua, end, caller}
+use Rattle.laws_wire.proofs.Held.{Held, Erred}
+use Rattle.laws_wire.proofs.Joint.{Joint}
+use Rattle.laws_wire.proofs.Ringing.{ringing, IsSabme, AreSabmes}
+use Rattle.laws_wire.proofs.Standing.{IsCarried}
+
+abbrev pub made : Wire → Station → Wire
+made w s = record { near = w.near; far = s }
+
+module _ (service : Service) (tei : ℕ) where
+  -- the requests and timers of a call
+  pub for-data : (P : Request → Type 0) → ((octets : List ℕ) → AreOctets octets → P (Data service tei octets)) → (r : Request) → IsRoughTalkOf service tei (requests r) → P r
+  for-data P own (Data s t octets) is = subst (λ s'. P (Data s' t octets)) (sym is.0) (subst (λ t'. P (Data service t' octets)) (sym is.1) (own octets is.2))
+  for-data P own (asked_of.Establish s t) is = absurd is
+  for-data P own (asked_of.Release s t) is = absurd is
+  for-data P own (asked_of.Unit s t octets) is = absurd is
+  for-data P own (asked_of.Assign t) is = absurd is
+  for-data P own (asked_of.Remove t) is = absurd is
+  for-data P own (asked_of.Check t) is = absurd is
+  for-data P own (asked_of.SetBusy s t) is = absurd is
+  for-data P own (asked_of.ClearBusy s t) is = absurd is
+
+  abbrev pub Aims : Timer → LinkTimer → Type 0
+  Aims timer its = (l : Line) → aim_of_expiry timer l ≡ at_timer service tei its (place_in l tei)
+
+  pub for-timer : (P : Timer → Type 0) → ((timer : Timer) (its : LinkTimer) → Aims timer its → P timer) → (timer : Timer) → IsOfLink service tei timer → P timer
+  for-timer P own (timers.T200 s t) is =
+      subst (λ s'. P (timers.T200 s' t)) (sym is.0) (subst (λ t'. P (timers.T200 service t')) (sym is.1) (own (timers.T200 service tei) link_timer.T200 (λ l. refl)))
+  for-timer P own (timers.T203 s t) is =
+      subst (λ s'. P (timers.T203 s' t)) (sym is.0) (subst (λ t'. P (timers.T203 service t')) (sym is.1) (own (timers.T203 service tei) link_timer.T203 (λ l. refl)))
+  for-timer P own timers.T201 is = absurd is
+
+  -- the first frame on the way of a station
+  pub first-way : (k : Config) (place : ℕ) (past : List LineTold) (s : Station) (n : End) (f : Parts) (fs : List Parts) → n.way ≡ f ∷ fs → Held k service tei place past s n
+      → (s.way ≡ spelling k.side f ∷ map (spelling k.side) fs) × IsCarried k service tei f
+  first-way k place past s n f fs e h =
+      (h.stands.way ∙ ap (map (spelling k.side)) e, All-head (IsCarried k service tei) f fs (subst (All (IsCarried k service tei)) e h.stands.carried))
+
+  -- where none is on its way none is taken, and none is lost
+  module _ (k : Config) (place : ℕ) (past : List LineTold) (s : Station) (n : End) (h : Held k service tei place past s n) (none : n.way ≡ []) where
+    pub empty : s.way ≡ []
+    empty = h.stands.way ∙ ap (map (spelling k.side)) none
+
+    same-lost : with_first_lost s ≡ s
+    same-lost = λ i. record s { way = (ap (drop 1) empty ∙ sym empty) i }
+
+  module _ (c d : Config) (p q : ℕ) where
+    abbrev t : Terms
+    t = terms c service tei
+
+    abbrev u : Terms
+    u = terms d service tei
+
+    abbrev first_near : List LineTold
+    first_near = confirmed service tei ∷ []
+
+    abbrev first_far : List LineTold
+    first_far = indicated service tei ∷ []
+
+    -- ---- the phases
+
+    pub record IsRinging (w : Wire) : Type 0 where
+      pub repeats : ℕ
+      pub waiting : List ControlFrame
+      pub way : List Parts
+      pub near : Held c service tei p [] w.near (end t (ringing repeats waiting) way)
+      pub far : Held d service tei q [] w.far (end u fresh [])
+      pub sabmes : AreSabmes t way waiting
+
+    abbrev pub UaOrNone : List Parts → Type 0
+    UaOrNone first = (first ≡ []) ⊎ (first ≡ ua u ∷ [])
+
+    pub record IsHalf (w : Wire) : Type 0 where
+      pub repeats : ℕ
+      pub waiting : List ControlFrame
+      pub way : List Parts
+      pub near : Held c service tei p [] w.near (end t (ringing repeats waiting) way)
+      pub sabmes : AreSabmes t way waiting
+      pub m : End
+      pub first : List Parts
+      pub line : List Parts
+      pub is_ua : UaOrNone first
+      pub far : UpAt service tei q first_far d w.far m (end t caller []) first line []
+
+    pub record IsUp (w : Wire) : Type 0 where
+      pub n : End
+      pub m : End
+      pub first : List Parts
+      pub there : List Parts
+      pub here : List Parts
+      pub sabmes : All (IsSabme t) first
+      pub near : UpAt service tei p first_near c w.near n m first there here
+      pub far : UpAt service tei q first_far d w.far m n [] here there
+
+    abbrev pub Goes : Wire → Type 0
+    Goes w = IsRinging w ⊎ IsHalf w ⊎ IsUp w
+
+    abbrev pub HasErred : Wire → Type 0
+    HasErred w = Erred w.near ⊎ Erred w.far
+
+    abbrev pub Went : Wire → Type 0
+    Went w = Goes w ⊎ HasErred w
+
+    pub as-half : (w : Wire) → IsHalf w → Went w
+    as-half w h = inl (inr (inl h))
+
+    pub as-up : (w : Wire) → IsUp w → Went w
+    as-up w h = inl (inr (inr h))
+
+    -- where none is on its way none is taken, and none is lost
+    lost-none : (s : Station) → s.way ≡ [] → with_first_lost s ≡ s
+    lost-none s e = λ i. record s { way = (ap (drop 1) e ∙ sym e) i }
+
+    takes-none : (w : Wire) → w.far.way ≡ [] → acting takes w ≡ w
+    takes-none w e = λ i. record { near = ap (λ way. with_first_of way w.near) e i; far = lost-none w.far e i }
+
+    pub no-take : (w : Wire) → w.far.way ≡ [] → Went w → Went (acting takes w)
+    no-take w e h = subst Went (sym (takes-none w e)) h
+
+    pub no-take_far : (w : Wire) → w.near.way ≡ [] → Went w → Went (turned (acting takes (turned w)))
+    no-take_far w e h = subst Went (sym (ap turned (takes-none (turned w) e))) h
+
+    pub no-loss : (w : Wire) → w.near.way ≡ [] → Went w → Went (acting loses w)
+    no-loss w e h = subst (λ s. Went (record w { near = s })) (sym (lost-none w.near e)) h
+
+    pub no-loss_far : (w : Wire) → w.far.way ≡ [] → Went w → Went (turned (acting loses (turned w)))
+    no-loss_far w e h = subst (λ s. Went (made w s)) (sym (lost-none w.far e)) h
+
+    -- an up end that has another before it
+    pub reface : (past : List LineTold) (k : Config) (place : ℕ) (s : Station) (m n n' : End) (first near far : List Parts) → UpAt service tei place past k s m n first near far → Joint m n' near far
+        → UpAt service tei place past k s m n' first near far
+    reface past k place s m n n' first near far h joint = record { held = h.held; up = h.up; line = h.line; joint = joint }

@@ -1,0 +1,134 @@
+-- The first phase of such a call: one end rings, and the other is down.
+use Rattle.std.proofs.Common.{◌≡◌, ℕ, false, List, [], ◌∷◌, ◌++◌, map, drop, None, refl, sym, ap, subst, ◌∙◌, ◌⊎◌, inl, inr, append-nil, arith}
+use Rattle.std.proofs.lemmas.List.Elements.{All-head}
+use Rattle.lapd_frame.specs.declared.services.Service.{Service}
+use Rattle.lapd_frame.specs.Grammar.{Parts, AreOctets, spelling}
+use Rattle.model_link.specs.declared.terms.Terms.{Terms}
+use Rattle.model_link.specs.Events as link
+use Rattle.model_link.specs.Link.{fresh}
+use Rattle.model_link.specs.Machine.{course}
+use Rattle.model_link.specs.Requests.{refusal}
+use Rattle.model_link.specs.Sound.{IsInRange}
+use Rattle.model_link.specs.TwoEnds.{with_link}
+use Rattle.model_link.proofs.Direction.{frames_of}
+use Rattle.model_line.specs.declared.config.Config.{Config}
+use Rattle.model_line.specs.Event.{LineTold}
+use Rattle.model_line.specs.Line.{terms}
+use Rattle.model_line.specs.Request.{Data}
+use Rattle.model_card.specs.Happening.{comes, asks}
+use Rattle.laws_wire.specs.Wire.{Station, Wire, happens, with_first_of, with_first_lost, Act, requests, times_out, gives, takes, loses, acting, turned}
+use Rattle.laws_wire.specs.Call.{confirmed, indicated}
+use Rattle.laws_wire.specs.Losing.{IsRoughTalkOf}
+use Rattle.laws_wire.proofs.Calling.{sabme, ua, end, caller, answering, takes-sabme, told-of-sabme}
+use Rattle.laws_wire.proofs.Held.{Held, Erred, held-given, held-lost, held-first, taken-told, taken-stands, held-expired, Grants, held-asked}
+use Rattle.laws_wire.proofs.Joint.{Joint}
+use Rattle.laws_wire.proofs.LossyPhases.{made, for-data, for-timer, first-way, empty, IsRinging, Went, as-half, no-take, no-take_far}
+use Rattle.laws_wire.proofs.Ringing.{ringing, IsSabme, AreSabmes, one-sabme_less}
+use Rattle.laws_wire.proofs.Standing.{IsCarried, Stands}
+use Rattle.laws_wire.proofs.StillRinging.{StillRings, rings-asks, rings-expires, rings-gives, rings-loses}
+use Rattle.laws_wire.proofs.Talking.{Face}
+
+module _ (service : Service) (tei : ℕ) (c d : Config) (p q : ℕ) (face : Face c d) (back : Face d c) (rt : IsInRange (terms c service tei)) (ru : IsInRange (terms d service tei)) where
+  abbrev t : Terms
+  t = terms c service tei
+
+  abbrev u : Terms
+  u = terms d service tei
+
+  abbrev first_near : List LineTold
+  first_near = confirmed service tei ∷ []
+
+  abbrev first_far : List LineTold
+  first_far = indicated service tei ∷ []
+
+  abbrev Leads : Wire → Type 0
+  Leads w = Went service tei c d p q w
+
+  module _ (w : Wire) (h : IsRinging service tei c d p q w) where
+    ringing-with : (s : Station) → StillRings service tei c p s → Leads (record w { near = s })
+    ringing-with s x = inl (inl (record { repeats = x.repeats; waiting = x.waiting; way = x.way; near = x.held; far = h.far; sabmes = x.sabmes }))
+
+    ringing-or : (s : Station) → StillRings service tei c p s ⊎ Erred s → Leads (record w { near = s })
+    ringing-or s (inl x) = ringing-with s x
+    ringing-or s (inr e) = inr (inl e)
+
+    pub ringing-near : (act : Act) → IsRoughTalkOf service tei act → Leads (acting act w)
+    ringing-near (requests r) is =
+        for-data service tei (λ r. Leads (acting (requests r) w)) (λ octets are. ringing-with _ (rings-asks service tei c p w.near h.repeats h.waiting h.way h.near h.sabmes octets are)) r is
+    ringing-near (times_out timer) is =
+        for-timer service tei (λ timer. Leads (acting (times_out timer) w)) (λ timer its aims. ringing-or _ (rings-expires service tei c p w.near h.repeats h.waiting h.way h.near h.sabmes timer its aims)) timer is
+    ringing-near gives is = ringing-with _ (rings-gives service tei c p w.near h.repeats h.waiting h.way h.near h.sabmes)
+    ringing-near takes is = no-take service tei c d p q w (empty service tei d q [] w.far (end u fresh []) h.far refl) (inl (inl h))
+    ringing-near loses is = ringing-with _ (rings-loses service tei c p w.near h.repeats h.waiting h.way h.near h.sabmes)
+
+    -- the other end, which is down
+    down-with : (s : Station) → Held d service tei q [] s (end u fresh []) → Leads (made w s)
+    down-with s x = inl (inl (record { repeats = h.repeats; waiting = h.waiting; way = h.way; near = h.near; far = x; sabmes = h.sabmes }))
+
+    down-asks : (octets : List ℕ) → AreOctets octets → Leads (made w (happens (asks w.far.line (Data service tei octets)) w.far))
+    down-asks octets are = go (held-asked service tei q [] d w.far (end u fresh []) h.far octets are)
+      where
+        s' : Station
+        s' = happens (asks w.far.line (Data service tei octets)) w.far
+
+        go : (s' ≡ w.far) ⊎ Grants service tei q [] d w.far (end u fresh []) h.far octets s' → Leads (made w s')
+        go (inl same) = subst (λ s. Leads (made w s)) (sym same) (inl (inl h))
+        go (inr x) = let none : refusal u fresh false (link.Data octets) ≡ None = x.none in absurd (cc)
+
+    -- SABME comes
+    module _ (fs : List Parts) (e : h.way ≡ sabme t ∷ fs) where
+      abbrev call : Parts
+      call = sabme t
+
+      its_way : (w.near.way ≡ spelling c.side call ∷ map (spelling c.side) fs) × IsCarried c service tei call
+      its_way = first-way service tei c p [] w.near (end t (ringing h.repeats h.waiting) h.way) call fs e h.near
+
+      abbrev reached : Station
+      reached = happens (comes w.far.line (spelling c.side call)) w.far
+
+      becomes : with_link (link.received (link.frame call)) (end u fresh []) ≡ end u answering []
+      becomes = ap (λ y. end u y []) (takes-sabme u ru t)
+
+      answered_by : Held d service tei q first_far reached (end u answering [])
+      answered_by =
+          held-first service tei q [] d w.far (end u fresh []) h.far (indicated service tei) reached (end u answering []) (course u (link.received (link.frame call)) fresh) refl refl refl
+          (subst (Stands d service tei q reached) becomes (taken-stands service tei q [] d w.far (end u fresh []) h.far c back call its_way.1)) (append-nil w.far.granted) refl
+          (taken-told service tei q [] d w.far (end u fresh []) h.far c back call its_way.1) (told-of-sabme u ru t) refl
+
+      first-joint : Joint (end u answering []) (end t caller []) [] []
+      first-joint = record {
+        there = record { carried = omega arith; rising = omega arith; delivered = refl; accepted = omega arith };
+        back = record { carried = omega arith; rising = omega arith; delivered = refl; accepted = omega arith };
+      }
+
+      answers : Leads (turned (acting takes (turned w)))
+      answers =
+          subst (λ way. Leads (record { near = with_first_lost w.near; far = with_first_of way w.far })) (sym its_way.0)
+          (as-half service tei c d p q _ (record {
+            repeats = h.repeats;
+            waiting = h.waiting;
+            way = drop 1 h.way;
+            near = held-lost service tei p [] c w.near (end t (ringing h.repeats h.waiting) h.way) h.near;
+            sabmes = one-sabme_less t h.way h.waiting h.sabmes;
+            m = end u answering [];
+            first = ua u ∷ [];
+            line = [];
+            is_ua = inr refl;
+            far = record { held = answered_by; up = refl; line = refl; joint = first-joint };
+          }))
+
+    first-is : (f : Parts) (fs : List Parts) → h.way ≡ f ∷ fs → f ≡ sabme t
+    first-is f fs e = All-head (IsSabme t) f (fs ++ frames_of t h.waiting) (subst (λ way. AreSabmes t way h.waiting) e h.sabmes)
+
+    down-takes : (way : List Parts) → h.way ≡ way → Leads (turned (acting takes (turned w)))
+    down-takes [] e = no-take_far service tei c d p q w (empty service tei c p [] w.near (end t (ringing h.repeats h.waiting) h.way) h.near e) (inl (inl h))
+    down-takes (f ∷ fs) e = answers fs (e ∙ ap (λ x. x ∷ fs) (first-is f fs e))
+
+    pub ringing-far : (act : Act) → IsRoughTalkOf service tei act → Leads (turned (acting act (turned w)))
+    ringing-far (requests r) is = for-data service tei (λ r. Leads (turned (acting (requests r) (turned w)))) down-asks r is
+    ringing-far (times_out timer) is =
+        for-timer service tei (λ timer. Leads (turned (acting (times_out timer) (turned w))))
+        (λ timer its aims. down-with _ (held-expired service tei q [] d w.far (end u fresh []) h.far timer its aims (record { its_notes = refl; no_unit = refl }) refl)) timer is
+    ringing-far gives is = down-with _ (held-given service tei q [] d w.far (end u fresh []) h.far refl)
+    ringing-far takes is = down-takes h.way refl
+    ringing-far loses is = down-with _ (held-lost service tei q [] d w.far (end u fresh []) h.far)

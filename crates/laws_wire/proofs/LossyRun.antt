@@ -1,0 +1,149 @@
+-- A whole call in which frames are lost and timers expire: what layer 3 of each was told, as long as no error was.
+use Rattle.std.proofs.Common.{◌≡◌, ℕ, List, [], ◌∷◌, ◌++◌, map, take, refl, sym, ap, ◌∙◌, inl, inr, append-nil}
+use Rattle.std.specs.Prelude.{All, flat_map}
+use Rattle.std.proofs.lemmas.List.Elements.{All-nil, All-cons, All-head, All-tail}
+use Rattle.lapd_frame.specs.declared.services.Service.{Service}
+use Rattle.lapd_frame.specs.Grammar.{other_side}
+use Rattle.model_link.specs.Link.{fresh}
+use Rattle.model_link.specs.Sound.{IsInRange}
+use Rattle.model_link.specs.TwoEnds.{End}
+use Rattle.model_line.specs.declared.config.Config.{Config}
+use Rattle.model_line.specs.Event.{LineTold}
+use Rattle.model_line.specs.Line.{terms}
+use Rattle.model_line.proofs.Ranges.{terms_in_range}
+use Rattle.laws_wire.specs.Wire.{Station, Wire, with_first_of, Act, requests, times_out, gives, takes, loses, Doing, at_near, at_far, acting, turned, doing, doing_all}
+use Rattle.laws_wire.specs.Call.{calling, confirmed, indicated, data_told, IsBeginningOf}
+use Rattle.laws_wire.specs.Losing.{for_layer_3, heard_in, HasNoError, IsRoughTalk, CallsAreToldInOrder}
+use Rattle.laws_wire.proofs.Beginning.{calls, answers}
+use Rattle.laws_wire.proofs.Calling.{asked, sabme, end}
+use Rattle.laws_wire.proofs.Held.{Held, Erred, erred-stays, not-erred}
+use Rattle.laws_wire.proofs.LossyHalf.{half-near, half-far}
+use Rattle.laws_wire.proofs.LossyPhases.{IsRinging, Goes, HasErred, Went}
+use Rattle.laws_wire.proofs.LossyRinging.{ringing-near, ringing-far}
+use Rattle.laws_wire.proofs.LossyUp.{up-near_acts, up-far_acts}
+use Rattle.laws_wire.proofs.Ringing.{ringing, IsSabme}
+use Rattle.laws_wire.proofs.SoFar.{at-first, then-data}
+use Rattle.laws_wire.proofs.Spelled.{twice-other}
+use Rattle.laws_wire.proofs.Talking.{Face, unheard, Holds, none-told}
+
+-- what was told stays told
+pub record More (s s' : Station) : Type 0 where
+  pub more : List LineTold
+  pub told : s'.told ≡ s.told ++ more
+
+taken-more : (way : List (List ℕ)) (s : Station) → More s (with_first_of way s)
+taken-more [] s = record { more = []; told = sym (append-nil s.told) }
+taken-more (octets ∷ way) s = record { more = _; told = refl }
+
+near-more : (act : Act) (w : Wire) → More w.near (acting act w).near
+near-more (requests r) w = record { more = _; told = refl }
+near-more (times_out timer) w = record { more = _; told = refl }
+near-more gives w = record { more = _; told = refl }
+near-more takes w = taken-more w.far.way w.near
+near-more loses w = record { more = []; told = sym (append-nil w.near.told) }
+
+far-more : (act : Act) (w : Wire) → More w.far (acting act w).far
+far-more (requests r) w = record { more = []; told = sym (append-nil w.far.told) }
+far-more (times_out timer) w = record { more = []; told = sym (append-nil w.far.told) }
+far-more gives w = record { more = []; told = sym (append-nil w.far.told) }
+far-more takes w = record { more = []; told = sym (append-nil w.far.told) }
+far-more loses w = record { more = []; told = sym (append-nil w.far.told) }
+
+still-errs : (s s' : Station) → More s s' → Erred s → Erred s'
+still-errs s s' x h = erred-stays s s' x.more x.told h
+
+module _ (service : Service) (tei : ℕ) (c d : Config) (p q : ℕ) (face : Face c d) (back : Face d c) (rt : IsInRange (terms c service tei)) (ru : IsInRange (terms d service tei)) where
+  abbrev Leads : Wire → Type 0
+  Leads w = Went service tei c d p q w
+
+  goes : (k : Doing) → IsRoughTalk service tei k → (w : Wire) → Goes service tei c d p q w → Leads (doing k w)
+  goes (at_near act) is w (inl h) = ringing-near service tei c d p q face back rt ru w h act is
+  goes (at_near act) is w (inr (inl h)) = half-near service tei c d p q face back rt ru w h act is
+  goes (at_near act) is w (inr (inr h)) = up-near_acts service tei c d p q face back rt ru w h act is
+  goes (at_far act) is w (inl h) = ringing-far service tei c d p q face back rt ru w h act is
+  goes (at_far act) is w (inr (inl h)) = half-far service tei c d p q face back rt ru w h act is
+  goes (at_far act) is w (inr (inr h)) = up-far_acts service tei c d p q face back rt ru w h act is
+
+  errs : (k : Doing) (w : Wire) → HasErred service tei c d p q w → HasErred service tei c d p q (doing k w)
+  errs (at_near act) w (inl h) = inl (still-errs w.near (acting act w).near (near-more act w) h)
+  errs (at_near act) w (inr h) = inr (still-errs w.far (acting act w).far (far-more act w) h)
+  errs (at_far act) w (inl h) = inl (still-errs w.near (acting act (turned w)).far (far-more act (turned w)) h)
+  errs (at_far act) w (inr h) = inr (still-errs w.far (acting act (turned w)).near (near-more act (turned w)) h)
+
+  step : (k : Doing) → IsRoughTalk service tei k → (w : Wire) → Leads w → Leads (doing k w)
+  step k is w (inl h) = goes k is w h
+  step k is w (inr h) = inr (errs k w h)
+
+  pub runs : (ds : List Doing) → All (IsRoughTalk service tei) ds → (w : Wire) → Leads w → Leads (doing_all ds w)
+  unfolding doing_all
+  runs [] all w h = h
+  runs (k ∷ ds) all w h = runs ds (All-tail (IsRoughTalk service tei) k ds all) (doing k w) (step k (All-head (IsRoughTalk service tei) k ds all) w h)
+
+  -- what was told so far
+  pub record InOrder (w : Wire) : Type 0 where
+    pub near : IsBeginningOf (confirmed service tei ∷ map (data_told service tei) w.far.granted) (heard_in w.near)
+    pub far : IsBeginningOf (indicated service tei ∷ map (data_told service tei) w.near.granted) (heard_in w.far)
+
+  by-joint : (first : LineTold) (k j : Config) (place other : ℕ) (past : List LineTold) (s o : Station) (n m : End) → Held k service tei place (first ∷ []) s n
+      → Held j service tei other past o m → n.delivered ≡ take n.link.r m.link.contents → IsBeginningOf (first ∷ map (data_told service tei) o.granted) (heard_in s)
+  by-joint first k j place other past s o n m h g delivered =
+      then-data service tei first n.link.r o.granted (heard_in s)
+      (h.heard ∙ ap (λ xs. first ∷ map (data_told service tei) xs) (delivered ∙ ap (take n.link.r) (sym g.granted)))
+
+  pub in-order : (w : Wire) → Goes service tei c d p q w → InOrder w
+  in-order w (inl h) = record { near = at-first service tei (confirmed service tei) w.far.granted (heard_in w.near) h.near.heard; far = at-first service tei (indicated service tei) w.near.granted (heard_in w.far) h.far.heard }
+  in-order w (inr (inl h)) = record {
+    near = at-first service tei (confirmed service tei) w.far.granted (heard_in w.near) h.near.heard;
+    far = by-joint (indicated service tei) d c q p [] w.far w.near h.m (end (terms c service tei) (ringing h.repeats h.waiting) h.way) h.far.held h.near h.far.joint.back.delivered;
+  }
+  in-order w (inr (inr h)) = record {
+    near = by-joint (confirmed service tei) c d p q (indicated service tei ∷ []) w.near w.far h.n h.m h.near.held h.far.held h.near.joint.back.delivered;
+    far = by-joint (indicated service tei) d c q p (confirmed service tei ∷ []) w.far w.near h.m h.n h.far.held h.near.held h.far.joint.back.delivered;
+  }
+
+-- from a station that was told nothing
+from-nothing : (k : Config) (service : Service) (tei place : ℕ) (s : Station) (n : End) → Holds k service tei place unheard s n → n.delivered ≡ [] → Held k service tei place [] s n
+from-nothing k service tei place s n h none = record {
+  stands = h.stands;
+  granted = h.granted;
+  octets = h.octets;
+  heard = ap (flat_map for_layer_3) (none-told k service tei place [] s n h none) ∙ sym (ap (map (data_told service tei)) none);
+}
+
+pub calls-are-told_in_order : CallsAreToldInOrder
+calls-are-told_in_order service c d line other tei ds can talk = λ fair-near fair-far. go fair-near fair-far (runs service tei c d 0 0 face back rt ru ds talk w (inl (inl begun)))
+  where
+    face : Face c d
+    face = record { side = sym can.sides; n201 = can.n201 }
+
+    back : Face d c
+    back = record { side = ap other_side can.sides ∙ twice-other c.side; n201 = sym can.n201 }
+
+    rt : IsInRange (terms c service tei)
+    rt = terms_in_range c can.near service tei can.terminal
+
+    ru : IsInRange (terms d service tei)
+    ru = terms_in_range d can.far service tei can.terminal
+
+    w : Wire
+    w = calling service tei c line d other
+
+    begun : IsRinging service tei c d 0 0 w
+    begun = record {
+      repeats = 0;
+      waiting = asked.waiting;
+      way = [];
+      near = from-nothing c service tei 0 w.near (end (terms c service tei) asked []) (calls service tei c can.near can.terminal line can.near_line) refl;
+      far = from-nothing d service tei 0 w.far (end (terms d service tei) fresh []) (answers service tei d can.far can.terminal other can.far_line) refl;
+      sabmes = All-cons (IsSabme (terms c service tei)) (sabme (terms c service tei)) [] refl (All-nil (IsSabme (terms c service tei)));
+    }
+
+    last : Wire
+    last = doing_all ds w
+
+    go : HasNoError last.near → HasNoError last.far → Went service tei c d 0 0 last
+        → IsBeginningOf (confirmed service tei ∷ map (data_told service tei) last.far.granted) (heard_in last.near)
+        × IsBeginningOf (indicated service tei ∷ map (data_told service tei) last.near.granted) (heard_in last.far)
+    go fair-near fair-far (inl h) = let x = in-order service tei c d 0 0 face back rt ru last h in (x.near, x.far)
+    go fair-near fair-far (inr (inl h)) = absurd (not-erred last.near fair-near h)
+    go fair-near fair-far (inr (inr h)) = absurd (not-erred last.far fair-far h)

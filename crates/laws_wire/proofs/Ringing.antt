@@ -1,0 +1,135 @@
+-- A link that awaits its establishment, as often as SABME was repeated and whatever waits; and what comes of it.
+use Rattle.std.proofs.Common.{◌≡◌, ℕ, ◌+◌, Bool, true, false, cond, List, [], ◌∷◌, ◌++◌, length, drop, None, Some, refl, sym, ap, subst, ◌∙◌, ◌⊎◌, inl, inr, append-nil, append_assoc}
+use Rattle.std.specs.Prelude.{All, nat_lt}
+use Rattle.std.proofs.lemmas.List.Elements.{All-nil, All-cons, All-tail, All-append}
+use Rattle.lapd_frame.specs.declared.controls.Control.{Control}
+use Rattle.lapd_frame.specs.declared.controls.Control.TheVariants.{Information, ReceiveReady, ReceiveNotReady, Reject, Sabme, Disc, Ui, Ua, Dm, Frmr, Xid}
+use Rattle.lapd_frame.specs.declared.notes.ErrorCode.TheVariants as code
+use Rattle.lapd_frame.specs.Grammar.{Parts}
+use Rattle.model_link.specs.declared.states.State.TheVariants as state
+use Rattle.model_link.specs.declared.timers.LinkTimer.TheVariants.{T200, T203}
+use Rattle.model_link.specs.declared.frames.ControlFrame.{ControlFrame}
+use Rattle.model_link.specs.declared.terms.Terms.{Terms}
+use Rattle.model_link.specs.Link.{Link, fresh, frame_of}
+use Rattle.model_link.specs.Events.{frame, received, expired}
+use Rattle.model_link.specs.Machine.{after, course}
+use Rattle.model_link.specs.Steps.{Course, begun, ◌then◌}
+use Rattle.model_link.specs.TwoEnds.{with_sent}
+use Rattle.model_link.specs.Words
+use Rattle.model_link.specs.Words.{command, response}
+use Rattle.model_link.proofs.Direction.{frames_of, frames-append}
+use Rattle.model_link.proofs.Lines.{Means}
+use Rattle.laws_wire.proofs.Calling.{sabme, ua, end}
+use Rattle.laws_wire.proofs.Fair.{HasError}
+
+abbrev pub ringing : ℕ → List ControlFrame → Link
+ringing k ws = record fresh { state = state.AwaitingEstablishment; asked = true; repeats = k; running = Some T200; waiting = ws }
+
+abbrev pub answered : ℕ → List ControlFrame → Link
+answered k ws = record fresh { state = state.Established; asked = true; repeats = k; running = Some T203; waiting = ws }
+
+-- SABME, as it waits and as it goes
+abbrev pub its_sabme : ControlFrame
+its_sabme = command (Sabme true)
+
+abbrev pub IsSabme : Terms → Parts → Type 0
+IsSabme t f = f ≡ sabme t
+
+-- A line that has nothing but SABME on it.
+abbrev pub AreSabmes : Terms → List Parts → List ControlFrame → Type 0
+AreSabmes t way ws = All (IsSabme t) (way ++ frames_of t ws)
+
+pub record Rings (k : ℕ) (ws : List ControlFrame) (c : Course) : Type 0 where
+  pub repeats : ℕ
+  pub waiting : List ControlFrame
+  pub becomes : c.link ≡ ringing repeats waiting
+  pub more : (waiting ≡ ws) ⊎ (waiting ≡ ws ++ its_sabme ∷ [])
+  pub notes : c.notes ≡ []
+  pub delivered : c.delivered ≡ None
+  pub unit : c.unit ≡ None
+
+module _ (t : Terms) (k : ℕ) (ws : List ControlFrame) where
+  abbrev l : Link
+  l = ringing k ws
+
+  abbrev again : Bool → Course
+  again room = record (begun (ringing (k + 1) (cond room (ws ++ its_sabme ∷ []) ws))) { started = Some T200; lost = cond {A = ℕ} room 0 1 }
+
+  abbrev given_up : Course
+  given_up = (Words.discard then Words.error t code.G then Words.release_indication t then Words.no_timer then Words.enter state.TeiAssigned) (begun l)
+
+  t200-is : course t (expired T200) l ≡ cond (nat_lt k t.n200) (again (nat_lt (length ws) t.control)) given_up
+  t200-is = refl
+
+  pub t200-rings : HasError (course t (expired T200) l).notes ⊎ Rings k ws (course t (expired T200) l)
+  t200-rings = subst (λ c. HasError c.notes ⊎ Rings k ws c) (sym t200-is) (go (nat_lt k t.n200) (nat_lt (length ws) t.control))
+    where
+      go : (b room : Bool) → HasError (cond b (again room) given_up).notes ⊎ Rings k ws (cond b (again room) given_up)
+      go false room = inl refl
+      go true true = inr (record { repeats = k + 1; waiting = ws ++ its_sabme ∷ []; becomes = refl; more = inr refl; notes = refl; delivered = refl; unit = refl })
+      go true false = inr (record { repeats = k + 1; waiting = ws; becomes = refl; more = inl refl; notes = refl; delivered = refl; unit = refl })
+
+  pub t203-rings : Rings k ws (course t (expired T203) l)
+  t203-rings = record { repeats = k; waiting = ws; becomes = refl; more = inl refl; notes = refl; delivered = refl; unit = refl }
+
+  -- frames of a link that is up are not served
+  pub record Ignores (f : Parts) : Type 0 where
+    pub stays : after t (received (frame f)) l ≡ l
+    pub notes : (course t (received (frame f)) l).notes ≡ []
+    pub delivered : (course t (received (frame f)) l).delivered ≡ None
+    pub unit : (course t (received (frame f)) l).unit ≡ None
+
+  pub ignores : (f : Parts) (m : ℕ) → Means m f.control → Ignores f
+  ignores f m means = go f.control refl means
+    where
+      unserved : course t (received (frame f)) l ≡ Words.leave_unserved (begun l) → Ignores f
+      unserved e = record {
+        stays = ap (λ (c : Course). c.link) e;
+        notes = ap (λ (c : Course). c.notes) e;
+        delivered = ap (λ (c : Course). c.delivered) e;
+        unit = ap (λ (c : Course). c.unit) e;
+      }
+
+      by : (control : Control) → f.control ≡ control → Rattle.model_link.specs.AwaitingEstablishment.frame_in_5 t f.info control (begun l) ≡ Words.leave_unserved (begun l) → Ignores f
+      by control is e = unserved (ap (λ x. Rattle.model_link.specs.AwaitingEstablishment.frame_in_5 t f.info x (begun l)) is ∙ e)
+
+      go : (control : Control) → f.control ≡ control → Means m control → Ignores f
+      go (Information ns nr p) is e = by (Information ns nr p) is refl
+      go (ReceiveReady nr pf) is e = by (ReceiveReady nr pf) is refl
+      go (ReceiveNotReady nr pf) is e = by (ReceiveNotReady nr pf) is refl
+      go (Reject nr pf) is e = by (Reject nr pf) is refl
+      go (Sabme p) is e = absurd e
+      go (Disc p) is e = absurd e
+      go (Ui p) is e = absurd e
+      go (Ua x) is e = absurd e
+      go (Dm x) is e = absurd e
+      go (Frmr x) is e = absurd e
+      go (Xid pf) is e = absurd e
+
+  -- UA ends it
+  pub ua-ends : (u : Terms) → after t (received (frame (ua u))) l ≡ answered k ws
+  ua-ends u = refl
+
+-- what waits goes to the way
+pub record RingsOn (t : Terms) (k : ℕ) (ws : List ControlFrame) (way : List Parts) : Type 0 where
+  pub waiting : List ControlFrame
+  pub went : List Parts
+  pub is : with_sent (end t (ringing k ws) way) ≡ end t (ringing k waiting) went
+  pub line : went ++ frames_of t waiting ≡ way ++ frames_of t ws
+
+pub gives-sabme : (t : Terms) (k : ℕ) (ws : List ControlFrame) (way : List Parts) → RingsOn t k ws way
+gives-sabme t k [] way = record { waiting = []; went = way; is = λ i. end t (ringing k []) (append-nil way i); line = refl }
+gives-sabme t k (f ∷ fs) way = record { waiting = fs; went = way ++ frame_of t f ∷ []; is = refl; line = append_assoc way (frame_of t f ∷ []) (frames_of t fs) }
+
+-- one SABME more at the end of the line
+pub one-sabme_more : (t : Terms) (way : List Parts) (ws ws' : List ControlFrame) → (ws' ≡ ws) ⊎ (ws' ≡ ws ++ its_sabme ∷ []) → AreSabmes t way ws → AreSabmes t way ws'
+one-sabme_more t way ws ws' (inl same) h = subst (AreSabmes t way) (sym same) h
+one-sabme_more t way ws ws' (inr more) h =
+    subst (AreSabmes t way) (sym more)
+    (subst (All (IsSabme t)) (append_assoc way (frames_of t ws) (sabme t ∷ []) ∙ sym (ap (λ fs. way ++ fs) (frames-append t ws (its_sabme ∷ []))))
+    (All-append (IsSabme t) (way ++ frames_of t ws) (sabme t ∷ []) h (All-cons (IsSabme t) (sabme t) [] refl (All-nil (IsSabme t)))))
+
+-- the first of them is lost, or taken
+pub one-sabme_less : (t : Terms) (way : List Parts) (ws : List ControlFrame) → AreSabmes t way ws → AreSabmes t (drop 1 way) ws
+one-sabme_less t [] ws h = h
+one-sabme_less t (f ∷ fs) ws h = All-tail (IsSabme t) f (fs ++ frames_of t ws) h

@@ -1,0 +1,99 @@
+-- An end that rings, whatever the other does.
+use Rattle.std.proofs.Common.{◌≡◌, ℕ, false, List, [], map, drop, None, sym, ap, subst, ◌∙◌, ◌⊎◌, inl, inr}
+use Rattle.std.specs.Prelude.{All, option_to_list}
+use Rattle.lapd_frame.specs.declared.services.Service.{Service}
+use Rattle.lapd_frame.specs.declared.timers.Timer.{Timer}
+use Rattle.lapd_frame.specs.Grammar.{Parts, AreOctets}
+use Rattle.model_link.specs.declared.frames.ControlFrame.{ControlFrame}
+use Rattle.model_link.specs.declared.terms.Terms.{Terms}
+use Rattle.model_link.specs.declared.timers.LinkTimer.{LinkTimer}
+use Rattle.model_link.specs.declared.timers.LinkTimer.TheVariants as link_timer
+use Rattle.model_link.specs.Events as link
+use Rattle.model_link.specs.Machine.{course}
+use Rattle.model_link.specs.Requests.{refusal}
+use Rattle.model_link.specs.Steps.{Course}
+use Rattle.model_link.specs.TwoEnds.{End, with_link, with_sent}
+use Rattle.model_line.specs.declared.config.Config.{Config}
+use Rattle.model_line.specs.Line.{terms}
+use Rattle.model_line.specs.Request.{Data}
+use Rattle.model_card.specs.Happening.{goes, expires, asks}
+use Rattle.laws_wire.specs.Wire.{Station, happens, with_first_lost}
+use Rattle.laws_wire.proofs.Calling.{end}
+use Rattle.laws_wire.proofs.Fair.{HasError}
+use Rattle.laws_wire.proofs.Held.{Held, TellsIt, Erred, now-erred, held-given, held-lost, expired-told, held-expired, Grants, held-asked}
+use Rattle.laws_wire.proofs.LossyPhases.{Aims}
+use Rattle.laws_wire.proofs.Ringing.{ringing, IsSabme, AreSabmes, Rings, t200-rings, t203-rings, RingsOn, gives-sabme, one-sabme_more, one-sabme_less}
+
+module _ (service : Service) (tei : ℕ) (c : Config) (p : ℕ) where
+  abbrev t : Terms
+  t = terms c service tei
+
+  pub record StillRings (s : Station) : Type 0 where
+    pub repeats : ℕ
+    pub waiting : List ControlFrame
+    pub way : List Parts
+    pub held : Held c service tei p [] s (end t (ringing repeats waiting) way)
+    pub sabmes : AreSabmes t way waiting
+
+  module _ (s : Station) (k : ℕ) (ws : List ControlFrame) (way : List Parts) (h : Held c service tei p [] s (end t (ringing k ws) way)) (sabmes : AreSabmes t way ws) where
+    abbrev rung : End
+    rung = end t (ringing k ws) way
+
+    pub rings-asks : (octets : List ℕ) → AreOctets octets → StillRings (happens (asks s.line (Data service tei octets)) s)
+    rings-asks octets are = go (held-asked service tei p [] c s rung h octets are)
+      where
+        s' : Station
+        s' = happens (asks s.line (Data service tei octets)) s
+
+        go : (s' ≡ s) ⊎ Grants service tei p [] c s rung h octets s' → StillRings s'
+        go (inl same) = record { repeats = k; waiting = ws; way = way; held = subst (λ x. Held c service tei p [] x rung) (sym same) h; sabmes = sabmes }
+        go (inr x) = let none : refusal t (ringing k ws) false (link.Data octets) ≡ None = x.none in absurd (cc)
+
+    pub rings-expires : (timer : Timer) (its : LinkTimer) → Aims service tei timer its → StillRings (happens (expires s.line timer) s) ⊎ Erred (happens (expires s.line timer) s)
+    rings-expires timer its aims = go (by its)
+      where
+        x : Course
+        x = course t (link.expired its) (ringing k ws)
+
+        s' : Station
+        s' = happens (expires s.line timer) s
+
+        by : (timer : LinkTimer) → HasError (course t (link.expired timer) (ringing k ws)).notes ⊎ Rings k ws (course t (link.expired timer) (ringing k ws))
+        by link_timer.T200 = t200-rings t k ws
+        by link_timer.T203 = inr (t203-rings t k ws)
+
+        go : HasError x.notes ⊎ Rings k ws x → StillRings s' ⊎ Erred s'
+        go (inl error) = inr (now-erred s s' x (expired-told service tei p [] c s rung h timer its aims) error)
+        go (inr r) =
+            let tells : TellsIt service tei x = record { its_notes = r.notes ∙ ap (λ o. map (λ octets. Rattle.lapd_frame.specs.declared.notes.Note.TheVariants.Data service tei) (option_to_list o)) (sym r.delivered); no_unit = r.unit } in
+            let kept : x.link.contents ≡ [] = ap (λ l. l.contents) r.becomes in
+            let is : with_link (link.expired its) rung ≡ end t (ringing r.repeats r.waiting) way =
+            (λ i. record rung { link = r.becomes i; delivered = ap option_to_list r.delivered i }) in
+            inl (record {
+              repeats = r.repeats;
+              waiting = r.waiting;
+              way = way;
+              held = subst (Held c service tei p [] s') is (held-expired service tei p [] c s rung h timer its aims tells kept);
+              sabmes = one-sabme_more t way ws r.waiting r.more sabmes;
+            })
+
+    pub rings-gives : StillRings (happens (goes s.line) s)
+    rings-gives =
+        let x : RingsOn t k ws way = gives-sabme t k ws way in
+        let kept : (with_sent rung).link.contents ≡ rung.link.contents = ap (λ y. y.link.contents) x.is in
+        record {
+          repeats = k;
+          waiting = x.waiting;
+          way = x.went;
+          held = subst (Held c service tei p [] (happens (goes s.line) s)) x.is (held-given service tei p [] c s rung h kept);
+          sabmes = subst (All (IsSabme t)) (sym x.line) sabmes;
+        }
+
+    pub rings-loses : StillRings (with_first_lost s)
+    rings-loses = record {
+      repeats = k;
+      waiting = ws;
+      way = drop 1 way;
+      held = held-lost service tei p [] c s rung h;
+      sabmes = one-sabme_less t way ws sabmes;
+    }

@@ -360,11 +360,30 @@ static void first_try(void) {
     wants(lapd_card_free(&card) == LAPD_OK, "the card of a first try stays");
 }
 
+/* What docs/EMBEDDING.md shows of a trunk's other end, to the letter. */
+static void first_trunk(void) {
+    lapd_card card = LAPD_CARD_NONE;
+    uint8_t frame[LAPD_MOST_FRAME + 1] = {0};
+    lay_paint();
+    lapd_config trunk = config;
+    trunk.side = LAPD_USER;
+    uint32_t status = lapd_card_start_frames(&card, &trunk);
+    static const uint8_t ua_of_network[] = {0x00, 0x01, 0x73};
+    lapd_assign(&card, 0, 0, &report);                                     /* TEI 0 is on the line, and stays there */
+    lapd_establish(&card, 0, LAPD_CALL, 0, &report);
+    lapd_next_frame(&card, 0, frame, sizeof frame, &length, &report);      /* SABME of the user's side: 00 01 7F */
+    lapd_frame(&card, 0, ua_of_network, sizeof ua_of_network, &report);    /* tells that the link is up */
+    wants(status == LAPD_OK && length == 3 && memcmp(frame, "\x00\x01\x7F", 3) == 0, "a trunk is not established");
+    wants(report.note_count == 1 && report.notes[0].note == LAPD_ESTABLISH_CONFIRM, "a trunk is not up");
+    wants(lapd_card_free(&card) == LAPD_OK, "the card of a trunk stays");
+}
+
 int main(void) {
     lapd_card frames = LAPD_CARD_NONE, octets = LAPD_CARD_NONE;
     of_no_card();
     of_narrow();
     first_try();
+    first_trunk();
     wants(lapd_card_start_frames(&frames, &config) == LAPD_OK && lapd_card_start(&octets, &config) == LAPD_OK, "no cards");
     of_other_kind(&frames, &octets);
     of_wrong_arguments(&frames);

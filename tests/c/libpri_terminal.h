@@ -1,6 +1,7 @@
 /*
  * libpri_terminal.h: libpri as the terminal of a basic access line, point to multipoint, for interop.c and
- * interop_frames.c. Its frames go by two functions of the test's; what it says is shown where VERBOSE is set.
+ * interop_frames.c, and as the network of a primary rate access, point to point, for interop_trunk.c. Its frames go by
+ * two functions of the test's; what it says is shown where VERBOSE is set.
  */
 #ifndef LIBPRI_TERMINAL_H
 #define LIBPRI_TERMINAL_H
@@ -10,6 +11,9 @@
 
 /* The terminal, over this file, or -1. libpri hands over and takes frames with two octets of room for a check. */
 struct pri *libpri_terminal(int file, pri_io_cb take, pri_io_cb give);
+
+/* The network in the same way: it begins to establish the link. */
+struct pri *libpri_network(int file, pri_io_cb take, pri_io_cb give);
 
 /* It calls a subscriber. */
 q931_call *libpri_calls(struct pri *terminal);

@@ -20,13 +20,14 @@ class Step(NamedTuple):
 
     line: Line
     at: int  # the clock after it, in milliseconds
-    octets: bytes  # those that came from the terminal, or went to it; of a card for frames those of the frame
+    octets: bytes  # those that came from the other side, or went to it; of a card for frames those of the frame
     heard: List[Heard]  # what ended in them
     answer: List[str]
+    is_of_network: bool  # what ended in them is what the network sent; else what the user did
 
 
 class Side:
-    """What stands on a line of the card: its terminal, and listeners to both ways."""
+    """What stands on a line of the card: who sends the frames of `in`, and listeners to both ways."""
 
     def __init__(self) -> None:
         self.terminal = Terminal()
@@ -42,6 +43,7 @@ class Play:
         self.program = program
         self.clock = 0
         self.is_for_frames = False
+        self.is_user = False  # the card is the user's side
         self.step = SECOND  # what the lengths of all timers are multiples of
         self.moments: Set[int] = set()  # those of lines of the script, but for whole steps
         self.sides: Dict[int, Side] = {}
@@ -61,7 +63,8 @@ class Play:
                         octets, heard = self.pulled(line, answer)
                     elif line.word() == "next":
                         octets, heard = taken(answer)
-                    yield Step(line, at, octets, heard, answer)
+                    is_sent = line.word() in ("pull", "next")
+                    yield Step(line, at, octets, heard, answer, is_sent != self.is_user)
                 else:
                     continue
                 break
@@ -83,6 +86,7 @@ class Play:
             self.moments = {it % self.step for it in self.moments}
         self.moments.add(self.clock % self.step)
         self.is_for_frames |= line.word() == "frames"
+        self.is_user |= line.is_of_user()
         if brings is None:
             yield line.text, self.clock, b"", failed(line)
         elif self.is_for_frames:

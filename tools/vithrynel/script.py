@@ -49,6 +49,11 @@ class Line(NamedTuple):
         found = TIMERS.fullmatch(self.text) if len(self.text) <= LONGEST_LINE else None
         return [int(it) for it in found.groups()] if found else []
 
+    def is_of_user(self) -> bool:
+        """Whether it is a card line whose card is the user's side."""
+        words = self.words()
+        return words[0] in ("card", "frames") and words[-1] == "user"
+
     def waits(self) -> Optional[int]:
         """Of `wait` the milliseconds."""
         found = WAIT.fullmatch(self.text) if len(self.text) <= LONGEST_LINE else None

@@ -1,4 +1,4 @@
-"""What passes on a line of the card between terminal, exchange and layer 3, as rows that a ladder draws."""
+"""What passes on a line of the card, between the other side, the card and layer 3, as rows that a ladder draws."""
 import re
 from typing import Dict, Iterable, Iterator, List, NamedTuple, Optional, Tuple
 
@@ -8,12 +8,14 @@ from .play import Step
 from .script import Line
 
 FLAGS, ONES = b"\x7e", b"\xff"
-# how a row is drawn: the arrow between two of the three, or words beside the exchange
-IN, CUT, REST, OUT = "in", "cut", "rest", "out"  # between terminal and exchange
-UP, DOWN, BESIDE = "up", "down", "beside"  # between exchange and layer 3
+# how a row is drawn: the arrow between two of the three, or words beside the card
+IN, CUT, REST, OUT = "in", "cut", "rest", "out"  # between the other side and the card
+UP, DOWN, BESIDE = "up", "down", "beside"  # between the card and layer 3
 COMMENT, PAUSE, FAULT = "comment", "pause", "fault"
 NO_SIGN = re.compile("[^\t\x20-\x7e\xa0-\ud7ff\ue000-\ufffd\U00010000-\U0010ffff]")  # what no text should have
 FROM_THE_LEFT = IN, CUT, REST, UP
+# the three, from left to right, where the card is the network's side, and where it is the user's
+NETWORK_SIDE, USER_SIDE = ("terminal", "exchange", "layer 3"), ("exchange", "user", "layer 3")
 
 
 class Row(NamedTuple):
@@ -27,9 +29,9 @@ class Row(NamedTuple):
     beside: str = ""
 
 
-def of_frame(at: int, kind: str, octets: bytes) -> Row:
+def of_frame(at: int, kind: str, octets: bytes, is_of_network: bool) -> Row:
     """A frame in words; where it can't be read, its octets and why."""
-    words = read(octets, from_network=kind == OUT)
+    words = read(octets, is_of_network)
     if isinstance(words, Words):
         head, info = (f"{words.head()} info", digits(words.info)) if words.info else (words.head(), "")
         return Row(at, kind, head, info, words.meaning())
@@ -46,12 +48,15 @@ def of_drop(at: int, kind: str, drop: Drop) -> Row:
     return Row(at, kind, "octets, with their check", digits(drop.octets))
 
 
-def of_heard(at: int, kind: str, heard: Heard) -> Row:
-    return of_frame(at, kind, heard.octets) if isinstance(heard, Frame) else of_drop(at, kind, heard)
+def of_heard(step: Step, kind: str, heard: Heard) -> Row:
+    """What ended in the octets of a step."""
+    if isinstance(heard, Frame):
+        return of_frame(step.at, kind, heard.octets, step.is_of_network)
+    return of_drop(step.at, kind, heard)
 
 
 def of_rest(step: Step) -> Optional[Row]:
-    """Octets from the terminal that end nothing."""
+    """Octets from the other side that end nothing."""
     octets = step.octets
     if octets == FLAGS * len(octets):
         return None
@@ -84,7 +89,7 @@ def of_traffic(step: Step) -> Iterator[Row]:
     more -= sum(isinstance(it, Drop) for it in step.heard)
     for left, heard in zip(range(len(step.heard), 0, -1), step.heard):
         is_cut = isinstance(heard, Drop) or left <= more
-        yield of_heard(step.at, CUT if is_cut else IN, heard)
+        yield of_heard(step, CUT if is_cut else IN, heard)
 
 
 def of_step(step: Step, about: int) -> Iterator[Row]:
@@ -92,7 +97,7 @@ def of_step(step: Step, about: int) -> Iterator[Row]:
     word = step.line.word()
     if step.line.about() == about:
         if word in ("pull", "next"):
-            yield from (of_heard(step.at, OUT, it) for it in step.heard)
+            yield from (of_heard(step, OUT, it) for it in step.heard)
         elif word in ("rx", "in", "failed"):
             yield from of_traffic(step)
             rest = of_rest(step) if not step.heard else None

@@ -1,10 +1,10 @@
 """A ladder as text, 100 columns wide."""
 import textwrap
-from typing import Iterator, List, NamedTuple
+from typing import Iterator, List, NamedTuple, Tuple
 
-from .story import BESIDE, COMMENT, CUT, DOWN, FAULT, FROM_THE_LEFT, PAUSE, UP, Row
+from .story import BESIDE, COMMENT, CUT, DOWN, FAULT, FROM_THE_LEFT, NETWORK_SIDE, PAUSE, UP, Row
 
-TIME, LINK, TOP = 7, 58, 31  # columns for the time, between terminal and exchange, and between exchange and layer 3
+TIME, LINK, TOP = 7, 58, 31  # columns for the time, between the other side and the card, and between that and layer 3
 WIDTH = TIME + LINK + TOP + 4
 MOST_ROWS = 3  # of digits below an arrow
 
@@ -28,15 +28,16 @@ ASCII = Signs("|", ":", "-", ">", "<", "x", "..")
 class Ladder:
     """Draws rows as lines of text."""
 
-    def __init__(self, signs: Signs = UNICODE) -> None:
+    def __init__(self, signs: Signs = UNICODE, names: Tuple[str, str, str] = NETWORK_SIDE) -> None:
         self.signs = signs
+        self.names = names
         self.shown = -1  # the latest time that was shown
 
     def draw(self, title: str, rows: List[Row]) -> Iterator[str]:
         self.shown = -1
         yield title
         yield ""
-        names = "terminal".ljust(LINK - 2) + "exchange".ljust(TOP - 3) + "layer 3"
+        names = self.names[0].ljust(LINK - 2) + self.names[1].ljust(TOP - 3) + self.names[2]
         yield f"{'ms':>{TIME}} {names:>{WIDTH - TIME - 1}}"
         if not rows or rows[0].kind != COMMENT:
             yield self.line(-1, "", "")

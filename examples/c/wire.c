@@ -169,22 +169,25 @@ static void note_came(wire_end *end, const lapd_note *note, const lapd_report *r
     }
 }
 
-/* What an event of an end led to: orders for its timers, and notes. */
-static void tell(wire_end *end, const lapd_report *report) {
-    struct lapd_room room;
-    want_ok(end, lapd_clock_apply_report(&end->timers, 0, report, now));
-    if (report->cause != 0 || report->lost != 0)
-        fail(end, report->cause != 0 ? lapd_cause_text(report->cause) : "a frame found no room to wait");
-    for (int i = 0; i < report->note_count; i++)
-        note_came(end, &report->notes[i], report);
-    want_ok(end, lapd_room(&end->card, 0, LAPD_CALL, 0, &room));
-    end->kept = (uint32_t)(trunk.queue - room.queue);
-}
-
+/* The state of the link, by its number in Q.921: 4, not established; 5 and 6, to be and to end; 7 and 8, established. */
 static uint8_t state_of(wire_end *end) {
     uint8_t state = 0;
     want_ok(end, lapd_state(&end->card, 0, LAPD_CALL, 0, &state));
     return state;
+}
+
+/* What an event of an end led to: orders for its timers, and notes. A frame is dropped only while the link is not up. */
+static void tell(wire_end *end, const lapd_report *report) {
+    struct lapd_room room;
+    want_ok(end, lapd_clock_apply_report(&end->timers, 0, report, now));
+    if (report->cause != 0 && (report->cause != LAPD_UNSERVED || state_of(end) >= 7))
+        fail(end, lapd_cause_text(report->cause));
+    if (report->lost != 0)
+        fail(end, "a frame found no room to wait");
+    for (int i = 0; i < report->note_count; i++)
+        note_came(end, &report->notes[i], report);
+    want_ok(end, lapd_room(&end->card, 0, LAPD_CALL, 0, &room));
+    end->kept = (uint32_t)(trunk.queue - room.queue);
 }
 
 /* Whether all contents were handed over, and none is kept. */
@@ -306,7 +309,7 @@ static bool is_over(void) {
 
 /* Turns until all is over. */
 static void run(void) {
-    uint64_t end_of_time = 1000 * 3600 * (count + 10); /* an hour for each contents is too much */
+    uint64_t end_of_time = 60000 * (count + 60); /* a minute for each contents, and an hour, is too much */
     start(&network);
     start(&user);
     for (turn(); !is_over(); turn()) {

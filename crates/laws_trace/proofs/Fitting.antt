@@ -1,14 +1,10 @@
 -- Each frame that begins on a line has octets enough for a frame, and not too many.
-use Rattle.std.proofs.Common.{◌≡◌, ℕ, ◌+◌, ◌*◌, ◌%◌, ◌≤◌, ◌⊎◌, inl, inr, Bool, true, false, cond, List, [], ◌∷◌, ◌++◌, length, map, slice_index, Option, Some, None, IfSome, option_map, refl, sym, ◌∙◌, subst, arith}
+use Rattle.std.proofs.Common.{◌≡◌, ℕ, ◌+◌, ◌%◌, ◌≤◌, inl, inr, Bool, true, false, cond, List, [], ◌∷◌, ◌++◌, length, map, slice_index, Option, Some, None, IfSome, option_map, refl, sym, ◌∙◌, subst, arith}
 use Rattle.std.specs.Prelude.{All, option_to_list}
 use Rattle.std.proofs.lemmas.Grind.{flat_map-append}
 use Rattle.std.proofs.lemmas.List.Elements.{All-nil, All-cons, All-head, All-tail, All-append}
 use Rattle.lapd_bits.specs.RoundTrip.{IsHeardWhole}
-use Rattle.lapd_frame.specs.declared.addresses.Address.{Address}
-use Rattle.lapd_frame.specs.declared.addresses.Side.{Side}
-use Rattle.lapd_frame.specs.declared.controls.Control.{Control}
-use Rattle.lapd_frame.specs.declared.controls.Control.TheVariants.{Information, ReceiveReady, ReceiveNotReady, Reject, Sabme, Disc, Ui, Ua, Dm, Frmr, Xid}
-use Rattle.lapd_frame.specs.Grammar.{cr_bit, second_octet, one_of, row, spelling}
+use Rattle.lapd_frame.specs.declared.controls.Control.TheVariants.{Ui}
 use Rattle.lapd_frame.specs.Services.{sapi_of}
 use Rattle.lapd_tei.specs.Messages.{information_of}
 use Rattle.model_line.specs.declared.config.Config.{Config}
@@ -22,6 +18,7 @@ use Rattle.model_line.proofs.PullSound.{TakesSoundly, taken_sound}
 use Rattle.laws_line.specs.Pulls.{IsOwed, IsIdle, contents_of}
 use Rattle.laws_line.proofs.Serving.{served}
 use Rattle.model_card.specs.Pulled.{frame_taken}
+use Rattle.laws_card.proofs.Spelling.{IsNotShort, not-short}
 use Rattle.laws_trace.specs.Trace as traces
 use Rattle.laws_trace.specs.Trace.{Seen, seen, frames_begun}
 use Rattle.laws_trace.specs.FramesGoOut.{as_octets}
@@ -29,46 +26,9 @@ use Rattle.laws_trace.proofs.AsOctets.{octets-are, as-many}
 use Rattle.laws_trace.proofs.Octets.{no-frame, no-frame-asked}
 use Rattle.laws_trace.proofs.Units.{pulled-frames}
 
-abbrev IsNotShort : List ℕ → Type 0
-IsNotShort octets = (4 ≤ length octets) ⊎ ((length octets ≡ 3) × (slice_index octets 2 % 4 ≡ 3))
-
 pub record IsFit (n201 : ℕ) (octets : List ℕ) : Type 0 where
   pub not_short : IsNotShort octets
   pub not_long : length octets ≤ n201 + 4
-
--- what the grammar spells is not too short
-behind-four : (a b c d : ℕ) (info : List ℕ) → 4 ≤ length (a ∷ b ∷ c ∷ d ∷ info)
-behind-four a b c d info = omega arith
-
-by-pf : (without with_pf : ℕ) (pf : Bool) → without % 4 ≡ 3 → with_pf % 4 ≡ 3 → cond pf with_pf without % 4 ≡ 3
-by-pf without with_pf true h k = k
-by-pf without with_pf false h k = h
-
-one-octet : (a b without with_pf : ℕ) (pf : Bool) (info : List ℕ) → without % 4 ≡ 3 → with_pf % 4 ≡ 3 → IsNotShort (a ∷ b ∷ (one_of without with_pf pf ++ info))
-one-octet a b without with_pf pf [] h k = inr (refl, by-pf without with_pf pf h k)
-one-octet a b without with_pf pf (x ∷ info) h k = inl (behind-four a b (cond pf with_pf without) x info)
-
-not-short : (side : Side) (a : Address) (c : Control) (info : List ℕ) → IsNotShort (spelling side (record { address = a; control = c; info = info }))
-not-short side a c info = go c
-  where
-    first : ℕ
-    first = 4 * a.sapi + 2 * cr_bit side a.command
-
-    second : ℕ
-    second = 2 * a.tei + 1
-
-    go : (c : Control) → IsNotShort (first ∷ second ∷ ((row c).field ++ info))
-    go (Information ns nr p) = inl (behind-four first second (2 * ns.value) (second_octet nr p) info)
-    go (ReceiveReady nr pf) = inl (behind-four first second 0x01 (second_octet nr pf) info)
-    go (ReceiveNotReady nr pf) = inl (behind-four first second 0x05 (second_octet nr pf) info)
-    go (Reject nr pf) = inl (behind-four first second 0x09 (second_octet nr pf) info)
-    go (Sabme pf) = one-octet first second 0x6F 0x7F pf info refl refl
-    go (Disc pf) = one-octet first second 0x43 0x53 pf info refl refl
-    go (Ui pf) = one-octet first second 0x03 0x13 pf info refl refl
-    go (Ua pf) = one-octet first second 0x63 0x73 pf info refl refl
-    go (Dm pf) = one-octet first second 0x0F 0x1F pf info refl refl
-    go (Frmr pf) = one-octet first second 0x87 0x97 pf info refl refl
-    go (Xid pf) = one-octet first second 0xAF 0xBF pf info refl refl
 
 owed-not-short : (c : Config) (l next : Line) (frame : List ℕ) → IsOwed c (contents_of l) l next frame → IsNotShort frame
 owed-not-short c l next frame (inl x) =

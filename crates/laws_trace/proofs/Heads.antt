@@ -1,5 +1,5 @@
 -- As octets, each frame that begins is unit data where it was, and has the same head.
-use Rattle.std.proofs.Common.{◌≡◌, ℕ, ◌+◌, ◌*◌, ◌%◌, ◌<◌, ◌≤◌, ◌&&◌, ◌==◌, Bool, true, false, cond, List, [], ◌∷◌, ◌++◌, drop, take, map, Option, Some, None, option_map, inl, inr, refl, sym, ap, ◌∙◌, subst, arith, true≢false}
+use Rattle.std.proofs.Common.{◌≡◌, ℕ, ◌%◌, ◌<◌, ◌≤◌, ◌&&◌, ◌==◌, Bool, true, false, cond, List, [], ◌∷◌, ◌++◌, drop, take, map, Option, Some, None, option_map, inl, inr, refl, sym, ap, ◌∙◌, subst, arith, true≢false}
 use Rattle.std.specs.Prelude.{All, not, filter, option_to_list}
 use Rattle.std.specs.Option.{unwrap_or}
 use Rattle.std.proofs.lemmas.Grind.{flat_map-append}
@@ -8,14 +8,12 @@ use Rattle.std.proofs.lemmas.List.Elements.{All-nil, All-cons, All-head, All-tai
 use Rattle.lapd_bits.specs.StuffingLaws.{AreOctets}
 use Rattle.lapd_frame.specs.declared.addresses.Address.{Address}
 use Rattle.lapd_frame.specs.declared.addresses.Side.{Side}
-use Rattle.lapd_frame.specs.declared.addresses.Side.TheVariants.{User, Network}
 use Rattle.lapd_frame.specs.declared.controls.Control.{Control}
-use Rattle.lapd_frame.specs.declared.controls.Control.TheVariants.{Information, ReceiveReady, ReceiveNotReady, Reject, Sabme, Disc, Ui, Ua, Dm, Frmr, Xid}
+use Rattle.lapd_frame.specs.declared.controls.Control.TheVariants.{Ui}
 use Rattle.lapd_frame.specs.declared.services.Service.{Service}
 use Rattle.lapd_frame.specs.declared.services.Service.TheVariants.{Call, Packet}
-use Rattle.lapd_frame.specs.Grammar.{cr_bit, second_octet, one_of, row, head_of, spelling}
+use Rattle.lapd_frame.specs.Grammar.{head_of, spelling}
 use Rattle.lapd_frame.specs.Services.{sapi_of}
-use Rattle.lapd_seq.specs.declared.numbers.Seq.{Seq}
 use Rattle.lapd_tei.specs.Messages.{information_of}
 use Rattle.model_line.specs.declared.config.Config.{Config}
 use Rattle.model_line.specs.Event.{Event, octet, expiry, request, pull}
@@ -30,6 +28,7 @@ use Rattle.model_line.specs.Sound.{IsInRange, IsSound}
 use Rattle.laws_line.specs.Pulls.{IsOwed, IsIdle, contents_of}
 use Rattle.laws_line.proofs.Serving.{served}
 use Rattle.model_card.specs.Pulled.{frame_taken}
+use Rattle.laws_card.proofs.Spelling.{head}
 use Rattle.laws_trace.specs.FramesGoOut.{as_octets}
 use Rattle.laws_trace.specs.Trace as traces
 use Rattle.laws_trace.specs.Trace.{Seen, heard, put, noted, granted, lost, seen, frames_begun}
@@ -48,45 +47,6 @@ exact (x ∷ xs) h =
     let small : x < 256 = All-head (λ octet. octet < 256) x xs h in
     let same : x % 256 ≡ x = omega (arith, small) in
     ap (λ n. n ∷ as_octets xs) same ∙ ap (λ ns. x ∷ ns) (exact xs (All-tail (λ octet. octet < 256) x xs h))
-
-one : (x : ℕ) → x < 256 → AreOctets (x ∷ [])
-one x small = All-cons (λ octet. octet < 256) x [] small (All-nil (λ octet. octet < 256))
-
-both : (x y : ℕ) → x < 256 → y < 256 → AreOctets (x ∷ y ∷ [])
-both x y small few = All-cons (λ octet. octet < 256) x (y ∷ []) small (one y few)
-
--- the head of a frame
-second : (first : ℕ) (nr : Seq) (pf : Bool) → first < 256 → AreOctets (first ∷ second_octet nr pf ∷ [])
-second first nr true small = let range : nr.value < 128 = nr.in_range in both first (second_octet nr true) small (omega (arith, range))
-second first nr false small = let range : nr.value < 128 = nr.in_range in both first (second_octet nr false) small (omega (arith, range))
-
-by-pf : (without with_pf : ℕ) (pf : Bool) → without < 256 → with_pf < 256 → AreOctets (one_of without with_pf pf)
-by-pf without with_pf true small few = one with_pf few
-by-pf without with_pf false small few = one without small
-
-field : (c : Control) → AreOctets (row c).field
-field (Information ns nr p) = let range : ns.value < 128 = ns.in_range in second (2 * ns.value) nr p (omega (arith, range))
-field (ReceiveReady nr pf) = second 0x01 nr pf (omega arith)
-field (ReceiveNotReady nr pf) = second 0x05 nr pf (omega arith)
-field (Reject nr pf) = second 0x09 nr pf (omega arith)
-field (Sabme pf) = by-pf 0x6F 0x7F pf (omega arith) (omega arith)
-field (Disc pf) = by-pf 0x43 0x53 pf (omega arith) (omega arith)
-field (Ui pf) = by-pf 0x03 0x13 pf (omega arith) (omega arith)
-field (Ua pf) = by-pf 0x63 0x73 pf (omega arith) (omega arith)
-field (Dm pf) = by-pf 0x0F 0x1F pf (omega arith) (omega arith)
-field (Frmr pf) = by-pf 0x87 0x97 pf (omega arith) (omega arith)
-field (Xid pf) = by-pf 0xAF 0xBF pf (omega arith) (omega arith)
-
-few-cr : (side : Side) (command : Bool) → cr_bit side command ≤ 1
-few-cr User true = omega arith
-few-cr User false = omega arith
-few-cr Network true = omega arith
-few-cr Network false = omega arith
-
-pub head : (side : Side) (a : Address) (c : Control) → a.sapi < 64 → a.tei < 128 → AreOctets (head_of side a c)
-head side a c sapi tei =
-    All-append (λ octet. octet < 256) ((4 * a.sapi + 2 * cr_bit side a.command) ∷ (2 * a.tei + 1) ∷ []) (row c).field
-    (both (4 * a.sapi + 2 * cr_bit side a.command) (2 * a.tei + 1) (omega (arith, sapi, few-cr side a.command)) (omega (arith, tei))) (field c)
 
 -- a frame as it goes out
 sent : (side : Side) (a : Address) (c : Control) (info : List ℕ) → a.sapi < 64 → a.tei < 128

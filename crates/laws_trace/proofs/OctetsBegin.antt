@@ -59,7 +59,8 @@ use Rattle.laws_trace.specs.Trace as traces
 use Rattle.laws_trace.specs.Trace.{Seen, granted, seen_told, seen, trace_of, frames_begun, octets_put, Always}
 use Rattle.laws_trace.proofs.Fitting.{Anything}
 use Rattle.laws_trace.proofs.FramesGoOut.{frames-go-out}
-use Rattle.laws_trace.proofs.Heads.{head, few-sapi, exact}
+use Rattle.laws_card.proofs.Spelling.{head}
+use Rattle.laws_trace.proofs.Heads.{few-sapi, exact}
 use Rattle.laws_trace.proofs.Octets.{no-frame, no-frame-asked}
 use Rattle.laws_trace.proofs.OneLink.{Goes, event-goes}
 use Rattle.laws_trace.proofs.Runs.{run-shows}

@@ -43,7 +43,7 @@ use Rattle.model_line.proofs.Sides.{side_aims}
 use Rattle.laws_line.proofs.Ending as ending
 use Rattle.laws_line.proofs.Ending.{ended-octets, gained-adds}
 use Rattle.laws_line.proofs.LinkMoves.{IsOne, taken-one}
-use Rattle.laws_trace.proofs.Heads.{head}
+use Rattle.laws_card.proofs.Spelling.{head}
 use Rattle.laws_trace.proofs.SmallMessages.{IsSmall, IsOfOctets, after-small}
 
 -- What TEI management hears are octets.

@@ -1,22 +1,28 @@
--- The premises of the laws are met: by the worked conversation, after which no turn is left.
-use Rattle.std.proofs.Common.{ℕ, ◌<◌, List, [], ◌∷◌, refl, arith}
+-- The premises of the laws are met: by the worked conversation, after which no turn is left, and by one that loses frames.
+use Rattle.std.proofs.Common.{◌≡◌, ℕ, ◌<◌, false, List, [], ◌∷◌, refl, sym, subst, arith}
 use Rattle.std.specs.Prelude.{All}
+use Rattle.std.specs.List.{list_any}
 use Rattle.std.proofs.lemmas.List.Elements.{All-nil, All-cons}
 use Rattle.lapd_bits.specs.Bits.{low_bits}
 use Rattle.lapd_frame.specs.declared.services.Service.TheVariants.{Call}
+use Rattle.lapd_frame.specs.declared.timers.Timer.TheVariants.{T200}
 use Rattle.lapd_frame.specs.Grammar.{AreOctets}
 use Rattle.lapd_frame.specs.Reading.{reading, header_of, control_of, unnumbered_of, supervisory_of}
 use Rattle.lapd_seq.specs.Circle.{distance_of, named}
 use Rattle.lapd_seq.specs.Numbers.{seq}
 use Rattle.lapd_tei.specs.Events as teis
+use Rattle.model_line.specs.Event.{LineTold}
 use Rattle.model_line.specs.Machine as lines
 use Rattle.model_line.specs.Request.{Data}
 use Rattle.model_card.specs.Run.{after_all}
-use Rattle.laws_wire.specs.Wire.{requests, Doing, at_near, at_far, doing_all, turns, IsStill}
-use Rattle.laws_wire.specs.Call.{CanCall, IsTalk}
+use Rattle.laws_wire.specs.Wire.{requests, times_out, Doing, at_near, at_far, doing_all, turns, IsStill}
+use Rattle.laws_wire.specs.Call.{CanCall, IsTalk, confirmed, indicated, data_told, all_told, IsBeginningOf}
+use Rattle.laws_wire.specs.Losing.{IsRoughTalk, is_error, heard_in, HasNoError}
 use Rattle.laws_wire.specs.Facing.{Face}
 use Rattle.laws_wire.specs.Worked.{user, network, begins, talks}
+use Rattle.laws_wire.specs.WorkedLosing.{loses_two}
 use Rattle.laws_wire.proofs.Delivering.{calls-face}
+use Rattle.laws_wire.proofs.LossyRun.{calls-are-told_in_order}
 
 can : CanCall user 0 network 0 0
 can = record { near = refl; far = refl; sides = refl; n201 = refl; near_line = omega arith; far_line = omega arith; terminal = omega arith }
@@ -49,3 +55,42 @@ still = record { near = refl; far = refl; near_way = refl; far_way = refl }
 -- so the two face each other
 pub face : Face Call 0 (doing_all talks begins)
 face = calls-face Call user network 0 0 0 talks can talk still
+
+-- a call that loses two frames, and in which no error is told
+abbrev AreRough : List Doing → Type 0
+AreRough [] = Unit {0}
+AreRough (k ∷ ds) = IsRoughTalk Call 0 k × AreRough ds
+
+all-rough : (ds : List Doing) → AreRough ds → All (IsRoughTalk Call 0) ds
+all-rough [] h = All-nil (IsRoughTalk Call 0)
+all-rough (k ∷ ds) h = All-cons (IsRoughTalk Call 0) k ds h.0 (all-rough ds h.1)
+
+pub rough : All (IsRoughTalk Call 0) loses_two
+rough =
+    let sends : IsRoughTalk Call 0 (at_near (requests (Data Call 0 (0xAB ∷ [])))) = (refl, refl, octet 0xAB [] (omega arith) none) in
+    let expires : IsRoughTalk Call 0 (at_near (times_out (T200 Call 0))) = (refl, refl) in
+    all-rough loses_two (tt, (tt, (expires, (tt, (tt, (tt, (tt, (sends, (tt, (tt, (expires, (tt, (tt, (tt, (tt, (tt, (tt, (tt, (tt, tt)))))))))))))))))))
+
+abbrev IsFair : LineTold → Type 0
+IsFair t = list_any is_error t.notes ≡ false
+
+told-near : (doing_all loses_two begins).near.told ≡ confirmed Call 0 ∷ []
+unfolding after_all lines.after lines.answer lines.takes_slot reading header_of control_of unnumbered_of supervisory_of teis.course teis.refusal low_bits seq distance_of named doing_all turns
+told-near = refl
+
+told-far : (doing_all loses_two begins).far.told ≡ indicated Call 0 ∷ data_told Call 0 (0xAB ∷ []) ∷ []
+unfolding after_all lines.after lines.answer lines.takes_slot reading header_of control_of unnumbered_of supervisory_of teis.course teis.refusal low_bits seq distance_of named doing_all turns
+told-far = refl
+
+pub fair-near : HasNoError (doing_all loses_two begins).near
+fair-near = subst (All IsFair) (sym told-near) (All-cons IsFair (confirmed Call 0) [] refl (All-nil IsFair))
+
+pub fair-far : HasNoError (doing_all loses_two begins).far
+fair-far =
+    subst (All IsFair) (sym told-far)
+    (All-cons IsFair (indicated Call 0) (data_told Call 0 (0xAB ∷ []) ∷ []) refl (All-cons IsFair (data_told Call 0 (0xAB ∷ [])) [] refl (All-nil IsFair)))
+
+-- so the law says of it what was told
+pub in-order : IsBeginningOf (all_told Call 0 (confirmed Call 0) (doing_all loses_two begins).far) (heard_in (doing_all loses_two begins).near)
+    × IsBeginningOf (all_told Call 0 (indicated Call 0) (doing_all loses_two begins).near) (heard_in (doing_all loses_two begins).far)
+in-order = calls-are-told_in_order Call user network 0 0 0 loses_two can rough fair-near fair-far

@@ -1,95 +1,13 @@
--- What the grammar spells is octets, and not too short; so a frame that a sound link gives is heard whole and read again.
-use Rattle.std.proofs.Common.{◌≡◌, ℕ, ◌+◌, ◌*◌, ◌%◌, ◌<◌, ◌≤◌, ◌⊎◌, inl, inr, Bool, true, false, cond, List, [], ◌∷◌, ◌++◌, length, slice_index, Ok, refl, arith}
-use Rattle.std.proofs.lemmas.List.Elements.{All-nil, All-cons, All-append}
+-- A frame that a sound link gives is heard whole, and read again.
+use Rattle.std.proofs.Common.{◌≡◌, ℕ, ◌+◌, ◌<◌, ◌≤◌, List, length, Ok, refl}
+use Rattle.std.proofs.lemmas.List.Elements.{All-append}
 use Rattle.lapd_bits.specs.RoundTrip.{IsHeardWhole}
-use Rattle.lapd_frame.specs.declared.addresses.Address.{Address}
 use Rattle.lapd_frame.specs.declared.addresses.Side.{Side}
 use Rattle.lapd_frame.specs.declared.addresses.Side.TheVariants.{User, Network}
-use Rattle.lapd_frame.specs.declared.controls.Control.{Control}
-use Rattle.lapd_frame.specs.declared.controls.Control.TheVariants.{Information, ReceiveReady, ReceiveNotReady, Reject, Sabme, Disc, Ui, Ua, Dm, Frmr, Xid}
-use Rattle.lapd_frame.specs.Grammar.{Parts, AreOctets, IsFrame, cr_bit, second_octet, one_of, row, head_of, spelling, other_side}
+use Rattle.lapd_frame.specs.Grammar.{Parts, AreOctets, IsFrame, head_of, spelling, other_side}
 use Rattle.lapd_frame.specs.Reading.{reading}
 use Rattle.lapd_frame.proofs.Spelling.{reading-again}
-use Rattle.lapd_seq.specs.declared.numbers.Seq.{Seq}
-
-one : (x : ℕ) → x < 256 → AreOctets (x ∷ [])
-one x small = All-cons (λ octet. octet < 256) x [] small (All-nil (λ octet. octet < 256))
-
-both : (x y : ℕ) → x < 256 → y < 256 → AreOctets (x ∷ y ∷ [])
-both x y small few = All-cons (λ octet. octet < 256) x (y ∷ []) small (one y few)
-
-second : (first : ℕ) (nr : Seq) (pf : Bool) → first < 256 → AreOctets (first ∷ second_octet nr pf ∷ [])
-second first nr true small = let range : nr.value < 128 = nr.in_range in both first (second_octet nr true) small (omega (arith, range))
-second first nr false small = let range : nr.value < 128 = nr.in_range in both first (second_octet nr false) small (omega (arith, range))
-
-by-pf : (without with_pf : ℕ) (pf : Bool) → without < 256 → with_pf < 256 → AreOctets (one_of without with_pf pf)
-by-pf without with_pf true small few = one with_pf few
-by-pf without with_pf false small few = one without small
-
-field : (c : Control) → AreOctets (row c).field
-field (Information ns nr p) = let range : ns.value < 128 = ns.in_range in second (2 * ns.value) nr p (omega (arith, range))
-field (ReceiveReady nr pf) = second 0x01 nr pf (omega arith)
-field (ReceiveNotReady nr pf) = second 0x05 nr pf (omega arith)
-field (Reject nr pf) = second 0x09 nr pf (omega arith)
-field (Sabme pf) = by-pf 0x6F 0x7F pf (omega arith) (omega arith)
-field (Disc pf) = by-pf 0x43 0x53 pf (omega arith) (omega arith)
-field (Ui pf) = by-pf 0x03 0x13 pf (omega arith) (omega arith)
-field (Ua pf) = by-pf 0x63 0x73 pf (omega arith) (omega arith)
-field (Dm pf) = by-pf 0x0F 0x1F pf (omega arith) (omega arith)
-field (Frmr pf) = by-pf 0x87 0x97 pf (omega arith) (omega arith)
-field (Xid pf) = by-pf 0xAF 0xBF pf (omega arith) (omega arith)
-
-one-bit : (side : Side) (command : Bool) → cr_bit side command ≤ 1
-one-bit User true = omega arith
-one-bit User false = omega arith
-one-bit Network true = omega arith
-one-bit Network false = omega arith
-
-spelled-octets : (side : Side) (f : Parts) → IsFrame f → AreOctets f.info → AreOctets (spelling side f)
-spelled-octets side f h info =
-    let bit = one-bit side f.address.command in
-    let sapi : f.address.sapi < 64 = h.sapi in
-    let tei : f.address.tei < 128 = h.tei in
-    All-append (λ octet. octet < 256) (head_of side f.address f.control) f.info
-    (All-append (λ octet. octet < 256) ((4 * f.address.sapi + 2 * cr_bit side f.address.command) ∷ (2 * f.address.tei + 1) ∷ []) (row f.control).field
-    (both (4 * f.address.sapi + 2 * cr_bit side f.address.command) (2 * f.address.tei + 1) (omega (arith, sapi, bit)) (omega (arith, tei))) (field f.control)) info
-
--- not too short
-abbrev IsNotShort : List ℕ → Type 0
-IsNotShort octets = (4 ≤ length octets) ⊎ ((length octets ≡ 3) × (slice_index octets 2 % 4 ≡ 3))
-
-behind-four : (a b c d : ℕ) (info : List ℕ) → 4 ≤ length (a ∷ b ∷ c ∷ d ∷ info)
-behind-four a b c d info = omega arith
-
-third : (without with_pf : ℕ) (pf : Bool) → without % 4 ≡ 3 → with_pf % 4 ≡ 3 → cond pf with_pf without % 4 ≡ 3
-third without with_pf true h k = k
-third without with_pf false h k = h
-
-one-octet : (a b without with_pf : ℕ) (pf : Bool) (info : List ℕ) → without % 4 ≡ 3 → with_pf % 4 ≡ 3 → IsNotShort (a ∷ b ∷ (one_of without with_pf pf ++ info))
-one-octet a b without with_pf pf [] h k = inr (refl, third without with_pf pf h k)
-one-octet a b without with_pf pf (x ∷ info) h k = inl (behind-four a b (cond pf with_pf without) x info)
-
-not-short : (side : Side) (a : Address) (c : Control) (info : List ℕ) → IsNotShort (spelling side (record { address = a; control = c; info = info }))
-not-short side a c info = go c
-  where
-    first : ℕ
-    first = 4 * a.sapi + 2 * cr_bit side a.command
-
-    last : ℕ
-    last = 2 * a.tei + 1
-
-    go : (c : Control) → IsNotShort (first ∷ last ∷ ((row c).field ++ info))
-    go (Information ns nr p) = inl (behind-four first last (2 * ns.value) (second_octet nr p) info)
-    go (ReceiveReady nr pf) = inl (behind-four first last 0x01 (second_octet nr pf) info)
-    go (ReceiveNotReady nr pf) = inl (behind-four first last 0x05 (second_octet nr pf) info)
-    go (Reject nr pf) = inl (behind-four first last 0x09 (second_octet nr pf) info)
-    go (Sabme pf) = one-octet first last 0x6F 0x7F pf info refl refl
-    go (Disc pf) = one-octet first last 0x43 0x53 pf info refl refl
-    go (Ui pf) = one-octet first last 0x03 0x13 pf info refl refl
-    go (Ua pf) = one-octet first last 0x63 0x73 pf info refl refl
-    go (Dm pf) = one-octet first last 0x0F 0x1F pf info refl refl
-    go (Frmr pf) = one-octet first last 0x87 0x97 pf info refl refl
-    go (Xid pf) = one-octet first last 0xAF 0xBF pf info refl refl
+use Rattle.laws_card.proofs.Spelling.{head, not-short}
 
 -- A frame of this side that the other hears whole, and reads as what it is.
 pub record Carries (side : Side) (n201 : ℕ) (f : Parts) (octets : List ℕ) : Type 0 where
@@ -98,7 +16,7 @@ pub record Carries (side : Side) (n201 : ℕ) (f : Parts) (octets : List ℕ) : 
 
 pub carries : (side : Side) (n201 : ℕ) (f : Parts) → IsFrame f → AreOctets f.info → length (spelling side f) ≤ n201 + 4 → Carries side n201 f (spelling side f)
 carries side n201 f is octets few = record {
-  whole = record { octets_are = spelled-octets side f is octets; not_short = not-short side f.address f.control f.info; not_long = few };
+  whole = record { octets_are = All-append (λ octet. octet < 256) (head_of side f.address f.control) f.info (head side f.address f.control is.sapi is.tei) octets; not_short = not-short side f.address f.control f.info; not_long = few };
   read = reading-again side f (spelling side f) (record { is_frame = is; octets_are = refl });
 }
 

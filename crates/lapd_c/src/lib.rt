@@ -22,8 +22,7 @@
 //!
 //! # Open
 //!
-//! That each event is counted: the contracts of the card say it (`Leads` of `lapd_card`), those of the exports do not. What a
-//! C compiler makes of `lapd.h`; what becomes of a caller that breaks the conditions at its top.
+//! What a C compiler makes of `lapd.h`; what becomes of a caller that breaks the conditions at its top.
 #![tactic(auto)]
 
 mod begun;

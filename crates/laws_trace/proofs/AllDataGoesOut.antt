@@ -1,5 +1,5 @@
 -- All data goes out, where a line is only pulled, as often as the configuration says: the law.
-use Rattle.std.proofs.Common.{◌≡◌, ℕ, ◌<◌, get_or, Option, Some, None, sym, ap, ◌∙◌, subst, true≢false, refl, arith}
+use Rattle.std.proofs.Common.{◌≡◌, ℕ, ◌<◌, ◌≤◌, List, ◌++◌, length, get_or, Option, Some, None, sym, ap, ◌∙◌, subst, true≢false, refl, arith}
 use Rattle.std.specs.Option.{option_map_or}
 use Rattle.lapd_frame.specs.declared.services.Service.{Service}
 use Rattle.lapd_tei.proofs.Tables.{place_of-is}
@@ -8,17 +8,20 @@ use Rattle.model_link.specs.Sound as link_sound
 use Rattle.model_link.specs.declared.states.State.TheVariants.{Established}
 use Rattle.model_line.specs.declared.config.Config.{Config}
 use Rattle.model_line.specs.Line.{Line, link_in, link_of, link_at, link_number, place_at, place_in, service_at, tei_at, terms}
-use Rattle.model_line.specs.Sound.{IsSound}
+use Rattle.model_line.specs.Sound.{IsInRange, IsSound}
 use Rattle.model_line.proofs.LinksSound.{sound_in}
 use Rattle.model_line.proofs.Numbers.{place_at-number, service_at-number, number_within}
+use Rattle.laws_line.specs.Drains.{most_pulls}
 use Rattle.laws_line.specs.Pulls.{HasNothing, IsSilent}
 use Rattle.model_card.specs.Card as cards
 use Rattle.model_card.specs.Card.{line_at}
-use Rattle.model_card.specs.Run.{after_all}
+use Rattle.model_card.specs.Event.{Event}
+use Rattle.model_card.specs.Run.{after_all, AreAtLines}
 use Rattle.model_card.proofs.CardSound.{fresh_is_sound, always_sound}
+use Rattle.laws_card.specs.Among.{ArePullsAt, pulls_at}
 use Rattle.laws_card.proofs.Meanwhile.{line-sound, card-drains}
 use Rattle.laws_card.proofs.Wherever.{config-stays}
-use Rattle.laws_trace.specs.DataGoesOut.{AllDataGoesOut}
+use Rattle.laws_trace.specs.DataGoesOut.{IsOpen, AllDataGoesOut}
 use Rattle.laws_trace.specs.Trace.{Always}
 use Rattle.laws_trace.proofs.AllFramesGoOut as frames
 use Rattle.laws_trace.proofs.DataGoesOut.{quiet}
@@ -44,8 +47,28 @@ on-line l service tei up (Some place) on = (place, on)
 on-line l service tei up None off =
     absurd (true≢false (sym (ap is_multiple_frame up) ∙ ap (λ o. is_multiple_frame (option_map_or (link_in l service) o fresh).state) off))
 
-pub all-data-goes-out : Always AllDataGoesOut
-all-data-goes-out c events number ranged all within service tei before pulls split only enough may =
+-- The line at the end, and a link of it.
+pub line-at-end : (c : Config) (events : List Event) (number : ℕ) → IsInRange c → AreAtLines (cards.fresh c) events → number < c.lines
+    → IsSound c (line_at number (after_all (cards.fresh c) events))
+line-at-end c events number ranged all within =
+    let end_sound = always_sound (cards.fresh c) events (fresh_is_sound c ranged) all in
+    let end_config : (after_all (cards.fresh c) events).config ≡ c = config-stays (cards.fresh c) events in
+    subst (λ d. IsSound d (line_at number (after_all (cards.fresh c) events))) end_config
+    (line-sound (after_all (cards.fresh c) events) number end_sound (subst (λ (d : Config). number < d.lines) (sym end_config) within))
+
+pub link-at-end : (c : Config) (l : Line) → IsInRange c → IsSound c l → (service : Service) (tei place : ℕ) → place_in l tei ≡ Some place
+    → link_sound.IsSound (terms c service tei) (link_of service tei l)
+link-at-end c l ranged s service tei place on =
+    subst (link_sound.IsSound (terms c service tei)) (sym (ap (λ o. option_map_or (link_in l service) o fresh) on))
+    (sound_in c ranged l s service tei place (place_of-is l.management.places tei place on).1)
+
+-- All has gone, and V(S) is behind it.
+pub all-gone : (c : Config) (events : List Event) (number : ℕ) (ranged : IsInRange c) (all : AreAtLines (cards.fresh c) events) (within : number < c.lines)
+    (service : Service) (tei : ℕ) (before pulls : List Event) → events ≡ before ++ pulls → ArePullsAt number pulls → most_pulls c ≤ pulls_at number pulls →
+    let k = link_of service tei (line_at number (after_all (cards.fresh c) events)) in
+    let x = at-end c events number ranged all within service tei in
+    IsOpen (terms c service tei) k → (x.gone ≡ length x.contents) × (k.s ≡ x.gone)
+all-gone c events number ranged all within service tei before pulls split only enough may =
     let m = after_all (cards.fresh c) before in
     let m_sound = frames.sound c events number ranged all within before pulls split only enough in
     let kept = frames.kept c events number ranged all within before pulls split only enough in
@@ -57,16 +80,13 @@ all-data-goes-out c events number ranged all within service tei before pulls spl
     let l = line_at number (after_all (cards.fresh c) events) in
     let there : HasNothing c l =
     subst (λ x. HasNothing c (line_at number x)) (sym last) (subst (λ d. HasNothing d (line_at number (after_all m pulls))) kept nothing) in
-    let end_sound = always_sound (cards.fresh c) events (fresh_is_sound c ranged) all in
-    let end_config : (after_all (cards.fresh c) events).config ≡ c = config-stays (cards.fresh c) events in
-    let s : IsSound c l =
-    subst (λ d. IsSound d l) end_config
-    (line-sound (after_all (cards.fresh c) events) number end_sound (subst (λ (d : Config). number < d.lines) (sym end_config) within)) in
+    let s = line-at-end c events number ranged all within in
     let on = on-line l service tei may.state (place_in l tei) refl in
     let x = at-end c events number ranged all within service tei in
-    let own = subst (link_sound.IsSound (terms c service tei)) (sym (ap (λ o. option_map_or (link_in l service) o fresh) on.1))
-    (sound_in c ranged l s service tei on.0 (place_of-is l.management.places tei on.0 on.1).1) in (
-      quiet x.told_count x.contents x.gone,
-      x.reaches,
-      all-has-gone (terms c service tei) (link_of service tei l) own x.contents x.gone x.knows (silent-there c l s there service tei on.0 on.1) may,
-    )
+    all-has-gone (terms c service tei) (link_of service tei l) (link-at-end c l ranged s service tei on.0 on.1) x.contents x.gone x.knows
+    (silent-there c l s there service tei on.0 on.1) may
+
+pub all-data-goes-out : Always AllDataGoesOut
+all-data-goes-out c events number ranged all within service tei before pulls split only enough may =
+    let x = at-end c events number ranged all within service tei in
+    (quiet x.told_count x.contents x.gone, x.reaches, (all-gone c events number ranged all within service tei before pulls split only enough may).0)

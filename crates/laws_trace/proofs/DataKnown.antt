@@ -302,11 +302,11 @@ module _ (t : Terms) (k : Link) (s : IsSound t k) (small : t.k ≤ 127) (w : Wat
   pub none-given-known : given t k ≡ None → Knows (after t offer k) (all ++ []) gone
   none-given-known none = goes-on-so t k s offer all gone known on (ap (λ o. one (option_map_or is_i_frame o false)) none)
 
--- Where an I-frame might go, and the link has nothing to send, all contents have gone.
-pub all-has-gone : (t : Terms) (k : Link) → IsSound t k → (all : List (List ℕ)) (gone : ℕ) → Knows k all gone → IsSilent t k → IsOpen t k → gone ≡ length all
+-- Where an I-frame might go, and the link has nothing to send, all contents have gone, and V(S) is behind them.
+pub all-has-gone : (t : Terms) (k : Link) → IsSound t k → (all : List (List ℕ)) (gone : ℕ) → Knows k all gone → IsSilent t k → IsOpen t k → (gone ≡ length all) × (k.s ≡ gone)
 all-has-gone t k s all gone known silent open_link = go (nat_lt k.s (length k.contents)) refl
   where
-    go : (b : Bool) → nat_lt k.s (length k.contents) ≡ b → gone ≡ length all
+    go : (b : Bool) → nat_lt k.s (length k.contents) ≡ b → (gone ≡ length all) × (k.s ≡ gone)
     go true less =
         absurd
         (silent.information (record { state = open_link.state; free = open_link.free; window = open_link.window; unsent = ltb-true k.s (length k.contents) less }))
@@ -316,4 +316,4 @@ all-has-gone t k s all gone known silent open_link = go (nat_lt k.s (length k.co
         let same : length k.contents ≡ length all = ap length up.contents in
         let sent : k.s ≤ gone = up.sent in
         let among : gone ≤ length all = up.among in
-        omega (arith, high, same, sent, among)
+        (omega (arith, high, same, sent, among), omega (arith, high, same, sent, among))

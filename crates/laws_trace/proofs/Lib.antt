@@ -69,3 +69,4 @@ pub mod TimersOfLine
 pub mod TimersOfEvent
 pub mod TimersStarted
 pub mod TimersAreTimely
+pub mod AllGoesAgain

@@ -17,6 +17,7 @@ pub mod Managing
 pub mod MessagesAreOwed
 pub mod TeisAgree
 pub mod TimersAreTimely
+pub mod AllGoesAgain
 pub mod WorkedTimers
 pub mod WorkedUnits
 pub mod WorkedFrames
@@ -29,3 +30,4 @@ pub mod WorkedData
 pub mod WorkedCommands
 pub mod WorkedReceipts
 pub mod WorkedManaging
+pub mod WorkedAgain

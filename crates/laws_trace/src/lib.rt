@@ -12,8 +12,8 @@
 //! answers (`all_are_answered`); when messages of TEI management and unit data go, where other events of the line come between
 //! its pulls; of commands, which cause each one has, and that each cause has its command; of timers, that an order stops only
 //! one that ran, and when T201 is started anew; turns, where the place of the first link changes. Which of RR and RNR goes
-//! (`receipts_count` allows either), and that each that is due does, except answers. Which contents stay where numbers begin,
-//! and when I-frames go again. Of notes only contents, TEIs, and errors that lead to SABME; of losses only that their moment
+//! (`receipts_count` allows either), and that each that is due does, except answers. Which contents stay where numbers begin.
+//! Of notes only contents, TEIs, and errors that lead to SABME; of losses only that their moment
 //! may leave an answer or a message out.
 #![tactic(auto)]
 

@@ -1,0 +1,60 @@
+-- What is to go again goes again, where a line is only pulled, as often as the configuration says: the law.
+use Rattle.std.proofs.Common.{◌≡◌, ℕ, ◌+◌, ◌-◌, ◌%◌, ◌≤◌, ◌<◌, Option, Some, None, refl, sym, ap, ◌∙◌, subst, arith}
+use Rattle.std.specs.Prelude.{fold}
+use Rattle.std.proofs.lemmas.Option.{none-some}
+use Rattle.lapd_frame.specs.declared.services.Service.{Service}
+use Rattle.lapd_tei.proofs.Tables.{place_of-is}
+use Rattle.model_link.specs.declared.states.State.{State}
+use Rattle.model_link.specs.declared.states.State.TheVariants.{TeiAssigned, AwaitingEstablishment, AwaitingRelease, Established, TimerRecovery}
+use Rattle.model_line.specs.Line.{Line, link_of, place_in, state_of, terms, window}
+use Rattle.model_line.proofs.Ranges.{terms_in_range}
+use Rattle.model_card.specs.Card.{fresh, line_at}
+use Rattle.model_card.specs.Run.{moments, after_all}
+use Rattle.laws_trace.specs.AllGoesAgain.{AllGoesAgain}
+use Rattle.laws_trace.specs.TimersAreTimely.{nothing_yet, watch}
+use Rattle.laws_trace.specs.Trace.{Always}
+use Rattle.laws_trace.proofs.AllDataGoesOut.{line-at-end, link-at-end, all-gone}
+use Rattle.laws_trace.proofs.DataGoesOut.{quiet}
+use Rattle.laws_trace.proofs.DataRun.{at-end}
+use Rattle.laws_trace.proofs.TimerClaims.{Agrees, IsKnown, told_state}
+use Rattle.laws_trace.proofs.TimersAreTimely.{true-now}
+use Rattle.laws_trace.proofs.TimersOfEvent.{state-on, off-state}
+
+-- A link of which state 7 is told is in state 7, and its TEI is on the line.
+up-in : (state : State) → told_state state ≡ Some 7 → state ≡ Established
+up-in TeiAssigned e = cc e
+up-in AwaitingEstablishment e = cc e
+up-in AwaitingRelease e = cc e
+up-in Established e = refl
+up-in TimerRecovery e = cc e
+
+is-up : (service : Service) (tei : ℕ) (l : Line) → state_of service tei l ≡ Some 7 → (o : Option ℕ) → place_in l tei ≡ o
+    → (place : ℕ) × (place_in l tei ≡ Some place) × ((link_of service tei l).state ≡ Established)
+is-up service tei l e None off = absurd (none-some 7 (sym (off-state service tei l off) ∙ e))
+is-up service tei l e (Some place) on = (place, on, up-in (link_of service tei l).state (sym (state-on service tei l place on) ∙ e))
+
+-- As many I-frames are outstanding as the numbers say modulo 128.
+few-outstanding : (a s k next acknowledged : ℕ) → a ≤ s → s ≤ a + 127 → next ≡ s % 128 → acknowledged ≡ a % 128 → (next + 128 - acknowledged) % 128 < k → s < a + k
+few-outstanding a s k next acknowledged ordered high n m few = omega (arith, ordered, high, n, m, few)
+
+pub all-goes-again : Always AllGoesAgain
+all-goes-again c events number ranged all within service tei before pulls split only enough may =
+    let l = line_at number (after_all (fresh c) events) in
+    let own = link_of service tei l in
+    let k = fold (watch c service tei number) nothing_yet (moments (fresh c) events) in
+    let up = is-up service tei l may.up (place_in l tei) refl in
+    let line_sound = line-at-end c events number ranged all within in
+    let s = link-at-end c l ranged line_sound service tei up.0 up.1 in
+    let range = terms_in_range c ranged service tei (line_sound.management.table.range up.0 tei (place_of-is l.management.places tei up.0 up.1).1) in
+    let known : IsKnown k own.a own.s own.peer_busy =
+    subst (λ state. Agrees state k own.a own.s own.peer_busy) up.2 (true-now c events number ranged all within service tei) in
+    let x = at-end c events number ranged all within service tei in
+    let ordered : own.a ≤ own.s = s.ordered in
+    let bound : own.s ≤ own.a + window c service = s.within in
+    let small : window c service ≤ 127 = range.k_high in
+    let gone = all-gone c events number ranged all within service tei before pulls split only enough (record {
+      state = up.2;
+      free = sym known.busy_is ∙ may.free;
+      window = few-outstanding own.a own.s (window c service) k.next k.acknowledged ordered (omega (arith, bound, small)) known.next known.acknowledged may.few;
+    }) in
+    (quiet x.told_count x.contents x.gone, x.reaches, gone.0, known.next ∙ ap (λ n. n % 128) gone.1)

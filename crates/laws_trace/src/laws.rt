@@ -111,9 +111,9 @@ pub fn what_is_told_was_heard()
 /// of the last 127, has the contents that its number had. N(R) of each I-frame is the number of contents told of the link
 /// since then, modulo 128. Where numbers begin, contents that had not gone stay, and take the first numbers, or none stays
 /// (`front`). And all of it has gone, once the line was only pulled, as often as the configuration says, on a link in state 7
-/// whose terminal is not busy, with fewer than k I-frames outstanding (`all`); and what is to go again, since REJ or the end of
-/// a recovery set back the number that goes next, has gone again, where I-frames may go by what was heard and what began
-/// (`again`; Q.921 clauses 3.5.2.1 to 3.5.2.6, 5.5.1.2, 5.6.1, 5.6.4, 5.6.5, 5.6.7 and 5.7).
+/// whose terminal is not busy, with fewer than k I-frames outstanding (`all`). And where I-frames may go by what was heard and
+/// what began, the number that goes next is then behind all of it, though REJ and the end of a recovery set it back to their
+/// N(R); each I-frame that begins sets it behind its own (`again`; Q.921 clauses 3.5.2.1 to 3.5.2.6, 5.5.1.2, 5.6.1, 5.6.4, 5.6.5, 5.6.7 and 5.7).
 pub fn data_goes_out()
     ensures front { Always DataGoesOut }
     ensures all { Always AllDataGoesOut }

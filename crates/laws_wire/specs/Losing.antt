@@ -33,7 +33,7 @@ for_layer_3 t = if length t.notes == 0 && not (is_some t.contents) then [] else 
 abbrev pub heard_in : Station → List LineTold
 heard_in s = flat_map for_layer_3 s.told
 
--- No error of the link was told, so no establishment but the first was begun.
+-- No error of any link was told, so no establishment but the first was begun.
 abbrev pub is_error : Note → Bool
 is_error (Error service tei code) = true
 is_error other = false

@@ -9,7 +9,7 @@
 //! # Open
 //!
 //! That what is lost between two cards arrives in the end, and that no error is told where T200 is timely, as
-//! `laws_two_links` has both of two links; the octets that one card's pulls give, taken one by one by the other.
+//! `laws_two_links` has both of two links; what is told after an error; the octets that one card's pulls give, taken one by one by the other.
 #![tactic(auto)]
 
 mod laws;

@@ -9,12 +9,11 @@
 //! # Open
 //!
 //! That what is heard is what came (`received` of `Promises` says so); that of two control frames alike both begin, except
-//! answers (`all_are_answered`); when messages of TEI management and unit data go, where other events of the line come between
-//! its pulls; of commands, which cause each one has, and that each cause has its command; of timers, that an order stops only
-//! one that ran, and when T201 is started anew; turns, where the place of the first link changes. Which of RR and RNR goes
-//! (`receipts_count` allows either), and that each that is due does, except answers. Which contents stay where numbers begin.
-//! Of notes only contents, TEIs, and errors that lead to SABME; of losses only that their moment
-//! may leave an answer or a message out.
+//! answers; when messages of TEI management and unit data go, where other events come between the pulls; which cause each
+//! command has, and that each cause has its command; that an order stops only a timer that ran, and when T201 is started
+//! anew; turns, where the place of the first link changes; which of RR and RNR goes, and that each that is due does, except
+//! answers; which contents stay where numbers begin; notes other than of contents, TEIs, and errors that lead to SABME; that a
+//! loss is needed where its moment leaves an answer or a message out.
 #![tactic(auto)]
 
 mod laws;

@@ -9,8 +9,8 @@ use Rattle.std.specs.Cmp.{nat_cmp_total}
 use Rattle.std.proofs.lemmas.Bool.{cond-true, cond-false, ne_eqb, eq-eqb}
 use Rattle.std.proofs.lemmas.Grind.{get_or_default_zero}
 use Rattle.slab.specs.Slab.{entries_from}
-use Rattle.lapd_region.specs.Region.{Holds, SameOutside}
-use Rattle.lapd_region.proofs.Runs.{run_of}
+use Rattle.lapd_store.specs.Region.{Holds, SameOutside}
+use Rattle.lapd_store.proofs.Runs.{run_of}
 use Rattle.lapd_store.specs.RawStore.{free_mark, link, octets_at, slot_contents, contents_from, IsApart, IsFreeList}
 use Rattle.lapd_store.proofs.Entries.{find-head, find-tail}
 

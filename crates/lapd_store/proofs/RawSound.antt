@@ -5,7 +5,7 @@ use Rattle.std.specs.Ordering.{nat_cmp}
 use Rattle.std.proofs.lemmas.Bool.{cases_eq, cond-true, cond-false, le-ltb, lt-ltb}
 use Rattle.std.proofs.lemmas.List.{get_or-replicate, length-replicate, get_or-set_same, get_or-set_other}
 use Rattle.slab.specs.Slab.{entries_from}
-use Rattle.lapd_region.specs.Region.{Holds, SameOutside}
+use Rattle.lapd_store.specs.Region.{Holds, SameOutside}
 use Rattle.lapd_store.specs.RawStore.{free_mark, list_end, or_end, link, slot_contents, contents_from, raw_store, IsApart, IsFreeList, IsFilled, IsSound}
 use Rattle.lapd_store.specs.Store.{Store, empty_store, contents_of, IsUsed, IsFree, used_slots, stored_octets, with_contents, without, IsWithinLimits}
 use Rattle.lapd_store.specs.declared.raw_shelf.RawShelf.TheInside.{Inside}

@@ -1,3 +1,6 @@
+pub mod Memory
+pub mod Region
+pub mod Block
 pub mod Store
 pub mod Ownership
 pub mod SlabStore

@@ -2,7 +2,7 @@
 use Rattle.std.specs.Prelude.{◌≡◌, ◌≢◌, ℕ, ◌+◌, ◌*◌, ◌/◌, ◌%◌, ◌≤◌, ◌==◌, nat_lt, if◌then◌else◌, List, [], ◌∷◌, length, take, drop, get_or, Option, Some, None, ⊤}
 use Rattle.std.specs.FinMap as finmap
 use Rattle.std.specs.List.{filter_map}
-use Rattle.lapd_region.specs.Region.{Holds}
+use Rattle.lapd_store.specs.Region.{Holds}
 use Rattle.slab.specs.Slab.{entries_from}
 use Rattle.lapd_store.specs.Store.{Store, used_slots, stored_octets, IsWithinLimits}
 use Rattle.lapd_store.specs.declared.raw_shelf.RawShelf.TheInside.{Inside}

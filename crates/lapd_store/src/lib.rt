@@ -11,18 +11,27 @@
 //! - [`SlabShelf`]: a shelf over a slab of octet vectors;
 //! - [`RawShelf`]: a shelf over one region of octets, for less memory;
 //! - [`SlotQueue`]: a ring of slots of fixed capacity;
+//! - `region`: one block of memory, taken uninitialised, of whose octets the contracts know which were written;
 //! - `specs/Store.antt`: a shelf as a finite map, with which the contracts speak of it;
 //! - `specs/Ownership.antt`: how several owners share a shelf, with its laws in `proofs/Ownership.antt`; for an owner
 //!   that is a queue of slots in `proofs/Queues.antt`, and for one of many owners in `proofs/Focus.antt`.
 //!
 //! # Only tested
 //!
-//! Starts with 0, 1 and 8,192 slots of 8 and of 260 octets.
+//! Starts with 0, 1 and 8,192 slots of 8 and of 260 octets; that a region is taken where there is memory, and given back
+//! (`tests/memory` counts the blocks).
+//!
+//! # Open
+//!
+//! What `Debug` shows of a region.
 #![tactic(auto)]
 
 mod fault;
+mod octets;
 mod raw_shelf;
+mod region;
 mod releases;
+mod run;
 mod shelf;
 mod slab_shelf;
 mod slot;

@@ -1,10 +1,10 @@
 //! A shelf over one region of octets.
 ghost use Rattle.std.specs.Prelude.{◌≡◌, ℕ, ◌+◌, ◌*◌, ◌<◌, ◌≤◌, length, IfOk};
-ghost use Rattle.lapd_region.specs.Region.{Holds, SameOutside};
+ghost use Rattle.lapd_store.specs.Region.{Holds, SameOutside};
 ghost use Rattle.lapd_store.specs.RawStore.{link, or_end};
 
+use crate::region::Region;
 use crate::{Shelf, Slot, StartFault};
-use lapd_region::Region;
 use std::alloc::Global;
 use std::marker::Model;
 

@@ -15,7 +15,7 @@ use Rattle.lapd_tei.specs.declared.remembered.Remembered.{Remembered}
 use Rattle.lapd_tei.specs.Sound.{same_ri, same_tei}
 use Rattle.lapd_tei.specs.Table as table
 use Rattle.model_line.specs.declared.config.Config.{Config}
-use Rattle.model_line.specs.Event as line
+use Rattle.model_line.specs.Event as line_event
 use Rattle.model_line.specs.Event.{Answer, refused}
 use Rattle.model_line.specs.Line.{Line, fresh_line}
 use Rattle.model_line.specs.Machine as lines
@@ -44,13 +44,13 @@ use Rattle.laws_trace.proofs.PullRuns.{apart}
 use Rattle.laws_trace.proofs.UnitsGoOut.{after-both}
 
 -- A request that finds the pool full moves nothing.
-refused-moves : (c : Config) (e : line.Event) (l : Line) (w : Managed) → lines.takes_slot c e l ≡ true → Knows (hearing [] w) l.management
+refused-moves : (c : Config) (e : line_event.Event) (l : Line) (w : Managed) → lines.takes_slot c e l ≡ true → Knows (hearing [] w) l.management
     → Moves c (hearing [] w) l.management l.management e (refused PoolFull) (seen c e l (refused PoolFull))
 unfolding lines.takes_slot owed_through
-refused-moves c (line.octet value) l w takes h = absurd (true≢false (sym takes))
-refused-moves c (line.expiry timer) l w takes h = absurd (true≢false (sym takes))
-refused-moves c (line.request r) l w takes h = record { knows = h; quiet_is = refl; waits = ap (map (frame_of c.side)) (sym (append-nil l.management.waiting)); agrees = tt }
-refused-moves c line.pull l w takes h = absurd (true≢false (sym takes))
+refused-moves c (line_event.octet value) l w takes h = absurd (true≢false (sym takes))
+refused-moves c (line_event.expiry timer) l w takes h = absurd (true≢false (sym takes))
+refused-moves c (line_event.request r) l w takes h = record { knows = h; quiet_is = refl; waits = ap (map (frame_of c.side)) (sym (append-nil l.management.waiting)); agrees = tt }
+refused-moves c line_event.pull l w takes h = absurd (true≢false (sym takes))
 
 own-line : (k : Card) (e : Event) (w : Managed) → card_sound.IsSound k → IsAtLine k e → let l = line_at e.line k in Knows (hearing [] w) l.management
     → Moves k.config (hearing [] w) l.management (line_at e.line (after e k)).management e.what (answer e k) (seen k.config e.what l (answer e k))
@@ -65,13 +65,13 @@ own-line k e w s at-line h =
     (event-moves c l (sound-at k e.line (has_lines k s) at-line) w h e.what))
 
 -- A moment of a line, by whether it is one of this line.
-abbrev known-by : Bool → line.Event → Managed → Managed
+abbrev known-by : Bool → line_event.Event → Managed → Managed
 known-by b e w = cond b (expired_with e w) w
 
-abbrev owed-by : Config → Bool → line.Event → Answer → Managed → List Seen → List Message
+abbrev owed-by : Config → Bool → line_event.Event → Answer → Managed → List Seen → List Message
 owed-by c b e a w t = cond (lost_in a == 0) (cond b (owed_again e w) [] ++ owed_through c (known-by b e w) t) []
 
-record Passes (c : Config) (b : Bool) (w : Managed) (before next : Management) (e : line.Event) (a : Answer) (t : List Seen) : Type 0 where
+record Passes (c : Config) (b : Bool) (w : Managed) (before next : Management) (e : line_event.Event) (a : Answer) (t : List Seen) : Type 0 where
   knows : Knows (fold (manage c) (known-by b e w) t) next
   quiet_is : fold (manage c) (known-by b e w) t ≡ hearing [] (fold (manage c) (known-by b e w) t)
   waits : messages_begun c t ++ map (frame_of c.side) next.waiting ≡ map (frame_of c.side) (before.waiting ++ owed-by c b e a w t)

@@ -11,7 +11,7 @@ use Rattle.lapd_frame.specs.Reading.{reading}
 use Rattle.lapd_tei.specs.declared.remembered.Remembered.{Remembered}
 use Rattle.lapd_tei.specs.declared.messages.Message.{Message}
 use Rattle.lapd_tei.specs.declared.messages.Message.TheVariants.{IdentityAssigned, IdentityDenied, IdentityCheckRequest, IdentityRemove}
-use Rattle.model_line.specs.Event as line
+use Rattle.model_line.specs.Event as line_event
 use Rattle.model_line.specs.Event.{expiry}
 use Rattle.model_line.specs.declared.config.Config.{Config}
 use Rattle.model_line.specs.Octet.{management_sapi, group_tei, heard_side}
@@ -146,7 +146,7 @@ abbrev pub ended_by : Option Checked → Option Checked
 ended_by None = None
 ended_by (Some check) = if check.again then Some check else None
 
-abbrev pub expired_with : line.Event → Managed → Managed
+abbrev pub expired_with : line_event.Event → Managed → Managed
 expired_with (expiry T201) w = record w { check = asked_again w.check; ended = ended_by w.check }
 expired_with other w = w
 
@@ -178,7 +178,7 @@ owed_by c w (noted ns contents) = map (answer (fold noted_with w ns).held) (flat
 owed_by c w (granted r) = owed_granted r
 owed_by c w other = []
 
-abbrev pub owed_again : line.Event → Managed → List Message
+abbrev pub owed_again : line_event.Event → Managed → List Message
 owed_again (expiry T201) w = elim w.check [ None ↦ [] | Some check ↦ if check.again then [] else IdentityCheckRequest check.tei ∷ [] ]
 owed_again other w = []
 

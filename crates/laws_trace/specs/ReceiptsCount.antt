@@ -9,7 +9,7 @@ use Rattle.lapd_frame.specs.declared.timers.Timer.TheVariants.{T200, T203}
 use Rattle.lapd_frame.specs.Reading.{reading}
 use Rattle.model_link.specs.declared.frames.ControlFrame.{ControlFrame}
 use Rattle.model_line.specs.declared.config.Config.{Config}
-use Rattle.model_line.specs.Event as line
+use Rattle.model_line.specs.Event as line_event
 use Rattle.model_line.specs.Event.{expiry}
 use Rattle.model_line.specs.Octet.{heard_side}
 use Rattle.model_line.specs.Request.{Request, SetBusy, ClearBusy}
@@ -75,7 +75,7 @@ due_by c service tei before n (granted r) = busy_with service tei n r
 due_by c service tei before n other = []
 
 -- T200 or T203 expires: an enquiry, RR or RNR with P=1 (clauses 5.6.7 and 5.10.3).
-abbrev pub enquired_with : Service → ℕ → ℕ → line.Event → List ControlFrame
+abbrev pub enquired_with : Service → ℕ → ℕ → line_event.Event → List ControlFrame
 enquired_with service tei n (expiry (T200 of by)) = if is_own service tei of by then rr true n true ∷ rnr true n true ∷ [] else []
 enquired_with service tei n (expiry (T203 of by)) = if is_own service tei of by then rr true n true ∷ rnr true n true ∷ [] else []
 enquired_with service tei n other = []

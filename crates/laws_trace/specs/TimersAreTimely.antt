@@ -12,7 +12,7 @@ use Rattle.model_link.specs.declared.timers.LinkTimer.{LinkTimer}
 use Rattle.model_link.specs.declared.timers.LinkTimer.TheVariants.{T200, T203}
 use Rattle.model_link.specs.Timed.{obeyed}
 use Rattle.model_line.specs.declared.config.Config.{Config}
-use Rattle.model_line.specs.Event as line
+use Rattle.model_line.specs.Event as line_event
 use Rattle.model_line.specs.Laws.{orders_in}
 use Rattle.model_line.specs.Line.{state_of}
 use Rattle.laws_line.specs.Steady.{timer_of}
@@ -128,7 +128,7 @@ is_anew c service tei timer k before after now = differ before after || (is_stat
 -- either did not run, or had just expired, or is started anew by one of these causes.
 abbrev pub TimersAreStarted : Config → List Event → ℕ → Type 0
 TimersAreStarted c events number =
-    (service : Service) (tei : ℕ) (timer : LinkTimer) (before : List Event) (what : line.Event) (behind : List Event) →
+    (service : Service) (tei : ℕ) (timer : LinkTimer) (before : List Event) (what : line_event.Event) (behind : List Event) →
     events ≡ before ++ at number what ∷ behind →
     let ms = moments (fresh c) before in
     let card = after_all (fresh c) before in

@@ -1,6 +1,6 @@
 -- The invariants of the loops of `link_all`.
 use Rattle.std.proofs.Common.{◌≡◌, ℕ, ◌+◌, ◌*◌, ◌<◌, length}
-use Rattle.lapd_region.specs.Region.{Holds}
+use Rattle.lapd_store.specs.Region.{Holds}
 use Rattle.lapd_store.specs.RawStore.{link, or_end}
 use Rattle.lapd_store.proofs.raw_shelf.link_all.Given as goal
 

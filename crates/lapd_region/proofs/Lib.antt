@@ -1,5 +1,0 @@
-mod Memory
-mod Sharing
-mod Values
-pub mod Runs
-pub mod Blocks

@@ -1,0 +1,44 @@
+-- A `&` to a region's memory is made of one to each octet that was written.
+use Rattle.std.specs.Prelude.{ℕ, ◌+◌, List, [], ◌∷◌, Option, Some, None, refl}
+use Rattle.std.specs.Borrow.{u8}
+use seplogic.Ra.Ura.{Ura}
+use base.Fml.{Lft, Incl, ftrue, ffalse}
+use types.Logic.{Logic}
+use denote.Param.Laws.{Laws, of_field}
+use denote.Param.Shared.{copy_shared}
+use denote.RawPtr.{Ptr, block_ptr, null_ptr}
+use denote.Sharing.{ShrLaws, said}
+use denote.SharingLaws.{beside_shr_laws, nothing_shr_laws, said_shr_laws}
+use denote.Shares.{Shares-less}
+use denote.Struct.Field.{u8-field}
+use denote.Struct.Laws.{u8-laws, u8-copy}
+use denote.Struct.Lending.{Lends, Lends-both, Lends-nothing, Lends-false}
+use Rattle.lapd_store.specs.Memory.{octet, octets, octet_lent, lent, octets_own, octets_lent}
+
+abbrev byte_laws : Laws u8
+byte_laws = of_field u8-field u8-laws refl (copy_shared u8-field u8-copy)
+
+octet_lent_laws : (b o : ℕ) (c : Option ℕ) → ShrLaws (octet_lent b o c)
+octet_lent_laws b o (Some x) = byte_laws.shr_laws x b o
+octet_lent_laws b o None = nothing_shr_laws
+
+lent_laws : (b o : ℕ) (cs : List (Option ℕ)) → ShrLaws (lent b o cs)
+lent_laws b o [] = nothing_shr_laws
+lent_laws b o (c ∷ cs) = beside_shr_laws _ _ (octet_lent_laws b o c) (lent_laws b (o + 1) cs)
+
+pub octets_lent_laws : (p : Ptr) (cs : List (Option ℕ)) → ShrLaws (octets_lent p cs)
+octets_lent_laws (block_ptr b o) cs = lent_laws b o cs
+octets_lent_laws null_ptr cs = said_shr_laws ffalse tt
+
+module _ {M : Type 1} {𝓤 : Ura M} (𝓛 : Logic 𝓤) (l : Lft) (inc : Incl l u8.lives) where
+  Lends-octet : (b o : ℕ) (c : Option ℕ) → Lends 𝓛 (octet b o c) (octet_lent b o c) l
+  Lends-octet b o (Some x) = λ κ ts. Shares-less 𝓛 u8 u8.lives l inc (byte_laws.shares 𝓛) x κ ts b o
+  Lends-octet b o None = Lends-nothing 𝓛 (octet b o None) l
+
+  Lends-row : (b o : ℕ) (cs : List (Option ℕ)) → Lends 𝓛 (octets b o cs) (lent b o cs) l
+  Lends-row b o [] = Lends-nothing 𝓛 ftrue l
+  Lends-row b o (c ∷ cs) = Lends-both 𝓛 (octet b o c) (octets b (o + 1) cs) (octet_lent b o c) (lent b (o + 1) cs) l (Lends-octet b o c) (Lends-row b (o + 1) cs)
+
+  pub Lends-octets : (p : Ptr) (cs : List (Option ℕ)) → Lends 𝓛 (octets_own p cs) (octets_lent p cs) l
+  Lends-octets (block_ptr b o) cs = Lends-row b o cs
+  Lends-octets null_ptr cs = Lends-false 𝓛 (said ffalse) l

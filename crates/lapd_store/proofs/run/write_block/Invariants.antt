@@ -1,0 +1,12 @@
+-- The invariants of the loops of `write_block`.
+use Rattle.std.proofs.Common.{◌≡◌, ℕ, ◌+◌, ◌<◌, get_or, slice_get, None}
+use Rattle.lapd_store.specs.Region.{SameOutside}
+use Rattle.lapd_store.proofs.run.write_block.Given as goal
+
+-- the first octets are there, and nothing else changed
+abbrev pub invariant-loop-i : goal.invariant-loop-i
+invariant-loop-i g l = record {
+  at : l.memory.at ≡ l.fn.memory.at;
+  written : (k : ℕ) → k < l.i → get_or l.memory.written (l.from + k) None ≡ slice_get l.block k;
+  others : SameOutside l.fn.memory.written l.memory.written l.from l.i;
+}

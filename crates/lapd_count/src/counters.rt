@@ -5,9 +5,7 @@ ghost use Rattle.std.specs.Prelude.{◌≡◌, [], get_or, map};
 ghost use Rattle.lapd_bits.specs.Heads.{head_of};
 ghost use Rattle.lapd_bits.specs.Heard.{heard_of};
 ghost use Rattle.lapd_count.specs.Counters.{value_in, with_more, with_all, none_counted};
-ghost use Rattle.lapd_count.specs.declared.counter.Counter.TheVariants as counters;
-ghost use Rattle.lapd_count.specs.declared.counter.Way.TheVariants as ways;
-ghost use Rattle.lapd_count.specs.Shown.{frame_shown, octets_shown, is_poll, head_shown, heard_shown, counter_of, note_shown, told_shown, drop_shown, lost_shown};
+ghost use Rattle.lapd_count.specs.Shown.{frame_shown, is_poll, head_shown, heard_shown, counter_of, note_shown, told_shown, drop_shown, lost_shown};
 
 use crate::counter::{Counter, Way};
 use crate::kinds::Kind;
@@ -67,39 +65,22 @@ impl Counters {
         }
     }
 
-    /// What is heard at a line of this side. It is compiled into its caller, so that what is dropped costs no call.
-    #[inline(always)]
+    /// What is heard at a line of this side.
     pub fn heard(&mut self, side: Side, heard: Heard<'_>)
         ensures { self.new ≡ with_all self.old (heard_shown side (heard_of heard.entry)) }
     {
         match heard {
             Heard::Nothing | Heard::Dropped(_) => {}
-            Heard::Overlong(_) => self.overlong(),
-            Heard::Frame(octets) => self.frame_heard(side, octets),
+            Heard::Overlong(_) => self.add(Counter::Overlong, 1),
+            Heard::Frame(octets) => self.frame(
+                side,
+                Way::Heard,
+                octet_at(octets, 0),
+                octet_at(octets, 2),
+                octet_at(octets, 3),
+                octets.len(),
+            ),
         }
-    }
-
-    /// A frame that was heard was too long.
-    #[inline(never)]
-    fn overlong(&mut self)
-        ensures { self.new ≡ with_more self.old (counters.Overlong, 1) }
-    {
-        self.add(Counter::Overlong, 1);
-    }
-
-    /// A frame was heard.
-    #[inline(never)]
-    fn frame_heard(&mut self, side: Side, octets: &[u8])
-        ensures { self.new ≡ with_all self.old (octets_shown side ways.Heard octets.now) }
-    {
-        self.frame(
-            side,
-            Way::Heard,
-            octet_at(octets, 0),
-            octet_at(octets, 2),
-            octet_at(octets, 3),
-            octets.len(),
-        );
     }
 
     /// A frame is begun.

@@ -3,6 +3,7 @@
 ghost use Rattle.std.specs.Option.{option_map_or};
 ghost use Rattle.std.specs.Prelude.{◌≡◌, ◌<◌, ◌≤◌, ◌++◌, List, [], length, IsTrue, IsFalse, Some, None, IsSome, IfOk, IfErr, OnErr, nat_le};
 ghost use Rattle.lapd_bits.specs.Deframer.{latest_of};
+ghost use Rattle.lapd_bits.specs.Stream as stream;
 ghost use Rattle.lapd_count.specs.Counters.{none_counted};
 ghost use Rattle.lapd_count.specs.Shown.{head_shown, heard_shown};
 ghost use Rattle.lapd_store.specs.Ownership.{Owned, Holds};
@@ -22,7 +23,7 @@ use crate::fault::StartFault;
 use crate::link_layer::LinkLayer;
 use crate::pulled::Pulled;
 use crate::reports::{BareReport, Report};
-use lapd_bits::{Deframer, Ended, Framer, Heard};
+use lapd_bits::{Cause, Deframer, Ended, Framer, Heard};
 use lapd_count::Counters;
 use lapd_frame::{Order, Refusal, ShortList, Side, Timer};
 use lapd_store::Shelf;
@@ -120,8 +121,25 @@ impl Line {
     {
         match self.deframer.step(octet) {
             Ended::Nothing => None,
-            Ended::Dropped(_) | Ended::Frame(_) | Ended::Overlong => Some(self.take_in(shelf)),
+            Ended::Dropped(cause) => Some(self.take_drop(cause, shelf)),
+            Ended::Frame(_) | Ended::Overlong => Some(self.take_in(shelf)),
         }
+    }
+
+    /// Tells what the latest octet has dropped, and counts it. A line may hear nothing else for long, so this costs no look
+    /// at the deframer.
+    #[inline(always)]
+    fn take_drop<S: Shelf>(&mut self, cause: Cause, shelf: &mut S) -> BareReport
+        requires standing { Standing self.old.layer (S.store shelf.old) }
+        requires latest { latest_of self.old.deframer ≡ Some (stream.dropped cause) }
+        ensures line { self.new ≡ with_counted (with_served self.new.layer self.old) (heard_shown self.old.layer.config.side (latest_of self.old.deframer) ++ bare_shown result) }
+        ensures served { Serves (aim_of_event self.old.layer.config (latest_of self.old.deframer)) (latest_frame self.old)
+            self.old.layer (S.store shelf.old) self.new.layer (S.store shelf.new) result }
+    {
+        self.nothing_waits = false;
+        let bare = self.layer.serve(Heard::Dropped(cause), shelf);
+        count_told(&mut self.counters, bare.notes, bare.cause, bare.lost);
+        bare
     }
 
     /// Serves what the latest octet has ended, and counts it. It stands behind the test of [`Line::hear`], so that an octet

@@ -35,6 +35,27 @@ pub returns-in-Dropped : goal.returns-in-Dropped
 returns-in-Dropped g c =
     let old = c.args.self.now in
     let s = g.S.Shelf.store c.args.shelf.now in
+    let t = g.S.Shelf.store c.take_drop.new.shelf in
+    let mid : Line = record { deframer = c.step.new.self; framer = old.framer; layer = c.take_drop.new.self.layer; nothing_waits = false; counters = old.counters } in
+    let told_of = step_told old mid s t c.args.octet c.take_drop.result c.step.ensures.heard c.take_drop.ensures.served in
+    record {
+      told = λ others m st.
+          subst (λ l. told (told_in (latest_frame l) c.take_drop.result) ≡ answer (config_of old) (line_event.octet c.args.octet) m) (sym c.take_drop.ensures.line)
+          (told_of others m st);
+      after =
+          counted_on
+          (stepped old mid s t c.args.octet c.take_drop.result c.step.ensures.heard c.step.ensures.after refl (λ on. absurd (false≢true on)) c.take_drop.ensures.served refl)
+          c.take_drop.new.self (heard_shown (config_of old).side (latest_of c.step.new.self) ++ bare_shown c.take_drop.result) c.take_drop.ensures.line
+          (λ others m st.
+          octet_shown (config_of old) c.args.octet m (latest_of c.step.new.self) (told_in (latest_frame mid) c.take_drop.result)
+          (gained_is (config_of old).n201 c.args.octet m.received _ (c.step.ensures.heard (config_of old).n201 m.received st.received))
+          (told_of others m st));
+    }
+
+pub returns-in-Frame : goal.returns-in-Frame
+returns-in-Frame g c =
+    let old = c.args.self.now in
+    let s = g.S.Shelf.store c.args.shelf.now in
     let t = g.S.Shelf.store c.take_in.new.shelf in
     let mid : Line = record { deframer = c.step.new.self; framer = old.framer; layer = c.take_in.new.self.layer; nothing_waits = false; counters = old.counters } in
     let told_of = step_told old mid s t c.args.octet c.take_in.result c.step.ensures.heard c.take_in.ensures.served in

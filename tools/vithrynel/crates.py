@@ -1,10 +1,12 @@
-"""The crates of the repository: what is below one, what of it is proved, and how long the rest takes."""
+"""The crates of the repository: what is below one, what of it is proved, what a file was made from, and how long the rest
+takes."""
+import hashlib
 import os
 import re
 import shutil
 import subprocess
 import sys
-from typing import Dict, List, Set, Tuple
+from typing import Dict, List, Optional, Set, Tuple
 
 ROOT = os.path.dirname(os.path.dirname(os.path.dirname(os.path.abspath(__file__))))
 # Processor minutes that a first check took for 1,000 lines, over all crates below lapd_c; `rt` uses four processors at
@@ -34,14 +36,54 @@ def sources(name: str) -> List[str]:
 
 
 def is_newer(path: str, names: Set[str], *others: str) -> bool:
-    """Whether a file is there, and newer than the sources of these crates and than some other files."""
+    """Whether a file or folder is there, and was made after the sources of these crates and some other files were put where
+    they stand. (No archive and no copy sets this time of theirs back.)"""
     files = [f"{ROOT}/crates.txt", *others, *(file for it in names for file in sources(it))]
-    return os.path.exists(path) and os.path.getmtime(path) >= max(map(os.path.getmtime, files))
+    return os.path.exists(path) and os.path.getmtime(path) >= max(map(os.path.getctime, files))
 
 
 def unproved(crates: Dict[str, List[str]], names: Set[str]) -> List[str]:
     """The crates of these whose libraries are not there, or older than a source, in the order of crates.txt."""
     return [it for it in crates if it in names and not is_newer(rlib(it), closure(crates, it))]
+
+
+def sum_of(path: str) -> str:
+    with open(path, "rb") as file:
+        return hashlib.sha256(file.read()).hexdigest()
+
+
+def sum_of_sources(crates: Dict[str, List[str]], name: str, *others: str) -> str:
+    """A sum of what a crate is made from: the lines of crates.txt, the sources, and some other files."""
+    files = [*others, *(file for it in closure(crates, name) for file in sources(it))]
+    lines = [(it, crates[it]) for it in closure(crates, name)]
+    of = [*map(repr, lines), *(f"{os.path.relpath(it, ROOT)} {sum_of(it)}" for it in files)]
+    return hashlib.sha256("\n".join(sorted(of)).encode()).hexdigest()
+
+
+def note(path: str, made_of: str) -> None:
+    """Notes beside a file what it was made from, by the sum of that."""
+    with open(f"{path}.sum", "w", encoding="ascii") as file:
+        file.write(f"{sum_of(path)} {made_of}\n")
+
+
+def noted(path: str) -> Optional[str]:
+    """What is noted of a file as it is, if anything is."""
+    try:
+        with open(f"{path}.sum", encoding="ascii") as file:
+            own, made_of = file.read().split()
+        return made_of if own == sum_of(path) else None
+    except (OSError, ValueError):
+        return None
+
+
+def is_current(crates: Dict[str, List[str]], path: str, name: str) -> bool:
+    """Whether what was made of a crate is there, and of the sources as they stand: by what is noted of it or else, where `rt`
+    made it, by the times of the files, its own and those of the libraries below."""
+    below = closure(crates, name) - {name}
+    made_of = noted(path)
+    if made_of is not None:
+        return made_of == sum_of_sources(crates, name)
+    return is_newer(path, {name, *below}) and not unproved(crates, below)
 
 
 def lines_of(name: str) -> int:

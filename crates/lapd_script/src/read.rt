@@ -1,10 +1,10 @@
 //! Reads a line of a script.
 
-ghost use Rattle.std.specs.Prelude.{◌≡◌, ◌*◌, ◌/◌, ◌≤◌, ℕ, List, take, drop, length, All, IfOk};
+ghost use Rattle.std.specs.Prelude.{◌≡◌, ◌*◌, ◌/◌, ◌≤◌, ℕ, List, take, drop, length, All, Ok, Err, IfOk, MatchResult};
 ghost use Rattle.lapd_script.specs.Words.{texts};
-ghost use Rattle.lapd_script.specs.Meaning.{meant_by, IsCounted};
+ghost use Rattle.lapd_script.specs.Meaning.{rx, into, meant_by, IsCounted};
 ghost use Rattle.lapd_script.specs.Read.{read, read_words, read_as, lengths, card_numbers, for_user, is_user, nine_numbers, ten_numbers, three_numbers};
-ghost use Rattle.lapd_script.specs.declared.word.Word.TheVariants.{Ask};
+ghost use Rattle.lapd_script.specs.declared.word.Word.TheVariants.{Rx, In, Failed, Pull, Ask};
 
 use crate::cause_word::cause;
 use crate::command::{Asked, Command};
@@ -55,7 +55,7 @@ fn read_words(words: &[&[u8]], room: &mut [u8]) -> Result<Command, FaultKind>
     }
 }
 
-#[tactic(auto, using(crate::proofs::Rests::second_kept))]
+/// What the words after the first one say.
 fn read_as(word: Word, words: &[&[u8]], room: &mut [u8]) -> Result<Command, FaultKind>
     requires room { All (λ word. length word.now ≤ 2 * length room.old) words.now }
     ensures read { meant_by room.new result ≡ read_as word (texts words.now) }
@@ -65,33 +65,19 @@ fn read_as(word: Word, words: &[&[u8]], room: &mut [u8]) -> Result<Command, Faul
     match word {
         Word::Card(kind) => Ok(Command::Card(kind, card_numbers(words)?)),
         Word::Rx => {
-            let (line, digits) = two(words)?;
-            let line = short(line)?;
-            let octets = octets(digits, room)?;
+            let (line, octets) = heard(words, room)?;
             Ok(Command::Rx { line, octets })
         }
         Word::In => {
-            let (line, digits) = two(words)?;
-            let line = short(line)?;
-            let octets = octets(digits, room)?;
+            let (line, octets) = heard(words, room)?;
             Ok(Command::In { line, octets })
         }
-        Word::Failed => {
-            let (line, name) = two(words)?;
-            let line = short(line)?;
-            let fault = cause(name)?;
-            Ok(Command::Failed { line, fault })
-        }
+        Word::Failed => failed(words),
         Word::Next => {
             let line = short(one(words)?)?;
             Ok(Command::Next { line })
         }
-        Word::Pull => {
-            let (line, count) = two(words)?;
-            let line = short(line)?;
-            let count = number(1, 4096, count)?;
-            Ok(Command::Pull { line, count })
-        }
+        Word::Pull => pull(words),
         Word::Wait => {
             let milliseconds = number(0, 3_600_000, one(words)?)?;
             Ok(Command::Wait { milliseconds })
@@ -110,6 +96,43 @@ fn read_as(word: Word, words: &[&[u8]], room: &mut [u8]) -> Result<Command, Faul
         }
         Word::Ask(what) => ask(what, words, room),
     }
+}
+
+/// LINE, and the octets that come from it, of `rx` and of `in`.
+#[tactic(auto, using(crate::proofs::Rests::second_kept))]
+fn heard(words: &[&[u8]], room: &mut [u8]) -> Result<(u16, usize), FaultKind>
+    requires room { All (λ word. length word.now ≤ 2 * length room.old) words.now }
+    ensures rx { MatchResult result (λ of. read_as Rx (texts words.now) ≡ Ok (rx of.0 (take of.1 room.new))) (λ kind. read_as Rx (texts words.now) ≡ Err kind) }
+    ensures frame { MatchResult result (λ of. read_as In (texts words.now) ≡ Ok (into of.0 (take of.1 room.new))) (λ kind. read_as In (texts words.now) ≡ Err kind) }
+    ensures counted { IfOk result (λ of. of.1 ≤ length room.new) }
+    ensures rest { (n : ℕ) → All (λ word. length word.now ≤ n) words.now → drop (n / 2) room.new ≡ drop (n / 2) room.old }
+{
+    let (line, digits) = two(words)?;
+    let line = short(line)?;
+    let octets = octets(digits, room)?;
+    Ok((line, octets))
+}
+
+/// LINE and CAUSE.
+fn failed(words: &[&[u8]]) -> Result<Command, FaultKind>
+    ensures read { (buffer : List ℕ) → meant_by buffer result ≡ read_as Failed (texts words.now) }
+    ensures counted { (room : ℕ) → IfOk result (IsCounted room) }
+{
+    let (line, name) = two(words)?;
+    let line = short(line)?;
+    let fault = cause(name)?;
+    Ok(Command::Failed { line, fault })
+}
+
+/// LINE, and how many octets it takes.
+fn pull(words: &[&[u8]]) -> Result<Command, FaultKind>
+    ensures read { (buffer : List ℕ) → meant_by buffer result ≡ read_as Pull (texts words.now) }
+    ensures counted { (room : ℕ) → IfOk result (IsCounted room) }
+{
+    let (line, count) = two(words)?;
+    let line = short(line)?;
+    let count = number(1, 4096, count)?;
+    Ok(Command::Pull { line, count })
 }
 
 /// A request: LINE and TEI, and the octets that it carries.

@@ -677,7 +677,7 @@ static inline const char *lapd_cause_text(uint8_t cause) {
     }
 }
 
-/* A counter in words, by its place: its name in docs/FORMAT.md. */
+/* A counter in words, by its place: its name in lapdsim(5). */
 static inline const char *lapd_counter_text(unsigned place) {
     static const char *const names[LAPD_COUNTERS] = {
         "heard-i", "heard-rr", "heard-rnr", "heard-rej", "heard-sabme", "heard-disc", "heard-ui", "heard-ua",

@@ -3,6 +3,7 @@ use Rattle.std.proofs.Common.{◌≡◌, ℕ, true, false, List, [], ◌∷◌, 
 use Rattle.std.proofs.lemmas.Bool.{false≢true}
 use Rattle.lapd_bits.specs.Deframer as deframer
 use Rattle.lapd_bits.specs.Heard.{without_octets}
+use Rattle.lapd_bits.specs.declared.heard.Cause.{Cause}
 use Rattle.lapd_bits.specs.declared.heard.Ended.TheVariants as ended
 use Rattle.lapd_bits.specs.Framer as framer
 use Rattle.lapd_bits.specs.Stream as stream
@@ -15,7 +16,7 @@ use Rattle.lapd_tei.specs.declared.outcome.Change.{Change}
 use Rattle.lapd_tei.specs.declared.outcome.Change.TheVariants.{Gained, Left}
 use Rattle.model_line.specs.declared.config.Config.{Config}
 use Rattle.model_line.specs.Event as line_event
-use Rattle.model_line.specs.Event.{LineTold, told, nothing}
+use Rattle.model_line.specs.Event.{LineTold, told, nothing, dropped}
 use Rattle.model_line.specs.Expiry.{aim_of_expiry}
 use Rattle.model_line.specs.Line as machine
 use Rattle.model_line.specs.Machine.{after, answer}
@@ -48,6 +49,12 @@ nothing_heard None e = refl
 nothing_heard (Some (stream.frame octets)) e = absurd (cc)
 nothing_heard (Some (stream.overlong head)) e = absurd (cc)
 nothing_heard (Some (stream.dropped cause)) e = absurd (cc)
+
+pub is_dropped : (o : Option stream.Event) (cause : Cause) → ended.Dropped cause ≡ without_octets o → o ≡ Some (stream.dropped cause)
+is_dropped None cause e = absurd (cc)
+is_dropped (Some (stream.frame octets)) cause e = absurd (cc)
+is_dropped (Some (stream.overlong head)) cause e = absurd (cc)
+is_dropped (Some (stream.dropped other)) cause e = cc
 
 -- an event of the entities leaves the bits as they were
 record SameBits (l m : machine.Line) : Type 0 where
@@ -152,6 +159,13 @@ nothing_served : (e : LinkLayer) (s : Store) (octets : List ℕ) (c : Config) (h
 nothing_served e s octets c h none =
     subst (λ o. Serves (aim_of_event c o) octets e s e s nothing_told) (sym none)
     (record { config = refl; limits = record { slots = refl; width = refl }; stands = λ others m st. st; told = λ others m st. refl })
+
+-- what is dropped leaves them as they are, too
+pub dropped_served : (e : LinkLayer) (s : Store) (octets : List ℕ) (c : Config) (cause : Cause) (h : Option stream.Event) (o : BareReport) → h ≡ Some (stream.dropped cause) → told_in octets o ≡ dropped cause
+    → Serves (aim_of_event c h) octets e s e s o
+dropped_served e s octets c cause h o is says =
+    subst (λ x. Serves (aim_of_event c x) octets e s e s o) (sym is)
+    (record { config = refl; limits = record { slots = refl; width = refl }; stands = λ others m st. st; told = λ others m st. says })
 
 pub unheard : (old new : Line) (s : Store) (octet : ℕ)
     → ((n201 : ℕ) (past : List ℕ) → deframer.Stands n201 old.deframer past → heard_in n201 (past ++ octet ∷ []) ≡ heard_in n201 past ++ option_to_list (deframer.latest_of new.deframer))

@@ -1,7 +1,7 @@
 //! The line: one call an event.
 
 ghost use Rattle.std.specs.Option.{option_map_or};
-ghost use Rattle.std.specs.Prelude.{◌≡◌, ◌<◌, ◌≤◌, ◌++◌, List, [], length, IsTrue, IsFalse, Some, None, IsSome, IfOk, IfErr, OnErr, nat_le};
+ghost use Rattle.std.specs.Prelude.{◌≡◌, ℕ, ◌<◌, ◌≤◌, ◌++◌, List, [], length, IsTrue, IsFalse, Some, None, IsSome, IfOk, IfErr, OnErr, nat_le};
 ghost use Rattle.lapd_bits.specs.Deframer.{latest_of};
 ghost use Rattle.lapd_bits.specs.Stream as stream;
 ghost use Rattle.lapd_count.specs.Counters.{none_counted};
@@ -9,7 +9,7 @@ ghost use Rattle.lapd_count.specs.Shown.{head_shown, heard_shown};
 ghost use Rattle.lapd_store.specs.Ownership.{Owned, Holds};
 ghost use Rattle.lapd_store.specs.Store.{Store, used_slots};
 ghost use Rattle.model_line.specs.Event as line_event;
-ghost use Rattle.model_line.specs.Event.{told};
+ghost use Rattle.model_line.specs.Event.{told, dropped};
 ghost use Rattle.model_line.specs.Line as machine;
 ghost use Rattle.model_line.specs.Counts.{may_send};
 ghost use Rattle.model_link.specs.Told.{starts};
@@ -121,7 +121,7 @@ impl Line {
     {
         match self.deframer.step(octet) {
             Ended::Nothing => None,
-            Ended::Dropped(cause) => Some(self.take_drop(cause, shelf)),
+            Ended::Dropped(cause) => Some(self.take_drop(cause)),
             Ended::Frame(_) | Ended::Overlong => Some(self.take_in(shelf)),
         }
     }
@@ -129,15 +129,13 @@ impl Line {
     /// Tells what the latest octet has dropped, and counts it. A line may hear nothing else for long, so this costs no look
     /// at the deframer.
     #[inline(always)]
-    fn take_drop<S: Shelf>(&mut self, cause: Cause, shelf: &mut S) -> BareReport
-        requires standing { Standing self.old.layer (S.store shelf.old) }
-        requires latest { latest_of self.old.deframer ≡ Some (stream.dropped cause) }
-        ensures line { self.new ≡ with_counted (with_served self.new.layer self.old) (heard_shown self.old.layer.config.side (latest_of self.old.deframer) ++ bare_shown result) }
-        ensures served { Serves (aim_of_event self.old.layer.config (latest_of self.old.deframer)) (latest_frame self.old)
-            self.old.layer (S.store shelf.old) self.new.layer (S.store shelf.new) result }
+    fn take_drop(&mut self, cause: Cause) -> BareReport
+        requires { latest_of self.old.deframer ≡ Some (stream.dropped cause) }
+        ensures line { self.new ≡ with_counted (with_served self.old.layer self.old) (bare_shown result) }
+        ensures told { (octets : List ℕ) → told_in octets result ≡ dropped cause }
     {
         self.nothing_waits = false;
-        let bare = self.layer.serve(Heard::Dropped(cause), shelf);
+        let bare = BareReport::dropped(cause);
         count_told(&mut self.counters, bare.notes, bare.cause, bare.lost);
         bare
     }

@@ -150,16 +150,23 @@ impl Line {
             self.old.layer (S.store shelf.old) self.new.layer (S.store shelf.new) result }
     {
         let side = self.layer.config.side;
+        self.count_heard(side);
         let bare = self.serve(shelf);
-        self.count_heard(side, &bare);
+        self.count_bare(&bare);
         bare
     }
 
-    /// Counts what the latest octet ended, and what was told of it.
-    fn count_heard(&mut self, side: Side, bare: &BareReport)
-        ensures { self.new ≡ with_counted self.old (heard_shown side (latest_of self.old.deframer) ++ bare_shown bare.now) }
+    /// Counts what the latest octet ended. It comes before that is served: then it need not be looked at twice.
+    fn count_heard(&mut self, side: Side)
+        ensures { self.new ≡ with_counted self.old (heard_shown side (latest_of self.old.deframer)) }
     {
         self.counters.heard(side, self.deframer.latest());
+    }
+
+    /// Counts what was told of it.
+    fn count_bare(&mut self, bare: &BareReport)
+        ensures { self.new ≡ with_counted self.old (bare_shown bare.now) }
+    {
         count_told(&mut self.counters, bare.notes, bare.cause, bare.lost);
     }
 

@@ -24,6 +24,8 @@ pub mod LossyRinging
 pub mod LossyHalf
 pub mod LossyUp
 pub mod LossyRun
+pub mod Firm
+pub mod TimelyUp
 pub mod Again
 pub mod Delivering
 pub mod PremisesMet

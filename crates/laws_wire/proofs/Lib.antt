@@ -25,7 +25,12 @@ pub mod LossyHalf
 pub mod LossyUp
 pub mod LossyRun
 pub mod Firm
+pub mod TimelyFirst
 pub mod TimelyUp
+pub mod TimelyRinging
+pub mod TimelyRun
+pub mod TimelyArrives
 pub mod Again
 pub mod Delivering
 pub mod PremisesMet
+pub mod RecoveryMet

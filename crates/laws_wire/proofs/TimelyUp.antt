@@ -50,9 +50,9 @@ use Rattle.laws_wire.proofs.Talking.{Face}
 
 -- where N200 is reached an error is told
 ran-out : (t : Terms) (l : Link) → l.state ≡ TimerRecovery → is_running T200 l ≡ true → nat_lt l.repeats t.n200 ≡ false → HasError (course t (link.expired T200) l).notes
-ran-out t l state runs no =
-    (λ i. list_any is_error (cond (runs i) (Machine.expired_in (state i) T200 t (begun l)) (begun l)).notes)
-    ∙ ap (λ b. list_any is_error (cond b ((Words.enquire t then Words.repeated then Words.start T200) (begun l)) (MultipleFrame.failed t code.I (begun l))).notes) no
+ran-out t l state ran over =
+    (λ i. list_any is_error (cond (ran i) (Machine.expired_in (state i) T200 t (begun l)) (begun l)).notes)
+    ∙ ap (λ b. list_any is_error (cond b ((Words.enquire t then Words.repeated then Words.start T200) (begun l)) (MultipleFrame.failed t code.I (begun l))).notes) over
 
 no-way : (f : Parts → List ℕ) (way : List Parts) → map f way ≡ [] → way ≡ []
 no-way f [] e = refl
@@ -156,7 +156,7 @@ module _ (service : Service) (tei : ℕ) where
       timed-8 : n.link.state ≡ TimerRecovery → n.link.running ≡ Some T200
       timed-8 state = subst (λ here. IsTimedIn here n.link) state h.firm.near_sane.timed.timer
 
-      repeats-left : its ≡ T200 → n.link.state ≡ TimerRecovery → n.link.repeats < n.terms.n200
+      pub repeats-left : its ≡ T200 → n.link.state ≡ TimerRecovery → n.link.repeats < n.terms.n200
       repeats-left is state = go (nat_lt n.link.repeats n.terms.n200) refl
         where
           go : (b : Bool) → nat_lt n.link.repeats n.terms.n200 ≡ b → n.link.repeats < n.terms.n200

@@ -1,5 +1,5 @@
 -- Two ends that are up, and whose T200 is timely: they stay so, and no frame that one takes makes it tell an error.
-use Rattle.std.proofs.Common.{◌≡◌, ℕ, ◌≤◌, Bool, true, false, cond, not, ◌&&◌, IsTrue, List, [], ◌∷◌, ◌++◌, refl, sym, ap, subst, ◌∙◌, ◌⊎◌, inl, inr, true≢false, arith}
+use Rattle.std.proofs.Common.{◌≡◌, ℕ, ◌≤◌, Bool, true, false, cond, not, ◌&&◌, IsTrue, List, [], ◌∷◌, ◌++◌, refl, sym, ap, subst, ◌∙◌, ◌⊎◌, inl, inr, true≢false}
 use Rattle.std.specs.List.{list_any}
 use Rattle.lapd_seq.specs.declared.numbers.Seq.{Seq}
 use Rattle.lapd_frame.specs.declared.controls.Control.{Control}
@@ -21,7 +21,7 @@ use Rattle.model_link.proofs.Lines.{Rising}
 use Rattle.model_link.proofs.Taking.{frame-taken}
 use Rattle.laws_link.specs.Flags.{busy_asked, flag_left, takes_contents}
 use Rattle.laws_link.specs.States.{as_heard, is_overlong, state_after}
-use Rattle.laws_link.specs.Telling.{numbered_as, final_as, told_up, told_by_frame, told_by}
+use Rattle.laws_link.specs.Telling.{numbered_as, final_as, told_up, told_by_frame, told_expired, told_by}
 use Rattle.laws_link.proofs.Follows.{event-follows}
 use Rattle.laws_two_links.specs.Ahead.{IsAhead, CanRepeat, IsMildAct}
 use Rattle.laws_two_links.specs.Timely.{IsTimely, IsTimelyAct}
@@ -115,6 +115,24 @@ module _ (t : Terms) where
           let out : to ≡ AwaitingEstablishment = leads ∙ ap (λ b. cond (b && true) AwaitingEstablishment l.state) is in
           absurd (true≢false (sym (subst (λ s. IsTrue (is_multiple_frame s)) out up)))
       go false leads tells = ap (list_any is_error) tells ∙ frame-quiet l.state is f.address.command f.info f.control (takes_contents (heard false) l) l to up h
+
+  -- nor does a timer tell one, where the link stays up
+  expired-quiet : (here to : State) → IsTrue (is_multiple_frame here) → IsTrue (is_multiple_frame to) → list_any is_error (told_expired here t to) ≡ false
+  expired-quiet TeiAssigned to is up = absurd (true≢false (sym is))
+  expired-quiet AwaitingEstablishment to is up = absurd (true≢false (sym is))
+  expired-quiet AwaitingRelease to is up = absurd (true≢false (sym is))
+  expired-quiet Established to is up = refl
+  expired-quiet TimerRecovery TeiAssigned is up = refl
+  expired-quiet TimerRecovery AwaitingEstablishment is up = absurd (true≢false (sym up))
+  expired-quiet TimerRecovery AwaitingRelease is up = refl
+  expired-quiet TimerRecovery Established is up = refl
+  expired-quiet TimerRecovery TimerRecovery is up = refl
+
+  pub timer-quiet : (l : Link) (timer : LinkTimer) → IsTrue (is_multiple_frame l.state) → IsTrue (is_multiple_frame (after t (expired timer) l).state)
+      → HasError (course t (expired timer) l).notes → ⊥
+  timer-quiet l timer is up error =
+      let tells = (event-follows t (expired timer) l).leaves.tells in
+      true≢false (sym error ∙ ap (list_any is_error) tells ∙ expired-quiet l.state (after t (expired timer) l).state is up)
 
 -- ---- own busy stays off
 

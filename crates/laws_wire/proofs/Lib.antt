@@ -27,7 +27,9 @@ pub mod LossyRun
 pub mod Firm
 pub mod TimelyFirst
 pub mod TimelyUp
+pub mod TimelyPhases
 pub mod TimelyRinging
+pub mod TimelyAnswered
 pub mod TimelyRun
 pub mod TimelyArrives
 pub mod Again

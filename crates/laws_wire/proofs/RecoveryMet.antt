@@ -1,12 +1,11 @@
 -- The premises of the law on what is lost are met: by the worked call in which SABME is lost, and then an I-frame of each end.
-use Rattle.std.proofs.Common.{◌≡◌, ◌≢◌, ℕ, ◌+◌, ◌≤◌, false, List, [], ◌∷◌, length, map, refl, sym, ap, subst, ◌∙◌, arith}
+use Rattle.std.proofs.Common.{◌≡◌, ◌≢◌, ℕ, ◌+◌, ◌≤◌, false, List, [], ◌∷◌, length, map, refl, sym, subst, ◌∙◌, arith}
 use Rattle.std.specs.Prelude.{All}
 use Rattle.std.specs.List.{list_any}
 use Rattle.std.proofs.lemmas.List.Elements.{All-nil, All-cons}
 use Rattle.lapd_bits.specs.Bits.{low_bits}
 use Rattle.lapd_frame.specs.declared.services.Service.TheVariants.{Call}
 use Rattle.lapd_frame.specs.declared.timers.Timer.TheVariants.{T200}
-use Rattle.lapd_frame.specs.Grammar.{AreOctets}
 use Rattle.lapd_frame.specs.Reading.{reading, header_of, control_of, unnumbered_of, supervisory_of}
 use Rattle.lapd_seq.specs.Circle.{distance_of, named}
 use Rattle.lapd_seq.specs.Numbers.{seq}
@@ -15,13 +14,13 @@ use Rattle.model_line.specs.Event.{LineTold}
 use Rattle.model_line.specs.Machine as lines
 use Rattle.model_line.specs.Request.{Data}
 use Rattle.model_card.specs.Run.{after_all}
-use Rattle.laws_wire.specs.Wire.{Station, Wire, requests, times_out, gives, loses, Doing, at_near, at_far, doing, doing_all, turns, IsStill}
+use Rattle.laws_wire.specs.Wire.{Station, Wire, requests, times_out, gives, loses, at_near, at_far, doing, doing_all, turns, IsStill}
 use Rattle.laws_wire.specs.Call.{confirmed, indicated, data_told}
 use Rattle.laws_wire.specs.Losing.{heard_in, is_error, HasNoError, IsRoughTalk}
-use Rattle.laws_wire.specs.Recovering.{round, rounds, HasNoErrors, StayTimely, HasMissing, HasArrived, with_t200_expired}
+use Rattle.laws_wire.specs.Recovering.{HasNoErrors, StayTimely, HasMissing, HasArrived, with_t200_expired}
 use Rattle.laws_wire.specs.Worked.{user, network, begins}
 use Rattle.laws_wire.specs.WorkedRecovering.{loses_three, lost, recovered}
-use Rattle.laws_wire.proofs.PremisesMet.{can, octet, none, AreRough, all-rough}
+use Rattle.laws_wire.proofs.PremisesMet.{can, octet, none, all-rough}
 use Rattle.laws_wire.proofs.TimelyRun.{what-is-lost-arrives}
 
 rough : All (IsRoughTalk Call 0) loses_three
@@ -73,9 +72,16 @@ lost-far = refl
 
 timely : StayTimely loses_three begins
 unfolding doing_all StayTimely
-timely =
-    (tt, (tt, ((silent-still, (told-none asks_again.near again-near, told-none asks_again.far again-far)),
-    (tt, ((tt, tt), ((tt, tt), (tt, (tt, (tt, (tt, ((tt, tt), ((tt, tt), ((tt, heard-it (heard_in lost.near) (confirmed Call 0) lost-near), tt)))))))))))))
+timely = (
+  tt,
+  (
+    tt,
+    (
+      (silent-still, (told-none asks_again.near again-near, told-none asks_again.far again-far)),
+      (tt, ((tt, tt), ((tt, tt), (tt, (tt, (tt, (tt, ((tt, tt), ((tt, tt), ((tt, heard-it (heard_in lost.near) (confirmed Call 0) lost-near), tt)))))))))),
+    ),
+  ),
+)
 
 still : IsStill lost
 unfolding after_all lines.after lines.answer lines.takes_slot reading header_of control_of unnumbered_of supervisory_of teis.course teis.refusal low_bits seq distance_of named doing_all turns

@@ -1,5 +1,5 @@
 -- Where both ends are up and no turn is left: once T200 expires, so many rounds are enough for all that is missing.
-use Rattle.std.proofs.Common.{◌≡◌, ℕ, suc, ◌+◌, ◌<◌, ◌≤◌, true, false, List, [], ◌∷◌, ◌++◌, length, map, take, None, refl, sym, ap, subst, ◌∙◌, ◌⊎◌, inl, inr, arith}
+use Rattle.std.proofs.Common.{◌≡◌, ℕ, suc, ◌+◌, ◌<◌, ◌≤◌, false, List, [], ◌∷◌, ◌++◌, length, map, take, None, refl, sym, ap, subst, ◌∙◌, ◌⊎◌, inl, inr, arith}
 use Rattle.std.specs.Prelude.{All}
 use Rattle.std.proofs.lemmas.List.{length-map, length-take-le}
 use Rattle.std.proofs.lemmas.List.Elements.{All-nil, All-cons}
@@ -135,22 +135,22 @@ module _ (service : Service) (tei : ℕ) where
       near-cut : IsCutOff n m
       near-cut =
           cut-off n m h.firm (none-waits service tei n near-hushed) near-hushed.way
-          (repeats-left service tei c d p q face first_near first_far w n m h timer T200 (λ l. refl) fair.0 refl)
+          (repeats-left service tei c d p q face first_near first_far w n m h timer (λ l. refl) fair.0)
 
       far-cut : IsCutOff m n
       far-cut =
           cut-off m n other.firm (none-waits service tei m far-hushed) far-hushed.way
-          (repeats-left service tei d c q p back first_far first_near (turned w) m n other timer T200 (λ l. refl) fair.1 refl)
+          (repeats-left service tei d c q p back first_far first_near (turned w) m n other timer (λ l. refl) fair.1)
 
       both-expired : Up (with_t200_expired service tei w) (with_link (link.expired T200) n) (with_link (link.expired T200) m)
       both-expired =
           let n' = with_link (link.expired T200) n in
           let m' = with_link (link.expired T200) m in
           let w' = acting (times_out timer) w in
-          let first : Up w' n' m = up-expires service tei c d p q face first_near first_far w n m h timer T200 (λ l. refl) fair.0 (λ state running. none-open service tei n m near-hushed far-hushed) in
+          let first : Up w' n' m = up-expires service tei c d p q face first_near first_far w n m h timer T200 (λ l. refl) (λ state running. near-cut.repeats state) (λ state running. none-open service tei n m near-hushed far-hushed) in
           let open_ : IsNoneOpen m n' = record { enquiries = none-of service tei is_enquiry m (none-waits service tei m far-hushed) far-hushed.way; answers = no-answer n m near-cut } in
           turned-up service tei d c q p first_far first_near (acting (times_out timer) (turned w')) m' n'
-          (up-expires service tei d c q p back first_far first_near (turned w') m n' (turned-up service tei c d p q first_near first_far w' n' m first) timer T200 (λ l. refl) fair.1 (λ state running. open_))
+          (up-expires service tei d c q p back first_far first_near (turned w') m n' (turned-up service tei c d p q first_near first_far w' n' m first) timer T200 (λ l. refl) (λ state running. far-cut.repeats state) (λ state running. open_))
 
       pub up-arrives : HasArrived service tei w (rounds (u + 3) (with_t200_expired service tei w))
       up-arrives =

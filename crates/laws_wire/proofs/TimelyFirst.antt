@@ -1,5 +1,5 @@
 -- The ends as an establishment leaves them, and what changes nothing at a station or on a wire.
-use Rattle.std.proofs.Common.{◌≡◌, ℕ, ◌≤◌, false, List, [], ◌∷◌, length, drop, None, refl, sym, ap, subst, ◌∙◌, ◌⊎◌, inl, inr, true≢false, arith}
+use Rattle.std.proofs.Common.{◌≡◌, ℕ, ◌≤◌, false, List, [], length, drop, None, refl, sym, ap, subst, ◌∙◌, ◌⊎◌, inl, inr, true≢false, arith}
 use Rattle.std.proofs.lemmas.List.Elements.{All-nil}
 use Rattle.lapd_frame.specs.declared.services.Service.{Service}
 use Rattle.lapd_frame.specs.Grammar.{AreOctets}
@@ -8,7 +8,7 @@ use Rattle.model_link.specs.Events as link
 use Rattle.model_link.specs.Machine.{given}
 use Rattle.model_link.specs.Requests.{refusal}
 use Rattle.model_link.specs.Sound.{IsInRange, IsSound}
-use Rattle.model_link.specs.TwoEnds.{End, Begins, with_sent}
+use Rattle.model_link.specs.TwoEnds.{End, Begins}
 use Rattle.model_link.proofs.Joined.{joined-first}
 use Rattle.model_line.specs.declared.config.Config.{Config}
 use Rattle.model_line.specs.Event.{LineTold}
@@ -16,7 +16,6 @@ use Rattle.model_line.specs.Request.{Data}
 use Rattle.model_card.specs.Happening.{goes, asks}
 use Rattle.laws_two_links.specs.Rounds.{IsReady, IsTaken}
 use Rattle.laws_two_links.proofs.Flow.{Flow}
-use Rattle.laws_two_links.proofs.Reached.{Sane}
 use Rattle.laws_wire.specs.Wire.{Station, Wire, happens, with_first_of, with_first_lost, takes, loses, acting}
 use Rattle.laws_wire.proofs.Calling.{end, called, sound-caller, sound-called}
 use Rattle.laws_wire.proofs.Firm.{Firm}

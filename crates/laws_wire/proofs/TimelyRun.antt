@@ -1,5 +1,5 @@
 -- A whole call in which timers are timely: both ends stay up, and what was lost arrives.
-use Rattle.std.proofs.Common.{◌≡◌, ℕ, suc, ◌+◌, Bool, true, false, cond, not, ◌&&◌, ◌||◌, ◌==◌, List, [], ◌∷◌, ◌++◌, length, map, is_some, refl, sym, ap, subst, ◌∙◌, ◌⊎◌, inl, inr, eqb-true, arith}
+use Rattle.std.proofs.Common.{◌≡◌, ℕ, suc, ◌+◌, Bool, true, false, cond, not, ◌&&◌, ◌||◌, ◌==◌, List, [], ◌∷◌, ◌++◌, length, map, is_some, refl, sym, ap, subst, ◌∙◌, inl, inr, eqb-true, arith}
 use Rattle.std.specs.Prelude.{All, flat_map}
 use Rattle.std.specs.List.{list_any}
 use Rattle.std.proofs.lemmas.Bool.{and_parts, or_parts}
@@ -14,28 +14,29 @@ use Rattle.model_link.specs.declared.frames.ControlFrame.{ControlFrame}
 use Rattle.model_link.specs.declared.timers.LinkTimer.TheVariants.{T200}
 use Rattle.model_link.specs.Link.{fresh}
 use Rattle.model_link.specs.Sound.{IsInRange}
-use Rattle.model_link.specs.TwoEnds.{End, Ends}
+use Rattle.model_link.specs.TwoEnds.{Ends}
 use Rattle.model_line.specs.declared.config.Config.{Config}
 use Rattle.model_line.specs.Event.{LineTold, nothing}
 use Rattle.model_line.specs.Line.{terms}
 use Rattle.model_line.proofs.Ranges.{terms_in_range}
 use Rattle.laws_two_links.specs.Rounds as two_links
 use Rattle.laws_two_links.proofs.Arriving.{all-arrived}
-use Rattle.laws_wire.specs.Wire.{Station, Wire, gives, takes, times_out, Doing, at_near, at_far, acting, turned, doing, doing_all, IsStill}
-use Rattle.laws_wire.specs.Call.{calling, CanCall, confirmed, indicated, data_told}
-use Rattle.laws_wire.specs.Losing.{for_layer_3, heard_in, is_error, HasNoError, IsRoughTalk}
-use Rattle.laws_wire.specs.Recovering.{round, rounds, HasNoErrors, IsTimely, StayTimely, HasMissing, HasArrived, with_t200_expired, Recovers, WhatIsLostArrives}
+use Rattle.laws_wire.specs.Wire.{Station, Wire, Act, gives, takes, times_out, Doing, at_near, at_far, acting, turned, doing, doing_all, IsStill}
+use Rattle.laws_wire.specs.Call.{calling, confirmed, indicated, data_told}
+use Rattle.laws_wire.specs.Losing.{for_layer_3, heard_in, is_error, HasNoError, IsRoughTalkOf, IsRoughTalk}
+use Rattle.laws_wire.specs.Recovering.{round, rounds, HasNoErrors, IsTimelyOf, IsSpared, IsTimely, StayTimely, HasMissing, HasArrived, with_t200_expired, WhatIsLostArrives}
 use Rattle.laws_wire.proofs.Beginning.{calls, answers}
 use Rattle.laws_wire.proofs.Calling.{asked, end, called}
-use Rattle.laws_wire.proofs.Held.{Held}
 use Rattle.laws_wire.proofs.LossyRun.{from-nothing}
 use Rattle.laws_wire.proofs.Ringing.{answered, its_sabme}
 use Rattle.laws_wire.proofs.Spelled.{twice-other}
 use Rattle.laws_wire.proofs.Talking.{Face}
 use Rattle.laws_wire.proofs.TimelyArrives.{arrived, up-arrives}
 use Rattle.laws_wire.proofs.TimelyFirst.{near-ready, far-ready, there-taken, back-taken}
+use Rattle.laws_wire.proofs.TimelyAnswered.{gives-ua, confirms, waits-still, waits-near, waits-far, comes-still, comes-near, comes-far}
+use Rattle.laws_wire.proofs.TimelyPhases.{Rings, UaWaits, UaGoes, Goes}
 use Rattle.laws_wire.proofs.TimelyRinging as ringing
-use Rattle.laws_wire.proofs.TimelyRinging.{Rings, UaWaits, UaGoes, Goes, Early, early-near, early-far, early-still, repeats-sabme, down-expires, gives-sabme, gives-ua, confirms}
+use Rattle.laws_wire.proofs.TimelyRinging.{down-expires, down-acts, repeats-sabme, silent-near, gives-sabme, not-still, asking-near, called-still, called-near, called-far}
 use Rattle.laws_wire.proofs.TimelyUp.{BothUp, AreUp, turned-are, up-acts, rounds-up}
 
 -- ---- what layer 3 heard has the errors that were told
@@ -92,33 +93,37 @@ module _ (service : Service) (tei : ℕ) (c d : Config) (p q : ℕ) (face : Face
   first_far = indicated service tei ∷ []
 
   abbrev On : Wire → Type 0
-  On w = Goes service tei c d p q face back rt ru w
+  On w = Goes service tei c d p q w
 
   abbrev Up : Wire → Type 0
   Up w = AreUp service tei c d p q first_near first_far w
 
-  -- before both are up, and after
-  by-phase : (P : Type 0) (w : Wire) → (Early service tei c d p q face back rt ru w → P) → (Up w → P) → On w → P
-  by-phase P w early up (inl h) = early (inl h)
-  by-phase P w early up (inr (inl h)) = early (inr (inl h))
-  by-phase P w early up (inr (inr (inl h))) = early (inr (inr (inl h)))
-  by-phase P w early up (inr (inr (inr (inl h)))) = early (inr (inr (inr (inl h))))
-  by-phase P w early up (inr (inr (inr (inr (inl h))))) = early (inr (inr (inr (inr h))))
-  by-phase P w early up (inr (inr (inr (inr (inr h))))) = up h
-
   as-up : (w : Wire) → Up w → On w
   as-up w h = inr (inr (inr (inr (inr h))))
 
-  step : (k : Doing) → IsRoughTalk service tei k → (w : Wire) → IsTimely k w → On w → On (doing k w)
-  step (at_near act) is w x h =
-      by-phase (On (acting act w)) w (λ early. early-near service tei c d p q face back rt ru w early act is x)
-      (λ up. as-up (acting act w) (up-acts service tei c d p q face first_near first_far w up.n up.m up.up act is x)) h
-  step (at_far act) is w x h =
-      by-phase (On (turned (acting act (turned w)))) w (λ early. early-far service tei c d p q face back rt ru w early act is x.0 x.1)
-      (λ up.
-      let other = turned-are service tei c d p q first_near first_far w up in
+  -- each act of either end
+  near-goes : (act : Act) → IsRoughTalkOf service tei act → (w : Wire) → IsTimelyOf act w → On w → On (acting act w)
+  near-goes act is w x (inl h) = silent-near service tei c d p q face back rt ru w h act is x
+  near-goes act is w x (inr (inl h)) = asking-near service tei c d p q face back rt ru w h act is x
+  near-goes act is w x (inr (inr (inl h))) = called-near service tei c d p q face back rt ru w h act is x
+  near-goes act is w x (inr (inr (inr (inl h)))) = waits-near service tei c d p q face back rt ru w h.m h.is act is x
+  near-goes act is w x (inr (inr (inr (inr (inl h))))) = comes-near service tei c d p q face back rt ru w h.m h.is act is x
+  near-goes act is w x (inr (inr (inr (inr (inr h))))) = as-up (acting act w) (up-acts service tei c d p q face first_near first_far w h.n h.m h.up act is x)
+
+  far-goes : (act : Act) → IsRoughTalkOf service tei act → (w : Wire) → IsTimelyOf act (turned w) → IsSpared act w → On w → On (turned (acting act (turned w)))
+  far-goes act is w x y (inl h) = inl (down-acts service tei c d p q face back rt ru [] [] w h refl act is)
+  far-goes act is w x y (inr (inl h)) = inr (inl (down-acts service tei c d p q face back rt ru (its_sabme ∷ []) [] w h refl act is))
+  far-goes act is w x y (inr (inr (inl h))) = called-far service tei c d p q face back rt ru w h act is
+  far-goes act is w x y (inr (inr (inr (inl h)))) = waits-far service tei c d p q face back rt ru w h.m h.is act is y
+  far-goes act is w x y (inr (inr (inr (inr (inl h))))) = comes-far service tei c d p q face back rt ru w h.m h.is act is y
+  far-goes act is w x y (inr (inr (inr (inr (inr h))))) =
+      let other = turned-are service tei c d p q first_near first_far w h in
       as-up (turned (acting act (turned w)))
-      (turned-are service tei d c q p first_far first_near (acting act (turned w)) (up-acts service tei d c q p back first_far first_near (turned w) other.n other.m other.up act is x.0))) h
+      (turned-are service tei d c q p first_far first_near (acting act (turned w)) (up-acts service tei d c q p back first_far first_near (turned w) other.n other.m other.up act is x))
+
+  step : (k : Doing) → IsRoughTalk service tei k → (w : Wire) → IsTimely k w → On w → On (doing k w)
+  step (at_near act) is w x h = near-goes act is w x h
+  step (at_far act) is w x h = far-goes act is w x.0 x.1 h
 
   pub runs : (ds : List Doing) → All (IsRoughTalk service tei) ds → (w : Wire) → StayTimely ds w → On w → On (doing_all ds w)
   unfolding doing_all StayTimely
@@ -127,31 +132,29 @@ module _ (service : Service) (tei : ℕ) (c d : Config) (p q : ℕ) (face : Face
       runs ds (All-tail (IsRoughTalk service tei) k ds all) (doing k w) x.1 (step k (All-head (IsRoughTalk service tei) k ds all) w x.0 h)
 
   -- no error is told
-  rings-fair : (ws : List ControlFrame) (way : List Parts) (w : Wire)
-      → Rings service tei c d p q face back rt ru ws way w → HasNoErrors w
+  rings-fair : (ws : List ControlFrame) (way : List Parts) (w : Wire) → Rings service tei c d p q ws way w → HasNoErrors w
   rings-fair ws way w h = (nothing-heard w.near h.near.heard, nothing-heard w.far h.far.heard)
 
-  early-fair : (w : Wire) → Early service tei c d p q face back rt ru w → HasNoErrors w
-  early-fair w (inl h) = rings-fair [] [] w h
-  early-fair w (inr (inl h)) = rings-fair _ [] w h
-  early-fair w (inr (inr (inl h))) = rings-fair [] _ w h
-  early-fair w (inr (inr (inr (inl h)))) = (nothing-heard w.near h.is.near.heard, fair-heard service tei (indicated service tei) h.m.delivered w.far refl h.is.far.heard)
-  early-fair w (inr (inr (inr (inr h)))) = (nothing-heard w.near h.is.near.heard, fair-heard service tei (indicated service tei) h.m.delivered w.far refl h.is.far.heard)
-
   pub fair : (w : Wire) → On w → HasNoErrors w
-  fair w h =
-      by-phase (HasNoErrors w) w (early-fair w)
-      (λ up. (fair-heard service tei (confirmed service tei) up.n.delivered w.near refl up.up.near.heard, fair-heard service tei (indicated service tei) up.m.delivered w.far refl up.up.far.heard)) h
+  fair w (inl h) = rings-fair [] [] w h
+  fair w (inr (inl h)) = rings-fair _ [] w h
+  fair w (inr (inr (inl h))) = rings-fair [] _ w h
+  fair w (inr (inr (inr (inl h)))) = (nothing-heard w.near h.is.near.heard, fair-heard service tei (indicated service tei) h.m.delivered w.far refl h.is.far.heard)
+  fair w (inr (inr (inr (inr (inl h))))) = (nothing-heard w.near h.is.near.heard, fair-heard service tei (indicated service tei) h.m.delivered w.far refl h.is.far.heard)
+  fair w (inr (inr (inr (inr (inr h))))) = (
+    fair-heard service tei (confirmed service tei) h.n.delivered w.near refl h.up.near.heard,
+    fair-heard service tei (indicated service tei) h.m.delivered w.far refl h.up.far.heard,
+  )
 
   -- SABME was lost: it goes again, and both are up
-  module _ (w : Wire) (h : Rings service tei c d p q face back rt ru [] [] w) (u : ℕ) (fair : HasNoErrors (with_t200_expired service tei w)) where
+  module _ (w : Wire) (h : Rings service tei c d p q [] [] w) (u : ℕ) (fair : HasNoErrors (with_t200_expired service tei w)) where
     abbrev timer : Timer
     timer = timers.T200 service tei
 
     abbrev expired : Wire
     expired = with_t200_expired service tei w
 
-    again : Rings service tei c d p q face back rt ru (its_sabme ∷ []) [] expired
+    again : Rings service tei c d p q (its_sabme ∷ []) [] expired
     again =
         let w' = acting (times_out timer) w in
         down-expires service tei c d p q face back rt ru (its_sabme ∷ []) [] w' (repeats-sabme service tei c d p q face back rt ru w h timer (λ l. refl) fair.0) timer T200 (λ l. refl)
@@ -168,9 +171,9 @@ module _ (service : Service) (tei : ℕ) (c d : Config) (p q : ℕ) (face : Face
         let h1 = gives-sabme service tei c d p q face back rt ru expired again in
         let w2 = turned (acting takes (turned w1)) in
         let m = end (terms d service tei) called [] in
-        let h2 : UaWaits service tei c d p q face back rt ru m w2 = ringing.answers service tei c d p q face back rt ru w1 h1 in
+        let h2 : UaWaits service tei c d p q m w2 = ringing.answers service tei c d p q face back rt ru w1 h1 in
         let w3 = turned (acting gives (turned w2)) in
-        let h3 : UaGoes service tei c d p q face back rt ru m w3 = gives-ua service tei c d p q face back rt ru w2 m h2 in
+        let h3 : UaGoes service tei c d p q m w3 = gives-ua service tei c d p q face back rt ru w2 m h2 in
         record { repeats = h3.repeats; up = confirms service tei c d p q face back rt ru w3 m h3 }
 
     pub lost-arrives : HasArrived service tei w (rounds (u + 3) expired)
@@ -188,12 +191,17 @@ module _ (service : Service) (tei : ℕ) (c d : Config) (p q : ℕ) (face : Face
         subst (HasArrived service tei w) (sym (one-round (u + 3) j (same-count u) expired))
         (arrived service tei c d p q face back w (rounds j w') (two_links.rounds j e) [] [] last all.0 all.1 h.near.granted h.far.granted)
 
-  pub arrives : (w : Wire) → On w → (u : ℕ) → IsStill w → HasMissing service tei u w → HasNoErrors (with_t200_expired service tei w)
-      → HasArrived service tei w (rounds (u + 3) (with_t200_expired service tei w))
-  arrives w h u still few fair =
-      by-phase (HasArrived service tei w (rounds (u + 3) (with_t200_expired service tei w))) w
-      (λ early. lost-arrives w (early-still service tei c d p q face back rt ru w early still) u fair)
-      (λ up. up-arrives service tei c d p q face back w up.n up.m up.up still u few fair) h
+  abbrev Arrives : ℕ → Wire → Type 0
+  Arrives u w = HasArrived service tei w (rounds (u + 3) (with_t200_expired service tei w))
+
+  -- where no turn is left before both are up SABME was lost
+  pub arrives : (w : Wire) → On w → (u : ℕ) → IsStill w → HasMissing service tei u w → HasNoErrors (with_t200_expired service tei w) → Arrives u w
+  arrives w (inl h) u still few fair = lost-arrives w h u fair
+  arrives w (inr (inl h)) u still few fair = absurd (not-still service tei c d p q face back rt ru w h still)
+  arrives w (inr (inr (inl h))) u still few fair = absurd (called-still service tei c d p q face back rt ru w h still)
+  arrives w (inr (inr (inr (inl h)))) u still few fair = absurd (waits-still service tei c d p q face back rt ru w h.m h.is still)
+  arrives w (inr (inr (inr (inr (inl h))))) u still few fair = absurd (comes-still service tei c d p q face back rt ru w h.m h.is still)
+  arrives w (inr (inr (inr (inr (inr h))))) u still few fair = up-arrives service tei c d p q face back w h.n h.m h.up still u few fair
 
 pub what-is-lost-arrives : WhatIsLostArrives
 what-is-lost-arrives service c d line other tei ds can talk = λ timely.
@@ -215,7 +223,7 @@ what-is-lost-arrives service c d line other tei ds can talk = λ timely.
     w : Wire
     w = calling service tei c line d other
 
-    begun : Rings service tei c d 0 0 face back rt ru (its_sabme ∷ []) [] w
+    begun : Rings service tei c d 0 0 (its_sabme ∷ []) [] w
     begun = record {
       repeats = 0;
       near = from-nothing c service tei 0 w.near (end (terms c service tei) asked []) (calls service tei c can.near can.terminal line can.near_line) refl;

@@ -1,5 +1,5 @@
 -- Two stations whose links are up, where each timer is timely: both stay up, whatever is lost.
-use Rattle.std.proofs.Common.{◌≡◌, ℕ, zero, suc, ◌<◌, Bool, true, false, cond, List, [], ◌∷◌, ◌++◌, map, Option, Some, None, refl, sym, ap, subst, ◌∙◌, ◌⊎◌, inl, inr, append-nil, true≢false}
+use Rattle.std.proofs.Common.{◌≡◌, ℕ, zero, suc, ◌<◌, Bool, true, false, cond, List, [], ◌∷◌, map, Some, None, refl, sym, ap, subst, ◌∙◌, ◌⊎◌, inl, inr, append-nil, true≢false}
 use Rattle.std.specs.Prelude.{All, nat_lt}
 use Rattle.std.specs.List.{list_any}
 use Rattle.std.proofs.lemmas.Bool.{ltb-true}
@@ -8,6 +8,7 @@ use Rattle.lapd_frame.specs.declared.controls.Control.{Control}
 use Rattle.lapd_frame.specs.declared.notes.ErrorCode.TheVariants as code
 use Rattle.lapd_frame.specs.declared.services.Service.{Service}
 use Rattle.lapd_frame.specs.declared.timers.Timer.{Timer}
+use Rattle.lapd_frame.specs.declared.timers.Timer.TheVariants as timers
 use Rattle.lapd_frame.specs.Grammar.{Parts, AreOctets, spelling}
 use Rattle.model_link.specs.declared.frames.ControlFrame.{ControlFrame}
 use Rattle.model_link.specs.declared.states.State.TheVariants.{TimerRecovery}
@@ -15,11 +16,11 @@ use Rattle.model_link.specs.declared.timers.LinkTimer.{LinkTimer}
 use Rattle.model_link.specs.declared.timers.LinkTimer.TheVariants.{T200, T203}
 use Rattle.model_link.specs.declared.terms.Terms.{Terms}
 use Rattle.model_link.specs.Events as link
-use Rattle.model_link.specs.Link.{Link, is_multiple_frame}
+use Rattle.model_link.specs.Link.{Link}
 use Rattle.model_link.specs.Machine
 use Rattle.model_link.specs.Machine.{course, given, is_running}
 use Rattle.model_link.specs.MultipleFrame
-use Rattle.model_link.specs.Steps.{Course, begun, ◌then◌}
+use Rattle.model_link.specs.Steps.{begun, ◌then◌}
 use Rattle.model_link.specs.Timed.{IsTimedIn}
 use Rattle.model_link.specs.Told.{runs}
 use Rattle.model_link.specs.TwoEnds.{End, Ends, with_link, with_sent}
@@ -36,15 +37,15 @@ use Rattle.laws_two_links.specs.Ahead.{CanRepeat}
 use Rattle.laws_two_links.specs.Rounds as two_links
 use Rattle.laws_two_links.specs.Timely as two_links_timely
 use Rattle.laws_two_links.proofs.Waiting.{nothing-given}
-use Rattle.laws_wire.specs.Wire.{Station, Wire, happens, with_first_of, Act, requests, times_out, gives, takes, loses, acting, turned, doing_all, IsStill}
-use Rattle.laws_wire.specs.Losing.{is_error, HasNoError, IsRoughTalkOf}
-use Rattle.laws_wire.specs.Recovering.{round, rounds, HasNoErrors, IsTimelyOf}
+use Rattle.laws_wire.specs.Wire.{Station, Wire, happens, with_first_of, Act, requests, times_out, gives, takes, loses, acting, turned, doing_all}
+use Rattle.laws_wire.specs.Losing.{is_error, HasNoError, IsOfLink, IsRoughTalkOf}
+use Rattle.laws_wire.specs.Recovering.{round, rounds, IsTimelyOf}
 use Rattle.laws_wire.proofs.Asking.{with_more, asked-form}
 use Rattle.laws_wire.proofs.Fair.{HasError, Fine, timer-fair}
-use Rattle.laws_wire.proofs.Firm.{Firm, firm-turned, firm-sends, firm-loses, firm-asks, firm-expires, firm-takes, takes-fine, takes-kept}
+use Rattle.laws_wire.proofs.Firm.{timer-quiet, Firm, firm-turned, firm-sends, firm-loses, firm-asks, firm-expires, firm-takes, takes-fine, takes-kept}
 use Rattle.laws_wire.proofs.Held.{Held, now-erred, not-erred, held-given, held-lost, held-taken, expired-told, held-expired, Grants, held-asked}
 use Rattle.laws_wire.proofs.Joint.{timer-goes}
-use Rattle.laws_wire.proofs.LossyPhases.{for-data, for-timer, Aims}
+use Rattle.laws_wire.proofs.LossyPhases.{for-data, Aims}
 use Rattle.laws_wire.proofs.Standing.{IsCarried, Stands, still-gives-none}
 use Rattle.laws_wire.proofs.Talking.{Face}
 
@@ -59,6 +60,12 @@ no-way f [] e = refl
 no-way f (x ∷ xs) e = absurd (cc)
 
 module _ (service : Service) (tei : ℕ) where
+  -- the timers of a call
+  pub each-timer : (P : Timer → Type 0) → P (timers.T200 service tei) → P (timers.T203 service tei) → (timer : Timer) → IsOfLink service tei timer → P timer
+  each-timer P x y (timers.T200 s t) is = subst (λ s'. P (timers.T200 s' t)) (sym is.0) (subst (λ t'. P (timers.T200 service t')) (sym is.1) x)
+  each-timer P x y (timers.T203 s t) is = subst (λ s'. P (timers.T203 s' t)) (sym is.0) (subst (λ t'. P (timers.T203 service t')) (sym is.1) y)
+  each-timer P x y timers.T201 is = absurd is
+
   -- where no turn is left
   pub record IsHushed (n : End) : Type 0 where
     pub given : given n.terms n.link ≡ None
@@ -144,51 +151,64 @@ module _ (service : Service) (tei : ℕ) where
         }
 
     -- a timer
-    module _ (timer : Timer) (its : LinkTimer) (aims : Aims service tei timer its) (fair : HasNoError (happens (expires w.near.line timer) w.near)) where
-      abbrev x : Course
-      x = course n.terms (link.expired its) n.link
+    pub up-expires : (timer : Timer) (its : LinkTimer) → Aims service tei timer its → CanRepeat its n → two_links_timely.IsTimely its n m
+        → Now (acting (times_out timer) w) (with_link (link.expired its) n) m
+    up-expires timer its aims can timely =
+        let firm = firm-expires n m h.firm its can timely in
+        go firm (timer-quiet n.terms n.link its h.firm.joined.near_up firm.joined.near_up) (timer-fair n.terms n.link h.firm.joined.near_up its).fair
+      where
+        go : Firm (with_link (link.expired its) n) m → let x = course n.terms (link.expired its) n.link in (HasError x.notes → ⊥)
+            → HasError x.notes ⊎ Fine n.terms x.link.state x.notes x.delivered x.unit → Now (acting (times_out timer) w) (with_link (link.expired its) n) m
+        go firm quiet (inl error) = absurd (quiet error)
+        go firm quiet (inr fine) =
+            let kept = (timer-goes n.terms n.link h.firm.joined.near_up its fine.up).same ∙ append-nil n.link.contents in
+            record {
+              near = held-expired service tei p past c w.near n h.near timer its aims (record { its_notes = fine.its_notes; no_unit = fine.no_unit }) kept;
+              far = h.far;
+              firm = firm;
+            }
 
-      no-error : HasError x.notes → ⊥
-      no-error error =
-          let s' = happens (expires w.near.line timer) w.near in
-          not-erred s' fair (now-erred w.near s' x (expired-told service tei p past c w.near n h.near timer its aims) error)
+    timed-8 : n.link.state ≡ TimerRecovery → n.link.running ≡ Some T200
+    timed-8 state = subst (λ here. IsTimedIn here n.link) state h.firm.near_sane.timed.timer
 
-      timed-8 : n.link.state ≡ TimerRecovery → n.link.running ≡ Some T200
-      timed-8 state = subst (λ here. IsTimedIn here n.link) state h.firm.near_sane.timed.timer
+    never : n.link.state ≡ TimerRecovery → is_running T203 n.link ≡ true → ⊥
+    never state running = true≢false (sym running ∙ ap (runs T203) (timed-8 state))
 
-      pub repeats-left : its ≡ T200 → n.link.state ≡ TimerRecovery → n.link.repeats < n.terms.n200
-      repeats-left is state = go (nat_lt n.link.repeats n.terms.n200) refl
-        where
-          go : (b : Bool) → nat_lt n.link.repeats n.terms.n200 ≡ b → n.link.repeats < n.terms.n200
-          go true e = ltb-true n.link.repeats n.terms.n200 e
-          go false e =
-              absurd (no-error (subst (λ i. HasError (course n.terms (link.expired i) n.link).notes) (sym is) (ran-out n.terms n.link state (ap (runs T200) (timed-8 state)) e)))
+    pub repeats-left : (timer : Timer) → Aims service tei timer T200 → HasNoError (happens (expires w.near.line timer) w.near) → n.link.state ≡ TimerRecovery
+        → n.link.repeats < n.terms.n200
+    repeats-left timer aims fair state = go (nat_lt n.link.repeats n.terms.n200) refl
+      where
+        no-error : HasError (course n.terms (link.expired T200) n.link).notes → ⊥
+        no-error error =
+            let s' = happens (expires w.near.line timer) w.near in
+            not-erred s' fair (now-erred w.near s' (course n.terms (link.expired T200) n.link) (expired-told service tei p past c w.near n h.near timer T200 aims) error)
 
-      can-repeat : (i : LinkTimer) → its ≡ i → CanRepeat its n
-      can-repeat T200 is = λ state running. repeats-left is state
-      can-repeat T203 is = λ state running. absurd (true≢false (sym running ∙ ap (λ i. is_running i n.link) is ∙ ap (runs T203) (timed-8 state)))
+        go : (b : Bool) → nat_lt n.link.repeats n.terms.n200 ≡ b → n.link.repeats < n.terms.n200
+        go true e = ltb-true n.link.repeats n.terms.n200 e
+        go false e = absurd (no-error (ran-out n.terms n.link state (ap (runs T200) (timed-8 state)) e))
 
-      pub up-expires : two_links_timely.IsTimely its n m → Now (acting (times_out timer) w) (with_link (link.expired its) n) m
-      up-expires timely = go (timer-fair n.terms n.link h.firm.joined.near_up its).fair
-        where
-          go : HasError x.notes ⊎ Fine n.terms x.link.state x.notes x.delivered x.unit → Now (acting (times_out timer) w) (with_link (link.expired its) n) m
-          go (inl error) = absurd (no-error error)
-          go (inr fine) =
-              let kept : x.link.contents ≡ n.link.contents = (timer-goes n.terms n.link h.firm.joined.near_up its fine.up).same ∙ append-nil n.link.contents in
-              record {
-                near = held-expired service tei p past c w.near n h.near timer its aims (record { its_notes = fine.its_notes; no_unit = fine.no_unit }) kept;
-                far = h.far;
-                firm = firm-expires n m h.firm its (can-repeat its refl) timely;
-              }
+    up-t200 : IsTimelyOf (times_out (timers.T200 service tei)) w → AreUp c d p q past other (acting (times_out (timers.T200 service tei)) w)
+    up-t200 (still, fair) =
+        let open_ = none-open n m (hushed c p past w.near n h.near still.near still.near_way) (hushed d q other w.far m h.far still.far still.far_way) in
+        let timer = timers.T200 service tei in
+        record {
+          n = with_link (link.expired T200) n;
+          m = m;
+          up = up-expires timer T200 (λ l. refl) (λ state running. repeats-left timer (λ l. refl) fair.0 state) (λ state running. open_);
+        }
+
+    up-t203 : AreUp c d p q past other (acting (times_out (timers.T203 service tei)) w)
+    up-t203 = record {
+      n = with_link (link.expired T203) n;
+      m = m;
+      up = up-expires (timers.T203 service tei) T203 (λ l. refl) (λ state running. absurd (never state running)) (λ state running. absurd (never state running));
+    }
 
     -- each act that is timely
     pub up-acts : (act : Act) → IsRoughTalkOf service tei act → IsTimelyOf act w → AreUp c d p q past other (acting act w)
     up-acts (requests r) is x = for-data service tei (λ r. AreUp c d p q past other (acting (requests r) w)) up-asks r is
     up-acts (times_out timer) is x =
-        for-timer service tei (λ timer. IsStill w → HasNoErrors (acting (times_out timer) w) → AreUp c d p q past other (acting (times_out timer) w))
-        (λ timer its aims still fair.
-        let open_ = none-open n m (hushed c p past w.near n h.near still.near still.near_way) (hushed d q other w.far m h.far still.far still.far_way) in
-        record { n = with_link (link.expired its) n; m = m; up = up-expires timer its aims fair.0 (λ state running. open_) }) timer is x.0 x.1
+        each-timer (λ timer. IsTimelyOf (times_out timer) w → AreUp c d p q past other (acting (times_out timer) w)) up-t200 (λ x. up-t203) timer is x
     up-acts gives is x = record { n = with_sent n; m = m; up = up-gives }
     up-acts takes is x = record { n = two_ends.with_first_of m.way n; m = two_ends.with_first_lost m; up = up-takes }
     up-acts loses is x = record { n = two_ends.with_first_lost n; m = m; up = up-loses }

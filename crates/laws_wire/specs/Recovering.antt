@@ -1,4 +1,4 @@
--- A call in which frames are lost, and timers expire only where no turn is left: both ends stay up, and what was lost arrives.
+-- A call in which frames are lost, and T200 expires only where no turn is left: both ends stay up, and what was lost arrives.
 use Rattle.std.specs.Prelude.{◌≡◌, ◌≢◌, ℕ, zero, suc, ◌+◌, ◌≤◌, List, [], ◌∷◌, length, All}
 use Rattle.lapd_frame.specs.declared.services.Service.{Service}
 use Rattle.lapd_frame.specs.declared.timers.Timer.TheVariants.{T200}
@@ -18,15 +18,17 @@ rounds (suc n) w = rounds n (doing_all round w)
 abbrev pub HasNoErrors : Wire → Type 0
 HasNoErrors w = HasNoError w.near × HasNoError w.far
 
--- A timer is long enough: it expires only where no turn is left, so where all frames that were given were taken, or lost. And
--- it was not repeated too often: no error is told as it expires.
+-- T200 is long enough: it expires only where no turn is left, so where all frames that were given were taken, or lost. And
+-- N200 is not used up: no error is told as it expires. T203 may expire at any time.
 abbrev pub IsTimelyOf : Act → Wire → Type 0
-IsTimelyOf (times_out timer) w = IsStill w × HasNoErrors (acting (times_out timer) w)
+IsTimelyOf (times_out (T200 service tei)) w = IsStill w × HasNoErrors (acting (times_out (T200 service tei)) w)
 IsTimelyOf other w = Unit {0}
 
--- And UA is not lost: frames of the end that was called are lost only where the other has heard that the link is established.
+-- And UA is not lost: before the other has heard that the link is established the end that was called loses no frame, and no
+-- timer expires there.
 abbrev pub IsSpared : Act → Wire → Type 0
 IsSpared loses w = heard_in w.near ≢ []
+IsSpared (times_out timer) w = heard_in w.near ≢ []
 IsSpared other w = Unit {0}
 
 abbrev pub IsTimely : Doing → Wire → Type 0

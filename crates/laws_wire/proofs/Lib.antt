@@ -24,6 +24,15 @@ pub mod LossyRinging
 pub mod LossyHalf
 pub mod LossyUp
 pub mod LossyRun
+pub mod Firm
+pub mod TimelyFirst
+pub mod TimelyUp
+pub mod TimelyPhases
+pub mod TimelyRinging
+pub mod TimelyAnswered
+pub mod TimelyRun
+pub mod TimelyArrives
 pub mod Again
 pub mod Delivering
 pub mod PremisesMet
+pub mod RecoveryMet

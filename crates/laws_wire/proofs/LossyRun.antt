@@ -102,7 +102,7 @@ module _ (service : Service) (tei : ℕ) (c d : Config) (p q : ℕ) (face : Face
   }
 
 -- from a station that was told nothing
-from-nothing : (k : Config) (service : Service) (tei place : ℕ) (s : Station) (n : End) → Holds k service tei place unheard s n → n.delivered ≡ [] → Held k service tei place [] s n
+pub from-nothing : (k : Config) (service : Service) (tei place : ℕ) (s : Station) (n : End) → Holds k service tei place unheard s n → n.delivered ≡ [] → Held k service tei place [] s n
 from-nothing k service tei place s n h none = record {
   stands = h.stands;
   granted = h.granted;

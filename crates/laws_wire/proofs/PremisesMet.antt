@@ -24,13 +24,13 @@ use Rattle.laws_wire.specs.WorkedLosing.{loses_two}
 use Rattle.laws_wire.proofs.Delivering.{calls-face}
 use Rattle.laws_wire.proofs.LossyRun.{calls-are-told_in_order}
 
-can : CanCall user 0 network 0 0
+pub can : CanCall user 0 network 0 0
 can = record { near = refl; far = refl; sides = refl; n201 = refl; near_line = omega arith; far_line = omega arith; terminal = omega arith }
 
-octet : (x : ℕ) (xs : List ℕ) → x < 256 → AreOctets xs → AreOctets (x ∷ xs)
+pub octet : (x : ℕ) (xs : List ℕ) → x < 256 → AreOctets xs → AreOctets (x ∷ xs)
 octet x xs small rest = All-cons (λ octet. octet < 256) x xs small rest
 
-none : AreOctets []
+pub none : AreOctets []
 none = All-nil (λ octet. octet < 256)
 
 abbrev AreTalks : List Doing → Type 0
@@ -57,11 +57,11 @@ pub face : Face Call 0 (doing_all talks begins)
 face = calls-face Call user network 0 0 0 talks can talk still
 
 -- a call that loses two frames, and in which no error is told
-abbrev AreRough : List Doing → Type 0
+abbrev pub AreRough : List Doing → Type 0
 AreRough [] = Unit {0}
 AreRough (k ∷ ds) = IsRoughTalk Call 0 k × AreRough ds
 
-all-rough : (ds : List Doing) → AreRough ds → All (IsRoughTalk Call 0) ds
+pub all-rough : (ds : List Doing) → AreRough ds → All (IsRoughTalk Call 0) ds
 all-rough [] h = All-nil (IsRoughTalk Call 0)
 all-rough (k ∷ ds) h = All-cons (IsRoughTalk Call 0) k ds h.0 (all-rough ds h.1)
 

@@ -1,6 +1,7 @@
 -- A link that awaits its establishment, as often as SABME was repeated and whatever waits; and what comes of it.
 use Rattle.std.proofs.Common.{◌≡◌, ℕ, ◌+◌, Bool, true, false, cond, List, [], ◌∷◌, ◌++◌, length, drop, None, Some, refl, sym, ap, subst, ◌∙◌, ◌⊎◌, inl, inr, append-nil, append_assoc}
 use Rattle.std.specs.Prelude.{All, nat_lt}
+use Rattle.std.specs.List.{list_any}
 use Rattle.std.proofs.lemmas.List.Elements.{All-nil, All-cons, All-tail, All-append}
 use Rattle.lapd_frame.specs.declared.controls.Control.{Control}
 use Rattle.lapd_frame.specs.declared.controls.Control.TheVariants.{Information, ReceiveReady, ReceiveNotReady, Reject, Sabme, Disc, Ui, Ua, Dm, Frmr, Xid}
@@ -19,6 +20,7 @@ use Rattle.model_link.specs.Words
 use Rattle.model_link.specs.Words.{command, response}
 use Rattle.model_link.proofs.Direction.{frames_of, frames-append}
 use Rattle.model_link.proofs.Lines.{Means}
+use Rattle.laws_wire.specs.Losing.{is_error}
 use Rattle.laws_wire.proofs.Calling.{sabme, ua, end}
 use Rattle.laws_wire.proofs.Fair.{HasError}
 
@@ -109,6 +111,18 @@ module _ (t : Terms) (k : ℕ) (ws : List ControlFrame) where
   -- UA ends it
   pub ua-ends : (u : Terms) → after t (received (frame (ua u))) l ≡ answered k ws
   ua-ends u = refl
+
+-- where nothing waits, and there is room, SABME waits again
+module _ (t : Terms) (k : ℕ) (room : nat_lt 0 t.control ≡ true) where
+  abbrev pub repeated : Course
+  repeated = record (begun (ringing (k + 1) (its_sabme ∷ []))) { started = Some T200 }
+
+  pub t200-repeats : HasError (course t (expired T200) (ringing k [])).notes ⊎ (course t (expired T200) (ringing k []) ≡ repeated)
+  t200-repeats = go (nat_lt k t.n200) refl
+    where
+      go : (b : Bool) → nat_lt k t.n200 ≡ b → HasError (course t (expired T200) (ringing k [])).notes ⊎ (course t (expired T200) (ringing k []) ≡ repeated)
+      go true e = inr (ap (λ b. cond b (again t k [] (nat_lt 0 t.control)) (given_up t k [])) e ∙ ap (again t k []) room)
+      go false e = inl (ap (λ b. list_any is_error (cond b (again t k [] (nat_lt 0 t.control)) (given_up t k [])).notes) e)
 
 -- what waits goes to the way
 pub record RingsOn (t : Terms) (k : ℕ) (ws : List ControlFrame) (way : List Parts) : Type 0 where

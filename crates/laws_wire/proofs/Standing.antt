@@ -205,6 +205,11 @@ module _ (service : Service) (tei place : ℕ) (s : Station) (n : End) (h : Stan
       go None e = refl
       go (Some g) e = absurd (cc)
 
+  pub gives-none : links.given n.terms n.link ≡ None → said m (goes s.line) ≡ gives None
+  gives-none e =
+      said-goes
+      ∙ ap (λ o. gives (option_map next_of (option_map (with_given_frame c l (link_number place service) t) o))) (subst (λ u. links.given u n.link ≡ None) h.terms e)
+
   pub gives-frames : frames_by (said m (goes s.line)) ≡ map (spelling c.side) (frame_given n.terms (links.given n.terms n.link))
   gives-frames =
       ap frames_by said-goes ∙ frames-are (links.given t n.link)

@@ -2,6 +2,8 @@
 pub mod Wire
 pub mod Call
 pub mod Losing
+pub mod Recovering
 pub mod Facing
 pub mod Worked
 pub mod WorkedLosing
+pub mod WorkedRecovering

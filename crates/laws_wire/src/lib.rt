@@ -2,16 +2,17 @@
 //! gives the other takes. There is nothing to call: each law is the contract of a function that does nothing.
 //!
 //! `specs/` has the wire and what can happen at its ends (`Wire`), a call between two cards that have just begun, in the
-//! words of the calls of a card alone (`Call`), the same where frames are lost and timers expire (`Losing`), two cards that
-//! face each other by links in state 7 (`Facing`), and worked values that compute (`Worked`, `WorkedLosing`). What a card
-//! does at a happening is the machine of `model_card`, to the octet; the laws of two links are those of `laws_two_links`.
+//! words of the calls of a card alone (`Call`), the same where frames are lost and timers expire (`Losing`) and where T200 is
+//! long enough (`Recovering`), two cards that face each other by links in state 7 (`Facing`), and worked values that compute
+//! (`Worked`, `WorkedLosing`, `WorkedRecovering`). What a card does at a happening is the machine of `model_card`, to the
+//! octet; the laws of two links are those of `laws_two_links`.
 //!
 //! # Open
 //!
-//! That what is lost between two cards arrives in the end, and that no error is told where T200 is timely, as
-//! `laws_two_links` has both of two links; what is told after an error; the octets that one card's pulls give, taken one by one by the other.
+//! What is told after an error, so also where a UA was lost; a T200 that expires while frames are on their way; the octets
+//! that one card's pulls give, taken one by one by the other.
 #![tactic(auto)]
 
 mod laws;
 
-pub use laws::{a_call_comes_through, cards_deliver, told_in_order};
+pub use laws::{a_call_comes_through, cards_deliver, told_in_order, what_is_lost_arrives};

@@ -1,0 +1,274 @@
+-- Two ends that are up, and whose T200 is timely: they stay so, and no frame that one takes makes it tell an error.
+use Rattle.std.proofs.Common.{◌≡◌, ℕ, ◌≤◌, Bool, true, false, cond, not, ◌&&◌, IsTrue, List, [], ◌∷◌, ◌++◌, refl, sym, ap, subst, ◌∙◌, ◌⊎◌, inl, inr, true≢false}
+use Rattle.std.specs.List.{list_any}
+use Rattle.lapd_seq.specs.declared.numbers.Seq.{Seq}
+use Rattle.lapd_frame.specs.declared.controls.Control.{Control}
+use Rattle.lapd_frame.specs.declared.controls.Control.TheVariants.{Information, ReceiveReady, ReceiveNotReady, Reject, Sabme, Disc, Ui, Ua, Dm, Frmr, Xid}
+use Rattle.lapd_frame.specs.declared.notes.Note.{Note}
+use Rattle.lapd_frame.specs.declared.notes.Note.TheVariants as notes
+use Rattle.lapd_frame.specs.Grammar.{Parts}
+use Rattle.model_link.specs.declared.states.State.{State}
+use Rattle.model_link.specs.declared.states.State.TheVariants.{TeiAssigned, AwaitingEstablishment, AwaitingRelease, Established, TimerRecovery}
+use Rattle.model_link.specs.declared.timers.LinkTimer.{LinkTimer}
+use Rattle.model_link.specs.declared.terms.Terms.{Terms}
+use Rattle.model_link.specs.Link.{Link, is_multiple_frame}
+use Rattle.model_link.specs.Events.{Event, frame, overlong, received, expired, requested, offer, Data}
+use Rattle.model_link.specs.Machine.{course, after}
+use Rattle.model_link.specs.TwoEnds.{End, Ends, Act, asks, expires, sends, receives, loses, at_near, with_link, with_sent, with_first_of, with_first_lost, acting, IsUp}
+use Rattle.model_link.proofs.Direction.{frames_of}
+use Rattle.model_link.proofs.Joined.{Joined, joined-turned, done-at}
+use Rattle.model_link.proofs.Lines.{Rising}
+use Rattle.model_link.proofs.Taking.{frame-taken}
+use Rattle.laws_link.specs.Flags.{busy_asked, flag_left, takes_contents}
+use Rattle.laws_link.specs.States.{as_heard, is_overlong, state_after}
+use Rattle.laws_link.specs.Telling.{numbered_as, final_as, told_up, told_by_frame, told_expired, told_by}
+use Rattle.laws_link.proofs.Follows.{event-follows}
+use Rattle.laws_two_links.specs.Ahead.{IsAhead, CanRepeat, IsMildAct}
+use Rattle.laws_two_links.specs.Timely.{IsTimely, IsTimelyAct}
+use Rattle.laws_two_links.proofs.Effects.{is_recovering}
+use Rattle.laws_two_links.proofs.Flow.{Flow, flow-low}
+use Rattle.laws_two_links.proofs.Flowing.{no-answer}
+use Rattle.laws_two_links.proofs.Meeting.{line, NoAlien, is-no-alien}
+use Rattle.laws_two_links.proofs.Reached.{Sane, sane-doing}
+use Rattle.laws_two_links.proofs.StayingUp.{Flows, acted-flows}
+use Rattle.laws_two_links.proofs.Together.{done-up, same-after}
+use Rattle.laws_two_links.proofs.Trains.{Kind, numbered, enquiry, answer, report, rejection, alien, kind_of, kind_of_ready, kind_of_reject}
+use Rattle.laws_wire.specs.Losing.{is_error}
+use Rattle.laws_wire.proofs.Fair.{HasError, Fine, frame-fair}
+
+-- ---- what is told of a frame
+
+abbrev IsQuiet : Bool → Kind → Type 0
+IsQuiet b (numbered ns) = Unit {0}
+IsQuiet b enquiry = Unit {0}
+IsQuiet b (answer nr) = b ≡ true
+IsQuiet b report = Unit {0}
+IsQuiet b (rejection nr) = Unit {0}
+IsQuiet b alien = ⊥
+
+ready-final : (b command pf : Bool) (nr : Seq) → IsQuiet b (kind_of_ready command pf nr) → (not command && pf) ≡ true → b ≡ true
+ready-final b true pf nr h e = absurd (true≢false (sym e))
+ready-final b false true nr h e = h
+ready-final b false false nr h e = absurd (true≢false (sym e))
+
+reject-final : (b command pf : Bool) (nr : Seq) → IsQuiet b (kind_of_reject command pf nr) → (not command && pf) ≡ true → b ≡ true
+reject-final b true pf nr h e = absurd h
+reject-final b false true nr h e = absurd h
+reject-final b false false nr h e = absurd (true≢false (sym e))
+
+module _ (t : Terms) where
+  numbered-none : (to : State) → IsTrue (is_multiple_frame to) → numbered_as t to ≡ []
+  numbered-none TeiAssigned up = absurd (true≢false (sym up))
+  numbered-none AwaitingEstablishment up = absurd (true≢false (sym up))
+  numbered-none AwaitingRelease up = absurd (true≢false (sym up))
+  numbered-none Established up = refl
+  numbered-none TimerRecovery up = refl
+
+  final-none : (b final : Bool) → (final ≡ true → b ≡ true) → final_as t b final ≡ []
+  final-none true final h = refl
+  final-none false false h = refl
+  final-none false true h = absurd (true≢false (sym (h refl)))
+
+  data-alone : (b : Bool) → list_any is_error (cond {A = List Note} b (notes.Data t.service t.tei ∷ []) [] ++ []) ≡ false
+  data-alone true = refl
+  data-alone false = refl
+
+  module _ (b command : Bool) (octets : List ℕ) (taken : Bool) (l : Link) (to : State) (up : IsTrue (is_multiple_frame to)) where
+    final-quiet : (final : Bool) → (final ≡ true → b ≡ true) → list_any is_error (final_as t b final ++ numbered_as t to) ≡ false
+    final-quiet final h =
+        ap (λ ns. list_any is_error (final_as t b final ++ ns)) (numbered-none to up) ∙ ap (λ ns. list_any is_error (ns ++ [])) (final-none b final h)
+
+    up-quiet : (control : Control) → IsQuiet b (kind_of command control) → list_any is_error (told_up b t command octets control taken l to) ≡ false
+    up-quiet (Information ns nr p) h = ap (λ more. list_any is_error (cond {A = List Note} taken (notes.Data t.service t.tei ∷ []) [] ++ more)) (numbered-none to up) ∙ data-alone taken
+    up-quiet (ReceiveReady nr pf) h = final-quiet (not command && pf) (ready-final b command pf nr h)
+    up-quiet (ReceiveNotReady nr pf) h = final-quiet (not command && pf) (ready-final b command pf nr h)
+    up-quiet (Reject nr pf) h = final-quiet (not command && pf) (reject-final b command pf nr h)
+    up-quiet (Sabme p) h = absurd h
+    up-quiet (Disc p) h = absurd h
+    up-quiet (Ui p) h = absurd h
+    up-quiet (Ua f) h = absurd h
+    up-quiet (Dm f) h = absurd h
+    up-quiet (Frmr f) h = absurd h
+    up-quiet (Xid pf) h = absurd h
+
+  frame-quiet : (here : State) → IsTrue (is_multiple_frame here) → (command : Bool) (octets : List ℕ) (control : Control) (taken : Bool) (l : Link) (to : State)
+      → IsTrue (is_multiple_frame to) → IsQuiet (is_recovering here) (kind_of command control) → list_any is_error (told_by_frame here t command octets control taken l to) ≡ false
+  frame-quiet TeiAssigned is command octets control taken l to up h = absurd (true≢false (sym is))
+  frame-quiet AwaitingEstablishment is command octets control taken l to up h = absurd (true≢false (sym is))
+  frame-quiet AwaitingRelease is command octets control taken l to up h = absurd (true≢false (sym is))
+  frame-quiet Established is command octets control taken l to up h = up-quiet false command octets taken l to up control h
+  frame-quiet TimerRecovery is command octets control taken l to up h = up-quiet true command octets taken l to up control h
+
+  -- an I-frame over N201 would lead the link out
+  no-error : (l : Link) (f : Parts) → IsTrue (is_multiple_frame l.state) → IsTrue (is_multiple_frame (after t (received (frame f)) l).state)
+      → IsQuiet (is_recovering l.state) (kind_of f.address.command f.control) → list_any is_error (course t (received (frame f)) l).notes ≡ false
+  no-error l f is up h = go (is_overlong t f.control f.info) (event-follows t (received (frame f)) l).leaves.state (event-follows t (received (frame f)) l).leaves.tells
+    where
+      to : State
+      to = (after t (received (frame f)) l).state
+
+      heard : Bool → Event
+      heard b = received (cond b overlong (frame f))
+
+      go : (b : Bool) → to ≡ state_after t (heard b) l → (course t (received (frame f)) l).notes ≡ told_by t (heard b) l to → list_any is_error (course t (received (frame f)) l).notes ≡ false
+      go true leads tells =
+          let out : to ≡ AwaitingEstablishment = leads ∙ ap (λ b. cond (b && true) AwaitingEstablishment l.state) is in
+          absurd (true≢false (sym (subst (λ s. IsTrue (is_multiple_frame s)) out up)))
+      go false leads tells = ap (list_any is_error) tells ∙ frame-quiet l.state is f.address.command f.info f.control (takes_contents (heard false) l) l to up h
+
+  -- nor does a timer tell one, where the link stays up
+  expired-quiet : (here to : State) → IsTrue (is_multiple_frame here) → IsTrue (is_multiple_frame to) → list_any is_error (told_expired here t to) ≡ false
+  expired-quiet TeiAssigned to is up = absurd (true≢false (sym is))
+  expired-quiet AwaitingEstablishment to is up = absurd (true≢false (sym is))
+  expired-quiet AwaitingRelease to is up = absurd (true≢false (sym is))
+  expired-quiet Established to is up = refl
+  expired-quiet TimerRecovery TeiAssigned is up = refl
+  expired-quiet TimerRecovery AwaitingEstablishment is up = absurd (true≢false (sym up))
+  expired-quiet TimerRecovery AwaitingRelease is up = refl
+  expired-quiet TimerRecovery Established is up = refl
+  expired-quiet TimerRecovery TimerRecovery is up = refl
+
+  pub timer-quiet : (l : Link) (timer : LinkTimer) → IsTrue (is_multiple_frame l.state) → IsTrue (is_multiple_frame (after t (expired timer) l).state)
+      → HasError (course t (expired timer) l).notes → ⊥
+  timer-quiet l timer is up error =
+      let tells = (event-follows t (expired timer) l).leaves.tells in
+      true≢false (sym error ∙ ap (list_any is_error) tells ∙ expired-quiet l.state (after t (expired timer) l).state is up)
+
+-- ---- own busy stays off
+
+off : (b c x : Bool) → x ≡ false → cond b false (cond c x false) ≡ false
+off true c x e = refl
+off false true x e = e
+off false false x e = refl
+
+free : (t : Terms) (e : Event) (l : Link) → busy_asked (as_heard t e) false ≡ false → l.own_busy ≡ false → (after t e l).own_busy ≡ false
+free t e l asked is =
+    let to = (after t e l).state in
+    (event-follows t e l).leaves.own_busy ∙ ap (λ b. flag_left (as_heard t e) l to (busy_asked (as_heard t e) b) b) is ∙ off _ (is_multiple_frame l.state) (busy_asked (as_heard t e) false) asked
+
+-- ---- two ends
+
+pub record Firm (n m : End) : Type 0 where
+  pub joined : Joined n m
+  pub same : n.terms.n201 ≡ m.terms.n201
+  pub there : Flows n m
+  pub back : Flows m n
+  pub near_sane : Sane n.link
+  pub far_sane : Sane m.link
+  pub near_free : n.link.own_busy ≡ false
+  pub far_free : m.link.own_busy ≡ false
+
+pub firm-turned : (n m : End) → Firm n m → Firm m n
+firm-turned n m h = record {
+  joined = joined-turned n m h.joined;
+  same = sym h.same;
+  there = h.back;
+  back = h.there;
+  near_sane = h.far_sane;
+  far_sane = h.near_sane;
+  near_free = h.far_free;
+  far_free = h.near_free;
+}
+
+pub not-behind : (n m : End) → Flows n m → m.link.r ≤ n.link.s
+not-behind n m h = flow-low n.link.s m.link.r (is_recovering n.link.state) m.link.rejecting (line n.terms n.way n.link.waiting) (line m.terms m.way m.link.waiting) h
+
+mild : (act : Act) (n m : End) → IsTimelyAct act n m → IsMildAct act n
+mild (asks request full) n m x = x
+mild (expires timer) n m x = x.0
+mild sends n m x = tt
+mild receives n m x = tt
+mild loses n m x = tt
+
+module _ (n m : End) (h : Firm n m) where
+  abbrev e : Ends
+  e = record { near = n; far = m }
+
+  far-same : (act : Act) → (acting act e).far.link.own_busy ≡ m.link.own_busy
+  far-same (asks request full) = refl
+  far-same (expires timer) = refl
+  far-same sends = refl
+  far-same receives = refl
+  far-same loses = refl
+
+  firm-after : (act : Act) → IsTimelyAct act n m → (acting act e).near.link.own_busy ≡ false → Firm (acting act e).near (acting act e).far
+  firm-after act x own =
+      let ahead : IsAhead e = (not-behind n m h.there, not-behind m n h.back) in
+      let up : IsUp (acting act e) = done-up (at_near act) e h.joined h.same ahead (mild act n m x) in
+      let flows = acted-flows n m h.joined h.there h.back act x up in
+      let sane = sane-doing (at_near act) e (h.near_sane, h.far_sane) in
+      record {
+        joined = done-at (at_near act) e up h.joined;
+        same = same-after (at_near act) e h.same;
+        there = flows.0;
+        back = flows.1;
+        near_sane = sane.0;
+        far_sane = sane.1;
+        near_free = own;
+        far_free = far-same act ∙ h.far_free;
+      }
+
+  pub firm-sends : Firm (with_sent n) m
+  firm-sends = firm-after sends tt (free n.terms offer n.link refl h.near_free)
+
+  pub firm-loses : Firm (with_first_lost n) m
+  firm-loses = firm-after loses tt h.near_free
+
+  pub firm-asks : (octets : List ℕ) → Firm (with_link (requested (Data octets) false) n) m
+  firm-asks octets = firm-after (asks (Data octets) false) tt (free n.terms (requested (Data octets) false) n.link refl h.near_free)
+
+  pub firm-expires : (timer : LinkTimer) → CanRepeat timer n → IsTimely timer n m → Firm (with_link (expired timer) n) m
+  firm-expires timer can timely = firm-after (expires timer) (can, timely) (free n.terms (expired timer) n.link refl h.near_free)
+
+  pub firm-takes : Firm (with_first_of m.way n) (with_first_lost m)
+  firm-takes = firm-after receives tt (own m.way)
+    where
+      own : (way : List Parts) → (with_first_of way n).link.own_busy ≡ false
+      own [] = h.near_free
+      own (f ∷ fs) = free n.terms (received (frame f)) n.link refl h.near_free
+
+  -- what it takes leaves its contents, and is told as it is delivered
+  module _ (f : Parts) (fs : List Parts) (first : m.way ≡ f ∷ fs) where
+    abbrev rest : List Kind
+    rest = line m.terms fs m.link.waiting
+
+    abbrev own_line : List Kind
+    own_line = line n.terms n.way n.link.waiting
+
+    abbrev x : Kind
+    x = kind_of f.address.command f.control
+
+    quiet-kind : (x : Kind) (b : Bool) → NoAlien x → Flow n.link.s m.link.r b m.link.rejecting own_line (x ∷ rest) → IsQuiet b x
+    quiet-kind (numbered ns) b known flow = tt
+    quiet-kind enquiry b known flow = tt
+    quiet-kind (answer nr) true known flow = refl
+    quiet-kind (answer nr) false known flow = absurd (no-answer n.link.s m.link.r m.link.rejecting nr own_line rest flow)
+    quiet-kind report b known flow = tt
+    quiet-kind (rejection nr) b known flow = tt
+    quiet-kind alien b known flow = absurd known
+
+    quiet : IsQuiet (is_recovering n.link.state) x
+    quiet =
+        let there : Flow n.link.s m.link.r (is_recovering n.link.state) m.link.rejecting own_line (x ∷ rest) =
+        subst (λ way. Flow n.link.s m.link.r (is_recovering n.link.state) m.link.rejecting own_line (line m.terms way m.link.waiting)) first h.there in
+        let back : Flow m.link.s n.link.r (is_recovering m.link.state) n.link.rejecting (x ∷ rest) own_line =
+        subst (λ way. Flow m.link.s n.link.r (is_recovering m.link.state) n.link.rejecting (line m.terms way m.link.waiting) own_line) first h.back in
+        quiet-kind x (is_recovering n.link.state) (is-no-alien m.link.s n.link.r (is_recovering m.link.state) n.link.rejecting x rest own_line back) there
+
+    up : IsTrue (is_multiple_frame (after n.terms (received (frame f)) n.link).state)
+    up = subst (λ way. IsTrue (is_multiple_frame (with_first_of way n).link.state)) first firm-takes.joined.near_up
+
+    rising : Rising n.link.a m.link.r (f ∷ fs ++ frames_of m.terms m.link.waiting)
+    rising = subst (λ way. Rising n.link.a m.link.r (way ++ frames_of m.terms m.link.waiting)) first h.joined.there.rising
+
+    pub takes-fine : let c = course n.terms (received (frame f)) n.link in Fine n.terms c.link.state c.notes c.delivered c.unit
+    takes-fine =
+        let c = course n.terms (received (frame f)) n.link in
+        go (frame-fair n.terms n.link h.joined.near_up f rising.0 rising.2).fair
+      where
+        go : let c = course n.terms (received (frame f)) n.link in HasError c.notes ⊎ Fine n.terms c.link.state c.notes c.delivered c.unit → Fine n.terms c.link.state c.notes c.delivered c.unit
+        go (inl error) = absurd (true≢false (sym error ∙ no-error n.terms n.link f h.joined.near_up up quiet))
+        go (inr fine) = fine
+
+    pub takes-kept : (with_link (received (frame f)) n).link.contents ≡ n.link.contents
+    takes-kept = ((frame-taken n.terms n.link h.joined.near_up f.address.command f.info rising.0 f.control rising.2).took.by.stay up).2.same

@@ -1,0 +1,202 @@
+-- The next phases of such a call: the other end is up, and its UA waits, or is on its way before all else.
+use Rattle.std.proofs.Common.{◌≡◌, ℕ, ◌+◌, false, List, [], ◌∷◌, ◌++◌, None, refl, sym, ap, subst, ◌∙◌, ◌⊎◌, inl, inr, append-nil}
+use Rattle.lapd_frame.specs.declared.services.Service.{Service}
+use Rattle.lapd_frame.specs.declared.timers.Timer.TheVariants as timers
+use Rattle.lapd_frame.specs.Grammar.{AreOctets, spelling}
+use Rattle.model_link.specs.declared.terms.Terms.{Terms}
+use Rattle.model_link.specs.Events as link
+use Rattle.model_link.specs.Machine.{course, given}
+use Rattle.model_link.specs.Requests.{refusal}
+use Rattle.model_link.specs.Sound.{IsInRange}
+use Rattle.model_link.specs.TwoEnds.{End, with_sent}
+use Rattle.model_link.proofs.Sending.{offer-gave}
+use Rattle.model_line.specs.declared.config.Config.{Config}
+use Rattle.model_line.specs.Event.{LineTold}
+use Rattle.model_line.specs.Line.{terms}
+use Rattle.model_line.specs.Request.{Data}
+use Rattle.model_card.specs.Happening.{comes, goes, expires, asks}
+use Rattle.laws_wire.specs.Wire.{Station, Wire, happens, with_first_of, Act, requests, times_out, gives, takes, loses, acting, turned, IsStill}
+use Rattle.laws_wire.specs.Call.{confirmed, indicated}
+use Rattle.laws_wire.specs.Losing.{IsRoughTalkOf}
+use Rattle.laws_wire.specs.Recovering.{IsTimelyOf, IsSpared}
+use Rattle.laws_wire.proofs.Asking.{with_more, asked-form}
+use Rattle.laws_wire.proofs.Calling.{ua, end, with_ua_waiting, with_ua_first}
+use Rattle.laws_wire.proofs.Firm.{Firm, firm-turned, firm-sends, firm-asks}
+use Rattle.laws_wire.proofs.Held.{Held, held-given, held-lost, held-first, taken-told, taken-stands, Grants, held-asked}
+use Rattle.laws_wire.proofs.LossyPhases.{made, for-data, first-way, empty}
+use Rattle.laws_wire.proofs.Ringing.{ringing, answered}
+use Rattle.laws_wire.proofs.Talking.{Face}
+use Rattle.laws_wire.proofs.TimelyFirst.{takes-none, loses-none, gives-nothing, asks-refused}
+use Rattle.laws_wire.proofs.TimelyUp.{each-timer, hushed, BothUp, AreUp}
+use Rattle.laws_wire.proofs.TimelyPhases as phases
+use Rattle.laws_wire.proofs.TimelyPhases.{silent-t203}
+
+sends-ua : (n : End) → n.link.waiting ≡ [] → n.way ≡ [] → with_sent (with_ua_waiting n) ≡ with_ua_first n
+sends-ua n waiting none =
+    (λ i. record n { link = record n.link { waiting = sym waiting i }; way = n.way ++ ua n.terms ∷ [] })
+    ∙ (λ i. record n { way = none i ++ ua n.terms ∷ [] }) ∙ (λ i. record n { way = ua n.terms ∷ sym none i })
+
+module _ (service : Service) (tei : ℕ) (c d : Config) (p q : ℕ) (face : Face c d) (back : Face d c) (rt : IsInRange (terms c service tei)) (ru : IsInRange (terms d service tei)) where
+  abbrev t : Terms
+  t = terms c service tei
+
+  abbrev u : Terms
+  u = terms d service tei
+
+  abbrev first_near : List LineTold
+  first_near = confirmed service tei ∷ []
+
+  abbrev first_far : List LineTold
+  first_far = indicated service tei ∷ []
+
+  abbrev UaWaits : End → Wire → Type 0
+  UaWaits m w = phases.UaWaits service tei c d p q m w
+
+  abbrev UaGoes : End → Wire → Type 0
+  UaGoes m w = phases.UaGoes service tei c d p q m w
+
+  abbrev Goes : Wire → Type 0
+  Goes w = phases.Goes service tei c d p q w
+
+  as-waits : {w : Wire} (m : End) → UaWaits m w → Goes w
+  as-waits m h = inr (inr (inr (inl (record { m = m; is = h }))))
+
+  as-comes : {w : Wire} (m : End) → UaGoes m w → Goes w
+  as-comes m h = inr (inr (inr (inr (inl (record { m = m; is = h })))))
+
+  as-up : {w : Wire} → AreUp service tei c d p q first_near first_far w → Goes w
+  as-up h = inr (inr (inr (inr (inr h))))
+
+  -- it is asked to send more
+  module _ (k : ℕ) (m : End) (its : End → End) (form : (octets : List ℕ) → with_more octets (its m) ≡ its (with_more octets m))
+      (same : (octets : List ℕ) → refusal m.terms m.link false (link.Data octets) ≡ refusal (its m).terms (its m).link false (link.Data octets))
+      (w : Wire) (held : Held d service tei q first_far w.far (its m)) (firm : Firm (end t (answered k []) []) m) (octets : List ℕ) (are : AreOctets octets) where
+    record More (s' : Station) : Type 0 where
+      held' : Held d service tei q first_far s' (its (with_more octets m))
+      firm' : Firm (end t (answered k []) []) (with_more octets m)
+
+    asks-more : (happens (asks w.far.line (Data service tei octets)) w.far ≡ w.far) ⊎ More (happens (asks w.far.line (Data service tei octets)) w.far)
+    asks-more = go (held-asked service tei q first_far d w.far (its m) held octets are)
+      where
+        s' : Station
+        s' = happens (asks w.far.line (Data service tei octets)) w.far
+
+        go : (s' ≡ w.far) ⊎ Grants service tei q first_far d w.far (its m) held octets s' → (s' ≡ w.far) ⊎ More s'
+        go (inl e) = inl e
+        go (inr x) =
+            let near = end t (answered k []) [] in
+            inr (record {
+              held' = subst (Held d service tei q first_far s') (form octets) x.held;
+              firm' = firm-turned (with_more octets m) near (subst (λ y. Firm y near) (asked-form octets m (same octets ∙ x.none)) (firm-asks m near (firm-turned near m firm) octets));
+            })
+
+  module _ (w : Wire) (m : End) (h : UaWaits m w) where
+    abbrev waits_end : End
+    waits_end = end t (ringing h.repeats []) []
+
+    still-waits : (s : Station) → Held c service tei p [] s waits_end → UaWaits m (record w { near = s })
+    still-waits s x = record { repeats = h.repeats; waiting = h.waiting; way = h.way; near = x; far = h.far; firm = h.firm }
+
+    pub waits-still : IsStill w → ⊥
+    waits-still still = let no : given m.terms (with_ua_waiting m).link ≡ None = (hushed service tei d q first_far w.far (with_ua_waiting m) h.far still.far still.far_way).given in cc no
+
+    pub waits-near : (act : Act) → IsRoughTalkOf service tei act → IsTimelyOf act w → Goes (acting act w)
+    waits-near (requests r) is x =
+        for-data service tei (λ r. Goes (acting (requests r) w))
+        (λ octets are. as-waits m (subst (λ s. UaWaits m (record w { near = s })) (sym (asks-refused service tei c p [] w.near waits_end h.near (λ octets none. cc none) octets are)) h)) r is
+    waits-near (times_out timer) is x =
+        each-timer service tei (λ timer. IsTimelyOf (times_out timer) w → Goes (acting (times_out timer) w)) (λ x. absurd (waits-still x.0))
+        (λ x. as-waits m (still-waits (happens (expires w.near.line (timers.T203 service tei)) w.near) (silent-t203 service tei c d p q h.repeats [] [] w.near h.near))) timer is x
+    waits-near gives is x = as-waits m (still-waits (happens (goes w.near.line) w.near) (gives-nothing service tei c p [] w.near waits_end h.near refl))
+    waits-near takes is x = as-waits m (subst (UaWaits m) (sym (takes-none w (empty service tei d q first_far w.far (with_ua_waiting m) h.far h.way))) h)
+    waits-near loses is x = as-waits m (subst (UaWaits m) (sym (loses-none w (empty service tei c p [] w.near waits_end h.near refl))) h)
+
+    pub gives-ua : UaGoes m (turned (acting gives (turned w)))
+    gives-ua =
+        let form = sends-ua m h.waiting h.way in
+        let s' = happens (goes w.far.line) w.far in
+        record {
+          repeats = h.repeats;
+          near = h.near;
+          far = subst (Held d service tei q first_far s') form (held-given service tei q first_far d w.far (with_ua_waiting m) h.far (ap (λ (x : End). x.link.contents) form));
+          firm = h.firm;
+        }
+
+    waits-asks : (octets : List ℕ) → AreOctets octets → Goes (made w (happens (asks w.far.line (Data service tei octets)) w.far))
+    waits-asks octets are = go (asks-more h.repeats m with_ua_waiting (λ octets. refl) (λ octets. refl) w h.far h.firm octets are)
+      where
+        s' : Station
+        s' = happens (asks w.far.line (Data service tei octets)) w.far
+
+        go : (s' ≡ w.far) ⊎ More h.repeats m with_ua_waiting (λ octets. refl) (λ octets. refl) w h.far h.firm octets are s' → Goes (made w s')
+        go (inl e) = as-waits m (subst (λ s. UaWaits m (made w s)) (sym e) h)
+        go (inr x) = as-waits (with_more octets m) (record { repeats = h.repeats; waiting = h.waiting; way = h.way; near = h.near; far = x.held'; firm = x.firm' })
+
+    pub waits-far : (act : Act) → IsRoughTalkOf service tei act → IsSpared act w → Goes (turned (acting act (turned w)))
+    waits-far (requests r) is y = for-data service tei (λ r. Goes (turned (acting (requests r) (turned w)))) waits-asks r is
+    waits-far (times_out timer) is y = absurd (y h.near.heard)
+    waits-far gives is y = as-comes m gives-ua
+    waits-far takes is y = as-waits m (subst (λ w'. UaWaits m (turned w')) (sym (takes-none (turned w) (empty service tei c p [] w.near waits_end h.near refl))) h)
+    waits-far loses is y = absurd (y h.near.heard)
+
+  module _ (w : Wire) (m : End) (h : UaGoes m w) where
+    abbrev comes_end : End
+    comes_end = end t (ringing h.repeats []) []
+
+    pub comes-still : IsStill w → ⊥
+    comes-still still = let no : ua m.terms ∷ m.way ≡ [] = (hushed service tei d q first_far w.far (with_ua_first m) h.far still.far still.far_way).way in cc no
+
+    pub confirms : BothUp service tei c d p q first_near first_far (acting takes w) (end t (answered h.repeats []) []) m
+    confirms =
+        let f = ua m.terms in
+        let way = first-way service tei d q first_far w.far (with_ua_first m) f m.way refl h.far in
+        let s' = happens (comes w.near.line (spelling d.side f)) w.near in
+        let n' = end t (answered h.repeats []) [] in
+        let held : Held c service tei p first_near s' n' =
+        held-first service tei p [] c w.near comes_end h.near (confirmed service tei) s' n' (course t (link.received (link.frame f)) comes_end.link) refl refl refl
+        (taken-stands service tei p [] c w.near comes_end h.near d face f way.1) (append-nil w.near.granted) refl
+        (taken-told service tei p [] c w.near comes_end h.near d face f way.1) refl refl in
+        record {
+          near = subst (λ ways. Held c service tei p first_near (with_first_of ways w.near) n') (sym way.0) held;
+          far = held-lost service tei q first_far d w.far (with_ua_first m) h.far;
+          firm = h.firm;
+        }
+
+    pub comes-near : (act : Act) → IsRoughTalkOf service tei act → IsTimelyOf act w → Goes (acting act w)
+    comes-near (requests r) is x =
+        for-data service tei (λ r. Goes (acting (requests r) w))
+        (λ octets are. as-comes m (subst (λ s. UaGoes m (record w { near = s })) (sym (asks-refused service tei c p [] w.near comes_end h.near (λ octets none. cc none) octets are)) h)) r is
+    comes-near (times_out timer) is x =
+        each-timer service tei (λ timer. IsTimelyOf (times_out timer) w → Goes (acting (times_out timer) w)) (λ x. absurd (comes-still x.0))
+        (λ x. as-comes m (record { repeats = h.repeats; near = silent-t203 service tei c d p q h.repeats [] [] w.near h.near; far = h.far; firm = h.firm })) timer is x
+    comes-near gives is x = as-comes m (record { repeats = h.repeats; near = gives-nothing service tei c p [] w.near comes_end h.near refl; far = h.far; firm = h.firm })
+    comes-near takes is x = as-up (record { n = end t (answered h.repeats []) []; m = m; up = confirms })
+    comes-near loses is x = as-comes m (subst (UaGoes m) (sym (loses-none w (empty service tei c p [] w.near comes_end h.near refl))) h)
+
+    comes-asks : (octets : List ℕ) → AreOctets octets → Goes (made w (happens (asks w.far.line (Data service tei octets)) w.far))
+    comes-asks octets are = go (asks-more h.repeats m with_ua_first (λ octets. refl) (λ octets. refl) w h.far h.firm octets are)
+      where
+        s' : Station
+        s' = happens (asks w.far.line (Data service tei octets)) w.far
+
+        go : (s' ≡ w.far) ⊎ More h.repeats m with_ua_first (λ octets. refl) (λ octets. refl) w h.far h.firm octets are s' → Goes (made w s')
+        go (inl e) = as-comes m (subst (λ s. UaGoes m (made w s)) (sym e) h)
+        go (inr x) = as-comes (with_more octets m) (record { repeats = h.repeats; near = h.near; far = x.held'; firm = x.firm' })
+
+    comes-gives : UaGoes (with_sent m) (turned (acting gives (turned w)))
+    comes-gives =
+        let near = end t (answered h.repeats []) [] in
+        let j = h.firm.joined in
+        record {
+          repeats = h.repeats;
+          near = h.near;
+          far = held-given service tei q first_far d w.far (with_ua_first m) h.far (offer-gave m.terms j.far_ranges m.link j.far_sound m.link.waiting refl).same;
+          firm = firm-turned (with_sent m) near (firm-sends m near (firm-turned near m h.firm));
+        }
+
+    pub comes-far : (act : Act) → IsRoughTalkOf service tei act → IsSpared act w → Goes (turned (acting act (turned w)))
+    comes-far (requests r) is y = for-data service tei (λ r. Goes (turned (acting (requests r) (turned w)))) comes-asks r is
+    comes-far (times_out timer) is y = absurd (y h.near.heard)
+    comes-far gives is y = as-comes (with_sent m) comes-gives
+    comes-far takes is y = as-comes m (subst (λ w'. UaGoes m (turned w')) (sym (takes-none (turned w) (empty service tei c p [] w.near comes_end h.near refl))) h)
+    comes-far loses is y = absurd (y h.near.heard)

@@ -1,0 +1,166 @@
+-- Where both ends are up and no turn is left: once T200 expires, so many rounds are enough for all that is missing.
+use Rattle.std.proofs.Common.{◌≡◌, ℕ, suc, ◌+◌, ◌<◌, ◌≤◌, false, List, [], ◌∷◌, ◌++◌, length, map, take, None, refl, sym, ap, subst, ◌∙◌, ◌⊎◌, inl, inr, arith}
+use Rattle.std.specs.Prelude.{All}
+use Rattle.std.proofs.lemmas.List.{length-map, length-take-le}
+use Rattle.std.proofs.lemmas.List.Elements.{All-nil, All-cons}
+use Rattle.lapd_frame.specs.declared.services.Service.{Service}
+use Rattle.lapd_frame.specs.declared.timers.Timer.{Timer}
+use Rattle.lapd_frame.specs.declared.timers.Timer.TheVariants as timers
+use Rattle.lapd_frame.specs.Grammar.{spelling}
+use Rattle.model_link.specs.declared.frames.ControlFrame.{ControlFrame}
+use Rattle.model_link.specs.declared.states.State.TheVariants.{TimerRecovery}
+use Rattle.model_link.specs.declared.timers.LinkTimer.TheVariants.{T200}
+use Rattle.model_link.specs.Events as link
+use Rattle.model_link.specs.Machine.{given}
+use Rattle.model_link.specs.TwoEnds.{End, Ends, with_link}
+use Rattle.model_link.proofs.Direction.{line_of}
+use Rattle.model_link.proofs.Lines.{rising-low}
+use Rattle.model_line.specs.declared.config.Config.{Config}
+use Rattle.model_line.specs.Event.{LineTold}
+use Rattle.model_card.specs.Happening.{goes}
+use Rattle.model_card.specs.Said as call
+use Rattle.model_card.specs.Said.{said}
+use Rattle.laws_two_links.specs.CutOff as cut_off
+use Rattle.laws_two_links.specs.CutOff.{IsCutOff}
+use Rattle.laws_two_links.specs.Rounds as two_links
+use Rattle.laws_two_links.specs.Timely.{is_enquiry, is_answer, HasNo, IsNoneOpen}
+use Rattle.laws_two_links.proofs.Expiring.{Asking, Resting, expires-one}
+use Rattle.laws_two_links.proofs.Recovery.{all-recovered}
+use Rattle.laws_two_links.proofs.Shapes.{enquiry_with}
+use Rattle.laws_two_links.proofs.Waiting.{nothing-to_send}
+use Rattle.laws_wire.specs.Wire.{Station, Wire, times_out, acting, turned, IsStill}
+use Rattle.laws_wire.specs.Call.{confirmed, indicated, data_told}
+use Rattle.laws_wire.specs.Losing.{heard_in}
+use Rattle.laws_wire.specs.Recovering.{rounds, HasNoErrors, HasMissing, HasArrived, with_t200_expired}
+use Rattle.laws_wire.proofs.Firm.{Firm, not-behind}
+use Rattle.laws_wire.proofs.Held.{Held}
+use Rattle.laws_wire.proofs.Standing.{Stands, gives-none}
+use Rattle.laws_wire.proofs.Talking.{Face}
+use Rattle.laws_wire.proofs.TimelyUp.{IsHushed, hushed, none-waits, none-of, none-open, BothUp, turned-up, up-expires, repeats-left, rounds-up}
+
+-- all frames on the way were lost
+cut-off : (n m : End) → Firm n m → n.link.waiting ≡ [] → n.way ≡ [] → (n.link.state ≡ TimerRecovery → n.link.repeats < n.terms.n200) → IsCutOff n m
+cut-off n m h waiting way repeats = record {
+  ranges = h.joined.near_ranges;
+  sound = h.joined.near_sound;
+  timed = h.near_sane.timed;
+  heeds = h.near_sane.heeds;
+  up = h.joined.near_up;
+  repeats = repeats;
+  own_busy = h.near_free;
+  waiting = waiting;
+  way = way;
+  low = rising-low n.link.a m.link.r (line_of m) h.joined.there.rising;
+  high = not-behind n m h.there;
+  delivered = h.joined.there.delivered;
+  sizes = subst (λ i. All (λ octets. length octets ≤ i) n.link.contents) h.same h.joined.near_sound.sizes;
+}
+
+abbrev IsNone : ControlFrame → Type 0
+IsNone f = is_answer f.command f.control ≡ false
+
+-- once it expires nothing waits but an enquiry
+no-answer : (n m : End) → IsCutOff n m → HasNo is_answer (with_link (link.expired T200) n)
+no-answer n m h = go (expires-one false n m h)
+  where
+    n' : End
+    n' = with_link (link.expired T200) n
+
+    go : Asking false n n' ⊎ Resting false n n' → HasNo is_answer n'
+    go (inl x) = record {
+      waiting = subst (All IsNone) (sym (ap (λ (y : End). y.link.waiting) x.is)) (All-cons IsNone (enquiry_with false n.link.r) [] refl (All-nil IsNone));
+      way = subst (All (λ f. is_answer f.address.command f.control ≡ false)) (sym h.way) (All-nil (λ f. is_answer f.address.command f.control ≡ false));
+    }
+    go (inr x) = record {
+      waiting = subst (All IsNone) (sym (ap (λ (y : End). y.link.waiting) x.is)) (All-nil IsNone);
+      way = subst (All (λ f. is_answer f.address.command f.control ≡ false)) (sym h.way) (All-nil (λ f. is_answer f.address.command f.control ≡ false));
+    }
+
+-- what is missing at layer 3 is missing at the link
+fewer : (a b r g d u : ℕ) → a ≡ g → b ≡ d → d ≡ r → suc a ≤ suc b + u → g ≤ r + u
+fewer a b r g d u e e' e'' h = omega (arith, e, e', e'', h)
+
+module _ (service : Service) (tei : ℕ) where
+  missing : (first : LineTold) (r u : ℕ) (granted delivered : List (List ℕ)) (heard : List LineTold) → r ≤ length granted → delivered ≡ take r granted
+      → heard ≡ (first ∷ []) ++ map (data_told service tei) delivered → length (first ∷ map (data_told service tei) granted) ≤ length heard + u → length granted ≤ r + u
+  missing first r u granted delivered heard low is here h =
+      fewer (length (map (data_told service tei) granted)) (length (map (data_told service tei) delivered)) r (length granted) (length delivered) u
+      (length-map granted (data_told service tei)) (length-map delivered (data_told service tei)) (ap length is ∙ length-take-le r granted low)
+      (subst (λ ts. length (first ∷ map (data_told service tei) granted) ≤ length ts + u) here h)
+
+  module _ (c d : Config) (p q : ℕ) (face : Face c d) (back : Face d c) where
+    abbrev first_near : List LineTold
+    first_near = confirmed service tei ∷ []
+
+    abbrev first_far : List LineTold
+    first_far = indicated service tei ∷ []
+
+    abbrev Up : Wire → End → End → Type 0
+    Up w n m = BothUp service tei c d p q first_near first_far w n m
+
+    nothing-said : (k : Config) (place : ℕ) (past : List LineTold) (s : Station) (n : End) → Held k service tei place past s n → given n.terms n.link ≡ None
+        → said s.card (goes s.line) ≡ call.gives None
+    nothing-said k place past s n h none = gives-none service tei place s n (subst (λ k. Stands k service tei place s n) (sym h.stands.config) h.stands) none
+
+    -- what has arrived at the links has arrived
+    pub arrived : (before w : Wire) (e : Ends) (cn cm : List (List ℕ)) → Up w e.near e.far → two_links.HasArrived cn e.near e.far → two_links.HasArrived cm e.far e.near
+        → before.near.granted ≡ cn → before.far.granted ≡ cm → HasArrived service tei before w
+    arrived before w e cn cm h x y near far = record {
+      near = h.near.heard ∙ ap (λ xs. first_near ++ map (data_told service tei) xs) (y.delivered ∙ sym far);
+      far = h.far.heard ∙ ap (λ xs. first_far ++ map (data_told service tei) xs) (x.delivered ∙ sym near);
+      still = record {
+        near = nothing-said c p first_near w.near e.near h.near (nothing-to_send e.near.terms e.near.link x.nothing);
+        far = nothing-said d q first_far w.far e.far h.far (nothing-to_send e.far.terms e.far.link y.nothing);
+        near_way = h.near.stands.way ∙ ap (map (spelling c.side)) x.way;
+        far_way = h.far.stands.way ∙ ap (map (spelling d.side)) y.way;
+      };
+    }
+
+    module _ (w : Wire) (n m : End) (h : Up w n m) (still : IsStill w) (u : ℕ) (few : HasMissing service tei u w) (fair : HasNoErrors (with_t200_expired service tei w)) where
+      abbrev timer : Timer
+      timer = timers.T200 service tei
+
+      abbrev e : Ends
+      e = record { near = n; far = m }
+
+      near-hushed : IsHushed service tei n
+      near-hushed = hushed service tei c p first_near w.near n h.near still.near still.near_way
+
+      far-hushed : IsHushed service tei m
+      far-hushed = hushed service tei d q first_far w.far m h.far still.far still.far_way
+
+      other : BothUp service tei d c q p first_far first_near (turned w) m n
+      other = turned-up service tei c d p q first_near first_far w n m h
+
+      near-cut : IsCutOff n m
+      near-cut =
+          cut-off n m h.firm (none-waits service tei n near-hushed) near-hushed.way
+          (repeats-left service tei c d p q face first_near first_far w n m h timer (λ l. refl) fair.0)
+
+      far-cut : IsCutOff m n
+      far-cut =
+          cut-off m n other.firm (none-waits service tei m far-hushed) far-hushed.way
+          (repeats-left service tei d c q p back first_far first_near (turned w) m n other timer (λ l. refl) fair.1)
+
+      both-expired : Up (with_t200_expired service tei w) (with_link (link.expired T200) n) (with_link (link.expired T200) m)
+      both-expired =
+          let n' = with_link (link.expired T200) n in
+          let m' = with_link (link.expired T200) m in
+          let w' = acting (times_out timer) w in
+          let first : Up w' n' m = up-expires service tei c d p q face first_near first_far w n m h timer T200 (λ l. refl) (λ state running. near-cut.repeats state) (λ state running. none-open service tei n m near-hushed far-hushed) in
+          let open_ : IsNoneOpen m n' = record { enquiries = none-of service tei is_enquiry m (none-waits service tei m far-hushed) far-hushed.way; answers = no-answer n m near-cut } in
+          turned-up service tei d c q p first_far first_near (acting (times_out timer) (turned w')) m' n'
+          (up-expires service tei d c q p back first_far first_near (turned w') m n' (turned-up service tei c d p q first_near first_far w' n' m first) timer T200 (λ l. refl) (λ state running. far-cut.repeats state) (λ state running. open_))
+
+      pub up-arrives : HasArrived service tei w (rounds (u + 3) (with_t200_expired service tei w))
+      up-arrives =
+          let e' = cut_off.with_t200_expired e in
+          let last = rounds-up service tei c d p q face back first_near first_far (u + 3) (with_t200_expired service tei w) e' both-expired in
+          let there : cut_off.HasMissing u n m =
+          missing (indicated service tei) m.link.r u n.link.contents m.delivered (heard_in w.far) h.firm.joined.there.accepted h.firm.joined.there.delivered h.far.heard
+          (subst (λ xs. length (indicated service tei ∷ map (data_told service tei) xs) ≤ length (heard_in w.far) + u) h.near.granted few.far) in
+          let back_ : cut_off.HasMissing u m n =
+          missing (confirmed service tei) n.link.r u m.link.contents n.delivered (heard_in w.near) h.firm.joined.back.accepted h.firm.joined.back.delivered h.near.heard
+          (subst (λ xs. length (confirmed service tei ∷ map (data_told service tei) xs) ≤ length (heard_in w.near) + u) h.far.granted few.near) in
+          let all = all-recovered u e near-cut far-cut there back_ in
+          arrived w (rounds (u + 3) (with_t200_expired service tei w)) (two_links.rounds (u + 3) e') n.link.contents m.link.contents last all.0 all.1 h.near.granted h.far.granted

@@ -1,0 +1,147 @@
+-- The ends as an establishment leaves them, and what changes nothing at a station or on a wire.
+use Rattle.std.proofs.Common.{◌≡◌, ℕ, ◌≤◌, false, List, [], length, drop, None, refl, sym, ap, subst, ◌∙◌, ◌⊎◌, inl, inr, true≢false, arith}
+use Rattle.std.proofs.lemmas.List.Elements.{All-nil}
+use Rattle.lapd_frame.specs.declared.services.Service.{Service}
+use Rattle.lapd_frame.specs.Grammar.{AreOctets}
+use Rattle.model_link.specs.declared.terms.Terms.{Terms}
+use Rattle.model_link.specs.Events as link
+use Rattle.model_link.specs.Machine.{given}
+use Rattle.model_link.specs.Requests.{refusal}
+use Rattle.model_link.specs.Sound.{IsInRange, IsSound}
+use Rattle.model_link.specs.TwoEnds.{End, Begins}
+use Rattle.model_link.proofs.Joined.{joined-first}
+use Rattle.model_line.specs.declared.config.Config.{Config}
+use Rattle.model_line.specs.Event.{LineTold}
+use Rattle.model_line.specs.Request.{Data}
+use Rattle.model_card.specs.Happening.{goes, asks}
+use Rattle.laws_two_links.specs.Rounds.{IsReady, IsTaken}
+use Rattle.laws_two_links.proofs.Flow.{Flow}
+use Rattle.laws_wire.specs.Wire.{Station, Wire, happens, with_first_of, with_first_lost, takes, loses, acting}
+use Rattle.laws_wire.proofs.Calling.{end, called, sound-caller, sound-called}
+use Rattle.laws_wire.proofs.Firm.{Firm}
+use Rattle.laws_wire.proofs.Held.{Held, held-given, Grants, held-asked}
+use Rattle.laws_wire.proofs.Ringing.{answered}
+use Rattle.laws_wire.proofs.Up.{stays}
+
+-- ---- the ends
+
+nothing-yet : Flow 0 0 false false [] []
+nothing-yet = record {
+  order = omega arith;
+  one = omega arith;
+  rejected = λ some. absurd (omega (arith, some));
+  asked = omega arith;
+  last = λ some. tt;
+  answered = λ some. absurd (omega (arith, some));
+}
+
+module _ (t u : Terms) (rt : IsInRange t) (ru : IsInRange u) (same : t.n201 ≡ u.n201) (k : ℕ) where
+  abbrev pub near_end : End
+  near_end = end t (answered k []) []
+
+  abbrev pub far_end : End
+  far_end = end u called []
+
+  sound-answered : IsSound t (answered k [])
+  sound-answered =
+      let s = sound-caller t rt in
+      record {
+        ordered = s.ordered;
+        accepted = s.accepted;
+        within = s.within;
+        settled = s.settled;
+        queue = s.queue;
+        ring = s.ring;
+        quiet = s.quiet;
+        sizes = s.sizes;
+        frames = s.frames;
+      }
+
+  near-begins : Begins near_end
+  near-begins = record {
+    ranges = rt;
+    sound = sound-answered;
+    state = refl;
+    a = refl;
+    s = refl;
+    r = refl;
+    peer_busy = refl;
+    own_busy = refl;
+    rejecting = refl;
+    pending = refl;
+    waiting = refl;
+    way = refl;
+    delivered = refl;
+  }
+
+  far-begins : Begins far_end
+  far-begins = record {
+    ranges = ru;
+    sound = sound-called u ru;
+    state = refl;
+    a = refl;
+    s = refl;
+    r = refl;
+    peer_busy = refl;
+    own_busy = refl;
+    rejecting = refl;
+    pending = refl;
+    waiting = refl;
+    way = refl;
+    delivered = refl;
+  }
+
+  pub firm-first : Firm near_end far_end
+  firm-first = record {
+    joined = joined-first near_end far_end near-begins far-begins;
+    same = same;
+    there = nothing-yet;
+    back = nothing-yet;
+    near_sane = record { timed = record { timer = inr (refl, omega arith) }; heeds = record { heeds = λ busy. absurd (true≢false (sym busy)) } };
+    far_sane = record { timed = record { timer = inr (refl, omega arith) }; heeds = record { heeds = λ busy. absurd (true≢false (sym busy)) } };
+    near_free = refl;
+    far_free = refl;
+  }
+
+  pub near-ready : IsReady near_end
+  near-ready = record { ranges = rt; sound = sound-answered; state = refl; peer_busy = refl; own_busy = refl; waiting = refl; way = refl }
+
+  pub far-ready : IsReady far_end
+  far-ready = record { ranges = ru; sound = sound-called u ru; state = refl; peer_busy = refl; own_busy = refl; waiting = refl; way = refl }
+
+  pub there-taken : IsTaken near_end far_end
+  there-taken = record { received = refl; delivered = refl; owed = λ some. absurd (omega (arith, some)); sizes = All-nil (λ octets. length octets ≤ u.n201) }
+
+  pub back-taken : IsTaken far_end near_end
+  back-taken = record { received = refl; delivered = refl; owed = λ some. absurd (omega (arith, some)); sizes = All-nil (λ octets. length octets ≤ t.n201) }
+
+-- ---- what changes nothing
+
+-- where none is on its way none is taken, and none is lost
+lost-none : (s : Station) → s.way ≡ [] → with_first_lost s ≡ s
+lost-none s e = λ i. record s { way = (ap (drop 1) e ∙ sym e) i }
+
+pub takes-none : (w : Wire) → w.far.way ≡ [] → acting takes w ≡ w
+takes-none w e = λ i. record { near = ap (λ way. with_first_of way w.near) e i; far = lost-none w.far e i }
+
+pub loses-none : (w : Wire) → w.near.way ≡ [] → acting loses w ≡ w
+loses-none w e = λ i. record w { near = lost-none w.near e i }
+
+module _ (service : Service) (tei : ℕ) (k : Config) (place : ℕ) (past : List LineTold) (s : Station) (n : End) (h : Held k service tei place past s n) where
+  -- nor is any given
+  pub gives-nothing : given n.terms n.link ≡ None → Held k service tei place past (happens (goes s.line) s) n
+  gives-nothing none =
+      let same = stays n none in
+      subst (Held k service tei place past (happens (goes s.line) s)) same (held-given service tei place past k s n h (ap (λ (x : End). x.link.contents) same))
+
+  -- data that the link refuses
+  pub asks-refused : ((octets : List ℕ) → refusal n.terms n.link false (link.Data octets) ≡ None → ⊥) → (octets : List ℕ) → AreOctets octets
+      → happens (asks s.line (Data service tei octets)) s ≡ s
+  asks-refused never octets are = go (held-asked service tei place past k s n h octets are)
+    where
+      s' : Station
+      s' = happens (asks s.line (Data service tei octets)) s
+
+      go : (s' ≡ s) ⊎ Grants service tei place past k s n h octets s' → s' ≡ s
+      go (inl same) = same
+      go (inr x) = absurd (never octets x.none)

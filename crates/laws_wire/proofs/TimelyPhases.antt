@@ -1,0 +1,71 @@
+-- A call in which T200 is timely: SABME waits, is on its way, or was lost; then UA waits, and is on its way; then both ends are up.
+use Rattle.std.proofs.Common.{◌≡◌, ℕ, List, [], ◌∷◌, refl, ◌⊎◌}
+use Rattle.lapd_frame.specs.declared.services.Service.{Service}
+use Rattle.lapd_frame.specs.declared.timers.Timer.TheVariants as timers
+use Rattle.lapd_frame.specs.Grammar.{Parts}
+use Rattle.model_link.specs.declared.frames.ControlFrame.{ControlFrame}
+use Rattle.model_link.specs.declared.terms.Terms.{Terms}
+use Rattle.model_link.specs.declared.timers.LinkTimer.TheVariants.{T203}
+use Rattle.model_link.specs.Link.{fresh}
+use Rattle.model_link.specs.TwoEnds.{End}
+use Rattle.model_line.specs.declared.config.Config.{Config}
+use Rattle.model_line.specs.Event.{LineTold}
+use Rattle.model_line.specs.Line.{terms}
+use Rattle.model_card.specs.Happening.{expires}
+use Rattle.laws_wire.specs.Wire.{Station, Wire, happens}
+use Rattle.laws_wire.specs.Call.{confirmed, indicated}
+use Rattle.laws_wire.proofs.Calling.{sabme, end, with_ua_waiting, with_ua_first}
+use Rattle.laws_wire.proofs.Firm.{Firm}
+use Rattle.laws_wire.proofs.Held.{Held, held-expired}
+use Rattle.laws_wire.proofs.Ringing.{ringing, answered, its_sabme}
+use Rattle.laws_wire.proofs.TimelyUp.{AreUp}
+
+module _ (service : Service) (tei : ℕ) (c d : Config) (p q : ℕ) where
+  abbrev t : Terms
+  t = terms c service tei
+
+  abbrev u : Terms
+  u = terms d service tei
+
+  abbrev first_near : List LineTold
+  first_near = confirmed service tei ∷ []
+
+  abbrev first_far : List LineTold
+  first_far = indicated service tei ∷ []
+
+  -- one end rings, with this waiting and this on its way, and the other is down
+  pub record Rings (ws : List ControlFrame) (way : List Parts) (w : Wire) : Type 0 where
+    pub repeats : ℕ
+    pub near : Held c service tei p [] w.near (end t (ringing repeats ws) way)
+    pub far : Held d service tei q [] w.far (end u fresh [])
+
+  -- the other is up, its UA waits, or is on its way before all else
+  pub record UaWaits (m : End) (w : Wire) : Type 0 where
+    pub repeats : ℕ
+    pub waiting : m.link.waiting ≡ []
+    pub way : m.way ≡ []
+    pub near : Held c service tei p [] w.near (end t (ringing repeats []) [])
+    pub far : Held d service tei q first_far w.far (with_ua_waiting m)
+    pub firm : Firm (end t (answered repeats []) []) m
+
+  pub record UaGoes (m : End) (w : Wire) : Type 0 where
+    pub repeats : ℕ
+    pub near : Held c service tei p [] w.near (end t (ringing repeats []) [])
+    pub far : Held d service tei q first_far w.far (with_ua_first m)
+    pub firm : Firm (end t (answered repeats []) []) m
+
+  pub record Waits (w : Wire) : Type 0 where
+    pub m : End
+    pub is : UaWaits m w
+
+  pub record Comes (w : Wire) : Type 0 where
+    pub m : End
+    pub is : UaGoes m w
+
+  abbrev pub Goes : Wire → Type 0
+  Goes w = Rings [] [] w ⊎ Rings (its_sabme ∷ []) [] w ⊎ Rings [] (sabme t ∷ []) w ⊎ Waits w ⊎ Comes w ⊎ AreUp service tei c d p q first_near first_far w
+
+  -- while an end rings T203 does not run
+  pub silent-t203 : (k : ℕ) (ws : List ControlFrame) (way : List Parts) (s : Station) → Held c service tei p [] s (end t (ringing k ws) way)
+      → Held c service tei p [] (happens (expires s.line (timers.T203 service tei)) s) (end t (ringing k ws) way)
+  silent-t203 k ws way s h = held-expired service tei p [] c s (end t (ringing k ws) way) h (timers.T203 service tei) T203 (λ l. refl) (record { its_notes = refl; no_unit = refl }) refl

@@ -1,0 +1,219 @@
+-- The first phases of such a call: one end rings, and the other is down.
+use Rattle.std.proofs.Common.{◌≡◌, ℕ, ◌+◌, true, List, [], ◌∷◌, map, None, refl, sym, ap, subst, ◌∙◌, ◌⊎◌, inl, inr, append-nil, arith}
+use Rattle.std.specs.Prelude.{nat_lt, option_to_list}
+use Rattle.std.proofs.lemmas.Bool.{lt-ltb}
+use Rattle.lapd_frame.specs.declared.notes.Note.TheVariants as notes
+use Rattle.lapd_frame.specs.declared.services.Service.{Service}
+use Rattle.lapd_frame.specs.declared.timers.Timer.{Timer}
+use Rattle.lapd_frame.specs.declared.timers.Timer.TheVariants as timers
+use Rattle.lapd_frame.specs.Grammar.{Parts, AreOctets, spelling}
+use Rattle.model_link.specs.declared.frames.ControlFrame.{ControlFrame}
+use Rattle.model_link.specs.declared.terms.Terms.{Terms}
+use Rattle.model_link.specs.declared.timers.LinkTimer.{LinkTimer}
+use Rattle.model_link.specs.declared.timers.LinkTimer.TheVariants.{T200}
+use Rattle.model_link.specs.Events as link
+use Rattle.model_link.specs.Link.{fresh}
+use Rattle.model_link.specs.Machine.{course, given}
+use Rattle.model_link.specs.Sound.{IsInRange}
+use Rattle.model_link.specs.Steps.{Course}
+use Rattle.model_link.specs.TwoEnds.{End, with_link}
+use Rattle.model_line.specs.declared.config.Config.{Config}
+use Rattle.model_line.specs.Event.{LineTold}
+use Rattle.model_line.specs.Line.{terms}
+use Rattle.model_line.specs.Request.{Data}
+use Rattle.model_card.specs.Happening.{comes, expires}
+use Rattle.laws_wire.specs.Wire.{Station, Wire, happens, with_first_of, Act, requests, times_out, gives, takes, loses, acting, turned, IsStill}
+use Rattle.laws_wire.specs.Call.{confirmed, indicated}
+use Rattle.laws_wire.specs.Losing.{HasNoError, IsRoughTalkOf}
+use Rattle.laws_wire.specs.Recovering.{IsTimelyOf}
+use Rattle.laws_wire.proofs.Calling.{sabme, end, answering, called, takes-sabme, told-of-sabme}
+use Rattle.laws_wire.proofs.Fair.{HasError}
+use Rattle.laws_wire.proofs.Held.{Held, TellsIt, now-erred, not-erred, held-given, held-lost, held-first, taken-told, taken-stands, expired-told, held-expired}
+use Rattle.laws_wire.proofs.LossyPhases.{made, for-data, for-timer, Aims, first-way, empty}
+use Rattle.laws_wire.proofs.Ringing.{ringing, its_sabme, repeated, t200-repeats}
+use Rattle.laws_wire.proofs.Standing.{Stands}
+use Rattle.laws_wire.proofs.Talking.{Face}
+use Rattle.laws_wire.proofs.TimelyFirst.{firm-first, takes-none, loses-none, gives-nothing, asks-refused}
+use Rattle.laws_wire.proofs.TimelyUp.{each-timer, hushed}
+use Rattle.laws_wire.proofs.TimelyPhases as phases
+use Rattle.laws_wire.proofs.TimelyPhases.{silent-t203}
+
+module _ (service : Service) (tei : ℕ) (c d : Config) (p q : ℕ) (face : Face c d) (back : Face d c) (rt : IsInRange (terms c service tei)) (ru : IsInRange (terms d service tei)) where
+  abbrev t : Terms
+  t = terms c service tei
+
+  abbrev u : Terms
+  u = terms d service tei
+
+  abbrev first_near : List LineTold
+  first_near = confirmed service tei ∷ []
+
+  abbrev first_far : List LineTold
+  first_far = indicated service tei ∷ []
+
+  abbrev Rings : List ControlFrame → List Parts → Wire → Type 0
+  Rings ws way w = phases.Rings service tei c d p q ws way w
+
+  abbrev UaWaits : End → Wire → Type 0
+  UaWaits m w = phases.UaWaits service tei c d p q m w
+
+  abbrev Goes : Wire → Type 0
+  Goes w = phases.Goes service tei c d p q w
+
+  as-lost : {w : Wire} → Rings [] [] w → Goes w
+  as-lost h = inl h
+
+  as-asking : {w : Wire} → Rings (its_sabme ∷ []) [] w → Goes w
+  as-asking h = inr (inl h)
+
+  as-called : {w : Wire} → Rings [] (sabme t ∷ []) w → Goes w
+  as-called h = inr (inr (inl h))
+
+  as-waits : {w : Wire} (m : End) → UaWaits m w → Goes w
+  as-waits m h = inr (inr (inr (inl (record { m = m; is = h }))))
+
+  module _ (ws : List ControlFrame) (way : List Parts) (w : Wire) (h : Rings ws way w) where
+    rings-asks : (octets : List ℕ) → AreOctets octets → Rings ws way (acting (requests (Data service tei octets)) w)
+    rings-asks octets are =
+        subst (λ s. Rings ws way (record w { near = s })) (sym (asks-refused service tei c p [] w.near (end t (ringing h.repeats ws) way) h.near (λ octets none. cc none) octets are)) h
+
+    rings-t203 : Rings ws way (acting (times_out (timers.T203 service tei)) w)
+    rings-t203 = record { repeats = h.repeats; near = silent-t203 service tei c d p q h.repeats ws way w.near h.near; far = h.far }
+
+    rings-takes : Rings ws way (acting takes w)
+    rings-takes = subst (Rings ws way) (sym (takes-none w (empty service tei d q [] w.far (end u fresh []) h.far refl))) h
+
+    down-asks : (octets : List ℕ) → AreOctets octets → Rings ws way (turned (acting (requests (Data service tei octets)) (turned w)))
+    down-asks octets are =
+        subst (λ s. Rings ws way (made w s)) (sym (asks-refused service tei d q [] w.far (end u fresh []) h.far (λ octets none. cc none) octets are)) h
+
+    pub down-expires : (timer : Timer) (its : LinkTimer) → Aims service tei timer its → Rings ws way (turned (acting (times_out timer) (turned w)))
+    down-expires timer its aims = record {
+      repeats = h.repeats;
+      near = h.near;
+      far = held-expired service tei q [] d w.far (end u fresh []) h.far timer its aims (record { its_notes = refl; no_unit = refl }) refl;
+    }
+
+    down-gives : Rings ws way (turned (acting gives (turned w)))
+    down-gives = record { repeats = h.repeats; near = h.near; far = gives-nothing service tei d q [] w.far (end u fresh []) h.far refl }
+
+    down-loses : Rings ws way (turned (acting loses (turned w)))
+    down-loses = subst (λ w'. Rings ws way (turned w')) (sym (loses-none (turned w) (empty service tei d q [] w.far (end u fresh []) h.far refl))) h
+
+    -- all but taking SABME
+    pub down-acts : way ≡ [] → (act : Act) → IsRoughTalkOf service tei act → Rings ws way (turned (acting act (turned w)))
+    down-acts none (requests r) is = for-data service tei (λ r. Rings ws way (turned (acting (requests r) (turned w)))) down-asks r is
+    down-acts none (times_out timer) is = for-timer service tei (λ timer. Rings ws way (turned (acting (times_out timer) (turned w)))) down-expires timer is
+    down-acts none gives is = down-gives
+    down-acts none takes is =
+        subst (λ w'. Rings ws way (turned w')) (sym (takes-none (turned w) (empty service tei c p [] w.near (end t (ringing h.repeats ws) way) h.near none))) h
+    down-acts none loses is = down-loses
+
+  -- nothing waits, and nothing is on its way
+  module _ (w : Wire) (h : Rings [] [] w) where
+    abbrev rung : End
+    rung = end t (ringing h.repeats []) []
+
+    room : nat_lt 0 t.control ≡ true
+    room = let low = rt.control_low in lt-ltb 0 t.control (omega (arith, low))
+
+    pub repeats-sabme : (timer : Timer) → Aims service tei timer T200 → HasNoError (happens (expires w.near.line timer) w.near) → Rings (its_sabme ∷ []) [] (acting (times_out timer) w)
+    repeats-sabme timer aims fair = go (t200-repeats t h.repeats room)
+      where
+        s' : Station
+        s' = happens (expires w.near.line timer) w.near
+
+        x : Course
+        x = course t (link.expired T200) (ringing h.repeats [])
+
+        go : HasError x.notes ⊎ (x ≡ repeated t h.repeats room) → Rings (its_sabme ∷ []) [] (record w { near = s' })
+        go (inl error) = absurd (not-erred s' fair (now-erred w.near s' x (expired-told service tei p [] c w.near rung h.near timer T200 aims) error))
+        go (inr is) =
+            let delivered = ap (λ (y : Course). y.delivered) is in
+            let tells : TellsIt service tei x = record {
+              its_notes = ap (λ (y : Course). y.notes) is ∙ ap (λ o. map (λ octets. notes.Data service tei) (option_to_list o)) (sym delivered);
+              no_unit = ap (λ (y : Course). y.unit) is;
+            } in
+            let kept : x.link.contents ≡ [] = ap (λ (y : Course). y.link.contents) is in
+            let becomes : with_link (link.expired T200) rung ≡ end t (ringing (h.repeats + 1) (its_sabme ∷ [])) [] =
+            (λ i. record rung { link = (is i).link; delivered = option_to_list (is i).delivered }) in
+            record {
+              repeats = h.repeats + 1;
+              near = subst (Held c service tei p [] s') becomes (held-expired service tei p [] c w.near rung h.near timer T200 aims tells kept);
+              far = h.far;
+            }
+
+    pub silent-near : (act : Act) → IsRoughTalkOf service tei act → IsTimelyOf act w → Goes (acting act w)
+    silent-near (requests r) is x = for-data service tei (λ r. Goes (acting (requests r) w)) (λ octets are. as-lost (rings-asks [] [] w h octets are)) r is
+    silent-near (times_out timer) is x =
+        each-timer service tei (λ timer. IsTimelyOf (times_out timer) w → Goes (acting (times_out timer) w))
+        (λ x. as-asking (repeats-sabme (timers.T200 service tei) (λ l. refl) x.1.0)) (λ x. as-lost (rings-t203 [] [] w h)) timer is x
+    silent-near gives is x = as-lost (record { repeats = h.repeats; near = gives-nothing service tei c p [] w.near rung h.near refl; far = h.far })
+    silent-near takes is x = as-lost (rings-takes [] [] w h)
+    silent-near loses is x = as-lost (subst (Rings [] []) (sym (loses-none w (empty service tei c p [] w.near rung h.near refl))) h)
+
+  -- SABME waits
+  module _ (w : Wire) (h : Rings (its_sabme ∷ []) [] w) where
+    abbrev asker : End
+    asker = end t (ringing h.repeats (its_sabme ∷ [])) []
+
+    pub gives-sabme : Rings [] (sabme t ∷ []) (acting gives w)
+    gives-sabme = record { repeats = h.repeats; near = held-given service tei p [] c w.near asker h.near refl; far = h.far }
+
+    pub not-still : IsStill w → ⊥
+    not-still still = let no : given t (ringing h.repeats (its_sabme ∷ [])) ≡ None = (hushed service tei c p [] w.near asker h.near still.near still.near_way).given in cc no
+
+    pub asking-near : (act : Act) → IsRoughTalkOf service tei act → IsTimelyOf act w → Goes (acting act w)
+    asking-near (requests r) is x = for-data service tei (λ r. Goes (acting (requests r) w)) (λ octets are. as-asking (rings-asks (its_sabme ∷ []) [] w h octets are)) r is
+    asking-near (times_out timer) is x =
+        each-timer service tei (λ timer. IsTimelyOf (times_out timer) w → Goes (acting (times_out timer) w)) (λ x. absurd (not-still x.0))
+        (λ x. as-asking (rings-t203 (its_sabme ∷ []) [] w h)) timer is x
+    asking-near gives is x = as-called gives-sabme
+    asking-near takes is x = as-asking (rings-takes (its_sabme ∷ []) [] w h)
+    asking-near loses is x = as-asking (subst (Rings (its_sabme ∷ []) []) (sym (loses-none w (empty service tei c p [] w.near asker h.near refl))) h)
+
+  -- it is on its way
+  module _ (w : Wire) (h : Rings [] (sabme t ∷ []) w) where
+    abbrev caller_end : End
+    caller_end = end t (ringing h.repeats []) (sabme t ∷ [])
+
+    pub called-still : IsStill w → ⊥
+    called-still still = let no : sabme t ∷ [] ≡ [] = (hushed service tei c p [] w.near caller_end h.near still.near still.near_way).way in cc no
+
+    pub called-near : (act : Act) → IsRoughTalkOf service tei act → IsTimelyOf act w → Goes (acting act w)
+    called-near (requests r) is x = for-data service tei (λ r. Goes (acting (requests r) w)) (λ octets are. as-called (rings-asks [] (sabme t ∷ []) w h octets are)) r is
+    called-near (times_out timer) is x =
+        each-timer service tei (λ timer. IsTimelyOf (times_out timer) w → Goes (acting (times_out timer) w)) (λ x. absurd (called-still x.0))
+        (λ x. as-called (rings-t203 [] (sabme t ∷ []) w h)) timer is x
+    called-near gives is x = as-called (record { repeats = h.repeats; near = gives-nothing service tei c p [] w.near caller_end h.near refl; far = h.far })
+    called-near takes is x = as-called (rings-takes [] (sabme t ∷ []) w h)
+    called-near loses is x = as-lost (record { repeats = h.repeats; near = held-lost service tei p [] c w.near caller_end h.near; far = h.far })
+
+    -- the other takes it
+    pub answers : UaWaits (end u called []) (turned (acting takes (turned w)))
+    answers =
+        let f = sabme t in
+        let way = first-way service tei c p [] w.near caller_end f [] refl h.near in
+        let reached = happens (comes w.far.line (spelling c.side f)) w.far in
+        let becomes : with_link (link.received (link.frame f)) (end u fresh []) ≡ end u answering [] = ap (λ y. end u y []) (takes-sabme u ru t) in
+        let held : Held d service tei q first_far reached (end u answering []) =
+        held-first service tei q [] d w.far (end u fresh []) h.far (indicated service tei) reached (end u answering []) (course u (link.received (link.frame f)) fresh) refl refl refl
+        (subst (Stands d service tei q reached) becomes (taken-stands service tei q [] d w.far (end u fresh []) h.far c back f way.1)) (append-nil w.far.granted) refl
+        (taken-told service tei q [] d w.far (end u fresh []) h.far c back f way.1) (told-of-sabme u ru t) refl in
+        record {
+          repeats = h.repeats;
+          waiting = refl;
+          way = refl;
+          near = held-lost service tei p [] c w.near caller_end h.near;
+          far = subst (λ ways. Held d service tei q first_far (with_first_of ways w.far) (end u answering [])) (sym way.0) held;
+          firm = firm-first t u rt ru face.n201 h.repeats;
+        }
+
+    pub called-far : (act : Act) → IsRoughTalkOf service tei act → Goes (turned (acting act (turned w)))
+    called-far (requests r) is =
+        for-data service tei (λ r. Goes (turned (acting (requests r) (turned w)))) (λ octets are. as-called (down-asks [] (sabme t ∷ []) w h octets are)) r is
+    called-far (times_out timer) is =
+        for-timer service tei (λ timer. Goes (turned (acting (times_out timer) (turned w)))) (λ timer its aims. as-called (down-expires [] (sabme t ∷ []) w h timer its aims)) timer is
+    called-far gives is = as-called (down-gives [] (sabme t ∷ []) w h)
+    called-far takes is = as-waits (end u called []) answers
+    called-far loses is = as-called (down-loses [] (sabme t ∷ []) w h)

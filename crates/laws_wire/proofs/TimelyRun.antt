@@ -1,0 +1,231 @@
+-- A whole call in which timers are timely: both ends stay up, and what was lost arrives.
+use Rattle.std.proofs.Common.{◌≡◌, ℕ, suc, ◌+◌, Bool, true, false, cond, not, ◌&&◌, ◌||◌, ◌==◌, List, [], ◌∷◌, ◌++◌, length, map, is_some, refl, sym, ap, subst, ◌∙◌, inl, inr, eqb-true, arith}
+use Rattle.std.specs.Prelude.{All, flat_map}
+use Rattle.std.specs.List.{list_any}
+use Rattle.std.proofs.lemmas.Bool.{and_parts, or_parts}
+use Rattle.std.proofs.lemmas.List.Elements.{All-nil, All-cons, All-head, All-tail}
+use Rattle.std.proofs.lemmas.List.Folds.{list_any-append}
+use Rattle.lapd_frame.specs.declared.notes.Note.{Note}
+use Rattle.lapd_frame.specs.declared.services.Service.{Service}
+use Rattle.lapd_frame.specs.declared.timers.Timer.{Timer}
+use Rattle.lapd_frame.specs.declared.timers.Timer.TheVariants as timers
+use Rattle.lapd_frame.specs.Grammar.{Parts, other_side}
+use Rattle.model_link.specs.declared.frames.ControlFrame.{ControlFrame}
+use Rattle.model_link.specs.declared.timers.LinkTimer.TheVariants.{T200}
+use Rattle.model_link.specs.Link.{fresh}
+use Rattle.model_link.specs.Sound.{IsInRange}
+use Rattle.model_link.specs.TwoEnds.{Ends}
+use Rattle.model_line.specs.declared.config.Config.{Config}
+use Rattle.model_line.specs.Event.{LineTold, nothing}
+use Rattle.model_line.specs.Line.{terms}
+use Rattle.model_line.proofs.Ranges.{terms_in_range}
+use Rattle.laws_two_links.specs.Rounds as two_links
+use Rattle.laws_two_links.proofs.Arriving.{all-arrived}
+use Rattle.laws_wire.specs.Wire.{Station, Wire, Act, gives, takes, times_out, Doing, at_near, at_far, acting, turned, doing, doing_all, IsStill}
+use Rattle.laws_wire.specs.Call.{calling, confirmed, indicated, data_told}
+use Rattle.laws_wire.specs.Losing.{for_layer_3, heard_in, is_error, HasNoError, IsRoughTalkOf, IsRoughTalk}
+use Rattle.laws_wire.specs.Recovering.{round, rounds, HasNoErrors, IsTimelyOf, IsSpared, IsTimely, StayTimely, HasMissing, HasArrived, with_t200_expired, WhatIsLostArrives}
+use Rattle.laws_wire.proofs.Beginning.{calls, answers}
+use Rattle.laws_wire.proofs.Calling.{asked, end, called}
+use Rattle.laws_wire.proofs.LossyRun.{from-nothing}
+use Rattle.laws_wire.proofs.Ringing.{answered, its_sabme}
+use Rattle.laws_wire.proofs.Spelled.{twice-other}
+use Rattle.laws_wire.proofs.Talking.{Face}
+use Rattle.laws_wire.proofs.TimelyArrives.{arrived, up-arrives}
+use Rattle.laws_wire.proofs.TimelyFirst.{near-ready, far-ready, there-taken, back-taken}
+use Rattle.laws_wire.proofs.TimelyAnswered.{gives-ua, confirms, waits-still, waits-near, waits-far, comes-still, comes-near, comes-far}
+use Rattle.laws_wire.proofs.TimelyPhases.{Rings, UaWaits, UaGoes, Goes}
+use Rattle.laws_wire.proofs.TimelyRinging as ringing
+use Rattle.laws_wire.proofs.TimelyRinging.{down-expires, down-acts, repeats-sabme, silent-near, gives-sabme, not-still, asking-near, called-still, called-near, called-far}
+use Rattle.laws_wire.proofs.TimelyUp.{BothUp, AreUp, turned-are, up-acts, rounds-up}
+
+-- ---- what layer 3 heard has the errors that were told
+
+abbrev has_error : LineTold → Bool
+has_error t = list_any is_error t.notes
+
+abbrev IsFair : LineTold → Type 0
+IsFair t = has_error t ≡ false
+
+no-notes : (ns : List Note) → (length ns == 0) ≡ true → list_any is_error ns ≡ false
+no-notes [] e = refl
+no-notes (n ∷ ns) e = let none : suc (length ns) ≡ 0 = eqb-true (length (n ∷ ns)) 0 e in absurd (omega (arith, none))
+
+one-fair : (t : LineTold) → list_any has_error (for_layer_3 t) ≡ false → IsFair t
+one-fair t = go (length t.notes == 0 && not (is_some t.contents)) refl
+  where
+    go : (b : Bool) → (length t.notes == 0 && not (is_some t.contents)) ≡ b
+        → list_any has_error (cond b [] (record nothing { notes = t.notes; contents = t.contents } ∷ [])) ≡ false → IsFair t
+    go true e h = no-notes t.notes (and_parts (length t.notes == 0) (not (is_some t.contents)) e).0
+    go false e h = (or_parts (has_error t) false h).0
+
+all-fair : (ts : List LineTold) → list_any has_error (flat_map for_layer_3 ts) ≡ false → All IsFair ts
+all-fair [] h = All-nil IsFair
+all-fair (t ∷ ts) h =
+    let both = or_parts (list_any has_error (for_layer_3 t)) (list_any has_error (flat_map for_layer_3 ts)) (sym (list_any-append has_error (for_layer_3 t) (flat_map for_layer_3 ts)) ∙ h) in
+    All-cons IsFair t ts (one-fair t both.0) (all-fair ts both.1)
+
+data-fair : (service : Service) (tei : ℕ) (xs : List (List ℕ)) → list_any has_error (map (data_told service tei) xs) ≡ false
+data-fair service tei [] = refl
+data-fair service tei (x ∷ xs) = data-fair service tei xs
+
+nothing-heard : (s : Station) → heard_in s ≡ [] → HasNoError s
+nothing-heard s e = all-fair s.told (ap (list_any has_error) e)
+
+fair-heard : (service : Service) (tei : ℕ) (first : LineTold) (xs : List (List ℕ)) (s : Station) → IsFair first → heard_in s ≡ (first ∷ []) ++ map (data_told service tei) xs → HasNoError s
+fair-heard service tei first xs s fair e =
+    all-fair s.told (ap (list_any has_error) e ∙ ap (λ b. b || list_any has_error (map (data_told service tei) xs)) fair ∙ data-fair service tei xs)
+
+-- ---- the run
+
+one-round : (k j : ℕ) → k ≡ suc j → (w : Wire) → rounds k w ≡ rounds j (doing_all round w)
+unfolding rounds
+one-round k j e w = ap (λ i. rounds i w) e
+
+same-count : (u : ℕ) → u + 3 ≡ suc ((u + 1) + 1)
+same-count u = omega arith
+
+module _ (service : Service) (tei : ℕ) (c d : Config) (p q : ℕ) (face : Face c d) (back : Face d c) (rt : IsInRange (terms c service tei)) (ru : IsInRange (terms d service tei)) where
+  abbrev first_near : List LineTold
+  first_near = confirmed service tei ∷ []
+
+  abbrev first_far : List LineTold
+  first_far = indicated service tei ∷ []
+
+  abbrev On : Wire → Type 0
+  On w = Goes service tei c d p q w
+
+  abbrev Up : Wire → Type 0
+  Up w = AreUp service tei c d p q first_near first_far w
+
+  as-up : (w : Wire) → Up w → On w
+  as-up w h = inr (inr (inr (inr (inr h))))
+
+  -- each act of either end
+  near-goes : (act : Act) → IsRoughTalkOf service tei act → (w : Wire) → IsTimelyOf act w → On w → On (acting act w)
+  near-goes act is w x (inl h) = silent-near service tei c d p q face back rt ru w h act is x
+  near-goes act is w x (inr (inl h)) = asking-near service tei c d p q face back rt ru w h act is x
+  near-goes act is w x (inr (inr (inl h))) = called-near service tei c d p q face back rt ru w h act is x
+  near-goes act is w x (inr (inr (inr (inl h)))) = waits-near service tei c d p q face back rt ru w h.m h.is act is x
+  near-goes act is w x (inr (inr (inr (inr (inl h))))) = comes-near service tei c d p q face back rt ru w h.m h.is act is x
+  near-goes act is w x (inr (inr (inr (inr (inr h))))) = as-up (acting act w) (up-acts service tei c d p q face first_near first_far w h.n h.m h.up act is x)
+
+  far-goes : (act : Act) → IsRoughTalkOf service tei act → (w : Wire) → IsTimelyOf act (turned w) → IsSpared act w → On w → On (turned (acting act (turned w)))
+  far-goes act is w x y (inl h) = inl (down-acts service tei c d p q face back rt ru [] [] w h refl act is)
+  far-goes act is w x y (inr (inl h)) = inr (inl (down-acts service tei c d p q face back rt ru (its_sabme ∷ []) [] w h refl act is))
+  far-goes act is w x y (inr (inr (inl h))) = called-far service tei c d p q face back rt ru w h act is
+  far-goes act is w x y (inr (inr (inr (inl h)))) = waits-far service tei c d p q face back rt ru w h.m h.is act is y
+  far-goes act is w x y (inr (inr (inr (inr (inl h))))) = comes-far service tei c d p q face back rt ru w h.m h.is act is y
+  far-goes act is w x y (inr (inr (inr (inr (inr h))))) =
+      let other = turned-are service tei c d p q first_near first_far w h in
+      as-up (turned (acting act (turned w)))
+      (turned-are service tei d c q p first_far first_near (acting act (turned w)) (up-acts service tei d c q p back first_far first_near (turned w) other.n other.m other.up act is x))
+
+  step : (k : Doing) → IsRoughTalk service tei k → (w : Wire) → IsTimely k w → On w → On (doing k w)
+  step (at_near act) is w x h = near-goes act is w x h
+  step (at_far act) is w x h = far-goes act is w x.0 x.1 h
+
+  pub runs : (ds : List Doing) → All (IsRoughTalk service tei) ds → (w : Wire) → StayTimely ds w → On w → On (doing_all ds w)
+  unfolding doing_all StayTimely
+  runs [] all w x h = h
+  runs (k ∷ ds) all w x h =
+      runs ds (All-tail (IsRoughTalk service tei) k ds all) (doing k w) x.1 (step k (All-head (IsRoughTalk service tei) k ds all) w x.0 h)
+
+  -- no error is told
+  rings-fair : (ws : List ControlFrame) (way : List Parts) (w : Wire) → Rings service tei c d p q ws way w → HasNoErrors w
+  rings-fair ws way w h = (nothing-heard w.near h.near.heard, nothing-heard w.far h.far.heard)
+
+  pub fair : (w : Wire) → On w → HasNoErrors w
+  fair w (inl h) = rings-fair [] [] w h
+  fair w (inr (inl h)) = rings-fair _ [] w h
+  fair w (inr (inr (inl h))) = rings-fair [] _ w h
+  fair w (inr (inr (inr (inl h)))) = (nothing-heard w.near h.is.near.heard, fair-heard service tei (indicated service tei) h.m.delivered w.far refl h.is.far.heard)
+  fair w (inr (inr (inr (inr (inl h))))) = (nothing-heard w.near h.is.near.heard, fair-heard service tei (indicated service tei) h.m.delivered w.far refl h.is.far.heard)
+  fair w (inr (inr (inr (inr (inr h))))) = (
+    fair-heard service tei (confirmed service tei) h.n.delivered w.near refl h.up.near.heard,
+    fair-heard service tei (indicated service tei) h.m.delivered w.far refl h.up.far.heard,
+  )
+
+  -- SABME was lost: it goes again, and both are up
+  module _ (w : Wire) (h : Rings service tei c d p q [] [] w) (u : ℕ) (fair : HasNoErrors (with_t200_expired service tei w)) where
+    abbrev timer : Timer
+    timer = timers.T200 service tei
+
+    abbrev expired : Wire
+    expired = with_t200_expired service tei w
+
+    again : Rings service tei c d p q (its_sabme ∷ []) [] expired
+    again =
+        let w' = acting (times_out timer) w in
+        down-expires service tei c d p q face back rt ru (its_sabme ∷ []) [] w' (repeats-sabme service tei c d p q face back rt ru w h timer (λ l. refl) fair.0) timer T200 (λ l. refl)
+
+    -- the first round
+    record First (w' : Wire) : Type 0 where
+      repeats : ℕ
+      up : BothUp service tei c d p q first_near first_far w' (end (terms c service tei) (answered repeats []) []) (end (terms d service tei) called [])
+
+    first : First (doing_all round expired)
+    unfolding doing_all
+    first =
+        let w1 = acting gives expired in
+        let h1 = gives-sabme service tei c d p q face back rt ru expired again in
+        let w2 = turned (acting takes (turned w1)) in
+        let m = end (terms d service tei) called [] in
+        let h2 : UaWaits service tei c d p q m w2 = ringing.answers service tei c d p q face back rt ru w1 h1 in
+        let w3 = turned (acting gives (turned w2)) in
+        let h3 : UaGoes service tei c d p q m w3 = gives-ua service tei c d p q face back rt ru w2 m h2 in
+        record { repeats = h3.repeats; up = confirms service tei c d p q face back rt ru w3 m h3 }
+
+    pub lost-arrives : HasArrived service tei w (rounds (u + 3) expired)
+    lost-arrives =
+        let t = terms c service tei in
+        let v = terms d service tei in
+        let k = first.repeats in
+        let n = end t (answered k []) [] in
+        let m = end v called [] in
+        let e : Ends = record { near = n; far = m } in
+        let w' = doing_all round expired in
+        let j = (u + 1) + 1 in
+        let last = rounds-up service tei c d p q face back first_near first_far j w' e first.up in
+        let all = all-arrived (u + 1) e (near-ready t v rt ru face.n201 k) (far-ready t v rt ru face.n201 k) (there-taken t v rt ru face.n201 k) (back-taken t v rt ru face.n201 k) (omega arith) (omega arith) in
+        subst (HasArrived service tei w) (sym (one-round (u + 3) j (same-count u) expired))
+        (arrived service tei c d p q face back w (rounds j w') (two_links.rounds j e) [] [] last all.0 all.1 h.near.granted h.far.granted)
+
+  abbrev Arrives : ℕ → Wire → Type 0
+  Arrives u w = HasArrived service tei w (rounds (u + 3) (with_t200_expired service tei w))
+
+  -- where no turn is left before both are up SABME was lost
+  pub arrives : (w : Wire) → On w → (u : ℕ) → IsStill w → HasMissing service tei u w → HasNoErrors (with_t200_expired service tei w) → Arrives u w
+  arrives w (inl h) u still few fair = lost-arrives w h u fair
+  arrives w (inr (inl h)) u still few fair = absurd (not-still service tei c d p q face back rt ru w h still)
+  arrives w (inr (inr (inl h))) u still few fair = absurd (called-still service tei c d p q face back rt ru w h still)
+  arrives w (inr (inr (inr (inl h)))) u still few fair = absurd (waits-still service tei c d p q face back rt ru w h.m h.is still)
+  arrives w (inr (inr (inr (inr (inl h))))) u still few fair = absurd (comes-still service tei c d p q face back rt ru w h.m h.is still)
+  arrives w (inr (inr (inr (inr (inr h))))) u still few fair = up-arrives service tei c d p q face back w h.n h.m h.up still u few fair
+
+pub what-is-lost-arrives : WhatIsLostArrives
+what-is-lost-arrives service c d line other tei ds can talk = λ timely.
+    let h = runs service tei c d 0 0 face back rt ru ds talk w timely (inr (inl begun)) in
+    record { no_error = fair service tei c d 0 0 face back rt ru (doing_all ds w) h; arrives = arrives service tei c d 0 0 face back rt ru (doing_all ds w) h }
+  where
+    face : Face c d
+    face = record { side = sym can.sides; n201 = can.n201 }
+
+    back : Face d c
+    back = record { side = ap other_side can.sides ∙ twice-other c.side; n201 = sym can.n201 }
+
+    rt : IsInRange (terms c service tei)
+    rt = terms_in_range c can.near service tei can.terminal
+
+    ru : IsInRange (terms d service tei)
+    ru = terms_in_range d can.far service tei can.terminal
+
+    w : Wire
+    w = calling service tei c line d other
+
+    begun : Rings service tei c d 0 0 (its_sabme ∷ []) [] w
+    begun = record {
+      repeats = 0;
+      near = from-nothing c service tei 0 w.near (end (terms c service tei) asked []) (calls service tei c can.near can.terminal line can.near_line) refl;
+      far = from-nothing d service tei 0 w.far (end (terms d service tei) fresh []) (answers service tei d can.far can.terminal other can.far_line) refl;
+    }

@@ -1,0 +1,247 @@
+-- Two stations whose links are up, where each timer is timely: both stay up, whatever is lost.
+use Rattle.std.proofs.Common.{◌≡◌, ℕ, zero, suc, ◌<◌, Bool, true, false, cond, List, [], ◌∷◌, map, Some, None, refl, sym, ap, subst, ◌∙◌, ◌⊎◌, inl, inr, append-nil, true≢false}
+use Rattle.std.specs.Prelude.{All, nat_lt}
+use Rattle.std.specs.List.{list_any}
+use Rattle.std.proofs.lemmas.Bool.{ltb-true}
+use Rattle.std.proofs.lemmas.List.Elements.{All-nil, All-head}
+use Rattle.lapd_frame.specs.declared.controls.Control.{Control}
+use Rattle.lapd_frame.specs.declared.notes.ErrorCode.TheVariants as code
+use Rattle.lapd_frame.specs.declared.services.Service.{Service}
+use Rattle.lapd_frame.specs.declared.timers.Timer.{Timer}
+use Rattle.lapd_frame.specs.declared.timers.Timer.TheVariants as timers
+use Rattle.lapd_frame.specs.Grammar.{Parts, AreOctets, spelling}
+use Rattle.model_link.specs.declared.frames.ControlFrame.{ControlFrame}
+use Rattle.model_link.specs.declared.states.State.TheVariants.{TimerRecovery}
+use Rattle.model_link.specs.declared.timers.LinkTimer.{LinkTimer}
+use Rattle.model_link.specs.declared.timers.LinkTimer.TheVariants.{T200, T203}
+use Rattle.model_link.specs.declared.terms.Terms.{Terms}
+use Rattle.model_link.specs.Events as link
+use Rattle.model_link.specs.Link.{Link}
+use Rattle.model_link.specs.Machine
+use Rattle.model_link.specs.Machine.{course, given, is_running}
+use Rattle.model_link.specs.MultipleFrame
+use Rattle.model_link.specs.Steps.{begun, ◌then◌}
+use Rattle.model_link.specs.Timed.{IsTimedIn}
+use Rattle.model_link.specs.Told.{runs}
+use Rattle.model_link.specs.TwoEnds.{End, Ends, with_link, with_sent}
+use Rattle.model_link.specs.TwoEnds as two_ends
+use Rattle.model_link.specs.Words
+use Rattle.model_link.proofs.Sending.{offer-gave}
+use Rattle.model_line.specs.declared.config.Config.{Config}
+use Rattle.model_line.specs.Event.{LineTold}
+use Rattle.model_line.specs.Request.{Data}
+use Rattle.model_card.specs.Happening.{goes, expires, asks}
+use Rattle.model_card.specs.Said as call
+use Rattle.model_card.specs.Said.{said}
+use Rattle.laws_two_links.specs.Ahead.{CanRepeat}
+use Rattle.laws_two_links.specs.Rounds as two_links
+use Rattle.laws_two_links.specs.Timely as two_links_timely
+use Rattle.laws_two_links.proofs.Waiting.{nothing-given}
+use Rattle.laws_wire.specs.Wire.{Station, Wire, happens, with_first_of, Act, requests, times_out, gives, takes, loses, acting, turned, doing_all}
+use Rattle.laws_wire.specs.Losing.{is_error, HasNoError, IsOfLink, IsRoughTalkOf}
+use Rattle.laws_wire.specs.Recovering.{round, rounds, IsTimelyOf}
+use Rattle.laws_wire.proofs.Asking.{with_more, asked-form}
+use Rattle.laws_wire.proofs.Fair.{HasError, Fine, timer-fair}
+use Rattle.laws_wire.proofs.Firm.{timer-quiet, Firm, firm-turned, firm-sends, firm-loses, firm-asks, firm-expires, firm-takes, takes-fine, takes-kept}
+use Rattle.laws_wire.proofs.Held.{Held, now-erred, not-erred, held-given, held-lost, held-taken, expired-told, held-expired, Grants, held-asked}
+use Rattle.laws_wire.proofs.Joint.{timer-goes}
+use Rattle.laws_wire.proofs.LossyPhases.{for-data, Aims}
+use Rattle.laws_wire.proofs.Standing.{IsCarried, Stands, still-gives-none}
+use Rattle.laws_wire.proofs.Talking.{Face}
+
+-- where N200 is reached an error is told
+ran-out : (t : Terms) (l : Link) → l.state ≡ TimerRecovery → is_running T200 l ≡ true → nat_lt l.repeats t.n200 ≡ false → HasError (course t (link.expired T200) l).notes
+ran-out t l state ran over =
+    (λ i. list_any is_error (cond (ran i) (Machine.expired_in (state i) T200 t (begun l)) (begun l)).notes)
+    ∙ ap (λ b. list_any is_error (cond b ((Words.enquire t then Words.repeated then Words.start T200) (begun l)) (MultipleFrame.failed t code.I (begun l))).notes) over
+
+no-way : (f : Parts → List ℕ) (way : List Parts) → map f way ≡ [] → way ≡ []
+no-way f [] e = refl
+no-way f (x ∷ xs) e = absurd (cc)
+
+module _ (service : Service) (tei : ℕ) where
+  -- the timers of a call
+  pub each-timer : (P : Timer → Type 0) → P (timers.T200 service tei) → P (timers.T203 service tei) → (timer : Timer) → IsOfLink service tei timer → P timer
+  each-timer P x y (timers.T200 s t) is = subst (λ s'. P (timers.T200 s' t)) (sym is.0) (subst (λ t'. P (timers.T200 service t')) (sym is.1) x)
+  each-timer P x y (timers.T203 s t) is = subst (λ s'. P (timers.T203 s' t)) (sym is.0) (subst (λ t'. P (timers.T203 service t')) (sym is.1) y)
+  each-timer P x y timers.T201 is = absurd is
+
+  -- where no turn is left
+  pub record IsHushed (n : End) : Type 0 where
+    pub given : given n.terms n.link ≡ None
+    pub way : n.way ≡ []
+
+  pub hushed : (k : Config) (place : ℕ) (past : List LineTold) (s : Station) (n : End) → Held k service tei place past s n → said s.card (goes s.line) ≡ call.gives None → s.way ≡ []
+      → IsHushed n
+  hushed k place past s n h none empty = record {
+    given = still-gives-none service tei place s n (subst (λ k. Stands k service tei place s n) (sym h.stands.config) h.stands) none;
+    way = no-way (spelling k.side) n.way (sym h.stands.way ∙ empty);
+  }
+
+  pub none-waits : (n : End) → IsHushed n → n.link.waiting ≡ []
+  none-waits n h = (nothing-given n.terms n.link h.given).waiting
+
+  -- so no enquiry is open
+  pub none-of : (asked : Bool → Control → Bool) (n : End) → n.link.waiting ≡ [] → n.way ≡ [] → two_links_timely.HasNo asked n
+  none-of asked n waiting way = record {
+    waiting = subst (All (λ (f : ControlFrame). asked f.command f.control ≡ false)) (sym waiting) (All-nil (λ (f : ControlFrame). asked f.command f.control ≡ false));
+    way = subst (All (λ (f : Parts). asked f.address.command f.control ≡ false)) (sym way) (All-nil (λ (f : Parts). asked f.address.command f.control ≡ false));
+  }
+
+  pub none-open : (n m : End) → IsHushed n → IsHushed m → two_links_timely.IsNoneOpen n m
+  none-open n m h k = record {
+    enquiries = none-of two_links_timely.is_enquiry n (none-waits n h) h.way;
+    answers = none-of two_links_timely.is_answer m (none-waits m k) k.way;
+  }
+
+  pub record BothUp (c d : Config) (p q : ℕ) (past other : List LineTold) (w : Wire) (n m : End) : Type 0 where
+    pub near : Held c service tei p past w.near n
+    pub far : Held d service tei q other w.far m
+    pub firm : Firm n m
+
+  pub turned-up : (c d : Config) (p q : ℕ) (past other : List LineTold) (w : Wire) (n m : End) → BothUp c d p q past other w n m → BothUp d c q p other past (turned w) m n
+  turned-up c d p q past other w n m h = record { near = h.far; far = h.near; firm = firm-turned n m h.firm }
+
+  pub record AreUp (c d : Config) (p q : ℕ) (past other : List LineTold) (w : Wire) : Type 0 where
+    pub n : End
+    pub m : End
+    pub up : BothUp c d p q past other w n m
+
+  pub turned-are : (c d : Config) (p q : ℕ) (past other : List LineTold) (w : Wire) → AreUp c d p q past other w → AreUp d c q p other past (turned w)
+  turned-are c d p q past other w h = record { n = h.m; m = h.n; up = turned-up c d p q past other w h.n h.m h.up }
+
+  module _ (c d : Config) (p q : ℕ) (face : Face c d) (past other : List LineTold) (w : Wire) (n m : End) (h : BothUp c d p q past other w n m) where
+    abbrev Now : Wire → End → End → Type 0
+    Now w' n' m' = BothUp c d p q past other w' n' m'
+
+    pub up-gives : Now (acting gives w) (with_sent n) m
+    up-gives =
+        let kept = (offer-gave n.terms h.firm.joined.near_ranges n.link h.firm.joined.near_sound n.link.waiting refl).same in
+        record { near = held-given service tei p past c w.near n h.near kept; far = h.far; firm = firm-sends n m h.firm }
+
+    pub up-loses : Now (acting loses w) (two_ends.with_first_lost n) m
+    up-loses = record { near = held-lost service tei p past c w.near n h.near; far = h.far; firm = firm-loses n m h.firm }
+
+    pub up-takes : Now (acting takes w) (two_ends.with_first_of m.way n) (two_ends.with_first_lost m)
+    up-takes = record {
+      near = subst (λ ways. Held c service tei p past (with_first_of ways w.near) (two_ends.with_first_of m.way n)) (sym h.far.stands.way) (taken m.way refl);
+      far = held-lost service tei q other d w.far m h.far;
+      firm = firm-takes n m h.firm;
+    }
+      where
+        taken : (way : List Parts) → m.way ≡ way → Held c service tei p past (with_first_of (map (spelling d.side) way) w.near) (two_ends.with_first_of way n)
+        taken [] e = h.near
+        taken (f ∷ fs) e =
+            let from : IsCarried d service tei f = All-head (IsCarried d service tei) f fs (subst (All (IsCarried d service tei)) e h.far.stands.carried) in
+            let fine = takes-fine n m h.firm f fs e in
+            held-taken service tei p past c w.near n h.near d face f from (record { its_notes = fine.its_notes; no_unit = fine.no_unit }) (takes-kept n m h.firm f fs e)
+
+    pub up-asks : (octets : List ℕ) → AreOctets octets → AreUp c d p q past other (acting (requests (Data service tei octets)) w)
+    up-asks octets are = go (held-asked service tei p past c w.near n h.near octets are)
+      where
+        s' : Station
+        s' = happens (asks w.near.line (Data service tei octets)) w.near
+
+        go : (s' ≡ w.near) ⊎ Grants service tei p past c w.near n h.near octets s' → AreUp c d p q past other (record w { near = s' })
+        go (inl same) = record { n = n; m = m; up = record { near = subst (λ s. Held c service tei p past s n) (sym same) h.near; far = h.far; firm = h.firm } }
+        go (inr x) = record {
+          n = with_more octets n;
+          m = m;
+          up = record { near = x.held; far = h.far; firm = subst (λ y. Firm y m) (asked-form octets n x.none) (firm-asks n m h.firm octets) };
+        }
+
+    -- a timer
+    pub up-expires : (timer : Timer) (its : LinkTimer) → Aims service tei timer its → CanRepeat its n → two_links_timely.IsTimely its n m
+        → Now (acting (times_out timer) w) (with_link (link.expired its) n) m
+    up-expires timer its aims can timely =
+        let firm = firm-expires n m h.firm its can timely in
+        go firm (timer-quiet n.terms n.link its h.firm.joined.near_up firm.joined.near_up) (timer-fair n.terms n.link h.firm.joined.near_up its).fair
+      where
+        go : Firm (with_link (link.expired its) n) m → let x = course n.terms (link.expired its) n.link in (HasError x.notes → ⊥)
+            → HasError x.notes ⊎ Fine n.terms x.link.state x.notes x.delivered x.unit → Now (acting (times_out timer) w) (with_link (link.expired its) n) m
+        go firm quiet (inl error) = absurd (quiet error)
+        go firm quiet (inr fine) =
+            let kept = (timer-goes n.terms n.link h.firm.joined.near_up its fine.up).same ∙ append-nil n.link.contents in
+            record {
+              near = held-expired service tei p past c w.near n h.near timer its aims (record { its_notes = fine.its_notes; no_unit = fine.no_unit }) kept;
+              far = h.far;
+              firm = firm;
+            }
+
+    timed-8 : n.link.state ≡ TimerRecovery → n.link.running ≡ Some T200
+    timed-8 state = subst (λ here. IsTimedIn here n.link) state h.firm.near_sane.timed.timer
+
+    never : n.link.state ≡ TimerRecovery → is_running T203 n.link ≡ true → ⊥
+    never state running = true≢false (sym running ∙ ap (runs T203) (timed-8 state))
+
+    pub repeats-left : (timer : Timer) → Aims service tei timer T200 → HasNoError (happens (expires w.near.line timer) w.near) → n.link.state ≡ TimerRecovery
+        → n.link.repeats < n.terms.n200
+    repeats-left timer aims fair state = go (nat_lt n.link.repeats n.terms.n200) refl
+      where
+        no-error : HasError (course n.terms (link.expired T200) n.link).notes → ⊥
+        no-error error =
+            let s' = happens (expires w.near.line timer) w.near in
+            not-erred s' fair (now-erred w.near s' (course n.terms (link.expired T200) n.link) (expired-told service tei p past c w.near n h.near timer T200 aims) error)
+
+        go : (b : Bool) → nat_lt n.link.repeats n.terms.n200 ≡ b → n.link.repeats < n.terms.n200
+        go true e = ltb-true n.link.repeats n.terms.n200 e
+        go false e = absurd (no-error (ran-out n.terms n.link state (ap (runs T200) (timed-8 state)) e))
+
+    up-t200 : IsTimelyOf (times_out (timers.T200 service tei)) w → AreUp c d p q past other (acting (times_out (timers.T200 service tei)) w)
+    up-t200 (still, fair) =
+        let open_ = none-open n m (hushed c p past w.near n h.near still.near still.near_way) (hushed d q other w.far m h.far still.far still.far_way) in
+        let timer = timers.T200 service tei in
+        record {
+          n = with_link (link.expired T200) n;
+          m = m;
+          up = up-expires timer T200 (λ l. refl) (λ state running. repeats-left timer (λ l. refl) fair.0 state) (λ state running. open_);
+        }
+
+    up-t203 : AreUp c d p q past other (acting (times_out (timers.T203 service tei)) w)
+    up-t203 = record {
+      n = with_link (link.expired T203) n;
+      m = m;
+      up = up-expires (timers.T203 service tei) T203 (λ l. refl) (λ state running. absurd (never state running)) (λ state running. absurd (never state running));
+    }
+
+    -- each act that is timely
+    pub up-acts : (act : Act) → IsRoughTalkOf service tei act → IsTimelyOf act w → AreUp c d p q past other (acting act w)
+    up-acts (requests r) is x = for-data service tei (λ r. AreUp c d p q past other (acting (requests r) w)) up-asks r is
+    up-acts (times_out timer) is x =
+        each-timer (λ timer. IsTimelyOf (times_out timer) w → AreUp c d p q past other (acting (times_out timer) w)) up-t200 (λ x. up-t203) timer is x
+    up-acts gives is x = record { n = with_sent n; m = m; up = up-gives }
+    up-acts takes is x = record { n = two_ends.with_first_of m.way n; m = two_ends.with_first_lost m; up = up-takes }
+    up-acts loses is x = record { n = two_ends.with_first_lost n; m = m; up = up-loses }
+
+  -- a round, and so many
+  module _ (c d : Config) (p q : ℕ) (face : Face c d) (back : Face d c) (past other : List LineTold) where
+    abbrev At : Wire → Ends → Type 0
+    At w e = BothUp c d p q past other w e.near e.far
+
+    far-gives : (w : Wire) (e : Ends) → At w e → At (turned (acting gives (turned w))) (two_ends.doing (two_ends.at_far two_ends.sends) e)
+    far-gives w e h =
+        turned-up d c q p other past (acting gives (turned w)) (with_sent e.far) e.near (up-gives d c q p back other past (turned w) e.far e.near (turned-up c d p q past other w e.near e.far h))
+
+    far-takes : (w : Wire) (e : Ends) → At w e → At (turned (acting takes (turned w))) (two_ends.doing (two_ends.at_far two_ends.receives) e)
+    far-takes w e h =
+        turned-up d c q p other past (acting takes (turned w)) (two_ends.with_first_of e.near.way e.far) (two_ends.with_first_lost e.near)
+        (up-takes d c q p back other past (turned w) e.far e.near (turned-up c d p q past other w e.near e.far h))
+
+    pub round-up : (w : Wire) (e : Ends) → At w e → At (doing_all round w) (two_links.round e)
+    unfolding doing_all
+    round-up w e h =
+        let w1 = acting gives w in
+        let e1 = two_ends.doing (two_ends.at_near two_ends.sends) e in
+        let h1 : At w1 e1 = up-gives c d p q face past other w e.near e.far h in
+        let w2 = turned (acting takes (turned w1)) in
+        let e2 = two_ends.doing (two_ends.at_far two_ends.receives) e1 in
+        let h2 : At w2 e2 = far-takes w1 e1 h1 in
+        let w3 = turned (acting gives (turned w2)) in
+        let e3 = two_ends.doing (two_ends.at_far two_ends.sends) e2 in
+        let h3 : At w3 e3 = far-gives w2 e2 h2 in
+        up-takes c d p q face past other w3 e3.near e3.far h3
+
+    pub rounds-up : (k : ℕ) (w : Wire) (e : Ends) → At w e → At (rounds k w) (two_links.rounds k e)
+    unfolding rounds two_links.rounds
+    rounds-up zero w e h = h
+    rounds-up (suc k) w e h = rounds-up k (doing_all round w) (two_links.round e) (round-up w e h)

@@ -18,6 +18,7 @@ pub mod MessagesAreOwed
 pub mod TeisAgree
 pub mod TimersAreTimely
 pub mod AllGoesAgain
+pub mod LinksMove
 pub mod WorkedTimers
 pub mod WorkedUnits
 pub mod WorkedFrames
@@ -31,3 +32,4 @@ pub mod WorkedCommands
 pub mod WorkedReceipts
 pub mod WorkedManaging
 pub mod WorkedAgain
+pub mod WorkedMoves

@@ -70,3 +70,6 @@ pub mod TimersOfEvent
 pub mod TimersStarted
 pub mod TimersAreTimely
 pub mod AllGoesAgain
+pub mod MovesOfLink
+pub mod LinkLed
+pub mod LinksMove

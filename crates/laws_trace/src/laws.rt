@@ -10,6 +10,7 @@ ghost use Rattle.laws_trace.specs.FramesAreRead.{FramesAreRead, FramesAreOctets,
 ghost use Rattle.laws_trace.specs.FramesGoOut.{FramesGoOut, AllFramesGoOut, AllThatWaitedBegins};
 ghost use Rattle.laws_trace.specs.DataGoesOut.{DataGoesOut, AllDataGoesOut};
 ghost use Rattle.laws_trace.specs.Deliveries.{Deliveries, AllAreTold};
+ghost use Rattle.laws_trace.specs.LinksMove.{LinksMove};
 ghost use Rattle.laws_trace.specs.LinksTakeTurns.{LinksTakeTurns};
 ghost use Rattle.laws_trace.specs.MessagesComeFirst.{MessagesComeFirst};
 ghost use Rattle.laws_trace.specs.MessagesAreOwed.{MessagesAreOwed, AllMessagesGoOut};
@@ -175,4 +176,16 @@ pub fn messages_are_owed()
 pub fn timers_are_timely()
     ensures run { Always TimersRun }
     ensures started { Always TimersAreStarted }
+{}
+
+/// Links move as they are led. After an event at its line a link is in the state that this has for the state before: 7 by SABME in
+/// states 4, 7 and 8, by UA with F=1 in state 5, and, in state 8, by a response with F=1; 4 by DISC in states 7 and 8, by DM with
+/// F=1 in states 5 and 6, and by UA with F=1 in state 6; 5 by a request to establish it in state 4, by DM with F=0 in state 7,
+/// and in states 7 and 8 by FRMR, an invalid N(R), and a frame that is malformed or too long, and by any DM in state 8; 6 by a
+/// request to release it in states 7 and 8; 8 by the expiry of the timer that runs in state 7. T200, which runs in states 5, 6 and
+/// 8, leaves them as it expires where it has expired N200 times since the link came there: for 4, 4 and 5. Nothing else moves a
+/// link. So a command that is not answered is repeated N200 times, and no more. And a link whose TEI comes to the line is in
+/// state 4 (Q.921 clauses 3.5.2.3, 5.3, 5.5.1 to 5.5.5, 5.6.7, 5.7, 5.8, 5.9.2 and 5.10.3).
+pub fn links_move()
+    ensures { Always LinksMove }
 {}

@@ -73,3 +73,5 @@ pub mod AllGoesAgain
 pub mod MovesOfLink
 pub mod LinkLed
 pub mod LinksMove
+pub mod CommandsDue
+pub mod CommandsGo

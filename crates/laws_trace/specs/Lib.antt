@@ -19,6 +19,7 @@ pub mod TeisAgree
 pub mod TimersAreTimely
 pub mod AllGoesAgain
 pub mod LinksMove
+pub mod CommandsGo
 pub mod WorkedTimers
 pub mod WorkedUnits
 pub mod WorkedFrames
@@ -33,3 +34,4 @@ pub mod WorkedReceipts
 pub mod WorkedManaging
 pub mod WorkedAgain
 pub mod WorkedMoves
+pub mod WorkedGo

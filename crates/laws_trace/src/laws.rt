@@ -4,6 +4,7 @@ ghost use Rattle.laws_trace.specs.Trace.{Always};
 ghost use Rattle.laws_trace.specs.AllAreAnswered.{AllAreAnswered};
 ghost use Rattle.laws_trace.specs.AllGoesAgain.{AllGoesAgain};
 ghost use Rattle.laws_trace.specs.AnswersAreAsked.{AnswersAreAsked};
+ghost use Rattle.laws_trace.specs.CommandsGo.{CommandsGo};
 ghost use Rattle.laws_trace.specs.CommandsHaveCauses.{CommandsHaveCauses};
 ghost use Rattle.laws_trace.specs.Configurations.{RangesAreServed};
 ghost use Rattle.laws_trace.specs.FramesAreRead.{FramesAreRead, FramesAreOctets, FramesGoOutAsTheyAre};
@@ -188,4 +189,12 @@ pub fn timers_are_timely()
 /// state 4 (Q.921 clauses 3.5.2.3, 5.3, 5.5.1 to 5.5.5, 5.6.7, 5.7, 5.8, 5.9.2 and 5.10.3).
 pub fn links_move()
     ensures { Always LinksMove }
+{}
+
+/// Commands that are due go. Whatever happened before: of a link whose TEI stays on the line, SABME is due where it comes to
+/// state 5, DISC where it comes to state 6, and an enquiry, which is a supervisory command with P=1, where it comes to state 8; and
+/// again where its T200 expires and leaves it there; except where the answer counts a frame as lost. Once the line was only pulled,
+/// as often as the configuration says, a command has begun for each, in their order (Q.921 clauses 5.5.1, 5.5.3, 5.6.7 and 5.10.3).
+pub fn commands_go()
+    ensures { Always CommandsGo }
 {}

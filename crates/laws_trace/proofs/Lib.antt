@@ -75,3 +75,9 @@ pub mod LinkLed
 pub mod LinksMove
 pub mod CommandsDue
 pub mod CommandsGo
+pub mod NewsRows
+pub mod NewsOfLink
+pub mod NewsOfOthers
+pub mod NewsSeen
+pub mod NewsOfEvent
+pub mod News

@@ -174,7 +174,7 @@ module _ (c : Config) (service : Service) (tei : ℕ) (k : Known) where
     heard-none x (Some (stream.dropped cause)) aims = no-fault x x false refl
 
     -- an expiry, or a request, of another link
-    elsewhere : (its : Service) (by : ℕ) (what : link.Event) (to : Option ℕ → Aim) → ((p : ℕ) → to (Some p) ≡ at_link its by p what)
+    pub elsewhere : (its : Service) (by : ℕ) (what : link.Event) (to : Option ℕ → Aim) → ((p : ℕ) → to (Some p) ≡ at_link its by p what)
         → is_at_link service tei (to (place_in l by)) ≡ false → is_own service tei its by ≡ false
     elsewhere its by what to is aims = go (is_own service tei its by) refl
       where

@@ -50,7 +50,7 @@ use Rattle.laws_trace.proofs.TimersOfEvent as events
 abbrev pub IsCountOf : Service → ℕ → ℕ → Line → Type 0
 IsCountOf service tei n l = let x = link_of service tei l in Counts x.state n x.repeats
 
-no-event : (event : link.Event) (c : Config) (l : Line) (e : line_event.Event) (a : Answer) (service : Service) (tei : ℕ) → IsBy c l e a service tei event → event ≡ link.cleared → ⊥
+pub no-event : (event : link.Event) (c : Config) (l : Line) (e : line_event.Event) (a : Answer) (service : Service) (tei : ℕ) → IsBy c l e a service tei event → event ≡ link.cleared → ⊥
 no-event (link.received what) c l e a service tei by same = cc same
 no-event (link.expired timer) c l e a service tei by same = cc same
 no-event (link.requested asked full) c l e a service tei by same = cc same

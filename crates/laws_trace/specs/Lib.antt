@@ -20,6 +20,7 @@ pub mod TimersAreTimely
 pub mod AllGoesAgain
 pub mod LinksMove
 pub mod CommandsGo
+pub mod News
 pub mod WorkedTimers
 pub mod WorkedUnits
 pub mod WorkedFrames
@@ -35,3 +36,4 @@ pub mod WorkedManaging
 pub mod WorkedAgain
 pub mod WorkedMoves
 pub mod WorkedGo
+pub mod WorkedNews

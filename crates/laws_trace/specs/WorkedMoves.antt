@@ -37,7 +37,7 @@ said before what =
     Some (option_map_or (led usual Call 64 k n what (seen_in 0 m)) (state_before Call 64 0 m) 4)
 
 -- SABME of TEI 64, up to the octet that ends it, leads from state 4 to state 7.
-abbrev sabme_comes : List card.Event
+abbrev pub sabme_comes : List card.Event
 sabme_comes = on_0 (Assign 64) ∷ hears 0x7E ∷ hears 0x00 ∷ hears 0x81 ∷ hears 0xEF ∷ hears 0x50 ∷ hears 0xB1 ∷ hears 0xFD ∷ []
 
 comes_up : said sabme_comes (octet 0xFC) ≡ Some 7

@@ -15,6 +15,7 @@ ghost use Rattle.laws_trace.specs.LinksMove.{LinksMove};
 ghost use Rattle.laws_trace.specs.LinksTakeTurns.{LinksTakeTurns};
 ghost use Rattle.laws_trace.specs.MessagesComeFirst.{MessagesComeFirst};
 ghost use Rattle.laws_trace.specs.MessagesAreOwed.{MessagesAreOwed, AllMessagesGoOut};
+ghost use Rattle.laws_trace.specs.News.{NewsIsTold};
 ghost use Rattle.laws_trace.specs.ReceiptsCount.{ReceiptsCount};
 ghost use Rattle.laws_trace.specs.TeisAgree.{TeisAgree, HeldForOne};
 ghost use Rattle.laws_trace.specs.TimersAreTimely.{TimersRun, TimersAreStarted};
@@ -197,4 +198,14 @@ pub fn links_move()
 /// as often as the configuration says, a command has begun for each, in their order (Q.921 clauses 5.5.1, 5.5.3, 5.6.7 and 5.10.3).
 pub fn commands_go()
     ensures { Always CommandsGo }
+{}
+
+/// News of links is told. Where the TEI of a link is on the line before and after an event, the answer notes of its establishment
+/// and its release exactly what is due: an establish indication where it comes from state 4 to state 7; from state 5 a confirm,
+/// where layer 3 asked for that establishment, and if this side began it, or the terminal establishes a link anew by SABME, an
+/// indication or nothing; a release confirm where it comes from state 6 to state 4, or is released in state 4; and a release
+/// indication where it comes to state 4 from another state. So no confirm is told that layer 3 did not ask for, none twice, and no
+/// end of a link goes untold (Q.921 clauses 4.1.1.1, 4.1.1.2, 5.5.1, 5.5.3 and 5.7).
+pub fn news_is_told()
+    ensures { Always NewsIsTold }
 {}

@@ -1,5 +1,5 @@
 -- The commands that are due go: the law.
-use Rattle.std.proofs.Common.{◌≡◌, ℕ, ◌+◌, ◌<◌, ◌≤◌, ◌==◌, ◌&&◌, ◌||◌, Bool, true, false, cond, List, [], ◌∷◌, ◌++◌, get_or, Option, Some, None, IfSome, refl, sym, ap, ◌∙◌, subst, arith, eqb-true, eq-eqb, true≢false, append_assoc, append-nil}
+use Rattle.std.proofs.Common.{◌≡◌, ℕ, ◌+◌, ◌<◌, ◌≤◌, ◌==◌, ◌&&◌, ◌||◌, Bool, true, false, cond, List, [], ◌∷◌, ◌++◌, get_or, Option, Some, None, refl, sym, ap, ◌∙◌, subst, arith, eqb-true, eq-eqb, true≢false, append_assoc, append-nil}
 use Rattle.std.specs.Prelude.{All, flat_map}
 use Rattle.std.specs.Option.{option_map_or}
 use Rattle.std.proofs.lemmas.Bool.{and_parts}
@@ -25,21 +25,22 @@ use Rattle.model_card.specs.Run.{Moment, moments, after_all, IsAtLine, AreAtLine
 use Rattle.model_card.specs.Sound as card_sound
 use Rattle.model_card.proofs.CardSound.{fresh_is_sound, always_sound, after_is_sound}
 use Rattle.model_card.proofs.Steps.{has_lines, by_room, line_sound}
-use Rattle.laws_card.specs.Among.{ArePullsAt, pulls_at}
+use Rattle.laws_card.specs.Among.{pulls_at}
 use Rattle.laws_card.specs.Timers.{AllHaveTheirTimers}
 use Rattle.laws_card.proofs.Enough.{enough-pulls}
 use Rattle.laws_card.proofs.TimersRun.{timely-all, timely-after, begins-timely-card}
 use Rattle.laws_card.proofs.Wherever.{all-left, all-right, config-stays, begins-with-few}
 use Rattle.laws_trace.specs.AllAreAnswered.{StaysOn}
 use Rattle.laws_trace.specs.AnswersAreAsked.{IsPart}
-use Rattle.laws_trace.specs.CommandsGo.{commands_at, command_of, is_time, due_in, CommandsGo}
+use Rattle.laws_trace.specs.CommandsGo.{commands_at, command_of, due_in, CommandsGo}
 use Rattle.laws_trace.specs.CommandsHaveCauses.{Kind}
 use Rattle.laws_trace.specs.LinksMove.{expired_of, one_more}
 use Rattle.laws_trace.specs.TimersAreTimely.{differ}
 use Rattle.laws_trace.specs.Trace as traces
 use Rattle.laws_trace.specs.Trace.{seen, trace, Always}
 use Rattle.laws_trace.proofs.AllAreAnswered.{first-on, then-on, pulls-keep, after-none}
-use Rattle.laws_trace.proofs.CommandsDue.{kinds, waits, due_at, time_at, none-due, event-serves, served-by, joins}
+use Rattle.laws_trace.proofs.CommandsOfLink.{kinds}
+use Rattle.laws_trace.proofs.CommandsDue.{waits, due_at, none-due, event-serves, served-by, joins}
 use Rattle.laws_trace.proofs.LinksMove.{differ-self, none-expires}
 use Rattle.laws_trace.proofs.Parts.{of-itself, of-nothing, both, behind, through}
 use Rattle.laws_trace.proofs.PullRuns.{apart}

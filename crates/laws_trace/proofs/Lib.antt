@@ -73,6 +73,7 @@ pub mod AllGoesAgain
 pub mod MovesOfLink
 pub mod LinkLed
 pub mod LinksMove
+pub mod CommandsOfLink
 pub mod CommandsDue
 pub mod CommandsGo
 pub mod NewsRows

@@ -1,8 +1,7 @@
 -- Which state a link moves to: one event of a line, by what is seen of it.
-use Rattle.std.proofs.Common.{◌≡◌, ℕ, ◌+◌, ◌≤◌, ◌==◌, ◌&&◌, ◌||◌, not, Bool, true, false, cond, List, [], ◌∷◌, ◌++◌, length, map, Option, Some, None, option_map, Result, Ok, Err, refl, sym, ap, ◌∙◌, subst, arith, eqb-true, eq-eqb, true≢false, ◌⊎◌, inl, inr}
-use Rattle.std.specs.Prelude.{fold, nat_lt, option_to_list, IfSome}
+use Rattle.std.proofs.Common.{◌≡◌, ℕ, ◌+◌, ◌==◌, ◌&&◌, Bool, true, false, cond, List, ◌++◌, length, map, Option, Some, None, option_map, Result, Ok, Err, refl, sym, ap, ◌∙◌, eqb-true, eq-eqb, true≢false, ◌⊎◌, inl, inr}
+use Rattle.std.specs.Prelude.{fold, nat_lt, option_to_list}
 use Rattle.std.specs.Option.{option_map_or}
-use Rattle.std.proofs.lemmas.Option.{none-some}
 use Rattle.lapd_bits.specs.Stream as stream
 use Rattle.lapd_bits.specs.declared.heard.Cause.TheVariants.{Unserved}
 use Rattle.lapd_frame.specs.declared.addresses.Address.{Address}
@@ -19,18 +18,15 @@ use Rattle.lapd_frame.specs.Reading.{reading, long_reading}
 use Rattle.lapd_frame.specs.Services.{sapi_of, service_of, same_service}
 use Rattle.lapd_frame.proofs.Spelling.{fault-again}
 use Rattle.lapd_tei.proofs.Tables.{place_of-is, is_on-at}
-use Rattle.model_link.specs.declared.terms.Terms.{Terms}
 use Rattle.model_link.specs.declared.timers.LinkTimer.{LinkTimer}
 use Rattle.model_link.specs.declared.timers.LinkTimer.TheVariants.{T200, T203}
 use Rattle.model_link.specs.Events as link
-use Rattle.model_link.specs.Link.{Link, fresh, state_number}
-use Rattle.model_link.specs.Machine as links
 use Rattle.model_line.specs.declared.config.Config.{Config}
 use Rattle.model_line.specs.Effect.{Aim, Effect, at_none, at_link}
 use Rattle.model_line.specs.Event.{Event, octet, expiry, request, pull, Answer, told, refused, pulled, nothing}
 use Rattle.model_line.specs.Expiry.{aim_of_expiry, at_timer}
-use Rattle.model_line.specs.Line.{Line, has_tei, place_in, link_of, terms}
-use Rattle.model_line.specs.Machine.{aim_of, after, answer, unless_refused, unless_refused_told, of_request}
+use Rattle.model_line.specs.Line.{Line, has_tei, place_in, terms}
+use Rattle.model_line.specs.Machine.{aim_of, answer, unless_refused, unless_refused_told, of_request}
 use Rattle.model_line.specs.Octet.{gained, heard_side, addressed, aim_of_heard, aim_of_reading, aim_of_long, drop_for, message_of}
 use Rattle.model_line.specs.Pull.{Taken, begun}
 use Rattle.model_line.specs.Refusal.{refusal}
@@ -41,18 +37,18 @@ use Rattle.model_card.specs.Pulled.{frame_taken, octet_in}
 use Rattle.laws_line.specs.Requests as laws_requests
 use Rattle.laws_line.specs.Heard.{Ends, EndsOverlong, IsMalformed, IsTooLong}
 use Rattle.laws_line.specs.Share.{is_granted}
-use Rattle.laws_line.specs.Steady.{IsBy, Brings, BringsMalformed, timer_of}
+use Rattle.laws_line.specs.Steady.{IsBy, BringsMalformed, timer_of}
 use Rattle.laws_line.proofs.Ending.{ended-octets, gained-is}
 use Rattle.laws_line.proofs.Hearing.{addressed-is, sapi-is}
 use Rattle.laws_line.proofs.Obeyed.{service-same, both-true}
 use Rattle.laws_trace.specs.CommandsHaveCauses.{is_own}
 use Rattle.laws_trace.specs.Deliveries.{parts_of, is_for}
-use Rattle.laws_trace.specs.LinksMove.{is_up, by_frame, fault_is_for, is_faulty, is_faulty_long, by_parts, by_request, by_seen, by_expiry, expired_of, one_more, led}
+use Rattle.laws_trace.specs.LinksMove.{is_up, by_frame, is_faulty, is_faulty_long, by_parts, by_request, by_seen, by_expiry, expired_of, one_more, led}
 use Rattle.laws_trace.specs.TimersAreTimely.{Known}
 use Rattle.laws_trace.specs.Trace as traces
 use Rattle.laws_trace.specs.Trace.{seen, seen_told, seen_granted}
 use Rattle.laws_trace.proofs.MovesOfLink.{expected, ticks}
-use Rattle.laws_trace.proofs.OneLink.{HasOne, HasNone, is_at_link}
+use Rattle.laws_trace.proofs.OneLink.{is_at_link}
 
 and-false : (b : Bool) → (b && false) ≡ false
 and-false true = refl

@@ -1,11 +1,10 @@
 -- Which state an event of a link leads to, and how often its command was repeated: by what an observer knows, row by row.
-use Rattle.std.proofs.Common.{◌≡◌, ℕ, ◌+◌, ◌-◌, ◌%◌, ◌≤◌, ◌<◌, ◌==◌, ◌&&◌, ◌||◌, not, Bool, true, false, cond, List, length, Option, Some, None, refl, sym, ap, ◌∙◌, subst, arith, true≢false, ltb-true, ltb-false}
+use Rattle.std.proofs.Common.{◌≡◌, ℕ, ◌+◌, ◌-◌, ◌%◌, ◌≤◌, ◌<◌, ◌==◌, not, Bool, true, false, cond, List, length, Option, Some, None, refl, sym, ap, ◌∙◌, subst, arith, ltb-true, ltb-false}
 use Rattle.std.specs.Prelude.{nat_le, nat_lt, is_some}
 use Rattle.std.proofs.lemmas.Bool.{leb-true, leb-false}
 use Rattle.lapd_frame.specs.declared.addresses.Address.{Address}
 use Rattle.lapd_frame.specs.declared.controls.Control.{Control}
 use Rattle.lapd_frame.specs.declared.controls.Control.TheVariants.{Information, ReceiveReady, ReceiveNotReady, Reject, Sabme, Disc, Ui, Ua, Dm, Frmr, Xid}
-use Rattle.lapd_frame.specs.declared.services.Service.{Service}
 use Rattle.lapd_frame.specs.declared.services.Service.TheVariants.{Call}
 use Rattle.lapd_frame.specs.Grammar.{Parts}
 use Rattle.lapd_seq.specs.declared.numbers.Seq.{Seq}
@@ -27,9 +26,8 @@ use Rattle.laws_link.specs.States.{as_heard, state_after, moves}
 use Rattle.laws_link.specs.Waiting.{is_time}
 use Rattle.laws_link.proofs.Follows.{event-follows}
 use Rattle.laws_trace.specs.LinksMove.{is_up, steps, is_invalid, by_frame, by_expiry, one_more}
-use Rattle.laws_trace.specs.TimersAreTimely.{Known, is_state, awaits}
-use Rattle.laws_trace.proofs.TimerClaims.{IsKnown, Agrees, told_state}
-use Rattle.laws_trace.proofs.TimerEvents.{ran_before}
+use Rattle.laws_trace.specs.TimersAreTimely.{Known, awaits}
+use Rattle.laws_trace.proofs.TimerClaims.{IsKnown, Agrees}
 use Rattle.laws_trace.proofs.TimerRows.{in_state}
 use Rattle.laws_trace.proofs.TimersAreTimely.{by-state}
 

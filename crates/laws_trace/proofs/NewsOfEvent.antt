@@ -1,68 +1,35 @@
 -- What layer 3 is told of the establishment and release of a link: one event of its line.
-use Rattle.std.proofs.Common.{◌≡◌, ℕ, ◌<◌, ◌==◌, ◌&&◌, ◌||◌, not, Bool, true, false, cond, List, [], ◌∷◌, ◌++◌, map, get_or, set, Option, Some, None, option_map, refl, sym, ap, ◌∙◌, subst, arith, eqb-true, eq-eqb, true≢false, ◌⊎◌, inl, inr}
-use Rattle.std.specs.Prelude.{fold, filter, option_to_list}
+use Rattle.std.proofs.Common.{◌≡◌, ℕ, ◌==◌, ◌&&◌, Bool, true, false, cond, [], Option, Some, None, refl, sym, ap, ◌∙◌, subst, ◌⊎◌, inl, inr}
+use Rattle.std.specs.Prelude.{filter}
 use Rattle.std.specs.List.{list_any}
-use Rattle.std.specs.Option.{option_map_or}
-use Rattle.std.proofs.lemmas.Bool.{and_parts}
-use Rattle.std.proofs.lemmas.List.{get_or-set_same, get_or-replicate}
-use Rattle.std.proofs.lemmas.List.Elements.{All-head, All-tail}
 use Rattle.std.proofs.lemmas.Option.{none-some}
-use Rattle.lapd_bits.specs.Stream as stream
-use Rattle.lapd_frame.specs.declared.controls.Control.{Control}
-use Rattle.lapd_frame.specs.declared.notes.Note.{Note}
-use Rattle.lapd_frame.specs.declared.refusals.Refusal.TheVariants.{PoolFull}
 use Rattle.lapd_frame.specs.declared.services.Service.{Service}
 use Rattle.model_link.specs.declared.states.State.{State}
 use Rattle.model_link.specs.declared.states.State.TheVariants.{TeiAssigned, AwaitingEstablishment, AwaitingRelease, Established, TimerRecovery}
 use Rattle.model_link.specs.declared.terms.Terms.{Terms}
-use Rattle.model_link.specs.declared.timers.LinkTimer.TheVariants.{T200, T203}
 use Rattle.model_link.specs.Events as link
 use Rattle.model_link.specs.Link.{Link, fresh as fresh_link, state_number}
 use Rattle.model_link.specs.Machine as links
 use Rattle.model_line.specs.declared.config.Config.{Config}
 use Rattle.model_line.specs.Event as line_event
-use Rattle.model_line.specs.Event.{octet, expiry, request, pull, Answer, told, refused, pulled}
-use Rattle.model_line.specs.Line.{Line, fresh_line, link_of, link_in, place_in, state_of, terms}
+use Rattle.model_line.specs.Event.{Answer, told}
+use Rattle.model_line.specs.Line.{Line, link_of, place_in, state_of, terms}
 use Rattle.model_line.specs.Machine as lines
-use Rattle.model_line.specs.Octet.{gained}
-use Rattle.model_line.specs.Pull.{Taken}
-use Rattle.model_line.specs.Pull as line_pull
-use Rattle.model_line.specs.Request.{Request, Establish, Release, Data, Assign, Remove, Check, SetBusy, ClearBusy}
-use Rattle.model_line.specs.Requested.{at_requested, aim_of_request}
-use Rattle.model_line.specs.Sound.{IsInRange, IsSound}
-use Rattle.model_card.specs.Card.{Card, fresh, line_at, is_full}
-use Rattle.model_card.specs.Event.{Event, at}
+use Rattle.model_line.specs.Sound.{IsSound}
+use Rattle.model_card.specs.Event.{Event}
 use Rattle.model_card.specs.Machine.{after, answer}
-use Rattle.model_card.specs.Pulled.{frame_taken, octet_in}
-use Rattle.model_card.specs.Run.{Moment, moments, after_all, IsAtLine, AreAtLines}
-use Rattle.model_card.specs.Sound as card_sound
-use Rattle.model_card.proofs.CardSound.{fresh_is_sound, after_is_sound}
-use Rattle.model_card.proofs.Steps.{has_lines, by_room, line_sound}
 use Rattle.laws_line.specs.Heard.{notes_of}
-use Rattle.laws_line.specs.Requests as laws_requests
-use Rattle.laws_line.specs.Share.{is_granted}
-use Rattle.laws_line.specs.Steady.{IsBy}
-use Rattle.laws_line.proofs.TimersFollow.{nowhere}
-use Rattle.laws_link.specs.Flags.{asks_establishment}
 use Rattle.laws_link.specs.States.{moves}
-use Rattle.laws_trace.specs.CommandsHaveCauses.{is_own}
-use Rattle.lapd_frame.specs.Grammar.{Parts}
-use Rattle.laws_trace.specs.Deliveries.{is_for, frame_of as frame_heard}
-use Rattle.laws_trace.specs.News.{is_news, is_indicated, establishes, releases, is_sabme, begins, asked, due, NewsIsTold}
-use Rattle.laws_trace.specs.TimersAreTimely.{control_in, is_state, differ}
-use Rattle.laws_trace.specs.Trace as traces
-use Rattle.laws_trace.specs.Trace.{seen, seen_told, seen_granted, Always}
-use Rattle.laws_trace.proofs.Deliveries.{frame_by, brings-frame, brings-none}
-use Rattle.laws_trace.proofs.DeliveriesRun.{event-aims}
-use Rattle.laws_trace.proofs.LinkLed.{own-is, on-line, none-refused, elsewhere}
-use Rattle.laws_trace.proofs.LinksMove.{differs, differ-self, no-event}
+use Rattle.laws_trace.specs.News.{is_news, is_indicated, establishes, releases, begins, asked, due}
+use Rattle.laws_trace.specs.TimersAreTimely.{is_state, differ}
+use Rattle.laws_trace.specs.Trace.{seen}
+use Rattle.laws_trace.proofs.LinkLed.{on-line}
+use Rattle.laws_trace.proofs.LinksMove.{differs, no-event}
 use Rattle.laws_trace.proofs.NewsOfOthers.{none-filtered, others-silent}
 use Rattle.laws_trace.proofs.NewsRows.{sabme_of, released_of}
 use Rattle.laws_trace.proofs.NewsOfLink.{event-news, Asks, event-asking}
-use Rattle.laws_trace.proofs.OneLink.{is_at_link, HasOne, HasNone, Goes, event-goes}
-use Rattle.laws_trace.proofs.PullRuns.{apart}
+use Rattle.laws_trace.proofs.OneLink.{HasOne, HasNone, Goes, event-goes}
 use Rattle.laws_trace.proofs.TimerClaims.{told_state}
-use Rattle.laws_trace.proofs.TimersAreTimely.{sound-now, config-now, front-at, itself}
 use Rattle.laws_trace.proofs.TimersOfEvent.{state-on, off-fresh, off-state}
 use Rattle.laws_trace.proofs.NewsSeen.{one-begins, one-releases, one-establishes, none-begins, none-releases}
 

@@ -1,40 +1,25 @@
 -- What a link tells of establishments and releases: each event of it; and who asked for the establishment that it awaits.
-use Rattle.std.proofs.Common.{◌≡◌, ℕ, ◌+◌, ◌==◌, ◌&&◌, ◌||◌, not, Bool, true, false, cond, List, [], ◌∷◌, ◌++◌, length, Option, Some, None, refl, sym, ap, ◌∙◌, subst, arith, true≢false}
-use Rattle.std.specs.Prelude.{All, filter, nat_lt, is_some}
+use Rattle.std.proofs.Common.{◌≡◌, ◌==◌, ◌&&◌, Bool, true, false, cond, [], refl, sym, ap, ◌∙◌, subst}
+use Rattle.std.specs.Prelude.{filter}
 use Rattle.std.specs.List.{list_any}
-use Rattle.std.proofs.lemmas.List.Elements.{All-head, All-tail}
-use Rattle.lapd_frame.specs.declared.addresses.Address.{Address}
-use Rattle.lapd_frame.specs.declared.controls.Control.{Control}
-use Rattle.lapd_frame.specs.declared.controls.Control.TheVariants.{Information, ReceiveReady, ReceiveNotReady, Reject, Sabme, Disc, Ui, Ua, Dm, Frmr, Xid}
-use Rattle.lapd_frame.specs.declared.notes.ErrorCode.TheVariants as code
-use Rattle.lapd_frame.specs.declared.notes.Note.{Note}
 use Rattle.lapd_frame.specs.declared.notes.Note.TheVariants as notes
-use Rattle.lapd_frame.specs.declared.services.Service.{Service}
-use Rattle.lapd_frame.specs.Services.{same_service}
 use Rattle.lapd_frame.specs.Grammar.{Parts}
-use Rattle.lapd_seq.specs.declared.numbers.Seq.{Seq}
-use Rattle.lapd_seq.specs.Circle.{named}
 use Rattle.model_link.specs.declared.states.State.{State}
 use Rattle.model_link.specs.declared.states.State.TheVariants.{TeiAssigned, AwaitingEstablishment, AwaitingRelease, Established, TimerRecovery}
 use Rattle.model_link.specs.declared.terms.Terms.{Terms}
 use Rattle.model_link.specs.declared.timers.LinkTimer.{LinkTimer}
 use Rattle.model_link.specs.declared.timers.LinkTimer.TheVariants.{T200, T203}
 use Rattle.model_link.specs.Events.{Event, Received, Request, frame, undefined, wrong_size, overlong, Establish, Release, Data, SetBusy, ClearBusy, received, expired, requested, offer, cleared}
-use Rattle.model_link.specs.Known.{IsOwn}
 use Rattle.model_link.specs.Link.{Link, state_number, may_repeat}
 use Rattle.model_link.specs.Machine as links
 use Rattle.model_link.specs.Told.{runs}
 use Rattle.model_link.proofs.OwnNotes.{notes-own}
-use Rattle.laws_link.specs.Flags.{takes_contents, asked_left, asks_establishment}
-use Rattle.laws_link.specs.States as states
-use Rattle.laws_link.specs.States.{as_heard, state_after, moves, by_frame, by_expiry}
-use Rattle.laws_link.specs.Telling.{told_by, numbered_as, final_as, to_unit, told_expired, told_requested, told_malformed}
+use Rattle.laws_link.specs.Flags.{asked_left, asks_establishment}
+use Rattle.laws_link.specs.States.{as_heard, state_after, moves, by_expiry}
+use Rattle.laws_link.specs.Telling.{told_by, told_expired}
 use Rattle.laws_link.proofs.Follows.{event-follows}
-use Rattle.laws_trace.specs.CommandsHaveCauses.{is_own}
-use Rattle.laws_trace.specs.News.{is_news, is_indicated, is_sabme, due}
-use Rattle.laws_trace.proofs.LinkLed.{own-is}
-use Rattle.laws_trace.proofs.NewsRows.{is_kind, is_indication, all-news, all-indicated, sabme_of, released_of, Fits, Told, nothing-fits, by-control}
-use Rattle.laws_trace.proofs.TimerRows.{in_state}
+use Rattle.laws_trace.specs.News.{is_news, is_indicated, due}
+use Rattle.laws_trace.proofs.NewsRows.{all-news, all-indicated, sabme_of, released_of, Fits, Told, nothing-fits, by-control}
 
 module _ (t : Terms) (l : Link) where
   malformed : (here : State) (what : Received) → ((f : Parts) → what ≡ frame f → ⊥) → Told t l here (received what)

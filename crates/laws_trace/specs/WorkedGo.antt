@@ -1,18 +1,16 @@
 -- Worked values: commands that are due, and that go; and commands that do not, which breaks the law.
-use Rattle.std.specs.Prelude.{◌≡◌, ℕ, List, [], ◌∷◌, ◌++◌, flat_map, refl}
+use Rattle.std.specs.Prelude.{◌≡◌, List, [], ◌∷◌, ◌++◌, flat_map, refl}
 use Rattle.lapd_bits.specs.Bits.{low_bits}
 use Rattle.lapd_frame.specs.declared.services.Service.TheVariants.{Call}
 use Rattle.lapd_frame.specs.declared.timers.Timer.TheVariants.{T200, T203}
 use Rattle.lapd_frame.specs.Reading.{reading, header_of, control_of, unnumbered_of, supervisory_of}
-use Rattle.lapd_seq.specs.Circle.{named, distance_of}
-use Rattle.lapd_seq.specs.Numbers.{seq}
 use Rattle.lapd_tei.specs.Events as teis
 use Rattle.model_line.specs.Event.{expiry}
 use Rattle.model_line.specs.Machine as lines
 use Rattle.model_line.specs.Request.{Assign, Establish, Release}
 use Rattle.model_card.specs.Card.{fresh}
 use Rattle.model_card.specs.Event.{Event, at}
-use Rattle.model_card.specs.Run.{moments, after_all}
+use Rattle.model_card.specs.Run.{moments}
 use Rattle.laws_card.specs.Worked.{usual, on_0, up}
 use Rattle.laws_trace.specs.AnswersAreAsked.{IsPart, none, left_out, taken}
 use Rattle.laws_trace.specs.CommandsGo.{due_in, commands_at}

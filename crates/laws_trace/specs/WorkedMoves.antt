@@ -1,5 +1,5 @@
 -- Worked values: which state a link moves to; and moves that break the law.
-use Rattle.std.specs.Prelude.{◌≡◌, ℕ, List, [], ◌∷◌, ◌++◌, fold, Option, Some, None, refl}
+use Rattle.std.specs.Prelude.{◌≡◌, ℕ, List, [], ◌∷◌, ◌++◌, fold, Option, Some, refl}
 use Rattle.std.specs.Option.{option_map_or}
 use Rattle.lapd_bits.specs.Bits.{low_bits}
 use Rattle.lapd_bits.specs.Stream as stream
@@ -20,9 +20,8 @@ use Rattle.model_card.specs.Machine.{after, answer}
 use Rattle.model_card.specs.Run.{Moment, moments, after_all}
 use Rattle.laws_card.specs.Worked.{usual, on_0, hears}
 use Rattle.laws_trace.specs.LinksMove.{led, repeated}
-use Rattle.laws_trace.specs.TimersAreTimely.{Known, nothing_yet, watch, state_before, state_after}
+use Rattle.laws_trace.specs.TimersAreTimely.{nothing_yet, watch, state_before}
 use Rattle.laws_trace.specs.Trace.{Seen, heard, seen_in}
-use Rattle.laws_trace.specs.WorkedUnits.{pulls}
 
 -- The state that the last event leads to, as the law says it.
 abbrev moment_at : List card.Event → Event → Moment

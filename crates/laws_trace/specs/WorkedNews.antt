@@ -1,5 +1,5 @@
 -- Worked values: what layer 3 is told of a link; and notes that break the law.
-use Rattle.std.specs.Prelude.{◌≡◌, ℕ, Bool, true, false, List, [], ◌∷◌, ◌++◌, fold, filter, refl}
+use Rattle.std.specs.Prelude.{◌≡◌, ℕ, true, false, List, [], ◌∷◌, fold, filter, refl}
 use Rattle.std.specs.List.{list_any}
 use Rattle.lapd_bits.specs.Bits.{low_bits}
 use Rattle.lapd_frame.specs.declared.notes.Note.{Note}
@@ -7,7 +7,7 @@ use Rattle.lapd_frame.specs.declared.notes.Note.TheVariants.{EstablishIndication
 use Rattle.lapd_frame.specs.declared.services.Service.TheVariants.{Call}
 use Rattle.lapd_frame.specs.Reading.{reading, header_of, control_of, unnumbered_of, supervisory_of}
 use Rattle.lapd_tei.specs.Events as teis
-use Rattle.model_line.specs.Event.{Event, octet, request, Answer}
+use Rattle.model_line.specs.Event.{Event, octet, request}
 use Rattle.model_line.specs.Machine as lines
 use Rattle.model_line.specs.Request.{Assign, Establish, Release}
 use Rattle.laws_line.specs.Heard.{notes_of}
@@ -16,7 +16,7 @@ use Rattle.model_card.specs.Event as card
 use Rattle.model_card.specs.Event.{at}
 use Rattle.model_card.specs.Machine.{answer}
 use Rattle.model_card.specs.Run.{Moment, moments, after_all}
-use Rattle.laws_card.specs.Worked.{usual, on_0, up}
+use Rattle.laws_card.specs.Worked.{usual, on_0}
 use Rattle.laws_trace.specs.News.{is_news, is_indicated, releases, begins, asked, due}
 use Rattle.laws_trace.specs.Trace.{seen_in}
 use Rattle.laws_trace.specs.WorkedMoves.{sabme_comes}

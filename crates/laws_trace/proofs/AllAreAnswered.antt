@@ -87,7 +87,7 @@ module _ (service : Service) (tei : ℕ) where
       (subst (λ n. has_tei tei (line_at n m) ≡ true → has_tei tei (line_at n (cards.after e m)) ≡ true → let t = seen m.config e.what (line_at n m) (cards.answer e m) in
       served-by service tei m.config (line_at n m) (due_at service tei m.config (line_at n m) (cards.answer e m) t) t (line_at n (cards.after e m))) at (own-line m e s at-line) was is)
 
-  first-on : (number : ℕ) (m : Card) (events : List card.Event) → StaysOn number tei m events → has_tei tei (line_at number m) ≡ true
+  pub first-on : (number : ℕ) (m : Card) (events : List card.Event) → StaysOn number tei m events → has_tei tei (line_at number m) ≡ true
   unfolding StaysOn
   first-on number m [] h = h
   first-on number m (e ∷ events) h = h.0
@@ -136,7 +136,7 @@ module _ (service : Service) (tei : ℕ) where
   event-keeps m e number s at-line only on false other =
       subst (λ (l : Line). has_tei tei l ≡ true) (sym (apart m e number (λ same. true≢false (sym (eq-eqb e.line number (sym same)) ∙ other)))) on
 
-  pulls-keep : (m : Card) (pulls : List card.Event) (number : ℕ) → card_sound.IsSound m → AreAtLines m pulls → ArePullsAt number pulls → has_tei tei (line_at number m) ≡ true → StaysOn number tei m pulls
+  pub pulls-keep : (m : Card) (pulls : List card.Event) (number : ℕ) → card_sound.IsSound m → AreAtLines m pulls → ArePullsAt number pulls → has_tei tei (line_at number m) ≡ true → StaysOn number tei m pulls
   unfolding StaysOn
   pulls-keep m [] number s all only on = on
   pulls-keep m (e ∷ pulls) number s all only on =
@@ -146,7 +146,7 @@ module _ (service : Service) (tei : ℕ) where
             (event-keeps m e number s here (All-head (λ (x : card.Event). x.line ≡ number → x.what ≡ pull) e pulls only) on (e.line == number) refl),
       )
 
-  then-on : (m : Card) (front behind : List card.Event) (number : ℕ) → StaysOn number tei m front → (has_tei tei (line_at number (after_all m front)) ≡ true → StaysOn number tei (after_all m front) behind)
+  pub then-on : (m : Card) (front behind : List card.Event) (number : ℕ) → StaysOn number tei m front → (has_tei tei (line_at number (after_all m front)) ≡ true → StaysOn number tei (after_all m front) behind)
       → StaysOn number tei m (front ++ behind)
   unfolding StaysOn after_all
   then-on m [] behind number on rest = rest on
@@ -173,7 +173,7 @@ module _ (service : Service) (tei : ℕ) where
           let few : number < link_count c = number_within place c.terminals service (omega (arith, s.places, at-within l.management.places place tei at)) in
           ap answers_in (h.links number few tei (ap (λ p. tei_at p l) (place_at-number place service) ∙ at)).waiting
 
-after-none : (c : Config) (m : Card) (events : List card.Event) (number : ℕ) → after_all (fresh c) events ≡ m → HasNothing m.config (line_at number (after_all m []))
+pub after-none : (c : Config) (m : Card) (events : List card.Event) (number : ℕ) → after_all (fresh c) events ≡ m → HasNothing m.config (line_at number (after_all m []))
     → HasNothing c (line_at number (after_all (fresh c) events))
 unfolding after_all
 after-none c m events number end h =

@@ -79,7 +79,7 @@ addressed-is l sapi to command service tei place what m its by on =
     by-service Call = refl
     by-service Packet = refl
 
-at-some-place : (l : Line) (tei : ℕ) → has_tei tei l ≡ true → (place : ℕ) × (place_in l tei ≡ Some place)
+pub at-some-place : (l : Line) (tei : ℕ) → has_tei tei l ≡ true → (place : ℕ) × (place_in l tei ≡ Some place)
 at-some-place l tei on = go (place_in l tei) refl
   where
     go : (o : Option ℕ) → place_in l tei ≡ o → (place : ℕ) × (place_in l tei ≡ Some place)

@@ -81,7 +81,7 @@ due-answered command (Frmr f) l = of-nothing (answers_in (answers_to command (Fr
 due-answered command (Xid f) l = of-nothing (answers_in (answers_to command (Xid f) l))
 
 -- Where none is lost, all that is put waits.
-none-dropped : (n : ℕ) (frames : List ControlFrame) → length (drop n frames) ≡ 0 → take n frames ≡ frames
+pub none-dropped : (n : ℕ) (frames : List ControlFrame) → length (drop n frames) ≡ 0 → take n frames ≡ frames
 none-dropped n frames none = sym (append-nil (take n frames)) ∙ ap (λ xs. take n frames ++ xs) (sym (empty (drop n frames) none)) ∙ take-append-drop n frames
   where
     empty : (xs : List ControlFrame) → length xs ≡ 0 → xs ≡ []

@@ -70,3 +70,15 @@ pub mod TimersOfEvent
 pub mod TimersStarted
 pub mod TimersAreTimely
 pub mod AllGoesAgain
+pub mod MovesOfLink
+pub mod LinkLed
+pub mod LinksMove
+pub mod CommandsOfLink
+pub mod CommandsDue
+pub mod CommandsGo
+pub mod NewsRows
+pub mod NewsOfLink
+pub mod NewsOfOthers
+pub mod NewsSeen
+pub mod NewsOfEvent
+pub mod News

@@ -198,7 +198,7 @@ module _ (c : Config) (events : List Event) (number : ℕ) (ranged : IsInRange c
   pub config-now : card.config ≡ c
   config-now = config-same (fresh c) events
 
-  begins-true : IsTrueOf service tei nothing_yet (line_at number (fresh c))
+  pub begins-true : IsTrueOf service tei nothing_yet (line_at number (fresh c))
   begins-true =
       let start : line_at number (fresh c) ≡ fresh_line c = get_or-replicate c.lines number (fresh_line c) (fresh_line c) within in
       let off : link_of service tei (line_at number (fresh c)) ≡ fresh_link =
@@ -231,7 +231,7 @@ module _ (service : Service) (tei : ℕ) (k : Known) where
           let same : s ≡ a = omega (arith, equal, ordered, within) in
           absurd (true≢false (sym (eq-eqb s a same) ∙ other))
 
-  by-state : (state : State) (l : Link) → Agrees state k l.a l.s l.peer_busy → l.a ≤ l.s → l.s ≤ l.a + 127 → Run (told_state state) (needed_in state l)
+  pub by-state : (state : State) (l : Link) → Agrees state k l.a l.s l.peer_busy → l.a ≤ l.s → l.s ≤ l.a + 127 → Run (told_state state) (needed_in state l)
   by-state TeiAssigned l h ordered within = (refl, refl)
   by-state AwaitingEstablishment l h ordered within = (refl, refl)
   by-state AwaitingRelease l h ordered within = (refl, refl)
@@ -327,12 +327,12 @@ pub timers-run : Always TimersRun
 timers-run c events number ranged all within service tei = run-law c events number ranged all within service tei
 
 -- the events before are at lines of the card
-front-at : (m : Card) (before : List Event) (e : Event) (behind : List Event) → AreAtLines m (before ++ e ∷ behind) → AreAtLines m before
+pub front-at : (m : Card) (before : List Event) (e : Event) (behind : List Event) → AreAtLines m (before ++ e ∷ behind) → AreAtLines m before
 front-at m [] e behind all = All-nil (IsAtLine m)
 front-at m (x ∷ before) e behind all =
     All-cons (IsAtLine m) x before (All-head (IsAtLine m) x (before ++ e ∷ behind) all) (front-at m before e behind (All-tail (IsAtLine m) x (before ++ e ∷ behind) all))
 
-itself : (n : ℕ) → (n == n) ≡ true
+pub itself : (n : ℕ) → (n == n) ≡ true
 itself n = eq-eqb n n refl
 
 pub timers-are-started : Always TimersAreStarted

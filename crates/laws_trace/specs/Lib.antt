@@ -18,6 +18,9 @@ pub mod MessagesAreOwed
 pub mod TeisAgree
 pub mod TimersAreTimely
 pub mod AllGoesAgain
+pub mod LinksMove
+pub mod CommandsGo
+pub mod News
 pub mod WorkedTimers
 pub mod WorkedUnits
 pub mod WorkedFrames
@@ -31,3 +34,6 @@ pub mod WorkedCommands
 pub mod WorkedReceipts
 pub mod WorkedManaging
 pub mod WorkedAgain
+pub mod WorkedMoves
+pub mod WorkedGo
+pub mod WorkedNews

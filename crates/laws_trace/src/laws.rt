@@ -4,15 +4,18 @@ ghost use Rattle.laws_trace.specs.Trace.{Always};
 ghost use Rattle.laws_trace.specs.AllAreAnswered.{AllAreAnswered};
 ghost use Rattle.laws_trace.specs.AllGoesAgain.{AllGoesAgain};
 ghost use Rattle.laws_trace.specs.AnswersAreAsked.{AnswersAreAsked};
+ghost use Rattle.laws_trace.specs.CommandsGo.{CommandsGo};
 ghost use Rattle.laws_trace.specs.CommandsHaveCauses.{CommandsHaveCauses};
 ghost use Rattle.laws_trace.specs.Configurations.{RangesAreServed};
 ghost use Rattle.laws_trace.specs.FramesAreRead.{FramesAreRead, FramesAreOctets, FramesGoOutAsTheyAre};
 ghost use Rattle.laws_trace.specs.FramesGoOut.{FramesGoOut, AllFramesGoOut, AllThatWaitedBegins};
 ghost use Rattle.laws_trace.specs.DataGoesOut.{DataGoesOut, AllDataGoesOut};
 ghost use Rattle.laws_trace.specs.Deliveries.{Deliveries, AllAreTold};
+ghost use Rattle.laws_trace.specs.LinksMove.{LinksMove};
 ghost use Rattle.laws_trace.specs.LinksTakeTurns.{LinksTakeTurns};
 ghost use Rattle.laws_trace.specs.MessagesComeFirst.{MessagesComeFirst};
 ghost use Rattle.laws_trace.specs.MessagesAreOwed.{MessagesAreOwed, AllMessagesGoOut};
+ghost use Rattle.laws_trace.specs.News.{NewsIsTold};
 ghost use Rattle.laws_trace.specs.ReceiptsCount.{ReceiptsCount};
 ghost use Rattle.laws_trace.specs.TeisAgree.{TeisAgree, HeldForOne};
 ghost use Rattle.laws_trace.specs.TimersAreTimely.{TimersRun, TimersAreStarted};
@@ -175,4 +178,34 @@ pub fn messages_are_owed()
 pub fn timers_are_timely()
     ensures run { Always TimersRun }
     ensures started { Always TimersAreStarted }
+{}
+
+/// Links move as they are led. After an event at its line a link is in the state that this has for the state before: 7 by SABME in
+/// states 4, 7 and 8, by UA with F=1 in state 5, and, in state 8, by a response with F=1; 4 by DISC in states 7 and 8, by DM with
+/// F=1 in states 5 and 6, and by UA with F=1 in state 6; 5 by a request to establish it in state 4, by DM with F=0 in state 7,
+/// and in states 7 and 8 by FRMR, an invalid N(R), and a frame that is malformed or too long, and by any DM in state 8; 6 by a
+/// request to release it in states 7 and 8; 8 by the expiry of the timer that runs in state 7. T200, which runs in states 5, 6 and
+/// 8, leaves them as it expires where it has expired N200 times since the link came there: for 4, 4 and 5. Nothing else moves a
+/// link. So a command that is not answered is repeated N200 times, and no more. And a link whose TEI comes to the line is in
+/// state 4 (Q.921 clauses 3.5.2.3, 5.3, 5.5.1 to 5.5.5, 5.6.7, 5.7, 5.8, 5.9.2 and 5.10.3).
+pub fn links_move()
+    ensures { Always LinksMove }
+{}
+
+/// Commands that are due go. Whatever happened before: of a link whose TEI stays on the line, SABME is due where it comes to
+/// state 5, DISC where it comes to state 6, and an enquiry, which is a supervisory command with P=1, where it comes to state 8; and
+/// again where its T200 expires and leaves it there; except where the answer counts a frame as lost. Once the line was only pulled,
+/// as often as the configuration says, a command has begun for each, in their order (Q.921 clauses 5.5.1, 5.5.3, 5.6.7 and 5.10.3).
+pub fn commands_go()
+    ensures { Always CommandsGo }
+{}
+
+/// News of links is told. Where the TEI of a link is on the line before and after an event, the answer notes of its establishment
+/// and its release exactly what is due: an establish indication where it comes from state 4 to state 7; from state 5 a confirm,
+/// where layer 3 asked for that establishment, and if this side began it, or the terminal establishes a link anew by SABME, an
+/// indication or nothing; a release confirm where it comes from state 6 to state 4, or is released in state 4; and a release
+/// indication where it comes to state 4 from another state. So no confirm is told that layer 3 did not ask for, none twice, and no
+/// end of a link goes untold (Q.921 clauses 4.1.1.1, 4.1.1.2, 5.5.1, 5.5.3 and 5.7).
+pub fn news_is_told()
+    ensures { Always NewsIsTold }
 {}

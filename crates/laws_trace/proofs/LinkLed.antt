@@ -1,0 +1,304 @@
+-- Which state a link moves to: one event of a line, by what is seen of it.
+use Rattle.std.proofs.Common.{◌≡◌, ℕ, ◌+◌, ◌==◌, ◌&&◌, Bool, true, false, cond, List, ◌++◌, length, map, Option, Some, None, option_map, Result, Ok, Err, refl, sym, ap, ◌∙◌, eqb-true, eq-eqb, true≢false, ◌⊎◌, inl, inr}
+use Rattle.std.specs.Prelude.{fold, nat_lt, option_to_list}
+use Rattle.std.specs.Option.{option_map_or}
+use Rattle.lapd_bits.specs.Stream as stream
+use Rattle.lapd_bits.specs.declared.heard.Cause.TheVariants.{Unserved}
+use Rattle.lapd_frame.specs.declared.addresses.Address.{Address}
+use Rattle.lapd_frame.specs.declared.faults.ReadFault.{ReadFault}
+use Rattle.lapd_frame.specs.declared.faults.ReadFault.TheVariants.{BadExtension, Undefined, WrongSize, Short}
+use Rattle.lapd_frame.specs.declared.overlong.Long.{Long}
+use Rattle.lapd_frame.specs.declared.overlong.Long.TheVariants as long
+use Rattle.lapd_frame.specs.declared.refusals.Refusal.{Refusal}
+use Rattle.lapd_frame.specs.declared.services.Service.{Service}
+use Rattle.lapd_frame.specs.declared.timers.Timer.{Timer}
+use Rattle.lapd_frame.specs.declared.timers.Timer.TheVariants as timers
+use Rattle.lapd_frame.specs.Grammar.{Parts}
+use Rattle.lapd_frame.specs.Reading.{reading, long_reading}
+use Rattle.lapd_frame.specs.Services.{sapi_of, service_of, same_service}
+use Rattle.lapd_frame.proofs.Spelling.{fault-again}
+use Rattle.lapd_tei.proofs.Tables.{place_of-is, is_on-at}
+use Rattle.model_link.specs.declared.timers.LinkTimer.{LinkTimer}
+use Rattle.model_link.specs.declared.timers.LinkTimer.TheVariants.{T200, T203}
+use Rattle.model_link.specs.Events as link
+use Rattle.model_line.specs.declared.config.Config.{Config}
+use Rattle.model_line.specs.Effect.{Aim, Effect, at_none, at_link}
+use Rattle.model_line.specs.Event.{Event, octet, expiry, request, pull, Answer, told, refused, pulled, nothing}
+use Rattle.model_line.specs.Expiry.{aim_of_expiry, at_timer}
+use Rattle.model_line.specs.Line.{Line, has_tei, place_in, terms}
+use Rattle.model_line.specs.Machine.{aim_of, answer, unless_refused, unless_refused_told, of_request}
+use Rattle.model_line.specs.Octet.{gained, heard_side, addressed, aim_of_heard, aim_of_reading, aim_of_long, drop_for, message_of}
+use Rattle.model_line.specs.Pull.{Taken, begun}
+use Rattle.model_line.specs.Refusal.{refusal}
+use Rattle.model_line.specs.Request.{Request, Establish, Release, Data, Assign, Remove, Check, SetBusy, ClearBusy}
+use Rattle.model_line.specs.Requested.{aim_of_request, at_requested}
+use Rattle.model_line.specs.Sides.{at_side}
+use Rattle.model_card.specs.Pulled.{frame_taken, octet_in}
+use Rattle.laws_line.specs.Requests as laws_requests
+use Rattle.laws_line.specs.Heard.{Ends, EndsOverlong, IsMalformed, IsTooLong}
+use Rattle.laws_line.specs.Share.{is_granted}
+use Rattle.laws_line.specs.Steady.{IsBy, BringsMalformed, timer_of}
+use Rattle.laws_line.proofs.Ending.{ended-octets, gained-is}
+use Rattle.laws_line.proofs.Hearing.{addressed-is, sapi-is}
+use Rattle.laws_line.proofs.Obeyed.{service-same, both-true}
+use Rattle.laws_trace.specs.CommandsHaveCauses.{is_own}
+use Rattle.laws_trace.specs.Deliveries.{parts_of, is_for}
+use Rattle.laws_trace.specs.LinksMove.{is_up, by_frame, is_faulty, is_faulty_long, by_parts, by_request, by_seen, by_expiry, expired_of, one_more, led}
+use Rattle.laws_trace.specs.TimersAreTimely.{Known}
+use Rattle.laws_trace.specs.Trace as traces
+use Rattle.laws_trace.specs.Trace.{seen, seen_told, seen_granted}
+use Rattle.laws_trace.proofs.MovesOfLink.{expected, ticks}
+use Rattle.laws_trace.proofs.OneLink.{is_at_link}
+
+and-false : (b : Bool) → (b && false) ≡ false
+and-false true = refl
+and-false false = refl
+
+and-true : (b : Bool) → (b && true) ≡ b
+and-true true = refl
+and-true false = refl
+
+pub own-is : (service : Service) (tei : ℕ) → is_own service tei service tei ≡ true
+own-is service tei = ap (λ b. b && tei == tei) (service-same service) ∙ eq-eqb tei tei refl
+
+-- a TEI that has a place is on the line
+pub on-line : (x : Line) (tei place : ℕ) → place_in x tei ≡ Some place → has_tei tei x ≡ true
+on-line x tei place on = is_on-at x.management.places place tei (place_of-is x.management.places tei place on).1
+
+granted-is : (o : Option Refusal) (x : Effect) → is_granted (unless_refused_told o x) ≡ true → o ≡ None
+granted-is None x e = refl
+granted-is (Some why) x e = absurd (true≢false (sym e))
+
+pub none-refused : (c : Config) (r : Request) (l : Line) → is_granted (answer c (request r) l) ≡ true → refusal c false r l ≡ None
+unfolding answer
+none-refused c r l e = granted-is (refusal c false r l) (of_request c r l) e
+
+-- What is seen, in state x.
+module _ (c : Config) (service : Service) (tei : ℕ) (k : Known) where
+  abbrev by_all : ℕ → List traces.Seen → ℕ
+  by_all x t = fold (by_seen c service tei k) x t
+
+  abbrev by_heard : ℕ → stream.Event → ℕ
+  by_heard x e = by_seen c service tei k x (traces.heard e)
+
+  told-leads : (x : ℕ) (a : Answer) → by_all x (seen_told a) ≡ x
+  told-leads x (told t) = refl
+  told-leads x (refused why) = refl
+  told-leads x (pulled value is_begun orders) = refl
+
+  octet-leads : (x : ℕ) (o : Option stream.Event) (a : Answer) → by_all x (map traces.heard (option_to_list o) ++ seen_told a) ≡ option_map_or (by_heard x) o x
+  octet-leads x None a = told-leads x a
+  octet-leads x (Some e) a = told-leads (by_heard x e) a
+
+  granted-leads : (x : ℕ) (r : Request) (a : Answer) → is_granted a ≡ true → by_all x (seen_granted r a ++ seen_told a) ≡ by_request service tei x r
+  granted-leads x r (told t) e = refl
+  granted-leads x r (refused why) e = absurd (true≢false (sym e))
+  granted-leads x r (pulled value is_begun orders) e = absurd (true≢false (sym e))
+
+  refused-leads : (x : ℕ) (r : Request) (a : Answer) → is_granted a ≡ false → by_all x (seen_granted r a ++ seen_told a) ≡ x
+  refused-leads x r (told t) e = absurd (true≢false e)
+  refused-leads x r (refused why) e = refl
+  refused-leads x r (pulled value is_begun orders) e = refl
+
+  put-leads : (x : ℕ) (a : Answer) → by_all x (map traces.put (octet_in a)) ≡ x
+  put-leads x (told t) = refl
+  put-leads x (refused why) = refl
+  put-leads x (pulled value is_begun orders) = refl
+
+  pull-leads : (x : ℕ) (o : Option Taken) (a : Answer)
+      → by_all x (map traces.begun (option_to_list (option_map frame_taken o)) ++ map traces.put (octet_in a)) ≡ x
+  pull-leads x None a = put-leads x a
+  pull-leads x (Some t) a = put-leads x a
+
+  -- a frame as it is read, and one that was too long to keep
+  abbrev by_reading : ℕ → Result Parts ReadFault → ℕ
+  by_reading x r = cond (is_up x && is_faulty service tei r) 5 (by_parts c service tei k x (parts_of r))
+
+  abbrev by_long : ℕ → Result Long ReadFault → ℕ
+  by_long x r = cond (is_up x && is_faulty_long service tei r) 5 x
+
+  no-fault : (x y : ℕ) (b : Bool) → b ≡ false → cond (is_up x && b) 5 y ≡ y
+  no-fault x y b none = ap (λ b. cond (is_up x && b) 5 y) none ∙ ap (λ b. cond b 5 y) (and-false (is_up x))
+
+  a-fault : (x y : ℕ) (b : Bool) → b ≡ true → cond (is_up x && b) 5 y ≡ cond (is_up x) 5 y
+  a-fault x y b some = ap (λ b. cond (is_up x && b) 5 y) some ∙ ap (λ b. cond b 5 y) (and-true (is_up x))
+
+  own-frame : (x : ℕ) (f : Parts) → is_for service tei f.address ≡ true → by_reading x (Ok f) ≡ by_frame k x f.address.command (nat_lt c.n201 (length f.info)) f.control
+  own-frame x f for =
+      no-fault x (by_parts c service tei k x (Some f)) false refl ∙ ap (λ b. cond b (by_frame k x f.address.command (nat_lt c.n201 (length f.info)) f.control) x) for
+
+  -- No event of the link.
+  module _ (l : Line) (place : ℕ) (on : place_in l tei ≡ Some place) where
+    addressed-none : (address : Address) (what : link.Received) (m : Aim) → is_at_link service tei (addressed l address what m) ≡ false → is_for service tei address ≡ false
+    addressed-none address what m aims = go (is_for service tei address) refl
+      where
+        go : (b : Bool) → is_for service tei address ≡ b → b ≡ false
+        go false for = refl
+        go true for =
+            let parts = both-true (address.sapi == sapi_of service) (address.tei == tei) for in
+            let is = addressed-is l address service tei place what m (eqb-true address.sapi (sapi_of service) parts.0) (eqb-true address.tei tei parts.1) on in
+            absurd (true≢false (sym (own-is service tei) ∙ sym (ap (is_at_link service tei) is) ∙ aims))
+
+    read-none : (x : ℕ) (r : Result Parts ReadFault) → is_at_link service tei (aim_of_reading c l r) ≡ false → by_reading x r ≡ x
+    read-none x (Err BadExtension) aims = no-fault x x false refl
+    read-none x (Err Short) aims = no-fault x x false refl
+    read-none x (Err (Undefined address)) aims = no-fault x x (is_for service tei address) (addressed-none address link.undefined (drop_for Unserved) aims)
+    read-none x (Err (WrongSize address)) aims = no-fault x x (is_for service tei address) (addressed-none address link.wrong_size (drop_for Unserved) aims)
+    read-none x (Ok f) aims =
+        no-fault x (by_parts c service tei k x (Some f)) false refl
+        ∙ ap (λ b. cond b (by_frame k x f.address.command (nat_lt c.n201 (length f.info)) f.control) x) (go (is_for service tei f.address) refl)
+      where
+        go : (b : Bool) → is_for service tei f.address ≡ b → b ≡ false
+        go false for = refl
+        go true for =
+            let parts = both-true (f.address.sapi == sapi_of service) (f.address.tei == tei) for in
+            let is = addressed-is l f.address service tei place (link.frame f) (message_of f.control f.info) (eqb-true f.address.sapi (sapi_of service) parts.0) (eqb-true f.address.tei tei parts.1) on in
+            absurd (true≢false (sym (own-is service tei) ∙ sym (ap (λ aim. is_at_link service tei (at_side c f aim)) is) ∙ aims))
+
+    long-none : (x : ℕ) (r : Result Long ReadFault) → is_at_link service tei (aim_of_long l r) ≡ false → by_long x r ≡ x
+    long-none x (Err BadExtension) aims = no-fault x x false refl
+    long-none x (Err Short) aims = no-fault x x false refl
+    long-none x (Err (Undefined address)) aims = no-fault x x (is_for service tei address) (addressed-none address link.undefined (drop_for Unserved) aims)
+    long-none x (Err (WrongSize address)) aims = no-fault x x (is_for service tei address) (addressed-none address link.wrong_size (drop_for Unserved) aims)
+    long-none x (Ok (long.Information address)) aims = no-fault x x (is_for service tei address) (addressed-none address link.overlong (drop_for Unserved) aims)
+    long-none x (Ok (long.Unnumbered address)) aims = no-fault x x false refl
+
+    heard-none : (x : ℕ) (o : Option stream.Event) → is_at_link service tei (option_map_or (aim_of_heard c l) o (at_none nothing)) ≡ false → option_map_or (by_heard x) o x ≡ x
+    heard-none x None aims = refl
+    heard-none x (Some (stream.frame octets)) aims = read-none x (reading (heard_side c) octets) aims
+    heard-none x (Some (stream.overlong head)) aims = long-none x (long_reading (heard_side c) head) aims
+    heard-none x (Some (stream.dropped cause)) aims = no-fault x x false refl
+
+    -- an expiry, or a request, of another link
+    pub elsewhere : (its : Service) (by : ℕ) (what : link.Event) (to : Option ℕ → Aim) → ((p : ℕ) → to (Some p) ≡ at_link its by p what)
+        → is_at_link service tei (to (place_in l by)) ≡ false → is_own service tei its by ≡ false
+    elsewhere its by what to is aims = go (is_own service tei its by) refl
+      where
+        go : (b : Bool) → is_own service tei its by ≡ b → b ≡ false
+        go false own = refl
+        go true own =
+            let same : by ≡ tei = eqb-true by tei (both-true (same_service its service) (by == tei) own).1 in
+            absurd (true≢false (sym own ∙ sym (ap (λ o. is_at_link service tei (to o)) (ap (place_in l) same ∙ on) ∙ ap (is_at_link service tei) (is place)) ∙ aims))
+
+    none-expired : (timer : Timer) → is_at_link service tei (aim_of_expiry timer l) ≡ false → expired_of service tei (expiry timer) ≡ None
+    none-expired (timers.T200 its by) aims =
+        ap (λ b. cond b (Some T200) None) (elsewhere its by (link.expired T200) (at_timer its by T200) (λ p. refl) aims)
+    none-expired (timers.T203 its by) aims =
+        ap (λ b. cond b (Some T203) None) (elsewhere its by (link.expired T203) (at_timer its by T203) (λ p. refl) aims)
+    none-expired timers.T201 aims = refl
+
+    none-asked : (x : ℕ) (r : Request) → is_at_link service tei (aim_of_request r l) ≡ false → by_request service tei x r ≡ x
+    none-asked x (Establish its by) aims =
+        ap (λ b. cond (b && x == 4) 5 x) (elsewhere its by (link.requested link.Establish false) (at_requested its by link.Establish) (λ p. refl) aims)
+    none-asked x (Release its by) aims =
+        ap (λ b. cond (b && is_up x) 6 x) (elsewhere its by (link.requested link.Release false) (at_requested its by link.Release) (λ p. refl) aims)
+    none-asked x (Data its by contents) aims = refl
+    none-asked x (Request.Unit its by contents) aims = refl
+    none-asked x (Assign by) aims = refl
+    none-asked x (Remove by) aims = refl
+    none-asked x (Check by) aims = refl
+    none-asked x (SetBusy its by) aims = refl
+    none-asked x (ClearBusy its by) aims = refl
+
+    pub none-ticks : (e : Event) → is_at_link service tei (aim_of c e l) ≡ false → expired_of service tei e ≡ None
+    none-ticks (octet value) aims = refl
+    none-ticks (expiry timer) aims = none-expired timer aims
+    none-ticks (request r) aims = refl
+    none-ticks pull aims = refl
+
+    pub none-led : (n x : ℕ) (e : Event) → is_at_link service tei (aim_of c e l) ≡ false → led c service tei k n e (seen c e l (answer c e l)) x ≡ x
+    none-led n x (octet value) aims =
+        octet-leads x (gained c.n201 l.received value) (answer c (octet value) l) ∙ heard-none x (gained c.n201 l.received value) aims
+    none-led n x (expiry timer) aims =
+        told-leads (option_map_or (by_expiry c.n200 k n x) (expired_of service tei (expiry timer)) x) (answer c (expiry timer) l)
+        ∙ ap (λ o. option_map_or (by_expiry c.n200 k n x) o x) (none-expired timer aims)
+    none-led n x (request r) aims = go (is_granted (answer c (request r) l)) refl
+      where
+        go : (b : Bool) → is_granted (answer c (request r) l) ≡ b → by_all x (seen_granted r (answer c (request r) l) ++ seen_told (answer c (request r) l)) ≡ x
+        go false e = refused-leads x r (answer c (request r) l) e
+        go true e =
+            granted-leads x r (answer c (request r) l) e
+            ∙ none-asked x r (ap (λ o. is_at_link service tei (unless_refused o (aim_of_request r l))) (sym (none-refused c r l e)) ∙ aims)
+    none-led n x pull aims = pull-leads x (begun c l) (answer c pull l)
+
+  -- One event of the link.
+  module _ (l : Line) (a : Answer) where
+    own-address : (address : Address) → service_of address.sapi ≡ Some service → address.tei ≡ tei → is_for service tei address ≡ true
+    own-address address sapi is =
+        ap (λ b. b && address.tei == tei) (eq-eqb address.sapi (sapi_of service) (sapi-is address.sapi service sapi)) ∙ eq-eqb address.tei tei is
+
+    heard-leads : (n x value : ℕ) (o : Option stream.Event) → gained c.n201 l.received value ≡ o → led c service tei k n (octet value) (seen c (octet value) l a) x ≡ option_map_or (by_heard x) o x
+    heard-leads n x value o is = octet-leads x (gained c.n201 l.received value) a ∙ ap (λ o. option_map_or (by_heard x) o x) is
+
+    malformed-leads : (n x value : ℕ) (address : Address) (octets : List ℕ) (what : link.Received) → is_for service tei address ≡ true
+        → (Ends c l value octets × IsMalformed c address octets what) ⊎ (EndsOverlong c l value octets × IsTooLong c address octets what)
+        → led c service tei k n (octet value) (seen c (octet value) l a) x ≡ cond (is_up x) 5 x
+    malformed-leads n x value address octets what for (inl y) =
+        heard-leads n x value (Some (stream.frame octets)) (gained-is c l value (Some (stream.frame octets)) y.0) ∙ go what y.1
+      where
+        go : (what : link.Received) → IsMalformed c address octets what → by_reading x (reading (heard_side c) octets) ≡ cond (is_up x) 5 x
+        go link.undefined is = ap (by_reading x) (fault-again (heard_side c) octets (Undefined address) (ended-octets c l value (stream.frame octets) y.0) is) ∙ a-fault x x (is_for service tei address) for
+        go link.wrong_size is = ap (by_reading x) (fault-again (heard_side c) octets (WrongSize address) (ended-octets c l value (stream.frame octets) y.0) is) ∙ a-fault x x (is_for service tei address) for
+        go link.overlong is = absurd is
+        go (link.frame f) is = absurd is
+    malformed-leads n x value address octets what for (inr y) =
+        heard-leads n x value (Some (stream.overlong octets)) (gained-is c l value (Some (stream.overlong octets)) y.0) ∙ go what y.1
+      where
+        go : (what : link.Received) → IsTooLong c address octets what → by_long x (long_reading (heard_side c) octets) ≡ cond (is_up x) 5 x
+        go link.undefined is = ap (by_long x) is ∙ a-fault x x (is_for service tei address) for
+        go link.wrong_size is = ap (by_long x) is ∙ a-fault x x (is_for service tei address) for
+        go link.overlong is = ap (by_long x) is ∙ a-fault x x (is_for service tei address) for
+        go (link.frame f) is = absurd is
+
+    abbrev Leads : ℕ → ℕ → Event → link.Event → Type 0
+    Leads n x e event = led c service tei k n e (seen c e l a) x ≡ expected (terms c service tei) k n event x
+
+    brings-malformed : (n x : ℕ) (e : Event) (what : link.Received) → BringsMalformed c l e service tei what → led c service tei k n e (seen c e l a) x ≡ cond (is_up x) 5 x
+    brings-malformed n x e what y =
+        ap (λ e. led c service tei k n e (seen c e l a) x) y.by ∙ malformed-leads n x y.value y.address y.octets what (own-address y.address y.sapi y.tei_is) y.ends
+
+    asked-leads : (x : ℕ) (asked : link.Request) → by_request service tei x (laws_requests.of_link service tei asked) ≡ expected (terms c service tei) k 0 (link.requested asked false) x
+    asked-leads x link.Establish = ap (λ b. cond (b && x == 4) 5 x) (own-is service tei)
+    asked-leads x link.Release = ap (λ b. cond (b && is_up x) 6 x) (own-is service tei)
+    asked-leads x (link.Data contents) = refl
+    asked-leads x link.SetBusy = refl
+    asked-leads x link.ClearBusy = refl
+
+    full-or-not : (n x : ℕ) (asked : link.Request) (full : Bool) → expected (terms c service tei) k 0 (link.requested asked false) x ≡ expected (terms c service tei) k n (link.requested asked full) x
+    full-or-not n x link.Establish full = refl
+    full-or-not n x link.Release full = refl
+    full-or-not n x (link.Data contents) full = refl
+    full-or-not n x link.SetBusy full = refl
+    full-or-not n x link.ClearBusy full = refl
+
+    ticked : (timer : LinkTimer) → expired_of service tei (expiry (timer_of service tei timer)) ≡ Some timer
+    ticked T200 = ap (λ b. cond b (Some T200) None) (own-is service tei)
+    ticked T203 = ap (λ b. cond b (Some T203) None) (own-is service tei)
+
+    pub one-led : (n x : ℕ) (e : Event) (event : link.Event) → IsBy c l e a service tei event → Leads n x e event
+    one-led n x e (link.received (link.frame f)) y =
+        ap (λ e. led c service tei k n e (seen c e l a) x) y.by
+        ∙ heard-leads n x y.value (Some (stream.frame y.octets)) (gained-is c l y.value (Some (stream.frame y.octets)) y.ends)
+        ∙ ap (by_reading x) y.read ∙ own-frame x f (own-address f.address y.sapi y.tei_is)
+    one-led n x e (link.received link.undefined) y = brings-malformed n x e link.undefined y
+    one-led n x e (link.received link.wrong_size) y = brings-malformed n x e link.wrong_size y
+    one-led n x e (link.received link.overlong) y = brings-malformed n x e link.overlong y
+    one-led n x e (link.expired timer) y =
+        ap (λ e. led c service tei k n e (seen c e l a) x) y
+        ∙ told-leads (option_map_or (by_expiry c.n200 k n x) (expired_of service tei (expiry (timer_of service tei timer))) x) a
+        ∙ ap (λ o. option_map_or (by_expiry c.n200 k n x) o x) (ticked timer)
+    one-led n x e (link.requested asked full) y =
+        ap (λ e. led c service tei k n e (seen c e l a) x) y.0
+        ∙ granted-leads x (laws_requests.of_link service tei asked) a y.1 ∙ asked-leads x asked ∙ full-or-not n x asked full
+    one-led n x e link.offer y = ap (λ e. led c service tei k n e (seen c e l a) x) y ∙ pull-leads x (begun c l) a
+    one-led n x e link.cleared y = absurd y
+
+    pub one-ticks : (e : Event) (event : link.Event) → IsBy c l e a service tei event → option_map_or one_more (expired_of service tei e) 0 ≡ ticks event
+    one-ticks e (link.received (link.frame f)) y = ap (λ e. option_map_or one_more (expired_of service tei e) 0) y.by
+    one-ticks e (link.received link.undefined) y = ap (λ e. option_map_or one_more (expired_of service tei e) 0) y.by
+    one-ticks e (link.received link.wrong_size) y = ap (λ e. option_map_or one_more (expired_of service tei e) 0) y.by
+    one-ticks e (link.received link.overlong) y = ap (λ e. option_map_or one_more (expired_of service tei e) 0) y.by
+    one-ticks e (link.expired timer) y = ap (λ e. option_map_or one_more (expired_of service tei e) 0) y ∙ ap (λ o. option_map_or one_more o 0) (ticked timer)
+    one-ticks e (link.requested asked full) y = ap (λ e. option_map_or one_more (expired_of service tei e) 0) y.0
+    one-ticks e link.offer y = ap (λ e. option_map_or one_more (expired_of service tei e) 0) y
+    one-ticks e link.cleared y = absurd y

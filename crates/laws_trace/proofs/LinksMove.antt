@@ -1,0 +1,315 @@
+-- Which state a link moves to: the law.
+use Rattle.std.proofs.Common.{◌≡◌, ℕ, ◌+◌, ◌<◌, ◌≤◌, ◌==◌, not, Bool, true, false, cond, List, [], ◌∷◌, get_or, set, Option, Some, None, refl, sym, ap, ◌∙◌, subst, arith, eqb-true, eq-eqb, true≢false, ◌⊎◌, inl, inr}
+use Rattle.std.specs.Prelude.{fold, IfSome}
+use Rattle.std.specs.Option.{option_map_or}
+use Rattle.std.proofs.lemmas.Bool.{and_parts}
+use Rattle.std.proofs.lemmas.List.{get_or-set_same, get_or-replicate}
+use Rattle.std.proofs.lemmas.List.Elements.{All-head, All-tail}
+use Rattle.std.proofs.lemmas.Option.{none-some}
+use Rattle.lapd_frame.specs.declared.refusals.Refusal.TheVariants.{PoolFull}
+use Rattle.lapd_frame.specs.declared.services.Service.{Service}
+use Rattle.model_link.specs.declared.states.State.{State}
+use Rattle.model_link.specs.declared.states.State.TheVariants.{TeiAssigned, AwaitingEstablishment, AwaitingRelease, Established, TimerRecovery}
+use Rattle.model_link.specs.declared.terms.Terms.{Terms}
+use Rattle.model_link.specs.Events as link
+use Rattle.model_link.specs.Link.{Link, fresh as fresh_link, state_number}
+use Rattle.model_link.specs.Machine as links
+use Rattle.model_line.specs.declared.config.Config.{Config}
+use Rattle.model_line.specs.Event as line_event
+use Rattle.model_line.specs.Event.{Answer, refused}
+use Rattle.model_line.specs.Line.{Line, fresh_line, link_of, link_in, place_in, state_of, terms}
+use Rattle.model_line.specs.Machine as lines
+use Rattle.model_line.specs.Sound.{IsInRange, IsSound}
+use Rattle.model_card.specs.Card.{Card, fresh, line_at, is_full}
+use Rattle.model_card.specs.Event.{Event, at}
+use Rattle.model_card.specs.Machine.{after, answer}
+use Rattle.model_card.specs.Run.{Moment, moments, after_all, IsAtLine, AreAtLines}
+use Rattle.model_card.specs.Sound as card_sound
+use Rattle.model_card.proofs.CardSound.{fresh_is_sound, after_is_sound}
+use Rattle.model_card.proofs.Steps.{has_lines, by_room, line_sound}
+use Rattle.laws_card.specs.Timers.{AllHaveTheirTimers}
+use Rattle.laws_card.proofs.TimersRun.{timely-after, begins-timely-card}
+use Rattle.laws_line.specs.Steady.{IsBy}
+use Rattle.laws_line.specs.Timers.{HaveTheirTimers}
+use Rattle.laws_line.proofs.TimersFollow.{nowhere}
+use Rattle.laws_link.specs.States.{moves}
+use Rattle.laws_trace.specs.LinksMove.{by_expiry, expired_of, one_more, repeated, led, LinksMove}
+use Rattle.laws_trace.specs.TimersAreTimely.{Known, nothing_yet, watch, differ}
+use Rattle.laws_trace.specs.Trace.{seen, Always}
+use Rattle.laws_trace.proofs.LinkLed.{on-line, none-led, none-ticks, one-led, one-ticks}
+use Rattle.laws_trace.proofs.MovesOfLink.{Counts, event-leads, event-counted}
+use Rattle.laws_trace.proofs.OneLink.{HasOne, HasNone, Goes, event-goes}
+use Rattle.laws_trace.proofs.PullRuns.{apart}
+use Rattle.laws_trace.proofs.Runs.{nothing-seen}
+use Rattle.laws_trace.proofs.TimerClaims.{told_state}
+use Rattle.laws_trace.proofs.TimersAreTimely.{moment-known, begins-true, sound-now, timely-now, config-now, true-now, front-at, itself}
+use Rattle.laws_trace.proofs.TimersOfEvent.{IsTrueOf, state-on, off-fresh, off-state}
+use Rattle.laws_trace.proofs.TimersOfEvent as events
+
+-- What was counted of a link is its RC, in states 5, 6 and 8.
+abbrev pub IsCountOf : Service → ℕ → ℕ → Line → Type 0
+IsCountOf service tei n l = let x = link_of service tei l in Counts x.state n x.repeats
+
+pub no-event : (event : link.Event) (c : Config) (l : Line) (e : line_event.Event) (a : Answer) (service : Service) (tei : ℕ) → IsBy c l e a service tei event → event ≡ link.cleared → ⊥
+no-event (link.received what) c l e a service tei by same = cc same
+no-event (link.expired timer) c l e a service tei by same = cc same
+no-event (link.requested asked full) c l e a service tei by same = cc same
+no-event link.offer c l e a service tei by same = cc same
+no-event link.cleared c l e a service tei by same = by
+
+no-more : (n m : ℕ) → m ≡ 0 → n + m ≡ n
+no-more n m none = omega (arith, none)
+
+same-way : (a b : ℕ) → (a == b) ≡ (b == a)
+same-way a b = go (a == b) refl (b == a) refl
+  where
+    go : (x : Bool) → (a == b) ≡ x → (y : Bool) → (b == a) ≡ y → x ≡ y
+    go true is y other = sym (eq-eqb b a (sym (eqb-true a b is))) ∙ other
+    go false is false other = refl
+    go false is true other = absurd (true≢false (sym (eq-eqb a b (sym (eqb-true b a other))) ∙ is))
+
+pub differs : (from to : State) → differ (told_state from) (told_state to) ≡ moves from to
+differs from to = ap not (same-way (state_number to) (state_number from))
+
+-- One event of a line.
+module _ (c : Config) (ranged : IsInRange c) (l : Line) (s : IsSound c l) (timed : HaveTheirTimers l) (service : Service) (tei : ℕ) (k : Known)
+    (agrees : IsTrueOf service tei k l) (n : ℕ) (counts : IsCountOf service tei n l) (e : line_event.Event) where
+  abbrev a : Answer
+  a = lines.answer c e l
+
+  abbrev t : Terms
+  t = terms c service tei
+
+  abbrev own : Link
+  own = link_of service tei l
+
+  abbrev next : Link
+  next = link_of service tei (lines.after c e l)
+
+  same-state : (state : State) → moves state state ≡ false
+  same-state TeiAssigned = refl
+  same-state AwaitingEstablishment = refl
+  same-state AwaitingRelease = refl
+  same-state Established = refl
+  same-state TimerRecovery = refl
+
+  abbrev counted : Option ℕ → Option ℕ → ℕ
+  counted from to = cond (differ from to) 0 (n + option_map_or one_more (expired_of service tei e) 0)
+
+  -- where the TEI is on the line before and after
+  module _ (place there : ℕ) (on : place_in l tei ≡ Some place) (stays : place_in (lines.after c e l) tei ≡ Some there) where
+    abbrev Leads : Type 0
+    Leads = state_number next.state ≡ led c service tei k n e (seen c e l a) (state_number own.state)
+
+    none-leads : HasNone c service tei e l (lines.after c e l) a → Leads
+    none-leads x =
+        ap (λ (y : Link). state_number y.state) (x.stays (on-line l tei place on) (on-line (lines.after c e l) tei there stays))
+        ∙ sym (none-led c service tei k l place on n (state_number own.state) e x.aims)
+
+    one-leads : HasOne c service tei e l (lines.after c e l) a → Leads
+    one-leads x =
+        let sound = events.sound c ranged l s timed service tei k agrees e x in
+        let range = events.range c ranged l s timed service tei k agrees e x in
+        let ordered : own.a ≤ own.s = sound.ordered in
+        let window : own.s ≤ own.a + t.k = sound.within in
+        let small : t.k ≤ 127 = range.k_high in
+        ap (λ (y : Link). state_number y.state) x.is
+        ∙ event-leads t k own n ordered (omega (arith, window, small)) (events.own-timed c ranged l s timed service tei k agrees e x.place x.placed) agrees counts x.event
+        (no-event x.event c l e a service tei x.by)
+        ∙ sym (one-led c service tei k l a n (state_number own.state) e x.event x.by)
+
+    leads : Leads
+    leads = go (event-goes c e l service tei s)
+      where
+        go : Goes c service tei e l (lines.after c e l) a → Leads
+        go (inl x) = none-leads x
+        go (inr x) = one-leads x
+
+    none-counted : HasNone c service tei e l (lines.after c e l) a → Counts next.state (counted (told_state own.state) (told_state next.state)) next.repeats
+    none-counted x =
+        let same = x.stays (on-line l tei place on) (on-line (lines.after c e l) tei there stays) in
+        subst (λ (y : Link). Counts y.state (counted (told_state own.state) (told_state y.state)) y.repeats) (sym same)
+        (subst (λ m. Counts own.state m own.repeats)
+        (sym (ap (λ b. cond b 0 (n + option_map_or one_more (expired_of service tei e) 0)) (differs own.state own.state ∙ same-state own.state)
+        ∙ no-more n (option_map_or one_more (expired_of service tei e) 0) (ap (λ o. option_map_or one_more o 0) (none-ticks c service tei k l place on e x.aims)))) counts)
+
+    one-counted : HasOne c service tei e l (lines.after c e l) a → Counts next.state (counted (told_state own.state) (told_state next.state)) next.repeats
+    one-counted x =
+        let y = links.after t x.event own in
+        subst (λ (y : Link). Counts y.state (counted (told_state own.state) (told_state y.state)) y.repeats) (sym x.is)
+        (subst (λ b. Counts y.state (cond b 0 (n + option_map_or one_more (expired_of service tei e) 0)) y.repeats) (sym (differs own.state y.state))
+        (subst (λ m. Counts y.state (cond (moves own.state y.state) 0 (n + m)) y.repeats)
+        (sym (one-ticks c service tei k l a e x.event x.by))
+        (event-counted t own n x.event (no-event x.event c l e a service tei x.by) (events.own-timed c ranged l s timed service tei k agrees e x.place x.placed) counts)))
+
+    stays-counted : Counts next.state (counted (told_state own.state) (told_state next.state)) next.repeats
+    stays-counted = go (event-goes c e l service tei s)
+      where
+        go : Goes c service tei e l (lines.after c e l) a → Counts next.state (counted (told_state own.state) (told_state next.state)) next.repeats
+        go (inl x) = none-counted x
+        go (inr x) = one-counted x
+
+  -- a TEI that comes
+  comes : place_in l tei ≡ None → next ≡ fresh_link
+  comes off = go (event-goes c e l service tei s)
+    where
+      go : Goes c service tei e l (lines.after c e l) a → next ≡ fresh_link
+      go (inr x) = absurd (none-some x.place (sym off ∙ x.placed))
+      go (inl x) = either x.is
+        where
+          either : (next ≡ own) ⊎ (next ≡ fresh_link) → next ≡ fresh_link
+          either (inl same) = same ∙ off-fresh service tei l off
+          either (inr new) = new
+
+  begins-counted : (m : ℕ) → next ≡ fresh_link → Counts next.state m next.repeats
+  begins-counted m is = subst (λ (y : Link). Counts y.state m y.repeats) (sym is) tt
+
+  pub event-counts : IsCountOf service tei (counted (state_of service tei l) (state_of service tei (lines.after c e l))) (lines.after c e l)
+  event-counts = go (place_in l tei) refl (place_in (lines.after c e l) tei) refl
+    where
+      m : ℕ
+      m = counted (state_of service tei l) (state_of service tei (lines.after c e l))
+
+      go : (o : Option ℕ) → place_in l tei ≡ o → (p : Option ℕ) → place_in (lines.after c e l) tei ≡ p → Counts next.state m next.repeats
+      go o on None off = begins-counted m (off-fresh service tei (lines.after c e l) off)
+      go None off (Some there) stays = begins-counted m (comes off)
+      go (Some place) on (Some there) stays =
+          subst (λ m. Counts next.state m next.repeats)
+          (sym (ap (λ o. counted o (state_of service tei (lines.after c e l))) (state-on service tei l place on)
+          ∙ ap (λ o. counted (told_state own.state) o) (state-on service tei (lines.after c e l) there stays)))
+          (stays-counted place there on stays)
+
+  abbrev Led : Option ℕ → Option ℕ → Type 0
+  Led from to = IfSome to (λ state. state ≡ option_map_or (led c service tei k n e (seen c e l a)) from 4)
+
+  pub event-led : Led (state_of service tei l) (state_of service tei (lines.after c e l))
+  event-led = go (place_in l tei) refl (place_in (lines.after c e l) tei) refl
+    where
+      go : (o : Option ℕ) → place_in l tei ≡ o → (p : Option ℕ) → place_in (lines.after c e l) tei ≡ p → Led (state_of service tei l) (state_of service tei (lines.after c e l))
+      go o on None off = subst (Led (state_of service tei l)) (sym (off-state service tei (lines.after c e l) off)) tt
+      go None off (Some there) stays =
+          subst (Led (state_of service tei l)) (sym (state-on service tei (lines.after c e l) there stays))
+          (ap (λ (y : Link). state_number y.state) (comes off) ∙ sym (ap (λ o. option_map_or (led c service tei k n e (seen c e l a)) o 4) (off-state service tei l off)))
+      go (Some place) on (Some there) stays =
+          subst (Led (state_of service tei l)) (sym (state-on service tei (lines.after c e l) there stays))
+          (leads place there on stays ∙ sym (ap (λ o. option_map_or (led c service tei k n e (seen c e l a)) o 4) (state-on service tei l place on)))
+
+-- A request that finds the pool full.
+pub none-expires : (c : Config) (service : Service) (tei : ℕ) (e : line_event.Event) (l : Line) → lines.takes_slot c e l ≡ true → expired_of service tei e ≡ None
+unfolding lines.takes_slot
+none-expires c service tei (line_event.octet value) l takes = refl
+none-expires c service tei (line_event.expiry timer) l takes = absurd (true≢false (sym takes))
+none-expires c service tei (line_event.request r) l takes = refl
+none-expires c service tei line_event.pull l takes = refl
+
+pub differ-self : (o : Option ℕ) → differ o o ≡ false
+differ-self None = refl
+differ-self (Some state) = ap not (eq-eqb state state refl)
+
+module _ (service : Service) (tei number : ℕ) where
+  -- One event of a card.
+  module _ (card : Card) (s : card_sound.IsSound card) (timely : AllHaveTheirTimers card) (e : Event) (here : IsAtLine card e) (k : Known) (n : ℕ)
+      (agrees : IsTrueOf service tei k (line_at e.line card)) (counts : IsCountOf service tei n (line_at e.line card)) where
+    abbrev l : Line
+    l = line_at e.line card
+
+    abbrev its : Line
+    its = lines.after card.config e.what l
+
+    now : get_or (set card.lines e.line its) e.line (fresh_line card.config) ≡ its
+    now = get_or-set_same card.lines e.line its (fresh_line card.config) (omega (arith, s.count, here))
+
+    abbrev counts_then : Option ℕ → ℕ
+    counts_then to = cond (differ (state_of service tei l) to) 0 (n + option_map_or one_more (expired_of service tei e.what) 0)
+
+    still : lines.takes_slot card.config e.what l ≡ true → counts_then (state_of service tei l) ≡ n
+    still takes =
+        ap (λ b. cond b 0 (n + option_map_or one_more (expired_of service tei e.what) 0)) (differ-self (state_of service tei l))
+        ∙ no-more n (option_map_or one_more (expired_of service tei e.what) 0) (ap (λ o. option_map_or one_more o 0) (none-expires card.config service tei e.what l takes))
+
+    pub own-counted : IsCountOf service tei (counts_then (state_of service tei (line_at e.line (after e card)))) (line_at e.line (after e card))
+    own-counted =
+        by_room (λ ls b. let x = get_or ls e.line (fresh_line card.config) in IsCountOf service tei (counts_then (state_of service tei x)) x) e card
+        (λ full. subst (λ m. IsCountOf service tei m l) (sym (still (and_parts (lines.takes_slot card.config e.what l) (is_full card) full).0)) counts)
+        (λ room.
+        subst (λ x. IsCountOf service tei (counts_then (state_of service tei x)) x) (sym now)
+        (event-counts card.config s.config l (line_sound card e.line (has_lines card s) here) (timely.lines e.line here) service tei k agrees n counts e.what))
+
+    abbrev IsLed : Line → Answer → Type 0
+    IsLed x b =
+        IfSome (state_of service tei x)
+        (λ state. state ≡ option_map_or (led card.config service tei k n e.what (seen card.config e.what l b)) (state_of service tei l) 4)
+
+    unmoved : (o : Option ℕ) → expired_of service tei e.what ≡ None → (b : Answer) → seen card.config e.what l b ≡ []
+        → IfSome o (λ state. state ≡ option_map_or (led card.config service tei k n e.what (seen card.config e.what l b)) o 4)
+    unmoved None none b nothing = tt
+    unmoved (Some state) none b nothing =
+        sym (ap (λ t. led card.config service tei k n e.what t state) nothing ∙ ap (λ o. option_map_or (λ timer. by_expiry card.config.n200 k n state timer) o state) none)
+
+    pub own-led : IsLed (line_at e.line (after e card)) (answer e card)
+    own-led =
+        by_room (λ ls b. IsLed (get_or ls e.line (fresh_line card.config)) b) e card
+        (λ full.
+        let takes = (and_parts (lines.takes_slot card.config e.what l) (is_full card) full).0 in
+        unmoved (state_of service tei l) (none-expires card.config service tei e.what l takes) (refused PoolFull) (nothing-seen card.config e.what l takes))
+        (λ room.
+        subst (λ x. IsLed x (lines.answer card.config e.what l)) (sym now)
+        (event-led card.config s.config l (line_sound card e.line (has_lines card s) here) (timely.lines e.line here) service tei k agrees n counts e.what))
+
+  -- Over a run, beside what is known.
+  pub moment-counted : (card : Card) → card_sound.IsSound card → AllHaveTheirTimers card → (e : Event) → IsAtLine card e → (k : Known) (n : ℕ)
+      → IsTrueOf service tei k (line_at number card) → IsCountOf service tei n (line_at number card)
+      → IsCountOf service tei (repeated service tei number n (record { card = card; event = e; answer = answer e card })) (line_at number (after e card))
+  moment-counted card s timely e here k n agrees counts = go (e.line == number) refl
+    where
+      go : (b : Bool) → (e.line == number) ≡ b
+          → IsCountOf service tei (cond (not b) n (cond (differ (state_of service tei (line_at number card)) (state_of service tei (line_at number (after e card)))) 0 (n + option_map_or one_more (expired_of service tei e.what) 0))) (line_at number (after e card))
+      go true is =
+          let same = eqb-true e.line number is in
+          subst (λ m. IsCountOf service tei (cond (differ (state_of service tei (line_at m card)) (state_of service tei (line_at m (after e card)))) 0 (n + option_map_or one_more (expired_of service tei e.what) 0)) (line_at m (after e card))) same
+          (own-counted card s timely e here k n (subst (λ m. IsTrueOf service tei k (line_at m card)) (sym same) agrees) (subst (λ m. IsCountOf service tei n (line_at m card)) (sym same) counts))
+      go false other =
+          subst (IsCountOf service tei n) (sym (apart card e number (λ same. true≢false (sym (eq-eqb e.line number (sym same)) ∙ other)))) counts
+
+  pub run-counted : (card : Card) (events : List Event) → card_sound.IsSound card → AllHaveTheirTimers card → AreAtLines card events → (k : Known) (n : ℕ)
+      → IsTrueOf service tei k (line_at number card) → IsCountOf service tei n (line_at number card)
+      → IsCountOf service tei (fold (repeated service tei number) n (moments card events)) (line_at number (after_all card events))
+  unfolding moments after_all
+  run-counted card [] s timely all k n agrees counts = counts
+  run-counted card (e ∷ events) s timely all k n agrees counts =
+      let here = All-head (IsAtLine card) e events all in
+      let m : Moment = record { card = card; event = e; answer = answer e card } in
+      run-counted (after e card) events (after_is_sound card e s here) (timely-after card e s timely here) (All-tail (IsAtLine card) e events all)
+      (watch card.config service tei number k m) (repeated service tei number n m) (moment-known service tei number card s timely e here k agrees)
+      (moment-counted card s timely e here k n agrees counts)
+
+-- From a fresh card on.
+module _ (c : Config) (events : List Event) (number : ℕ) (ranged : IsInRange c) (all : AreAtLines (fresh c) events) (within : number < c.lines) (service : Service) (tei : ℕ) where
+  start : line_at number (fresh c) ≡ fresh_line c
+  start = get_or-replicate c.lines number (fresh_line c) (fresh_line c) within
+
+  off : link_of service tei (line_at number (fresh c)) ≡ fresh_link
+  off = ap (link_of service tei) start ∙ ap (λ o. option_map_or (link_in (fresh_line c) service) o fresh_link) (nowhere c tei)
+
+  pub count-now : IsCountOf service tei (fold (repeated service tei number) 0 (moments (fresh c) events)) (line_at number (after_all (fresh c) events))
+  count-now =
+      run-counted service tei number (fresh c) events (fresh_is_sound c ranged) (begins-timely-card c) all nothing_yet 0
+      (begins-true c events number ranged all within service tei) (subst (λ (y : Link). Counts y.state 0 y.repeats) (sym off) tt)
+
+pub links-move : Always LinksMove
+links-move c events number ranged all within service tei before what behind is =
+    let whole = subst (AreAtLines (fresh c)) is all in
+    let front = front-at (fresh c) before (at number what) behind whole in
+    let card = after_all (fresh c) before in
+    let e = at number what in
+    let k = fold (watch c service tei number) nothing_yet (moments (fresh c) before) in
+    let n = fold (repeated service tei number) 0 (moments (fresh c) before) in
+    let here : number < card.config.lines = subst (λ (c : Config). number < c.lines) (sym (config-now c before number ranged front within service tei)) within in
+    subst (λ b. IfSome (state_of service tei (line_at number (after e card)))
+    (λ state. state ≡ option_map_or (led c service tei k n what (cond b (seen card.config what (line_at number card) (answer e card)) [])) (state_of service tei (line_at number card)) 4))
+    (sym (itself number))
+    (subst (λ (d : Config). IfSome (state_of service tei (line_at number (after e card)))
+    (λ state. state ≡ option_map_or (led d service tei k n what (seen card.config what (line_at number card) (answer e card))) (state_of service tei (line_at number card)) 4))
+    (config-now c before number ranged front within service tei)
+    (own-led service tei number card (sound-now c before number ranged front within service tei) (timely-now c before number ranged front within service tei) e here k n
+    (true-now c before number ranged front within service tei) (count-now c before number ranged front within service tei)))

@@ -1,0 +1,201 @@
+-- What layer 3 is told of the establishment and release of a link: one event of its line.
+use Rattle.std.proofs.Common.{◌≡◌, ℕ, ◌==◌, ◌&&◌, Bool, true, false, cond, [], Option, Some, None, refl, sym, ap, ◌∙◌, subst, ◌⊎◌, inl, inr}
+use Rattle.std.specs.Prelude.{filter}
+use Rattle.std.specs.List.{list_any}
+use Rattle.std.proofs.lemmas.Option.{none-some}
+use Rattle.lapd_frame.specs.declared.services.Service.{Service}
+use Rattle.model_link.specs.declared.states.State.{State}
+use Rattle.model_link.specs.declared.states.State.TheVariants.{TeiAssigned, AwaitingEstablishment, AwaitingRelease, Established, TimerRecovery}
+use Rattle.model_link.specs.declared.terms.Terms.{Terms}
+use Rattle.model_link.specs.Events as link
+use Rattle.model_link.specs.Link.{Link, fresh as fresh_link, state_number}
+use Rattle.model_link.specs.Machine as links
+use Rattle.model_line.specs.declared.config.Config.{Config}
+use Rattle.model_line.specs.Event as line_event
+use Rattle.model_line.specs.Event.{Answer, told}
+use Rattle.model_line.specs.Line.{Line, link_of, place_in, state_of, terms}
+use Rattle.model_line.specs.Machine as lines
+use Rattle.model_line.specs.Sound.{IsSound}
+use Rattle.model_card.specs.Event.{Event}
+use Rattle.model_card.specs.Machine.{after, answer}
+use Rattle.laws_line.specs.Heard.{notes_of}
+use Rattle.laws_link.specs.States.{moves}
+use Rattle.laws_trace.specs.News.{is_news, is_indicated, establishes, releases, begins, asked, due}
+use Rattle.laws_trace.specs.TimersAreTimely.{is_state, differ}
+use Rattle.laws_trace.specs.Trace.{seen}
+use Rattle.laws_trace.proofs.LinkLed.{on-line}
+use Rattle.laws_trace.proofs.LinksMove.{differs, no-event}
+use Rattle.laws_trace.proofs.NewsOfOthers.{none-filtered, others-silent}
+use Rattle.laws_trace.proofs.NewsRows.{sabme_of, released_of}
+use Rattle.laws_trace.proofs.NewsOfLink.{event-news, Asks, event-asking}
+use Rattle.laws_trace.proofs.OneLink.{HasOne, HasNone, Goes, event-goes}
+use Rattle.laws_trace.proofs.TimerClaims.{told_state}
+use Rattle.laws_trace.proofs.TimersOfEvent.{state-on, off-fresh, off-state}
+use Rattle.laws_trace.proofs.NewsSeen.{one-begins, one-releases, one-establishes, none-begins, none-releases}
+
+abbrev pub IsAskedOf : Service → ℕ → Bool → Line → Type 0
+IsAskedOf service tei was l = let x = link_of service tei l in Asks x.state was x.asked
+
+-- One event of a line.
+module _ (c : Config) (l : Line) (s : IsSound c l) (service : Service) (tei : ℕ) (was : Bool) (asks : IsAskedOf service tei was l) (e : line_event.Event) where
+  abbrev a : Answer
+  a = lines.answer c e l
+
+  abbrev t : Terms
+  t = terms c service tei
+
+  abbrev own : Link
+  own = link_of service tei l
+
+  abbrev next : Link
+  next = link_of service tei (lines.after c e l)
+
+  no-bit : (b : Bool) → (b && false) ≡ false
+  no-bit true = refl
+  no-bit false = refl
+
+  -- nothing is due where the link stays in its state
+  unmoved : (state : State) (indicated : Bool) → due service tei was false false indicated (state_number state) (state_number state) ≡ []
+  unmoved TeiAssigned indicated = refl
+  unmoved AwaitingEstablishment indicated = refl
+  unmoved AwaitingRelease indicated = refl
+  unmoved Established indicated = refl
+  unmoved TimerRecovery indicated = refl
+
+  same-state : (state : State) → moves state state ≡ false
+  same-state TeiAssigned = refl
+  same-state AwaitingEstablishment = refl
+  same-state AwaitingRelease = refl
+  same-state Established = refl
+  same-state TimerRecovery = refl
+
+  abbrev then_asked : Option ℕ → Option ℕ → Bool
+  then_asked from to = cond (is_state 5 to && differ from to) (establishes service tei e a) was
+
+  asked-in : (from to : State) → then_asked (told_state from) (told_state to) ≡ cond ((state_number to == 5) && moves from to) (establishes service tei e a) was
+  asked-in from to = ap (λ b. cond ((state_number to == 5) && b) (establishes service tei e a) was) (differs from to)
+
+  abbrev Due : ℕ → ℕ → Type 0
+  Due from to =
+      filter (is_news service tei) (notes_of a)
+      ≡ due service tei was (list_any (begins c service tei) (seen c e l a)) (releases service tei e a) (list_any (is_indicated service tei) (notes_of a)) from to
+
+  module _ (place there : ℕ) (on : place_in l tei ≡ Some place) (still : place_in (lines.after c e l) tei ≡ Some there) where
+    -- no event of the link
+    module _ (x : HasNone c service tei e l (lines.after c e l) a) where
+      same : next ≡ own
+      same = x.stays (on-line l tei place on) (on-line (lines.after c e l) tei there still)
+
+      no-sabme : list_any (begins c service tei) (seen c e l a) ≡ false
+      no-sabme = none-begins c service tei l place on e x.aims a
+
+      no-release : releases service tei e a ≡ false
+      no-release = none-releases c service tei l place on e x.aims
+
+      none-due : Due (state_number own.state) (state_number next.state)
+      none-due =
+          none-filtered service tei (notes_of a) (others-silent service tei c e l s x.aims (on-line (lines.after c e l) tei there still))
+          ∙ sym (ap (λ (y : Link). due service tei was (list_any (begins c service tei) (seen c e l a)) (releases service tei e a) (list_any (is_indicated service tei) (notes_of a)) (state_number own.state) (state_number y.state)) same
+          ∙ ap (λ b. due service tei was b (releases service tei e a) (list_any (is_indicated service tei) (notes_of a)) (state_number own.state) (state_number own.state)) no-sabme
+          ∙ ap (λ b. due service tei was false b (list_any (is_indicated service tei) (notes_of a)) (state_number own.state) (state_number own.state)) no-release
+          ∙ unmoved own.state (list_any (is_indicated service tei) (notes_of a)))
+
+      none-asked : Asks next.state (then_asked (told_state own.state) (told_state next.state)) next.asked
+      none-asked =
+          subst (λ (y : Link). Asks y.state (then_asked (told_state own.state) (told_state y.state)) y.asked) (sym same)
+          (subst (λ b. Asks own.state b own.asked)
+          (sym (asked-in own.state own.state ∙ ap (λ b. cond ((state_number own.state == 5) && b) (establishes service tei e a) was) (same-state own.state) ∙ and-false (state_number own.state == 5))) asks)
+        where
+          and-false : (b : Bool) → cond (b && false) (establishes service tei e a) was ≡ was
+          and-false true = refl
+          and-false false = refl
+
+    -- one event of the link
+    module _ (x : HasOne c service tei e l (lines.after c e l) a) where
+      some : x.event ≡ link.cleared → ⊥
+      some = no-event x.event c l e a service tei x.by
+
+      asked-now : (state : State) → Asks state was own.asked → (sabme released indicated : Bool) (to : ℕ)
+          → due service tei own.asked sabme released indicated (state_number state) to ≡ due service tei was sabme released indicated (state_number state) to
+      asked-now AwaitingEstablishment is sabme released indicated to = ap (λ b. due service tei b sabme released indicated 5 to) (sym is)
+      asked-now TeiAssigned is sabme released indicated to = refl
+      asked-now AwaitingRelease is sabme released indicated to = refl
+      asked-now Established is sabme released indicated to = refl
+      asked-now TimerRecovery is sabme released indicated to = refl
+
+      one-due : Due (state_number own.state) (state_number next.state)
+      one-due =
+          let ns = (links.told t x.event own).notes in
+          let later = links.after t x.event own in
+          let indicated = list_any (is_indicated service tei) (notes_of a) in
+          ap (filter (is_news service tei)) x.notes ∙ event-news t own x.event some
+          ∙ ap (λ ms. due service tei own.asked (sabme_of x.event) (released_of x.event) (list_any (is_indicated service tei) ms) (state_number own.state) (state_number later.state)) (sym x.notes)
+          ∙ asked-now own.state asks (sabme_of x.event) (released_of x.event) indicated (state_number later.state)
+          ∙ ap (λ b. due service tei was b (released_of x.event) indicated (state_number own.state) (state_number later.state)) (sym (one-begins c service tei e l a x.event x.by))
+          ∙ ap (λ b. due service tei was (list_any (begins c service tei) (seen c e l a)) b indicated (state_number own.state) (state_number later.state)) (sym (one-releases c service tei e l a x.event x.by))
+          ∙ ap (λ (y : Link). due service tei was (list_any (begins c service tei) (seen c e l a)) (releases service tei e a) indicated (state_number own.state) (state_number y.state)) (sym x.is)
+
+      one-asked : Asks next.state (then_asked (told_state own.state) (told_state next.state)) next.asked
+      one-asked =
+          let y = links.after t x.event own in
+          subst (λ (y : Link). Asks y.state (then_asked (told_state own.state) (told_state y.state)) y.asked) (sym x.is)
+          (subst (λ b. Asks y.state b y.asked)
+          (sym (asked-in own.state y.state ∙ ap (λ b. cond ((state_number y.state == 5) && moves own.state y.state) b was) (one-establishes c service tei e l a x.event x.by)))
+          (event-asking t own was x.event some asks))
+
+    stays-due : Due (state_number own.state) (state_number next.state)
+    stays-due = go (event-goes c e l service tei s)
+      where
+        go : Goes c service tei e l (lines.after c e l) a → Due (state_number own.state) (state_number next.state)
+        go (inl x) = none-due x
+        go (inr x) = one-due x
+
+    stays-asked : Asks next.state (then_asked (told_state own.state) (told_state next.state)) next.asked
+    stays-asked = go (event-goes c e l service tei s)
+      where
+        go : Goes c service tei e l (lines.after c e l) a → Asks next.state (then_asked (told_state own.state) (told_state next.state)) next.asked
+        go (inl x) = none-asked x
+        go (inr x) = one-asked x
+
+  begins-asked : (b : Bool) → next ≡ fresh_link → Asks next.state b next.asked
+  begins-asked b is = subst (λ (y : Link). Asks y.state b y.asked) (sym is) tt
+
+  comes : place_in l tei ≡ None → next ≡ fresh_link
+  comes off = go (event-goes c e l service tei s)
+    where
+      go : Goes c service tei e l (lines.after c e l) a → next ≡ fresh_link
+      go (inr x) = absurd (none-some x.place (sym off ∙ x.placed))
+      go (inl x) = either x.is
+        where
+          either : (next ≡ own) ⊎ (next ≡ fresh_link) → next ≡ fresh_link
+          either (inl same) = same ∙ off-fresh service tei l off
+          either (inr new) = new
+
+  pub event-asks : IsAskedOf service tei (then_asked (state_of service tei l) (state_of service tei (lines.after c e l))) (lines.after c e l)
+  event-asks = go (place_in l tei) refl (place_in (lines.after c e l) tei) refl
+    where
+      b : Bool
+      b = then_asked (state_of service tei l) (state_of service tei (lines.after c e l))
+
+      go : (o : Option ℕ) → place_in l tei ≡ o → (p : Option ℕ) → place_in (lines.after c e l) tei ≡ p → Asks next.state b next.asked
+      go o on None off = begins-asked b (off-fresh service tei (lines.after c e l) off)
+      go None off (Some there) still = begins-asked b (comes off)
+      go (Some place) on (Some there) still =
+          subst (λ b. Asks next.state b next.asked)
+          (sym (ap (λ o. then_asked o (state_of service tei (lines.after c e l))) (state-on service tei l place on)
+          ∙ ap (λ o. then_asked (told_state own.state) o) (state-on service tei (lines.after c e l) there still)))
+          (stays-asked place there on still)
+
+  pub event-due : (from to : ℕ) → state_of service tei l ≡ Some from → state_of service tei (lines.after c e l) ≡ Some to → Due from to
+  event-due from to was-in is-in = go (place_in l tei) refl (place_in (lines.after c e l) tei) refl
+    where
+      number : (n m : ℕ) → Some n ≡ Some m → n ≡ m
+      number n m is = cc is
+
+      go : (o : Option ℕ) → place_in l tei ≡ o → (p : Option ℕ) → place_in (lines.after c e l) tei ≡ p → Due from to
+      go None off p q = absurd (none-some from (sym (off-state service tei l off) ∙ was-in))
+      go (Some place) on None off = absurd (none-some to (sym (off-state service tei (lines.after c e l) off) ∙ is-in))
+      go (Some place) on (Some there) still =
+          subst (λ n. Due n to) (number (state_number own.state) from (sym (state-on service tei l place on) ∙ was-in))
+          (subst (λ n. Due (state_number own.state) n) (number (state_number next.state) to (sym (state-on service tei (lines.after c e l) there still) ∙ is-in))
+          (stays-due place there on still))

@@ -1,0 +1,194 @@
+-- What a link tells of establishments and releases: each event of it; and who asked for the establishment that it awaits.
+use Rattle.std.proofs.Common.{◌≡◌, ◌==◌, ◌&&◌, Bool, true, false, cond, [], refl, sym, ap, ◌∙◌, subst}
+use Rattle.std.specs.Prelude.{filter}
+use Rattle.std.specs.List.{list_any}
+use Rattle.lapd_frame.specs.declared.notes.Note.TheVariants as notes
+use Rattle.lapd_frame.specs.Grammar.{Parts}
+use Rattle.model_link.specs.declared.states.State.{State}
+use Rattle.model_link.specs.declared.states.State.TheVariants.{TeiAssigned, AwaitingEstablishment, AwaitingRelease, Established, TimerRecovery}
+use Rattle.model_link.specs.declared.terms.Terms.{Terms}
+use Rattle.model_link.specs.declared.timers.LinkTimer.{LinkTimer}
+use Rattle.model_link.specs.declared.timers.LinkTimer.TheVariants.{T200, T203}
+use Rattle.model_link.specs.Events.{Event, Received, Request, frame, undefined, wrong_size, overlong, Establish, Release, Data, SetBusy, ClearBusy, received, expired, requested, offer, cleared}
+use Rattle.model_link.specs.Link.{Link, state_number, may_repeat}
+use Rattle.model_link.specs.Machine as links
+use Rattle.model_link.specs.Told.{runs}
+use Rattle.model_link.proofs.OwnNotes.{notes-own}
+use Rattle.laws_link.specs.Flags.{asked_left, asks_establishment}
+use Rattle.laws_link.specs.States.{as_heard, state_after, moves, by_expiry}
+use Rattle.laws_link.specs.Telling.{told_by, told_expired}
+use Rattle.laws_link.proofs.Follows.{event-follows}
+use Rattle.laws_trace.specs.News.{is_news, is_indicated, due}
+use Rattle.laws_trace.proofs.NewsRows.{all-news, all-indicated, sabme_of, released_of, Fits, Told, nothing-fits, by-control}
+
+module _ (t : Terms) (l : Link) where
+  malformed : (here : State) (what : Received) → ((f : Parts) → what ≡ frame f → ⊥) → Told t l here (received what)
+  malformed here (frame f) none = absurd (none f refl)
+  malformed TeiAssigned undefined none = refl
+  malformed AwaitingEstablishment undefined none = refl
+  malformed AwaitingRelease undefined none = refl
+  malformed Established undefined none = refl
+  malformed TimerRecovery undefined none = refl
+  malformed TeiAssigned wrong_size none = refl
+  malformed AwaitingEstablishment wrong_size none = refl
+  malformed AwaitingRelease wrong_size none = refl
+  malformed Established wrong_size none = refl
+  malformed TimerRecovery wrong_size none = refl
+  malformed TeiAssigned overlong none = refl
+  malformed AwaitingEstablishment overlong none = refl
+  malformed AwaitingRelease overlong none = refl
+  malformed Established overlong none = refl
+  malformed TimerRecovery overlong none = refl
+
+  abbrev Expires : State → LinkTimer → Bool → Bool → Type 0
+  Expires here timer runs again = let to = cond runs (by_expiry here timer again) here in Fits t l false false here to (told_expired here t to)
+
+  expires : (here : State) (timer : LinkTimer) (runs again : Bool) → Expires here timer runs again
+  expires TeiAssigned T200 true true = refl
+  expires TeiAssigned T200 true false = refl
+  expires TeiAssigned T200 false true = refl
+  expires TeiAssigned T200 false false = refl
+  expires TeiAssigned T203 true true = refl
+  expires TeiAssigned T203 true false = refl
+  expires TeiAssigned T203 false true = refl
+  expires TeiAssigned T203 false false = refl
+  expires AwaitingEstablishment T200 true true = refl
+  expires AwaitingEstablishment T200 true false = refl
+  expires AwaitingEstablishment T200 false true = refl
+  expires AwaitingEstablishment T200 false false = refl
+  expires AwaitingEstablishment T203 true true = refl
+  expires AwaitingEstablishment T203 true false = refl
+  expires AwaitingEstablishment T203 false true = refl
+  expires AwaitingEstablishment T203 false false = refl
+  expires AwaitingRelease T200 true true = refl
+  expires AwaitingRelease T200 true false = refl
+  expires AwaitingRelease T200 false true = refl
+  expires AwaitingRelease T200 false false = refl
+  expires AwaitingRelease T203 true true = refl
+  expires AwaitingRelease T203 true false = refl
+  expires AwaitingRelease T203 false true = refl
+  expires AwaitingRelease T203 false false = refl
+  expires Established T200 true true = refl
+  expires Established T200 true false = refl
+  expires Established T200 false true = refl
+  expires Established T200 false false = refl
+  expires Established T203 true true = refl
+  expires Established T203 true false = refl
+  expires Established T203 false true = refl
+  expires Established T203 false false = refl
+  expires TimerRecovery T200 true true = refl
+  expires TimerRecovery T200 true false = refl
+  expires TimerRecovery T200 false true = refl
+  expires TimerRecovery T200 false false = refl
+  expires TimerRecovery T203 true true = refl
+  expires TimerRecovery T203 true false = refl
+  expires TimerRecovery T203 false true = refl
+  expires TimerRecovery T203 false false = refl
+
+  asks : (here : State) (r : Request) (full : Bool) → Told t l here (requested r full)
+  asks TeiAssigned Establish full = refl
+  asks AwaitingEstablishment Establish full = refl
+  asks AwaitingRelease Establish full = refl
+  asks Established Establish full = refl
+  asks TimerRecovery Establish full = refl
+  asks TeiAssigned Release full = refl
+  asks AwaitingEstablishment Release full = refl
+  asks AwaitingRelease Release full = refl
+  asks Established Release full = refl
+  asks TimerRecovery Release full = refl
+  asks TeiAssigned (Data octets) full = refl
+  asks AwaitingEstablishment (Data octets) full = refl
+  asks AwaitingRelease (Data octets) full = refl
+  asks Established (Data octets) full = refl
+  asks TimerRecovery (Data octets) full = refl
+  asks TeiAssigned SetBusy full = refl
+  asks AwaitingEstablishment SetBusy full = refl
+  asks AwaitingRelease SetBusy full = refl
+  asks Established SetBusy full = refl
+  asks TimerRecovery SetBusy full = refl
+  asks TeiAssigned ClearBusy full = refl
+  asks AwaitingEstablishment ClearBusy full = refl
+  asks AwaitingRelease ClearBusy full = refl
+  asks Established ClearBusy full = refl
+  asks TimerRecovery ClearBusy full = refl
+
+  told : (e : Event) → (e ≡ cleared → ⊥) → let to = state_after t (as_heard t e) l in
+      Fits t l (sabme_of e) (released_of e) l.state to (told_by t (as_heard t e) l to)
+  told (received (frame f)) some = by-control t l l.state f.address f.control f.info
+  told (received undefined) some = malformed l.state undefined (λ f same. cc same)
+  told (received wrong_size) some = malformed l.state wrong_size (λ f same. cc same)
+  told (received overlong) some = malformed l.state overlong (λ f same. cc same)
+  told (expired timer) some = expires l.state timer (runs timer l.running) (may_repeat t l)
+  told (requested r full) some = asks l.state r full
+  told offer some = nothing-fits t l l.state [] refl
+  told cleared some = absurd (some refl)
+
+  -- The notes of an event of a link.
+  pub event-news : (e : Event) → (e ≡ cleared → ⊥) → let ns = (links.told t e l).notes in
+      filter (is_news t.service t.tei) ns
+      ≡ due t.service t.tei l.asked (sabme_of e) (released_of e) (list_any (is_indicated t.service t.tei) ns) (state_number l.state) (state_number (links.after t e l).state)
+  event-news e some =
+      let leaves = (event-follows t e l).leaves in
+      let ns = (links.told t e l).notes in
+      let fits : Fits t l (sabme_of e) (released_of e) l.state (links.after t e l).state ns =
+      subst (λ ns. Fits t l (sabme_of e) (released_of e) l.state (links.after t e l).state ns) (sym leaves.tells)
+      (subst (λ to. Fits t l (sabme_of e) (released_of e) l.state to (told_by t (as_heard t e) l to)) (sym leaves.state) (told e some)) in
+      all-news t ns (notes-own t e l) ∙ fits
+      ∙ ap (λ b. due t.service t.tei l.asked (sabme_of e) (released_of e) b (state_number l.state) (state_number (links.after t e l).state)) (sym (all-indicated t ns (notes-own t e l)))
+
+-- Who asked for the establishment that is awaited.
+abbrev pub Asks : State → Bool → Bool → Type 0
+Asks TeiAssigned was asked = Unit {0}
+Asks AwaitingEstablishment was asked = was ≡ asked
+Asks AwaitingRelease was asked = Unit {0}
+Asks Established was asked = Unit {0}
+Asks TimerRecovery was asked = Unit {0}
+
+module _ (t : Terms) (l : Link) (was : Bool) where
+  abbrev left : State → Event → State → Bool
+  left from e to = cond (moves from to && (state_number to == 5)) (asks_establishment e) l.asked
+
+  left-is : (e : Event) → (e ≡ cleared → ⊥) → (to : State) → asked_left (as_heard t e) l to ≡ left l.state e to
+  left-is (received (frame f)) some to = refl
+  left-is (received undefined) some to = refl
+  left-is (received wrong_size) some to = refl
+  left-is (received overlong) some to = refl
+  left-is (expired timer) some to = refl
+  left-is (requested r full) some to = refl
+  left-is offer some to = refl
+  left-is cleared some to = absurd (some refl)
+
+  asking : (e : Event) (from to : State) → Asks from was l.asked
+      → Asks to (cond ((state_number to == 5) && moves from to) (asks_establishment e) was) (left from e to)
+  asking e TeiAssigned TeiAssigned asks = tt
+  asking e TeiAssigned AwaitingEstablishment asks = refl
+  asking e TeiAssigned AwaitingRelease asks = tt
+  asking e TeiAssigned Established asks = tt
+  asking e TeiAssigned TimerRecovery asks = tt
+  asking e AwaitingEstablishment TeiAssigned asks = tt
+  asking e AwaitingEstablishment AwaitingEstablishment asks = asks
+  asking e AwaitingEstablishment AwaitingRelease asks = tt
+  asking e AwaitingEstablishment Established asks = tt
+  asking e AwaitingEstablishment TimerRecovery asks = tt
+  asking e AwaitingRelease TeiAssigned asks = tt
+  asking e AwaitingRelease AwaitingEstablishment asks = refl
+  asking e AwaitingRelease AwaitingRelease asks = tt
+  asking e AwaitingRelease Established asks = tt
+  asking e AwaitingRelease TimerRecovery asks = tt
+  asking e Established TeiAssigned asks = tt
+  asking e Established AwaitingEstablishment asks = refl
+  asking e Established AwaitingRelease asks = tt
+  asking e Established Established asks = tt
+  asking e Established TimerRecovery asks = tt
+  asking e TimerRecovery TeiAssigned asks = tt
+  asking e TimerRecovery AwaitingEstablishment asks = refl
+  asking e TimerRecovery AwaitingRelease asks = tt
+  asking e TimerRecovery Established asks = tt
+  asking e TimerRecovery TimerRecovery asks = tt
+
+  pub event-asking : (e : Event) → (e ≡ cleared → ⊥) → Asks l.state was l.asked
+      → let y = links.after t e l in Asks y.state (cond ((state_number y.state == 5) && moves l.state y.state) (asks_establishment e) was) y.asked
+  event-asking e some asks =
+      let y = links.after t e l in
+      subst (λ b. Asks y.state (cond ((state_number y.state == 5) && moves l.state y.state) (asks_establishment e) was) b) (sym ((event-follows t e l).leaves.asked ∙ left-is e some y.state))
+      (asking e l.state y.state asks)

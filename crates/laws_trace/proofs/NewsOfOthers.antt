@@ -1,0 +1,189 @@
+-- Where no event is one of a link, and its TEI stays on the line, nothing is told of its establishment or its release.
+use Rattle.std.proofs.Common.{◌≡◌, ℕ, ◌==◌, ◌&&◌, Bool, true, false, cond, List, [], ◌∷◌, ◌++◌, Option, Some, None, refl, sym, ap, ◌∙◌, subst, eqb-true, true≢false}
+use Rattle.std.specs.Prelude.{All, filter}
+use Rattle.std.proofs.lemmas.List.Elements.{All-nil, All-cons, All-append, All-head, All-tail, All-weaker}
+use Rattle.std.specs.Option.{option_map_or}
+use Rattle.lapd_bits.specs.Stream as stream
+use Rattle.lapd_frame.specs.declared.notes.Note.{Note}
+use Rattle.lapd_frame.specs.declared.notes.Note.TheVariants as notes
+use Rattle.lapd_frame.specs.declared.refusals.Refusal.{Refusal}
+use Rattle.lapd_frame.specs.declared.services.Service.{Service}
+use Rattle.lapd_frame.specs.declared.services.Service.TheVariants.{Call, Packet}
+use Rattle.lapd_frame.specs.declared.timers.Timer.{Timer}
+use Rattle.lapd_frame.specs.declared.timers.Timer.TheVariants.{T200, T203, T201}
+use Rattle.lapd_frame.specs.Services.{same_service}
+use Rattle.lapd_tei.specs.Events as teis
+use Rattle.lapd_tei.proofs.LawLemmas as tei_lemmas
+use Rattle.lapd_tei.specs.Laws as tei_laws
+use Rattle.lapd_tei.specs.Machine.{Management}
+use Rattle.lapd_tei.specs.Sound.{IsSoundTable}
+use Rattle.lapd_tei.specs.declared.outcome.Change.{Change}
+use Rattle.lapd_tei.specs.declared.outcome.Change.TheVariants.{Gained, Left}
+use Rattle.model_link.specs.declared.terms.Terms.{Terms}
+use Rattle.model_link.specs.declared.timers.LinkTimer.{LinkTimer}
+use Rattle.model_link.specs.declared.timers.LinkTimer.TheVariants as kind
+use Rattle.model_link.specs.Events as link
+use Rattle.model_link.specs.Known.{IsOwn}
+use Rattle.model_link.specs.Link.{Link, fresh}
+use Rattle.model_link.specs.Machine as links
+use Rattle.model_link.proofs.OwnNotes.{notes-own}
+use Rattle.model_line.specs.declared.config.Config.{Config}
+use Rattle.model_line.specs.Effect.{Aim, at_none, at_link, at_management, of_aim, of_change, of_link, told_of_management}
+use Rattle.model_line.specs.Event.{Event, octet, expiry, request, pull, nothing}
+use Rattle.model_line.specs.Expiry.{at_timer, aim_of_expiry}
+use Rattle.model_line.specs.Line.{Line, has_tei, link_in, place_in, terms}
+use Rattle.model_line.specs.Machine.{aim_of, after, answer, unless_refused, unless_refused_told}
+use Rattle.model_line.specs.Octet.{gained, aim_of_heard, group_tei}
+use Rattle.model_line.specs.Refusal.{refusal}
+use Rattle.model_line.specs.Request.{Request, Establish, Release, Data, Assign, Remove, Check, SetBusy, ClearBusy}
+use Rattle.model_line.specs.Requested.{at_requested, aim_of_request}
+use Rattle.model_line.specs.Sound.{IsSound}
+use Rattle.model_line.proofs.AimsSound.{IsProper}
+use Rattle.model_line.proofs.ProperAims.{heard_aims, request_proper}
+use Rattle.laws_line.specs.Heard.{notes_of}
+use Rattle.laws_line.proofs.Places.{is-off, has-no-place}
+use Rattle.laws_line.proofs.Readings as read
+use Rattle.laws_line.proofs.TeiNotes.{ByChange, noted}
+use Rattle.laws_trace.specs.CommandsHaveCauses.{is_own}
+use Rattle.laws_trace.specs.News.{is_news}
+use Rattle.laws_trace.proofs.OneLink.{is_at_link}
+
+module _ (service : Service) (tei : ℕ) where
+  abbrev No : Note → Type 0
+  No n = is_news service tei n ≡ false
+
+  pub none-filtered : (ns : List Note) → All No ns → filter (is_news service tei) ns ≡ []
+  none-filtered [] all = refl
+  none-filtered (n ∷ ns) all =
+      ap (λ b. cond b (n ∷ filter (is_news service tei) ns) (filter (is_news service tei) ns)) (All-head No n ns all) ∙ none-filtered ns (All-tail No n ns all)
+
+  away : (t : Terms) → is_own service tei t.service t.tei ≡ false → (s : Service) (n : ℕ) → (s ≡ t.service) × (n ≡ t.tei) → is_own service tei s n ≡ false
+  away t other s n own = ap (λ z. is_own service tei z n) own.0 ∙ ap (λ m. is_own service tei t.service m) own.1 ∙ other
+
+  other-note : (t : Terms) → is_own service tei t.service t.tei ≡ false → (n : Note) → IsOwn t n → No n
+  other-note t other (notes.EstablishIndication s n) own = away t other s n own
+  other-note t other (notes.EstablishConfirm s n) own = away t other s n own
+  other-note t other (notes.ReleaseIndication s n) own = away t other s n own
+  other-note t other (notes.ReleaseConfirm s n) own = away t other s n own
+  other-note t other (notes.Data s n) own = refl
+  other-note t other (notes.Unit s n) own = refl
+  other-note t other (notes.Error s n k) own = refl
+  other-note t other (notes.Assigned n) own = refl
+  other-note t other (notes.Removed n) own = refl
+  other-note t other (notes.Doubled n) own = refl
+  other-note t other (notes.Xid s n) own = refl
+
+  other-link : (t : Terms) → is_own service tei t.service t.tei ≡ false → (what : link.Event) (x : Link) → All No (links.told t what x).notes
+  other-link t other what x = All-weaker (IsOwn t) No (other-note t other) (links.told t what x).notes (notes-own t what x)
+
+  tei-note : (e : teis.Event) (o : Option Change) (ns : List Note) → ByChange e o ns → All No ns
+  tei-note e None ns is = subst (All No) (sym is) (All-nil No)
+  tei-note (teis.message octets) (Some (Gained by place)) ns is = subst (All No) (sym is) (All-cons No (notes.Assigned by) [] refl (All-nil No))
+  tei-note teis.expiry (Some (Gained by place)) ns is = absurd is
+  tei-note (teis.assign asked) (Some (Gained by place)) ns is = subst (All No) (sym is.1) (All-nil No)
+  tei-note (teis.remove asked) (Some (Gained by place)) ns is = absurd is
+  tei-note (teis.check asked) (Some (Gained by place)) ns is = absurd is
+  tei-note (teis.message octets) (Some (Left by place)) ns is = subst (All No) (sym is) (All-cons No (notes.Doubled by) [] refl (All-nil No))
+  tei-note teis.expiry (Some (Left by place)) ns is = subst (All No) (sym is) (All-cons No (notes.Removed by) [] refl (All-nil No))
+  tei-note (teis.assign asked) (Some (Left by place)) ns is = absurd is
+  tei-note (teis.remove asked) (Some (Left by place)) ns is = subst (All No) (sym is.1) (All-nil No)
+  tei-note (teis.check asked) (Some (Left by place)) ns is = absurd is
+
+  module _ (c : Config) (l : Line) (s : IsSound c l) (received : List ℕ) where
+    abbrev now : Line
+    now = record l { received = received }
+
+    abbrev Silent : Aim → Type 0
+    Silent aim = is_at_link service tei aim ≡ false → has_tei tei (of_aim c aim now).line ≡ true → All No (of_aim c aim now).told.notes
+
+    -- An event of TEI management: links of another TEI are cleared.
+    module _ (me : teis.Event) (fits : tei_laws.IsInRange me) where
+      abbrev m : Management
+      m = teis.after me l.management
+
+      abbrev at : Line
+      at = record l { received = received; management = m }
+
+      abbrev ns : List Note
+      ns = (teis.told me l.management).notes
+
+      table : IsSoundTable m.places
+      table = (tei_lemmas.sound-after me l.management fits s.management).table
+
+      abbrev itself : Link → Link
+      itself x = x
+
+      gone-off : (by place : ℕ) → tei_laws.HasLeft l.management.places m.places by place → (b : Bool) → (by == tei) ≡ b → has_tei tei at ≡ true → b ≡ false
+      gone-off by place gone false other there = refl
+      gone-off by place gone true same there =
+          let was-there = gone.was_there ∙ ap Some (eqb-true by tei same) in
+          absurd (true≢false (sym there
+          ∙ is-off m.places tei (has-no-place m.places tei (read.emptied fresh itself refl c l s m table place None gone.is_free gone.within tei refl was-there))))
+
+      and-none : (a b : Bool) → b ≡ false → (a && b) ≡ false
+      and-none true b none = none
+      and-none false b none = refl
+
+      changed : (o : Option Change) → tei_laws.Moves l.management.places o m.places → ByChange me o ns
+          → has_tei tei (of_change c o (told_of_management (teis.told me l.management)) at).line ≡ true → All No (of_change c o (told_of_management (teis.told me l.management)) at).told.notes
+      changed None moves is there = tei-note me None ns is
+      changed (Some (Gained by place)) moves is there = tei-note me (Some (Gained by place)) ns is
+      changed (Some (Left by place)) gone is there =
+          let call = of_link c Call by place link.cleared at in
+          let packet = of_link c Packet by place link.cleared call.line in
+          let other = gone-off by place gone (by == tei) refl there in
+          All-append No (ns ++ call.told.notes) packet.told.notes
+          (All-append No ns call.told.notes (tei-note me (Some (Left by place)) ns is)
+          (other-link (terms c Call by) (and-none (same_service Call service) (by == tei) other) link.cleared (link_in at Call place)))
+          (other-link (terms c Packet by) (and-none (same_service Packet service) (by == tei) other) link.cleared (link_in call.line Packet place))
+
+      managed : Silent (at_management me)
+      managed aims there =
+          changed (teis.told me l.management).change (tei_lemmas.changes_are_told me l.management fits s.management) (noted me l.management s.management) there
+
+    of-link : (its : Service) (by place : ℕ) (what : link.Event) → Silent (at_link its by place what)
+    of-link its by place what aims there = other-link (terms c its by) aims what (link_in now its place)
+
+    timer-silent : (its : Service) (by : ℕ) (timer : LinkTimer) (o : Option ℕ) → Silent (at_timer its by timer o)
+    timer-silent its by timer None aims there = All-nil No
+    timer-silent its by timer (Some place) aims there = of-link its by place (link.expired timer) aims there
+
+    asked-silent : (its : Service) (by : ℕ) (what : link.Request) (o : Option ℕ) → Silent (at_requested its by what o)
+    asked-silent its by what None aims there = All-nil No
+    asked-silent its by what (Some place) aims there = of-link its by place (link.requested what false) aims there
+
+    pub heard-silent : (o : Option stream.Event) → Silent (option_map_or (aim_of_heard c l) o (at_none nothing))
+    heard-silent None = λ aims there. All-nil No
+    heard-silent (Some e) =
+        heard_aims c l Silent (λ cause aims there. All-nil No) (λ its by place what on. of-link its by place (link.received what)) (λ info. managed (teis.message info) tt)
+        (λ parts its to aims there. All-cons No (notes.Unit its group_tei) [] refl (All-nil No)) e
+
+    pub expiry-silent : (timer : Timer) → Silent (aim_of_expiry timer l)
+    expiry-silent (T200 its by) = timer-silent its by kind.T200 (place_in l by)
+    expiry-silent (T203 its by) = timer-silent its by kind.T203 (place_in l by)
+    expiry-silent T201 = managed teis.expiry tt
+
+    pub request-silent : (r : Request) → IsProper c l (aim_of_request r l) → Silent (aim_of_request r l)
+    request-silent (Establish its by) proper = asked-silent its by link.Establish (place_in l by)
+    request-silent (Release its by) proper = asked-silent its by link.Release (place_in l by)
+    request-silent (Data its by contents) proper = asked-silent its by (link.Data contents) (place_in l by)
+    request-silent (Request.Unit its by contents) proper = λ aims there. All-nil No
+    request-silent (Assign by) proper = managed (teis.assign by) proper
+    request-silent (Remove by) proper = managed (teis.remove by) proper
+    request-silent (Check by) proper = managed (teis.check by) proper
+    request-silent (SetBusy its by) proper = asked-silent its by link.SetBusy (place_in l by)
+    request-silent (ClearBusy its by) proper = asked-silent its by link.ClearBusy (place_in l by)
+
+  -- Any event of a line.
+  pub others-silent : (c : Config) (e : Event) (l : Line) → IsSound c l → is_at_link service tei (aim_of c e l) ≡ false → has_tei tei (after c e l) ≡ true → All No (notes_of (answer c e l))
+  unfolding after answer
+  others-silent c (octet value) l s aims there = heard-silent c l s (l.received ++ value ∷ []) (gained c.n201 l.received value) aims there
+  others-silent c (expiry timer) l s aims there = expiry-silent c l s l.received timer aims there
+  others-silent c (request r) l s aims there = go (refusal c false r l) (request_proper c l r) aims there
+    where
+      go : (o : Option Refusal) → IsProper c l (unless_refused o (aim_of_request r l)) → is_at_link service tei (unless_refused o (aim_of_request r l)) ≡ false
+          → has_tei tei (of_aim c (unless_refused o (aim_of_request r l)) l).line ≡ true
+          → All No (notes_of (unless_refused_told o (of_aim c (unless_refused o (aim_of_request r l)) l)))
+      go None proper aims there = request-silent c l s l.received r proper aims there
+      go (Some why) proper aims there = All-nil No
+  others-silent c pull l s aims there = All-nil No

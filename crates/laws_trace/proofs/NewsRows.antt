@@ -1,0 +1,263 @@
+-- What a link tells of establishments and releases, by each frame that it hears.
+use Rattle.std.proofs.Common.{◌≡◌, ℕ, ◌+◌, ◌==◌, ◌&&◌, ◌||◌, not, Bool, true, false, cond, List, [], ◌∷◌, ◌++◌, length, refl, sym, ap, ◌∙◌}
+use Rattle.std.specs.Prelude.{All, filter, nat_lt, is_some}
+use Rattle.std.specs.List.{list_any}
+use Rattle.std.proofs.lemmas.List.Elements.{All-head, All-tail}
+use Rattle.lapd_frame.specs.declared.addresses.Address.{Address}
+use Rattle.lapd_frame.specs.declared.controls.Control.{Control}
+use Rattle.lapd_frame.specs.declared.controls.Control.TheVariants.{Information, ReceiveReady, ReceiveNotReady, Reject, Sabme, Disc, Ui, Ua, Dm, Frmr, Xid}
+use Rattle.lapd_frame.specs.declared.notes.ErrorCode.TheVariants as code
+use Rattle.lapd_frame.specs.declared.notes.Note.{Note}
+use Rattle.lapd_frame.specs.declared.notes.Note.TheVariants as notes
+use Rattle.lapd_frame.specs.declared.services.Service.{Service}
+use Rattle.lapd_seq.specs.declared.numbers.Seq.{Seq}
+use Rattle.lapd_seq.specs.Circle.{named}
+use Rattle.model_link.specs.declared.states.State.{State}
+use Rattle.model_link.specs.declared.states.State.TheVariants.{TeiAssigned, AwaitingEstablishment, AwaitingRelease, Established, TimerRecovery}
+use Rattle.model_link.specs.declared.terms.Terms.{Terms}
+use Rattle.model_link.specs.Events.{Event, frame, overlong, Release, Data, received, requested}
+use Rattle.model_link.specs.Known.{IsOwn}
+use Rattle.model_link.specs.Link.{Link, state_number}
+use Rattle.laws_link.specs.Flags.{takes_contents}
+use Rattle.laws_link.specs.States.{as_heard, state_after, by_frame}
+use Rattle.laws_link.specs.Telling.{told_by, numbered_as, final_as}
+use Rattle.laws_trace.specs.CommandsHaveCauses.{is_own}
+use Rattle.laws_trace.specs.News.{is_news, is_indicated, is_sabme, due}
+use Rattle.laws_trace.proofs.LinkLed.{own-is}
+use Rattle.laws_trace.proofs.TimerRows.{in_state}
+
+-- The kinds of notes alone: notes of a link are its own.
+abbrev pub is_kind : Note → Bool
+is_kind (notes.EstablishIndication s n) = true
+is_kind (notes.EstablishConfirm s n) = true
+is_kind (notes.ReleaseIndication s n) = true
+is_kind (notes.ReleaseConfirm s n) = true
+is_kind other = false
+
+abbrev pub is_indication : Note → Bool
+is_indication (notes.EstablishIndication s n) = true
+is_indication other = false
+
+its : (t : Terms) (s : Service) (n : ℕ) → (s ≡ t.service) × (n ≡ t.tei) → is_own t.service t.tei s n ≡ true
+its t s n own = ap (λ z. is_own t.service t.tei z n) own.0 ∙ ap (λ m. is_own t.service t.tei t.service m) own.1 ∙ own-is t.service t.tei
+
+own-news : (t : Terms) (n : Note) → IsOwn t n → is_news t.service t.tei n ≡ is_kind n
+own-news t (notes.EstablishIndication s n) own = its t s n own
+own-news t (notes.EstablishConfirm s n) own = its t s n own
+own-news t (notes.ReleaseIndication s n) own = its t s n own
+own-news t (notes.ReleaseConfirm s n) own = its t s n own
+own-news t (notes.Data s n) own = refl
+own-news t (notes.Unit s n) own = refl
+own-news t (notes.Error s n k) own = refl
+own-news t (notes.Assigned n) own = refl
+own-news t (notes.Removed n) own = refl
+own-news t (notes.Doubled n) own = refl
+own-news t (notes.Xid s n) own = refl
+
+own-indicated : (t : Terms) (n : Note) → IsOwn t n → is_indicated t.service t.tei n ≡ is_indication n
+own-indicated t (notes.EstablishIndication s n) own = its t s n own
+own-indicated t (notes.EstablishConfirm s n) own = refl
+own-indicated t (notes.ReleaseIndication s n) own = refl
+own-indicated t (notes.ReleaseConfirm s n) own = refl
+own-indicated t (notes.Data s n) own = refl
+own-indicated t (notes.Unit s n) own = refl
+own-indicated t (notes.Error s n k) own = refl
+own-indicated t (notes.Assigned n) own = refl
+own-indicated t (notes.Removed n) own = refl
+own-indicated t (notes.Doubled n) own = refl
+own-indicated t (notes.Xid s n) own = refl
+
+pub all-news : (t : Terms) (ns : List Note) → All (IsOwn t) ns → filter (is_news t.service t.tei) ns ≡ filter is_kind ns
+all-news t [] all = refl
+all-news t (n ∷ ns) all =
+    ap (λ b. cond b (n ∷ filter (is_news t.service t.tei) ns) (filter (is_news t.service t.tei) ns)) (own-news t n (All-head (IsOwn t) n ns all))
+    ∙ ap (λ ms. cond (is_kind n) (n ∷ ms) ms) (all-news t ns (All-tail (IsOwn t) n ns all))
+
+pub all-indicated : (t : Terms) (ns : List Note) → All (IsOwn t) ns → list_any (is_indicated t.service t.tei) ns ≡ list_any is_indication ns
+all-indicated t [] all = refl
+all-indicated t (n ∷ ns) all =
+    ap (λ b. b || list_any (is_indicated t.service t.tei) ns) (own-indicated t n (All-head (IsOwn t) n ns all))
+    ∙ ap (λ b. is_indication n || b) (all-indicated t ns (All-tail (IsOwn t) n ns all))
+
+abbrev pub sabme_of : Event → Bool
+sabme_of (received (frame f)) = is_sabme f.control
+sabme_of other = false
+
+abbrev pub released_of : Event → Bool
+released_of (requested Release full) = true
+released_of other = false
+
+module _ (t : Terms) (l : Link) where
+  -- What is told, and what is due.
+  abbrev pub Fits : Bool → Bool → State → State → List Note → Type 0
+  Fits sabme released from to ns = filter is_kind ns ≡ due t.service t.tei l.asked sabme released (list_any is_indication ns) (state_number from) (state_number to)
+
+  stays : (here : State) (indicated : Bool) → due t.service t.tei l.asked false false indicated (state_number here) (state_number here) ≡ []
+  stays TeiAssigned indicated = refl
+  stays AwaitingEstablishment indicated = refl
+  stays AwaitingRelease indicated = refl
+  stays Established indicated = refl
+  stays TimerRecovery indicated = refl
+
+  pub nothing-fits : (here : State) (ns : List Note) → filter is_kind ns ≡ [] → Fits false false here here ns
+  nothing-fits here ns none = none ∙ sym (stays here (list_any is_indication ns))
+
+  unit-fits : (here : State) (long : Bool) → Fits false false here here (cond long [] (notes.Unit t.service t.tei ∷ []))
+  unit-fits here true = nothing-fits here [] refl
+  unit-fits here false = nothing-fits here (notes.Unit t.service t.tei ∷ []) refl
+
+  -- An N(R) in state 7 or 8, behind what else is told.
+  information-7 : (invalid taken : Bool) → let to = cond invalid AwaitingEstablishment Established in
+      Fits false false Established to (cond taken (notes.Data t.service t.tei ∷ []) [] ++ numbered_as t to)
+  information-7 true true = refl
+  information-7 true false = refl
+  information-7 false true = refl
+  information-7 false false = refl
+
+  information-8 : (invalid taken : Bool) → let to = cond invalid AwaitingEstablishment TimerRecovery in
+      Fits false false TimerRecovery to (cond taken (notes.Data t.service t.tei ∷ []) [] ++ numbered_as t to)
+  information-8 true true = refl
+  information-8 true false = refl
+  information-8 false true = refl
+  information-8 false false = refl
+
+  final-7 : (invalid final : Bool) → let to = cond invalid AwaitingEstablishment Established in
+      Fits false false Established to (final_as t false final ++ numbered_as t to)
+  final-7 true true = refl
+  final-7 true false = refl
+  final-7 false true = refl
+  final-7 false false = refl
+
+  final-8 : (invalid ends : Bool) → let to = cond invalid AwaitingEstablishment (cond ends Established TimerRecovery) in
+      Fits false false TimerRecovery to (numbered_as t to)
+  final-8 true true = refl
+  final-8 true false = refl
+  final-8 false true = refl
+  final-8 false false = refl
+
+  -- SABME in states 7 and 8, and UA with F=1 in state 5, by whether contents are outstanding.
+  anew-7 : (none : Bool) → Fits true false Established Established (notes.Error t.service t.tei code.F ∷ cond none [] (notes.EstablishIndication t.service t.tei ∷ []))
+  anew-7 true = refl
+  anew-7 false = refl
+
+  anew-8 : (none : Bool) → Fits true false TimerRecovery Established (notes.Error t.service t.tei code.F ∷ cond none [] (notes.EstablishIndication t.service t.tei ∷ []))
+  anew-8 true = refl
+  anew-8 false = refl
+
+  agreed : (asked none : Bool) → let ns = cond asked (notes.EstablishConfirm t.service t.tei ∷ []) (cond none [] (notes.EstablishIndication t.service t.tei ∷ [])) in
+      filter is_kind ns ≡ due t.service t.tei asked false false (list_any is_indication ns) 5 7
+  agreed true true = refl
+  agreed true false = refl
+  agreed false true = refl
+  agreed false false = refl
+
+  abbrev pub Told : State → Event → Type 0
+  Told here e =
+      let to = state_after t (as_heard t e) (in_state here l) in
+      Fits (sabme_of e) (released_of e) here to (told_by t (as_heard t e) (in_state here l) to)
+
+  abbrev part : Address → Control → List ℕ → Event
+  part address control info = received (frame (record { address = address; control = control; info = info }))
+
+  abbrev Informed : State → Bool → Address → Seq → Seq → Bool → List ℕ → Type 0
+  Informed here too_long address ns nr p info =
+      let e : Event = received (cond too_long overlong (frame (record { address = address; control = Information ns nr p; info = info }))) in
+      let to = state_after t e (in_state here l) in Fits false false here to (told_by t e (in_state here l) to)
+
+  information : (here : State) (too_long : Bool) (address : Address) (ns nr : Seq) (p : Bool) (info : List ℕ) → Informed here too_long address ns nr p info
+  information TeiAssigned true address ns nr p info = refl
+  information TeiAssigned false address ns nr p info = refl
+  information AwaitingEstablishment true address ns nr p info = refl
+  information AwaitingEstablishment false address ns nr p info = refl
+  information AwaitingRelease true address ns nr p info = refl
+  information AwaitingRelease false address ns nr p info = refl
+  information Established true address ns nr p info = refl
+  information Established false address ns nr p info =
+      information-7 (not (is_some (named l.a l.s nr))) (takes_contents (part address (Information ns nr p) info) (in_state Established l))
+  information TimerRecovery true address ns nr p info = refl
+  information TimerRecovery false address ns nr p info =
+      information-8 (not (is_some (named l.a l.s nr))) (takes_contents (part address (Information ns nr p) info) (in_state TimerRecovery l))
+
+  by-ReceiveReady : (command f : Bool) (nr : Seq) → let to = cond (not (is_some (named l.a l.s nr))) AwaitingEstablishment (by_frame TimerRecovery command (ReceiveReady nr f)) in
+      Fits false false TimerRecovery to (final_as t true (not command && f) ++ numbered_as t to)
+  by-ReceiveReady true true nr = final-8 (not (is_some (named l.a l.s nr))) false
+  by-ReceiveReady true false nr = final-8 (not (is_some (named l.a l.s nr))) false
+  by-ReceiveReady false true nr = final-8 (not (is_some (named l.a l.s nr))) true
+  by-ReceiveReady false false nr = final-8 (not (is_some (named l.a l.s nr))) false
+
+  by-ReceiveNotReady : (command f : Bool) (nr : Seq) → let to = cond (not (is_some (named l.a l.s nr))) AwaitingEstablishment (by_frame TimerRecovery command (ReceiveNotReady nr f)) in
+      Fits false false TimerRecovery to (final_as t true (not command && f) ++ numbered_as t to)
+  by-ReceiveNotReady true true nr = final-8 (not (is_some (named l.a l.s nr))) false
+  by-ReceiveNotReady true false nr = final-8 (not (is_some (named l.a l.s nr))) false
+  by-ReceiveNotReady false true nr = final-8 (not (is_some (named l.a l.s nr))) true
+  by-ReceiveNotReady false false nr = final-8 (not (is_some (named l.a l.s nr))) false
+
+  by-Reject : (command f : Bool) (nr : Seq) → let to = cond (not (is_some (named l.a l.s nr))) AwaitingEstablishment (by_frame TimerRecovery command (Reject nr f)) in
+      Fits false false TimerRecovery to (final_as t true (not command && f) ++ numbered_as t to)
+  by-Reject true true nr = final-8 (not (is_some (named l.a l.s nr))) false
+  by-Reject true false nr = final-8 (not (is_some (named l.a l.s nr))) false
+  by-Reject false true nr = final-8 (not (is_some (named l.a l.s nr))) true
+  by-Reject false false nr = final-8 (not (is_some (named l.a l.s nr))) false
+
+  pub by-control : (here : State) (address : Address) (control : Control) (info : List ℕ) → Told here (part address control info)
+  by-control here address (Information ns nr p) info = information here (nat_lt t.n201 (length info)) address ns nr p info
+  by-control TeiAssigned address (ReceiveReady nr f) info = refl
+  by-control AwaitingEstablishment address (ReceiveReady nr f) info = refl
+  by-control AwaitingRelease address (ReceiveReady nr f) info = refl
+  by-control Established address (ReceiveReady nr f) info = final-7 (not (is_some (named l.a l.s nr))) (not address.command && f)
+  by-control TimerRecovery address (ReceiveReady nr f) info = by-ReceiveReady address.command f nr
+  by-control TeiAssigned address (ReceiveNotReady nr f) info = refl
+  by-control AwaitingEstablishment address (ReceiveNotReady nr f) info = refl
+  by-control AwaitingRelease address (ReceiveNotReady nr f) info = refl
+  by-control Established address (ReceiveNotReady nr f) info = final-7 (not (is_some (named l.a l.s nr))) (not address.command && f)
+  by-control TimerRecovery address (ReceiveNotReady nr f) info = by-ReceiveNotReady address.command f nr
+  by-control TeiAssigned address (Reject nr f) info = refl
+  by-control AwaitingEstablishment address (Reject nr f) info = refl
+  by-control AwaitingRelease address (Reject nr f) info = refl
+  by-control Established address (Reject nr f) info = final-7 (not (is_some (named l.a l.s nr))) (not address.command && f)
+  by-control TimerRecovery address (Reject nr f) info = by-Reject address.command f nr
+  by-control TeiAssigned address (Sabme p) info = refl
+  by-control AwaitingEstablishment address (Sabme p) info = refl
+  by-control AwaitingRelease address (Sabme p) info = refl
+  by-control Established address (Sabme p) info = anew-7 (l.s == l.a)
+  by-control TimerRecovery address (Sabme p) info = anew-8 (l.s == l.a)
+  by-control TeiAssigned address (Disc p) info = refl
+  by-control AwaitingEstablishment address (Disc p) info = refl
+  by-control AwaitingRelease address (Disc p) info = refl
+  by-control Established address (Disc p) info = refl
+  by-control TimerRecovery address (Disc p) info = refl
+  by-control TeiAssigned address (Ua true) info = refl
+  by-control TeiAssigned address (Ua false) info = refl
+  by-control AwaitingEstablishment address (Ua true) info = agreed l.asked (l.s == l.a)
+  by-control AwaitingEstablishment address (Ua false) info = refl
+  by-control AwaitingRelease address (Ua true) info = refl
+  by-control AwaitingRelease address (Ua false) info = refl
+  by-control Established address (Ua true) info = refl
+  by-control Established address (Ua false) info = refl
+  by-control TimerRecovery address (Ua true) info = refl
+  by-control TimerRecovery address (Ua false) info = refl
+  by-control TeiAssigned address (Dm true) info = refl
+  by-control TeiAssigned address (Dm false) info = refl
+  by-control AwaitingEstablishment address (Dm true) info = refl
+  by-control AwaitingEstablishment address (Dm false) info = refl
+  by-control AwaitingRelease address (Dm true) info = refl
+  by-control AwaitingRelease address (Dm false) info = refl
+  by-control Established address (Dm true) info = refl
+  by-control Established address (Dm false) info = refl
+  by-control TimerRecovery address (Dm true) info = refl
+  by-control TimerRecovery address (Dm false) info = refl
+  by-control TeiAssigned address (Frmr f) info = refl
+  by-control AwaitingEstablishment address (Frmr f) info = refl
+  by-control AwaitingRelease address (Frmr f) info = refl
+  by-control Established address (Frmr f) info = refl
+  by-control TimerRecovery address (Frmr f) info = refl
+  by-control TeiAssigned address (Ui p) info = unit-fits TeiAssigned (nat_lt t.n201 (length info))
+  by-control AwaitingEstablishment address (Ui p) info = unit-fits AwaitingEstablishment (nat_lt t.n201 (length info))
+  by-control AwaitingRelease address (Ui p) info = unit-fits AwaitingRelease (nat_lt t.n201 (length info))
+  by-control Established address (Ui p) info = unit-fits Established (nat_lt t.n201 (length info))
+  by-control TimerRecovery address (Ui p) info = unit-fits TimerRecovery (nat_lt t.n201 (length info))
+  by-control TeiAssigned address (Xid f) info = refl
+  by-control AwaitingEstablishment address (Xid f) info = refl
+  by-control AwaitingRelease address (Xid f) info = refl
+  by-control Established address (Xid f) info = refl
+  by-control TimerRecovery address (Xid f) info = refl

@@ -1,0 +1,176 @@
+-- What is seen of a link: SABME, and requests that are granted.
+use Rattle.std.proofs.Common.{◌≡◌, ℕ, ◌&&◌, ◌||◌, Bool, true, false, cond, ◌++◌, map, Option, Some, None, option_map, refl, sym, ap, ◌∙◌, true≢false}
+use Rattle.std.specs.Prelude.{option_to_list}
+use Rattle.std.specs.List.{list_any}
+use Rattle.std.specs.Option.{option_map_or}
+use Rattle.lapd_bits.specs.Stream as stream
+use Rattle.lapd_frame.specs.declared.services.Service.{Service}
+use Rattle.model_link.specs.declared.timers.LinkTimer.TheVariants.{T200, T203}
+use Rattle.model_link.specs.Events as link
+use Rattle.model_line.specs.declared.config.Config.{Config}
+use Rattle.model_line.specs.Event as line_event
+use Rattle.model_line.specs.Event.{octet, expiry, request, pull, Answer, told, refused, pulled}
+use Rattle.model_line.specs.Line.{Line, place_in}
+use Rattle.model_line.specs.Machine as lines
+use Rattle.model_line.specs.Octet.{gained}
+use Rattle.model_line.specs.Pull.{Taken}
+use Rattle.model_line.specs.Pull as line_pull
+use Rattle.model_line.specs.Request.{Request, Establish, Release, Data, Assign, Remove, Check, SetBusy, ClearBusy}
+use Rattle.model_line.specs.Requested.{at_requested, aim_of_request}
+use Rattle.model_card.specs.Event.{Event}
+use Rattle.model_card.specs.Machine.{answer}
+use Rattle.model_card.specs.Pulled.{frame_taken, octet_in}
+use Rattle.laws_line.specs.Share.{is_granted}
+use Rattle.laws_line.specs.Steady.{IsBy}
+use Rattle.laws_link.specs.Flags.{asks_establishment}
+use Rattle.laws_trace.specs.CommandsHaveCauses.{is_own}
+use Rattle.lapd_frame.specs.Grammar.{Parts}
+use Rattle.laws_trace.specs.Deliveries.{is_for, frame_of as frame_heard}
+use Rattle.laws_trace.specs.News.{establishes, releases, is_sabme, begins}
+use Rattle.laws_trace.specs.TimersAreTimely.{nothing_yet, control_in}
+use Rattle.laws_trace.specs.Trace as traces
+use Rattle.laws_trace.specs.Trace.{seen, seen_told, seen_granted}
+use Rattle.laws_trace.proofs.Deliveries.{frame_by, brings-frame, brings-none}
+use Rattle.laws_trace.proofs.DeliveriesRun.{event-aims}
+use Rattle.laws_trace.proofs.LinkLed.{own-is, none-refused, elsewhere}
+use Rattle.laws_trace.proofs.NewsRows.{sabme_of, released_of}
+use Rattle.laws_trace.proofs.OneLink.{is_at_link}
+
+module _ (c : Config) (service : Service) (tei : ℕ) where
+  told-begins : (a : Answer) → list_any (begins c service tei) (seen_told a) ≡ false
+  told-begins (told t) = refl
+  told-begins (refused why) = refl
+  told-begins (pulled value is_begun orders) = refl
+
+  or-false : (b : Bool) → (b || false) ≡ b
+  or-false true = refl
+  or-false false = refl
+
+  octet-begins : (o : Option stream.Event) (a : Answer)
+      → list_any (begins c service tei) (map traces.heard (option_to_list o) ++ seen_told a) ≡ option_map_or is_sabme (control_in service tei (option_map_or (frame_heard c) o None)) false
+  octet-begins None a = told-begins a
+  octet-begins (Some e) a =
+      ap (λ b. option_map_or is_sabme (control_in service tei (frame_heard c e)) false || b) (told-begins a)
+      ∙ or-false (option_map_or is_sabme (control_in service tei (frame_heard c e)) false)
+
+  asked-begins : (r : Request) (a : Answer) → list_any (begins c service tei) (seen_granted r a ++ seen_told a) ≡ false
+  asked-begins r (told t) = refl
+  asked-begins r (refused why) = refl
+  asked-begins r (pulled value is_begun orders) = refl
+
+  pull-begins : (o : Option Taken) (a : Answer)
+      → list_any (begins c service tei) (map traces.begun (option_to_list (option_map frame_taken o)) ++ map traces.put (octet_in a)) ≡ false
+  pull-begins None (told t) = refl
+  pull-begins None (refused why) = refl
+  pull-begins None (pulled value is_begun orders) = refl
+  pull-begins (Some t) (told u) = refl
+  pull-begins (Some t) (refused why) = refl
+  pull-begins (Some t) (pulled value is_begun orders) = refl
+
+  seen-begins : (e : line_event.Event) (l : Line) (a : Answer) → list_any (begins c service tei) (seen c e l a) ≡ option_map_or is_sabme (control_in service tei (frame_by c e l)) false
+  seen-begins (octet value) l a = octet-begins (gained c.n201 l.received value) a
+  seen-begins (expiry timer) l a = told-begins a
+  seen-begins (request r) l a = asked-begins r a
+  seen-begins pull l a = pull-begins (line_pull.begun c l) a
+
+  module _ (e : line_event.Event) (l : Line) (a : Answer) where
+    sabme-none : frame_by c e l ≡ None → option_map_or is_sabme (control_in service tei (frame_by c e l)) false ≡ false
+    sabme-none none = ap (λ o. option_map_or is_sabme (control_in service tei o) false) none
+
+    -- one event of the link
+    pub one-begins : (event : link.Event) → IsBy c l e a service tei event → list_any (begins c service tei) (seen c e l a) ≡ sabme_of event
+    one-begins event by = seen-begins e l a ∙ go event by
+      where
+        go : (event : link.Event) → IsBy c l e a service tei event → option_map_or is_sabme (control_in service tei (frame_by c e l)) false ≡ sabme_of event
+        go (link.received (link.frame f)) by =
+            let x = brings-frame c l e a service tei f by in
+            ap (λ o. option_map_or is_sabme (control_in service tei o) false) x.0 ∙ ap (λ b. option_map_or is_sabme (cond b (Some f.control) None) false) x.1
+        go (link.received link.undefined) by = sabme-none (brings-none c l e a service tei link.undefined by)
+        go (link.received link.wrong_size) by = sabme-none (brings-none c l e a service tei link.wrong_size by)
+        go (link.received link.overlong) by = sabme-none (brings-none c l e a service tei link.overlong by)
+        go (link.expired timer) by = sabme-none (ap (λ e. frame_by c e l) by)
+        go (link.requested what full) by = sabme-none (ap (λ e. frame_by c e l) by.0)
+        go link.offer by = sabme-none (ap (λ e. frame_by c e l) by)
+        go link.cleared by = absurd by
+
+    pub one-releases : (event : link.Event) → IsBy c l e a service tei event → releases service tei e a ≡ released_of event
+    one-releases (link.received (link.frame f)) by = ap (λ e. releases service tei e a) by.by
+    one-releases (link.received link.undefined) by = ap (λ e. releases service tei e a) by.by
+    one-releases (link.received link.wrong_size) by = ap (λ e. releases service tei e a) by.by
+    one-releases (link.received link.overlong) by = ap (λ e. releases service tei e a) by.by
+    one-releases (link.expired T200) by = ap (λ e. releases service tei e a) by
+    one-releases (link.expired T203) by = ap (λ e. releases service tei e a) by
+    one-releases (link.requested link.Establish full) by = ap (λ e. releases service tei e a) by.0
+    one-releases (link.requested link.Release full) by = ap (λ e. releases service tei e a) by.0 ∙ ap (λ b. b && is_own service tei service tei) by.1 ∙ own-is service tei
+    one-releases (link.requested (link.Data octets) full) by = ap (λ e. releases service tei e a) by.0
+    one-releases (link.requested link.SetBusy full) by = ap (λ e. releases service tei e a) by.0
+    one-releases (link.requested link.ClearBusy full) by = ap (λ e. releases service tei e a) by.0
+    one-releases link.offer by = ap (λ e. releases service tei e a) by
+    one-releases link.cleared by = absurd by
+
+    pub one-establishes : (event : link.Event) → IsBy c l e a service tei event → establishes service tei e a ≡ asks_establishment event
+    one-establishes (link.received (link.frame f)) by = ap (λ e. establishes service tei e a) by.by
+    one-establishes (link.received link.undefined) by = ap (λ e. establishes service tei e a) by.by
+    one-establishes (link.received link.wrong_size) by = ap (λ e. establishes service tei e a) by.by
+    one-establishes (link.received link.overlong) by = ap (λ e. establishes service tei e a) by.by
+    one-establishes (link.expired T200) by = ap (λ e. establishes service tei e a) by
+    one-establishes (link.expired T203) by = ap (λ e. establishes service tei e a) by
+    one-establishes (link.requested link.Establish full) by = ap (λ e. establishes service tei e a) by.0 ∙ ap (λ b. b && is_own service tei service tei) by.1 ∙ own-is service tei
+    one-establishes (link.requested link.Release full) by = ap (λ e. establishes service tei e a) by.0
+    one-establishes (link.requested (link.Data octets) full) by = ap (λ e. establishes service tei e a) by.0
+    one-establishes (link.requested link.SetBusy full) by = ap (λ e. establishes service tei e a) by.0
+    one-establishes (link.requested link.ClearBusy full) by = ap (λ e. establishes service tei e a) by.0
+    one-establishes link.offer by = ap (λ e. establishes service tei e a) by
+    one-establishes link.cleared by = absurd by
+
+  -- and none
+  module _ (l : Line) (place : ℕ) (on : place_in l tei ≡ Some place) where
+    pub none-begins : (e : line_event.Event) → is_at_link service tei (lines.aim_of c e l) ≡ false → (a : Answer) → list_any (begins c service tei) (seen c e l a) ≡ false
+    none-begins e aims a = seen-begins e l a ∙ go (frame_by c e l) refl
+      where
+        by-whom : (f : Parts) → frame_by c e l ≡ Some f → (b : Bool) → is_for service tei f.address ≡ b → option_map_or is_sabme (cond b (Some f.control) None) false ≡ false
+        by-whom f is true for = absurd (true≢false (sym (event-aims c l service tei place on e f is for) ∙ aims))
+        by-whom f is false for = refl
+
+        go : (o : Option Parts) → frame_by c e l ≡ o → option_map_or is_sabme (control_in service tei o) false ≡ false
+        go None is = refl
+        go (Some f) is = by-whom f is (is_for service tei f.address) refl
+
+    no-bit : (b : Bool) → (b && false) ≡ false
+    no-bit true = refl
+    no-bit false = refl
+
+    not-granted : (r : Request) (a : Answer) → is_granted a ≡ false → releases service tei (request r) a ≡ false
+    not-granted (Establish its by) a none = refl
+    not-granted (Release its by) a none = ap (λ d. d && is_own service tei its by) none
+    not-granted (Data its by contents) a none = refl
+    not-granted (Request.Unit its by contents) a none = refl
+    not-granted (Assign by) a none = refl
+    not-granted (Remove by) a none = refl
+    not-granted (Check by) a none = refl
+    not-granted (SetBusy its by) a none = refl
+    not-granted (ClearBusy its by) a none = refl
+
+    not-own : (r : Request) (a : Answer) → is_at_link service tei (aim_of_request r l) ≡ false → releases service tei (request r) a ≡ false
+    not-own (Establish its by) a aims = refl
+    not-own (Release its by) a aims =
+        ap (λ d. is_granted a && d) (elsewhere c service tei nothing_yet l place on its by (link.requested link.Release false) (at_requested its by link.Release) (λ p. refl) aims) ∙ no-bit (is_granted a)
+    not-own (Data its by contents) a aims = refl
+    not-own (Request.Unit its by contents) a aims = refl
+    not-own (Assign by) a aims = refl
+    not-own (Remove by) a aims = refl
+    not-own (Check by) a aims = refl
+    not-own (SetBusy its by) a aims = refl
+    not-own (ClearBusy its by) a aims = refl
+
+    pub none-releases : (e : line_event.Event) → is_at_link service tei (lines.aim_of c e l) ≡ false → releases service tei e (lines.answer c e l) ≡ false
+    none-releases (octet value) aims = refl
+    none-releases (expiry timer) aims = refl
+    none-releases pull aims = refl
+    none-releases (request r) aims = go (is_granted (lines.answer c (request r) l)) refl
+      where
+        go : (b : Bool) → is_granted (lines.answer c (request r) l) ≡ b → releases service tei (request r) (lines.answer c (request r) l) ≡ false
+        go false none = not-granted r (lines.answer c (request r) l) none
+        go true some =
+            not-own r (lines.answer c (request r) l)
+            (ap (λ o. is_at_link service tei (lines.unless_refused o (aim_of_request r l))) (sym (none-refused c r l some)) ∙ aims)

@@ -1,0 +1,87 @@
+-- What layer 3 is told of establishments and releases.
+use Rattle.std.specs.Prelude.{◌≡◌, ℕ, ◌==◌, ◌&&◌, ◌||◌, Bool, true, false, List, [], ◌∷◌, ◌++◌, fold, filter, Some, if◌then◌else◌}
+use Rattle.std.specs.List.{list_any}
+use Rattle.std.specs.Option.{option_map_or}
+use Rattle.lapd_frame.specs.declared.controls.Control.{Control}
+use Rattle.lapd_frame.specs.declared.controls.Control.TheVariants.{Sabme}
+use Rattle.lapd_frame.specs.declared.notes.Note.{Note}
+use Rattle.lapd_frame.specs.declared.notes.Note.TheVariants.{EstablishIndication, EstablishConfirm, ReleaseIndication, ReleaseConfirm}
+use Rattle.lapd_frame.specs.declared.services.Service.{Service}
+use Rattle.model_line.specs.declared.config.Config.{Config}
+use Rattle.model_line.specs.Event as line_event
+use Rattle.model_line.specs.Event.{request, Answer}
+use Rattle.model_line.specs.Request.{Establish, Release}
+use Rattle.laws_line.specs.Heard.{notes_of}
+use Rattle.laws_line.specs.Share.{is_granted}
+use Rattle.model_card.specs.Card.{fresh}
+use Rattle.model_card.specs.Event.{Event, at}
+use Rattle.model_card.specs.Machine.{answer}
+use Rattle.model_card.specs.Run.{Moment, moments, after_all}
+use Rattle.laws_trace.specs.CommandsHaveCauses.{is_own}
+use Rattle.laws_trace.specs.Deliveries.{frame_of}
+use Rattle.laws_trace.specs.TimersAreTimely.{control_in, is_state, state_before, state_after, differ}
+use Rattle.laws_trace.specs.Trace.{Seen, heard, seen_in}
+
+-- The notes that say that a link is up, or down (Q.921 clauses 4.1.1.1 and 4.1.1.2).
+abbrev pub is_news : Service → ℕ → Note → Bool
+is_news service tei (EstablishIndication of by) = is_own service tei of by
+is_news service tei (EstablishConfirm of by) = is_own service tei of by
+is_news service tei (ReleaseIndication of by) = is_own service tei of by
+is_news service tei (ReleaseConfirm of by) = is_own service tei of by
+is_news service tei other = false
+
+abbrev pub is_indicated : Service → ℕ → Note → Bool
+is_indicated service tei (EstablishIndication of by) = is_own service tei of by
+is_indicated service tei other = false
+
+-- Layer 3 asks for the establishment of a link, or for its release; and the terminal begins to establish it.
+abbrev pub establishes : Service → ℕ → line_event.Event → Answer → Bool
+establishes service tei (request (Establish of by)) a = is_granted a && is_own service tei of by
+establishes service tei other a = false
+
+abbrev pub releases : Service → ℕ → line_event.Event → Answer → Bool
+releases service tei (request (Release of by)) a = is_granted a && is_own service tei of by
+releases service tei other a = false
+
+abbrev pub is_sabme : Control → Bool
+is_sabme (Sabme p) = true
+is_sabme other = false
+
+abbrev pub begins : Config → Service → ℕ → Seen → Bool
+begins c service tei (heard e) = option_map_or is_sabme (control_in service tei (frame_of c e)) false
+begins c service tei other = false
+
+-- Whether it was layer 3 that asked for the establishment that a link in state 5 awaits, or this side began it (clauses 5.5.1.1
+-- and 5.7.2).
+abbrev pub asked : Service → ℕ → ℕ → Bool → Moment → Bool
+asked service tei number was m =
+    let after = state_after service tei number m in
+    if m.event.line == number && is_state 5 after && differ (state_before service tei number m) after then establishes service tei m.event.what m.answer else was
+
+-- What is due as a link comes from one state to another, or stays in it. Where it comes to state 7 from state 4, the terminal
+-- established it, which is an indication; from state 5 a confirm, if layer 3 asked for it; and if not, or if the terminal
+-- establishes a link anew by SABME, an indication where contents are lost, or nothing (clauses 5.5.1.2 and 5.7). Where it comes to
+-- state 4 from state 6, and where layer 3 releases a link in state 4, that is a confirm, and from other states an indication
+-- (clauses 5.5.1.2, 5.5.1.3, 5.5.3.2 and 5.5.3.3).
+abbrev pub due : Service → ℕ → Bool → Bool → Bool → Bool → ℕ → ℕ → List Note
+due service tei was_asked sabme released indicated from to =
+    if to == 7 then
+    (if from == 4 then EstablishIndication service tei ∷ [] else if from == 5 && was_asked then EstablishConfirm service tei ∷ []
+    else if (from == 5 || sabme) && indicated then EstablishIndication service tei ∷ [] else [])
+    else if to == 4 then
+    (if from == 6 || (from == 4 && released) then ReleaseConfirm service tei ∷ [] else if from == 4 then [] else ReleaseIndication service tei ∷ [])
+    else []
+
+-- So the notes of a link, of these kinds, in the answer to an event at the line are exactly what is due, where its TEI is on the line
+-- before and after it. (Where its TEI leaves, `notes_tell` of `Promises` says what is told.)
+abbrev pub NewsIsTold : Config → List Event → ℕ → Type 0
+NewsIsTold c events number =
+    (service : Service) (tei : ℕ) (before : List Event) (what : line_event.Event) (behind : List Event) →
+    events ≡ before ++ at number what ∷ behind →
+    let card = after_all (fresh c) before in
+    let m : Moment = record { card = card; event = at number what; answer = answer (at number what) card } in
+    let was_asked = fold (asked service tei number) false (moments (fresh c) before) in
+    (from to : ℕ) → state_before service tei number m ≡ Some from → state_after service tei number m ≡ Some to →
+    filter (is_news service tei) (notes_of m.answer)
+    ≡ due service tei was_asked (list_any (begins c service tei) (seen_in number m)) (releases service tei what m.answer)
+    (list_any (is_indicated service tei) (notes_of m.answer)) from to

@@ -1,0 +1,64 @@
+-- Worked values: what layer 3 is told of a link; and notes that break the law.
+use Rattle.std.specs.Prelude.{◌≡◌, ℕ, true, false, List, [], ◌∷◌, fold, filter, refl}
+use Rattle.std.specs.List.{list_any}
+use Rattle.lapd_bits.specs.Bits.{low_bits}
+use Rattle.lapd_frame.specs.declared.notes.Note.{Note}
+use Rattle.lapd_frame.specs.declared.notes.Note.TheVariants.{EstablishIndication, EstablishConfirm, ReleaseIndication, ReleaseConfirm}
+use Rattle.lapd_frame.specs.declared.services.Service.TheVariants.{Call}
+use Rattle.lapd_frame.specs.Reading.{reading, header_of, control_of, unnumbered_of, supervisory_of}
+use Rattle.lapd_tei.specs.Events as teis
+use Rattle.model_line.specs.Event.{Event, octet, request}
+use Rattle.model_line.specs.Machine as lines
+use Rattle.model_line.specs.Request.{Assign, Establish, Release}
+use Rattle.laws_line.specs.Heard.{notes_of}
+use Rattle.model_card.specs.Card.{fresh}
+use Rattle.model_card.specs.Event as card
+use Rattle.model_card.specs.Event.{at}
+use Rattle.model_card.specs.Machine.{answer}
+use Rattle.model_card.specs.Run.{Moment, moments, after_all}
+use Rattle.laws_card.specs.Worked.{usual, on_0}
+use Rattle.laws_trace.specs.News.{is_news, is_indicated, releases, begins, asked, due}
+use Rattle.laws_trace.specs.Trace.{seen_in}
+use Rattle.laws_trace.specs.WorkedMoves.{sabme_comes}
+
+abbrev moment_at : List card.Event → Event → Moment
+moment_at before what = let card = after_all (fresh usual) before in record { card = card; event = at 0 what; answer = answer (at 0 what) card }
+
+abbrev told : List card.Event → Event → List Note
+told before what = filter (is_news Call 64) (notes_of (moment_at before what).answer)
+
+-- As the law says it, where the link comes from one state to another.
+abbrev said : List card.Event → Event → ℕ → ℕ → List Note
+said before what from to =
+    let m = moment_at before what in
+    let was_asked = fold (asked Call 64 0) false (moments (fresh usual) before) in
+    due Call 64 was_asked (list_any (begins usual Call 64) (seen_in 0 m)) (releases Call 64 what m.answer) (list_any (is_indicated Call 64) (notes_of m.answer)) from to
+
+-- SABME leads from state 4 to state 7: an indication.
+is_told : told sabme_comes (octet 0xFC) ≡ EstablishIndication Call 64 ∷ []
+unfolding moments after_all lines.after lines.answer lines.takes_slot teis.course teis.refusal low_bits reading header_of control_of unnumbered_of supervisory_of
+is_told = refl
+
+is_due : said sabme_comes (octet 0xFC) 4 7 ≡ EstablishIndication Call 64 ∷ []
+unfolding moments after_all lines.after lines.answer lines.takes_slot teis.course teis.refusal low_bits reading header_of control_of unnumbered_of supervisory_of
+is_due = refl
+
+-- A request to release a link that is down is confirmed at once.
+released : said (on_0 (Assign 64) ∷ []) (request (Release Call 64)) 4 4 ≡ ReleaseConfirm Call 64 ∷ []
+unfolding moments after_all lines.after lines.answer lines.takes_slot teis.course teis.refusal low_bits
+released = refl
+
+-- Layer 3 asks for the establishment, and UA confirms it.
+asks : fold (asked Call 64 0) false (moments (fresh usual) (on_0 (Assign 64) ∷ on_0 (Establish Call 64) ∷ [])) ≡ true
+unfolding moments lines.after lines.answer lines.takes_slot teis.course teis.refusal low_bits
+asks = refl
+
+confirmed : due Call 64 true false false false 5 7 ≡ EstablishConfirm Call 64 ∷ []
+confirmed = refl
+
+-- Where a confirm is told for an indication, or the release by the terminal for one that was asked for, the law is broken.
+for_an_indication : EstablishConfirm Call 64 ∷ [] ≡ due Call 64 false true false false 4 7 → ⊥
+for_an_indication e = cc e
+
+for_a_confirm : ReleaseIndication Call 64 ∷ [] ≡ due Call 64 false false false false 6 4 → ⊥
+for_a_confirm e = cc e

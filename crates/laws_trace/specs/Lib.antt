@@ -29,5 +29,6 @@ pub mod DataGoesOut
 pub mod WorkedData
 pub mod WorkedCommands
 pub mod WorkedReceipts
+pub mod WorkedBusy
 pub mod WorkedManaging
 pub mod WorkedAgain

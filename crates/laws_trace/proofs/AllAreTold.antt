@@ -42,9 +42,10 @@ use Rattle.model_card.proofs.Steps.{has_lines, by_room, line_sound}
 use Rattle.laws_card.proofs.Wherever.{all-left, all-right, config-stays}
 use Rattle.laws_trace.specs.Trace as traces
 use Rattle.laws_trace.specs.Trace.{Seen, heard, noted, lost, seen, seen_told, seen_granted, trace_of, IsAmong, Always}
-use Rattle.laws_trace.specs.Deliveries.{nothing_yet, parts_of, frame_of, is_for, number_in, watch, MayBeTold, IsTold, AllAreTold}
+use Rattle.laws_trace.specs.Deliveries.{at_first, parts_of, frame_of, is_for, number_in, stand, IsTold, AllAreTold}
 use Rattle.laws_trace.proofs.Deliveries.{frame_by, brings-frame, brings-none}
-use Rattle.laws_trace.proofs.DeliveriesRun.{IsCount, event-aims, data-noted, run-passes}
+use Rattle.laws_trace.proofs.DeliveriesKept.{run-stands}
+use Rattle.laws_trace.proofs.DeliveriesRun.{IsCount, event-aims, data-noted}
 use Rattle.laws_trace.proofs.OneLink.{Goes, event-goes}
 use Rattle.laws_trace.proofs.Runs.{nothing-seen}
 
@@ -175,6 +176,13 @@ is-frame c l e a service tei f is (link.requested asked full) by = absurd (none-
 is-frame c l e a service tei f is link.offer by = absurd (none-some f (sym (ap (λ e. frame_by c e l) by) ∙ is))
 is-frame c l e a service tei f is link.cleared by = absurd by
 
+-- What the link may take.
+pub record MayBeTaken (c : Config) (l : Link) (count : ℕ) (frame : Parts) : Type 0 where
+  pub up : is_multiple_frame l.state ≡ true
+  pub free : l.own_busy ≡ false
+  pub size : length frame.info ≤ c.n201
+  pub next : number_in frame.control ≡ Some (count % 128)
+
 -- One event of a line.
 module _ (c : Config) (ranged : IsInRange c) (l : Line) (s : IsSound c l) (e : Event) (service : Service) (tei n : ℕ) (count : IsCount (link_of service tei l) n) where
   abbrev a : Answer
@@ -186,7 +194,7 @@ module _ (c : Config) (ranged : IsInRange c) (l : Line) (s : IsSound c l) (e : E
   abbrev t : Terms
   t = terms c service tei
 
-  own-told : (f : Parts) → MayBeTold c k n f → (le : link.Event) → le ≡ link.received (link.frame f) → (links.told t le k).delivered ≡ Some f.info
+  own-told : (f : Parts) → MayBeTaken c k n f → (le : link.Event) → le ≡ link.received (link.frame f) → (links.told t le k).delivered ≡ Some f.info
   own-told f may le is =
       data-is t k le
       ∙ ap (λ le. in_sequence k.r (Rattle.model_link.specs.Deliveries.eligible t le k)) is
@@ -197,7 +205,7 @@ module _ (c : Config) (ranged : IsInRange c) (l : Line) (s : IsSound c l) (e : E
   on-line up None off = absurd (true≢false (sym up ∙ ap (λ o. is_multiple_frame (option_map_or (link_in l service) o fresh).state) off))
 
   pub told-here : (octets : List ℕ) (f : Parts) → brought c e l ≡ Some (stream.frame octets) → reading (heard_side c) octets ≡ Ok f → is_for service tei f.address ≡ true
-      → MayBeTold c k n f → IsTold service tei f.info (seen c e l a)
+      → MayBeTaken c k n f → IsTold service tei f.info (seen c e l a)
   told-here octets f is read for may = go (event-goes c e l service tei s)
     where
       by : frame_by c e l ≡ Some f
@@ -221,7 +229,7 @@ module _ (m : Card) (e : card.Event) (s : card_sound.IsSound m) (service : Servi
     (read : reading (heard_side m.config) octets ≡ Ok f) (for : is_for service tei f.address ≡ true) where
   abbrev Tells : ℕ → List Seen → Type 0
   Tells number t =
-      IsCount (link_of service tei (line_at number m)) n → MayBeTold m.config (link_of service tei (line_at number m)) n f
+      IsCount (link_of service tei (line_at number m)) n → MayBeTaken m.config (link_of service tei (line_at number m)) n f
       → IsAmong (heard (stream.frame octets)) t → IsTold service tei f.info t
 
   own : IsAtLine m e → Tells e.line (seen m.config e.what (line_at e.line m) (answer e m))
@@ -254,11 +262,12 @@ all-are-told c events number ranged all within service tei before e behind split
     let first = all-left (IsAtLine (cards.fresh c)) before (e ∷ behind) these in
     let here = All-head (IsAtLine (cards.fresh c)) e behind (all-right (IsAtLine (cards.fresh c)) before (e ∷ behind) these) in
     let kept : m.config ≡ c = config-stays (cards.fresh c) before in
-    let w = fold (watch c service tei) nothing_yet (trace_of c before number) in
-    let count = (run-passes c before number ranged first within service tei).2 in
+    let w = fold (stand c service tei) at_first (trace_of c before number) in
+    let x = run-stands c before number ranged first within service tei in
     let t = cond (e.line == number) (seen m.config e.what (line_at number m) (answer e m)) [] in
     subst (IsTold service tei f.info) (sym (append-nil t))
-    (at-card m e (always_sound (cards.fresh c) before (fresh_is_sound c ranged) first) service tei w.count octets f (subst (λ c. reading (heard_side c) octets ≡ Ok f) (sym kept) read) for number
-    (subst (λ (c : Config). e.line < c.lines) (sym kept) here) (e.line == number) refl count
-    (subst (λ c. MayBeTold c (link_of service tei (line_at number m)) w.count f) (sym kept) may)
+    (at-card m e (always_sound (cards.fresh c) before (fresh_is_sound c ranged) first) service tei w.told.count octets f (subst (λ c. reading (heard_side c) octets ≡ Ok f) (sym kept) read) for number
+    (subst (λ (c : Config). e.line < c.lines) (sym kept) here) (e.line == number) refl x.2
+    (subst (λ c. MayBeTaken c (link_of service tei (line_at number m)) w.told.count f) (sym kept)
+    (record { up = may.up; free = x.3.busy_is may.up ∙ may.free; size = may.size; next = may.next }))
     (subst (IsAmong (heard (stream.frame octets))) (append-nil t) among))

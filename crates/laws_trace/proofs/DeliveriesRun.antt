@@ -56,8 +56,8 @@ use Rattle.model_card.specs.Pulled.{frame_taken, octet_in}
 use Rattle.model_card.specs.Run.{after_all, AreAtLines}
 use Rattle.model_card.proofs.CardSound.{fresh_is_sound}
 use Rattle.laws_trace.specs.Trace as traces
-use Rattle.laws_trace.specs.Trace.{Seen, seen_told, seen, Always}
-use Rattle.laws_trace.specs.Deliveries.{Watched, nothing_yet, parts_of, frame_of, is_for, begins, counted, watch, number_in, IsOfFrame, IsHeard, Deliveries}
+use Rattle.laws_trace.specs.Trace.{Seen, seen_told, seen}
+use Rattle.laws_trace.specs.Deliveries.{Watched, nothing_yet, parts_of, frame_of, is_for, begins, counted, watch, number_in, IsOfFrame, IsHeard}
 use Rattle.laws_trace.specs.Units.{is_ui}
 use Rattle.laws_trace.proofs.Begins.{unless, up-before}
 use Rattle.laws_trace.proofs.Deliveries.{frame_by, data-tells, unit-tells, data-own, unit-own, none-noted, one-begins, data-of, unit-of, group-notes}
@@ -190,7 +190,7 @@ module _ (c : Config) (ranged : IsInRange c) (l : Line) (s : IsSound c l) (e : E
 
   -- None of it.
   module _ (x : HasNone c service tei e l (after c e l) a) where
-    no-data : list_any (is_data_of service tei) (notes_of a) ≡ true → ⊥
+    pub no-data : list_any (is_data_of service tei) (notes_of a) ≡ true → ⊥
     no-data some =
         let y = none-noted c ranged l s e service tei (is_data_of service tei) (data-tells service tei) (data-own service tei) x.aims some in
         true≢false (sym some ∙ ap (list_any (is_data_of service tei)) (group-notes c ranged l s e service tei y.0 y.2))
@@ -357,6 +357,9 @@ run-passes c events number ranged all within service tei =
     ap (link_of service tei) start ∙ ap (λ o. option_map_or (link_in (fresh_line c) service) o fresh) (nowhere c tei) in
     (run-shows Stands Shows rests joins steps (cards.fresh c) events number (fresh_is_sound c ranged) all tt).0 service tei 0 (λ up. ap (λ (k : Link). k.r) off)
 
-pub deliveries : Always Deliveries
-deliveries c events number ranged all within service tei before ns contents behind split =
+-- What is told as data is heard, wherever it is noted.
+pub always-heard : (c : Config) (events : List card.Event) (number : ℕ) → IsInRange c → AreAtLines (cards.fresh c) events → number < c.lines → (service : Service) (tei : ℕ)
+    → (before : List Seen) (ns : List Note) (contents : Option (List ℕ)) (behind : List Seen) → traces.trace_of c events number ≡ before ++ traces.noted ns contents ∷ behind
+    → IsHeard service tei (fold (watch c service tei) nothing_yet before) ns contents
+always-heard c events number ranged all within service tei before ns contents behind split =
     heard-at c service tei nothing_yet before ns contents behind (subst (AreHeard c service tei nothing_yet) split (run-passes c events number ranged all within service tei).0)

@@ -49,8 +49,11 @@ pub mod AllAreAnswered
 pub mod CommandsPut
 pub mod CommandsCaused
 pub mod CommandsHaveCauses
-pub mod ReceiptsOfLink
 pub mod ReceiptsNumbered
+pub mod StandingOfLink
+pub mod Standing
+pub mod DeliveriesKept
+pub mod ReceiptsOfLink
 pub mod ReceiptsSeen
 pub mod ReceiptsCount
 pub mod ManagingTables

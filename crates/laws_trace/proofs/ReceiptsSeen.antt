@@ -1,5 +1,5 @@
 -- Receipts count what was told: what is seen of the receipts of a link, and which are due by it.
-use Rattle.std.proofs.Common.{◌≡◌, ℕ, ◌==◌, ◌&&◌, Bool, true, false, cond, List, [], ◌∷◌, ◌++◌, map, drop, Option, Some, None, option_map, refl, sym, ap, ◌∙◌, subst, inl, inr, eq-eqb, append-nil, true≢false}
+use Rattle.std.proofs.Common.{◌≡◌, ℕ, ◌==◌, ◌&&◌, ◌||◌, Bool, true, false, cond, List, [], ◌∷◌, ◌++◌, map, drop, Option, Some, None, option_map, refl, sym, ap, ◌∙◌, subst, inl, inr, eq-eqb, append-nil, true≢false}
 use Rattle.std.specs.Prelude.{All, IfSome, flat_map, fold, option_to_list}
 use Rattle.std.specs.Option.{option_map_or, unwrap_or}
 use Rattle.std.proofs.lemmas.List.Elements.{All-head, All-tail}
@@ -38,15 +38,14 @@ use Rattle.laws_trace.specs.Trace as traces
 use Rattle.laws_trace.specs.Trace.{Seen, heard, put, seen, seen_told, seen_granted, trace, Always}
 use Rattle.laws_trace.specs.AnswersAreAsked.{of_link, IsPart}
 use Rattle.laws_trace.specs.CommandsHaveCauses.{is_own}
-use Rattle.laws_trace.specs.Deliveries.{Watched, frame_of as heard_frame, counted, watch}
-use Rattle.laws_trace.specs.ReceiptsCount.{receipt_in, receipts_at, rr, rnr, due_to, acknowledged_with, due_by, enquired_with}
+use Rattle.laws_trace.specs.Deliveries.{Standing}
+use Rattle.laws_trace.specs.ReceiptsCount.{receipt_in, receipts_at, rr, receipt, due_to, acknowledged_with, changed_with, due_by, enquired_with}
 use Rattle.laws_trace.proofs.CommandsCaused.{same-itself}
-use Rattle.laws_trace.proofs.Deliveries.{frame_by}
 use Rattle.laws_trace.proofs.OneLink.{IsForeign}
 use Rattle.laws_trace.proofs.Parts as parts
 use Rattle.laws_trace.proofs.Parts.{of-itself, of-nothing, both, more, through}
 use Rattle.laws_trace.proofs.ReadAgain.{read-again}
-use Rattle.laws_trace.proofs.ReceiptsOfLink.{receipt_of, receipts, enquiries, due_of}
+use Rattle.laws_trace.proofs.ReceiptsOfLink.{receipt_of, receipts, due_of}
 
 either-none : (b : Bool) → cond {A = List ControlFrame} b [] [] ≡ []
 either-none true = refl
@@ -60,15 +59,12 @@ if-part : (b : Bool) (xs : List ControlFrame) → IsPart (cond b xs []) xs
 if-part true xs = of-itself xs
 if-part false xs = of-nothing xs
 
-abbrev pub quiet : ℕ → Watched
-quiet m = record { frame = None; count = m }
-
 module _ (c : Config) (service : Service) (tei : ℕ) where
   abbrev pub begun_of : List ℕ → List ControlFrame
   begun_of octets = of_link service tei receipt_in (reading c.side octets)
 
-  abbrev pub owed_of : ℕ → List ℕ → List ControlFrame
-  owed_of n octets = of_link service tei (acknowledged_with n) (reading c.side octets)
+  abbrev pub owed_of : Standing → List ℕ → List ControlFrame
+  owed_of w octets = of_link service tei (acknowledged_with w) (reading c.side octets)
 
   abbrev pub receipts_begun : List Seen → List ControlFrame
   receipts_begun t = flat_map (receipts_at c service tei) t
@@ -102,7 +98,7 @@ module _ (c : Config) (service : Service) (tei : ℕ) where
   begun-is (request r) l a = none-granted r a
   begun-is pull l a = by-begun (begun c l) a
 
-  pub by-owed : (m : ℕ) (o : Option Taken) (a : Answer)
+  pub by-owed : (m : Standing) (o : Option Taken) (a : Answer)
       → flat_map (due_by c service tei m m) (map traces.begun (option_to_list (option_map frame_taken o)) ++ map put (octet_in a)) ≡ flat_map (owed_of m) (option_to_list (option_map frame_taken o))
   by-owed m None (told t) = refl
   by-owed m None (refused why) = refl
@@ -140,16 +136,16 @@ module _ (c : Config) (service : Service) (tei : ℕ) where
       read-again c.side (λ r. IsPart (of_link service tei receipt_in r) (receipt_of g.frame)) (address_at t g.frame.command) g.frame.control
       (λ info. if-part (sapi_of t.service == sapi_of service && t.tei == tei) (receipt_of g.frame)) (λ fault. of-nothing (receipt_of g.frame)) (unwrap_or g.contents [])
 
-  given-owed : (t : Terms) (g : Given) (m : ℕ) → IsPart (receipt_of g.frame) (acknowledged_with m g.frame.command g.frame.control) → IsPart (begun_of (frame_of c t g)) (owed_of m (frame_of c t g))
+  given-owed : (t : Terms) (g : Given) (m : Standing) → IsPart (receipt_of g.frame) (acknowledged_with m g.frame.command g.frame.control) → IsPart (begun_of (frame_of c t g)) (owed_of m (frame_of c t g))
   given-owed t g m h =
       read-again c.side (λ r. IsPart (of_link service tei receipt_in r) (of_link service tei (acknowledged_with m) r)) (address_at t g.frame.command) g.frame.control
       (λ info. either-part (sapi_of t.service == sapi_of service && t.tei == tei) (receipt_of g.frame) (acknowledged_with m g.frame.command g.frame.control) h)
       (λ fault. of-nothing []) (unwrap_or g.contents [])
 
-  abbrev Gives : Terms → Link → ℕ → Given → Type 0
+  abbrev Gives : Terms → Link → Standing → Given → Type 0
   Gives t l m g = IsPart (begun_of (frame_of c t g) ++ receipts (links.after t link.offer l).waiting) (receipts l.waiting ++ owed_of m (frame_of c t g))
 
-  gives : (t : Terms) (l : Link) (m : ℕ) (g : Given) → (l.pending ≡ true → l.r ≡ m) → IsInOrder t l (links.after t link.offer l) g.frame → Gives t l m g
+  gives : (t : Terms) (l : Link) (m : Standing) (g : Given) → (l.pending ≡ true → (l.r ≡ m.told.count) × (m.busy ≡ false)) → IsInOrder t l (links.after t link.offer l) g.frame → Gives t l m g
   gives t l m g count (inl oldest) =
       let rest = receipts (links.after t link.offer l).waiting in
       let all : receipts l.waiting ≡ receipt_of g.frame ++ rest = ap receipts oldest.waited in
@@ -171,13 +167,14 @@ module _ (c : Config) (service : Service) (tei : ℕ) where
       by-itself : IsPart (receipt_of g.frame) (acknowledged_with m g.frame.command g.frame.control)
       by-itself =
           subst (λ (f : ControlFrame). IsPart (receipt_of f) (acknowledged_with m f.command f.control)) (sym acknowledgement.is)
-          (subst (λ n. IsPart (rr false l.r false ∷ []) (rr false n false ∷ [])) (count acknowledgement.was_owed) (of-itself (rr false l.r false ∷ [])))
+          (subst (λ b. IsPart (rr false l.r false ∷ []) (cond (b || false) [] (rr false m.told.count false ∷ []))) (sym (count acknowledgement.was_owed).1)
+          (subst (λ n. IsPart (rr false l.r false ∷ []) (rr false n false ∷ [])) (count acknowledgement.was_owed).0 (of-itself (rr false l.r false ∷ []))))
 
   rest-part : (frames : List ControlFrame) → IsPart (receipts (drop 1 frames)) (receipts frames)
   rest-part [] = of-itself []
   rest-part (f ∷ frames) = parts.behind (receipt_of f) (receipts frames)
 
-  pub offered : (t : Terms) (l : Link) (m : ℕ) → (l.pending ≡ true → l.r ≡ m) → (o : Option Given) → IfSome o (λ g. IsInOrder t l (links.after t link.offer l) g.frame)
+  pub offered : (t : Terms) (l : Link) (m : Standing) → (l.pending ≡ true → (l.r ≡ m.told.count) × (m.busy ≡ false)) → (o : Option Given) → IfSome o (λ g. IsInOrder t l (links.after t link.offer l) g.frame)
       → let frames = map (frame_of c t) (option_to_list o) in
       IsPart (flat_map begun_of frames ++ receipts (links.after t link.offer l).waiting) (receipts l.waiting ++ flat_map (owed_of m) frames)
   offered t l m count None h =
@@ -188,50 +185,14 @@ module _ (c : Config) (service : Service) (tei : ℕ) where
       (subst (λ ys. IsPart (begun_of (frame_of c t g) ++ receipts (links.after t link.offer l).waiting) (receipts l.waiting ++ ys)) (sym (append-nil (owed_of m (frame_of c t g))))
       (gives t l m g count h))
 
-  -- What a watcher has in mind behind an event.
-  abbrev pub watched : Watched → List Seen → Watched
-  watched w t = fold (watch c service tei) w t
-
-  heard-fold : (g : Option stream.Event) (m : ℕ) (t : LineTold)
-      → watched (quiet m) (map heard (option_to_list g) ++ traces.noted t.notes t.contents ∷ traces.lost t.lost ∷ [])
-      ≡ quiet (counted service tei (record { frame = option_map_or (heard_frame c) g None; count = m }) t.notes)
-  heard-fold None m t = refl
-  heard-fold (Some e) m t = refl
-
-  told-fold : (m : ℕ) (a : Answer) → watched (quiet m) (seen_told a) ≡ quiet (counted service tei (quiet m) (notes_of a))
-  told-fold m (told t) = refl
-  told-fold m (refused why) = refl
-  told-fold m (pulled value is_begun orders) = refl
-
-  asked-fold : (r : Request) (m : ℕ) (a : Answer) → watched (quiet m) (seen_granted r a ++ seen_told a) ≡ quiet (counted service tei (quiet m) (notes_of a))
-  asked-fold r m (told t) = refl
-  asked-fold r m (refused why) = refl
-  asked-fold r m (pulled value is_begun orders) = refl
-
-  pub pull-fold : (o : Option Taken) (m : ℕ) (a : Answer) → watched (quiet m) (map traces.begun (option_to_list (option_map frame_taken o)) ++ map put (octet_in a)) ≡ quiet m
-  pull-fold None m (told t) = refl
-  pull-fold None m (refused why) = refl
-  pull-fold None m (pulled value is_begun orders) = refl
-  pull-fold (Some t) m (told u) = refl
-  pull-fold (Some t) m (refused why) = refl
-  pull-fold (Some t) m (pulled value is_begun orders) = refl
-
-  pub fold-is : (e : Event) (l : Line) (m : ℕ)
-      → watched (quiet m) (seen c e l (answer c e l)) ≡ quiet (counted service tei (record { frame = frame_by c e l; count = m }) (notes_of (answer c e l)))
-  unfolding answer
-  fold-is (octet value) l m = heard-fold (gained c.n201 l.received value) m (of_octet c value l).told
-  fold-is (expiry timer) l m = told-fold m (answer c (expiry timer) l)
-  fold-is (request r) l m = asked-fold r m (answer c (request r) l)
-  fold-is pull l m = pull-fold (begun c l) m (answer c pull l)
-
   -- Those that are due by an event, and by what it shows.
-  abbrev pub due_here : ℕ → ℕ → Event → List Seen → List ControlFrame
+  abbrev pub due_here : Standing → Standing → Event → List Seen → List ControlFrame
   due_here m n e t = enquired_with service tei n e ++ flat_map (due_by c service tei m n) t
 
   own-true : is_own service tei service tei ≡ true
   own-true = ap (λ b. b && tei == tei) (same-itself service) ∙ eq-eqb tei tei refl
 
-  frame-due : (l : Line) (e : Event) (a : Answer) (m n : ℕ) (frame : Parts) → Brings c l e service tei frame
+  frame-due : (l : Line) (e : Event) (a : Answer) (m n : Standing) (frame : Parts) → Brings c l e service tei frame
       → IsPart (due_to m n frame.address.command frame.control) (due_here m n e (seen c e l a))
   frame-due l e a m n frame x =
       let ds = due_to m n frame.address.command frame.control in
@@ -245,33 +206,31 @@ module _ (c : Config) (service : Service) (tei : ℕ) where
           ap (λ b. b && frame.address.tei == tei) (eq-eqb frame.address.sapi (sapi_of service) (sapi-is frame.address.sapi service x.sapi))
           ∙ eq-eqb frame.address.tei tei x.tei_is
 
-  timer-due : (l : Line) (a : Answer) (m n : ℕ) (timer : LinkTimer) → let e = expiry (timer_of service tei timer) in IsPart (enquiries n) (due_here m n e (seen c e l a))
+  timer-due : (l : Line) (a : Answer) (m n : Standing) (timer : LinkTimer) → let e = expiry (timer_of service tei timer) in IsPart (receipt n true true ∷ []) (due_here m n e (seen c e l a))
   timer-due l a m n T200 =
       let rest = flat_map (due_by c service tei m n) (seen_told a) in
-      subst (λ b. IsPart (enquiries n) (cond b (enquiries n) [] ++ rest)) (sym own-true) (more (enquiries n) rest)
+      subst (λ b. IsPart (receipt n true true ∷ []) (cond b (receipt n true true ∷ []) [] ++ rest)) (sym own-true) (more (receipt n true true ∷ []) rest)
   timer-due l a m n T203 =
       let rest = flat_map (due_by c service tei m n) (seen_told a) in
-      subst (λ b. IsPart (enquiries n) (cond b (enquiries n) [] ++ rest)) (sym own-true) (more (enquiries n) rest)
+      subst (λ b. IsPart (receipt n true true ∷ []) (cond b (receipt n true true ∷ []) [] ++ rest)) (sym own-true) (more (receipt n true true ∷ []) rest)
 
-  asked-due : (l : Line) (a : Answer) (m n : ℕ) (asked : link.Request) (full : Bool) → is_granted a ≡ true
+  asked-due : (l : Line) (a : Answer) (m n : Standing) (asked : link.Request) (full : Bool) → is_granted a ≡ true
       → let e = request (requests.of_link service tei asked) in IsPart (due_of m n (link.requested asked full)) (due_here m n e (seen c e l a))
   asked-due l (refused why) m n asked full is = absurd (true≢false (sym is))
   asked-due l (pulled value is_begun orders) m n asked full is = absurd (true≢false (sym is))
   asked-due l (told t) m n link.Establish full is = of-nothing _
   asked-due l (told t) m n link.Release full is = of-nothing _
   asked-due l (told t) m n (link.Data contents) full is = of-nothing _
-  asked-due l (told t) m n link.SetBusy full is =
-      subst (λ b. IsPart (rnr false n false ∷ []) (cond b (rnr false n false ∷ []) [] ++ [])) (sym own-true) (more (rnr false n false ∷ []) [])
-  asked-due l (told t) m n link.ClearBusy full is =
-      subst (λ b. IsPart (rr false n false ∷ []) (cond b (rr false n false ∷ []) [] ++ [])) (sym own-true) (more (rr false n false ∷ []) [])
+  asked-due l (told t) m n link.SetBusy full is = more (changed_with m n) []
+  asked-due l (told t) m n link.ClearBusy full is = more (changed_with m n) []
 
-  pub event-due : (l : Line) (e : Event) (a : Answer) (m n : ℕ) (event : link.Event) → IsBy c l e a service tei event
+  pub event-due : (l : Line) (e : Event) (a : Answer) (m n : Standing) (event : link.Event) → IsBy c l e a service tei event
       → IsPart (due_of m n event) (due_here m n e (seen c e l a))
   event-due l e a m n (link.received (link.frame frame)) x = frame-due l e a m n frame x
   event-due l e a m n (link.received link.undefined) x = of-nothing _
   event-due l e a m n (link.received link.wrong_size) x = of-nothing _
   event-due l e a m n (link.received link.overlong) x = of-nothing _
-  event-due l e a m n (link.expired timer) x = subst (λ e. IsPart (enquiries n) (due_here m n e (seen c e l a))) (sym x) (timer-due l a m n timer)
+  event-due l e a m n (link.expired timer) x = subst (λ e. IsPart (receipt n true true ∷ []) (due_here m n e (seen c e l a))) (sym x) (timer-due l a m n timer)
   event-due l e a m n (link.requested asked full) x =
       subst (λ e. IsPart (due_of m n (link.requested asked full)) (due_here m n e (seen c e l a))) (sym x.0) (asked-due l a m n asked full x.1)
   event-due l e a m n link.offer x = of-nothing _

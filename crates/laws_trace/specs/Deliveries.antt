@@ -1,5 +1,5 @@
 -- What layer 3 is told of what is heard.
-use Rattle.std.specs.Prelude.{◌≡◌, ◌≤◌, ℕ, ◌+◌, ◌%◌, ◌==◌, ◌&&◌, not, Bool, true, false, List, [], ◌∷◌, ◌++◌, length, fold, option_to_list, count_by, Option, Some, None, Result, Ok, Err, if◌then◌else◌}
+use Rattle.std.specs.Prelude.{◌≡◌, ◌≤◌, ℕ, ◌+◌, ◌%◌, ◌==◌, ◌&&◌, ◌||◌, not, Bool, true, false, List, [], ◌∷◌, ◌++◌, length, fold, option_to_list, count_by, Option, Some, None, Result, Ok, Err, if◌then◌else◌}
 use Rattle.std.specs.List.{list_any}
 use Rattle.lapd_bits.specs.Stream as stream
 use Rattle.lapd_frame.specs.declared.addresses.Address.{Address}
@@ -17,11 +17,13 @@ use Rattle.model_link.specs.Link.{Link, is_multiple_frame}
 use Rattle.model_line.specs.declared.config.Config.{Config}
 use Rattle.model_line.specs.Line.{link_of}
 use Rattle.model_line.specs.Octet.{heard_side}
+use Rattle.model_line.specs.Request.{Request, SetBusy, ClearBusy}
 use Rattle.model_card.specs.Card.{fresh, line_at}
 use Rattle.model_card.specs.Event.{Event}
 use Rattle.model_card.specs.Run.{moments, after_all}
 use Rattle.laws_line.specs.Heard.{is_data_of, is_unit_of, tells_contents}
-use Rattle.laws_trace.specs.Trace.{Seen, heard, noted, trace, trace_of, IsAmong}
+use Rattle.laws_trace.specs.CommandsHaveCauses.{is_own}
+use Rattle.laws_trace.specs.Trace.{Seen, heard, noted, granted, trace, trace_of, IsAmong}
 use Rattle.laws_trace.specs.Units.{is_ui}
 
 -- Whoever watches the link of a service with a TEI keeps in mind the frame that was heard right before, as the grammar
@@ -74,6 +76,45 @@ watch c service tei w (heard e) = record w { frame = frame_of c e }
 watch c service tei w (noted ns contents) = record { frame = None; count = counted service tei w ns }
 watch c service tei w other = record w { frame = None }
 
+-- And how the card's side of the link stands. Layer 3 is busy from SetBusy that is granted to ClearBusy that is, and is not where
+-- the numbers begin (clauses 5.5.1.2, 5.6.6 and 5.7). An I-frame of which nothing is told, while layer 3 is not busy, is rejected,
+-- until data is told, or the numbers begin (clause 5.8.1).
+pub record Standing : Type 0 where
+  pub told : Watched
+  pub busy : Bool
+  pub rejected : Bool
+
+abbrev pub at_first : Standing
+at_first = record { told = nothing_yet; busy = false; rejected = false }
+
+abbrev pub busy_asked : Service → ℕ → Bool → Request → Bool
+busy_asked service tei busy (SetBusy of by) = is_own service tei of by || busy
+busy_asked service tei busy (ClearBusy of by) = not (is_own service tei of by) && busy
+busy_asked service tei busy other = busy
+
+abbrev pub busy_by : Service → ℕ → Standing → Seen → Bool
+busy_by service tei w (granted r) = busy_asked service tei w.busy r
+busy_by service tei w (noted ns contents) = if begins service tei w.told.frame ns then false else w.busy
+busy_by service tei w other = w.busy
+
+abbrev pub is_information : Control → Bool
+is_information (Information ns nr p) = true
+is_information other = false
+
+abbrev pub brings_information : Service → ℕ → Option Parts → Bool
+brings_information service tei None = false
+brings_information service tei (Some f) = is_for service tei f.address && is_information f.control
+
+abbrev pub rejected_by : Service → ℕ → Standing → Seen → Bool
+rejected_by service tei w (noted ns contents) =
+    if begins service tei w.told.frame ns || list_any (is_data_of service tei) ns then false
+    else if brings_information service tei w.told.frame && not w.busy then true
+    else w.rejected
+rejected_by service tei w other = w.rejected
+
+abbrev pub stand : Config → Service → ℕ → Standing → Seen → Standing
+stand c service tei w x = record { told = watch c service tei w.told x; busy = busy_by service tei w x; rejected = rejected_by service tei w x }
+
 -- N(S) of an I-frame, the one field that none but it has.
 abbrev pub number_in : Control → Option ℕ
 number_in (Information ns nr p) = Some ns.value
@@ -95,19 +136,22 @@ pub record IsHeard (service : Service) (tei : ℕ) (w : Watched) (ns : List Note
   pub unit_is : list_any (is_unit_of service tei) ns ≡ true → IsOfFrame service tei w (λ control. is_ui control ≡ true) contents
   pub once : count_by tells_contents ns ≡ length (option_to_list contents)
 
--- So it is of every link, from the start of the card on, wherever notes are told.
+-- So it is of every link, from the start of the card on, wherever notes are told; and none of data while layer 3 is busy (clause
+-- 5.6.6).
 abbrev pub Deliveries : Config → List Event → ℕ → Type 0
 Deliveries c events number =
     (service : Service) (tei : ℕ) (before : List Seen) (ns : List Note) (contents : Option (List ℕ)) (behind : List Seen) →
-    trace_of c events number ≡ before ++ noted ns contents ∷ behind → IsHeard service tei (fold (watch c service tei) nothing_yet before) ns contents
+    trace_of c events number ≡ before ++ noted ns contents ∷ behind →
+    let w = fold (stand c service tei) at_first before in
+    IsHeard service tei w.told ns contents × (list_any (is_data_of service tei) ns ≡ true → w.busy ≡ false)
 
--- And contents that may be told are told, in the moment of their frame: an I-frame for a link in state 7 or 8, own busy off, of
--- at most N201 octets, whose N(S) is the number of contents told, modulo 128 (clauses 5.6.2 and 5.6.6).
-pub record MayBeTold (c : Config) (l : Link) (count : ℕ) (frame : Parts) : Type 0 where
+-- And contents that may be told are told, in the moment of their frame: an I-frame for a link in state 7 or 8, while layer 3 is
+-- not busy, of at most N201 octets, whose N(S) is the number of contents told, modulo 128 (clauses 5.6.2 and 5.6.6).
+pub record MayBeTold (c : Config) (l : Link) (w : Standing) (frame : Parts) : Type 0 where
   pub up : is_multiple_frame l.state ≡ true
-  pub free : l.own_busy ≡ false
+  pub free : w.busy ≡ false
   pub size : length frame.info ≤ c.n201
-  pub next : number_in frame.control ≡ Some (count % 128)
+  pub next : number_in frame.control ≡ Some (w.told.count % 128)
 
 pub record IsTold (service : Service) (tei : ℕ) (contents : List ℕ) (now : List Seen) : Type 0 where
   pub notes : List Note
@@ -119,6 +163,6 @@ AllAreTold c events number =
     (service : Service) (tei : ℕ) (before : List Event) (e : Event) (behind : List Event) → events ≡ before ++ e ∷ behind →
     let card = after_all (fresh c) before in
     let now = trace number (moments card (e ∷ [])) in
-    let w = fold (watch c service tei) nothing_yet (trace_of c before number) in
+    let w = fold (stand c service tei) at_first (trace_of c before number) in
     (octets : List ℕ) (frame : Parts) → IsAmong (heard (stream.frame octets)) now → reading (heard_side c) octets ≡ Ok frame →
-    is_for service tei frame.address ≡ true → MayBeTold c (link_of service tei (line_at number card)) w.count frame → IsTold service tei frame.info now
+    is_for service tei frame.address ≡ true → MayBeTold c (link_of service tei (line_at number card)) w frame → IsTold service tei frame.info now

@@ -32,6 +32,7 @@ pub mod DataGoesOut
 pub mod WorkedData
 pub mod WorkedCommands
 pub mod WorkedReceipts
+pub mod WorkedBusy
 pub mod WorkedManaging
 pub mod WorkedAgain
 pub mod WorkedMoves

@@ -1,5 +1,5 @@
 -- Worked values: receipts that begin, which are due, and one that breaks the law.
-use Rattle.std.specs.Prelude.{◌≡◌, ℕ, List, [], ◌∷◌, ◌++◌, false, flat_map, refl}
+use Rattle.std.specs.Prelude.{◌≡◌, ℕ, List, [], ◌∷◌, ◌++◌, false, fold, flat_map, None, refl}
 use Rattle.std.proofs.Common.{ap, sym, ◌∙◌}
 use Rattle.lapd_bits.specs.Bits.{low_bits}
 use Rattle.lapd_bits.specs.Stream as stream
@@ -17,9 +17,9 @@ use Rattle.model_card.specs.Event.{Event}
 use Rattle.model_card.specs.Run.{moments}
 use Rattle.laws_card.specs.Worked.{usual, up, hears}
 use Rattle.laws_trace.specs.AnswersAreAsked.{IsPart, none, left_out, taken}
-use Rattle.laws_trace.specs.Deliveries.{nothing_yet}
+use Rattle.laws_trace.specs.Deliveries.{Standing, at_first, stand}
 use Rattle.laws_trace.specs.ReceiptsCount.{receipts_at, rr, rej, due_by, due}
-use Rattle.laws_trace.specs.Trace.{Seen, heard, begun, trace_of}
+use Rattle.laws_trace.specs.Trace.{Seen, heard, noted, lost, begun, trace_of}
 use Rattle.laws_trace.specs.WorkedDeliveries.{i_frame}
 use Rattle.laws_trace.specs.WorkedUnits.{pulls}
 
@@ -31,7 +31,7 @@ rr_begins : flat_map (receipts_at usual Call 64) (trace_of usual acknowledged 0)
 unfolding moments lines.after lines.answer lines.takes_slot teis.course teis.refusal low_bits seq distance_of named reading header_of control_of unnumbered_of supervisory_of
 rr_begins = refl
 
-rr_due : due usual Call 64 0 nothing_yet (moments (fresh usual) acknowledged) ≡ rr false 1 false ∷ []
+rr_due : due usual Call 64 0 at_first (moments (fresh usual) acknowledged) ≡ rr false 1 false ∷ []
 unfolding moments due lines.after lines.answer lines.takes_slot teis.course teis.refusal low_bits seq distance_of named reading header_of control_of unnumbered_of supervisory_of
 rr_due = refl
 
@@ -40,10 +40,20 @@ none_of_another : flat_map (receipts_at usual Packet 64) (trace_of usual acknowl
 unfolding moments lines.after lines.answer lines.takes_slot teis.course teis.refusal low_bits seq distance_of named reading header_of control_of unnumbered_of supervisory_of
 none_of_another = refl
 
--- An I-frame with N(S)=1 that is heard, and of which nothing is told, is due REJ with N(R)=0.
-rej_due : due_by usual Call 64 0 0 (heard (stream.frame (0x00 ∷ 0x81 ∷ 0x02 ∷ 0x00 ∷ 0x41 ∷ []))) ≡ rej 0 false ∷ []
+-- An I-frame with N(S)=1 that is heard, and of which nothing is told, is due REJ with N(R)=0; a second one is due nothing.
+abbrev pub out_of_sequence : List Seen
+out_of_sequence = heard (stream.frame (0x00 ∷ 0x81 ∷ 0x02 ∷ 0x00 ∷ 0x41 ∷ [])) ∷ noted [] None ∷ lost 0 ∷ []
+
+abbrev once_rejected : Standing
+once_rejected = fold (stand usual Call 64) at_first out_of_sequence
+
+rej_due : flat_map (due_by usual Call 64 at_first once_rejected) out_of_sequence ≡ rej 0 false ∷ []
 unfolding seq reading header_of control_of unnumbered_of supervisory_of
 rej_due = refl
+
+no_rej_due : flat_map (due_by usual Call 64 once_rejected (fold (stand usual Call 64) once_rejected out_of_sequence)) out_of_sequence ≡ []
+unfolding seq reading header_of control_of unnumbered_of supervisory_of
+no_rej_due = refl
 
 -- Where RR with N(R)=1 begins, and nothing was told, the law is broken.
 abbrev too_many : Seen
@@ -53,7 +63,7 @@ is_begun : receipts_at usual Call 64 too_many ≡ rr false 1 false ∷ []
 unfolding seq reading header_of control_of unnumbered_of supervisory_of
 is_begun = refl
 
-is_due : due_by usual Call 64 0 0 too_many ≡ rr false 0 false ∷ []
+is_due : due_by usual Call 64 at_first at_first too_many ≡ rr false 0 false ∷ []
 unfolding seq reading header_of control_of unnumbered_of supervisory_of
 is_due = refl
 

@@ -99,11 +99,12 @@ pub fn answers_are_asked()
 {}
 
 /// What layer 3 is told was heard. Data of a link is the information of an I-frame for it that was heard right before, and the
-/// N(S) of these count them, modulo 128, from the establishment of the link on, without gap; unit data is that of a UI; and
-/// contents that are told are noted as one or the other, once (`heard`). The numbers of a link begin with SABME that is told,
-/// and with UA with F=1 unless it is told as error C, or as the end of the link. And the information of each I-frame that a
-/// link in state 7 or 8 may take is told, in the moment of the frame: with own busy off, of at most N201 octets, and with the
-/// N(S) that is the next (`told`; Q.921 clauses 3.5.2.4 to 3.5.2.6, 5.2.3, 5.5.1.2, 5.6.2, 5.6.6 and 5.7).
+/// N(S) of these count them, modulo 128, from the establishment of the link on, without gap; none is told while layer 3 is busy;
+/// unit data is that of a UI; and contents that are told are noted as one or the other, once (`heard`). The numbers of a link
+/// begin with SABME that is told, and with UA with F=1 unless it is told as error C, or as the end of the link. Layer 3 is busy
+/// from SetBusy that is granted to ClearBusy that is, or to where the numbers begin. And the information of each I-frame that a
+/// link in state 7 or 8 may take is told, in the moment of the frame: while layer 3 is not busy, of at most N201 octets, and with
+/// the N(S) that is the next (`told`; Q.921 clauses 3.5.2.4 to 3.5.2.6, 5.2.3, 5.5.1.2, 5.6.2, 5.6.6 and 5.7).
 pub fn what_is_told_was_heard()
     ensures heard { Always Deliveries }
     ensures told { Always AllAreTold }
@@ -140,10 +141,12 @@ pub fn commands_have_causes()
 {}
 
 /// Receipts count what was told. The RR, RNR and REJ of a link that begin are among those that were due: for each command with
-/// P=1 that was heard, one with F=1; for each I-frame of which nothing was told, REJ; for each SetBusy and ClearBusy that was
-/// granted, RNR or RR; for each expiry of its T200 or T203, an enquiry; and RR with F=0 by itself. Each has as its N(R) the
-/// number of contents told of the link since its numbers began, modulo 128, as it was when the receipt was due, which is as it
-/// begins for the RR by itself; in their order, and none twice (Q.921 clauses 3.5.2.4 to 3.5.2.6, 5.6.2 to 5.6.7 and 5.8.1).
+/// P=1 that was heard, one with F=1; REJ in its place for an I-frame of which nothing was told though layer 3 was not busy, and
+/// no other until data is told, or the numbers begin; where SetBusy or ClearBusy that is granted changes it, RNR or RR; for each
+/// expiry of its T200 or T203, an enquiry; and RR with F=0 by itself. It is RNR while layer 3 is busy, and RR while it is not.
+/// Each has as its N(R) the number of contents told of the link since its numbers began, modulo 128, as it was when the receipt
+/// was due, which is as it begins for the RR by itself; in their order, and none twice (Q.921 clauses 3.5.2.4 to 3.5.2.6, 5.6.2
+/// to 5.6.7 and 5.8.1).
 pub fn receipts_count()
     ensures { Always ReceiptsCount }
 {}

@@ -11,10 +11,9 @@
 //! That what is heard is what came (`received` of `Promises` says so); that of two control frames alike both begin, except
 //! answers and commands; when messages of TEI management and unit data go, where other events come between the pulls; which
 //! cause each command has; that an order stops only a timer that ran, and when T201 is started anew; turns, where the place
-//! of the first link changes; which of RR and RNR goes, and that each that is due does, except answers and enquiries; which
-//! contents stay where numbers begin, and that their loss is told; notes other than of contents, TEIs, establishments,
-//! releases, and errors that lead to SABME; that a loss is needed where its moment leaves an answer, a command or a message
-//! out.
+//! of the first link changes; that each RR, RNR or REJ that is due goes, except answers and enquiries; which contents stay
+//! where numbers begin, and that their loss is told; notes other than of contents, TEIs, establishments, releases, and
+//! errors that lead to SABME; that a loss is needed where its moment leaves an answer, a command or a message out.
 #![tactic(auto)]
 
 mod laws;

@@ -1,6 +1,6 @@
 -- Hand-written answers for `what_is_told_was_heard`.
 use Rattle.laws_trace.proofs.AllAreTold.{all-are-told}
-use Rattle.laws_trace.proofs.DeliveriesRun.{deliveries}
+use Rattle.laws_trace.proofs.DeliveriesKept.{deliveries}
 use Rattle.laws_trace.proofs.laws.what_is_told_was_heard.Goals as goal
 
 pub returns-clause-heard : goal.returns-clause-heard

@@ -1,0 +1,374 @@
+-- How a link stands behind an event: own busy, and whether REJ stands.
+use Rattle.std.proofs.Common.{◌≡◌, ℕ, ◌==◌, ◌&&◌, ◌||◌, Bool, true, false, cond, List, [], ◌∷◌, ◌++◌, length, Option, Some, None, refl, sym, ap, ◌∙◌, subst, true≢false, inl, inr}
+use Rattle.std.specs.Prelude.{not, is_some, nat_lt, nat_le}
+use Rattle.std.proofs.lemmas.Bool.{and_parts, and_right, or_parts, or_from, or_right}
+use Rattle.std.proofs.lemmas.Option.{none-some}
+use Rattle.lapd_seq.specs.declared.numbers.Seq.{Seq}
+use Rattle.lapd_frame.specs.declared.controls.Control.{Control}
+use Rattle.lapd_frame.specs.declared.controls.Control.TheVariants.{Information, ReceiveReady, ReceiveNotReady, Reject, Sabme, Disc, Ui, Ua, Dm, Frmr, Xid}
+use Rattle.lapd_frame.specs.Grammar.{Parts}
+use Rattle.model_link.specs.declared.states.State.{State}
+use Rattle.model_link.specs.declared.states.State.TheVariants.{TeiAssigned, AwaitingEstablishment, AwaitingRelease, Established, TimerRecovery}
+use Rattle.model_link.specs.declared.frames.ControlFrame.{ControlFrame}
+use Rattle.model_link.specs.declared.terms.Terms.{Terms}
+use Rattle.model_link.specs.Deliveries.{Arrived, information_in, is_eligible, eligible_of, restarts, eligible}
+use Rattle.model_link.specs.Events.{Event, Received, frame, undefined, wrong_size, overlong, Request, Establish, Release, Data, SetBusy, ClearBusy, received, expired, requested, offer, cleared}
+use Rattle.model_link.specs.Link.{Link, is_multiple_frame}
+use Rattle.model_link.specs.Machine as links
+use Rattle.model_link.proofs.Delivering.{delivery, event-delivers}
+use Rattle.model_link.proofs.Numbering.{delivered-at_once}
+use Rattle.laws_link.specs.Flags.{flag_left, busy_asked, own_busy_left, rejecting_heard, takes_contents, unless_put, owed_in, owed_behind, pending_left}
+use Rattle.laws_link.specs.States.{as_heard, is_overlong, is_anew, is_clearing, leads_by_sabme, leads_by_agreement, comes_to, moves, numbers_begin, state_after}
+use Rattle.laws_link.specs.Waiting.{is_next, is_taken, as_response, receipt_as, commands, put}
+use Rattle.laws_link.proofs.Follows.{event-follows}
+use Rattle.laws_trace.specs.Deliveries.{Watched, Standing, is_information}
+use Rattle.laws_trace.proofs.Begins.{in-state, up-before}
+use Rattle.laws_trace.proofs.ReceiptsNumbered.{PendsUp, pends-up, taken-is}
+
+-- What whoever watches a link has in mind between events.
+abbrev pub quiet : ℕ → Watched
+quiet m = record { frame = None; count = m }
+
+abbrev pub calm : ℕ → Bool → Bool → Standing
+calm m busy rejected = record { told = quiet m; busy = busy; rejected = rejected }
+
+-- State 5 is led to with both flags off.
+abbrev pub is_awaiting : State → Bool
+is_awaiting TeiAssigned = false
+is_awaiting AwaitingEstablishment = true
+is_awaiting AwaitingRelease = false
+is_awaiting Established = false
+is_awaiting TimerRecovery = false
+
+no : {A : Type 0} → false ≡ true → A
+no e = absurd (true≢false (sym e))
+
+-- Where the numbers begin a flag is off,
+module _ (t : Terms) (x flag : Bool) where
+  abbrev Off : Event → Link → Type 0
+  Off e l =
+      numbers_begin e l.state (state_after t e l) ≡ true → (is_awaiting l.state ≡ true → flag ≡ false) → flag_left e l (state_after t e l) x flag ≡ false
+
+  off-sabme : (f : Parts) (p : Bool) (here : State) (l : Link) → Off (received (frame (record f { control = Sabme p }))) (record l { state = here })
+  off-sabme f p TeiAssigned l is h = refl
+  off-sabme f p AwaitingEstablishment l is h = no is
+  off-sabme f p AwaitingRelease l is h = no is
+  off-sabme f p Established l is h = refl
+  off-sabme f p TimerRecovery l is h = refl
+
+  off-ua : (f : Parts) (here : State) (l : Link) → Off (received (frame (record f { control = Ua true }))) (record l { state = here })
+  off-ua f TeiAssigned l is h = no is
+  off-ua f AwaitingEstablishment l is h = h refl
+  off-ua f AwaitingRelease l is h = no is
+  off-ua f Established l is h = no is
+  off-ua f TimerRecovery l is h = no is
+
+  off-frame : (f : Parts) (control : Control) (l : Link) → Off (received (frame (record f { control = control }))) l
+  off-frame f (Sabme p) l = in-state (Off (received (frame (record f { control = Sabme p })))) l (λ here. off-sabme f p here l)
+  off-frame f (Ua true) l = in-state (Off (received (frame (record f { control = Ua true })))) l (λ here. off-ua f here l)
+  off-frame f (Ua false) l = λ is h. no is
+  off-frame f (Information ns nr p) l = λ is h. no is
+  off-frame f (ReceiveReady nr p) l = λ is h. no is
+  off-frame f (ReceiveNotReady nr p) l = λ is h. no is
+  off-frame f (Reject nr p) l = λ is h. no is
+  off-frame f (Disc p) l = λ is h. no is
+  off-frame f (Ui p) l = λ is h. no is
+  off-frame f (Dm p) l = λ is h. no is
+  off-frame f (Frmr p) l = λ is h. no is
+  off-frame f (Xid p) l = λ is h. no is
+
+  off-where-begun : (e : Event) (l : Link) → Off e l
+  off-where-begun (received (frame f)) l is h = off-frame f f.control l is h
+  off-where-begun (received undefined) l is h = no is
+  off-where-begun (received wrong_size) l is h = no is
+  off-where-begun (received overlong) l is h = no is
+  off-where-begun (expired timer) l is h = no is
+  off-where-begun (requested r full) l is h = no is
+  off-where-begun offer l is h = no is
+  off-where-begun cleared l is h = ap (λ b. cond b false (cond (is_multiple_frame l.state) x flag)) (or_right (comes_to 5 l.state TeiAssigned) true refl)
+
+  -- and so it is in state 5;
+  either-off : (b : Bool) → flag ≡ false → cond b false flag ≡ false
+  either-off true off = refl
+  either-off false off = off
+
+  off-awaiting : (e : Event) (from to : State) (l : Link) → is_awaiting to ≡ true → (is_awaiting from ≡ true → flag ≡ false) → flag_left e (record l { state = from }) to x flag ≡ false
+  off-awaiting e TeiAssigned AwaitingEstablishment l is h = refl
+  off-awaiting e AwaitingEstablishment AwaitingEstablishment l is h = either-off (leads_by_sabme e AwaitingEstablishment || is_clearing e) (h refl)
+  off-awaiting e AwaitingRelease AwaitingEstablishment l is h = refl
+  off-awaiting e Established AwaitingEstablishment l is h = refl
+  off-awaiting e TimerRecovery AwaitingEstablishment l is h = refl
+  off-awaiting e from TeiAssigned l is h = no is
+  off-awaiting e from AwaitingRelease l is h = no is
+  off-awaiting e from Established l is h = no is
+  off-awaiting e from TimerRecovery l is h = no is
+
+  -- while the link stays up, it is as the event leaves it.
+  not-five : (from to : State) → is_multiple_frame to ≡ true → comes_to 5 from to ≡ false
+  not-five from TeiAssigned up = no up
+  not-five from AwaitingEstablishment up = no up
+  not-five from AwaitingRelease up = no up
+  not-five from Established up = and_right (moves from Established) false refl
+  not-five from TimerRecovery up = and_right (moves from TimerRecovery) false refl
+
+  not-anew : (e : Event) (from to : State) → is_multiple_frame to ≡ true → numbers_begin e from to ≡ false → is_anew e from to ≡ false
+  not-anew e from to up on =
+      let first = or_parts (leads_by_sabme e to) (leads_by_agreement e from to || is_clearing e) on in
+      let second = or_parts (leads_by_agreement e from to) (is_clearing e) first.1 in
+      or_from (comes_to 5 from to) (leads_by_sabme e to || is_clearing e) (not-five from to up) (or_from (leads_by_sabme e to) (is_clearing e) first.0 second.1)
+
+  as-left : (e : Event) (l : Link) (to : State) → is_multiple_frame l.state ≡ true → is_multiple_frame to ≡ true → numbers_begin e l.state to ≡ false → flag_left e l to x flag ≡ x
+  as-left e l to was up on =
+      ap (λ b. cond b false (cond (is_multiple_frame l.state) x flag)) (not-anew e l.state to up on) ∙ ap (λ b. cond b x flag) was
+
+-- An acknowledgement is owed only while own busy is off.
+free : (anew up owed pending x busy : Bool) → (up ≡ true → owed ≡ true → x ≡ false) → (pending ≡ true → busy ≡ false) → cond anew false (cond up owed pending) ≡ true
+    → cond anew false (cond up x busy) ≡ false
+free true up owed pending x busy h k is = refl
+free false true owed pending x busy h k is = h refl is
+free false false owed pending x busy h k is = k is
+
+taken-free : (r : Received) (l : Link) → takes_contents (received r) l ≡ true → l.own_busy ≡ false
+taken-free (frame f) l is = by f.control is
+  where
+    off : (busy next : Bool) → (not busy && next) ≡ true → busy ≡ false
+    off true next is = no is
+    off false next is = refl
+
+    by : (control : Control) → takes_contents (received (frame (record f { control = control }))) l ≡ true → l.own_busy ≡ false
+    by (Information ns nr p) is = off l.own_busy (is_next ns l) is
+    by (ReceiveReady nr p) is = no is
+    by (ReceiveNotReady nr p) is = no is
+    by (Reject nr p) is = no is
+    by (Sabme p) is = no is
+    by (Disc p) is = no is
+    by (Ui p) is = no is
+    by (Ua p) is = no is
+    by (Dm p) is = no is
+    by (Frmr p) is = no is
+    by (Xid p) is = no is
+taken-free undefined l is = no is
+taken-free wrong_size l is = no is
+taken-free overlong l is = no is
+
+module _ (t : Terms) (l : Link) (to : State) (pends : l.pending ≡ true → l.own_busy ≡ false) where
+  abbrev Owed : Event → Bool
+  Owed e = owed_in to (unless_put (put e l to) (takes_contents e l || l.pending))
+
+  second : (a b : Bool) → (a && b) ≡ true → b ≡ true
+  second a b is = (and_parts a b is).1
+
+  unput : (frames : List ControlFrame) (owed : Bool) → unless_put frames owed ≡ true → (frames ≡ []) × (owed ≡ true)
+  unput [] owed is = (refl, is)
+  unput (f ∷ frames) owed is = no is
+
+  owed-so : (e : Event) → Owed e ≡ true → (put e l to ≡ []) × ((takes_contents e l || l.pending) ≡ true)
+  owed-so e is = unput (put e l to) (takes_contents e l || l.pending) (second (is_multiple_frame to) (unless_put (put e l to) (takes_contents e l || l.pending)) is)
+
+  by-either : (r : Received) (b : Bool) → takes_contents (received r) l ≡ b → (b || l.pending) ≡ true → l.own_busy ≡ false
+  by-either r true is any = taken-free r l is
+  by-either r false is any = pends any
+
+  off-all : (anew up busy : Bool) → busy ≡ false → cond anew false (cond up busy busy) ≡ false
+  off-all true up busy off = refl
+  off-all false true busy off = off
+  off-all false false busy off = off
+
+  owed-is : (frames : List ControlFrame) (owed : Bool) → owed_behind frames owed ≡ true → owed ≡ true
+  owed-is [] owed is = no is
+  owed-is (f ∷ frames) owed is = is
+
+  set-put : (up busy : Bool) (rest : List ControlFrame) → up ≡ true → busy ≡ false → cond (up && not busy) (as_response (receipt_as true l.r false)) [] ++ rest ≡ [] → ⊥
+  set-put true true rest up off none = true≢false off
+  set-put true false rest up off none = cc none
+  set-put false busy rest up off none = true≢false (sym up)
+
+  still-free : (e : Event) → pending_left e l to ≡ true → own_busy_left e l to ≡ false
+  still-free (received r) is =
+      let e = received r in
+      free (is_anew e l.state to) (is_multiple_frame l.state) (Owed e) l.pending l.own_busy l.own_busy
+      (λ up owed. by-either r (takes_contents e l) refl (owed-so e owed).1) pends is
+  still-free (expired timer) is =
+      let e = expired timer in
+      free (is_anew e l.state to) (is_multiple_frame l.state) (Owed e) l.pending l.own_busy l.own_busy (λ up owed. pends (owed-so e owed).1) pends is
+  still-free (requested Establish full) is =
+      let e = requested Establish full in
+      free (is_anew e l.state to) (is_multiple_frame l.state) (Owed e) l.pending l.own_busy l.own_busy (λ up owed. pends (owed-so e owed).1) pends is
+  still-free (requested Release full) is =
+      let e = requested Release full in
+      free (is_anew e l.state to) (is_multiple_frame l.state) (Owed e) l.pending l.own_busy l.own_busy (λ up owed. pends (owed-so e owed).1) pends is
+  still-free (requested (Data contents) full) is =
+      let e = requested (Data contents) full in
+      free (is_anew e l.state to) (is_multiple_frame l.state) (Owed e) l.pending l.own_busy l.own_busy (λ up owed. pends (owed-so e owed).1) pends is
+  still-free (requested SetBusy full) is =
+      let e = requested SetBusy full in
+      free (is_anew e l.state to) (is_multiple_frame l.state) (Owed e) l.pending true l.own_busy
+      (λ up owed.
+      let x = owed-so e owed in
+      absurd (set-put (is_multiple_frame l.state) l.own_busy (commands e l to) up (pends x.1) x.0)) pends is
+  still-free (requested ClearBusy full) is =
+      let e = requested ClearBusy full in
+      free (is_anew e l.state to) (is_multiple_frame l.state) (Owed e) l.pending false l.own_busy (λ up owed. refl) pends is
+  still-free offer is = off-all (is_anew offer l.state to) (is_multiple_frame l.state) l.own_busy (pends (owed-is l.waiting l.pending is))
+  still-free cleared is =
+      free (is_anew cleared l.state to) (is_multiple_frame l.state) (Owed cleared) l.pending l.own_busy l.own_busy (λ up owed. pends (owed-so cleared owed).1) pends is
+
+-- What whoever watches the link has in mind of it.
+pub record IsStanding (k : Link) (busy rejected : Bool) : Type 0 where
+  pub busy_is : is_multiple_frame k.state ≡ true → k.own_busy ≡ busy
+  pub rejected_is : is_multiple_frame k.state ≡ true → k.rejecting ≡ rejected
+  pub not_busy : is_awaiting k.state ≡ true → k.own_busy ≡ false
+  pub not_rejecting : is_awaiting k.state ≡ true → k.rejecting ≡ false
+  pub pends_up : PendsUp k
+  pub pends_free : k.pending ≡ true → k.own_busy ≡ false
+
+-- What an event is to it, by whether the numbers begin with it, and whether it delivers contents.
+abbrev pub brings : Event → Bool
+brings (received (frame f)) = is_information f.control
+brings other = false
+
+abbrev pub busy_behind : Bool → Event → Bool → Bool
+busy_behind anew e busy = cond anew false (busy_asked e busy)
+
+abbrev pub rejected_behind : Bool → Bool → Event → Bool → Bool → Bool
+rejected_behind anew delivers e busy rejected = cond (anew || delivers) false (cond (brings e && not busy) true rejected)
+
+as-asked : (t : Terms) (e : Event) (busy : Bool) → busy_asked (as_heard t e) busy ≡ busy_asked e busy
+as-asked t (received (frame f)) busy = refl
+as-asked t (received undefined) busy = refl
+as-asked t (received wrong_size) busy = refl
+as-asked t (received overlong) busy = refl
+as-asked t (expired timer) busy = refl
+as-asked t (requested r full) busy = refl
+as-asked t offer busy = refl
+as-asked t cleared busy = refl
+
+-- REJ stands from an I-frame out of sequence on.
+module _ (t : Terms) (l : Link) (up : is_multiple_frame l.state ≡ true) where
+  abbrev Same : Event → Type 0
+  Same e =
+      is_multiple_frame (state_after t (as_heard t e) l) ≡ true
+      → rejecting_heard (as_heard t e) l ≡ rejected_behind false (takes_contents (as_heard t e) l) e l.own_busy l.rejecting
+
+  in-information : (busy next rejecting : Bool) → cond busy rejecting (not next) ≡ cond (not busy && next) false (cond (not busy) true rejecting)
+  in-information true next rejecting = refl
+  in-information false true rejecting = refl
+  in-information false false rejecting = refl
+
+  by-size : (f : Parts) (ns nr : Seq) (p b : Bool) → let r = cond b overlong (frame (record f { control = Information ns nr p })) in
+      is_multiple_frame (state_after t (received r) l) ≡ true
+      → rejecting_heard (received r) l ≡ rejected_behind false (takes_contents (received r) l) (received (frame (record f { control = Information ns nr p }))) l.own_busy l.rejecting
+  by-size f ns nr p true stays = no (sym (ap (λ b. is_multiple_frame (cond (b && true) AwaitingEstablishment l.state)) up) ∙ stays)
+  by-size f ns nr p false stays = in-information l.own_busy (is_next ns l) l.rejecting
+
+  by-control : (f : Parts) (control : Control) → Same (received (frame (record f { control = control })))
+  by-control f (Information ns nr p) = by-size f ns nr p (nat_lt t.n201 (length f.info))
+  by-control f (ReceiveReady nr p) = λ stays. refl
+  by-control f (ReceiveNotReady nr p) = λ stays. refl
+  by-control f (Reject nr p) = λ stays. refl
+  by-control f (Sabme p) = λ stays. refl
+  by-control f (Disc p) = λ stays. refl
+  by-control f (Ui p) = λ stays. refl
+  by-control f (Ua p) = λ stays. refl
+  by-control f (Dm p) = λ stays. refl
+  by-control f (Frmr p) = λ stays. refl
+  by-control f (Xid p) = λ stays. refl
+
+  rejecting-same : (e : Event) → Same e
+  rejecting-same (received (frame f)) = by-control f f.control
+  rejecting-same (received undefined) = λ stays. refl
+  rejecting-same (received wrong_size) = λ stays. refl
+  rejecting-same (received overlong) = λ stays. refl
+  rejecting-same (expired timer) = λ stays. refl
+  rejecting-same (requested r full) = λ stays. refl
+  rejecting-same offer = λ stays. refl
+  rejecting-same cleared = λ stays. refl
+
+module _ (t : Terms) (e : Event) (l : Link) (busy rejected : Bool) (stands : IsStanding l busy rejected) where
+  abbrev next : Link
+  next = links.after t e l
+
+  abbrev heard : Event
+  heard = as_heard t e
+
+  abbrev to : State
+  to = state_after t heard l
+
+  abbrev delivers : Bool
+  delivers = is_some (links.told t e l).delivered
+
+  state-is : next.state ≡ to
+  state-is = (event-follows t e l).leaves.state
+
+  begin-is : restarts t e l ≡ numbers_begin heard l.state to
+  begin-is = (event-follows t e l).numbers ∙ ap (numbers_begin heard l.state) state-is
+
+  own-is : next.own_busy ≡ own_busy_left heard l to
+  own-is = (event-follows t e l).leaves.own_busy ∙ ap (own_busy_left heard l) state-is
+
+  rejecting-is : next.rejecting ≡ flag_left heard l to (rejecting_heard heard l) l.rejecting
+  rejecting-is = (event-follows t e l).leaves.rejecting ∙ ap (λ s. flag_left heard l s (rejecting_heard heard l) l.rejecting) state-is
+
+  up-is : is_multiple_frame next.state ≡ true → is_multiple_frame to ≡ true
+  up-is up = ap is_multiple_frame (sym state-is) ∙ up
+
+  busy-behind : is_multiple_frame next.state ≡ true → (b : Bool) → restarts t e l ≡ b → next.own_busy ≡ busy_behind b e busy
+  busy-behind up true is = own-is ∙ off-where-begun t (busy_asked heard l.own_busy) l.own_busy heard l (sym begin-is ∙ is) stands.not_busy
+  busy-behind up false is =
+      let was = up-before t e l up is in
+      own-is ∙ as-left t (busy_asked heard l.own_busy) l.own_busy heard l to was (up-is up) (sym begin-is ∙ is) ∙ as-asked t e l.own_busy ∙ ap (busy_asked e) (stands.busy_is was)
+
+  rejected-behind : is_multiple_frame next.state ≡ true → (b : Bool) → restarts t e l ≡ b → next.rejecting ≡ rejected_behind b delivers e busy rejected
+  rejected-behind up true is = rejecting-is ∙ off-where-begun t (rejecting_heard heard l) l.rejecting heard l (sym begin-is ∙ is) stands.not_rejecting
+  rejected-behind up false is =
+      let was = up-before t e l up is in
+      let taken : delivers ≡ takes_contents heard l = delivered is ∙ taken-is t l was e in
+      rejecting-is ∙ as-left t (rejecting_heard heard l) l.rejecting heard l to was (up-is up) (sym begin-is ∙ is) ∙ rejecting-same t l was e (up-is up)
+      ∙ ap (λ d. rejected_behind false d e l.own_busy l.rejecting) (sym taken) ∙ ap (λ b. rejected_behind false delivers e b l.rejecting) (stands.busy_is was)
+      ∙ ap (rejected_behind false delivers e busy) (stands.rejected_is was)
+    where
+      delivered : restarts t e l ≡ false → delivers ≡ is_some (delivery l.r (eligible t e l))
+      delivered on =
+          elim (event-delivers t l e) [
+            | inl y ↦ ap is_some y.delivered
+            | inr y ↦ absurd (true≢false (sym y.begins ∙ on))
+          ]
+
+  pub link-stands : IsStanding next (busy_behind (restarts t e l) e busy) (rejected_behind (restarts t e l) delivers e busy rejected)
+  link-stands = record {
+    busy_is = λ up. busy-behind up (restarts t e l) refl;
+    rejected_is = λ up. rejected-behind up (restarts t e l) refl;
+    not_busy = λ at. own-is ∙ off-awaiting t (busy_asked heard l.own_busy) l.own_busy heard l.state to l (ap is_awaiting (sym state-is) ∙ at) stands.not_busy;
+    not_rejecting = λ at. rejecting-is ∙ off-awaiting t (rejecting_heard heard l) l.rejecting heard l.state to l (ap is_awaiting (sym state-is) ∙ at) stands.not_rejecting;
+    pends_up = pends-up t e l stands.pends_up;
+    pends_free = λ is. own-is ∙ still-free t l to stands.pends_free heard (sym ((event-follows t e l).leaves.pending ∙ ap (pending_left heard l) state-is) ∙ is);
+  }
+
+-- Contents are delivered only in states 7 and 8 with own busy off, and by a frame.
+module _ (t : Terms) (l : Link) (busy : Bool) where
+  abbrev Free : Event → Type 0
+  Free e = (is_multiple_frame l.state ≡ true) × (l.own_busy ≡ false) × (busy_asked e busy ≡ busy)
+
+  not-true : (b : Bool) → not b ≡ true → b ≡ false
+  not-true true is = no is
+  not-true false is = refl
+
+  fits : (b : Bool) (j i : Arrived) → is_eligible t l j ≡ b → cond b (Some j) None ≡ Some i → (is_multiple_frame l.state ≡ true) × (l.own_busy ≡ false)
+  fits false j i is e = absurd (none-some i e)
+  fits true j i is e =
+      let x = and_parts (nat_le (length j.contents) t.n201 && is_multiple_frame l.state) (not l.own_busy) is in
+      ((and_parts (nat_le (length j.contents) t.n201) (is_multiple_frame l.state) x.0).1, not-true l.own_busy x.1)
+
+  eligible-free : (o : Option Arrived) (i : Arrived) → eligible_of t l o ≡ Some i → (is_multiple_frame l.state ≡ true) × (l.own_busy ≡ false)
+  eligible-free None i e = absurd (none-some i e)
+  eligible-free (Some j) i e = fits (is_eligible t l j) j i refl e
+
+  by-event : (e : Event) (i : Arrived) → eligible t e l ≡ Some i → Free e
+  by-event (received r) i is = let x = eligible-free (information_in (received r)) i is in (x.0, x.1, refl)
+  by-event (expired timer) i is = absurd (none-some i is)
+  by-event (requested r full) i is = absurd (none-some i is)
+  by-event offer i is = absurd (none-some i is)
+  by-event cleared i is = absurd (none-some i is)
+
+  pub delivers-free : (e : Event) (contents : List ℕ) → (links.told t e l).delivered ≡ Some contents → Free e
+  delivers-free e contents is = let x = delivered-at_once t e l contents is in by-event e x.0 x.1

@@ -70,3 +70,4 @@ pub mod TimersOfEvent
 pub mod TimersStarted
 pub mod TimersAreTimely
 pub mod AllGoesAgain
+pub mod OtherSide

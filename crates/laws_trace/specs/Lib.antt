@@ -1,6 +1,7 @@
 -- The trace of a line, and what is promised of it.
 pub mod Trace
 pub mod Configurations
+pub mod OtherSide
 pub mod Units
 pub mod UnitsGoOut
 pub mod FramesGoOut
@@ -31,3 +32,5 @@ pub mod WorkedCommands
 pub mod WorkedReceipts
 pub mod WorkedManaging
 pub mod WorkedAgain
+pub mod WorkedOtherSide
+pub mod WorkedHeard

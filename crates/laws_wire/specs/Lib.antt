@@ -5,3 +5,4 @@ pub mod Losing
 pub mod Facing
 pub mod Worked
 pub mod WorkedLosing
+pub mod WorkedBroken

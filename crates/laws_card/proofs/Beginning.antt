@@ -3,7 +3,8 @@ use Rattle.std.proofs.Common.{List, get_or, refl, sym, subst, arith, inl}
 use Rattle.std.proofs.lemmas.List.{get_or-set_same}
 use Rattle.model_line.specs.Line.{Line, fresh_line}
 use Rattle.model_line.specs.Machine as lines
-use Rattle.laws_line.specs.Begun.{says_begun, BeginsAs}
+use Rattle.model_line.specs.Counts.{is_begun}
+use Rattle.laws_line.specs.Begun.{BeginsAs}
 use Rattle.laws_line.proofs.Beginning.{begins-as}
 use Rattle.model_card.specs.Event.{Event}
 use Rattle.model_card.specs.Card.{Card, line_at}
@@ -16,11 +17,11 @@ use Rattle.laws_card.specs.Promises.{BegunIsTold}
 
 begun-in : (card : Card) (e : Event) → IsSound card → IsAtLine card e → IsBegunIn (moment_of card e)
 begun-in card e s here =
-    by_room (λ ls a. BeginsAs e.what (says_begun a) (line_at e.line card) (get_or ls e.line (fresh_line card.config))) e card
+    by_room (λ ls a. BeginsAs e.what (is_begun a) (line_at e.line card) (get_or ls e.line (fresh_line card.config))) e card
     (λ full. inl refl)
     (λ room.
     let own = lines.after card.config e.what (line_at e.line card) in
-    subst (λ (x : Line). BeginsAs e.what (says_begun (lines.answer card.config e.what (line_at e.line card))) (line_at e.line card) x)
+    subst (λ (x : Line). BeginsAs e.what (is_begun (lines.answer card.config e.what (line_at e.line card))) (line_at e.line card) x)
     (sym (get_or-set_same card.lines e.line own (fresh_line card.config) (omega (arith, s.count, here))))
     (begins-as card.config e.what (line_at e.line card) s.config (line_sound card e.line (has_lines card s) here)))
 

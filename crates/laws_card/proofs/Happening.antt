@@ -55,7 +55,7 @@ module _ (c : Config) (l : Line) (e : line_event.Event) (takes : lines.takes_slo
   no-link service tei link.cleared by = by
 
   no-management : (event : teis.Event) → IsOfManagement c l e (refused PoolFull) event → ⊥
-  no-management (teis.message info) by = no-octet by.value by.by
+  no-management (teis.message info) by = no-octet by.value by.heard.by
   no-management teis.expiry by = no-expiry _ by
   no-management (teis.assign tei) by = true≢false (sym by.1)
   no-management (teis.remove tei) by = true≢false (sym by.1)

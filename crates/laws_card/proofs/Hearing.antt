@@ -1,21 +1,25 @@
 -- What an octet brings, in a moment of a run.
-use Rattle.std.proofs.Common.{◌≡◌, ℕ, true, false, List, get_or, refl, sym, ap, ◌∙◌, subst, arith, true≢false}
+use Rattle.std.proofs.Common.{◌≡◌, ℕ, true, false, List, [], ◌∷◌, Ok, get_or, refl, sym, ap, ◌∙◌, subst, arith, true≢false}
 use Rattle.std.proofs.lemmas.Bool.{and_parts}
 use Rattle.std.proofs.lemmas.List.{get_or-set_same}
+use Rattle.lapd_bits.specs.Stream as stream
 use Rattle.lapd_bits.specs.declared.heard.Cause.{Cause}
 use Rattle.lapd_bits.specs.declared.heard.Cause.TheVariants.{Unserved}
 use Rattle.lapd_frame.specs.declared.services.Service.{Service}
 use Rattle.lapd_frame.specs.Grammar.{Parts, Spells}
+use Rattle.lapd_frame.specs.Reading.{reading}
+use Rattle.lapd_frame.proofs.Spelling.{reading-found}
 use Rattle.model_line.specs.declared.config.Config.{Config}
 use Rattle.model_line.specs.Octet.{heard_side}
-use Rattle.model_line.specs.Sides.{IsToGroup}
+use Rattle.model_line.specs.Sides.{group_told, IsToGroup}
 use Rattle.model_line.specs.Event as line_event
-use Rattle.model_line.specs.Event.{Answer, octet}
+use Rattle.model_line.specs.Event.{Answer, octet, nothing, dropped}
 use Rattle.model_line.specs.Line.{Line, fresh_line, link_in, terms}
 use Rattle.model_line.specs.Machine as lines
 use Rattle.model_line.specs.Sound as sound_line
-use Rattle.laws_line.specs.Heard.{Ends, EndsDropped, EndsNothing, IsFor, IsNoEvent, IsDroppedFor, IsUnitOfGroup, IsToManagement, contents_in, due}
-use Rattle.laws_line.proofs.Hearing.{no-event, dropped-stretch}
+use Rattle.laws_line.specs.Heard.{Ends, Adds, IsFor, OnlyTells, IsToManagement, contents_in, due}
+use Rattle.laws_line.proofs.Ending.{ended-octets}
+use Rattle.laws_line.proofs.Hearing.{sapi-is, no-event, dropped-stretch}
 use Rattle.laws_line.proofs.Grouping.{group-unit, managed-dropped}
 use Rattle.laws_line.proofs.HandedOn.{due-is}
 use Rattle.model_card.specs.Event.{Event}
@@ -30,12 +34,12 @@ use Rattle.laws_card.specs.Promises.{IsDelivered}
 
 -- What an octet makes of its line, and answers.
 record OctetServed (c : Config) (before after : Line) (a : Answer) (value : ℕ) : Type 0 where
-  none : EndsNothing c before value → IsNoEvent before after a value
-  dropped : (cause : Cause) → EndsDropped c before value cause → IsDroppedFor cause before after a value
+  none : Adds c before value [] → OnlyTells nothing before after a value
   group : (parts : Parts) (octets : List ℕ) (service : Service) → Ends c before value octets → Spells (heard_side c) parts octets → IsToGroup c parts service
-      → IsUnitOfGroup service parts.info before after a value
+      → OnlyTells (group_told service parts.info) before after a value
   management : (parts : Parts) (octets : List ℕ) → Ends c before value octets → Spells (heard_side c) parts octets → IsToManagement c parts
-      → IsDroppedFor Unserved before after a value
+      → OnlyTells (dropped Unserved) before after a value
+  dropped : (cause : Cause) → Adds c before value (stream.dropped cause ∷ []) → OnlyTells (dropped cause) before after a value
   due_is : (service : Service) (tei place : ℕ) (parts : Parts) (octets : List ℕ)
       → Ends c before value octets → IsFor c before service tei place parts octets
       → contents_in a ≡ due (terms c service tei) parts (link_in before service place)
@@ -83,13 +87,20 @@ module _ (card : Card) (e : Event) (s : IsSound card) (here : IsAtLine card e) w
       subst (λ (x : Line). Served card.config e.what (line_at e.line card) x (lines.answer card.config e.what (line_at e.line card)))
       (sym (get_or-set_same card.lines e.line (lines.after card.config e.what (line_at e.line card)) (fresh_line card.config) (omega (arith, s.count, here)))) by-line)
 
+  spelled : (value : ℕ) (parts : Parts) (octets : List ℕ) → Ends card.config (line_at e.line card) value octets
+      → reading (heard_side card.config) octets ≡ Ok parts → Spells (heard_side card.config) parts octets
+  spelled value parts octets ends read =
+      reading-found (heard_side card.config) octets parts (ended-octets card.config (line_at e.line card) value (stream.frame octets) ends) read
+
   pub heard-in : IsHeardIn (moment_of card e)
   heard-in = record {
     none = λ value is ends. (served-in.by_octet value is).none ends;
     dropped = λ value cause is ends. (served-in.by_octet value is).dropped cause ends;
-    group = λ value parts octets service is ends spelled to. (served-in.by_octet value is).group parts octets service ends spelled to;
-    management = λ value parts octets is ends spelled to. (served-in.by_octet value is).management parts octets ends spelled to;
-    due = λ value service tei place parts octets is ends f. (served-in.by_octet value is).due_is service tei place parts octets ends f;
+    group = λ value parts service h to. (served-in.by_octet value h.by).group parts h.octets service h.ends (spelled value parts h.octets h.ends h.read) to;
+    management = λ value parts h to. (served-in.by_octet value h.by).management parts h.octets h.ends (spelled value parts h.octets h.ends h.read) to;
+    due = λ service tei place parts b on.
+        (served-in.by_octet b.value b.by).due_is service tei place parts b.octets b.ends
+        (record { spelled = spelled b.value parts b.octets b.ends b.read; sapi = sapi-is parts.address.sapi service b.sapi; tei_is = b.tei_is; on_line = on });
   }
 
 pub heard-all : (card : Card) (events : List Event) → IsSound card → AreAtLines card events → IsDelivered card events

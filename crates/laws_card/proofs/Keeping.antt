@@ -1,14 +1,11 @@
 -- What each moment of a run makes of the contents of a link.
-use Rattle.std.proofs.Common.{◌≡◌, ◌≢◌, ℕ, ◌<◌, Bool, true, false, cond, ◌==◌, ◌&&◌, List, [], ◌∷◌, length, get_or, set, Option, Some, None, refl, sym, ap, ◌∙◌, subst, arith, eqb-true, eq-eqb, true≢false}
+use Rattle.std.proofs.Common.{◌≡◌, ◌≢◌, ℕ, ◌<◌, Bool, true, false, cond, ◌==◌, List, [], ◌∷◌, get_or, set, refl, sym, ap, ◌∙◌, subst, arith, eqb-true, eq-eqb, true≢false}
 use Rattle.std.specs.Prelude.{fold}
-use Rattle.std.proofs.lemmas.List.{get_or-set_same, get_or-set_other, get_or-replicate}
+use Rattle.std.proofs.lemmas.List.{get_or-set_same, get_or-set_other}
 use Rattle.std.proofs.lemmas.List.Elements.{All-head, All-tail}
 use Rattle.lapd_frame.specs.declared.refusals.Refusal.TheVariants.{PoolFull}
-use Rattle.model_link.specs.Link.{Link}
-use Rattle.model_link.specs.Link.{fresh as fresh_link}
 use Rattle.laws_link.specs.History.{Share, History, IsCounted}
 use Rattle.laws_link.proofs.Counted.{counted}
-use Rattle.model_line.specs.declared.config.Config.{Config}
 use Rattle.model_line.specs.Event as line_event
 use Rattle.model_line.specs.Event.{Answer, refused}
 use Rattle.model_line.specs.Counts.{is_pool_full}
@@ -22,17 +19,16 @@ use Rattle.laws_line.proofs.Kept.{Goes, stays, event-goes}
 use Rattle.laws_line.proofs.Asked.{asked-is}
 use Rattle.laws_line.proofs.Told.{loss-told}
 use Rattle.model_card.specs.Event.{Event}
-use Rattle.model_card.specs.Card.{Card, fresh, line_at}
-use Rattle.model_card.specs.Machine.{wants_room, after, answer}
+use Rattle.model_card.specs.Card.{Card, line_at}
+use Rattle.model_card.specs.Machine.{after, answer}
 use Rattle.model_card.specs.Numbered.{LinkName, is_at}
-use Rattle.model_card.specs.Promises.{HasLink}
-use Rattle.model_card.specs.Run.{Moment, moments, after_all, IsAtLine, AreAtLines}
+use Rattle.model_card.specs.Run.{moments, after_all, IsAtLine, AreAtLines}
 use Rattle.model_card.specs.Sound.{IsSound}
 use Rattle.model_card.proofs.EachMoment.{moment_of, each_moment}
 use Rattle.model_card.proofs.Steps.{HasLines, has_lines, by_room, line_sound, after_lines}
-use Rattle.laws_card.specs.Contents.{link_named, share_in, one_more, begun, history}
-use Rattle.laws_card.specs.Faithful.{IsFaithfulTo, IsFaithful}
-use Rattle.laws_card.specs.Promises.{BeginsEmpty, IsKept, IsCountedIn}
+use Rattle.laws_card.specs.Contents.{link_named, share_in, one_more, begun}
+use Rattle.laws_card.specs.Faithful.{IsFaithful}
+use Rattle.laws_card.specs.Promises.{IsKept, IsCountedIn}
 
 -- a request that finds the pool full asks for nothing that is granted
 refused-asks : (number : ℕ) (e : line_event.Event) (l : Line) → asked_by number e l (refused PoolFull) ≡ []
@@ -129,9 +125,3 @@ run-counts name card (e ∷ events) h has all few is =
 pub run-counted : (card : Card) (events : List Event) → IsSound card → AreAtLines card events → IsCountedIn card events
 run-counted card events s all name named =
     run-counts name card events (begun name card) (has_lines card s) all named.1 (record { accepted = refl; acknowledged = refl })
-
-pub begins-empty : (c : Config) → BeginsEmpty c
-begins-empty c name named =
-    let line : line_at name.line (fresh c) ≡ fresh_line c = get_or-replicate c.lines name.line (fresh_line c) (fresh_line c) named.0 in
-    let link : link_named name (fresh c) ≡ fresh_link = ap (link_at name.number) line ∙ get_or-replicate (link_count c) name.number fresh_link fresh_link named.1 in
-    ap (λ (x : Link). record { accepted = x.contents; acknowledged = x.a }) link

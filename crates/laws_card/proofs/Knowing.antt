@@ -1,18 +1,20 @@
 -- What layer 3 and management know by notes and granted requests: over runs of a card.
-use Rattle.std.proofs.Common.{◌≡◌, ℕ, ◌<◌, Bool, false, List, Some, refl, sym, ap, ◌∙◌, subst}
+use Rattle.std.proofs.Common.{◌≡◌, ◌<◌, List, refl, sym, ap, subst}
 use Rattle.std.proofs.lemmas.List.{get_or-replicate}
 use Rattle.model_line.specs.declared.config.Config.{Config}
-use Rattle.model_line.specs.Line.{fresh_line, has_tei, tei_at}
+use Rattle.model_link.specs.Link.{Link, fresh as fresh_link}
+use Rattle.model_line.specs.Line.{fresh_line, link_count, link_at, has_tei}
 use Rattle.laws_line.specs.Knowledge.{is_up_of, taken_for_up, taken_for_on}
 use Rattle.laws_line.proofs.Knowing.{known-up, begins-down}
 use Rattle.laws_line.proofs.KnowingTeis.{known-on, begins-off}
+use Rattle.laws_line.proofs.TimersFollow.{begins-with-none}
 use Rattle.model_card.specs.Event.{Event}
-use Rattle.model_card.specs.Card.{Card, line_at}
+use Rattle.model_card.specs.Card.{Card}
 use Rattle.model_card.specs.Run.{after_all, AreAtLines}
 use Rattle.model_card.specs.Sound.{IsSound}
 use Rattle.model_card.proofs.CardSound.{always_sound}
 use Rattle.model_card.proofs.Steps.{has_lines, line_sound}
-use Rattle.laws_card.specs.Promises.{NotesTell, TeisAreTold, BeginsDown, TeisHaveOnePlace}
+use Rattle.laws_card.specs.Promises.{NotesTell, TeisAreTold, IsNew, BeginsAnew, TeisHaveOnePlace}
 use Rattle.laws_card.proofs.Serving.{after-config}
 use Rattle.laws_card.proofs.Watching.{run-seen}
 
@@ -24,10 +26,19 @@ pub on-known : (card : Card) (events : List Event) → IsSound card → AreAtLin
 on-known card events s all line tei within =
     run-seen (has_tei tei) (λ on e a. taken_for_on tei on e a) (λ c e l sound. known-on c e l tei sound) (λ on r. refl) card events s all line
 
-pub down-at-first : (c : Config) → BeginsDown c
-down-at-first c line service tei within =
-    let is = get_or-replicate c.lines line (fresh_line c) (fresh_line c) within in
-    (ap (is_up_of service tei) is ∙ begins-down c service tei, ap (has_tei tei) is ∙ begins-off c tei)
+new-line : (c : Config) → IsNew c (fresh_line c)
+new-line c = record {
+  unheard = refl;
+  empty = λ number few.
+      let link : link_at number (fresh_line c) ≡ fresh_link = get_or-replicate (link_count c) number fresh_link fresh_link few in
+      (ap (λ (x : Link). x.contents) link, ap (λ (x : Link). x.a) link);
+  quiet = begins-with-none c;
+  down = begins-down c;
+  off = begins-off c;
+}
+
+pub begins-anew : (c : Config) → BeginsAnew c
+begins-anew c line within = subst (IsNew c) (sym (get_or-replicate c.lines line (fresh_line c) (fresh_line c) within)) (new-line c)
 
 pub one-place : (card : Card) (events : List Event) → IsSound card → AreAtLines card events → TeisHaveOnePlace card events
 one-place card events s all line one other tei within first second =

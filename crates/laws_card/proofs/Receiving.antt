@@ -1,7 +1,7 @@
 -- A line receives its octets of a run, in order, and nothing else.
 use Rattle.std.proofs.Common.{◌≡◌, ◌≢◌, ℕ, ◌==◌, Bool, true, false, cond, List, [], ◌∷◌, ◌++◌, get_or, Option, Some, None, IfSome, refl, sym, ap, ◌∙◌, subst, arith, append_assoc, append-nil, eqb-true, eq-eqb, true≢false}
 use Rattle.std.proofs.lemmas.Bool.{and_parts}
-use Rattle.std.proofs.lemmas.List.{get_or-set_same, get_or-set_other, get_or-replicate}
+use Rattle.std.proofs.lemmas.List.{get_or-set_same, get_or-set_other}
 use Rattle.std.proofs.lemmas.List.Elements.{All-head, All-tail}
 use Rattle.model_line.specs.declared.config.Config.{Config}
 use Rattle.model_line.specs.Event as line_event
@@ -23,7 +23,7 @@ use Rattle.model_card.specs.Run.{after_all, IsAtLine, AreAtLines}
 use Rattle.model_card.specs.Sound.{IsSound}
 use Rattle.model_card.proofs.CardSound.{after_is_sound}
 use Rattle.model_card.proofs.Steps.{has_lines, by_room, line_sound}
-use Rattle.laws_card.specs.Promises.{AreReceived, BeginsUnheard}
+use Rattle.laws_card.specs.Promises.{AreReceived}
 use Rattle.laws_card.specs.Received.{octet_of, octet_at, octets_at}
 
 -- what a pull puts on a line leaves what was received
@@ -86,7 +86,3 @@ run-received card (e ∷ events) s all line within =
     run-received (after e card) events (after_is_sound card e s here) (All-tail (IsAtLine card) e events all) line within
     ∙ ap (λ os. os ++ octets_at line events) (event-received card e s here line)
     ∙ append_assoc (line_at line card).received (octet_at line e) (octets_at line events)
-
--- On a card as it begins.
-pub begins-unheard : (c : Config) → BeginsUnheard c
-begins-unheard c line within = ap (λ (l : Line). l.received) (get_or-replicate c.lines line (fresh_line c) (fresh_line c) within)

@@ -1,6 +1,6 @@
 -- What a pull begins after a list of events.
-use Rattle.std.proofs.Common.{◌≡◌, ℕ, ◌<◌, List, [], ◌∷◌, Option, Some, None, refl, sym, subst, inl, inr}
-use Rattle.laws_link.specs.Offered.{IsOffered}
+use Rattle.std.proofs.Common.{◌≡◌, ℕ, ◌<◌, cond, slice_get, List, [], ◌∷◌, Option, Some, None, refl, sym, subst, inl, inr}
+use Rattle.model_link.specs.Sound.{is_information}
 use Rattle.model_line.specs.declared.config.Config.{Config}
 use Rattle.model_line.specs.Event.{pull}
 use Rattle.model_line.specs.Line.{Line, link_at, link_count}
@@ -15,7 +15,7 @@ use Rattle.model_card.specs.Run.{after_all, AreAtLines}
 use Rattle.model_card.specs.Sound.{IsSound}
 use Rattle.model_card.proofs.CardSound.{always_sound}
 use Rattle.model_card.proofs.Steps.{has_lines, line_sound}
-use Rattle.laws_card.specs.Contents.{name_of, accepted_at}
+use Rattle.laws_card.specs.Contents.{accepted_at}
 use Rattle.laws_card.specs.Promises.{IsServedIn}
 use Rattle.laws_card.proofs.Keeping.{run-counted}
 
@@ -33,11 +33,9 @@ module _ (c : Config) (one other : ℕ → List (List ℕ)) (same : (number : �
     information = x.information;
     spelled = x.spelled;
     in_order = x.in_order;
-    carried = subst (λ all. IsOffered all (link_at x.number l).s (record { command = x.command; control = x.control }) x.information) (same x.number x.few) x.carried;
+    carried = subst (λ all. x.information ≡ cond (is_information x.control) (slice_get all (link_at x.number l).s) None) (same x.number x.few) x.carried;
     counted = x.counted;
-    messages = x.messages;
-    units = x.units;
-    others = x.others;
+    line = x.line;
   }
 
   owed : (next : Line) (frame : List ℕ) → IsOwed c one l next frame → IsOwed c other l next frame
@@ -68,5 +66,5 @@ served-in card events s all number within =
     let l = line_at number end in
     let now : IsServed end.config (contents_of l) l = served end.config l (line_sound end number (has_lines end sound) there) in
     serves card.config (contents_of l) (accepted_at card events number)
-    (λ n few. (run-counted card events s all (name_of number n) (within, few)).accepted) l
+    (λ n few. (run-counted card events s all (record { line = number; number = n }) (within, few)).accepted) l
     (subst (λ c. IsServed c (contents_of l) l) config now)

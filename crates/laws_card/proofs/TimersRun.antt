@@ -1,14 +1,11 @@
 -- A caller that obeys the orders runs the timers that are needed: over runs of a card.
-use Rattle.std.proofs.Common.{◌≡◌, ◌≢◌, ℕ, ◌<◌, ◌==◌, Bool, true, false, cond, List, [], ◌∷◌, get_or, set, Option, Some, None, refl, sym, ap, ◌∙◌, subst, arith, eqb-true, eq-eqb, true≢false}
-use Rattle.std.specs.Prelude.{fold}
+use Rattle.std.proofs.Common.{◌≡◌, ◌≢◌, ℕ, ◌<◌, ◌==◌, Bool, true, false, cond, List, [], ◌∷◌, get_or, set, refl, sym, ap, ◌∙◌, subst, arith, eqb-true, eq-eqb, true≢false}
 use Rattle.std.proofs.lemmas.Bool.{and_parts}
 use Rattle.std.proofs.lemmas.List.{get_or-set_same, get_or-set_other, get_or-replicate}
 use Rattle.std.proofs.lemmas.List.Elements.{All-head, All-tail}
-use Rattle.lapd_frame.specs.declared.refusals.Refusal.TheVariants.{PoolFull}
 use Rattle.lapd_frame.specs.declared.timers.Timer.{Timer}
 use Rattle.model_line.specs.declared.config.Config.{Config}
 use Rattle.model_line.specs.Event as line_event
-use Rattle.model_line.specs.Event.{Answer, refused}
 use Rattle.model_line.specs.Line.{Line, fresh_line}
 use Rattle.model_line.specs.Machine as lines
 use Rattle.laws_line.specs.Timers.{is_needed, runs_then, left_by, HaveTheirTimers}
@@ -22,7 +19,7 @@ use Rattle.model_card.specs.Sound.{IsSound}
 use Rattle.model_card.proofs.CardSound.{after_is_sound, fresh_is_sound}
 use Rattle.model_card.proofs.EachMoment.{moment_of}
 use Rattle.model_card.proofs.Steps.{has_lines, by_room, line_sound}
-use Rattle.laws_card.specs.Promises.{RunsWhatIsNeeded, NeedsNone}
+use Rattle.laws_card.specs.Promises.{RunsWhatIsNeeded}
 use Rattle.laws_card.specs.Timers.{one_more, runs_at_callers, AllHaveTheirTimers}
 
 -- a request that finds the pool full is no expiry, and orders nothing
@@ -97,7 +94,7 @@ timely-all card (e ∷ events) s timely all =
     let here = All-head (IsAtLine card) e events all in
     timely-all (after e card) events (after_is_sound card e s here) (timely-after card e s timely here) (All-tail (IsAtLine card) e events all)
 
-pub needs-none : (c : Config) → NeedsNone c
+pub needs-none : (c : Config) (line : ℕ) (timer : Timer) → line < c.lines → is_needed timer (line_at line (fresh c)) ≡ false
 needs-none c line timer within = ap (is_needed timer) (get_or-replicate c.lines line (fresh_line c) (fresh_line c) within) ∙ begins-with-none c timer
 
 pub begins-timely-card : (c : Config) → AllHaveTheirTimers (fresh c)

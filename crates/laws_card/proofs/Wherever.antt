@@ -1,5 +1,5 @@
 -- The laws of a line's pulls wherever they come in a list of events.
-use Rattle.std.proofs.Common.{◌≡◌, ℕ, ◌<◌, Bool, true, false, List, [], ◌∷◌, ◌++◌, get_or, ◌==◌, refl, sym, subst}
+use Rattle.std.proofs.Common.{◌≡◌, ℕ, ◌<◌, Bool, true, false, List, [], ◌∷◌, ◌++◌, length, get_or, ◌==◌, refl, sym, subst}
 use Rattle.std.specs.Prelude.{All}
 use Rattle.std.proofs.lemmas.Bool.{eqb-true, eqb-false}
 use Rattle.std.proofs.lemmas.List.{get_or-set_same, get_or-replicate}
@@ -10,15 +10,18 @@ use Rattle.model_line.specs.Machine as lines
 use Rattle.laws_line.specs.Pulls.{HasNothing}
 use Rattle.laws_line.specs.Drains.{HasFewLeft}
 use Rattle.laws_line.proofs.Bounds.{bits-few, fresh-few, each-few}
-use Rattle.model_card.specs.Card.{Card, line_at}
+use Rattle.laws_line.proofs.Soon.{few-before, others-fit}
+use Rattle.model_card.specs.Card.{Card, fresh, line_at}
 use Rattle.model_card.specs.Event.{Event}
 use Rattle.model_card.specs.Machine.{after}
+use Rattle.model_card.specs.Reached.{IsReached}
 use Rattle.model_card.specs.Run.{IsAtLine, AreAtLines, after_all}
 use Rattle.model_card.specs.Sound.{IsSound}
-use Rattle.model_card.proofs.CardSound.{after_is_sound, always_sound}
+use Rattle.model_card.proofs.CardSound.{after_is_sound, always_sound, fresh_is_sound}
+use Rattle.model_card.proofs.Reaching.{reached-sound}
 use Rattle.model_card.proofs.Steps.{by_room}
 use Rattle.laws_card.specs.Among.{ArePullsAt}
-use Rattle.laws_card.specs.PromisesOfPulls.{Wherever, WaitingIsBegun, WaitingIsBegunMeanwhile, WaitingAreBegun, EndsInFlags, PullsComeToAnEnd, FewAreToGo, BeginsWithFew}
+use Rattle.laws_card.specs.PromisesOfPulls.{Wherever, WaitingIsBegun, WaitingIsBegunMeanwhile, WaitingAreBegun, EndsInFlags, PullsComeToAnEnd, HasFewToGo, FewAreToGo}
 use Rattle.laws_card.proofs.Amid.{begun-amid}
 use Rattle.laws_card.proofs.Meanwhile.{IsServed, at-another, few-lines, line-sound, card-drains, card-idles, card-waits}
 
@@ -102,12 +105,27 @@ one-event card e number s here h = go (e.line == number) refl
         let apart = eqb-false e.line number is in
         subst (λ (l : Line). HasFewLeft card.config l) (sym (at-another card number e (λ same. apart (sym same)))) h
 
-pub few-to-go : (m : Card) (events : List Event) → IsSound m → AreAtLines m events → FewAreToGo m events
+pub few-to-go : (m : Card) (events : List Event) → IsSound m → AreAtLines m events → (number : ℕ) → number < m.config.lines
+    → HasFewLeft m.config (line_at number m) → HasFewToGo m.config (line_at number (after_all m events))
 unfolding after_all
-few-to-go m [] s all number few left = record { left = left; bits = bits-few m.config (line_at number m) (line-sound m number s few) left }
+few-to-go m [] s all number few left =
+    let sound = line-sound m number s few in
+    record {
+      left = left;
+      bits = bits-few m.config (line_at number m) sound left;
+      before = λ link tei before f behind h.
+          few-before m.config (line_at number m) sound left link (length before) h.few
+          (others-fit m.config s.config (line_at number m) sound link tei h.few h.on_line before f behind h.waits);
+    }
 few-to-go m (e ∷ events) s all number few left =
     let here = All-head (IsAtLine m) e events all in
     few-to-go (after e m) events (after_is_sound m e s here) (All-tail (IsAtLine m) e events all) number few (one-event m e number s here left)
 
-pub begins-with-few : (c : Config) → BeginsWithFew c
+pub begins-with-few : (c : Config) (number : ℕ) → number < c.lines → HasFewLeft c (line_at number (fresh c))
 begins-with-few c number few = subst (HasFewLeft c) (sym (get_or-replicate c.lines number (fresh_line c) (fresh_line c) few)) (fresh-few c)
+
+-- so they are on each card that is reached
+pub few-reached : (m : Card) (events : List Event) → IsReached m → AreAtLines m events → FewAreToGo m events
+few-reached m events r all number few =
+    let first = few-to-go (fresh m.config) r.events (fresh_is_sound m.config r.config) r.at_lines number few (begins-with-few m.config number few) in
+    few-to-go m events (reached-sound m r) all number few (subst (λ (x : Card). HasFewLeft m.config (line_at number x)) (sym r.same) first.left)

@@ -42,8 +42,5 @@ abbrev pub history : LinkName → Card → List Moment → History
 history name card ms = fold (one_more name) (begun name card) ms
 
 -- The contents of the links of one line, by their numbers.
-abbrev pub name_of : ℕ → ℕ → LinkName
-name_of line number = record { line = line; number = number }
-
 abbrev pub accepted_at : Card → List Event → ℕ → ℕ → List (List ℕ)
-accepted_at m events line number = (history (name_of line number) m (moments m events)).accepted
+accepted_at m events line number = (history (record { line = line; number = number }) m (moments m events)).accepted

@@ -6,7 +6,7 @@ use Rattle.model_card.specs.Event.{Event}
 use Rattle.model_card.specs.Machine.{after}
 use Rattle.model_card.specs.Run.{IsAtLine, AreAtLines}
 use Rattle.model_card.specs.Sound.{IsSound}
-use Rattle.laws_card.specs.Promises.{IsKept, IsCountedIn, BeginsEmpty, IsServedIn, HasOneEvent, IsDelivered, AreReceived, BeginsUnheard, RunsWhatIsNeeded, NeedsNone, NotesTell, TeisAreTold, BeginsDown, TeisHaveOnePlace, BegunIsTold}
+use Rattle.laws_card.specs.Promises.{IsKept, IsCountedIn, IsServedIn, HasOneEvent, IsDelivered, AreReceived, RunsWhatIsNeeded, NotesTell, TeisAreTold, BeginsAnew, TeisHaveOnePlace, BegunIsTold}
 use Rattle.laws_card.specs.Timers.{AllHaveTheirTimers}
 use Rattle.laws_card.specs.Frames.{AreCounted, AreAmortised, AreLinear, GivesWhatGoes, CallsEnd, WaitingIsGiven, PollsAreAnswered, CommandsAreAnswered}
 use Rattle.model_card.specs.Happening.{Happening, HappenAt, AreIdle}
@@ -14,7 +14,6 @@ use Rattle.model_card.specs.Happening.{Happening, HappenAt, AreIdle}
 pub record NothingIsLost : Type 0 where
   pub kept : (card : Card) (events : List Event) → IsSound card → AreAtLines card events → IsKept card events
   pub counted : (card : Card) (events : List Event) → IsSound card → AreAtLines card events → IsCountedIn card events
-  pub begins : (c : Config) → BeginsEmpty c
 
 abbrev pub PullsServe : Type 0
 PullsServe = (card : Card) (events : List Event) → IsSound card → AreAtLines card events → IsServedIn card events
@@ -25,18 +24,16 @@ OneEvent = (card : Card) (events : List Event) → IsSound card → AreAtLines c
 pub record HeardIsDelivered : Type 0 where
   pub delivered : (card : Card) (events : List Event) → IsSound card → AreAtLines card events → IsDelivered card events
   pub received : (card : Card) (events : List Event) → IsSound card → AreAtLines card events → AreReceived card events
-  pub begins : (c : Config) → BeginsUnheard c
 
 pub record TimersFollow : Type 0 where
   pub follow : (card : Card) (events : List Event) → IsSound card → AllHaveTheirTimers card → AreAtLines card events → RunsWhatIsNeeded card events
-  pub none : (c : Config) → NeedsNone c
   pub begins : (c : Config) → AllHaveTheirTimers (fresh c)
   pub stays : (card : Card) (e : Event) → IsSound card → AllHaveTheirTimers card → IsAtLine card e → AllHaveTheirTimers (after e card)
 
 pub record Known : Type 0 where
   pub up : (card : Card) (events : List Event) → IsSound card → AreAtLines card events → NotesTell card events
   pub on : (card : Card) (events : List Event) → IsSound card → AreAtLines card events → TeisAreTold card events
-  pub begins : (c : Config) → BeginsDown c
+  pub begins : (c : Config) → BeginsAnew c
   pub places : (card : Card) (events : List Event) → IsSound card → AreAtLines card events → TeisHaveOnePlace card events
 
 abbrev pub BegunIsTrue : Type 0

@@ -18,3 +18,4 @@ pub mod Among
 pub mod PromisesOfPulls
 pub mod WorkedAmong
 pub mod Frames
+pub mod WorkedBroken

@@ -2,18 +2,18 @@
 use Rattle.std.specs.Prelude.{◌≡◌, ◌<◌, ℕ, false, List, [], ◌++◌, Some, All}
 use Rattle.lapd_frame.specs.declared.services.Service.{Service}
 use Rattle.lapd_frame.specs.declared.timers.Timer.{Timer}
-use Rattle.laws_link.specs.History.{IsCounted, nothing_yet}
+use Rattle.laws_link.specs.History.{IsCounted}
 use Rattle.laws_line.specs.Pulls.{IsServed}
 use Rattle.laws_line.specs.Knowledge.{is_up_of}
 use Rattle.laws_line.specs.Timers.{is_needed}
 use Rattle.model_line.specs.declared.config.Config.{Config}
-use Rattle.model_line.specs.Line.{has_tei, tei_at}
+use Rattle.model_line.specs.Line.{Line, link_count, link_at, has_tei, tei_at}
 use Rattle.model_card.specs.Card.{Card, fresh, line_at}
 use Rattle.model_card.specs.Event.{Event}
 use Rattle.model_card.specs.Numbered.{LinkName}
 use Rattle.model_card.specs.Promises.{HasLink}
 use Rattle.model_card.specs.Run.{moments, after_all}
-use Rattle.laws_card.specs.Contents.{link_named, begun, history, accepted_at}
+use Rattle.laws_card.specs.Contents.{link_named, history, accepted_at}
 use Rattle.laws_card.specs.Faithful.{IsFaithful, IsOneEventIn}
 use Rattle.laws_card.specs.Heard.{IsHeardIn}
 use Rattle.laws_card.specs.Begun.{IsBegunIn}
@@ -30,10 +30,6 @@ IsKept m events = All IsFaithful (moments m events)
 abbrev pub IsCountedIn : Card → List Event → Type 0
 IsCountedIn m events =
     (name : LinkName) → HasLink m name → IsCounted (history name m (moments m events)) (link_named name (after_all m events))
-
--- On a card as it begins the histories begin with nothing.
-abbrev pub BeginsEmpty : Config → Type 0
-BeginsEmpty c = (name : LinkName) → HasLink (fresh c) name → begun name (fresh c) ≡ nothing_yet
 
 -- What a pull of a line begins after these events: a message, the oldest unit data, or a frame of a link, whose
 -- information, if it is an I-frame, is contents number V(S) of those that the link has accepted since its numbers began;
@@ -57,19 +53,11 @@ AreReceived m events =
     (line : ℕ) → line < m.config.lines →
     (line_at line (after_all m events)).received ≡ (line_at line m).received ++ octets_at line events
 
--- On a card as it begins none are: so from there on they are exactly those of the events.
-abbrev pub BeginsUnheard : Config → Type 0
-BeginsUnheard c = (line : ℕ) → line < c.lines → (line_at line (fresh c)).received ≡ []
-
 -- A caller that runs exactly the timers that are needed before a run, and obeys, does so after it.
 abbrev pub RunsWhatIsNeeded : Card → List Event → Type 0
 RunsWhatIsNeeded m events =
     (line : ℕ) (timer : Timer) → line < m.config.lines →
     runs_at_callers line timer (is_needed timer (line_at line m)) (moments m events) ≡ is_needed timer (line_at line (after_all m events))
-
--- On a card as it begins none is needed.
-abbrev pub NeedsNone : Config → Type 0
-NeedsNone c = (line : ℕ) (timer : Timer) → line < c.lines → is_needed timer (line_at line (fresh c)) ≡ false
 
 -- Whoever knows before a run which links are up, and which TEIs are on each line, knows it after it by the notes, and for
 -- the TEIs by the requests that were granted.
@@ -83,11 +71,16 @@ TeisAreTold m events =
     (line tei : ℕ) → line < m.config.lines →
     on_by_notes line tei (has_tei tei (line_at line m)) (moments m events) ≡ has_tei tei (line_at line (after_all m events))
 
--- On a card as it begins no link is up, and no TEI on a line.
-abbrev pub BeginsDown : Config → Type 0
-BeginsDown c =
-    (line : ℕ) (service : Service) (tei : ℕ) → line < c.lines →
-    (is_up_of service tei (line_at line (fresh c)) ≡ false) × (has_tei tei (line_at line (fresh c)) ≡ false)
+-- As a line begins it has received nothing, its links keep nothing, no timer is needed, no link is up, and no TEI is on it.
+pub record IsNew (c : Config) (l : Line) : Type 0 where
+  pub unheard : l.received ≡ []
+  pub empty : (number : ℕ) → number < link_count c → ((link_at number l).contents ≡ []) × ((link_at number l).a ≡ 0)
+  pub quiet : (timer : Timer) → is_needed timer l ≡ false
+  pub down : (service : Service) (tei : ℕ) → is_up_of service tei l ≡ false
+  pub off : (tei : ℕ) → has_tei tei l ≡ false
+
+abbrev pub BeginsAnew : Config → Type 0
+BeginsAnew c = (line : ℕ) → line < c.lines → IsNew c (line_at line (fresh c))
 
 -- No TEI has two places of a line.
 abbrev pub TeisHaveOnePlace : Card → List Event → Type 0

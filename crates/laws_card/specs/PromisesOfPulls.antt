@@ -3,9 +3,9 @@ use Rattle.std.specs.Prelude.{◌≡◌, ℕ, ◌+◌, ◌-◌, ◌*◌, ◌<◌
 use Rattle.model_link.specs.declared.frames.ControlFrame.{ControlFrame}
 use Rattle.model_line.specs.declared.config.Config.{Config}
 use Rattle.model_line.specs.Line.{Line, link_count, place_at, tei_at, link_at}
-use Rattle.laws_line.specs.Drains.{longest_text, bits_to_go, bits_before, IsEnough, control_text, HasFewLeft, most_bits, most_pulls, most_pulls_before}
+use Rattle.laws_line.specs.Drains.{longest_text, bits_to_go, bits_before, IsEnough, control_text, HasFewLeft, most_bits, most_bits_before, most_pulls, most_pulls_before}
 use Rattle.laws_line.specs.Among.{is_pull, go_first}
-use Rattle.model_card.specs.Card.{Card, fresh, line_at}
+use Rattle.model_card.specs.Card.{Card, line_at}
 use Rattle.model_card.specs.Event.{Event}
 use Rattle.model_card.specs.Machine.{after}
 use Rattle.model_card.specs.Run.{after_all}
@@ -69,21 +69,18 @@ EndsInFlags card events =
 abbrev pub PullsComeToAnEnd : Card → List Event → Type 0
 PullsComeToAnEnd m events = Wherever EndsInFlags m events
 
--- Where at most the longest frame is left of a line, so it is after the events, and the bits to go are at most what the
--- configuration allows. So it is on a card as it begins.
-pub record HasFewToGo (c : Config) (number : ℕ) (card : Card) : Type 0 where
-  pub left : HasFewLeft c (line_at number card)
-  pub bits : bits_to_go c (line_at number card) ≤ most_bits c
+-- At most the longest frame is left of a line; and the bits to go, and those before a control frame that waits, are at most
+-- what the configuration allows.
+pub record HasFewToGo (c : Config) (l : Line) : Type 0 where
+  pub left : HasFewLeft c l
+  pub bits : bits_to_go c l ≤ most_bits c
+  pub before : (link tei : ℕ) (before : List ControlFrame) (f : ControlFrame) (behind : List ControlFrame) →
+      IsWaiting c l link tei before f behind → bits_before c l link (length before) ≤ most_bits_before c
 
 abbrev pub FewAreToGo : Card → List Event → Type 0
-FewAreToGo m events =
-    (number : ℕ) → number < m.config.lines → HasFewLeft m.config (line_at number m) → HasFewToGo m.config number (after_all m events)
+FewAreToGo m events = (number : ℕ) → number < m.config.lines → HasFewToGo m.config (line_at number (after_all m events))
 
-abbrev pub BeginsWithFew : Config → Type 0
-BeginsWithFew c = (number : ℕ) → number < c.lines → HasFewLeft c (line_at number (fresh c))
-
--- The same promises with numbers of pulls that the configuration gives, whatever waits: those that are enough for a control
--- frame, and those that are enough for all that may go.
+-- So the configuration gives numbers of pulls that are enough, whatever waits: for a control frame, and for all that may go.
 
 -- Of a line the pulls come that are enough for a control frame, and nothing else.
 pub record ArePullsEnough (card : Card) (number : ℕ) (events : List Event) : Type 0 where

@@ -13,7 +13,7 @@ use Rattle.model_line.specs.Request.{Request, Assign, Data, Release}
 use Rattle.model_card.specs.Card.{fresh}
 use Rattle.model_card.specs.Event.{Event, at}
 use Rattle.model_card.specs.Run.{moments}
-use Rattle.laws_card.specs.Contents.{name_of, history, accepted_at}
+use Rattle.laws_card.specs.Contents.{history, accepted_at}
 
 abbrev pub usual : Config
 usual = record { lines = 1; terminals = 8; k = 7; k16 = 7; queue = 8; unit_queue = 4; control = 4; slots = 64; n201 = 260; n200 = 3; side = Network }
@@ -34,7 +34,7 @@ abbrev gives : ℕ → Event
 gives n = on_0 (Data Call 64 (n ∷ []))
 
 abbrev history_of_call : List Event → History
-history_of_call events = history (name_of 0 0) (fresh usual) (moments (fresh usual) events)
+history_of_call events = history (record { line = 0; number = 0 }) (fresh usual) (moments (fresh usual) events)
 
 -- Contents that come before the link is up are refused, and then two are accepted.
 two_accepted : history_of_call (gives 1 ∷ up ++ gives 2 ∷ gives 3 ∷ [])

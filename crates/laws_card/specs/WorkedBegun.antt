@@ -4,7 +4,7 @@ use Rattle.lapd_bits.specs.Bits.{low_bits}
 use Rattle.lapd_bits.specs.Sent.{Item, idle, frame}
 use Rattle.lapd_frame.specs.Reading.{reading, header_of, control_of, unnumbered_of}
 use Rattle.lapd_tei.specs.Events as teis
-use Rattle.laws_line.specs.Begun.{says_begun}
+use Rattle.model_line.specs.Counts.{is_begun}
 use Rattle.model_line.specs.Machine as lines
 use Rattle.model_line.specs.Event.{pull}
 use Rattle.model_card.specs.Card.{fresh, line_at}
@@ -13,7 +13,7 @@ use Rattle.model_card.specs.Run.{Moment, moments, after_all}
 use Rattle.laws_card.specs.Worked.{usual, up}
 
 abbrev says : Moment → Bool
-says m = says_begun m.answer
+says m = is_begun m.answer
 
 -- What the answers say of so many pulls, once the terminal has established the link of call control.
 abbrev eight_pulls : List Event

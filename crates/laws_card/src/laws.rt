@@ -3,7 +3,7 @@
 
 ghost use Rattle.laws_card.specs.Laws.{NothingIsLost, PullsServe, OneEvent, HeardIsDelivered};
 
-/// Nothing that was accepted is lost silently: `nothing_is_lost`, `counted` and `begins_empty`.
+/// Nothing that was accepted is lost silently: `nothing_is_lost` and `counted`.
 pub fn nothing_is_lost()
     ensures { NothingIsLost }
 {}
@@ -18,8 +18,7 @@ pub fn one_event()
     ensures { OneEvent }
 {}
 
-/// What was heard is delivered, once, and from whom, and nothing else: `heard_is_delivered`, `received` and
-/// `begins_unheard`.
+/// What was heard is delivered, once, and from whom, and nothing else: `heard_is_delivered` and `received`.
 pub fn heard_is_delivered()
     ensures { HeardIsDelivered }
 {}

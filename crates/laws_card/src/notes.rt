@@ -3,7 +3,7 @@
 ghost use Rattle.laws_card.specs.Laws.{Known, BegunIsTrue};
 
 /// By notes layer 3 knows which links are up, and management which TEIs are on each line: `notes_tell`, `teis_are_told`,
-/// `begins_down` and `one_place`.
+/// `begins` and `one_place`.
 pub fn notes_tell()
     ensures { Known }
 {}

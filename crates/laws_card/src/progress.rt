@@ -15,10 +15,11 @@ ghost use Rattle.laws_line.specs.Pulls.{HasNothing};
 ghost use Rattle.laws_line.specs.Drains.{bits_to_go, IsEnough, control_text};
 ghost use Rattle.model_card.specs.Card.{Card, line_at};
 ghost use Rattle.model_card.specs.Event.{Event, at};
+ghost use Rattle.model_card.specs.Reached.{IsReached};
 ghost use Rattle.model_card.specs.Run.{AreAtLines, run};
 ghost use Rattle.model_card.specs.Sound.{IsSound};
 ghost use Rattle.laws_card.specs.Among.{ArePullsAt, pulls_at, IsBegunAmong, IsAnsweredAmong, IsIdleAmong};
-ghost use Rattle.laws_card.specs.PromisesOfPulls.{IsWaiting, WaitingAreBegun, PullsComeToAnEnd, FewAreToGo, BeginsWithFew, EnoughPullsServe};
+ghost use Rattle.laws_card.specs.PromisesOfPulls.{IsWaiting, WaitingAreBegun, PullsComeToAnEnd, FewAreToGo, EnoughPullsServe};
 
 /// The pulls of a line serve it, whatever happens at the other lines of its card meanwhile. Once they are more than an
 /// eighth of the bits to go there, nothing waits on it but I-frames that may not go (`drained`); and then idle flags go
@@ -63,14 +64,13 @@ pub fn pulls_serve_a_line()
 /// waits, so also each answer, once they are enough; that also where other events of the line are between its pulls, by the
 /// messages and the unit data that come meanwhile (`begun`).
 /// Once they give more than the bits to go, nothing waits but I-frames that may not go, and idle flags go on (`ended`).
-/// And on a card as it begins, and after whatever happens to it, the bits to go of a line are at most what the
-/// configuration allows (`few`, `begins`). So the numbers of pulls that are enough for a control frame that waits, and for
-/// all that may go, are computed from the configuration (`enough`): 23,050 and 64,346 with eight terminals, N201 of 260,
-/// windows of 7, 4 unit data and 4 control frames.
+/// And on each card that is reached the bits to go of a line, and those before a control frame that waits, are at most what
+/// the configuration allows (`few`). So the numbers of pulls that are enough for a control frame that waits, and for all that
+/// may go, are computed from the configuration (`enough`): 23,050 and 64,346 with eight terminals, N201 of 260, windows of 7,
+/// 4 unit data and 4 control frames.
 pub fn pulls_serve_wherever()
     ensures begun { (m : Card) (events : List Event) → IsSound m → AreAtLines m events → WaitingAreBegun m events }
     ensures ended { (m : Card) (events : List Event) → IsSound m → AreAtLines m events → PullsComeToAnEnd m events }
-    ensures few { (m : Card) (events : List Event) → IsSound m → AreAtLines m events → FewAreToGo m events }
-    ensures begins { (c : Config) → BeginsWithFew c }
+    ensures few { (m : Card) (events : List Event) → IsReached m → AreAtLines m events → FewAreToGo m events }
     ensures enough { (m : Card) (events : List Event) → IsSound m → AreAtLines m events → EnoughPullsServe m events }
 {}

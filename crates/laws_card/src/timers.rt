@@ -3,7 +3,7 @@
 ghost use Rattle.laws_card.specs.Laws.{TimersFollow};
 
 /// A caller that obeys the orders in the answers, those to pulls, requests and expiries too, runs exactly the timers that
-/// are needed: `timers` and `no_timers`.
+/// are needed: `timers`.
 pub fn timers_follow()
     ensures { TimersFollow }
 {}

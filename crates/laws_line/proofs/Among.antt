@@ -28,7 +28,7 @@ use Rattle.model_line.specs.Refusal.{refusal}
 use Rattle.model_line.specs.Requested.{aim_of_request}
 use Rattle.model_line.specs.Sound.{IsInRange, IsSound}
 use Rattle.model_line.proofs.LineSound.{after_sound}
-use Rattle.laws_line.specs.Heard.{EndsNothing}
+use Rattle.laws_line.specs.Heard.{Adds}
 use Rattle.laws_line.specs.Steady.{IsBy}
 use Rattle.laws_line.proofs.Happening.{Happens, event-happens}
 use Rattle.laws_line.proofs.Hearing.{no-event}
@@ -71,7 +71,7 @@ one-at-most c e l = go (is_pull e) refl
     go true is = omega arith
     go false is = let few = (meanwhile c e l is).few in omega (arith, few)
 
-pub none-of-octet : (c : Config) (l : Line) (value : ℕ) → EndsNothing c l value → comes_first c (octet value) l ≡ 0
+pub none-of-octet : (c : Config) (l : Line) (value : ℕ) → Adds c l value [] → comes_first c (octet value) l ≡ 0
 none-of-octet c l value ends =
     let same : go_first (after c (octet value) l) ≡ go_first l = ap go_first (no-event c l value ends).line in
     omega (arith, same)

@@ -21,7 +21,8 @@ use Rattle.model_line.specs.Requested.{aim_of_request}
 use Rattle.model_line.specs.Sound.{IsInRange, IsSound}
 use Rattle.model_line.proofs.PullSound.{TakesSoundly, taken_sound}
 use Rattle.model_line.proofs.TextGoesOn.{left_is}
-use Rattle.laws_line.specs.Begun.{says_begun, BeginsAs}
+use Rattle.model_line.specs.Counts.{is_begun}
+use Rattle.laws_line.specs.Begun.{BeginsAs}
 
 -- No other event puts anything on the line.
 changed : (c : Config) (o : Option Change) (r : LineTold) (l : Line) → (of_change c o r l).line.items ≡ l.items
@@ -66,14 +67,14 @@ module _ (c : Config) (ranged : IsInRange c) (l : Line) (s : IsSound c l) where
   pull-begins = by-item (is_due l) refl (taken c l) (taken_sound c ranged l s)
 
 -- Any event.
-pub begins-as : (c : Config) (e : Event) (l : Line) → IsInRange c → IsSound c l → BeginsAs e (says_begun (answer c e l)) l (after c e l)
+pub begins-as : (c : Config) (e : Event) (l : Line) → IsInRange c → IsSound c l → BeginsAs e (is_begun (answer c e l)) l (after c e l)
 unfolding after answer
 begins-as c (octet value) l ranged s = inl (aimed c (aim_of_octet c value l) (with_received value l))
 begins-as c (expiry timer) l ranged s = inl (aimed c (aim_of_expiry timer l) l)
 begins-as c (request r) l ranged s = go (refusal c false r l)
   where
     go : (o : Option Refusal)
-        → BeginsAs (request r) (says_begun (unless_refused_told o (of_aim c (unless_refused o (aim_of_request r l)) l))) l (of_aim c (unless_refused o (aim_of_request r l)) l).line
+        → BeginsAs (request r) (is_begun (unless_refused_told o (of_aim c (unless_refused o (aim_of_request r l)) l))) l (of_aim c (unless_refused o (aim_of_request r l)) l).line
     go None = inl (aimed c (aim_of_request r l) l)
     go (Some why) = inl refl
 begins-as c pull l ranged s = pull-begins c ranged l s

@@ -64,8 +64,8 @@ module _ (c : Config) (l : Line) where
 
   pub message-aim : (e : Event) (info : List ℕ) (h : BringsMessage c l e info) → aim_of_octet c h.value l ≡ at_management (teis.message info)
   message-aim e info h =
-      ap (λ o. option_map_or (aim_of_heard c l) o (at_none nothing)) (brings c l h.value h.octets h.ends)
-      ∙ ap (aim_of_reading c l) h.read
+      ap (λ o. option_map_or (aim_of_heard c l) o (at_none nothing)) (brings c l h.value h.heard.octets h.heard.ends)
+      ∙ ap (aim_of_reading c l) h.heard.read
       ∙ ap (at_side c h.parts) (to-group h.parts.address (link.frame h.parts) (message_of h.parts.control h.parts.info) h.sapi h.group)
       ∙ ap (λ k. at_side c h.parts (message_of k h.parts.info)) h.control
       ∙ ap (λ side. managed_at side (teis.message h.parts.info)) h.network
@@ -75,11 +75,8 @@ module _ (c : Config) (l : Line) where
   heard-aim e said h = message-aim e h.parts.info (record {
     network = h.network;
     value = h.value;
-    by = h.by;
-    octets = h.octets;
-    ends = h.ends;
     parts = h.parts;
-    read = h.read;
+    heard = record { by = h.by; octets = h.octets; ends = h.ends; read = h.read };
     sapi = h.sapi;
     group = h.group;
     poll = h.poll;

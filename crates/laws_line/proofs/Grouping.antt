@@ -25,7 +25,7 @@ use Rattle.model_line.specs.Machine.{after, answer}
 use Rattle.model_line.specs.Octet.{drop_for, management_sapi, at_place, to_service, addressed, message_of, aim_of_reading, heard_side, aim_of_heard, aim_of_octet, with_received}
 use Rattle.model_line.specs.Sides.{group_tei, group_told, told_of_ui, told_of_group, told_at, at_side, IsToGroup}
 use Rattle.model_line.specs.Sound.{IsSound}
-use Rattle.laws_line.specs.Heard.{Ends, IsUnitOfGroup, IsToManagement, IsDroppedFor}
+use Rattle.laws_line.specs.Heard.{Ends, OnlyTells, IsToManagement}
 use Rattle.laws_line.proofs.Causing.{to-group}
 use Rattle.laws_line.proofs.GroupAims.{brings}
 use Rattle.laws_line.proofs.Hearing.{sapi-is}
@@ -67,7 +67,7 @@ group-is c parts service t to =
 
 pub group-unit : (c : Config) (l : Line) (value : ℕ) (parts : Parts) (octets : List ℕ) (service : Service) → IsSound c l → Ends c l value octets
     → Spells (heard_side c) parts octets → IsToGroup c parts service
-    → IsUnitOfGroup service parts.info l (after c (octet value) l) (answer c (octet value) l) value
+    → OnlyTells (group_told service parts.info) l (after c (octet value) l) (answer c (octet value) l) value
 unfolding after answer
 group-unit c l value parts octets service s ends spelled to =
     let aim : aim_of_octet c value l ≡ at_none (group_told service parts.info) =
@@ -100,7 +100,7 @@ module _ (c : Config) (parts : Parts) (to : IsToManagement c parts) where
   by-control (control.Xid pf) = no-unit
 
 pub managed-dropped : (c : Config) (l : Line) (value : ℕ) (parts : Parts) (octets : List ℕ) → Ends c l value octets
-    → Spells (heard_side c) parts octets → IsToManagement c parts → IsDroppedFor Unserved l (after c (octet value) l) (answer c (octet value) l) value
+    → Spells (heard_side c) parts octets → IsToManagement c parts → OnlyTells (dropped Unserved) l (after c (octet value) l) (answer c (octet value) l) value
 unfolding after answer
 managed-dropped c l value parts octets ends spelled to =
     let aim : aim_of_octet c value l ≡ drop_for Unserved =

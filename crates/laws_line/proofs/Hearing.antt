@@ -1,18 +1,17 @@
 -- What an octet brings to a link.
-use Rattle.std.proofs.Common.{◌≡◌, ℕ, Bool, true, false, cond, ◌==◌, List, Option, Some, None, refl, ap, ◌∙◌, eqb-true}
+use Rattle.std.proofs.Common.{◌≡◌, ℕ, Bool, true, false, cond, ◌==◌, List, [], ◌∷◌, Option, Some, None, refl, ap, ◌∙◌, eqb-true}
 use Rattle.std.specs.Option.{option_map_or}
 use Rattle.std.proofs.lemmas.Option.{none-some}
 use Rattle.lapd_bits.specs.Stream as stream
 use Rattle.lapd_bits.specs.declared.heard.Cause.{Cause}
 use Rattle.lapd_bits.specs.declared.heard.Cause.TheVariants.{Tei, Unserved}
 use Rattle.lapd_frame.specs.declared.addresses.Address.{Address}
-use Rattle.lapd_frame.specs.declared.faults.ReadFault.TheVariants.{Undefined, WrongSize}
 use Rattle.lapd_frame.specs.declared.services.Service.{Service}
 use Rattle.lapd_frame.specs.declared.services.Service.TheVariants.{Call, Packet}
 use Rattle.lapd_frame.specs.Grammar.{Parts}
 use Rattle.lapd_frame.specs.Reading.{reading, long_reading}
 use Rattle.lapd_frame.specs.Services.{service_of, sapi_of, same_service}
-use Rattle.lapd_frame.proofs.Spelling.{reading-again, fault-again}
+use Rattle.lapd_frame.proofs.Spelling.{reading-again}
 use Rattle.model_link.specs.Events as link
 use Rattle.model_link.specs.Machine as links
 use Rattle.model_line.specs.declared.config.Config.{Config}
@@ -22,8 +21,8 @@ use Rattle.model_line.specs.Line.{Line, place_in, link_in, terms}
 use Rattle.model_line.specs.Machine.{after, answer}
 use Rattle.model_line.specs.Octet.{gained, drop_for, management_sapi, group_tei, at_place, to_service, addressed, message_of, aim_of_reading, aim_of_long, heard_side, aim_of_heard, aim_of_octet, with_received}
 use Rattle.model_line.specs.Sides.{at_side}
-use Rattle.laws_line.specs.Heard.{Ends, EndsOverlong, EndsDropped, EndsNothing, IsFor, IsTo, IsMalformed, IsTooLong, IsOneEvent, IsNoEvent, IsDroppedFor}
-use Rattle.laws_line.proofs.Ending.{ended-octets, gained-is}
+use Rattle.laws_line.specs.Heard.{Ends, Adds, IsFor, IsTo, IsMalformed, IsTooLong, IsOneEvent, OnlyTells}
+use Rattle.laws_line.proofs.Ending.{gained-is}
 
 -- The SAPI of a service.
 pub same-sapi : (a b : Service) → (sapi_of a == sapi_of b) ≡ same_service a b
@@ -104,14 +103,14 @@ malformed-event c l value service tei place address octets what ends f is =
     ∙ by-fault what is ∙ addressed-is l address service tei place what (drop_for Unserved) f.sapi f.tei_is f.on_line)
   where
     by-fault : (what : link.Received) → IsMalformed c address octets what → aim_of_reading c l (reading (heard_side c) octets) ≡ addressed l address what (drop_for Unserved)
-    by-fault link.undefined is = ap (aim_of_reading c l) (fault-again (heard_side c) octets (Undefined address) (ended-octets c l value (stream.frame octets) ends) is)
-    by-fault link.wrong_size is = ap (aim_of_reading c l) (fault-again (heard_side c) octets (WrongSize address) (ended-octets c l value (stream.frame octets) ends) is)
+    by-fault link.undefined is = ap (aim_of_reading c l) is
+    by-fault link.wrong_size is = ap (aim_of_reading c l) is
     by-fault link.overlong is = absurd is
     by-fault (link.frame parts) is = absurd is
 
 -- A frame that was too long to keep.
 pub overlong-event : (c : Config) (l : Line) (value : ℕ) (service : Service) (tei place : ℕ) (address : Address) (head : List ℕ) (what : link.Received)
-    → EndsOverlong c l value head → IsTo l service tei place address → IsTooLong c address head what
+    → Adds c l value (stream.overlong head ∷ []) → IsTo l service tei place address → IsTooLong c address head what
     → IsOneEvent c l (after c (octet value) l) (answer c (octet value) l) value service tei place (link.received what)
 overlong-event c l value service tei place address head what ends f is =
     by-aim c l value service tei place what
@@ -124,7 +123,7 @@ overlong-event c l value service tei place address head what ends f is =
     by-head link.overlong is = ap (aim_of_long l) is
     by-head (link.frame parts) is = absurd is
 
-pub no-event : (c : Config) (l : Line) (value : ℕ) → EndsNothing c l value → IsNoEvent l (after c (octet value) l) (answer c (octet value) l) value
+pub no-event : (c : Config) (l : Line) (value : ℕ) → Adds c l value [] → OnlyTells nothing l (after c (octet value) l) (answer c (octet value) l) value
 unfolding after answer
 no-event c l value ends =
     let aim : aim_of_octet c value l ≡ at_none nothing = heard-aim c l value None (gained-is c l value None ends) in
@@ -133,8 +132,8 @@ no-event c l value ends =
       answer_is = ap (λ a. told (of_aim c a (with_received value l)).told) aim;
     }
 
-pub dropped-stretch : (c : Config) (l : Line) (value : ℕ) (cause : Cause) → EndsDropped c l value cause
-    → IsDroppedFor cause l (after c (octet value) l) (answer c (octet value) l) value
+pub dropped-stretch : (c : Config) (l : Line) (value : ℕ) (cause : Cause) → Adds c l value (stream.dropped cause ∷ [])
+    → OnlyTells (dropped cause) l (after c (octet value) l) (answer c (octet value) l) value
 unfolding after answer
 dropped-stretch c l value cause ends =
     let gains = gained-is c l value (Some (stream.dropped cause)) ends in

@@ -38,7 +38,7 @@ use Rattle.model_line.specs.declared.config.Config.{Config}
 use Rattle.model_line.specs.Event.{Event, octet, expiry, request, pull, nothing}
 use Rattle.model_line.specs.Effect.{Aim, at_none, at_link, at_management, at_units, told_of_management, of_change, of_aim}
 use Rattle.model_line.specs.Expiry.{at_timer}
-use Rattle.model_line.specs.Laws.{notes_in}
+use Rattle.laws_line.specs.Heard.{notes_of}
 use Rattle.model_line.specs.Line.{Line, link_number, service_at, place_at, place_in, link_at, link_in, terms, with_link, fresh_line}
 use Rattle.model_line.specs.Machine.{after, answer, unless_refused, unless_refused_told}
 use Rattle.model_line.specs.Octet.{gained, aim_of_heard, with_received}
@@ -277,7 +277,7 @@ known-up c (expiry T201) l service tei s = management-up c l s teis.expiry tt se
 known-up c (request r) l service tei s = go (refusal c false r l) (request_proper c l r)
   where
     go : (o : Option Refusal) → IsProper c l (unless_refused o (aim_of_request r l))
-        → fold (up_by_note service tei) (is_up_of service tei l) (notes_in (unless_refused_told o (of_aim c (unless_refused o (aim_of_request r l)) l)))
+        → fold (up_by_note service tei) (is_up_of service tei l) (notes_of (unless_refused_told o (of_aim c (unless_refused o (aim_of_request r l)) l)))
         ≡ is_up_of service tei (of_aim c (unless_refused o (aim_of_request r l)) l).line
     go None proper = request-up c l s r proper service tei
     go (Some why) proper = refl

@@ -131,7 +131,7 @@ module _ (c : Config) (l : Line) (s : IsSound c l) where
   by-message : (e : Event) (info : List ℕ) → BringsMessage c l e info → Managed e (teis.message info)
   unfolding after answer
   by-message e info b =
-      subst (λ e. Managed e (teis.message info)) (sym b.by)
+      subst (λ e. Managed e (teis.message info)) (sym b.heard.by)
       (subst (λ aim. let f = of_aim c aim (with_received b.value l) in IsManaged c (octet b.value) l f.line (told f.told) (teis.message info)) (sym (message-aim c l e info b))
       (managed c l s (l.received ++ b.value ∷ []) (teis.message info) tt (octet b.value) refl))
 
@@ -206,11 +206,8 @@ octet-falls c l s value =
     (λ parts ui proper by. inl (of_management (teis.message parts.info) (record {
       network = ui.network;
       value = value;
-      by = refl;
-      octets = ui.octets;
-      ends = ui.ends;
       parts = parts;
-      read = ui.read;
+      heard = record { by = refl; octets = ui.octets; ends = ui.ends; read = ui.read };
       sapi = ui.sapi;
       group = ui.group;
       poll = ui.poll;
@@ -218,7 +215,7 @@ octet-falls c l s value =
       info_is = refl;
     })))
     (λ parts octets ends read service to proper by.
-    inl (of_group (record { value = value; by = refl; octets = octets; ends = ends; parts = parts; read = read; service = service; whose = to })))
+    inl (of_group value parts service (record { by = refl; octets = octets; ends = ends; read = read }) to))
 
 module _ (c : Config) (l : Line) (s : IsSound c l) where
   expiry-falls : (timer : Timer) → Falls c l s (expiry timer) l.received (aim_of_expiry timer l)

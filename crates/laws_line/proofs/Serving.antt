@@ -30,7 +30,7 @@ use Rattle.model_link.specs.Told.{Given}
 use Rattle.laws_link.specs.InOrder.{IsInOrder}
 use Rattle.laws_link.specs.Offered.{IsOffered, one}
 use Rattle.laws_link.proofs.InOrder.{given-in-order}
-use Rattle.laws_link.proofs.Offering.{given-is-offered, offer-counts}
+use Rattle.laws_link.proofs.Offering.{given-is-offered, carried-is, offer-counts}
 use Rattle.laws_two_links.proofs.Waiting.{nothing-given}
 use Rattle.lapd_tei.specs.declared.messages.Message.{Message}
 use Rattle.lapd_tei.specs.Messages.{frame_of}
@@ -44,7 +44,7 @@ use Rattle.model_line.specs.Request.{Request, Establish, Release, Data, Assign, 
 use Rattle.model_line.specs.Requested.{at_requested, aim_of_request}
 use Rattle.model_line.proofs.ProperAims.{heard_aims}
 use Rattle.laws_line.specs.Share.{is_granted}
-use Rattle.model_line.specs.Line.{Line, UnitData, link_count, service_at, place_at, place_in, tei_at, terms, terms_at, link_at}
+use Rattle.model_line.specs.Line.{Line, UnitData, link_count, service_at, place_at, place_in, tei_at, terms, terms_at, link_at, with_link}
 use Rattle.model_line.specs.Machine.{after, answer, unless_refused, unless_refused_told}
 use Rattle.model_line.specs.Pull as pulls
 use Rattle.model_line.specs.Pull.{Taken, with_message, with_unit, with_given_frame, link_taken, first_taken, round, taken, left_of, is_due, begun, with_item, after_pull}
@@ -66,7 +66,7 @@ module _ (c : Config) (l : Line) (s : IsSound c l) where
 
   abbrev LinkFate : ℕ → Option Taken → Type 0
   LinkFate number None = IsSilentAt c l number
-  LinkFate number (Some t) = (IsItsTurn c l t.line number → IsOfLink c (contents_of l) l t.line t.frame) × (t.line.turn ≡ number + 1)
+  LinkFate number (Some t) = IsItsTurn c l number → IsOfLink c (contents_of l) l t.line t.frame
 
   -- one link
   fresh-gives : (number : ℕ) → link_at number l ≡ fresh → links.given (terms_at c number l) (link_at number l) ≡ None
@@ -96,24 +96,21 @@ module _ (c : Config) (l : Line) (s : IsSound c l) where
           let here : get_or (set l.links number next) number fresh ≡ next = get_or-set_same l.links number next fresh (omega (arith, few, s.count)) in
           let ordered : IsInOrder t (link_at number l) next g.frame =
           subst (λ o. IfSome o (λ g. IsInOrder t (link_at number l) next g.frame)) e (given-in-order t (link_at number l) sound) in (
-            λ turn. record {
-              number = number;
-              few = few;
-              its_turn = turn;
-              tei = tei;
-              on_line = at;
-              command = g.frame.command;
-              control = g.frame.control;
-              information = g.contents;
-              spelled = refl;
-              in_order = subst (λ (x : Link). IsInOrder t (link_at number l) x g.frame) (sym here) ordered;
-              carried = carried;
-              counted = ap (λ (x : Link). x.s) here ∙ counts;
-              messages = refl;
-              units = refl;
-              others = λ other apart. get_or-set_other l.links number other next fresh apart;
-            },
-            refl,
+          λ turn. record {
+            number = number;
+            few = few;
+            its_turn = turn;
+            tei = tei;
+            on_line = at;
+            command = g.frame.command;
+            control = g.frame.control;
+            information = g.contents;
+            spelled = refl;
+            in_order = subst (λ (x : Link). IsInOrder t (link_at number l) x g.frame) (sym here) ordered;
+            carried = carried-is (contents_of l number) (link_at number l).s g.frame.command g.frame.control g.contents carried;
+            counted = ap (λ (x : Link). x.s) here ∙ counts;
+            line = ap (λ (x : Link). record (with_link number x l) { turn = number + 1 }) (sym here);
+          }
           )
 
       go : (o : Option ℕ) → tei_at (place_at number) l ≡ o → IsSoundAt c number (link_at number l) o → LinkFate number (link_taken c l number)
@@ -175,20 +172,19 @@ module _ (c : Config) (l : Line) (s : IsSound c l) where
 
   by-all : (m : Option Message) → slice_get l.management.waiting 0 ≡ m → (u : Option UnitData) → slice_get l.units 0 ≡ u
       → Fate (option_or (option_map (with_message l) (option_map (frame_of c.side) m)) (option_or (option_map (with_unit c l) u) (first_taken c l (round c l))))
-  by-all (Some message) e u e' = inl (record { message = message; oldest = e; spelled = refl; rest = refl; units = refl; links = refl; turn = refl })
+  by-all (Some message) e u e' = inl (record { message = message; oldest = e; spelled = refl; line = refl })
   by-all None e (Some unit) e' =
-      inr (inl (record { no_message = no-first l.management.waiting e; unit = unit; oldest = e'; spelled = refl; messages = refl; rest = refl; links = refl; turn = refl }))
+      inr (inl (record { no_message = no-first l.management.waiting e; unit = unit; oldest = e'; spelled = refl; line = refl }))
   by-all None e None e' = go (first_taken c l (round c l)) (by-round (round c l) (round_below c l))
     where
       go : (o : Option Taken) → RoundFate (round c l) o → Fate o
-      go (Some t) x = inr (inr (x.fate.0 (record {
+      go (Some t) x = inr (inr (x.fate (record {
         no_message = no-first l.management.waiting e;
         no_unit = no-first l.units e';
         passed = x.passed;
         behind = x.behind;
         place = x.place;
         all_silent = x.all_silent;
-        next = x.fate.1;
       })))
       go None x = record {
         messages = no-first l.management.waiting e;
@@ -199,27 +195,23 @@ module _ (c : Config) (l : Line) (s : IsSound c l) where
   taken-is : Fate (taken c l)
   taken-is = by-all (slice_get l.management.waiting 0) refl (slice_get l.units 0) refl
 
+  -- what is put on the line changes nothing else
+  abbrev grown : Taken → Line → Line
+  grown t x = record x { items = (pulls.with_octet (with_item (Some t) l)).items; given = (pulls.with_octet (with_item (Some t) l)).given }
+
   -- with its item, and the octet that is given
   pub served : IsServed c (contents_of l) l
   unfolding after
   served = go (is_due l) refl (taken c l) taken-is
     where
       with-item : (t : Taken) → IsOwed c (contents_of l) l t.line t.frame → IsOwed c (contents_of l) l (pulls.with_octet (with_item (Some t) l)) t.frame
-      with-item t (inl x) = inl (record { message = x.message; oldest = x.oldest; spelled = x.spelled; rest = x.rest; units = x.units; links = x.links; turn = x.turn })
+      with-item t (inl x) = inl (record { message = x.message; oldest = x.oldest; spelled = x.spelled; line = ap (grown t) x.line })
       with-item t (inr (inl x)) =
-          inr (inl (record { no_message = x.no_message; unit = x.unit; oldest = x.oldest; spelled = x.spelled; messages = x.messages; rest = x.rest; links = x.links; turn = x.turn }))
+          inr (inl (record { no_message = x.no_message; unit = x.unit; oldest = x.oldest; spelled = x.spelled; line = ap (grown t) x.line }))
       with-item t (inr (inr x)) = inr (inr (record {
         number = x.number;
         few = x.few;
-        its_turn = record {
-          no_message = x.its_turn.no_message;
-          no_unit = x.its_turn.no_unit;
-          passed = x.its_turn.passed;
-          behind = x.its_turn.behind;
-          place = x.its_turn.place;
-          all_silent = x.its_turn.all_silent;
-          next = x.its_turn.next;
-        };
+        its_turn = x.its_turn;
         tei = x.tei;
         on_line = x.on_line;
         command = x.command;
@@ -229,9 +221,7 @@ module _ (c : Config) (l : Line) (s : IsSound c l) where
         in_order = x.in_order;
         carried = x.carried;
         counted = x.counted;
-        messages = x.messages;
-        units = x.units;
-        others = x.others;
+        line = ap (grown t) x.line;
       }))
 
       not-few : is_due l ≡ false → bits_left l < 8 → ⊥
@@ -245,8 +235,8 @@ module _ (c : Config) (l : Line) (s : IsSound c l) where
             | None ↦ IsIdle c l (pulls.with_octet (cond due (with_item o l) l))
             | Some t ↦ IsOwed c (contents_of l) l (pulls.with_octet (cond due (with_item o l) l)) t.frame
           ]
-      go false e o x = record { nothing = λ few. absurd (not-few e few); messages = refl; units = refl; links = refl; turn = refl }
-      go true e None x = record { nothing = λ few. x; messages = refl; units = refl; links = refl; turn = refl }
+      go false e o x = record { nothing = λ few. absurd (not-few e few); line = refl }
+      go true e None x = record { nothing = λ few. x; line = refl }
       go true e (Some t) x = with-item t x
 
 -- Unit data that waits.

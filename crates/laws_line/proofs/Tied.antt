@@ -16,7 +16,6 @@ use Rattle.lapd_bits.specs.declared.heard.Cause.TheVariants.{Tei, Unserved}
 use Rattle.lapd_frame.specs.Grammar.{Parts}
 use Rattle.lapd_frame.specs.Reading.{reading, long_reading}
 use Rattle.lapd_frame.specs.Services.{service_of}
-use Rattle.lapd_frame.proofs.Spelling.{fault-found}
 use Rattle.model_link.specs.Events as link
 use Rattle.model_link.specs.declared.timers.LinkTimer.{LinkTimer}
 use Rattle.model_link.specs.declared.timers.LinkTimer.TheVariants as link_timer
@@ -32,7 +31,7 @@ use Rattle.model_line.specs.Requested.{at_requested, aim_of_request}
 use Rattle.laws_line.specs.Share.{is_granted}
 use Rattle.laws_line.specs.Heard.{IsTooLong}
 use Rattle.laws_line.specs.Steady.{BringsMalformed, IsBy}
-use Rattle.laws_line.proofs.Ending.{ended-octets, gained-adds}
+use Rattle.laws_line.proofs.Ending.{gained-adds}
 
 module _ (c : Config) (l : Line) (e : Event) (answer : Answer) where
   abbrev pub Ties : Aim → Type 0
@@ -95,7 +94,7 @@ module _ (c : Config) (l : Line) (value : ℕ) (answer : Answer) where
         by = refl;
         octets = octets;
         address = address;
-        ends = inl (adds, fault-found (heard_side c) octets (Undefined address) (ended-octets c l value (stream.frame octets) adds) read);
+        ends = inl (adds, read);
         sapi = sapi;
         tei_is = refl;
       })
@@ -108,7 +107,7 @@ module _ (c : Config) (l : Line) (value : ℕ) (answer : Answer) where
         by = refl;
         octets = octets;
         address = address;
-        ends = inl (adds, fault-found (heard_side c) octets (WrongSize address) (ended-octets c l value (stream.frame octets) adds) read);
+        ends = inl (adds, read);
         sapi = sapi;
         tei_is = refl;
       })

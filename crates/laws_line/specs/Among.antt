@@ -1,7 +1,7 @@
 -- Pulls of a line among other events of it: octets that come in, expiries and requests.
 use Rattle.std.specs.Prelude.{◌≡◌, ℕ, ◌+◌, ◌-◌, Bool, true, false, List, [], ◌∷◌, ◌++◌, length, Some, if◌then◌else◌}
 use Rattle.model_line.specs.declared.config.Config.{Config}
-use Rattle.model_line.specs.Event.{Event, octet, expiry, request, pull}
+use Rattle.model_line.specs.Event.{Event, pull}
 use Rattle.model_line.specs.Line.{Line, place_at, tei_at}
 use Rattle.model_line.specs.Machine.{after}
 use Rattle.model_line.specs.Pull.{Taken, begun}
@@ -13,10 +13,8 @@ after_events c (e ∷ es) l = after_events c es (after c e l)
 
 -- How many of them are pulls.
 abbrev pub is_pull : Event → Bool
-is_pull (octet value) = false
-is_pull (expiry timer) = false
-is_pull (request r) = false
 is_pull pull = true
+is_pull other = false
 
 abbrev pub pulls_in : List Event → ℕ
 pulls_in [] = 0

@@ -2,15 +2,9 @@
 use Rattle.std.specs.Prelude.{◌≡◌, ◌⊎◌, ℕ, ◌≤◌, ◌<◌, ◌++◌, Bool, true, false, List, [], ◌∷◌, length}
 use Rattle.lapd_bits.specs.Bits.{bits}
 use Rattle.lapd_bits.specs.Sent.{idle, frame, line_text}
-use Rattle.model_line.specs.Event.{Event, pull, Answer, told, refused, pulled}
+use Rattle.model_line.specs.Event.{Event, pull}
 use Rattle.model_line.specs.Line.{Line}
 use Rattle.laws_line.specs.Pulls.{bits_left}
-
--- What an answer says of it: only that to a pull tells of a frame.
-abbrev pub says_begun : Answer → Bool
-says_begun (told t) = false
-says_begun (refused why) = false
-says_begun (pulled value begun orders) = begun
 
 -- Behind what was on the line before there is a frame now, and its first bit was not given before the event, and is given
 -- with it (Q.921 clause 2.2).

@@ -3,7 +3,6 @@ use Rattle.std.specs.Prelude.{◌≡◌, ◌⊎◌, ℕ, ◌==◌, ◌&&◌, ◌
 use Rattle.std.specs.List.{list_any}
 use Rattle.std.specs.Option.{option_or}
 use Rattle.lapd_bits.specs.Stream as stream
-use Rattle.lapd_bits.specs.declared.heard.Cause.{Cause}
 use Rattle.lapd_frame.specs.declared.addresses.Address.{Address}
 use Rattle.lapd_frame.specs.declared.addresses.Side.TheVariants.{User}
 use Rattle.lapd_frame.specs.declared.faults.ReadFault.TheVariants.{Undefined, WrongSize}
@@ -11,9 +10,8 @@ use Rattle.lapd_frame.specs.declared.notes.Note.{Note}
 use Rattle.lapd_frame.specs.declared.notes.Note.TheVariants as notes
 use Rattle.lapd_frame.specs.declared.overlong.Long.TheVariants as long
 use Rattle.lapd_frame.specs.declared.services.Service.{Service}
-use Rattle.lapd_frame.specs.Faults.{IsFault}
 use Rattle.lapd_frame.specs.Grammar.{Parts, Spells}
-use Rattle.lapd_frame.specs.Reading.{long_reading}
+use Rattle.lapd_frame.specs.Reading.{reading, long_reading}
 use Rattle.lapd_frame.specs.Services.{sapi_of, same_service}
 use Rattle.model_link.specs.Events as link
 use Rattle.model_link.specs.declared.terms.Terms.{Terms}
@@ -23,10 +21,10 @@ use Rattle.model_link.specs.Notes.{is_data, is_unit}
 use Rattle.model_link.specs.Told as link_told
 use Rattle.laws_link.specs.Heard.{in_i_frame, in_ui_frame, data_due, unit_due}
 use Rattle.model_line.specs.declared.config.Config.{Config}
-use Rattle.model_line.specs.Event.{Event, octet, LineTold, Answer, told, refused, pulled, nothing, dropped}
+use Rattle.model_line.specs.Event.{Event, octet, LineTold, Answer, told}
 use Rattle.model_line.specs.Line.{Line, link_number, place_in, link_in, with_link, terms}
 use Rattle.model_line.specs.Octet.{heard_side, with_received}
-use Rattle.model_line.specs.Sides.{group_tei, group_told, IsToGroup}
+use Rattle.model_line.specs.Sides.{group_tei, IsToGroup}
 
 -- What an octet adds to what is heard: in the bits of all octets received, with this one, is heard what was heard before
 -- it, and then this. Heard are the stretches between two flags: the octets of one from which the stuffed 0s are taken, and
@@ -34,20 +32,11 @@ use Rattle.model_line.specs.Sides.{group_tei, group_told, IsToGroup}
 abbrev pub Adds : Config → Line → ℕ → List stream.Event → Type 0
 Adds c l value more = stream.heard_in c.n201 (l.received ++ value ∷ []) ≡ stream.heard_in c.n201 l.received ++ more
 
--- An octet ends a frame of these octets; or one that is longer than the receiver has room for, of which these are the first
--- four; or a stretch that is no frame, for this cause: an abort, a frame of no whole octets or wrongly stuffed, a wrong check,
--- or too few octets; or nothing.
+-- An octet ends a frame of these octets. Else it ends one that is longer than the receiver has room for, of which the first
+-- four octets are kept (`overlong`); or a stretch that is no frame, for a cause (`dropped`): an abort, a frame of no whole octets
+-- or wrongly stuffed, a wrong check, or too few octets; or nothing.
 abbrev pub Ends : Config → Line → ℕ → List ℕ → Type 0
 Ends c l value octets = Adds c l value (stream.frame octets ∷ [])
-
-abbrev pub EndsOverlong : Config → Line → ℕ → List ℕ → Type 0
-EndsOverlong c l value head = Adds c l value (stream.overlong head ∷ [])
-
-abbrev pub EndsDropped : Config → Line → ℕ → Cause → Type 0
-EndsDropped c l value cause = Adds c l value (stream.dropped cause ∷ [])
-
-abbrev pub EndsNothing : Config → Line → ℕ → Type 0
-EndsNothing c l value = Adds c l value []
 
 -- The frame is spelled by the grammar, as the other side's, with the SAPI of a service, and with a TEI on the line.
 pub record IsFor (c : Config) (l : Line) (service : Service) (tei place : ℕ) (parts : Parts) (octets : List ℕ) : Type 0 where
@@ -63,19 +52,18 @@ pub record IsTo (l : Line) (service : Service) (tei place : ℕ) (address : Addr
   pub on_line : place_in l tei ≡ Some place
 
 -- What a frame with an address is to a link where the grammar has no such frame: its control field is undefined, or it is
--- of wrong size (clauses 3.6.1, 3.6.11 and 5.8.5).
+-- of wrong size (clauses 3.6.1, 3.6.11 and 5.8.5; `one_spelling` of `lapd_frame` says where it is read so).
 abbrev pub IsMalformed : Config → Address → List ℕ → link.Received → Type 0
-IsMalformed c address octets link.undefined = IsFault (heard_side c) octets (Undefined address)
-IsMalformed c address octets link.wrong_size = IsFault (heard_side c) octets (WrongSize address)
-IsMalformed c address octets link.overlong = ⊥
-IsMalformed c address octets (link.frame parts) = ⊥
+IsMalformed c address octets link.undefined = reading (heard_side c) octets ≡ Err (Undefined address)
+IsMalformed c address octets link.wrong_size = reading (heard_side c) octets ≡ Err (WrongSize address)
+IsMalformed c address octets other = ⊥
 
 -- The same of one that was too long to keep, by its first four octets: then it may be an I-frame that is too long.
 abbrev pub IsTooLong : Config → Address → List ℕ → link.Received → Type 0
 IsTooLong c address head link.undefined = long_reading (heard_side c) head ≡ Err (Undefined address)
 IsTooLong c address head link.wrong_size = long_reading (heard_side c) head ≡ Err (WrongSize address)
 IsTooLong c address head link.overlong = long_reading (heard_side c) head ≡ Ok (long.Information address)
-IsTooLong c address head (link.frame parts) = ⊥
+IsTooLong c address head other = ⊥
 
 -- An answer says what a link tells: its notes, the contents of an I-frame or of a UI, its orders, and what it loses.
 pub record Says (t : link_told.LinkTold) (answer : Answer) : Type 0 where
@@ -93,21 +81,15 @@ pub record IsOneEvent (c : Config) (before after : Line) (answer : Answer) (valu
       (with_link (link_number place service) (links.after (terms c service tei) event (link_in before service place)) before)
   pub answer_is : Says (links.told (terms c service tei) event (link_in before service place)) answer
 
--- An octet that ends nothing changes nothing but what was received, and nothing is answered.
-pub record IsNoEvent (before after : Line) (answer : Answer) (value : ℕ) : Type 0 where
+-- An octet that is for no part of the line changes nothing but what was received, and this is all that is answered.
+pub record OnlyTells (t : LineTold) (before after : Line) (answer : Answer) (value : ℕ) : Type 0 where
   pub line : after ≡ with_received value before
-  pub answer_is : answer ≡ told nothing
-
--- Nor does an octet that ends a stretch which is no frame; and why it is none is all that is answered.
-pub record IsDroppedFor (cause : Cause) (before after : Line) (answer : Answer) (value : ℕ) : Type 0 where
-  pub line : after ≡ with_received value before
-  pub answer_is : answer ≡ told (dropped cause)
+  pub answer_is : answer ≡ told t
 
 -- The contents that an answer hands on.
 abbrev pub contents_in : Answer → Option (List ℕ)
 contents_in (told t) = t.contents
-contents_in (refused why) = None
-contents_in (pulled value begun orders) = None
+contents_in other = None
 
 -- Notes of data, and of unit data, of the link of a service with a TEI.
 abbrev pub is_data_of : Service → ℕ → Note → Bool
@@ -120,8 +102,7 @@ is_unit_of service tei other = false
 
 abbrev pub notes_of : Answer → List Note
 notes_of (told t) = t.notes
-notes_of (refused why) = []
-notes_of (pulled value begun orders) = []
+notes_of other = []
 
 abbrev pub IsData : Service → ℕ → Parts → List ℕ → Answer → Type 0
 IsData service tei parts contents answer =
@@ -173,12 +154,6 @@ pub record IsHeardByGroup (c : Config) (l : Line) (event : Event) (answer : Answ
 
 abbrev pub IsHeard : Config → Line → Event → Answer → List ℕ → Type 0
 IsHeard c l event answer contents = IsHeardAtLink c l event answer contents ⊎ IsHeardByGroup c l event answer contents
-
--- The other way round, each such UI that ends on the user's side is told as unit data, and no more is told, and nothing
--- changes but the octets received.
-pub record IsUnitOfGroup (service : Service) (contents : List ℕ) (before after : Line) (answer : Answer) (value : ℕ) : Type 0 where
-  pub line : after ≡ with_received value before
-  pub answer_is : answer ≡ told (group_told service contents)
 
 -- A frame of layer 2 management is for the user's side. TEI management is the network's (clause 5.3), so it is not served.
 pub record IsToManagement (c : Config) (parts : Parts) : Type 0 where

@@ -7,25 +7,22 @@ use Rattle.lapd_frame.specs.declared.services.Service.{Service}
 use Rattle.lapd_frame.specs.Services.{same_service}
 use Rattle.model_link.specs.Known.{is_up}
 use Rattle.model_line.specs.Event.{Event, request, Answer}
-use Rattle.model_line.specs.Laws.{notes_in}
+use Rattle.laws_line.specs.Heard.{notes_of}
 use Rattle.model_line.specs.Line.{Line, place_in, link_in}
 use Rattle.model_line.specs.Request as requests
 use Rattle.model_line.specs.Request.{Request}
 use Rattle.laws_line.specs.Share.{is_granted}
 
 -- By a note of a link layer 3 takes the link of that service and TEI for up, or for down (clauses 4.1.1.1 and 4.1.1.2).
-abbrev pub is_of_link : Service → ℕ → Service → ℕ → Bool
-is_of_link service tei of by = same_service of service && by == tei
-
 abbrev pub up_by_note : Service → ℕ → Bool → Note → Bool
-up_by_note service tei up (EstablishIndication of by) = if is_of_link service tei of by then true else up
-up_by_note service tei up (EstablishConfirm of by) = if is_of_link service tei of by then true else up
-up_by_note service tei up (ReleaseIndication of by) = if is_of_link service tei of by then false else up
-up_by_note service tei up (ReleaseConfirm of by) = if is_of_link service tei of by then false else up
+up_by_note service tei up (EstablishIndication of by) = if same_service of service && by == tei then true else up
+up_by_note service tei up (EstablishConfirm of by) = if same_service of service && by == tei then true else up
+up_by_note service tei up (ReleaseIndication of by) = if same_service of service && by == tei then false else up
+up_by_note service tei up (ReleaseConfirm of by) = if same_service of service && by == tei then false else up
 up_by_note service tei up other = up
 
 abbrev pub taken_for_up : Service → ℕ → Bool → Answer → Bool
-taken_for_up service tei up answer = fold (up_by_note service tei) up (notes_in answer)
+taken_for_up service tei up answer = fold (up_by_note service tei) up (notes_of answer)
 
 -- It is up where its TEI is on the line, and the link is: in states 7 and 8; in state 6 until its release is confirmed; and
 -- in state 5 where it establishes itself anew (clause 5.7.1).
@@ -53,4 +50,4 @@ on_by_event tei on (request r) answer = if is_granted answer then on_by_request 
 on_by_event tei on other answer = on
 
 abbrev pub taken_for_on : ℕ → Bool → Event → Answer → Bool
-taken_for_on tei on event answer = fold (on_by_note tei) (on_by_event tei on event answer) (notes_in answer)
+taken_for_on tei on event answer = fold (on_by_note tei) (on_by_event tei on event answer) (notes_of answer)

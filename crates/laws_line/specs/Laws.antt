@@ -1,5 +1,6 @@
 -- Laws of a line: what it does with what it is given, and with what it hears.
-use Rattle.std.specs.Prelude.{◌≡◌, ℕ, ◌<◌, true, false, List, Some}
+use Rattle.std.specs.Prelude.{◌≡◌, ℕ, ◌<◌, true, false, List, [], ◌∷◌, Some}
+use Rattle.lapd_bits.specs.Stream as stream
 use Rattle.lapd_bits.specs.declared.heard.Cause.{Cause}
 use Rattle.lapd_bits.specs.declared.heard.Cause.TheVariants.{Unserved}
 use Rattle.lapd_frame.specs.declared.addresses.Address.{Address}
@@ -8,18 +9,19 @@ use Rattle.lapd_frame.specs.declared.timers.Timer.{Timer}
 use Rattle.lapd_frame.specs.Grammar.{Parts, Spells}
 use Rattle.model_link.specs.Events as link
 use Rattle.model_line.specs.declared.config.Config.{Config}
-use Rattle.model_line.specs.Event.{Event, octet}
+use Rattle.model_line.specs.Event.{Event, octet, nothing, dropped}
 use Rattle.model_line.specs.Line.{Line, fresh_line, link_count, link_in, terms, has_tei}
 use Rattle.model_line.specs.Machine.{after, answer}
 use Rattle.model_line.specs.Octet.{heard_side}
-use Rattle.model_line.specs.Sides.{IsToGroup}
+use Rattle.model_line.specs.Sides.{group_told, IsToGroup}
 use Rattle.model_line.specs.Sound.{IsInRange, IsSound}
 use Rattle.laws_line.specs.Share.{share_of, IsKept, asked_by}
 use Rattle.laws_line.specs.Loss.{IsTold}
 use Rattle.laws_line.specs.Pulls.{contents_of, IsServed, UnitsWait, TurnStays}
 use Rattle.laws_line.specs.OneEvent.{IsOneEvent}
-use Rattle.laws_line.specs.Heard.{Ends, EndsOverlong, EndsDropped, EndsNothing, IsFor, IsTo, IsMalformed, IsTooLong, IsOneEvent as IsOneOctet, IsNoEvent, IsDroppedFor, IsUnitOfGroup, IsToManagement, contents_in, due, IsNotedOnce, IsHeard}
-use Rattle.laws_line.specs.Begun.{says_begun, BeginsAs}
+use Rattle.laws_line.specs.Heard.{Ends, Adds, IsFor, IsTo, IsMalformed, IsTooLong, IsOneEvent as IsOneOctet, OnlyTells, IsToManagement, contents_in, due, IsNotedOnce, IsHeard}
+use Rattle.model_line.specs.Counts.{is_begun}
+use Rattle.laws_line.specs.Begun.{BeginsAs}
 use Rattle.laws_line.specs.Causes.{HaveCauses, AreThere}
 use Rattle.laws_line.specs.Reasons.{HaveReasons}
 use Rattle.laws_line.specs.Noted.{NotesItsOwn}
@@ -53,19 +55,19 @@ pub record HeardIsDelivered : Type 0 where
       (what : link.Received) → Ends c l value octets → IsTo l service tei place address → IsMalformed c address octets what
       → IsOneOctet c l (after c (octet value) l) (answer c (octet value) l) value service tei place (link.received what)
   pub overlong : (c : Config) (l : Line) (value : ℕ) (service : Service) (tei place : ℕ) (address : Address) (head : List ℕ)
-      (what : link.Received) → EndsOverlong c l value head → IsTo l service tei place address → IsTooLong c address head what
+      (what : link.Received) → Adds c l value (stream.overlong head ∷ []) → IsTo l service tei place address → IsTooLong c address head what
       → IsOneOctet c l (after c (octet value) l) (answer c (octet value) l) value service tei place (link.received what)
-  pub none : (c : Config) (l : Line) (value : ℕ) → EndsNothing c l value
-      → IsNoEvent l (after c (octet value) l) (answer c (octet value) l) value
-  pub dropped : (c : Config) (l : Line) (value : ℕ) (cause : Cause) → EndsDropped c l value cause
-      → IsDroppedFor cause l (after c (octet value) l) (answer c (octet value) l) value
+  pub none : (c : Config) (l : Line) (value : ℕ) → Adds c l value []
+      → OnlyTells nothing l (after c (octet value) l) (answer c (octet value) l) value
   -- on the user's side, what is for the group
   pub group : (c : Config) (l : Line) (value : ℕ) (parts : Parts) (octets : List ℕ) (service : Service) → IsSound c l → Ends c l value octets
       → Spells (heard_side c) parts octets → IsToGroup c parts service
-      → IsUnitOfGroup service parts.info l (after c (octet value) l) (answer c (octet value) l) value
+      → OnlyTells (group_told service parts.info) l (after c (octet value) l) (answer c (octet value) l) value
   pub management : (c : Config) (l : Line) (value : ℕ) (parts : Parts) (octets : List ℕ) → Ends c l value octets
       → Spells (heard_side c) parts octets → IsToManagement c parts
-      → IsDroppedFor Unserved l (after c (octet value) l) (answer c (octet value) l) value
+      → OnlyTells (dropped Unserved) l (after c (octet value) l) (answer c (octet value) l) value
+  pub dropped : (c : Config) (l : Line) (value : ℕ) (cause : Cause) → Adds c l value (stream.dropped cause ∷ [])
+      → OnlyTells (dropped cause) l (after c (octet value) l) (answer c (octet value) l) value
   pub due : (c : Config) (l : Line) (value : ℕ) (service : Service) (tei place : ℕ) (parts : Parts) (octets : List ℕ)
       → IsInRange c → IsSound c l → Ends c l value octets → IsFor c l service tei place parts octets
       → contents_in (answer c (octet value) l) ≡ due (terms c service tei) parts (link_in l service place)
@@ -106,7 +108,7 @@ NothingElseIsNoted = (c : Config) (e : Event) (l : Line) → IsSound c l → Not
 
 -- What an answer says of a frame that was begun is what became of the line's text.
 abbrev pub BegunIsTrue : Type 0
-BegunIsTrue = (c : Config) (e : Event) (l : Line) → IsInRange c → IsSound c l → BeginsAs e (says_begun (answer c e l)) l (after c e l)
+BegunIsTrue = (c : Config) (e : Event) (l : Line) → IsInRange c → IsSound c l → BeginsAs e (is_begun (answer c e l)) l (after c e l)
 
 -- Messages of TEI management have their causes, a TEI that is told to a terminal is on the line, and notes of TEIs have
 -- their reasons.

@@ -1,19 +1,15 @@
 -- How layer 3 learns that a link keeps nothing any more.
-use Rattle.std.specs.Prelude.{◌≡◌, ◌≢◌, ◌⊎◌, ℕ, ◌==◌, ◌&&◌, Bool, true, false, List, [], Some}
+use Rattle.std.specs.Prelude.{◌≡◌, ◌≢◌, ◌⊎◌, ℕ, ◌==◌, ◌&&◌, Bool, true, false, Some}
 use Rattle.std.specs.List.{list_any}
 use Rattle.lapd_frame.specs.declared.notes.Note.{Note}
 use Rattle.lapd_frame.specs.declared.notes.Note.TheVariants as notes
 use Rattle.lapd_frame.specs.declared.services.Service.{Service}
 use Rattle.lapd_frame.specs.Services.{same_service}
-use Rattle.model_line.specs.Event.{Event, request, Answer, told, refused, pulled}
+use Rattle.model_line.specs.Event.{Event, request, Answer}
 use Rattle.model_line.specs.Line.{Line, service_at, place_at, tei_at}
 use Rattle.model_line.specs.Request.{Release}
+use Rattle.laws_line.specs.Heard.{notes_of}
 use Rattle.laws_line.specs.Share.{is_of, is_granted}
-
-abbrev pub notes_in : Answer → List Note
-notes_in (told t) = t.notes
-notes_in (refused why) = []
-notes_in (pulled value begun orders) = []
 
 -- An indication of an establishment, or an indication or a confirm of a release, of the link of a service with a TEI.
 abbrev pub is_loss_of : Service → ℕ → Note → Bool
@@ -34,7 +30,7 @@ pub record IsReleased (number : ℕ) (event : Event) (l : Line) (answer : Answer
 pub record IsNoted (number : ℕ) (l : Line) (answer : Answer) : Type 0 where
   pub tei : ℕ
   pub at_place : tei_at (place_at number) l ≡ Some tei
-  pub noted : list_any (is_loss_of (service_at number) tei) (notes_in answer) ≡ true
+  pub noted : list_any (is_loss_of (service_at number) tei) (notes_of answer) ≡ true
 
 -- or another TEI is at its place than before, or none, since its TEI has left the line, or a TEI has come to it.
 abbrev pub IsMoved : ℕ → Line → Line → Type 0

@@ -3,6 +3,7 @@ use Rattle.std.specs.Prelude.{◌≡◌, ◌≢◌, ◌⊎◌, ℕ, ◌<◌, tru
 use Rattle.lapd_frame.specs.declared.notes.Note.{Note}
 use Rattle.lapd_frame.specs.declared.services.Service.{Service}
 use Rattle.lapd_frame.specs.declared.services.Service.TheVariants.{Call, Packet}
+use Rattle.lapd_frame.specs.Grammar.{Parts}
 use Rattle.lapd_tei.specs.Events as teis
 use Rattle.lapd_tei.specs.declared.outcome.Change.{Change}
 use Rattle.lapd_tei.specs.declared.outcome.Change.TheVariants.{Gained, Left}
@@ -10,23 +11,22 @@ use Rattle.model_link.specs.Events as link
 use Rattle.model_link.specs.Link.{fresh}
 use Rattle.model_link.specs.Machine as links
 use Rattle.model_line.specs.declared.config.Config.{Config}
-use Rattle.model_line.specs.Event.{Event, octet, expiry, request, pull, Answer, told, refused, pulled, nothing}
+use Rattle.model_line.specs.Event.{Event, octet, request, pull, Answer, told, refused, pulled, nothing}
 use Rattle.model_line.specs.Line.{Line, UnitData, link_number, link_count, place_at, tei_at, place_in, link_in, link_at, with_link, terms}
 use Rattle.model_line.specs.Machine as lines
 use Rattle.model_line.specs.Octet.{with_received}
 use Rattle.model_line.specs.Request.{Request}
+use Rattle.model_line.specs.Sides.{IsToGroup}
 use Rattle.laws_line.specs.Frames.{lost_in}
 use Rattle.laws_line.specs.Heard.{Says, notes_of}
 use Rattle.laws_line.specs.Loss.{IsMoved}
 use Rattle.laws_line.specs.Share.{is_granted}
-use Rattle.laws_line.specs.Steady.{IsBy, IsOfManagement, BringsToGroup}
+use Rattle.laws_line.specs.Steady.{EndsFrame, IsBy, IsOfManagement}
 
 -- An octet is received, whatever part it concerns.
 abbrev pub with_octet_of : Event → Line → Line
 with_octet_of (octet value) l = with_received value l
-with_octet_of (expiry timer) l = l
-with_octet_of (request r) l = l
-with_octet_of pull l = l
+with_octet_of other l = l
 
 -- One link has this event, and nothing else changes; the line answers what the link tells.
 pub record IsAlone (c : Config) (e : Event) (before after : Line) (answer : Answer) (service : Service) (tei place : ℕ) (event : link.Event) : Type 0 where
@@ -63,7 +63,7 @@ pub data IsOfPart (c : Config) (l : Line) (e : Event) (answer : Answer) : Type 0
   of_link : (service : Service) (tei place : ℕ) (event : link.Event) → place_in l tei ≡ Some place → IsBy c l e answer service tei event → IsOfPart c l e answer
   of_management : (event : teis.Event) → IsOfManagement c l e answer event → IsOfPart c l e answer
   of_units : (unit : UnitData) → IsGranted e answer unit → IsOfPart c l e answer
-  of_group : BringsToGroup c l e → IsOfPart c l e answer
+  of_group : (value : ℕ) (parts : Parts) (service : Service) → EndsFrame c l e value parts → IsToGroup c parts service → IsOfPart c l e answer
   of_pull : e ≡ pull → IsOfPart c l e answer
 
 -- or nothing changes but what was received, and the answer says nothing, but why.

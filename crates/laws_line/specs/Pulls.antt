@@ -12,27 +12,25 @@ use Rattle.model_link.specs.declared.terms.Terms.{Terms}
 use Rattle.model_link.specs.Link.{Link}
 use Rattle.model_link.specs.Sound.{is_information}
 use Rattle.laws_link.specs.InOrder.{IsInOrder}
-use Rattle.laws_link.specs.Offered.{IsOffered, one}
+use Rattle.laws_link.specs.Offered.{one}
 use Rattle.laws_link.specs.Sending.{MayGo}
 use Rattle.lapd_tei.specs.declared.messages.Message.{Message}
 use Rattle.lapd_tei.specs.Messages.{frame_of}
 use Rattle.model_line.specs.declared.config.Config.{Config}
-use Rattle.model_line.specs.Line.{Line, UnitData, link_count, service_at, place_at, tei_at, terms, link_at}
+use Rattle.model_line.specs.Line.{Line, UnitData, link_count, service_at, place_at, tei_at, terms, link_at, with_link}
 use Rattle.model_line.specs.Machine.{after}
 use Rattle.model_line.specs.Event.{Event, octet, expiry, request, pull, Answer}
 use Rattle.model_line.specs.Request.{Request, Establish, Release, Data, Assign, Remove, Check, SetBusy, ClearBusy}
 use Rattle.laws_line.specs.Share.{is_granted}
-use Rattle.model_line.specs.Pull.{Taken, begun}
+use Rattle.model_line.specs.Pull.{begun}
 
--- The message of TEI management that has waited longest, which waits no more;
+-- A pull puts items on the line, and gives an octet of them. What it begins is the message of TEI management that has waited
+-- longest, which waits no more, and all else stays;
 pub record IsMessage (c : Config) (before after : Line) (frame : List ℕ) : Type 0 where
   pub message : Message
   pub oldest : slice_get before.management.waiting 0 ≡ Some message
   pub spelled : frame ≡ frame_of c.side message
-  pub rest : after.management.waiting ≡ drop 1 before.management.waiting
-  pub units : after.units ≡ before.units
-  pub links : after.links ≡ before.links
-  pub turn : after.turn ≡ before.turn
+  pub line : after ≡ record before { management = record before.management { waiting = drop 1 before.management.waiting }; items = after.items; given = after.given }
 
 -- or, where no message waits, the unit data that has waited longest, whole, with its service and its TEI, in a UI command
 -- with P=0, which waits no more (Q.921 clauses 3.6.5 and 5.2.2);
@@ -45,10 +43,7 @@ pub record IsUnit (c : Config) (before after : Line) (frame : List ℕ) : Type 0
     control = Ui false;
     info = unit.contents;
   })
-  pub messages : after.management.waiting ≡ before.management.waiting
-  pub rest : after.units ≡ drop 1 before.units
-  pub links : after.links ≡ before.links
-  pub turn : after.turn ≡ before.turn
+  pub line : after ≡ record before { units = drop 1 before.units; items = after.items; given = after.given }
 
 -- or, where neither waits, a frame of a link. The links are asked one after the other, from the one whose turn it is on,
 -- and then from link 0 on; those that are asked before it have nothing to send; and the next turn is that of the link
@@ -66,22 +61,21 @@ abbrev pub IsSilentAt : Config → Line → ℕ → Type 0
 IsSilentAt c l number =
     (tei : ℕ) → tei_at (place_at number) l ≡ Some tei → IsSilent (terms c (service_at number) tei) (link_at number l)
 
-pub record IsItsTurn (c : Config) (before after : Line) (number : ℕ) : Type 0 where
-  pub no_message : before.management.waiting ≡ []
-  pub no_unit : before.units ≡ []
+pub record IsItsTurn (c : Config) (l : Line) (number : ℕ) : Type 0 where
+  pub no_message : l.management.waiting ≡ []
+  pub no_unit : l.units ≡ []
   pub passed : List ℕ
   pub behind : List ℕ
-  pub place : in_turn c before ≡ passed ++ number ∷ behind
-  pub all_silent : All (IsSilentAt c before) passed
-  pub next : after.turn ≡ number + 1
+  pub place : in_turn c l ≡ passed ++ number ∷ behind
+  pub all_silent : All (IsSilentAt c l) passed
 
 -- The link is of a TEI on the line, and the frame has the SAPI of its service and its TEI. It is what the link gives in its
 -- order: the control frame that has waited longest, an I-frame that may go, or the acknowledgement that is owed. If it is
--- an I-frame, it carries the link's contents number V(S), and V(S) counts it. The other links stay as they are.
+-- an I-frame, it carries the link's contents number V(S), and V(S) counts it. All else of the line stays.
 pub record IsOfLink (c : Config) (contents : ℕ → List (List ℕ)) (before after : Line) (frame : List ℕ) : Type 0 where
   pub number : ℕ
   pub few : number < link_count c
-  pub its_turn : IsItsTurn c before after number
+  pub its_turn : IsItsTurn c before number
   pub tei : ℕ
   pub on_line : tei_at (place_at number) before ≡ Some tei
   pub command : Bool
@@ -93,11 +87,9 @@ pub record IsOfLink (c : Config) (contents : ℕ → List (List ℕ)) (before af
     info = unwrap_or information [];
   })
   pub in_order : IsInOrder (terms c (service_at number) tei) (link_at number before) (link_at number after) (record { command = command; control = control })
-  pub carried : IsOffered (contents number) (link_at number before).s (record { command = command; control = control }) information
+  pub carried : information ≡ (if is_information control then slice_get (contents number) (link_at number before).s else None)
   pub counted : (link_at number after).s ≡ (link_at number before).s + one (is_information control)
-  pub messages : after.management.waiting ≡ before.management.waiting
-  pub units : after.units ≡ before.units
-  pub others : (other : ℕ) → other ≢ number → link_at other after ≡ link_at other before
+  pub line : after ≡ record (with_link number (link_at number after) before) { turn = number + 1; items = after.items; given = after.given }
 
 abbrev pub IsOwed : Config → (ℕ → List (List ℕ)) → Line → Line → List ℕ → Type 0
 IsOwed c contents before after frame = IsMessage c before after frame ⊎ IsUnit c before after frame ⊎ IsOfLink c contents before after frame
@@ -112,14 +104,11 @@ pub record HasNothing (c : Config) (l : Line) : Type 0 where
 abbrev pub bits_left : Line → ℕ
 bits_left l = length (line_text l.items) - length (bits l.given)
 
--- A pull begins no frame only where eight bits or more are left to give, or where nothing waits to be sent; and then
--- nothing of what waits is changed.
+-- A pull begins no frame only where eight bits or more are left to give, or where nothing waits to be sent; and then all else
+-- stays.
 pub record IsIdle (c : Config) (before after : Line) : Type 0 where
   pub nothing : bits_left before < 8 → HasNothing c before
-  pub messages : after.management.waiting ≡ before.management.waiting
-  pub units : after.units ≡ before.units
-  pub links : after.links ≡ before.links
-  pub turn : after.turn ≡ before.turn
+  pub line : after ≡ record before { items = after.items; given = after.given }
 
 abbrev pub contents_of : Line → ℕ → List (List ℕ)
 contents_of l number = (link_at number l).contents

@@ -6,7 +6,7 @@ use Rattle.laws_link.specs.History as links
 use Rattle.laws_link.specs.History.{Share, share}
 use Rattle.lapd_tei.specs.Events as teis
 use Rattle.model_line.specs.declared.config.Config.{Config}
-use Rattle.model_line.specs.Event.{Event, request, Answer, told, refused, pulled}
+use Rattle.model_line.specs.Event.{Event, request, Answer, told}
 use Rattle.model_line.specs.Deliveries.{is_change_at}
 use Rattle.model_line.specs.Effect.{Aim, at_none, at_link, at_management, at_units}
 use Rattle.model_line.specs.Line.{Line, link_number, place_at, place_in, terms, link_in, link_at}
@@ -44,8 +44,7 @@ is_of number service tei l = option_map_or (is_link number service) (place_in l 
 
 abbrev pub is_granted : Answer → Bool
 is_granted (told t) = true
-is_granted (refused why) = false
-is_granted (pulled value begun orders) = false
+is_granted other = false
 
 abbrev pub asked_for : ℕ → Request → Line → List (List ℕ)
 asked_for number (Data service tei contents) l = if is_of number service tei l then contents ∷ [] else []

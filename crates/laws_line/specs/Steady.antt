@@ -1,5 +1,6 @@
 -- What an event of a line is to one of its links, and to TEI management.
-use Rattle.std.specs.Prelude.{◌≡◌, ◌⊎◌, ℕ, Bool, true, false, List, Ok, Some}
+use Rattle.std.specs.Prelude.{◌≡◌, ◌⊎◌, ℕ, Bool, true, false, List, [], ◌∷◌, Ok, Some}
+use Rattle.lapd_bits.specs.Stream as stream
 use Rattle.lapd_frame.specs.declared.addresses.Address.{Address}
 use Rattle.lapd_frame.specs.declared.addresses.Side.TheVariants.{Network}
 use Rattle.lapd_frame.specs.declared.controls.Control.TheVariants.{Ui}
@@ -17,13 +18,19 @@ use Rattle.model_line.specs.declared.config.Config.{Config}
 use Rattle.model_line.specs.Event.{Event, octet, expiry, request, pull, Answer}
 use Rattle.model_line.specs.Line.{Line}
 use Rattle.model_line.specs.Octet.{heard_side}
-use Rattle.model_line.specs.Sides.{IsToGroup}
 use Rattle.model_line.specs.Request.{Assign, Remove, Check}
-use Rattle.laws_line.specs.Heard.{Ends, EndsOverlong, IsMalformed, IsTooLong}
+use Rattle.laws_line.specs.Heard.{Ends, Adds, IsMalformed, IsTooLong}
 use Rattle.laws_line.specs.Requests.{of_link}
 use Rattle.laws_line.specs.Share.{is_granted}
 
--- An octet ends a frame that the grammar reads, with the SAPI of a service and a TEI.
+-- An octet ends a frame that the grammar reads as this, as one of the other side.
+pub record EndsFrame (c : Config) (l : Line) (e : Event) (value : ℕ) (parts : Parts) : Type 0 where
+  pub by : e ≡ octet value
+  pub octets : List ℕ
+  pub ends : Ends c l value octets
+  pub read : reading (heard_side c) octets ≡ Ok parts
+
+-- It ends one with the SAPI of a service and a TEI.
 pub record Brings (c : Config) (l : Line) (e : Event) (service : Service) (tei : ℕ) (parts : Parts) : Type 0 where
   pub value : ℕ
   pub by : e ≡ octet value
@@ -39,7 +46,7 @@ pub record BringsMalformed (c : Config) (l : Line) (e : Event) (service : Servic
   pub by : e ≡ octet value
   pub octets : List ℕ
   pub address : Address
-  pub ends : (Ends c l value octets × IsMalformed c address octets what) ⊎ (EndsOverlong c l value octets × IsTooLong c address octets what)
+  pub ends : (Ends c l value octets × IsMalformed c address octets what) ⊎ (Adds c l value (stream.overlong octets ∷ []) × IsTooLong c address octets what)
   pub sapi : service_of address.sapi ≡ Some service
   pub tei_is : address.tei ≡ tei
 
@@ -62,11 +69,8 @@ IsBy c l e answer service tei link.cleared = ⊥
 pub record BringsMessage (c : Config) (l : Line) (e : Event) (info : List ℕ) : Type 0 where
   pub network : c.side ≡ Network
   pub value : ℕ
-  pub by : e ≡ octet value
-  pub octets : List ℕ
-  pub ends : Ends c l value octets
   pub parts : Parts
-  pub read : reading (heard_side c) octets ≡ Ok parts
+  pub heard : EndsFrame c l e value parts
   pub sapi : parts.address.sapi ≡ 63
   pub group : parts.address.tei ≡ 127
   pub poll : Bool
@@ -81,14 +85,3 @@ IsOfManagement c l e answer teis.expiry = e ≡ expiry timers.T201
 IsOfManagement c l e answer (teis.assign tei) = (e ≡ request (Assign tei)) × (is_granted answer ≡ true)
 IsOfManagement c l e answer (teis.remove tei) = (e ≡ request (Remove tei)) × (is_granted answer ≡ true)
 IsOfManagement c l e answer (teis.check tei) = (e ≡ request (Check tei)) × (is_granted answer ≡ true)
-
--- On the user's side an octet ends a UI of the network to the group, with the SAPI of a service (clauses 3.3.4 and 5.2.2).
-pub record BringsToGroup (c : Config) (l : Line) (e : Event) : Type 0 where
-  pub value : ℕ
-  pub by : e ≡ octet value
-  pub octets : List ℕ
-  pub ends : Ends c l value octets
-  pub parts : Parts
-  pub read : reading (heard_side c) octets ≡ Ok parts
-  pub service : Service
-  pub whose : IsToGroup c parts service

@@ -2,6 +2,7 @@
 use Rattle.std.specs.Prelude.{◌≡◌, true, false, [], ◌∷◌, Some, None, refl}
 use Rattle.std.specs.List.{list_any}
 use Rattle.lapd_bits.specs.Bits.{low_bits}
+use Rattle.lapd_bits.specs.Stream as stream
 use Rattle.lapd_bits.specs.declared.heard.Cause.TheVariants.{Fcs}
 use Rattle.lapd_frame.specs.declared.controls.Control.TheVariants.{Information}
 use Rattle.lapd_frame.specs.declared.services.Service.TheVariants.{Call, Packet}
@@ -13,7 +14,7 @@ use Rattle.lapd_tei.specs.Events as teis
 use Rattle.model_line.specs.Event.{Answer, octet, told, dropped}
 use Rattle.model_line.specs.Line.{Line, link_in, state_in, terms}
 use Rattle.model_line.specs.Machine.{after, answer}
-use Rattle.laws_line.specs.Heard.{Ends, EndsDropped, EndsNothing, contents_in, due, is_data_of, is_unit_of, notes_of, IsNotedOnce}
+use Rattle.laws_line.specs.Heard.{Ends, Adds, contents_in, due, is_data_of, is_unit_of, notes_of, IsNotedOnce}
 use Rattle.laws_line.specs.Worked.{usual, both_up}
 
 -- TEI 64 is on the line, its links are up, and an I-frame of its call control link came, with its check, behind a flag.
@@ -58,7 +59,7 @@ unfolding answer seq distance_of named reading header_of control_of unnumbered_o
 noted_once = refl
 
 -- Another octet in the flag's place ends nothing, and nothing is handed on.
-nothing_ends : EndsNothing usual before_flag 0x00
+nothing_ends : Adds usual before_flag 0x00 []
 unfolding low_bits
 nothing_ends = refl
 
@@ -71,7 +72,7 @@ nothing_heard = refl
 abbrev before_wrong_check : Line
 before_wrong_check = record both_up { received = 0x7E ∷ 0x00 ∷ 0x81 ∷ 0x00 ∷ 0x00 ∷ 0x41 ∷ 0x2F ∷ 0xAC ∷ [] }
 
-wrong_check_ends : EndsDropped usual before_wrong_check 0x7E Fcs
+wrong_check_ends : Adds usual before_wrong_check 0x7E (stream.dropped Fcs ∷ [])
 unfolding low_bits
 wrong_check_ends = refl
 

@@ -3,7 +3,7 @@
 ghost use Rattle.laws_line.specs.Laws.{NotesTell, NothingElseIsNoted, BegunIsTrue};
 
 /// By notes layer 3 knows which links are up, and management which TEIs are on the line: `notes_tell`, `teis_are_told` and
-/// `begins_down`.
+/// `begins`.
 pub fn notes_tell()
     ensures { NotesTell }
 {}

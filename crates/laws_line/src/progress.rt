@@ -1,6 +1,6 @@
 //! The laws. Each is the contract of a call that does nothing.
 
-ghost use Rattle.std.specs.Prelude.{◌≡◌, ◌↔◌, ℕ, ◌+◌, ◌*◌, ◌<◌, ◌≤◌, false, List, ◌∷◌, ◌++◌, length, Some};
+ghost use Rattle.std.specs.Prelude.{◌≡◌, ◌↔◌, ℕ, ◌+◌, ◌*◌, ◌<◌, ◌≤◌, false, List, ◌∷◌, ◌++◌, length, Some, []};
 ghost use Rattle.lapd_frame.specs.declared.controls.Control.{Control};
 ghost use Rattle.lapd_frame.specs.declared.services.Service.{Service};
 ghost use Rattle.lapd_frame.specs.Grammar.{Parts};
@@ -11,7 +11,7 @@ ghost use Rattle.model_line.specs.Event.{Event, octet};
 ghost use Rattle.model_line.specs.Line.{Line, fresh_line, link_number, link_count, place_at, tei_at, link_at, link_in, terms};
 ghost use Rattle.model_line.specs.Machine.{after};
 ghost use Rattle.model_line.specs.Sound.{IsInRange, IsSound};
-ghost use Rattle.laws_line.specs.Heard.{Ends, EndsNothing, IsFor};
+ghost use Rattle.laws_line.specs.Heard.{Ends, Adds, IsFor};
 ghost use Rattle.laws_line.specs.Pulls.{HasNothing};
 ghost use Rattle.laws_line.specs.Among.{StaysOnLine, pulls_in, comes_first, come_first, IsBegunIn};
 ghost use Rattle.laws_line.specs.Drains.{longest_text, after_pulls, frames_to_go, bits_to_go, IsEnough, control_text, IsBegunWithin, IsAnsweredWithin, IsIdling, HasFewLeft, most_bits, bits_before, most_bits_before, most_pulls_before};
@@ -81,5 +81,5 @@ pub fn what_waits_is_begun_meanwhile()
         bits_before c l number (length before) + come_first c events l * longest_text c < 8 * pulls_in events →
         IsBegunIn c events l (control_text c number tei f) }
     ensures one_at_most { (c : Config) (e : Event) (l : Line) → comes_first c e l ≤ 1 }
-    ensures none { (c : Config) (l : Line) (value : ℕ) → EndsNothing c l value → comes_first c (octet value) l ≡ 0 }
+    ensures none { (c : Config) (l : Line) (value : ℕ) → Adds c l value [] → comes_first c (octet value) l ≡ 0 }
 {}

@@ -1,6 +1,7 @@
 -- A link gives what waits in its order.
-use Rattle.std.proofs.Common.{◌≡◌, Bool, true, false, cond, List, [], ◌∷◌, Option, Some, None, refl, inl, inr}
-use Rattle.std.specs.Prelude.{IfSome}
+use Rattle.std.proofs.Common.{◌≡◌, Bool, true, false, cond, List, [], ◌∷◌, Option, Some, None, refl, subst, inl, inr}
+use Rattle.std.specs.Prelude.{All, IfSome}
+use Rattle.std.proofs.lemmas.List.Elements.{All-head}
 use Rattle.model_link.specs.declared.frames.ControlFrame.{ControlFrame}
 use Rattle.model_link.specs.declared.timers.LinkTimer.TheVariants.{T200}
 use Rattle.model_link.specs.declared.terms.Terms.{Terms}
@@ -8,7 +9,7 @@ use Rattle.model_link.specs.Link.{Link}
 use Rattle.model_link.specs.Events as events
 use Rattle.model_link.specs.Machine.{course, after, given, given_of}
 use Rattle.model_link.specs.Offers
-use Rattle.model_link.specs.Sound.{IsSound}
+use Rattle.model_link.specs.Sound.{IsSound, IsWaitingFrame}
 use Rattle.model_link.specs.Steps.{Course, Sent, begun, ◌then◌, changed}
 use Rattle.model_link.specs.Words
 use Rattle.laws_link.specs.InOrder.{IsInOrder}
@@ -24,7 +25,8 @@ module _ (t : Terms) (l : Link) (h : IsSound t l) where
   tested false u v x y = y refl
 
   offering : (ws : List ControlFrame) → l.waiting ≡ ws → InOrder (Offers.offer_among t ws (begun l))
-  offering (f ∷ fs) w = inl (record { waited = w; owed = refl })
+  offering (f ∷ fs) w =
+      inl (record { waited = w; bare = (All-head (IsWaitingFrame t) f fs (subst (All (IsWaitingFrame t)) w h.frames)).without_contents; owed = refl })
   offering [] w =
       let one_more = (Offers.give_information then changed Offers.with_one_sent then Words.pending_is false) (begun l) in
       tested (Offers.may_send_information t l) _ _

@@ -1,5 +1,5 @@
 -- What an offer gives.
-use Rattle.std.proofs.Common.{◌≡◌, ℕ, ◌+◌, ◌<◌, Bool, true, false, cond, ◌&&◌, not, List, [], ◌∷◌, length, Option, Some, None, refl, sym, ap, ◌∙◌, true≢false, add-zero}
+use Rattle.std.proofs.Common.{◌≡◌, ℕ, ◌+◌, ◌<◌, Bool, true, false, cond, ◌&&◌, not, List, [], ◌∷◌, length, slice_get, Option, Some, None, refl, sym, ap, ◌∙◌, true≢false, add-zero}
 use Rattle.std.specs.Prelude.{All, IfSome, nat_lt}
 use Rattle.std.specs.Option.{option_map_or}
 use Rattle.std.proofs.lemmas.Bool.{ltb-true, and_parts}
@@ -73,6 +73,21 @@ module _ (t : Terms) (l : Link) (h : IsSound t l) where
 
   pub given-is-offered : IfSome (given t l) (λ g. IsOffered l.contents l.s g.frame g.contents)
   given-is-offered = from-sent (course t events.offer l) (course t events.offer l).sent (offered l.waiting h.frames)
+
+-- What such a frame carries is the contents with the number, if it is an I-frame, and else nothing.
+pub carried-is : (all : List (List ℕ)) (j : ℕ) (command : Bool) (control : Control) (contents : Option (List ℕ))
+    → IsOffered all j (record { command = command; control = control }) contents → contents ≡ cond (is_information control) (slice_get all j) None
+carried-is all j b (Information ns nr p) contents x = x.is ∙ sym x.among
+carried-is all j b (ReceiveReady nr pf) contents x = x
+carried-is all j b (ReceiveNotReady nr pf) contents x = x
+carried-is all j b (Reject nr pf) contents x = x
+carried-is all j b (Sabme p) contents x = x
+carried-is all j b (Disc p) contents x = x
+carried-is all j b (Ui p) contents x = x
+carried-is all j b (Ua f) contents x = x
+carried-is all j b (Dm f) contents x = x
+carried-is all j b (Frmr f) contents x = x
+carried-is all j b (Xid pf) contents x = x
 
 -- An offer leaves the contents and V(A);
 pub record Left (l : Link) (c : Course) : Type 0 where

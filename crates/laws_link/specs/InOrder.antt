@@ -5,11 +5,13 @@ use Rattle.lapd_frame.specs.declared.controls.Control.TheVariants.{Information, 
 use Rattle.model_link.specs.declared.frames.ControlFrame.{ControlFrame}
 use Rattle.model_link.specs.declared.terms.Terms.{Terms}
 use Rattle.model_link.specs.Link.{Link}
+use Rattle.model_link.specs.Sound.{is_information}
 use Rattle.laws_link.specs.Sending.{MayGo}
 
--- The control frame that has waited longest, which waits no more;
+-- The control frame that has waited longest, which waits no more, and is no I-frame;
 pub record IsOldest (before after : Link) (frame : ControlFrame) : Type 0 where
   pub waited : before.waiting ≡ frame ∷ after.waiting
+  pub bare : is_information frame.control ≡ false
   pub owed : after.pending ≡ before.pending
 
 -- where none waits and one may go, an I-frame: a command with N(S) = V(S), N(R) = V(R) and P=0, which acknowledges what

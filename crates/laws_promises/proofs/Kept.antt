@@ -8,17 +8,16 @@ use Rattle.model_card.specs.Run.{IsAtLine, AreAtLines}
 use Rattle.model_card.specs.Sound.{IsSound}
 use Rattle.model_card.proofs.Reaching.{reached-sound}
 use Rattle.laws_card.specs.Promises.{AreReceived, IsCountedIn, NotesTell, TeisAreTold, TeisHaveOnePlace, IsServedIn}
-use Rattle.laws_card.specs.PromisesOfPulls.{WaitingAreBegun, PullsComeToAnEnd, FewAreToGo, EnoughPullsServe}
+use Rattle.laws_card.specs.PromisesOfPulls.{WaitingAreBegun, PullsComeToAnEnd}
 use Rattle.laws_card.proofs.Beginning.{begun-told}
-use Rattle.laws_card.proofs.Enough.{enough-pulls}
 use Rattle.laws_card.proofs.Happening.{one-all}
 use Rattle.laws_card.proofs.Hearing.{heard-all}
-use Rattle.laws_card.proofs.Keeping.{kept, run-counted, begins-empty}
-use Rattle.laws_card.proofs.Knowing.{up-known, on-known, down-at-first, one-place}
-use Rattle.laws_card.proofs.Receiving.{run-received, begins-unheard}
+use Rattle.laws_card.proofs.Keeping.{kept, run-counted}
+use Rattle.laws_card.proofs.Knowing.{up-known, on-known, begins-anew, one-place}
+use Rattle.laws_card.proofs.Receiving.{run-received}
 use Rattle.laws_card.proofs.Serving.{served-in}
-use Rattle.laws_card.proofs.TimersRun.{needed-run, needs-none, reached-timely}
-use Rattle.laws_card.proofs.Wherever.{waiting-begun, come-to-an-end, few-to-go, begins-with-few}
+use Rattle.laws_card.proofs.TimersRun.{needed-run, reached-timely}
+use Rattle.laws_card.proofs.Wherever.{waiting-begun, come-to-an-end, few-reached}
 use Rattle.laws_promises.specs.Promises.{Promises}
 
 module _ (m : Card) (events : List Event) (reached : IsReached m) (within : AreAtLines m events) where
@@ -40,19 +39,14 @@ module _ (m : Card) (events : List Event) (reached : IsReached m) (within : AreA
     begun_is_told = begun-told m events sound within;
     heard_is_delivered = heard-all m events sound within;
     received = front AreReceived run-received;
-    begins_unheard = begins-unheard m.config;
     counted = front IsCountedIn run-counted;
-    begins_empty = begins-empty m.config;
     timers = λ count. needed-run m (take count events) sound (reached-timely m reached) (front-within count);
-    no_timers = needs-none m.config;
     notes_tell = front NotesTell up-known;
     teis_are_told = front TeisAreTold on-known;
-    begins_down = down-at-first m.config;
+    begins = begins-anew m.config;
     one_place = front TeisHaveOnePlace one-place;
     served = front IsServedIn served-in;
     waiting_is_begun = front WaitingAreBegun waiting-begun;
     pulls_come_to_an_end = front PullsComeToAnEnd come-to-an-end;
-    few_to_go = front FewAreToGo few-to-go;
-    begins_with_few = begins-with-few m.config;
-    enough_pulls = front EnoughPullsServe enough-pulls;
+    few_to_go = λ count. few-reached m (take count events) reached (front-within count);
   }

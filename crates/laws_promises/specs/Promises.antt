@@ -2,8 +2,8 @@
 use Rattle.std.specs.Prelude.{ℕ, List, take}
 use Rattle.model_card.specs.Card.{Card}
 use Rattle.model_card.specs.Event.{Event}
-use Rattle.laws_card.specs.Promises.{IsKept, HasOneEvent, BegunIsTold, IsDelivered, AreReceived, BeginsUnheard, IsCountedIn, BeginsEmpty, RunsWhatIsNeeded, NeedsNone, NotesTell, TeisAreTold, BeginsDown, TeisHaveOnePlace, IsServedIn}
-use Rattle.laws_card.specs.PromisesOfPulls.{WaitingAreBegun, PullsComeToAnEnd, FewAreToGo, BeginsWithFew, EnoughPullsServe}
+use Rattle.laws_card.specs.Promises.{IsKept, HasOneEvent, BegunIsTold, IsDelivered, AreReceived, IsCountedIn, RunsWhatIsNeeded, NotesTell, TeisAreTold, BeginsAnew, TeisHaveOnePlace, IsServedIn}
+use Rattle.laws_card.specs.PromisesOfPulls.{WaitingAreBegun, PullsComeToAnEnd, FewAreToGo}
 
 -- From a card on: those of a whole list hold in each of its moments; those with a count hold after that many of its
 -- events, so after each of them; and those of a configuration hold of a card that has just begun with it.
@@ -39,20 +39,14 @@ pub record Promises (m : Card) (events : List Event) : Type 0 where
   -- The octets that each line has received are those that it had received before, and after them its octets of the
   -- list, in order, and no others (clause 2).
   pub received : (count : ℕ) → AreReceived m (take count events)
-  -- On a card that has just begun no line has received any. So there they are exactly its octets of the list.
-  pub begins_unheard : BeginsUnheard m.config
   -- The contents that each link keeps are those accepted for it since its numbers began, in order, without what went,
   -- and its V(A) counts those that were acknowledged (clause 3.5.2.3).
   pub counted : (count : ℕ) → IsCountedIn m (take count events)
-  -- On a card that has just begun no link keeps contents.
-  pub begins_empty : BeginsEmpty m.config
   -- A caller that runs exactly the timers that are needed, and obeys the orders in the answers, each in its turn, does
   -- so after every event, whatever TEIs come and leave. These are T200 of a link on the line in states 5, 6 and 8, and
   -- in state 7 where an I-frame is outstanding or the terminal is busy; T203 of a link in state 7 otherwise; T201
   -- while a TEI is checked (clauses 5.3.3.2, 5.5.1.3, 5.5.3.3, 5.6.1, 5.6.5, 5.6.7, 5.9.8 and 5.10.3).
   pub timers : (count : ℕ) → RunsWhatIsNeeded m (take count events)
-  -- On a card that has just begun no timer is needed.
-  pub no_timers : NeedsNone m.config
   -- By the notes in the answers alone layer 3 knows of each link whether it is up. An indication or a confirm of an
   -- establishment says that it is, one of a release that it is not (clauses 4.1.1.1, 4.1.1.2, 5.5 and 5.7.1).
   pub notes_tell : (count : ℕ) → NotesTell m (take count events)
@@ -60,8 +54,9 @@ pub record Promises (m : Card) (events : List Event) : Type 0 where
   -- was assigned, that no terminal answered its check, or that two did, the requests those to assign and to remove a
   -- TEI; so no TEI comes or leaves otherwise (clauses 4.1.1.5 and 5.3.2 to 5.3.4).
   pub teis_are_told : (count : ℕ) → TeisAreTold m (take count events)
-  -- On a card that has just begun no TEI is on any line, and no link is up.
-  pub begins_down : BeginsDown m.config
+  -- On a card that has just begun no line has received an octet, no link keeps contents or is up, no TEI is on any line, and
+  -- no timer is needed. So from there on `received`, `counted`, `timers` and what notes tell say all of it.
+  pub begins : BeginsAnew m.config
   -- No TEI has two places of a line.
   pub one_place : (count : ℕ) → TeisHaveOnePlace m (take count events)
   -- What a pull begins, with fewer than eight bits left, is the message of TEI management that has waited longest,
@@ -82,13 +77,8 @@ pub record Promises (m : Card) (events : List Event) : Type 0 where
   -- I-frames behind a closed window, behind a terminal that is busy, or of a link that is not in state 7; and idle
   -- flags go on, and nothing else (clauses 5.6.1 and 5.6.5).
   pub pulls_come_to_an_end : (count : ℕ) → PullsComeToAnEnd m (take count events)
-  -- Where at most the longest frame is left of a line, the bits to go of it are at most what the configuration allows
-  -- after whatever happens to the card, and at most the longest frame is left then too (profile).
+  -- The bits to go of a line, and those before a control frame that waits, are at most what the configuration allows, whatever
+  -- happened to the card; and at most the longest frame is left. So the configuration gives numbers of pulls that are enough:
+  -- 23,050 octets for a control frame, so for each answer, and 64,346 until only idle flags go on, on a line with eight
+  -- terminals, N201 of 260, windows of 7, 4 unit data and 4 control frames (profile).
   pub few_to_go : (count : ℕ) → FewAreToGo m (take count events)
-  -- On a card that has just begun at most the longest frame is left of each line.
-  pub begins_with_few : BeginsWithFew m.config
-  -- So the configuration gives numbers of pulls that are enough for any control frame that waits, and for all that may go.
-  -- They are so whatever else waits, on a line of which at most the longest frame was left at first: 23,050 octets for a
-  -- control frame, so for each answer, and 64,346 until only idle flags go on, on a line with eight terminals, N201 of 260,
-  -- windows of 7, 4 unit data and 4 control frames.
-  pub enough_pulls : (count : ℕ) → EnoughPullsServe m (take count events)

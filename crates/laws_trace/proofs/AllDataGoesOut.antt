@@ -1,4 +1,4 @@
--- All data goes out, where a line is only pulled, as often as the configuration says: the law.
+-- All data goes out, where a line is only pulled, as often as the configuration says.
 use Rattle.std.proofs.Common.{◌≡◌, ℕ, ◌<◌, ◌≤◌, List, ◌++◌, length, get_or, Option, Some, None, sym, ap, ◌∙◌, subst, true≢false, refl, arith}
 use Rattle.std.specs.Option.{option_map_or}
 use Rattle.lapd_frame.specs.declared.services.Service.{Service}
@@ -21,11 +21,8 @@ use Rattle.model_card.proofs.CardSound.{fresh_is_sound, always_sound}
 use Rattle.laws_card.specs.Among.{ArePullsAt, pulls_at}
 use Rattle.laws_card.proofs.Meanwhile.{line-sound, card-drains}
 use Rattle.laws_card.proofs.Wherever.{config-stays}
-use Rattle.laws_trace.specs.DataGoesOut.{IsOpen, AllDataGoesOut}
-use Rattle.laws_trace.specs.Trace.{Always}
 use Rattle.laws_trace.proofs.AllFramesGoOut as frames
-use Rattle.laws_trace.proofs.DataGoesOut.{quiet}
-use Rattle.laws_trace.proofs.DataKnown.{all-has-gone}
+use Rattle.laws_trace.proofs.DataKnown.{IsOpen, all-has-gone}
 use Rattle.laws_trace.proofs.DataRun.{at-end}
 use Rattle.laws_trace.proofs.UnitsGoOut.{after-both}
 
@@ -42,7 +39,7 @@ silent-there c l s h service tei place is =
     (subst (λ x. IsSilent (terms c x tei) (link_at number l)) (service_at-number place service) known)
 
 -- A link that is up is one of a TEI on the line.
-on-line : (l : Line) (service : Service) (tei : ℕ) → (link_of service tei l).state ≡ Established → (o : Option ℕ) → place_in l tei ≡ o → (place : ℕ) × (place_in l tei ≡ Some place)
+pub on-line : (l : Line) (service : Service) (tei : ℕ) → (link_of service tei l).state ≡ Established → (o : Option ℕ) → place_in l tei ≡ o → (place : ℕ) × (place_in l tei ≡ Some place)
 on-line l service tei up (Some place) on = (place, on)
 on-line l service tei up None off =
     absurd (true≢false (sym (ap is_multiple_frame up) ∙ ap (λ o. is_multiple_frame (option_map_or (link_in l service) o fresh).state) off))
@@ -85,8 +82,3 @@ all-gone c events number ranged all within service tei before pulls split only e
     let x = at-end c events number ranged all within service tei in
     all-has-gone (terms c service tei) (link_of service tei l) (link-at-end c l ranged s service tei on.0 on.1) x.contents x.gone x.knows
     (silent-there c l s there service tei on.0 on.1) may
-
-pub all-data-goes-out : Always AllDataGoesOut
-all-data-goes-out c events number ranged all within service tei before pulls split only enough may =
-    let x = at-end c events number ranged all within service tei in
-    (quiet x.told_count x.contents x.gone, x.reaches, (all-gone c events number ranged all within service tei before pulls split only enough may).0)

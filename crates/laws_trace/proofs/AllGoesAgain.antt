@@ -1,5 +1,5 @@
 -- What is to go again goes again, where a line is only pulled, as often as the configuration says: the law.
-use Rattle.std.proofs.Common.{◌≡◌, ℕ, ◌+◌, ◌-◌, ◌%◌, ◌≤◌, ◌<◌, Option, Some, None, refl, sym, ap, ◌∙◌, subst, arith}
+use Rattle.std.proofs.Common.{◌≡◌, ℕ, ◌+◌, ◌-◌, ◌%◌, ◌≤◌, ◌<◌, List, Option, Some, None, refl, sym, ap, ◌∙◌, subst, arith}
 use Rattle.std.specs.Prelude.{fold}
 use Rattle.std.proofs.lemmas.Option.{none-some}
 use Rattle.lapd_frame.specs.declared.services.Service.{Service}
@@ -7,14 +7,18 @@ use Rattle.lapd_tei.proofs.Tables.{place_of-is}
 use Rattle.model_link.specs.declared.states.State.{State}
 use Rattle.model_link.specs.declared.states.State.TheVariants.{TeiAssigned, AwaitingEstablishment, AwaitingRelease, Established, TimerRecovery}
 use Rattle.model_line.specs.Line.{Line, link_of, place_in, state_of, terms, window}
+use Rattle.model_line.specs.declared.config.Config.{Config}
+use Rattle.model_line.specs.Sound.{IsInRange}
 use Rattle.model_line.proofs.Ranges.{terms_in_range}
 use Rattle.model_card.specs.Card.{fresh, line_at}
-use Rattle.model_card.specs.Run.{moments, after_all}
-use Rattle.laws_trace.specs.AllGoesAgain.{AllGoesAgain}
+use Rattle.model_card.specs.Event.{Event}
+use Rattle.model_card.specs.Run.{moments, after_all, AreAtLines}
+use Rattle.laws_trace.specs.AllGoesAgain.{MayGo, AllGoesAgain}
 use Rattle.laws_trace.specs.TimersAreTimely.{nothing_yet, watch}
 use Rattle.laws_trace.specs.Trace.{Always}
-use Rattle.laws_trace.proofs.AllDataGoesOut.{line-at-end, link-at-end, all-gone}
+use Rattle.laws_trace.proofs.AllDataGoesOut.{on-line, line-at-end, link-at-end, all-gone}
 use Rattle.laws_trace.proofs.DataGoesOut.{quiet}
+use Rattle.laws_trace.proofs.DataKnown.{IsOpen}
 use Rattle.laws_trace.proofs.DataRun.{at-end}
 use Rattle.laws_trace.proofs.TimerClaims.{Agrees, IsKnown, told_state}
 use Rattle.laws_trace.proofs.TimersAreTimely.{true-now}
@@ -36,6 +40,32 @@ is-up service tei l e (Some place) on = (place, on, up-in (link_of service tei l
 -- As many I-frames are outstanding as the numbers say modulo 128.
 few-outstanding : (a s k next acknowledged : ℕ) → a ≤ s → s ≤ a + 127 → next ≡ s % 128 → acknowledged ≡ a % 128 → (next + 128 - acknowledged) % 128 < k → s < a + k
 few-outstanding a s k next acknowledged ordered high n m few = omega (arith, ordered, high, n, m, few)
+
+-- The other way round, too: so that I-frames may go by what was heard and what began says the same as that they may go.
+few-by-numbers : (a s k next acknowledged : ℕ) → a ≤ s → s ≤ a + 127 → k ≤ 127 → next ≡ s % 128 → acknowledged ≡ a % 128 → s < a + k → (next + 128 - acknowledged) % 128 < k
+few-by-numbers a s k next acknowledged ordered high small n m few = omega (arith, ordered, high, small, n, m, few)
+
+pub may-go-where-open : (c : Config) (events : List Event) (number : ℕ) (ranged : IsInRange c) (all : AreAtLines (fresh c) events) (within : number < c.lines)
+    (service : Service) (tei : ℕ) → let l = line_at number (after_all (fresh c) events) in IsOpen (terms c service tei) (link_of service tei l)
+    → MayGo c service (fold (watch c service tei number) nothing_yet (moments (fresh c) events)) (state_of service tei l)
+may-go-where-open c events number ranged all within service tei is_open =
+    let l = line_at number (after_all (fresh c) events) in
+    let own = link_of service tei l in
+    let k = fold (watch c service tei number) nothing_yet (moments (fresh c) events) in
+    let on = on-line l service tei is_open.state (place_in l tei) refl in
+    let line_sound = line-at-end c events number ranged all within in
+    let s = link-at-end c l ranged line_sound service tei on.0 on.1 in
+    let range = terms_in_range c ranged service tei (line_sound.management.table.range on.0 tei (place_of-is l.management.places tei on.0 on.1).1) in
+    let known : IsKnown k own.a own.s own.peer_busy =
+    subst (λ state. Agrees state k own.a own.s own.peer_busy) is_open.state (true-now c events number ranged all within service tei) in
+    let ordered : own.a ≤ own.s = s.ordered in
+    let bound : own.s ≤ own.a + window c service = s.within in
+    let small : window c service ≤ 127 = range.k_high in
+    record {
+      up = state-on service tei l on.0 on.1 ∙ ap told_state is_open.state;
+      free = known.busy_is ∙ is_open.free;
+      few = few-by-numbers own.a own.s (window c service) k.next k.acknowledged ordered (omega (arith, bound, small)) small known.next known.acknowledged is_open.window;
+    }
 
 pub all-goes-again : Always AllGoesAgain
 all-goes-again c events number ranged all within service tei before pulls split only enough may =

@@ -6,15 +6,14 @@ use Rattle.std.proofs.lemmas.Grind.{flat_map-append}
 use Rattle.lapd_bits.specs.Stream as stream
 use Rattle.lapd_bits.specs.declared.heard.Cause.TheVariants.{Tei}
 use Rattle.lapd_frame.specs.declared.faults.ReadFault.{ReadFault}
-use Rattle.lapd_frame.specs.declared.faults.ReadFault.TheVariants.{Undefined, WrongSize}
 use Rattle.lapd_frame.specs.declared.services.Service.{Service}
 use Rattle.lapd_frame.specs.declared.services.Service.TheVariants.{Call, Packet}
 use Rattle.lapd_frame.specs.declared.controls.Control.{Control}
 use Rattle.lapd_frame.specs.declared.controls.Control.TheVariants as control
-use Rattle.lapd_frame.specs.Grammar.{Parts, AreOctets, head_of}
+use Rattle.lapd_frame.specs.Grammar.{Parts, head_of}
 use Rattle.lapd_frame.specs.Reading.{reading}
 use Rattle.lapd_frame.specs.Services.{sapi_of, service_of, same_service}
-use Rattle.lapd_frame.proofs.Spelling.{reading-again, reading-found, fault-again}
+use Rattle.lapd_frame.proofs.Spelling.{reading-again, reading-found}
 use Rattle.lapd_tei.proofs.Tables.{place_of-is}
 use Rattle.model_link.specs.declared.frames.ControlFrame.{ControlFrame}
 use Rattle.model_link.specs.declared.terms.Terms.{Terms}
@@ -40,7 +39,7 @@ use Rattle.model_line.specs.Sound.{IsInRange, IsSound}
 use Rattle.model_line.proofs.LinksSound.{sound_in}
 use Rattle.model_line.proofs.Ranges.{terms_in_range}
 use Rattle.laws_line.specs.Frames.{lost_in}
-use Rattle.laws_line.specs.Heard.{Ends, EndsOverlong, IsMalformed, IsTooLong}
+use Rattle.laws_line.specs.Heard.{Ends, Adds, IsMalformed, IsTooLong}
 use Rattle.laws_line.specs.Requests.{of_link}
 use Rattle.laws_line.specs.Steady.{IsBy, Brings, BringsMalformed}
 use Rattle.laws_line.proofs.Ending.{ended-octets, gained-is}
@@ -124,9 +123,9 @@ module _ (service : Service) (tei : ℕ) where
   begun-none c (Some t) (refused why) = refl
   begun-none c (Some t) (pulled value is_begun orders) = refl
 
-  heard-asks : (c : Config) (o : Option stream.Event) (a : Answer) → asked c (map heard (option_to_list o) ++ seen_told a) ≡ flat_map (exchanges.asked_in c service tei) (option_to_list o)
+  heard-asks : (c : Config) (o : Option stream.Event) (a : Answer) → asked c (map heard (option_to_list o) ++ seen_told a) ≡ flat_map (λ e. exchanges.asked_at c service tei (heard e)) (option_to_list o)
   heard-asks c None a = told-none c a
-  heard-asks c (Some e) a = ap (λ xs. exchanges.asked_in c service tei e ++ xs) (told-none c a)
+  heard-asks c (Some e) a = ap (λ xs. exchanges.asked_at c service tei (heard e) ++ xs) (told-none c a)
 
   -- A frame of the grammar for this link.
   link-asks : (parts : Parts) → (parts.address.sapi == sapi_of service && parts.address.tei == tei) ≡ true
@@ -151,7 +150,7 @@ module _ (service : Service) (tei : ℕ) where
         go true is = absurd (true≢false (sym (aimed is) ∙ aims))
         go false is = refl
 
-    heard-none : (o : Option stream.Event) → is_at_link service tei (option_map_or (aim_of_heard c l) o (at_none nothing)) ≡ false → flat_map (exchanges.asked_in c service tei) (option_to_list o) ≡ []
+    heard-none : (o : Option stream.Event) → is_at_link service tei (option_map_or (aim_of_heard c l) o (at_none nothing)) ≡ false → flat_map (λ e. exchanges.asked_at c service tei (heard e)) (option_to_list o) ≡ []
     heard-none None aims = refl
     heard-none (Some (stream.frame octets)) aims = append-nil _ ∙ read-none octets (reading (heard_side c) octets) aims
     heard-none (Some (stream.overlong head)) aims = refl
@@ -302,18 +301,18 @@ module _ (service : Service) (tei : ℕ) where
       malformed-asks : (what : link.Received) → BringsMalformed c l e service tei what → ((parts : Parts) → what ≡ link.frame parts → ⊥) → asked c shown ≡ []
       malformed-asks what b no-frame = ap (λ event. asked c (seen c event l a)) b.by ∙ by-end b.ends
         where
-          by-fault : (octets : List ℕ) (what : link.Received) → IsMalformed c b.address octets what → AreOctets octets → exchanges.of_link service tei asked_by (reading (heard_side c) octets) ≡ []
-          by-fault octets link.undefined is small = ap (exchanges.of_link service tei asked_by) (fault-again (heard_side c) octets (Undefined b.address) small is)
-          by-fault octets link.wrong_size is small = ap (exchanges.of_link service tei asked_by) (fault-again (heard_side c) octets (WrongSize b.address) small is)
-          by-fault octets link.overlong is small = absurd is
-          by-fault octets (link.frame parts) is small = absurd is
+          by-fault : (octets : List ℕ) (what : link.Received) → IsMalformed c b.address octets what → exchanges.of_link service tei asked_by (reading (heard_side c) octets) ≡ []
+          by-fault octets link.undefined is = ap (exchanges.of_link service tei asked_by) is
+          by-fault octets link.wrong_size is = ap (exchanges.of_link service tei asked_by) is
+          by-fault octets link.overlong is = absurd is
+          by-fault octets (link.frame parts) is = absurd is
 
-          by-end : (Ends c l b.value b.octets × IsMalformed c b.address b.octets what) ⊎ (EndsOverlong c l b.value b.octets × IsTooLong c b.address b.octets what)
+          by-end : (Ends c l b.value b.octets × IsMalformed c b.address b.octets what) ⊎ (Adds c l b.value (stream.overlong b.octets ∷ []) × IsTooLong c b.address b.octets what)
               → asked c (map heard (option_to_list (gained c.n201 l.received b.value)) ++ seen_told a) ≡ []
           by-end (inl y) =
               ap (λ o. asked c (map heard (option_to_list o) ++ seen_told a)) (gained-is c l b.value (Some (stream.frame b.octets)) y.0)
               ∙ heard-asks c (Some (stream.frame b.octets)) a ∙ append-nil (exchanges.of_link service tei asked_by (reading (heard_side c) b.octets))
-              ∙ by-fault b.octets what y.1 (ended-octets c l b.value (stream.frame b.octets) y.0)
+              ∙ by-fault b.octets what y.1
           by-end (inr y) =
               ap (λ o. asked c (map heard (option_to_list o) ++ seen_told a)) (gained-is c l b.value (Some (stream.overlong b.octets)) y.0)
               ∙ heard-asks c (Some (stream.overlong b.octets)) a

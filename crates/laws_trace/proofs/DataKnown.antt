@@ -9,6 +9,7 @@ use Rattle.lapd_seq.specs.Numbers.{seq}
 use Rattle.lapd_frame.specs.declared.controls.Control.{Control}
 use Rattle.lapd_frame.specs.declared.controls.Control.TheVariants.{Information, ReceiveReady, ReceiveNotReady, Reject, Sabme, Disc, Ui, Ua, Dm, Frmr, Xid}
 use Rattle.model_link.specs.declared.frames.ControlFrame.{ControlFrame}
+use Rattle.model_link.specs.declared.states.State.TheVariants.{Established}
 use Rattle.model_link.specs.declared.terms.Terms.{Terms}
 use Rattle.model_link.specs.Deliveries.{restarts, Establishes}
 use Rattle.model_link.specs.Events.{Event, received, frame, undefined, wrong_size, overlong, expired, requested, offer, cleared}
@@ -26,7 +27,7 @@ use Rattle.laws_link.proofs.Keeping.{event-done}
 use Rattle.laws_link.proofs.Offering.{given-is-offered}
 use Rattle.laws_trace.specs.Deliveries.{Watched}
 use Rattle.laws_line.specs.Pulls.{IsSilent}
-use Rattle.laws_trace.specs.DataGoesOut.{Sent, sent_by, HasNumber, gone_with, IsOpen}
+use Rattle.laws_trace.specs.DataGoesOut.{Sent, sent_by, HasNumber, gone_with}
 use Rattle.laws_trace.proofs.Begins.{up-before}
 use Rattle.laws_trace.proofs.DataOfLink.{acknowledged-went, none-acknowledged, none-accepted, nothing-kept-down}
 
@@ -302,7 +303,13 @@ module _ (t : Terms) (k : Link) (s : IsSound t k) (small : t.k ≤ 127) (w : Wat
   pub none-given-known : given t k ≡ None → Knows (after t offer k) (all ++ []) gone
   none-given-known none = goes-on-so t k s offer all gone known on (ap (λ o. one (option_map_or is_i_frame o false)) none)
 
--- Where an I-frame might go, and the link has nothing to send, all contents have gone, and V(S) is behind them.
+-- An I-frame might go, if contents were unsent (clauses 5.6.1 and 5.6.5).
+pub record IsOpen (t : Terms) (l : Link) : Type 0 where
+  pub state : l.state ≡ Established
+  pub free : l.peer_busy ≡ false
+  pub window : l.s < l.a + t.k
+
+-- Where one might, and the link has nothing to send, all contents have gone, and V(S) is behind them.
 pub all-has-gone : (t : Terms) (k : Link) → IsSound t k → (all : List (List ℕ)) (gone : ℕ) → Knows k all gone → IsSilent t k → IsOpen t k → (gone ≡ length all) × (k.s ≡ gone)
 all-has-gone t k s all gone known silent open_link = go (nat_lt k.s (length k.contents)) refl
   where

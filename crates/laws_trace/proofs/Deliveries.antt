@@ -35,7 +35,7 @@ use Rattle.model_line.specs.Line.{Line, link_in, terms}
 use Rattle.model_line.specs.Machine.{aim_of, answer}
 use Rattle.model_line.specs.Octet.{gained, heard_side, group_tei}
 use Rattle.model_line.specs.Sound.{IsInRange, IsSound}
-use Rattle.laws_line.specs.Heard.{Ends, EndsOverlong, IsMalformed, IsTooLong, notes_of, contents_in, is_data_of, is_unit_of, tells_contents}
+use Rattle.laws_line.specs.Heard.{Ends, Adds, IsMalformed, IsTooLong, notes_of, contents_in, is_data_of, is_unit_of, tells_contents}
 use Rattle.laws_line.specs.Heard as line_heard
 use Rattle.laws_line.specs.Steady.{IsBy, Brings, BringsMalformed}
 use Rattle.laws_line.proofs.Ending.{ended-octets, gained-is}
@@ -192,20 +192,20 @@ module _ (c : Config) (l : Line) (e : Event) (a : Answer) (service : Service) (t
     its-address f x.sapi x.tei_is,
   )
 
-  is-fault : (address : Address) (octets : List ℕ) (what : link.Received) → AreOctets octets → IsMalformed c address octets what → parts_of (reading (heard_side c) octets) ≡ None
-  is-fault address octets link.undefined small is = ap parts_of (fault-again (heard_side c) octets (Undefined address) small is)
-  is-fault address octets link.wrong_size small is = ap parts_of (fault-again (heard_side c) octets (WrongSize address) small is)
-  is-fault address octets link.overlong small is = absurd is
-  is-fault address octets (link.frame parts) small is = absurd is
+  is-fault : (address : Address) (octets : List ℕ) (what : link.Received) → IsMalformed c address octets what → parts_of (reading (heard_side c) octets) ≡ None
+  is-fault address octets link.undefined is = ap parts_of is
+  is-fault address octets link.wrong_size is = ap parts_of is
+  is-fault address octets link.overlong is = absurd is
+  is-fault address octets (link.frame parts) is = absurd is
 
   pub brings-none : (what : link.Received) → BringsMalformed c l e service tei what → frame_by c e l ≡ None
   brings-none what x = ap (λ e. frame_by c e l) x.by ∙ go x.ends
     where
-      go : (Ends c l x.value x.octets × IsMalformed c x.address x.octets what) ⊎ (EndsOverlong c l x.value x.octets × IsTooLong c x.address x.octets what)
+      go : (Ends c l x.value x.octets × IsMalformed c x.address x.octets what) ⊎ (Adds c l x.value (stream.overlong x.octets ∷ []) × IsTooLong c x.address x.octets what)
           → option_map_or (frame_of c) (gained c.n201 l.received x.value) None ≡ None
       go (inl y) =
           ap (λ o. option_map_or (frame_of c) o None) (gained-is c l x.value (Some (stream.frame x.octets)) y.0)
-          ∙ is-fault x.address x.octets what (ended-octets c l x.value (stream.frame x.octets) y.0) y.1
+          ∙ is-fault x.address x.octets what y.1
       go (inr y) = ap (λ o. option_map_or (frame_of c) o None) (gained-is c l x.value (Some (stream.overlong x.octets)) y.0)
 
   none-begins : (le : link.Event) (k : Link) → ((restarts (terms c service tei) le k ≡ true) → ⊥) → (ns : List Note) → frame_by c e l ≡ None

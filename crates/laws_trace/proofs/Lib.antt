@@ -85,3 +85,4 @@ pub mod NewsOfOthers
 pub mod NewsSeen
 pub mod NewsOfEvent
 pub mod News
+pub mod OtherSide

@@ -3,7 +3,7 @@ use Rattle.std.proofs.Common.{◌≡◌, ◌≢◌, ℕ, ◌<◌, ◌==◌, ⊎_
 use Rattle.std.specs.Prelude.{All, filter, option_to_list}
 use Rattle.std.specs.Option.{unwrap_or}
 use Rattle.std.proofs.lemmas.Bool.{cases_eq}
-use Rattle.std.proofs.lemmas.List.{map-append}
+use Rattle.std.proofs.lemmas.List.{map-append, get_or-set_other}
 use Rattle.std.proofs.lemmas.List.Elements.{All-head, filter-append}
 use Rattle.lapd_frame.specs.declared.services.Service.{Service}
 use Rattle.lapd_frame.specs.declared.services.Service.TheVariants.{Call, Packet}
@@ -72,7 +72,7 @@ module _ (c : Config) (ranged : line.IsInRange c) (l : Line) (s : line.IsSound c
         behind = x.its_turn.behind;
         place = x.its_turn.place;
         all_silent = x.its_turn.all_silent;
-        next = x.its_turn.next;
+        next = ap (λ (l : Line). l.turn) x.line;
         speaks = speaks;
       }) walk)
     where
@@ -87,16 +87,16 @@ module _ (c : Config) (ranged : line.IsInRange c) (l : Line) (s : line.IsSound c
 
       stays : (number : ℕ) → number < link_count c → IsSilentAt c l number → IsSilentAt c next number
       stays number few q =
-          ⊎_elim (λ same. absurd (speaks (subst (IsSilentAt c l) same q))) (λ apart. silent-there number (x.others number apart) q) (cases_eq number x.number)
+          ⊎_elim (λ same. absurd (speaks (subst (IsSilentAt c l) same q))) (λ apart. silent-there number (ap (λ (l : Line). link_at number l) x.line ∙ get_or-set_other l.links x.number number (link_at x.number next) fresh_link apart) q) (cases_eq number x.number)
 
   by-pull : (o : Option Taken) → elim o as (λ o. Type 0) [ None ↦ IsIdle c l next | Some t ↦ IsOwed c (contents_of l) l next t.frame ]
       → (names : List LinkName) → Walk c next names → Walk c l (names-of o ++ names)
-  by-pull None x names walk = still l next names (links-stay x.links) x.turn walk
+  by-pull None x names walk = still l next names (links-stay (ap (λ (l : Line). l.links) x.line)) (ap (λ (l : Line). l.turn) x.line) walk
   by-pull (Some t) (inl x) names walk =
-      no-name t names (ap (is_of_a_link c.side) x.spelled ∙ ui-frame c.side (record { sapi = 63; command = true; tei = 127 }) (information_of x.message) (omega arith) (omega arith) refl) (still l next names (links-stay x.links) x.turn walk)
+      no-name t names (ap (is_of_a_link c.side) x.spelled ∙ ui-frame c.side (record { sapi = 63; command = true; tei = 127 }) (information_of x.message) (omega arith) (omega arith) refl) (still l next names (links-stay (ap (λ (l : Line). l.links) x.line)) (ap (λ (l : Line). l.turn) x.line) walk)
   by-pull (Some t) (inr (inl x)) names walk =
       no-name t names (ap (is_of_a_link c.side) x.spelled ∙ ui-frame c.side (record { sapi = sapi_of x.unit.service; command = true; tei = x.unit.tei }) x.unit.contents (small-sapi x.unit.service) (let small = first-of c l.units x.unit x.oldest s.units in omega (arith, small)) refl)
-      (still l next names (links-stay x.links) x.turn walk)
+      (still l next names (links-stay (ap (λ (l : Line). l.links) x.line)) (ap (λ (l : Line). l.turn) x.line) walk)
   by-pull (Some t) (inr (inr x)) names walk = of-link t x names walk
 
   pub pull-walks : (names : List LinkName) → Walk c next names → Walk c l (links_begun c (seen c pull l (lines.answer c pull l)) ++ names)

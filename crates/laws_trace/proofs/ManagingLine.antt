@@ -362,20 +362,20 @@ module _ (c : Config) (l : Line) (s : IsSound c l) (w : Managed) (h : Knows (hea
 
   pull-waits : (next : Line) (o : Option Taken) → elim o as (λ o. Type 0) [ None ↦ IsIdle c l next | Some t ↦ IsOwed c (contents_of l) l next t.frame ]
       → filter (is_message c) (option_to_list (option_map frame_taken o)) ++ map (frame_of c.side) next.management.waiting ≡ map (frame_of c.side) l.management.waiting
-  pull-waits next None x = ap (map (frame_of c.side)) x.messages
+  pull-waits next None x = ap (λ (l : Line). map (frame_of c.side) l.management.waiting) x.line
   pull-waits next (Some t) (inl x) =
       ap (λ fs. fs ++ map (frame_of c.side) next.management.waiting) (kept-of t.frame true (ap (is_message c) x.spelled ∙ message-is x.message))
-      ∙ ap (λ ms. t.frame ∷ map (frame_of c.side) ms) x.rest ∙ ap (λ f. f ∷ map (frame_of c.side) (drop 1 l.management.waiting)) x.spelled
+      ∙ ap (λ (l : Line). t.frame ∷ map (frame_of c.side) l.management.waiting) x.line ∙ ap (λ f. f ∷ map (frame_of c.side) (drop 1 l.management.waiting)) x.spelled
       ∙ first-goes l.management.waiting x.message x.oldest
   pull-waits next (Some t) (inr (inl x)) =
       ap (λ fs. fs ++ map (frame_of c.side) next.management.waiting) (kept-of t.frame false (ap (is_message c) x.spelled
       ∙ read-again c.side (λ r. of_management r ≡ false) (record { sapi = sapi_of x.unit.service; command = true; tei = x.unit.tei }) (Ui false) (λ info. no-sapi x.unit.service) (λ fault. refl) x.unit.contents))
-      ∙ ap (map (frame_of c.side)) x.messages
+      ∙ ap (λ (l : Line). map (frame_of c.side) l.management.waiting) x.line
   pull-waits next (Some t) (inr (inr x)) =
       ap (λ fs. fs ++ map (frame_of c.side) next.management.waiting) (kept-of t.frame false (ap (is_message c) x.spelled
       ∙ read-again c.side (λ r. of_management r ≡ false) (record { sapi = sapi_of (service_at x.number); command = x.command; tei = x.tei }) x.control (λ info. no-sapi (service_at x.number)) (λ fault. refl)
       (unwrap_or x.information [])))
-      ∙ ap (map (frame_of c.side)) x.messages
+      ∙ ap (λ (l : Line). map (frame_of c.side) l.management.waiting) x.line
 
   pull-moves : Moves c v l.management (after c pull l).management pull (answer c pull l) (seen c pull l (answer c pull l))
   unfolding after answer

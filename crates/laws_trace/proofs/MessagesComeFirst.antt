@@ -76,8 +76,8 @@ module _ (c : Config) (l : Line) (s : IsSound c l) (plain : NoneWaits c l) (fram
   idle-pull : IsIdle c l next → ByRank c next frames → ByRank c l frames
   idle-pull x h = record {
     ranked = h.ranked;
-    units = λ m. h.units (x.messages ∙ m);
-    links = λ m u. h.links (x.messages ∙ m) (x.units ∙ u);
+    units = λ m. h.units ((ap (λ (l : Line). l.management.waiting) x.line) ∙ m);
+    links = λ m u. h.links ((ap (λ (l : Line). l.management.waiting) x.line) ∙ m) ((ap (λ (l : Line). l.units) x.line) ∙ u);
   }
 
   message-pull : (frame : List ℕ) → IsMessage c l next frame → ByRank c next frames → ByRank c l (frame ∷ frames)
@@ -99,7 +99,7 @@ module _ (c : Config) (l : Line) (s : IsSound c l) (plain : NoneWaits c l) (fram
       let of_link : is_of_a_link c.side frame ≡ false = ap (is_of_a_link c.side) x.spelled ∙ ui-frame c.side a x.unit.contents (small-sapi x.unit.service) (omega (arith, small)) refl in
       let unit : is_unit c.side frame ≡ true = ap (is_unit c.side) x.spelled ∙ unit-is c x.unit small in
       let one : rank c.side frame ≡ 1 = ap (λ b. cond b 2 (cond (is_unit c.side frame) 1 0)) of_link ∙ ap (λ b. cond {A = ℕ} b 1 0) unit in
-      let behind : All (AtLeast c.side 1) frames = h.units (x.messages ∙ x.no_message) in
+      let behind : All (AtLeast c.side 1) frames = h.units ((ap (λ (l : Line). l.management.waiting) x.line) ∙ x.no_message) in
       record {
         ranked = one-ranked c.side frame frames (subst (λ n. All (AtLeast c.side n) frames) (sym one) behind) h.ranked;
         units = λ m. All-cons (AtLeast c.side 1) frame frames (omega (arith, one)) behind;
@@ -111,10 +111,10 @@ module _ (c : Config) (l : Line) (s : IsSound c l) (plain : NoneWaits c l) (fram
       let a : Address = record { sapi = sapi_of (service_at x.number); command = x.command; tei = x.tei } in
       let of_link : is_of_a_link c.side frame ≡ true = ap (is_of_a_link c.side) x.spelled ∙ link-frame c.side a x.control (plain-order c l next frame plain x) (unwrap_or x.information []) in
       let two : rank c.side frame ≡ 2 = ap (λ b. cond b 2 (cond (is_unit c.side frame) 1 0)) of_link in
-      let behind : All (AtLeast c.side 2) frames = h.links (x.messages ∙ x.its_turn.no_message) (x.units ∙ x.its_turn.no_unit) in
+      let behind : All (AtLeast c.side 2) frames = h.links ((ap (λ (l : Line). l.management.waiting) x.line) ∙ x.its_turn.no_message) ((ap (λ (l : Line). l.units) x.line) ∙ x.its_turn.no_unit) in
       record {
         ranked = one-ranked c.side frame frames (subst (λ n. All (AtLeast c.side n) frames) (sym two) behind) h.ranked;
-        units = λ m. All-cons (AtLeast c.side 1) frame frames (omega (arith, two)) (h.units (x.messages ∙ m));
+        units = λ m. All-cons (AtLeast c.side 1) frame frames (omega (arith, two)) (h.units ((ap (λ (l : Line). l.management.waiting) x.line) ∙ m));
         links = λ m u. All-cons (AtLeast c.side 2) frame frames (omega (arith, two)) behind;
       }
 

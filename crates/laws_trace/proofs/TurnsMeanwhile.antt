@@ -155,19 +155,19 @@ module _ (c : Config) (one tei other its : ℕ) where
           behind = x.its_turn.behind;
           place = x.its_turn.place;
           all_silent = x.its_turn.all_silent;
-          next = x.its_turn.next;
+          next = ap (λ (l : Line). l.turn) x.line;
         }) walk)
 
     by-pull : (o : Option Taken) → elim o as (λ o. Type 0) [ None ↦ IsIdle c l next | Some t ↦ IsOwed c (contents_of l) l next t.frame ]
         → (names : List LinkName) → Walk next names → Walk l (names-in (option_to_list (option_map frame_taken o)) ++ names)
-    by-pull None x names walk = still l next names x.turn walk
+    by-pull None x names walk = still l next names (ap (λ (l : Line). l.turn) x.line) walk
     by-pull (Some t) (inl x) names walk =
         let a : Address = record { sapi = 63; command = true; tei = 127 } in
-        no-name t.frame names (ap (is_of_a_link c.side) x.spelled ∙ ui-frame c.side a (information_of x.message) (omega arith) (omega arith) refl) (still l next names x.turn walk)
+        no-name t.frame names (ap (is_of_a_link c.side) x.spelled ∙ ui-frame c.side a (information_of x.message) (omega arith) (omega arith) refl) (still l next names (ap (λ (l : Line). l.turn) x.line) walk)
     by-pull (Some t) (inr (inl x)) names walk =
         let a : Address = record { sapi = sapi_of x.unit.service; command = true; tei = x.unit.tei } in
         let small = first-of c l.units x.unit x.oldest h.sound.units in
-        no-name t.frame names (ap (is_of_a_link c.side) x.spelled ∙ ui-frame c.side a x.unit.contents (small-sapi x.unit.service) (omega (arith, small)) refl) (still l next names x.turn walk)
+        no-name t.frame names (ap (is_of_a_link c.side) x.spelled ∙ ui-frame c.side a x.unit.contents (small-sapi x.unit.service) (omega (arith, small)) refl) (still l next names (ap (λ (l : Line). l.turn) x.line) walk)
     by-pull (Some t) (inr (inr x)) names walk = of-link t.frame x names walk
 
     none-begins : (e : line_event.Event) (a : Answer) (names : List LinkName) → frames_begun (seen c e l a) ≡ [] → (lines.after c e l).turn ≡ l.turn

@@ -159,17 +159,17 @@ of-link c l next frame h x =
 pull-passes : (c : Config) (l next : Line) → IsSound c l → NoneWaits c l → (o : Option Taken)
     → elim o as (λ o. Type 0) [ None ↦ IsIdle c l next | Some t ↦ IsOwed c (contents_of l) l next t.frame ]
     → filter (is_unit c.side) (option_to_list (option_map frame_taken o)) ++ frames c next ≡ frames c l
-pull-passes c l next s h None x = ap (map (unit_frame c)) x.units
+pull-passes c l next s h None x = ap (λ (l : Line). map (unit_frame c) l.units) x.line
 pull-passes c l next s h (Some t) (inl x) =
     ap (λ fs. fs ++ frames c next) (kept-of c t.frame false (ap (is_unit c.side) x.spelled ∙ other-frame c.side (record { sapi = 63; command = true; tei = 127 }) (Ui false) refl (information_of x.message)))
-    ∙ ap (map (unit_frame c)) x.units
+    ∙ ap (λ (l : Line). map (unit_frame c) l.units) x.line
 pull-passes c l next s h (Some t) (inr (inl x)) =
     ap (λ fs. fs ++ frames c next) (kept-of c t.frame true (ap (is_unit c.side) x.spelled ∙ unit-is c x.unit (first-of c l.units x.unit x.oldest s.units)))
-    ∙ ap (λ us. t.frame ∷ map (unit_frame c) us) x.rest
+    ∙ ap (λ (l : Line). t.frame ∷ map (unit_frame c) l.units) x.line
     ∙ ap (λ f. f ∷ map (unit_frame c) (drop 1 l.units)) x.spelled
     ∙ first-goes c l.units x.unit x.oldest
 pull-passes c l next s h (Some t) (inr (inr x)) =
-    ap (λ fs. fs ++ frames c next) (kept-of c t.frame false (of-link c l next t.frame h x)) ∙ ap (map (unit_frame c)) x.units
+    ap (λ fs. fs ++ frames c next) (kept-of c t.frame false (of-link c l next t.frame h x)) ∙ ap (λ (l : Line). map (unit_frame c) l.units) x.line
 
 event-passes : (c : Config) (e : Event) (l : Line) → IsSound c l → NoneWaits c l → Passes c l (seen c e l (answer c e l)) (after c e l)
 event-passes c (octet value) l s h =

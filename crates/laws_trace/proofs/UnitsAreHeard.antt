@@ -1,8 +1,8 @@
 -- What a receiver hears of unit data: the laws.
-use Rattle.std.proofs.Common.{◌≡◌, ℕ, ◌<◌, ◌≤◌, Bool, true, false, List, [], ◌∷◌, ◌++◌, map, refl, sym, ap, ◌∙◌, subst, append_assoc}
+use Rattle.std.proofs.Common.{◌≡◌, ℕ, ◌<◌, List, [], ◌∷◌, ◌++◌, map, refl, sym, ap, ◌∙◌, subst, append_assoc}
 use Rattle.std.specs.Prelude.{All, filter, flat_map}
 use Rattle.std.proofs.lemmas.Grind.{flat_map-append}
-use Rattle.std.proofs.lemmas.List.{get_or-replicate}
+use Rattle.std.proofs.lemmas.List.{get_or-replicate, map-append}
 use Rattle.std.proofs.lemmas.List.Elements.{filter-append}
 use Rattle.lapd_bits.specs.Stream as stream
 use Rattle.lapd_bits.specs.Stream.{heard_in}
@@ -16,10 +16,10 @@ use Rattle.model_card.proofs.CardSound.{fresh_is_sound}
 use Rattle.laws_trace.specs.FramesGoOut.{as_octets}
 use Rattle.laws_trace.specs.Trace.{Seen, trace_of, Always, IsFront, frames_begun, octets_put}
 use Rattle.laws_trace.specs.Units.{is_unit, units_begun, units_granted}
-use Rattle.laws_trace.specs.UnitsAreHeard.{frame_heard, frames_heard, units_heard, HasOctets, UnitsAreHeard, AllUnitsAreHeard}
+use Rattle.laws_trace.specs.UnitsAreHeard.{frame_heard, frames_heard, UnitsAreHeard, AllUnitsAreHeard}
 use Rattle.laws_trace.proofs.AllFramesGoOut.{all-frames-go-out}
 use Rattle.laws_trace.proofs.FramesGoOut.{frames-go-out}
-use Rattle.laws_trace.proofs.Heads.{IsHeaded, AreHeaded, rests, joins, steps, same-units, IsExact, granted-octets}
+use Rattle.laws_trace.proofs.Heads.{IsHeaded, AreHeaded, rests, joins, steps, same-units}
 use Rattle.laws_trace.proofs.Runs.{run-shows}
 use Rattle.laws_trace.proofs.Units.{NoneWaits, fresh-none}
 use Rattle.laws_trace.proofs.UnitsGoOut.{units-go-out, all-units-go-out}
@@ -42,13 +42,11 @@ module _ (c : Config) (events : List Event) (number : ℕ) (ranged : line.IsInRa
       (run-shows NoneWaits AreHeaded rests joins steps (fresh c) events number (fresh_is_sound c ranged) all (subst (λ (l : Line). NoneWaits c l) (sym start) (fresh-none c))).0
 
   -- as octets the unit data that begins is what it was
-  begun-heard : All HasOctets t → filter (is_unit c.side) (map as_octets (frames_begun t)) ≡ units_begun c t
-  begun-heard octets =
-      let asked = units-go-out c events number ranged all within in
-      same-units c.side (frames_begun t) headed asked.rest (subst (All IsExact) asked.whole_is (granted-octets c t octets))
+  begun-heard : filter (is_unit c.side) (map as_octets (frames_begun t)) ≡ map as_octets (units_begun c t)
+  begun-heard = same-units c.side (frames_begun t) headed
 
-  pub front : All HasOctets t → IsFront (filter (is_unit c.side) heard) (units_granted c t)
-  front octets =
+  pub front : IsFront (filter (is_unit c.side) heard) (map as_octets (units_granted c t))
+  front =
       let out = frames-go-out c events number ranged all within in
       let asked = units-go-out c events number ranged all within in
       let frames : map as_octets (frames_begun t) ≡ heard ++ out.on_its_way =
@@ -56,20 +54,20 @@ module _ (c : Config) (events : List Event) (number : ℕ) (ranged : line.IsInRa
       ∙ flat_map-append frame_heard (heard_in c.n201 (octets_put t)) (map (λ octets. stream.frame octets) out.on_its_way)
       ∙ ap (λ x. heard ++ x) (heard-again out.on_its_way) in
       record {
-        rest = filter (is_unit c.side) out.on_its_way ++ asked.rest;
+        rest = filter (is_unit c.side) out.on_its_way ++ map as_octets asked.rest;
         whole_is =
-            asked.whole_is
-            ∙ ap (λ us. us ++ asked.rest) (sym (begun-heard octets) ∙ ap (filter (is_unit c.side)) frames ∙ filter-append (is_unit c.side) heard out.on_its_way)
-            ∙ append_assoc (filter (is_unit c.side) heard) (filter (is_unit c.side) out.on_its_way) asked.rest;
+            ap (map as_octets) asked.whole_is ∙ map-append as_octets (units_begun c t) asked.rest
+            ∙ ap (λ us. us ++ map as_octets asked.rest) (sym begun-heard ∙ ap (filter (is_unit c.side)) frames ∙ filter-append (is_unit c.side) heard out.on_its_way)
+            ∙ append_assoc (filter (is_unit c.side) heard) (filter (is_unit c.side) out.on_its_way) (map as_octets asked.rest);
       }
 
 pub units-are-heard : Always UnitsAreHeard
-units-are-heard c events number ranged all within octets = front c events number ranged all within octets
+units-are-heard c events number ranged all within = front c events number ranged all within
 
 pub all-units-are-heard : Always AllUnitsAreHeard
-all-units-are-heard c events number ranged all within before pulls split only enough octets =
+all-units-are-heard c events number ranged all within before pulls split only enough =
     let t = trace_of c events number in
     ap (λ es. filter (is_unit c.side) (flat_map frame_heard es)) (sym (all-frames-go-out c events number ranged all within before pulls split only enough))
     ∙ ap (filter (is_unit c.side)) (heard-again (map as_octets (frames_begun t)))
-    ∙ begun-heard c events number ranged all within octets
-    ∙ all-units-go-out c events number ranged all within before pulls split only enough
+    ∙ begun-heard c events number ranged all within
+    ∙ ap (map as_octets) (all-units-go-out c events number ranged all within before pulls split only enough)

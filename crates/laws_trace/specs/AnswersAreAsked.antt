@@ -42,12 +42,8 @@ of_link service tei by (Ok frame) =
     if frame.address.sapi == sapi_of service && frame.address.tei == tei then by frame.address.command frame.control else []
 of_link service tei by (Err fault) = []
 
-abbrev pub asked_in : Config → Service → ℕ → stream.Event → List Exchange
-asked_in c service tei (stream.frame octets) = of_link service tei asked_by (reading (heard_side c) octets)
-asked_in c service tei other = []
-
 abbrev pub asked_at : Config → Service → ℕ → Seen → List Exchange
-asked_at c service tei (heard event) = asked_in c service tei event
+asked_at c service tei (heard (stream.frame octets)) = of_link service tei asked_by (reading (heard_side c) octets)
 asked_at c service tei other = []
 
 abbrev pub answered_at : Config → Service → ℕ → Seen → List Exchange

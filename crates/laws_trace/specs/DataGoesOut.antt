@@ -1,5 +1,5 @@
 -- Data goes out.
-use Rattle.std.specs.Prelude.{◌≡◌, ◌⊎◌, ◌≤◌, ◌<◌, ◌==◌, ◌&&◌, ℕ, ◌+◌, ◌%◌, false, List, [], ◌∷◌, ◌++◌, length, drop, slice_get, Option, Some, None, IfSome, Result, Ok, Err, if◌then◌else◌}
+use Rattle.std.specs.Prelude.{◌≡◌, ◌⊎◌, ◌≤◌, ◌==◌, ◌&&◌, ℕ, ◌+◌, ◌%◌, List, [], ◌∷◌, ◌++◌, length, drop, slice_get, Option, Some, None, IfSome, Result, Ok, Err, if◌then◌else◌}
 use Rattle.lapd_frame.specs.declared.controls.Control.{Control}
 use Rattle.lapd_frame.specs.declared.controls.Control.TheVariants.{Information}
 use Rattle.lapd_frame.specs.declared.faults.ReadFault.{ReadFault}
@@ -7,18 +7,10 @@ use Rattle.lapd_frame.specs.declared.services.Service.{Service}
 use Rattle.lapd_frame.specs.Grammar.{Parts}
 use Rattle.lapd_frame.specs.Reading.{reading}
 use Rattle.lapd_frame.specs.Services.{same_service}
-use Rattle.model_link.specs.declared.states.State.TheVariants.{Established}
-use Rattle.model_link.specs.declared.terms.Terms.{Terms}
-use Rattle.model_link.specs.Link.{Link}
 use Rattle.model_line.specs.declared.config.Config.{Config}
-use Rattle.model_line.specs.Line.{link_of, terms}
 use Rattle.model_line.specs.Request as asked
 use Rattle.model_line.specs.Request.{Request}
-use Rattle.laws_line.specs.Drains.{most_pulls}
-use Rattle.model_card.specs.Card.{fresh, line_at}
 use Rattle.model_card.specs.Event.{Event}
-use Rattle.model_card.specs.Run.{after_all}
-use Rattle.laws_card.specs.Among.{ArePullsAt, pulls_at}
 use Rattle.laws_trace.specs.Deliveries.{Watched, nothing_yet, is_for, begins, watch}
 use Rattle.laws_trace.specs.Trace.{Seen, begun, noted, granted, trace_of}
 
@@ -91,16 +83,3 @@ Reaches c service tei g (x ∷ t) end =
 -- order, each once, and those of I-frames that go again are what their number had.
 abbrev pub DataGoesOut : Config → List Event → ℕ → Type 0
 DataGoesOut c events number = (service : Service) (tei : ℕ) → (end : Going) × Reaches c service tei none_yet (trace_of c events number) end
-
--- And they are all of it, once the line was only pulled, as often as the configuration says: on a link in state 7 whose terminal
--- is not busy, with fewer than k I-frames outstanding (clauses 5.6.1 and 5.6.5).
-pub record IsOpen (t : Terms) (l : Link) : Type 0 where
-  pub state : l.state ≡ Established
-  pub free : l.peer_busy ≡ false
-  pub window : l.s < l.a + t.k
-
-abbrev pub AllDataGoesOut : Config → List Event → ℕ → Type 0
-AllDataGoesOut c events number =
-    (service : Service) (tei : ℕ) (before pulls : List Event) → events ≡ before ++ pulls → ArePullsAt number pulls → most_pulls c ≤ pulls_at number pulls →
-    IsOpen (terms c service tei) (link_of service tei (line_at number (after_all (fresh c) events))) →
-    (end : Going) × Reaches c service tei none_yet (trace_of c events number) end × (end.gone ≡ length end.contents)

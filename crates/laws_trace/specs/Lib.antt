@@ -1,6 +1,7 @@
 -- The trace of a line, and what is promised of it.
 pub mod Trace
 pub mod Configurations
+pub mod OtherSide
 pub mod Units
 pub mod UnitsGoOut
 pub mod FramesGoOut
@@ -38,3 +39,5 @@ pub mod WorkedAgain
 pub mod WorkedMoves
 pub mod WorkedGo
 pub mod WorkedNews
+pub mod WorkedOtherSide
+pub mod WorkedHeard

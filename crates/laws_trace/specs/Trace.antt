@@ -3,7 +3,7 @@ use Rattle.std.specs.Prelude.{◌≡◌, ℕ, ◌==◌, ◌<◌, List, [], ◌�
 use Rattle.lapd_bits.specs.Stream as stream
 use Rattle.lapd_frame.specs.declared.notes.Note.{Note}
 use Rattle.model_line.specs.declared.config.Config.{Config}
-use Rattle.model_line.specs.Event.{Event, octet, expiry, request, pull, Answer, told, refused, pulled}
+use Rattle.model_line.specs.Event.{Event, octet, expiry, request, pull, Answer, told}
 use Rattle.model_line.specs.Line.{Line}
 use Rattle.model_line.specs.Octet.{gained}
 use Rattle.model_line.specs.Request.{Request}
@@ -27,13 +27,11 @@ pub data Seen : Type 0 where
 -- What an answer shows.
 abbrev pub seen_told : Answer → List Seen
 seen_told (told t) = noted t.notes t.contents ∷ lost t.lost ∷ []
-seen_told (refused why) = []
-seen_told (pulled value is_begun orders) = []
+seen_told other = []
 
 abbrev pub seen_granted : Request → Answer → List Seen
 seen_granted r (told t) = granted r ∷ []
-seen_granted r (refused why) = []
-seen_granted r (pulled value is_begun orders) = []
+seen_granted r other = []
 
 -- What an event of a line and its answer show: an octet, what is heard with it (Q.921 clauses 2.2 to 2.10); a request,
 -- whether it is granted; and a pull the frame that begins with it, and the octet that it puts.

@@ -1,14 +1,12 @@
 -- Unit data is heard at the other end.
-use Rattle.std.specs.Prelude.{◌≡◌, ◌≤◌, ℕ, List, [], ◌∷◌, ◌++◌, filter, flat_map, All}
+use Rattle.std.specs.Prelude.{◌≡◌, ◌≤◌, ℕ, List, [], ◌∷◌, ◌++◌, filter, map, flat_map}
 use Rattle.lapd_bits.specs.Stream as stream
-use Rattle.lapd_bits.specs.StuffingLaws.{AreOctets}
 use Rattle.model_line.specs.declared.config.Config.{Config}
-use Rattle.model_line.specs.Request as asked
-use Rattle.model_line.specs.Request.{Request}
 use Rattle.laws_line.specs.Drains.{most_pulls}
 use Rattle.model_card.specs.Event.{Event}
 use Rattle.laws_card.specs.Among.{ArePullsAt, pulls_at}
-use Rattle.laws_trace.specs.Trace.{Seen, granted, trace_of, octets_put, IsFront}
+use Rattle.laws_trace.specs.FramesGoOut.{as_octets}
+use Rattle.laws_trace.specs.Trace.{trace_of, octets_put, IsFront}
 use Rattle.laws_trace.specs.Units.{is_unit, units_granted}
 
 -- The frames that a receiver hears in octets.
@@ -22,25 +20,14 @@ frames_heard n201 octets = flat_map frame_heard (stream.heard_in n201 octets)
 abbrev pub units_heard : Config → List ℕ → List (List ℕ)
 units_heard c octets = filter (is_unit c.side) (frames_heard c.n201 octets)
 
--- The contents of the unit data that is asked for, and granted, are octets, each 0 to 255.
-abbrev pub contents_asked : Request → List ℕ
-contents_asked (asked.Unit service tei contents) = contents
-contents_asked other = []
-
-abbrev pub HasOctets : Seen → Type 0
-HasOctets (granted r) = AreOctets (contents_asked r)
-HasOctets other = Unit {0}
-
--- Then the UI frames that a receiver hears in the octets that a line puts, except those of TEI management, are the first of the
--- unit data that is granted: in order, whole, each once, with its service and its TEI.
+-- The UI frames that a receiver hears in the octets that a line puts, except those of TEI management, are the first of the unit
+-- data that is granted: in order, whole, each once, with its service and its TEI, of each number the eight low bits.
 abbrev pub UnitsAreHeard : Config → List Event → ℕ → Type 0
 UnitsAreHeard c events number =
-    let t = trace_of c events number in
-    All HasOctets t → IsFront (units_heard c (octets_put t)) (units_granted c t)
+    let t = trace_of c events number in IsFront (units_heard c (octets_put t)) (map as_octets (units_granted c t))
 
 -- And they are all of it, once the line was only pulled, as often as the configuration says.
 abbrev pub AllUnitsAreHeard : Config → List Event → ℕ → Type 0
 AllUnitsAreHeard c events number =
-    let t = trace_of c events number in
     (before pulls : List Event) → events ≡ before ++ pulls → ArePullsAt number pulls → most_pulls c ≤ pulls_at number pulls →
-    All HasOctets t → units_heard c (octets_put t) ≡ units_granted c t
+    let t = trace_of c events number in units_heard c (octets_put t) ≡ map as_octets (units_granted c t)

@@ -7,9 +7,10 @@ ghost use Rattle.laws_trace.specs.AnswersAreAsked.{AnswersAreAsked};
 ghost use Rattle.laws_trace.specs.CommandsGo.{CommandsGo};
 ghost use Rattle.laws_trace.specs.CommandsHaveCauses.{CommandsHaveCauses};
 ghost use Rattle.laws_trace.specs.Configurations.{RangesAreServed};
+ghost use Rattle.laws_trace.specs.OtherSide.{TheOtherSideIsHeard};
 ghost use Rattle.laws_trace.specs.FramesAreRead.{FramesAreRead, FramesAreOctets, FramesGoOutAsTheyAre};
 ghost use Rattle.laws_trace.specs.FramesGoOut.{FramesGoOut, AllFramesGoOut, AllThatWaitedBegins};
-ghost use Rattle.laws_trace.specs.DataGoesOut.{DataGoesOut, AllDataGoesOut};
+ghost use Rattle.laws_trace.specs.DataGoesOut.{DataGoesOut};
 ghost use Rattle.laws_trace.specs.Deliveries.{Deliveries, AllAreTold};
 ghost use Rattle.laws_trace.specs.LinksMove.{LinksMove};
 ghost use Rattle.laws_trace.specs.LinksTakeTurns.{LinksTakeTurns};
@@ -27,6 +28,12 @@ ghost use Rattle.laws_trace.specs.UnitsGoOut.{UnitsGoOut, AllUnitsGoOut};
 /// its shelf and memory allow, and every law here speaks of it. With any other no card starts (profile).
 pub fn ranges_are_served()
     ensures { RangesAreServed }
+{}
+
+/// The other side is heard. A card of the network's side hears frames as commands whose C/R bit is 0, and one of the user's side
+/// those whose C/R bit is 1; and what begins on its lines is read the other way round (Q.921 clause 3.3.2).
+pub fn the_other_side_is_heard()
+    ensures { TheOtherSideIsHeard }
 {}
 
 /// Unit data goes out. The UI frames that begin on a line, except those of TEI management, are the first of the unit data that
@@ -65,8 +72,8 @@ pub fn all_frames_go_out()
 
 /// Unit data is heard at the other end. The UI frames that a receiver hears in the octets that a line puts, except those of TEI
 /// management, are the first of the unit data that was granted: in order, whole, each once, with its service and its TEI
-/// (`front`). And they are all of it, once the line was only pulled, as often as the configuration says (`all`). This holds
-/// where the contents that were granted are octets, each 0 to 255 (Q.921 clauses 2.2 to 2.7, 3.6.5 and 5.2.2).
+/// (`front`). And they are all of it, once the line was only pulled, as often as the configuration says (`all`). Of each number of
+/// the contents its eight low bits are heard, so an octet, 0 to 255, as it is (Q.921 clauses 2.2 to 2.7, 3.6.5 and 5.2.2).
 pub fn units_are_heard()
     ensures front { Always UnitsAreHeard }
     ensures all { Always AllUnitsAreHeard }
@@ -115,12 +122,11 @@ pub fn what_is_told_was_heard()
 /// of the last 127, has the contents that its number had. N(R) of each I-frame is the number of contents told of the link
 /// since then, modulo 128. Where numbers begin, contents that had not gone stay, and take the first numbers, or none stays
 /// (`front`). And all of it has gone, once the line was only pulled, as often as the configuration says, on a link in state 7
-/// whose terminal is not busy, with fewer than k I-frames outstanding (`all`). And where I-frames may go by what was heard and
-/// what began, the number that goes next is then behind all of it, though REJ and the end of a recovery set it back to their
-/// N(R); each I-frame that begins sets it behind its own (`again`; Q.921 clauses 3.5.2.1 to 3.5.2.6, 5.5.1.2, 5.6.1, 5.6.4, 5.6.5, 5.6.7 and 5.7).
+/// whose terminal is not busy, with fewer than k I-frames outstanding, by what was heard and what began; and the number that goes
+/// next is then behind all of it, though REJ and the end of a recovery set it back to their N(R); each I-frame that begins sets
+/// it behind its own (`again`; Q.921 clauses 3.5.2.1 to 3.5.2.6, 5.5.1.2, 5.6.1, 5.6.4, 5.6.5, 5.6.7 and 5.7).
 pub fn data_goes_out()
     ensures front { Always DataGoesOut }
-    ensures all { Always AllDataGoesOut }
     ensures again { Always AllGoesAgain }
 {}
 

@@ -22,6 +22,6 @@ pub use laws::{
     all_are_answered, all_frames_go_out, answers_are_asked, commands_go, commands_have_causes,
     data_goes_out, frames_are_read, frames_go_out, links_move, links_take_turns,
     links_take_turns_meanwhile, messages_are_owed, messages_come_first, news_is_told,
-    ranges_are_served, receipts_count, timers_are_timely, units_are_heard, units_go_out,
-    what_is_told_was_heard,
+    ranges_are_served, receipts_count, the_other_side_is_heard, timers_are_timely, units_are_heard,
+    units_go_out, what_is_told_was_heard,
 };

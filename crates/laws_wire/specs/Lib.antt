@@ -7,3 +7,4 @@ pub mod Facing
 pub mod Worked
 pub mod WorkedLosing
 pub mod WorkedRecovering
+pub mod WorkedBroken

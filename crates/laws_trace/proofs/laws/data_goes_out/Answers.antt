@@ -1,14 +1,10 @@
 -- Hand-written answers for `data_goes_out`.
 use Rattle.laws_trace.proofs.AllGoesAgain.{all-goes-again}
-use Rattle.laws_trace.proofs.AllDataGoesOut.{all-data-goes-out}
 use Rattle.laws_trace.proofs.DataRun.{data-goes-out}
 use Rattle.laws_trace.proofs.laws.data_goes_out.Goals as goal
 
 pub returns-clause-front : goal.returns-clause-front
 returns-clause-front c = λ config events number ranged all within. data-goes-out config events number ranged all within
-
-pub returns-clause-all : goal.returns-clause-all
-returns-clause-all c = λ config events number ranged all within. all-data-goes-out config events number ranged all within
 
 pub returns-clause-again : goal.returns-clause-again
 returns-clause-again c = λ config events number ranged all within. all-goes-again config events number ranged all within

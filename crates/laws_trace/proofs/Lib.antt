@@ -73,3 +73,6 @@ pub mod TimersOfEvent
 pub mod TimersStarted
 pub mod TimersAreTimely
 pub mod AllGoesAgain
+pub mod AcknowledgedOfLink
+pub mod AllAreAcknowledged
+pub mod NoLossInVain

@@ -61,7 +61,7 @@ event_heard (lost n) = []
 abbrev events_heard : List Seen → List stream.Event
 events_heard t = flat_map event_heard t
 
-abbrev brought : Config → Event → Line → Option stream.Event
+abbrev pub brought : Config → Event → Line → Option stream.Event
 brought c (octet value) l = gained c.n201 l.received value
 brought c (expiry timer) l = None
 brought c (request r) l = None
@@ -105,7 +105,7 @@ all-heard c (expiry timer) l a = heard-told None a
 all-heard c (request r) l a = heard-asked r a
 all-heard c pull l a = heard-pulled (begun c l) a
 
-is-brought : (c : Config) (e : Event) (l : Line) (a : Answer) (x : stream.Event) → IsAmong (heard x) (seen c e l a) → brought c e l ≡ Some x
+pub is-brought : (c : Config) (e : Event) (l : Line) (a : Answer) (x : stream.Event) → IsAmong (heard x) (seen c e l a) → brought c e l ≡ Some x
 unfolding event_heard
 is-brought c e l a x among =
     one-alone x (brought c e l) (events_heard among.front) (events_heard among.back)
@@ -221,7 +221,7 @@ module _ (c : Config) (ranged : IsInRange c) (l : Line) (s : IsSound c l) (e : E
           (x.contents ∙ ap (λ o. option_or o (links.told t x.event k).unit) due)
 
 -- One event of a card.
-none-among : (x : Seen) (front back : List Seen) → [] ≡ front ++ x ∷ back → ⊥
+pub none-among : (x : Seen) (front back : List Seen) → [] ≡ front ++ x ∷ back → ⊥
 none-among x [] back e = cc e
 none-among x (y ∷ front) back e = cc e
 

@@ -27,7 +27,7 @@ use Rattle.laws_trace.proofs.DataRun.{at-end}
 use Rattle.laws_trace.proofs.UnitsGoOut.{after-both}
 
 -- A link of a line that has nothing to send has nothing to send.
-silent-there : (c : Config) (l : Line) → IsSound c l → HasNothing c l → (service : Service) (tei place : ℕ) → place_in l tei ≡ Some place
+pub silent-there : (c : Config) (l : Line) → IsSound c l → HasNothing c l → (service : Service) (tei place : ℕ) → place_in l tei ≡ Some place
     → IsSilent (terms c service tei) (link_of service tei l)
 silent-there c l s h service tei place is =
     let found = place_of-is l.management.places tei place is in

@@ -86,3 +86,6 @@ pub mod NewsSeen
 pub mod NewsOfEvent
 pub mod News
 pub mod OtherSide
+pub mod AcknowledgedOfLink
+pub mod AllAreAcknowledged
+pub mod NoLossInVain

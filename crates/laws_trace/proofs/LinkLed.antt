@@ -1,5 +1,5 @@
 -- Which state a link moves to: one event of a line, by what is seen of it.
-use Rattle.std.proofs.Common.{◌≡◌, ℕ, ◌+◌, ◌==◌, ◌&&◌, Bool, true, false, cond, List, ◌++◌, length, map, Option, Some, None, option_map, Result, Ok, Err, refl, sym, ap, ◌∙◌, eqb-true, eq-eqb, true≢false, ◌⊎◌, inl, inr}
+use Rattle.std.proofs.Common.{◌≡◌, ℕ, ◌+◌, ◌==◌, ◌&&◌, Bool, true, false, cond, List, [], ◌∷◌, ◌++◌, length, map, Option, Some, None, option_map, Result, Ok, Err, refl, sym, ap, ◌∙◌, eqb-true, eq-eqb, true≢false, ◌⊎◌, inl, inr}
 use Rattle.std.specs.Prelude.{fold, nat_lt, option_to_list}
 use Rattle.std.specs.Option.{option_map_or}
 use Rattle.lapd_bits.specs.Stream as stream
@@ -16,7 +16,6 @@ use Rattle.lapd_frame.specs.declared.timers.Timer.TheVariants as timers
 use Rattle.lapd_frame.specs.Grammar.{Parts}
 use Rattle.lapd_frame.specs.Reading.{reading, long_reading}
 use Rattle.lapd_frame.specs.Services.{sapi_of, service_of, same_service}
-use Rattle.lapd_frame.proofs.Spelling.{fault-again}
 use Rattle.lapd_tei.proofs.Tables.{place_of-is, is_on-at}
 use Rattle.model_link.specs.declared.timers.LinkTimer.{LinkTimer}
 use Rattle.model_link.specs.declared.timers.LinkTimer.TheVariants.{T200, T203}
@@ -35,10 +34,10 @@ use Rattle.model_line.specs.Requested.{aim_of_request, at_requested}
 use Rattle.model_line.specs.Sides.{at_side}
 use Rattle.model_card.specs.Pulled.{frame_taken, octet_in}
 use Rattle.laws_line.specs.Requests as laws_requests
-use Rattle.laws_line.specs.Heard.{Ends, EndsOverlong, IsMalformed, IsTooLong}
+use Rattle.laws_line.specs.Heard.{Ends, Adds, IsMalformed, IsTooLong}
 use Rattle.laws_line.specs.Share.{is_granted}
 use Rattle.laws_line.specs.Steady.{IsBy, BringsMalformed, timer_of}
-use Rattle.laws_line.proofs.Ending.{ended-octets, gained-is}
+use Rattle.laws_line.proofs.Ending.{gained-is}
 use Rattle.laws_line.proofs.Hearing.{addressed-is, sapi-is}
 use Rattle.laws_line.proofs.Obeyed.{service-same, both-true}
 use Rattle.laws_trace.specs.CommandsHaveCauses.{is_own}
@@ -231,14 +230,14 @@ module _ (c : Config) (service : Service) (tei : ℕ) (k : Known) where
     heard-leads n x value o is = octet-leads x (gained c.n201 l.received value) a ∙ ap (λ o. option_map_or (by_heard x) o x) is
 
     malformed-leads : (n x value : ℕ) (address : Address) (octets : List ℕ) (what : link.Received) → is_for service tei address ≡ true
-        → (Ends c l value octets × IsMalformed c address octets what) ⊎ (EndsOverlong c l value octets × IsTooLong c address octets what)
+        → (Ends c l value octets × IsMalformed c address octets what) ⊎ (Adds c l value (stream.overlong octets ∷ []) × IsTooLong c address octets what)
         → led c service tei k n (octet value) (seen c (octet value) l a) x ≡ cond (is_up x) 5 x
     malformed-leads n x value address octets what for (inl y) =
         heard-leads n x value (Some (stream.frame octets)) (gained-is c l value (Some (stream.frame octets)) y.0) ∙ go what y.1
       where
         go : (what : link.Received) → IsMalformed c address octets what → by_reading x (reading (heard_side c) octets) ≡ cond (is_up x) 5 x
-        go link.undefined is = ap (by_reading x) (fault-again (heard_side c) octets (Undefined address) (ended-octets c l value (stream.frame octets) y.0) is) ∙ a-fault x x (is_for service tei address) for
-        go link.wrong_size is = ap (by_reading x) (fault-again (heard_side c) octets (WrongSize address) (ended-octets c l value (stream.frame octets) y.0) is) ∙ a-fault x x (is_for service tei address) for
+        go link.undefined is = ap (by_reading x) is ∙ a-fault x x (is_for service tei address) for
+        go link.wrong_size is = ap (by_reading x) is ∙ a-fault x x (is_for service tei address) for
         go link.overlong is = absurd is
         go (link.frame f) is = absurd is
     malformed-leads n x value address octets what for (inr y) =

@@ -117,7 +117,7 @@ module _ (t : Terms) (x flag : Bool) where
       let second = or_parts (leads_by_agreement e from to) (is_clearing e) first.1 in
       or_from (comes_to 5 from to) (leads_by_sabme e to || is_clearing e) (not-five from to up) (or_from (leads_by_sabme e to) (is_clearing e) first.0 second.1)
 
-  as-left : (e : Event) (l : Link) (to : State) → is_multiple_frame l.state ≡ true → is_multiple_frame to ≡ true → numbers_begin e l.state to ≡ false → flag_left e l to x flag ≡ x
+  pub as-left : (e : Event) (l : Link) (to : State) → is_multiple_frame l.state ≡ true → is_multiple_frame to ≡ true → numbers_begin e l.state to ≡ false → flag_left e l to x flag ≡ x
   as-left e l to was up on =
       ap (λ b. cond b false (cond (is_multiple_frame l.state) x flag)) (not-anew e l.state to up on) ∙ ap (λ b. cond b x flag) was
 

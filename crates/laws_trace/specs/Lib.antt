@@ -14,9 +14,11 @@ pub mod AnswersAreAsked
 pub mod AllAreAnswered
 pub mod CommandsHaveCauses
 pub mod ReceiptsCount
+pub mod AllAreAcknowledged
 pub mod Managing
 pub mod MessagesAreOwed
 pub mod TeisAgree
+pub mod NoLossInVain
 pub mod TimersAreTimely
 pub mod AllGoesAgain
 pub mod LinksMove
@@ -34,6 +36,8 @@ pub mod WorkedData
 pub mod WorkedCommands
 pub mod WorkedReceipts
 pub mod WorkedBusy
+pub mod WorkedAcknowledged
+pub mod WorkedLoss
 pub mod WorkedManaging
 pub mod WorkedAgain
 pub mod WorkedMoves

@@ -1,6 +1,7 @@
 //! The laws. Each is the contract of a call that does nothing.
 
 ghost use Rattle.laws_trace.specs.Trace.{Always};
+ghost use Rattle.laws_trace.specs.AllAreAcknowledged.{AllAreAcknowledged};
 ghost use Rattle.laws_trace.specs.AllAreAnswered.{AllAreAnswered};
 ghost use Rattle.laws_trace.specs.AllGoesAgain.{AllGoesAgain};
 ghost use Rattle.laws_trace.specs.AnswersAreAsked.{AnswersAreAsked};
@@ -17,6 +18,7 @@ ghost use Rattle.laws_trace.specs.LinksTakeTurns.{LinksTakeTurns};
 ghost use Rattle.laws_trace.specs.MessagesComeFirst.{MessagesComeFirst};
 ghost use Rattle.laws_trace.specs.MessagesAreOwed.{MessagesAreOwed, AllMessagesGoOut};
 ghost use Rattle.laws_trace.specs.News.{NewsIsTold};
+ghost use Rattle.laws_trace.specs.NoLossInVain.{NoLossInVain};
 ghost use Rattle.laws_trace.specs.ReceiptsCount.{ReceiptsCount};
 ghost use Rattle.laws_trace.specs.TeisAgree.{TeisAgree, HeldForOne};
 ghost use Rattle.laws_trace.specs.TimersAreTimely.{TimersRun, TimersAreStarted};
@@ -155,6 +157,19 @@ pub fn commands_have_causes()
 /// to 5.6.7 and 5.8.1).
 pub fn receipts_count()
     ensures { Always ReceiptsCount }
+{}
+
+/// All that is told is acknowledged. Of a link in state 7 or 8, once the line was only pulled, as often as the configuration
+/// says, the last N(R) that began, of an I-frame, RR, RNR or REJ, is the number of contents told of the link since its numbers
+/// began, modulo 128: if any was told, and no answer since has told a frame as lost (Q.921 clauses 3.5.2.6, 5.6.2 and 5.6.3).
+pub fn all_are_acknowledged()
+    ensures { Always AllAreAcknowledged }
+{}
+
+/// Nothing is lost in vain. Behind a moment that tells a frame as lost, four messages of TEI management wait on the line, or as
+/// many control frames of one link as the configuration says: so what is lost had no room (profile).
+pub fn nothing_is_lost_in_vain()
+    ensures { Always NoLossInVain }
 {}
 
 /// Messages of TEI management are owed. The frames that begin with SAPI 63 are the first of the messages that are owed, in

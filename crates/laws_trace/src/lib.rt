@@ -11,17 +11,18 @@
 //! That what is heard is what came (`received` of `Promises` says so); that of two control frames alike both begin, except
 //! answers and commands; when messages of TEI management and unit data go, where other events come between the pulls; which
 //! cause each command has; that an order stops only a timer that ran, and when T201 is started anew; turns, where the place
-//! of the first link changes; that each RR, RNR or REJ that is due goes, except answers and enquiries; which contents stay
-//! where numbers begin, and that their loss is told; notes other than of contents, TEIs, establishments, releases, and
-//! errors that lead to SABME; that a loss is needed where its moment leaves an answer, a command or a message out.
+//! of the first link changes; that each RR, RNR or REJ that is due goes, except answers, enquiries, and the acknowledgement of
+//! what is told; which contents stay where numbers begin, and that their loss is told; notes other than of contents, TEIs,
+//! establishments, releases, and errors that lead to SABME; that what is told as lost is of the part of the line that is full.
 #![tactic(auto)]
 
 mod laws;
 
 pub use laws::{
-    all_are_answered, all_frames_go_out, answers_are_asked, commands_go, commands_have_causes,
-    data_goes_out, frames_are_read, frames_go_out, links_move, links_take_turns,
-    links_take_turns_meanwhile, messages_are_owed, messages_come_first, news_is_told,
-    ranges_are_served, receipts_count, the_other_side_is_heard, timers_are_timely, units_are_heard,
-    units_go_out, what_is_told_was_heard,
+    all_are_acknowledged, all_are_answered, all_frames_go_out, answers_are_asked, commands_go,
+    commands_have_causes, data_goes_out, frames_are_read, frames_go_out, links_move,
+    links_take_turns, links_take_turns_meanwhile, messages_are_owed, messages_come_first,
+    news_is_told, nothing_is_lost_in_vain, ranges_are_served, receipts_count,
+    the_other_side_is_heard, timers_are_timely, units_are_heard, units_go_out,
+    what_is_told_was_heard,
 };

@@ -1,0 +1,437 @@
+-- Nothing is told as lost in vain: the law.
+use Rattle.std.proofs.Common.{◌≡◌, ℕ, ◌+◌, ◌-◌, ◌*◌, ◌/◌, ◌%◌, ◌<◌, ◌≤◌, ◌==◌, ◌&&◌, Bool, true, false, cond, List, [], ◌∷◌, ◌++◌, length, map, take, drop, get_or, Option, Some, None, option_map, refl, sym, ap, ◌∙◌, subst, arith, eqb-true, eq-eqb, true≢false, ◌⊎◌, inl, inr, append-nil, length-append, length-take-le}
+use Rattle.std.specs.Prelude.{flat_map, option_to_list, nat_le}
+use Rattle.std.specs.Option.{option_map_or}
+use Rattle.std.proofs.lemmas.Bool.{and_parts, leb-true, leb-false}
+use Rattle.std.proofs.lemmas.Grind.{flat_map-append}
+use Rattle.std.proofs.lemmas.List.{get_or-set_same, drop_all}
+use Rattle.std.proofs.lemmas.List.Elements.{All-head}
+use Rattle.lapd_bits.specs.Stream as stream
+use Rattle.lapd_frame.specs.declared.refusals.Refusal.{Refusal}
+use Rattle.lapd_frame.specs.declared.services.Service.{Service}
+use Rattle.lapd_frame.specs.declared.timers.Timer.{Timer}
+use Rattle.lapd_frame.specs.declared.timers.Timer.TheVariants as timers
+use Rattle.lapd_frame.specs.Services.{same_service}
+use Rattle.lapd_tei.specs.Events as teis
+use Rattle.lapd_tei.specs.Machine.{Management}
+use Rattle.lapd_tei.specs.declared.check.Check.{Check}
+use Rattle.lapd_tei.specs.declared.check.Period.{Period}
+use Rattle.lapd_tei.specs.declared.check.Period.TheVariants.{First, Second}
+use Rattle.lapd_tei.specs.declared.messages.Message.{Message}
+use Rattle.lapd_tei.specs.declared.messages.Message.TheVariants.{IdentityAssigned, IdentityDenied, IdentityCheckRequest, IdentityRemove}
+use Rattle.lapd_tei.specs.Messages.{heard_of_type, heard_in}
+use Rattle.lapd_tei.specs.Rows as rows
+use Rattle.lapd_tei.specs.Sound.{IsSound as IsSoundManagement}
+use Rattle.lapd_tei.specs.Table.{free_place, free_tei}
+use Rattle.lapd_tei.specs.Words as words
+use Rattle.lapd_tei.specs.Words.{Course, begun, no_room, with_message, lost_after}
+use Rattle.lapd_tei.proofs.Tables.{place_of-is}
+use Rattle.laws_link.specs.States.{as_heard}
+use Rattle.laws_link.specs.Waiting.{put, room, behind, waiting_left, lost_by}
+use Rattle.laws_link.proofs.Follows.{event-follows}
+use Rattle.model_link.specs.declared.frames.ControlFrame.{ControlFrame}
+use Rattle.model_link.specs.declared.terms.Terms.{Terms}
+use Rattle.model_link.specs.declared.timers.LinkTimer.{LinkTimer}
+use Rattle.model_link.specs.declared.timers.LinkTimer.TheVariants as kind
+use Rattle.model_link.specs.Events as link
+use Rattle.model_link.specs.Link.{Link, fresh}
+use Rattle.model_link.specs.Machine as links
+use Rattle.model_link.specs.Sound as link_sound
+use Rattle.model_line.specs.declared.config.Config.{Config}
+use Rattle.model_line.specs.Effect.{Aim, at_none, at_link, at_management, at_units, of_aim}
+use Rattle.model_line.specs.Event.{Event, octet, expiry, request, pull, Answer, LineTold, told, refused, pulled, nothing}
+use Rattle.model_line.specs.Expiry.{at_timer, aim_of_expiry}
+use Rattle.model_line.specs.Line.{Line, link_in, link_of, place_in, terms, fresh_line}
+use Rattle.model_line.specs.Machine as lines
+use Rattle.model_line.specs.Machine.{aim_of, unless_refused, unless_refused_told}
+use Rattle.model_line.specs.Octet.{gained, aim_of_heard, aim_of_octet, with_received}
+use Rattle.model_line.specs.Pull.{Taken}
+use Rattle.model_line.specs.Pull as pulls
+use Rattle.model_line.specs.Refusal.{refusal}
+use Rattle.model_line.specs.Request.{Request, Establish, Release, Data, Assign, Remove, Check as Checking, SetBusy, ClearBusy}
+use Rattle.model_line.specs.Requested.{at_requested, aim_of_request}
+use Rattle.model_line.specs.Sound.{IsInRange, IsSound}
+use Rattle.model_line.proofs.LinksSound.{sound_in}
+use Rattle.model_line.proofs.ProperAims.{heard_aims}
+use Rattle.model_card.specs.Card as cards
+use Rattle.model_card.specs.Card.{Card, line_at, is_full}
+use Rattle.model_card.specs.Event as card
+use Rattle.model_card.specs.Machine.{after, answer}
+use Rattle.model_card.specs.Pulled.{frame_taken, octet_in}
+use Rattle.model_card.specs.Run.{moments, after_all, IsAtLine, AreAtLines}
+use Rattle.model_card.specs.Sound as card_sound
+use Rattle.model_card.proofs.CardSound.{fresh_is_sound, always_sound}
+use Rattle.model_card.proofs.Steps.{has_lines, by_room, line_sound}
+use Rattle.laws_card.proofs.Wherever.{all-left, all-right, config-stays}
+use Rattle.laws_line.specs.Frames.{lost_in}
+use Rattle.laws_line.specs.Steady.{IsBy}
+use Rattle.laws_line.proofs.Obeyed.{service-same}
+use Rattle.laws_trace.specs.NoLossInVain.{IsCrowded, IsFull, NoLossInVain}
+use Rattle.laws_trace.specs.Trace as traces
+use Rattle.laws_trace.specs.Trace.{Seen, heard, noted, lost, seen, seen_told, seen_granted, IsAmong, Always}
+use Rattle.laws_trace.proofs.AllAreTold.{none-among}
+use Rattle.laws_trace.proofs.CommandsCaused.{IsNoOther}
+use Rattle.laws_trace.proofs.ManagingNotes as managing
+use Rattle.laws_trace.proofs.OneLink.{HasOne, HasNone, Goes, is_at_link, event-goes}
+use Rattle.laws_trace.proofs.Runs.{nothing-seen}
+
+-- TEI management: what is lost found four messages, which wait still.
+module _ (m : Management) (s : IsSoundManagement m) where
+  abbrev Kept : Course → Type 0
+  Kept x = (x.told.lost ≡ 0) ⊎ (length x.now.waiting ≡ 4)
+
+  four : no_room m.waiting ≡ true → length m.waiting ≡ 4
+  four is = let least : 4 ≤ length m.waiting = leb-true 4 (length m.waiting) is in let most : length m.waiting ≤ 4 = s.queue.few in omega (arith, least, most)
+
+  sends : (message : Message) (x : Course) → x.now.waiting ≡ with_message message m.waiting → x.told.lost ≡ lost_after m.waiting 0 → Kept x
+  sends message x waits gone = go (no_room m.waiting) refl
+    where
+      go : (b : Bool) → no_room m.waiting ≡ b → Kept x
+      go true is = inr (ap length (waits ∙ ap (λ b. cond b m.waiting (m.waiting ++ message ∷ [])) is) ∙ four is)
+      go false is = inl (gone ∙ ap (λ b. cond {A = ℕ} b (0 + 1) 0) is)
+
+  assigned : (ri : ℕ) (p t : Option ℕ) → Kept (rows.assign_new ri p t (begun m))
+  assigned ri (Some place) (Some tei) = sends (IdentityAssigned ri tei) (rows.assign_new ri (Some place) (Some tei) (begun m)) refl refl
+  assigned ri (Some place) None = sends (IdentityDenied ri) (rows.assign_new ri (Some place) None (begun m)) refl refl
+  assigned ri None t = sends (IdentityDenied ri) (rows.assign_new ri None t (begun m)) refl refl
+
+  known : (ri : ℕ) (o : Option ℕ) → Kept (rows.assign ri o (begun m))
+  known ri (Some tei) = sends (IdentityAssigned ri tei) (rows.assign ri (Some tei) (begun m)) refl refl
+  known ri None = assigned ri (free_place m.places) (free_tei m.places)
+
+  requested : (ri : ℕ) → Kept (rows.request ri (begun m))
+  requested ri = go (no_room m.waiting) refl
+    where
+      go : (b : Bool) → no_room m.waiting ≡ b → Kept ((cond b words.lose_one (rows.assign ri (rows.remembered_in ri m.remembered))) (begun m))
+      go true is = inr (four is)
+      go false is = known ri (rows.remembered_in ri m.remembered)
+
+  verified : (tei : ℕ) → Kept (rows.verify tei (begun m))
+  verified tei = go (rows.may_be_checked tei m)
+    where
+      go : (b : Bool) → Kept ((cond b (words.begin_check tei) words.unserved) (begun m))
+      go true = sends (IdentityCheckRequest tei) (words.begin_check tei (begun m)) refl refl
+      go false = inl refl
+
+  responded : (tei : ℕ) (o : Option Check) → Kept (rows.respond tei o (begun m))
+  responded tei None = inl refl
+  responded tei (Some check) = go (check.tei == tei) (nat_le 2 (rows.responses (rows.counted check)))
+    where
+      go : (a b : Bool) → Kept ((cond a (cond b (rows.doubled tei) (words.check_is (Some (rows.counted check)))) words.unserved) (begun m))
+      go true true = sends (IdentityRemove tei) (rows.doubled tei (begun m)) refl refl
+      go true false = inl refl
+      go false b = inl refl
+
+  pick : {X : Type 0} (P : X → Type 0) (b : Bool) (u v : X) → P u → P v → P (cond b u v)
+  pick P true u v h k = h
+  pick P false u v h k = k
+
+  by-type : (type ri action : ℕ) → Kept (rows.serve (heard_of_type type ri action) (begun m))
+  by-type type ri action =
+      pick (λ o. Kept (rows.serve o (begun m))) (type == 1 && action == 127) _ _ (requested ri)
+      (pick (λ o. Kept (rows.serve o (begun m))) (type == 5) _ _ (responded action m.check)
+      (pick (λ o. Kept (rows.serve o (begun m))) (type == 7) _ _ (verified action) (inl refl)))
+
+  served : (info : List ℕ) → Kept (rows.serve (heard_in info) (begun m))
+  served [] = inl refl
+  served (a ∷ []) = inl refl
+  served (a ∷ high ∷ []) = inl refl
+  served (a ∷ high ∷ low ∷ []) = inl refl
+  served (a ∷ high ∷ low ∷ type ∷ []) = inl refl
+  served (a ∷ high ∷ low ∷ type ∷ last ∷ []) =
+      pick (λ o. Kept (rows.serve o (begun m))) (a == 0x0F && last % 2 == 1) _ _ (by-type type (256 * high + low) (last / 2)) (inl refl)
+  served (a ∷ high ∷ low ∷ type ∷ last ∷ sixth ∷ more) = inl refl
+
+  expired : (o : Option Check) → Kept (rows.expire_check o (begun m))
+  expired None = inl refl
+  expired (Some check) = by-period check.period
+    where
+      ended : (b : Bool) → Kept ((cond b (rows.removed check.tei) words.end_check) (begun m))
+      ended true = inl refl
+      ended false = inl refl
+
+      by-period : (p : Period) → Kept (rows.expire_period check p (begun m))
+      by-period First = sends (IdentityCheckRequest check.tei) (rows.expire_period check First (begun m)) refl refl
+      by-period Second = ended (rows.is_unanswered check)
+
+  joined : (tei : ℕ) (o : Option ℕ) → Kept (rows.join_at tei o (begun m))
+  joined tei (Some place) = inl refl
+  joined tei None = inl refl
+
+  taken-off : (tei : ℕ) → Kept (rows.take_off tei (begun m))
+  taken-off tei = go (rows.is_checked tei m.check)
+    where
+      go : (b : Bool) → Kept (words.leave tei ((cond b words.end_check rows.nothing_happens) (words.send (IdentityRemove tei) (begun m))))
+      go true = sends (IdentityRemove tei) (words.leave tei (words.end_check (words.send (IdentityRemove tei) (begun m)))) refl refl
+      go false = sends (IdentityRemove tei) (words.leave tei (rows.nothing_happens (words.send (IdentityRemove tei) (begun m)))) refl refl
+
+  stepped : (e : teis.Event) → Kept (teis.step e (begun m))
+  stepped (teis.message octets) = served octets
+  stepped teis.expiry = expired m.check
+  stepped (teis.assign tei) = joined tei (free_place m.places)
+  stepped (teis.remove tei) = taken-off tei
+  stepped (teis.check tei) = sends (IdentityCheckRequest tei) (words.begin_check tei (begun m)) refl refl
+
+  pub management-kept : (e : teis.Event) → Kept (teis.course e m)
+  unfolding teis.course
+  management-kept e = go (teis.refusal e m)
+    where
+      go : (o : Option Refusal) → Kept (teis.unless_refused o (teis.step e) m)
+      go None = stepped e
+      go (Some why) = inl refl
+
+-- A link: behind what is lost as many wait as may.
+dropped-full : (n : ℕ) (frames : List ControlFrame) → 0 < length (drop n frames) → length (take n frames) ≡ n
+dropped-full n frames some = go (nat_le (length frames) n) refl
+  where
+    go : (b : Bool) → nat_le (length frames) n ≡ b → length (take n frames) ≡ n
+    go true is = let none : length (drop n frames) ≡ 0 = ap length (drop_all n frames (leb-true (length frames) n is)) in absurd (omega (arith, some, none))
+    go false is = let more : n < length frames = leb-false (length frames) n is in length-take-le n frames (omega (arith, more))
+
+module _ (t : Terms) (e : link.Event) (l : Link) (s : link_sound.IsSound t l) where
+  abbrev next : Link
+  next = links.after t e l
+
+  abbrev frames : List ControlFrame
+  frames = put (as_heard t e) l next.state
+
+  by-event : (e : link.Event) → IsNoOther e → waiting_left t (as_heard t e) l next.state ≡ behind t l (put (as_heard t e) l next.state)
+  by-event (link.received (link.frame f)) other = refl
+  by-event (link.received link.undefined) other = refl
+  by-event (link.received link.wrong_size) other = refl
+  by-event (link.received link.overlong) other = refl
+  by-event (link.expired timer) other = refl
+  by-event (link.requested r full) other = refl
+  by-event link.offer other = absurd other
+  by-event link.cleared other = absurd other
+
+  pub link-full : IsNoOther e → 0 < (links.told t e l).lost → length next.waiting ≡ t.control
+  link-full other some =
+      let leaves = (event-follows t e l).leaves in
+      let lost_is : (links.told t e l).lost ≡ length (drop (room t l) frames) = leaves.lost_is in
+      let taken : length (take (room t l) frames) ≡ t.control - length l.waiting = dropped-full (room t l) frames (subst (λ n. 0 < n) lost_is some) in
+      let all : length next.waiting ≡ length l.waiting + length (take (room t l) frames) =
+      ap length (leaves.waiting ∙ by-event e other) ∙ length-append l.waiting (take (room t l) frames) in
+      let few : length l.waiting ≤ t.control = s.ring in
+      omega (arith, taken, all, few)
+
+-- One event of a line.
+abbrev NoLoss : Aim → Type 0
+NoLoss (at_none what) = what.lost ≡ 0
+NoLoss other = Unit {0}
+
+module _ (c : Config) (l : Line) where
+  octet-none : (value : ℕ) → NoLoss (aim_of_octet c value l)
+  octet-none value = go (gained c.n201 l.received value)
+    where
+      go : (o : Option stream.Event) → NoLoss (option_map_or (aim_of_heard c l) o (at_none nothing))
+      go None = refl
+      go (Some e) = heard_aims c l NoLoss (λ cause. refl) (λ its by place what at. tt) (λ info. tt) (λ parts service to. refl) e
+
+  timer-none : (its : Service) (by : ℕ) (k : LinkTimer) (o : Option ℕ) → NoLoss (at_timer its by k o)
+  timer-none its by k None = refl
+  timer-none its by k (Some place) = tt
+
+  expiry-none : (timer : Timer) → NoLoss (aim_of_expiry timer l)
+  expiry-none (timers.T200 its by) = timer-none its by kind.T200 (place_in l by)
+  expiry-none (timers.T203 its by) = timer-none its by kind.T203 (place_in l by)
+  expiry-none timers.T201 = tt
+
+  asked-none : (its : Service) (by : ℕ) (asked : link.Request) (o : Option ℕ) → NoLoss (at_requested its by asked o)
+  asked-none its by asked None = refl
+  asked-none its by asked (Some place) = tt
+
+  request-none : (r : Request) → NoLoss (aim_of_request r l)
+  request-none (Establish its by) = asked-none its by link.Establish (place_in l by)
+  request-none (Release its by) = asked-none its by link.Release (place_in l by)
+  request-none (Data its by contents) = asked-none its by (link.Data contents) (place_in l by)
+  request-none (Request.Unit its by contents) = tt
+  request-none (Assign by) = tt
+  request-none (Remove by) = tt
+  request-none (Checking by) = tt
+  request-none (SetBusy its by) = asked-none its by link.SetBusy (place_in l by)
+  request-none (ClearBusy its by) = asked-none its by link.ClearBusy (place_in l by)
+
+no-pull : (c : Config) (l : Line) (e : Event) (a : Answer) (service : Service) (tei : ℕ) (le : link.Event) → (e ≡ pull → ⊥) → IsBy c l e a service tei le → IsNoOther le
+no-pull c l e a service tei (link.received (link.frame f)) other by = tt
+no-pull c l e a service tei (link.received link.undefined) other by = tt
+no-pull c l e a service tei (link.received link.wrong_size) other by = tt
+no-pull c l e a service tei (link.received link.overlong) other by = tt
+no-pull c l e a service tei (link.expired timer) other by = tt
+no-pull c l e a service tei (link.requested r full) other by = tt
+no-pull c l e a service tei link.offer other by = absurd (other by)
+no-pull c l e a service tei link.cleared other by = absurd by
+
+module _ (c : Config) (ranged : IsInRange c) (l : Line) (s : IsSound c l) (e : Event) (other : e ≡ pull → ⊥) where
+  abbrev a : Answer
+  a = lines.answer c e l
+
+  abbrev then : Line
+  then = lines.after c e l
+
+  -- an event of a link
+  by-link : (service : Service) (tei : ℕ) → is_at_link service tei (aim_of c e l) ≡ true → 0 < lost_in a → IsFull c then
+  by-link service tei at some = go (event-goes c e l service tei s)
+    where
+      go : Goes c service tei e l then a → IsFull c then
+      go (inl x) = absurd (true≢false (sym at ∙ x.aims))
+      go (inr x) =
+          let t = terms c service tei in
+          let own = link_of service tei l in
+          let sound : link_sound.IsSound t own =
+          subst (link_sound.IsSound t) (sym (ap (λ o. option_map_or (link_in l service) o fresh) x.placed))
+          (sound_in c ranged l s service tei x.place (place_of-is l.management.places tei x.place x.placed).1) in
+          inr (record {
+            service = service;
+            tei = tei;
+            as_many = ap (λ (k : Link). length k.waiting) x.is
+                ∙ link-full t x.event own sound (no-pull c l e a service tei x.event other x.by) (subst (λ n. 0 < n) x.lost some);
+          })
+
+  by-aim : (now : Line) → now.management ≡ l.management → (aim : Aim) → aim_of c e l ≡ aim → NoLoss aim → lost_in a ≡ (of_aim c aim now).told.lost → then ≡ (of_aim c aim now).line
+      → 0 < lost_in a → IsFull c then
+  by-aim now same (at_none what) is none lost_is line some = let zero : lost_in a ≡ 0 = lost_is ∙ none in absurd (omega (arith, some, zero))
+  by-aim now same (at_units unit) is none lost_is line some = let zero : lost_in a ≡ 0 = lost_is in absurd (omega (arith, some, zero))
+  by-aim now same (at_link service tei place event) is none lost_is line some =
+      by-link service tei (ap (is_at_link service tei) is ∙ ap (λ b. b && tei == tei) (service-same service) ∙ eq-eqb tei tei refl) some
+  by-aim now same (at_management me) is none lost_is line some = inl (go (management-kept now.management (subst IsSoundManagement (sym same) s.management) me))
+    where
+      y : Course
+      y = teis.course me now.management
+
+      b : managing.Behind c y.told (record now { management = y.now }) y.told.change
+      b = managing.behind c y.told (record now { management = y.now }) y.told.change
+
+      go : (y.told.lost ≡ 0) ⊎ (length y.now.waiting ≡ 4) → length then.management.waiting ≡ 4
+      go (inl nothing_lost) = let zero : lost_in a ≡ 0 = lost_is ∙ b.lost ∙ nothing_lost in absurd (omega (arith, some, zero))
+      go (inr is) = ap (λ (k : Line). length k.management.waiting) line ∙ ap (λ (m : Management). length m.waiting) b.stays ∙ is
+
+none-less : 0 < 0 → ⊥
+none-less some = omega (arith, some)
+
+octet-apart : (value : ℕ) → octet value ≡ pull → ⊥
+octet-apart value e = cc e
+
+event-full : (c : Config) → IsInRange c → (l : Line) → IsSound c l → (e : Event) → 0 < lost_in (lines.answer c e l) → IsFull c (lines.after c e l)
+unfolding lines.after lines.answer
+event-full c ranged l s (octet value) some =
+    by-aim c ranged l s (octet value) (octet-apart value) (with_received value l) refl (aim_of_octet c value l) refl (octet-none c l value) refl refl some
+event-full c ranged l s (expiry timer) some = by-aim c ranged l s (expiry timer) (λ e. cc e) l refl (aim_of_expiry timer l) refl (expiry-none c l timer) refl refl some
+event-full c ranged l s (request r) some = go (refusal c false r l) refl some
+  where
+    go : (o : Option Refusal) → refusal c false r l ≡ o → 0 < lost_in (unless_refused_told o (of_aim c (unless_refused o (aim_of_request r l)) l)) → IsFull c (of_aim c (unless_refused o (aim_of_request r l)) l).line
+    go (Some why) is some = absurd (none-less some)
+    go None is some = granted is some
+      where
+        granted : refusal c false r l ≡ None → 0 < (of_aim c (aim_of_request r l) l).told.lost → IsFull c (of_aim c (aim_of_request r l) l).line
+        granted is some =
+            subst (λ (o : Option Refusal). IsFull c (of_aim c (unless_refused o (aim_of_request r l)) l).line) is
+            (by-aim c ranged l s (request r) (λ e. cc e) l refl (aim_of_request r l) (ap (λ o. unless_refused o (aim_of_request r l)) is) (request-none c l r)
+            (ap (λ o. lost_in (unless_refused_told o (of_aim c (unless_refused o (aim_of_request r l)) l))) is)
+            (ap (λ o. (of_aim c (unless_refused o (aim_of_request r l)) l).line) is)
+            (subst (λ (o : Option Refusal). 0 < lost_in (unless_refused_told o (of_aim c (unless_refused o (aim_of_request r l)) l))) (sym is) some))
+event-full c ranged l s pull some = absurd (none-less some)
+
+-- What a trace tells as lost.
+lost-one : Seen → List ℕ
+lost-one (lost n) = n ∷ []
+lost-one (heard e) = []
+lost-one (traces.begun octets) = []
+lost-one (traces.put value) = []
+lost-one (noted ns contents) = []
+lost-one (traces.granted r) = []
+
+abbrev lost_told : Answer → List ℕ
+lost_told (told t) = t.lost ∷ []
+lost_told (refused why) = []
+lost_told (pulled value is_begun orders) = []
+
+lost-seen : (o : Option stream.Event) (a : Answer) → flat_map lost-one (map heard (option_to_list o) ++ seen_told a) ≡ lost_told a
+unfolding lost-one
+lost-seen None (told t) = refl
+lost-seen None (refused why) = refl
+lost-seen None (pulled value is_begun orders) = refl
+lost-seen (Some e) (told t) = refl
+lost-seen (Some e) (refused why) = refl
+lost-seen (Some e) (pulled value is_begun orders) = refl
+
+lost-asked : (r : Request) (a : Answer) → flat_map lost-one (seen_granted r a ++ seen_told a) ≡ lost_told a
+unfolding lost-one
+lost-asked r (told t) = refl
+lost-asked r (refused why) = refl
+lost-asked r (pulled value is_begun orders) = refl
+
+lost-pulled : (o : Option Taken) (a : Answer) → flat_map lost-one (map traces.begun (option_to_list (option_map frame_taken o)) ++ map traces.put (octet_in a)) ≡ []
+unfolding lost-one
+lost-pulled None (told t) = refl
+lost-pulled None (refused why) = refl
+lost-pulled None (pulled value is_begun orders) = refl
+lost-pulled (Some t) (told u) = refl
+lost-pulled (Some t) (refused why) = refl
+lost-pulled (Some t) (pulled value is_begun orders) = refl
+
+none-in : (n : ℕ) (front back : List ℕ) → [] ≡ front ++ n ∷ back → ⊥
+none-in n [] back e = cc e
+none-in n (x ∷ front) back e = cc e
+
+one-in : (n : ℕ) (a : Answer) (front back : List ℕ) → lost_told a ≡ front ++ n ∷ back → lost_in a ≡ n
+one-in n (told t) [] back e = cc e
+one-in n (told t) (x ∷ []) back e = absurd (cc e)
+one-in n (told t) (x ∷ y ∷ front) back e = absurd (cc e)
+one-in n (refused why) front back e = absurd (none-in n front back e)
+one-in n (pulled value is_begun orders) front back e = absurd (none-in n front back e)
+
+is-lost : (c : Config) (e : Event) (l : Line) (a : Answer) (n : ℕ) → IsAmong (lost n) (seen c e l a) → lost_in a ≡ n
+unfolding lost-one
+is-lost c (octet value) l a n among =
+    one-in n a (flat_map lost-one among.front) (flat_map lost-one among.back)
+    (sym (lost-seen (gained c.n201 l.received value) a) ∙ ap (flat_map lost-one) among.split ∙ flat_map-append lost-one among.front (lost n ∷ among.back))
+is-lost c (expiry timer) l a n among =
+    one-in n a (flat_map lost-one among.front) (flat_map lost-one among.back)
+    (sym (lost-seen None a) ∙ ap (flat_map lost-one) among.split ∙ flat_map-append lost-one among.front (lost n ∷ among.back))
+is-lost c (request r) l a n among =
+    one-in n a (flat_map lost-one among.front) (flat_map lost-one among.back)
+    (sym (lost-asked r a) ∙ ap (flat_map lost-one) among.split ∙ flat_map-append lost-one among.front (lost n ∷ among.back))
+is-lost c pull l a n among =
+    absurd (none-in n (flat_map lost-one among.front) (flat_map lost-one among.back)
+    (sym (lost-pulled (pulls.begun c l) a) ∙ ap (flat_map lost-one) among.split ∙ flat_map-append lost-one among.front (lost n ∷ among.back)))
+
+-- One event of a card.
+module _ (m : Card) (e : card.Event) (s : card_sound.IsSound m) (n : ℕ) (some : 0 < n) where
+  abbrev Fulls : ℕ → List Seen → Type 0
+  Fulls number t = IsAmong (lost n) t → IsFull m.config (line_at number (after e m))
+
+  own : IsAtLine m e → Fulls e.line (seen m.config e.what (line_at e.line m) (answer e m))
+  own here among =
+      by_room (λ ls a. IsAmong (lost n) (seen c e.what l a) → IsFull c (get_or ls e.line (fresh_line c))) e m
+      (λ full among.
+      let nothing_there = subst (IsAmong (lost n)) (nothing-seen c e.what l (and_parts (lines.takes_slot c e.what l) (is_full m) full).0) among in
+      absurd (none-among (lost n) nothing_there.front nothing_there.back nothing_there.split))
+      (λ room among.
+      subst (IsFull c) (sym (get_or-set_same m.lines e.line (lines.after c e.what l) (fresh_line c) (omega (arith, s.count, here))))
+      (event-full c s.config l (line_sound m e.line (has_lines m s) here) e.what (subst (λ n. 0 < n) (sym (is-lost c e.what l (lines.answer c e.what l) n among)) some)))
+      among
+    where
+      c : Config
+      c = m.config
+
+      l : Line
+      l = line_at e.line m
+
+  at-card : (number : ℕ) → IsAtLine m e → (b : Bool) → (e.line == number) ≡ b → Fulls number (cond b (seen m.config e.what (line_at number m) (answer e m)) [])
+  at-card number here true is among =
+      subst (λ number. Fulls number (seen m.config e.what (line_at number m) (answer e m))) (eqb-true e.line number is) (own here) among
+  at-card number here false other among = absurd (none-among (lost n) among.front among.back among.split)
+
+pub no-loss-in-vain : Always NoLossInVain
+unfolding moments
+no-loss-in-vain c events number ranged all within before e behind split n among some =
+    let m = after_all (cards.fresh c) before in
+    let these = subst (AreAtLines (cards.fresh c)) split all in
+    let first = all-left (IsAtLine (cards.fresh c)) before (e ∷ behind) these in
+    let here = All-head (IsAtLine (cards.fresh c)) e behind (all-right (IsAtLine (cards.fresh c)) before (e ∷ behind) these) in
+    let kept : m.config ≡ c = config-stays (cards.fresh c) before in
+    let t = cond (e.line == number) (seen m.config e.what (line_at number m) (answer e m)) [] in
+    subst (λ c. IsFull c (line_at number (after e m))) kept
+    (at-card m e (always_sound (cards.fresh c) before (fresh_is_sound c ranged) first) n some number (subst (λ (c : Config). e.line < c.lines) (sym kept) here) (e.line == number) refl
+    (subst (IsAmong (lost n)) (append-nil t) among))

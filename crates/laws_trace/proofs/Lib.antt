@@ -88,4 +88,5 @@ pub mod News
 pub mod OtherSide
 pub mod AcknowledgedOfLink
 pub mod AllAreAcknowledged
+pub mod TeisAreGiven
 pub mod NoLossInVain

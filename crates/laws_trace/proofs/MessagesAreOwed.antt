@@ -195,6 +195,10 @@ messages-are-owed c events number ranged all within = front c events number rang
 pub all-messages-go-out : Always AllMessagesGoOut
 all-messages-go-out c events number ranged all within = whole c events number ranged all within
 
+pub known-at-end : (c : Config) (events : List Event) (number : ℕ) → line_sounds.IsInRange c → AreAtLines (fresh c) events → number < c.lines
+    → Knows (hearing [] (fold (led c number) none_on (moments (fresh c) events))) (line_at number (after_all (fresh c) events)).management
+known-at-end c events number ranged all within = (ran c events number ranged all within).knows
+
 pub teis-agree : Always TeisAgree
 teis-agree c events number ranged all within = (ran c events number ranged all within).agrees
 

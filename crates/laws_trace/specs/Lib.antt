@@ -18,6 +18,7 @@ pub mod AllAreAcknowledged
 pub mod Managing
 pub mod MessagesAreOwed
 pub mod TeisAgree
+pub mod TeisAreGiven
 pub mod NoLossInVain
 pub mod TimersAreTimely
 pub mod AllGoesAgain
@@ -37,6 +38,7 @@ pub mod WorkedCommands
 pub mod WorkedReceipts
 pub mod WorkedBusy
 pub mod WorkedAcknowledged
+pub mod WorkedGiven
 pub mod WorkedLoss
 pub mod WorkedManaging
 pub mod WorkedAgain

@@ -23,7 +23,7 @@ use Rattle.laws_trace.specs.Trace.{noted, trace_of, IsFront}
 use Rattle.laws_trace.specs.WorkedUnits.{pulls}
 
 -- A terminal asks for a TEI by Ri 0x1234: the lowest is owed to it, and begins.
-abbrev asked : List Event
+abbrev pub asked : List Event
 asked =
     hears 0x7E ∷ hears 0x7C ∷ hears 0xDF ∷ hears 0x17 ∷ hears 0x78 ∷ hears 0x90 ∷ hears 0xA0 ∷ hears 0x09 ∷ hears 0xF8 ∷ hears 0x6E ∷ hears 0xA1
     ∷ hears 0xE1 ∷ hears 0xF7 ∷ []

@@ -21,6 +21,7 @@ ghost use Rattle.laws_trace.specs.News.{NewsIsTold};
 ghost use Rattle.laws_trace.specs.NoLossInVain.{NoLossInVain};
 ghost use Rattle.laws_trace.specs.ReceiptsCount.{ReceiptsCount};
 ghost use Rattle.laws_trace.specs.TeisAgree.{TeisAgree, HeldForOne};
+ghost use Rattle.laws_trace.specs.TeisAreGiven.{TeisAreGiven};
 ghost use Rattle.laws_trace.specs.TimersAreTimely.{TimersRun, TimersAreStarted};
 ghost use Rattle.laws_trace.specs.TurnsMeanwhile.{LinksTakeTurnsMeanwhile};
 ghost use Rattle.laws_trace.specs.UnitsAreHeard.{UnitsAreHeard, AllUnitsAreHeard};
@@ -182,12 +183,15 @@ pub fn nothing_is_lost_in_vain()
 /// its check in one period, and that one was removed where T201 expires for the second time and none had answered, and nowhere
 /// else; and management is granted to put on the line what is not there, and to remove or check what is. So no TEI is held for
 /// two Ri at a time, no Ri has two, and each that is held is on the line (`held`). The user's side serves no message, and is
-/// granted neither a removal nor a check (Q.921 clauses 4.1.1.5 and 5.3.1 to 5.3.5).
+/// granted neither a removal nor a check. And a terminal that asks for a TEI by an Ri for which none is held is assigned one, where
+/// fewer are on the line than the configuration has terminals, and the answer loses nothing: it is denied only where it must be
+/// (`given`; Q.921 clauses 4.1.1.5 and 5.3.1 to 5.3.5).
 pub fn messages_are_owed()
     ensures front { Always MessagesAreOwed }
     ensures all { Always AllMessagesGoOut }
     ensures notes { Always TeisAgree }
     ensures held { Always HeldForOne }
+    ensures given { Always TeisAreGiven }
 {}
 
 /// Timers are timely. At a caller's that obeys the orders T200 of a link runs exactly where an answer is awaited: in states 5, 6

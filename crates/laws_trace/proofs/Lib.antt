@@ -87,6 +87,8 @@ pub mod NewsOfEvent
 pub mod News
 pub mod OtherSide
 pub mod AcknowledgedOfLink
+pub mod AcknowledgedOfEvent
 pub mod AllAreAcknowledged
 pub mod TeisAreGiven
+pub mod LossesOfParts
 pub mod NoLossInVain

@@ -8,12 +8,11 @@
 //!
 //! # Open
 //!
-//! That what is heard is what came (`received` of `Promises` says so); that of two control frames alike both begin, except
-//! answers and commands; when messages of TEI management and unit data go, where other events come between the pulls; which
-//! cause each command has; that an order stops only a timer that ran, and when T201 is started anew; turns, where the place
-//! of the first link changes; that each RR, RNR or REJ that is due goes, except answers, enquiries, and the acknowledgement of
-//! what is told; which contents stay where numbers begin, and that their loss is told; notes other than of contents, TEIs,
-//! establishments, releases, and errors that lead to SABME; that what is told as lost is of the part of the line that is full.
+//! That of two control frames alike both begin, except answers and commands; when messages of TEI management and unit data go,
+//! where other events come between the pulls; which cause each command has; that an order stops only a timer that ran, and when
+//! T201 is started anew; turns, where the place of the first link changes; that each RR, RNR or REJ that is due goes, except
+//! answers, enquiries, and the acknowledgement of what is told; which contents stay where numbers begin, and that their loss is
+//! told; errors that lead to no SABME, and XID; that what is told as lost is of the part of the line that is full.
 #![tactic(auto)]
 
 mod laws;

@@ -18,7 +18,7 @@ rounds (suc n) w = rounds n (doing_all round w)
 abbrev pub HasNoErrors : Wire → Type 0
 HasNoErrors w = HasNoError w.near × HasNoError w.far
 
--- T200 is long enough: it expires only where no turn is left, so where all frames that were given were taken, or lost. And
+-- T200 expires only where no turn is left, so where all frames that were given were taken, or lost. And
 -- N200 is not used up: no error is told as it expires. T203 may expire at any time.
 abbrev pub IsTimelyOf : Act → Wire → Type 0
 IsTimelyOf (times_out (T200 service tei)) w = IsStill w × HasNoErrors (acting (times_out (T200 service tei)) w)

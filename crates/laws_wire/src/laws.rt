@@ -42,15 +42,17 @@ pub fn told_in_order()
 
 /// What is lost arrives, and both ends stay up. Two cards have just begun as in [`a_call_comes_through`], and one is asked to
 /// establish. Then data is asked for as there, T203 of the link expires, and frames are given, taken or lost, in any order and at
-/// any time. T200 is long enough: it expires only where no turn is left, so where each frame that was given was taken, or lost, and
-/// no error is told as it expires, so N200 is not used up. And UA is not lost: before the end that calls has heard that the link
+/// any time. T200 expires only where no turn is left: neither end has a frame to give, and each that was given was taken, or lost;
+/// while the other end goes on sending no T200 is long enough for that, and of two links
+/// [`laws_two_links::links_stay_up`] asks less. And no error is told as it expires, so N200 is not used up. And UA is not lost: before the end that calls has heard that the link
 /// is established, the other loses none of its frames, and no timer expires there. Then no error is told at either end, so
 /// there is one establishment, and what [`told_in_order`] says holds at any time. And what was lost arrives: wherever no turn
 /// is left, once T200 expires at both ends, again with no error, u + 3 rounds in which nothing is lost are enough, where at either
 /// end at most u notes are missing; in a round each end in turn gives its next frame, if it has one, and the other takes it. Then
 /// layer 3 of each has heard one establishment and the data that the other was granted to send, all of it, in order, each once,
-/// and nothing else, and no turn is left. So it is where SABME was lost, too. That UA is not lost is needed
-/// (`specs/WorkedRecovering`), and so is a T200 that is long enough (`specs/WorkedLosing`).
+/// and nothing else, and no turn is left. So it is where SABME was lost, too. That UA is not lost is needed for that no error is
+/// told (`specs/WorkedRecovering`), and that T200 does not expire while an enquiry is on its way (`specs/WorkedLosing`); that no
+/// turn at all is left is more than that.
 pub fn what_is_lost_arrives()
     ensures { WhatIsLostArrives }
 {}

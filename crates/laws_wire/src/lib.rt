@@ -9,7 +9,7 @@
 //!
 //! # Open
 //!
-//! What is told after an error, so also where a UA was lost; a T200 that expires while frames are on their way; the octets
+//! What is told after an error, so also where a UA was lost; a T200 that expires while a turn is left; the octets
 //! that one card's pulls give, taken one by one by the other.
 #![tactic(auto)]
 

@@ -73,7 +73,7 @@ due service tei was_asked sabme released indicated from to =
     else []
 
 -- So the notes of a link, of these kinds, in the answer to an event at the line are exactly what is due, where its TEI is on the line
--- before and after it. (Where its TEI leaves, `notes_tell` of `Promises` says what is told.)
+-- before and after it. (Where its TEI leaves, `notes_tell` of `Promises` says that the link is down then.)
 abbrev pub NewsIsTold : Config → List Event → ℕ → Type 0
 NewsIsTold c events number =
     (service : Service) (tei : ℕ) (before : List Event) (what : line_event.Event) (behind : List Event) →

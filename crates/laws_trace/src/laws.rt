@@ -123,8 +123,8 @@ pub fn what_is_told_was_heard()
 /// Data goes out. Of each link, since its numbers began: the contents of new I-frames that begin are the first of the data
 /// that was granted, in order, each once; N(S) counts them from 0 on, modulo 128; and an I-frame that goes again, which is one
 /// of the last 127, has the contents that its number had. N(R) of each I-frame is the number of contents told of the link
-/// since then, modulo 128. Where numbers begin, contents that had not gone stay, and take the first numbers, or none stays
-/// (`front`). And all of it has gone, once the line was only pulled, as often as the configuration says, on a link in state 7
+/// since then, modulo 128. Where numbers begin, contents that had not gone stay, and take the first numbers, or none stays;
+/// whether those that had gone stay is not said (`front`). And all of it has gone, once the line was only pulled, as often as the configuration says, on a link in state 7
 /// whose terminal is not busy, with fewer than k I-frames outstanding, by what was heard and what began; and the number that goes
 /// next is then behind all of it, though REJ and the end of a recovery set it back to their N(R); each I-frame that begins sets
 /// it behind its own (`again`; Q.921 clauses 3.5.2.1 to 3.5.2.6, 5.5.1.2, 5.6.1, 5.6.4, 5.6.5, 5.6.7 and 5.7).
@@ -150,8 +150,8 @@ pub fn commands_have_causes()
 {}
 
 /// Receipts count what was told. The RR, RNR and REJ of a link that begin are among those that were due: for each command with
-/// P=1 that was heard, one with F=1; REJ in its place for an I-frame of which nothing was told though layer 3 was not busy, and
-/// no other until data is told, or the numbers begin; where SetBusy or ClearBusy that is granted changes it, RNR or RR; for each
+/// P=1 that was heard, in whatever state, one with F=1; REJ, with F = P, in its place for an I-frame of which nothing was told
+/// though layer 3 was not busy, and no other until data is told, or the numbers begin; where SetBusy or ClearBusy that is granted changes it, RNR or RR; for each
 /// expiry of its T200 or T203, an enquiry; and RR with F=0 by itself. It is RNR while layer 3 is busy, and RR while it is not.
 /// Each has as its N(R) the number of contents told of the link since its numbers began, modulo 128, as it was when the receipt
 /// was due, which is as it begins for the RR by itself; in their order, and none twice (Q.921 clauses 3.5.2.4 to 3.5.2.6, 5.6.2
@@ -162,13 +162,13 @@ pub fn receipts_count()
 
 /// All that is told is acknowledged. Of a link in state 7 or 8, once the line was only pulled, as often as the configuration
 /// says, the last N(R) that began, of an I-frame, RR, RNR or REJ, is the number of contents told of the link since its numbers
-/// began, modulo 128: if any was told, and no answer since has told a frame as lost (Q.921 clauses 3.5.2.6, 5.6.2 and 5.6.3).
+/// began, modulo 128: if any was told, and no answer since the last was told, nor that one, has told a frame as lost (Q.921 clauses 3.5.2.6, 5.6.2 and 5.6.3).
 pub fn all_are_acknowledged()
     ensures { Always AllAreAcknowledged }
 {}
 
 /// Nothing is lost in vain. Behind a moment that tells a frame as lost, four messages of TEI management wait on the line, or as
-/// many control frames of one link as the configuration says: so what is lost had no room (profile).
+/// many control frames of one link as the configuration says: so a part of the line had no room; which, is not said (profile).
 pub fn nothing_is_lost_in_vain()
     ensures { Always NoLossInVain }
 {}
@@ -209,13 +209,13 @@ pub fn timers_are_timely()
 {}
 
 /// Links move as they are led. After an event at its line a link is in the state that this has for the state before: 7 by SABME in
-/// states 4, 7 and 8, by UA with F=1 in state 5, and, in state 8, by a response with F=1; 4 by DISC in states 7 and 8, by DM with
-/// F=1 in states 5 and 6, and by UA with F=1 in state 6; 5 by a request to establish it in state 4, by DM with F=0 in state 7,
-/// and in states 7 and 8 by FRMR, an invalid N(R), and a frame that is malformed or too long, and by any DM in state 8; 6 by a
-/// request to release it in states 7 and 8; 8 by the expiry of the timer that runs in state 7. T200, which runs in states 5, 6 and
-/// 8, leaves them as it expires where it has expired N200 times since the link came there: for 4, 4 and 5. Nothing else moves a
-/// link. So a command that is not answered is repeated N200 times, and no more. And a link whose TEI comes to the line is in
-/// state 4 (Q.921 clauses 3.5.2.3, 5.3, 5.5.1 to 5.5.5, 5.6.7, 5.7, 5.8, 5.9.2 and 5.10.3).
+/// states 4, 7 and 8, by UA with F=1 in state 5, and, in state 8, by RR, RNR or REJ as a response with F=1 whose N(R) is valid; 4
+/// by DISC in states 7 and 8, by DM with F=1 in states 5 and 6, and by UA with F=1 in state 6; 5 by a request to establish it in
+/// state 4, by DM with F=0 in state 7, and in states 7 and 8 by FRMR, an invalid N(R), a malformed frame, and an I-frame that is
+/// too long, and by any DM in state 8; 6 by a request to release it in states 7 and 8; 8 by the expiry of the timer that runs in
+/// state 7. As T200 expires in states 5, 6 and 8, the link leaves them, for 4, 4 and 5, where it has expired N200 times before
+/// since the link came there. Nothing else moves a link. So a link awaits an answer through N200 expiries, and no more. And a link
+/// whose TEI comes to the line is in state 4 (Q.921 clauses 3.5.2.3, 5.3, 5.5.1 to 5.5.5, 5.6.7, 5.7, 5.8, 5.9.2 and 5.10.3).
 pub fn links_move()
     ensures { Always LinksMove }
 {}
@@ -223,7 +223,8 @@ pub fn links_move()
 /// Commands that are due go. Whatever happened before: of a link whose TEI stays on the line, SABME is due where it comes to
 /// state 5, DISC where it comes to state 6, and an enquiry, which is a supervisory command with P=1, where it comes to state 8; and
 /// again where its T200 expires and leaves it there; except where the answer counts a frame as lost. Once the line was only pulled,
-/// as often as the configuration says, a command has begun for each, in their order (Q.921 clauses 5.5.1, 5.5.3, 5.6.7 and 5.10.3).
+/// as often as the configuration says, a command has begun for each, in their order (Q.921 clauses 5.5.1, 5.5.3, 5.6.7, 5.7.2 and
+/// 5.10.3).
 pub fn commands_go()
     ensures { Always CommandsGo }
 {}

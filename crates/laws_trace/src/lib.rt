@@ -9,10 +9,11 @@
 //! # Open
 //!
 //! That of two control frames alike both begin, except answers and commands; when messages of TEI management and unit data go,
-//! where other events come between the pulls; which cause each command has; that an order stops only a timer that ran, and when
-//! T201 is started anew; turns, where the place of the first link changes; that each RR, RNR or REJ that is due goes, except
-//! answers, enquiries, and the acknowledgement of what is told; which contents stay where numbers begin, and that their loss is
-//! told; errors that lead to no SABME, and XID; that what is told as lost is of the part of the line that is full.
+//! where other events come between the pulls; which cause each command has, its P, and that none goes as T200 ends a state; what
+//! links put in states 4 to 6; that an order stops only a timer that ran, and when T201 is started anew; turns, where the place of
+//! the first link changes; that each RR, RNR or REJ that is due goes, except answers and enquiries; which contents stay where
+//! numbers begin, and that their loss is told; errors that lead to no SABME, and XID; which part of a line is full where a frame
+//! is lost.
 #![tactic(auto)]
 
 mod laws;

@@ -17,7 +17,7 @@
 //! # Open
 //!
 //! How long a round takes, and so whether a given T200 is timely; that frames get through; that own busy
-//! ends; two links over a line or a card, except what `laws_wire` says of two cards.
+//! ends; two links over a line or a card, except on ways that lose nothing (`laws_wire`).
 #![tactic(auto)]
 
 mod any_order;

@@ -1,3 +1,4 @@
+-- Lemmas: bits and stuffing; a deframer, bit by bit and octets at once; a framer; the round trip.
 pub mod BitLemmas
 pub mod Division
 pub mod StuffingCounted

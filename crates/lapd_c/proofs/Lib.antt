@@ -1,3 +1,4 @@
+-- Lemmas: where cards and clocks lie; what is served at them; two cards that exchange frames.
 pub mod Places
 pub mod ClockPlaces
 pub mod CardPlaces

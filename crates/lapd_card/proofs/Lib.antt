@@ -1,3 +1,4 @@
+-- Lemmas: one line of a card in a call; what drive and frames_drive have done and counted; rooms.
 pub mod OneLine
 pub mod OneFrameLine
 pub mod OneHappening

@@ -1,3 +1,4 @@
+-- Lemmas: timers in order of time, what runs, which is first, and how long until then.
 pub mod Ordered
 pub mod TimerOrder
 pub mod StandsFor

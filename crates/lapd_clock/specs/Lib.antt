@@ -1,3 +1,4 @@
+-- When timers fall due. Read in this order: Timer, Timers (with Worked), InOrder, Sound; then Moments and Given.
 pub mod Timer
 pub mod Timers
 pub mod Worked

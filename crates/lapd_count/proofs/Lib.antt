@@ -1,3 +1,4 @@
+-- Lemmas: kinds of counters and their places.
 pub mod KindTable
 pub mod Numbers
 pub mod Places

@@ -1,3 +1,4 @@
+-- Lemmas: steps of a line, of its links and of its TEI management; pulls; whole frames; rooms.
 pub mod LinkSteps
 pub mod AwakeBits
 pub mod AwakeSteps

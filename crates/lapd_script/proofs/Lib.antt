@@ -1,3 +1,4 @@
+-- Lemmas: words, numbers and lines of a script.
 pub mod JobLemmas
 pub mod NumberLemmas
 pub mod ReadLemmas

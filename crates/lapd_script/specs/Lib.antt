@@ -1,3 +1,4 @@
+-- What a line of a script means. Read in this order: Words, Number, Octets; Meaning, Read, with Worked; Job, Bound.
 pub mod Words
 pub mod Number
 pub mod Octets

@@ -1,3 +1,4 @@
+-- Lemmas: a script that is read, played and printed, on octets and on whole frames.
 pub mod Left
 pub mod Pieces
 pub mod Reading

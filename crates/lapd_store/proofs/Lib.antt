@@ -1,3 +1,4 @@
+-- Lemmas: who owns which slot; queues in slots; a shelf of slabs, and one in a region of octets.
 pub mod Entries
 pub mod Focus
 pub mod Ownership

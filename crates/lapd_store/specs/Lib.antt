@@ -1,3 +1,4 @@
+-- Where contents wait. Read Store and Ownership first; no public clause cites Memory, Block, SlabStore and RawStore.
 pub mod Memory
 pub mod Region
 pub mod Block

@@ -1,3 +1,4 @@
+-- Lemmas: tables of TEIs, messages that are remembered, and what is served.
 pub mod Lists
 pub mod Tables
 pub mod Memories

@@ -1,3 +1,4 @@
+-- Lemmas: digits, numbers and pieces of text.
 pub mod Known
 pub mod Digits
 pub mod Numerals

@@ -1,3 +1,4 @@
+-- Lemmas: what stays sound, what rises and what is numbered at a line; what whole frames mean to it.
 pub mod Ranges
 pub mod Numbers
 pub mod LinksSound

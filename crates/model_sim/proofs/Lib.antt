@@ -1,3 +1,4 @@
+-- Lemmas: expiries until a moment, and scripts as runs of a card.
 pub mod Expiries
 pub mod Kept
 pub mod Runs

@@ -1,1 +1,2 @@
+-- Lemmas: a sink that keeps replies.
 pub mod Keeping

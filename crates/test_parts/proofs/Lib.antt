@@ -1,1 +1,2 @@
+-- Lemmas: a shelf with two owners.
 pub mod SharedShelf

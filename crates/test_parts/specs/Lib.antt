@@ -1,1 +1,2 @@
+-- What an outbox has been handed.
 pub mod Outbox

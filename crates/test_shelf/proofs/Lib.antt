@@ -1,2 +1,3 @@
+-- Lemmas: places of a shelf of lists.
 mod PlaceLemmas
 mod ShelfLemmas

@@ -1,1 +1,2 @@
+-- The places of a shelf of lists.
 pub mod Places
